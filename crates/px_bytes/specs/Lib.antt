@@ -1,0 +1,11 @@
+pub mod Numbers
+pub mod NumberLaws
+pub mod Parts
+pub mod Checks
+pub mod CheckLaws
+pub mod Devices
+pub mod WriteLaws
+pub mod Reading
+pub mod Held
+pub mod Range
+pub mod RangeLaws

@@ -1,0 +1,25 @@
+-- Parts of a block.
+use Rattle.std.specs.Prelude.{ℕ, zero, suc, ◌+◌, List, [], ◌∷◌, length, take, drop, slice_range, Option, Some, None, option_map, if◌then◌else◌, nat_le}
+use Rattle.px_bytes.specs.declared.numbers.Order.{Order}
+use Rattle.px_bytes.specs.Numbers.{number}
+
+-- the longest block, in bytes
+abbrev pub limit : ℕ
+limit = 16777216
+
+-- the n bytes of b from place x on; fewer where b ends before
+abbrev pub part : {A : Type 0} → List A → ℕ → ℕ → List A
+part b x n = take n (drop x b)
+
+-- the bytes cut into n parts of one size
+abbrev pub pieces : {A : Type 0} → ℕ → ℕ → List A → List (List A)
+pieces zero size b = []
+pieces (suc n) size b = take size b ∷ pieces n size (drop size b)
+
+-- the `len` bytes from `at` on, where they lie inside
+abbrev pub part_of : List ℕ → ℕ → ℕ → Option (List ℕ)
+part_of block at len = if nat_le (at + len) (length block) then Some (slice_range block at (at + len)) else None
+
+-- the number in the `width` bytes from `at` on, where they lie inside
+abbrev pub number_at : Order → ℕ → List ℕ → ℕ → Option ℕ
+number_at order width block at = option_map (number order width) (part_of block at width)

@@ -1,0 +1,36 @@
+-- Ranges of bytes: where each begins, and how many bytes it has. TIFF 6.0 section 7, "No Duplicate Pointers": no data is
+-- referenced from more than one place.
+use Rattle.std.specs.Prelude.{◌≡◌, ℕ, ◌+◌, ◌<◌, ◌≤◌, nat_lt, Bool, true, not, ◌&&◌, List, [], ◌∷◌, ⊤}
+use Rattle.std.specs.List.{list_all, AllByRecursion}
+use Rattle.px_bytes.specs.Held.{IsFree}
+
+pub record Range : Type 0 where
+  pub start : ℕ
+  pub size : ℕ
+
+abbrev pub range : ℕ → ℕ → Range
+range x n = record { start = x; size = n }
+
+abbrev pub IsIn : ℕ → Range → Type 0
+IsIn p r = (r.start ≤ p) × (p < r.start + r.size)
+
+-- no byte is in both
+abbrev pub Apart : Range → Range → Type 0
+Apart r s = (p : ℕ) → IsIn p r → IsIn p s → ⊥
+
+abbrev pub AllApart : List Range → Type 0
+AllApart [] = ⊤
+AllApart (r ∷ rs) = AllByRecursion (Apart r) rs × AllApart rs
+
+-- two ranges that share a byte
+abbrev pub shares : Range → Range → Bool
+shares r s = nat_lt 0 r.size && nat_lt 0 s.size && nat_lt r.start (s.start + s.size) && nat_lt s.start (r.start + r.size)
+
+-- r shares no byte with those that are held
+abbrev pub is_free : List Range → Range → Bool
+is_free held r = list_all (λ s. not (shares r s)) held
+
+-- the ranges of the list leave the same places free as those that are held
+pub record Agrees (taken : List Range) (held : List (ℕ × ℕ)) : Type 0 where
+  pub free : (s n : ℕ) → is_free taken (range s n) ≡ true → IsFree held s (s + n)
+  pub all_free : (s n : ℕ) → IsFree held s (s + n) → is_free taken (range s n) ≡ true

@@ -1,0 +1,67 @@
+-- A list of ranges and the ranges that are held.
+use Rattle.std.proofs.Common.{subst, [], refl, None, Some, ◌≡◌, ℕ, ◌+◌, ◌≤◌, ◌<◌, inl, inr, min, max, true, false, not, ◌&&◌, nat_lt, List, ◌∷◌, sym, ◌∙◌, arith, ltb-true, lt-ltb}
+use Rattle.std.proofs.lemmas.Bool.{and_parts, and_from, not-true, not_from_false, both_ways, cases_lt, false_from_ne_true}
+use Rattle.px_bytes.specs.Held.{Holds, IsFree, IsTaken, Takes}
+use Rattle.px_bytes.specs.Range.{Range, range, shares, is_free, Agrees}
+
+-- ranges that do not share a byte, as one fact on numbers
+gap_from_test : (s n t m : ℕ) → not (shares (range s n) (range t m)) ≡ true → min (s + n) (t + m) ≤ max s t
+gap_from_test s n t m h =
+    elim (cases_lt (max s t) (min (s + n) (t + m))) [
+      | inl l ↦ absurd (both_ways (shares (range s n) (range t m)) (not-true _ h)
+          (and_from _ _ (and_from _ _ (and_from _ _ (lt-ltb 0 n (omega arith)) (lt-ltb 0 m (omega arith))) (lt-ltb s (t + m) (omega arith))) (lt-ltb t (s + n) (omega arith))))
+      | inr l ↦ l
+    ]
+
+test_from_gap : (s n t m : ℕ) → min (s + n) (t + m) ≤ max s t → not (shares (range s n) (range t m)) ≡ true
+test_from_gap s n t m l = not_from_false _ (false_from_ne_true (shares (range s n) (range t m)) (λ e.
+    let h = and_parts (nat_lt 0 n && nat_lt 0 m && nat_lt s (t + m)) (nat_lt t (s + n)) e in
+    let g = and_parts (nat_lt 0 n && nat_lt 0 m) (nat_lt s (t + m)) h.0 in
+    let f = and_parts (nat_lt 0 n) (nat_lt 0 m) g.0 in
+    let n1 : 0 < n = ltb-true _ _ f.0 in
+    let n2 : 0 < m = ltb-true _ _ f.1 in
+    let n3 : s < t + m = ltb-true _ _ g.1 in
+    let n4 : t < s + n = ltb-true _ _ h.1 in
+    omega arith))
+
+-- what is free or taken is so in the list
+pub is_free-free : (taken : List Range) (held : List (ℕ × ℕ)) (s n : ℕ) → Agrees taken held → IsFree held s (s + n) → is_free taken (range s n) ≡ true
+is_free-free taken held s n a h = a.all_free s n h
+
+pub is_free-taken : (taken : List Range) (held : List (ℕ × ℕ)) (s n : ℕ) → Agrees taken held → IsTaken held s (s + n) → is_free taken (range s n) ≡ false
+is_free-taken taken held s n a (t, e, holds, l) = false_from_ne_true _ (λ h. let k = a.free s n h t e holds in omega arith)
+
+-- one more range
+pub agrees-takes : (taken : List Range) (old new : List (ℕ × ℕ)) (s n : ℕ) → Agrees taken old → Takes old new s (s + n) → Agrees (range s n ∷ taken) new
+agrees-takes taken old new s n a k = record {
+  free = λ t m h u e holds. let p = and_parts _ _ h in
+      elim (k.only u e holds) [
+        | inl q ↦ let g = gap_from_test t m s n p.0 in let q0 = q.0 in let q1 = q.1 in omega arith
+        | inr q ↦ a.free t m p.1 u e q
+      ];
+  all_free = λ t m h. and_from _ _ (test_from_gap t m s n (let g = h s (s + n) k.here in omega arith)) (a.all_free t m (λ u e holds. h u e (k.kept u e holds)));
+}
+
+-- an empty one
+pub agrees-empty : (taken : List Range) (old : List (ℕ × ℕ)) (s n : ℕ) → Agrees taken old → n ≡ 0 → Agrees (range s n ∷ taken) old
+agrees-empty taken old s n a z = record {
+  free = λ t m h. a.free t m (and_parts _ _ h).1;
+  all_free = λ t m h. and_from _ _ (test_from_gap t m s n (omega arith)) (a.all_free t m h);
+}
+
+-- lists that leave the same free
+abbrev pub SameFree : List Range → List Range → Type 0
+SameFree xs ys = (s n : ℕ) → is_free xs (range s n) ≡ is_free ys (range s n)
+
+pub agrees-same : (xs ys : List Range) (held : List (ℕ × ℕ)) → SameFree xs ys → Agrees xs held → Agrees ys held
+agrees-same xs ys held e a = record {
+  free = λ s n h. a.free s n (e s n ∙ h);
+  all_free = λ s n h. sym (e s n) ∙ a.all_free s n h;
+}
+
+-- none is held
+pub agrees-none : (held : List (ℕ × ℕ)) → held ≡ [] → Agrees [] held
+agrees-none held z = record {
+  free = λ s n h t e holds. let clash : None ≡ Some e = subst (λ (xs : List (ℕ × ℕ)). Holds xs t e) z holds in absurd (cc);
+  all_free = λ s n h. refl
+}
