@@ -1,0 +1,6 @@
+//! Types and values of fields.
+#![tactic(auto)]
+
+mod forms;
+
+pub use forms::{Element, Form, Kind};
