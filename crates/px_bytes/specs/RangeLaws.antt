@@ -63,5 +63,5 @@ agrees-same xs ys held e a = record {
 pub agrees-none : (held : List (ℕ × ℕ)) → held ≡ [] → Agrees [] held
 agrees-none held z = record {
   free = λ s n h t e holds. let clash : None ≡ Some e = subst (λ (xs : List (ℕ × ℕ)). Holds xs t e) z holds in absurd (cc);
-  all_free = λ s n h. refl
+  all_free = λ s n h. refl;
 }
