@@ -1,5 +1,5 @@
 -- Parts of a block, and parts of parts.
-use Rattle.std.proofs.Common.{◌≡◌, ◌≤◌, ◌<◌, ◌+◌, ◌-◌, ◌*◌, ℕ, zero, suc, List, ◌∷◌, length, take, drop, Some, None, refl, sym, ap, ap₂, ◌∙◌, arith, le-leb}
+use Rattle.std.proofs.Common.{◌≡◌, ◌≤◌, ◌<◌, ◌+◌, ◌-◌, ◌*◌, ℕ, suc, List, ◌∷◌, length, take, drop, Some, None, ap, ap₂, ◌∙◌, arith, le-leb}
 use Rattle.std.proofs.lemmas.Bool.{cond-true, cond-false, lt-leb}
 use Rattle.std.proofs.lemmas.List.{length-take-le, length-drop, take-take, drop-take, drop-drop}
 use Rattle.std.specs.Prelude.{slice_range}
