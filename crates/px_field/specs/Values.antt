@@ -1,5 +1,5 @@
 -- Values: the elements that bytes spell. TIFF 6.0 section 2, "Types".
-use Rattle.std.specs.Prelude.{◌≡◌, ℕ, ◌^◌, ◌<◌, List, [], ◌∷◌, ◌++◌, map, take, drop, flat_map, slice_index, ℤ, FitsSigned}
+use Rattle.std.specs.Prelude.{◌≡◌, ℕ, ◌^◌, ◌/◌, ◌<◌, Bool, true, false, List, [], ◌∷◌, ◌++◌, length, map, take, drop, flat_map, slice_index, ℤ, FitsSigned}
 use Rattle.std.specs.List.{AllByRecursion}
 use Rattle.std.specs.Int.{w16, w32, cast_signed, cast_unsigned}
 use Rattle.px_bytes.specs.declared.Order.{Order}
@@ -81,3 +81,30 @@ elements o f n raw = map (element_of o f) (pieces n (size f) raw)
 abbrev pub widened : Element → Element
 widened (element.Short n) = element.Long n
 widened e = e
+
+-- how many elements of a type bytes have room for
+abbrev pub count_in : Form → List ℕ → ℕ
+count_in f raw = length raw / size f
+
+-- the value of a type that bytes spell
+abbrev pub value_in : Order → Form → List ℕ → Value
+value_in o f raw = record { kind = kind.Of f; elements = elements o f (count_in f raw) raw }
+
+-- the same where SHORT and LONG are one kind
+abbrev pub whole_in : Order → Form → List ℕ → Value
+whole_in o f raw = record { kind = kind.Whole; elements = map widened (elements o f (count_in f raw) raw) }
+
+-- the types of which a whole number may be
+abbrev pub IsWhole : Form → Type 0
+IsWhole form.Short = Unit {0}
+IsWhole form.Long = Unit {0}
+IsWhole _ = ⊥
+
+-- the kinds whose elements are bytes
+abbrev pub is_bytes : Kind → Bool
+is_bytes (kind.Of form.Byte) = true
+is_bytes (kind.Of form.Ascii) = true
+is_bytes (kind.Of form.SByte) = true
+is_bytes (kind.Of form.Undefined) = true
+is_bytes (kind.Of form.Utf8) = true
+is_bytes _ = false
