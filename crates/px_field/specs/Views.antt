@@ -1,14 +1,19 @@
 -- What a `Value` is seen as.
-use Rattle.std.specs.Prelude.{◌≡◌, ◌≤◌, ◌%◌, ℕ, Bool, true, false, length, if◌then◌else◌}
+use Rattle.std.specs.Prelude.{◌≡◌, ◌≤◌, ◌%◌, ℕ, Bool, true, List, length, if◌then◌else◌}
+use Rattle.px_bytes.specs.declared.Order.{Order}
 use Rattle.px_bytes.specs.Parts.{limit}
 use Rattle.px_bytes.specs.Numbers.{AreBytes}
 use Rattle.px_field.specs.declared.values.Value.TheInside.{Inside}
+use Rattle.px_field.specs.declared.forms.Form.{Form}
 use Rattle.px_field.specs.Forms.{size}
 use Rattle.px_field.specs.Values as values
 
--- the value that the bytes spell, widened or as it is
+-- the value that bytes spell, widened or as it is
+abbrev pub shown : Bool → Order → Form → List ℕ → values.Value
+shown widened o f raw = if widened then values.whole_in o f raw else values.value_in o f raw
+
 abbrev pub value_of : Inside → values.Value
-value_of v = if v.widened then values.whole_in v.order v.form v.raw.now else values.value_in v.order v.form v.raw.now
+value_of v = shown v.widened v.order v.form v.raw.now
 
 -- the bytes are a whole number of elements and no more than the limit, and only whole numbers are widened
 pub record IsSound (v : Inside) : Type 0 where

@@ -4,7 +4,7 @@ ghost use Rattle.px_bytes.specs.declared.Order.{Order};
 ghost use Rattle.px_bytes.specs.Parts.{limit};
 ghost use Rattle.px_bytes.specs.Numbers.{number};
 ghost use Rattle.px_field.specs.Forms.{size};
-ghost use Rattle.px_field.specs.Values.{element_of, elements, form_in, is_bytes, spelled, value_in, whole_in, widened, IsValue, IsWhole};
+ghost use Rattle.px_field.specs.Values.{count_in, element_of, elements, form_in, is_bytes, spelled, value_in, whole_in, widened, IsValue, IsWhole};
 
 use crate::forms::{Element, Form, Kind};
 use px_bytes::{LeastFirst, MostFirst, Order, Spelling};
@@ -99,9 +99,7 @@ impl<'a> Value<'a> {
         requires { i < length self.now.elements }
         ensures { slice_get self.now.elements i ≡ Some result }
     {
-        let size = self.form.size() as usize;
-        let at = i as usize * size;
-        let element = read_element(self.order, self.form, &self.raw[at..at + size]);
+        let element = element_in(self.order, self.form, self.raw, i);
         if self.widened {
             widen(element)
         } else {
@@ -115,11 +113,10 @@ impl<'a> Value<'a> {
         ensures elements { result ≡ length self.now.elements * size (form_in self.now.kind) }
         ensures bounded { result ≤ 2 * limit }
     {
-        let len = self.raw.len() as u64;
-        if self.widened && self.form == Form::Short {
-            2 * len
+        if self.widened {
+            4 * u64::from(self.count())
         } else {
-            len
+            self.raw.len() as u64
         }
     }
 }
@@ -153,16 +150,33 @@ fn same_elements(a: &Value, b: &Value) -> bool
     true
 }
 
+// The element at `i` of a type, where the bytes have room for it.
+#[tactic(auto, using(crate::proofs::ViewLemmas::element_fits))]
+fn element_in(order: Order, form: Form, raw: &[u8], i: u32) -> Element
+    requires bounded { length raw.now ≤ limit }
+    requires inside { i < count_in form raw.now }
+    ensures { slice_get (elements order form (count_in form raw.now) raw.now) i ≡ Some result }
+{
+    let size = form.size() as usize;
+    let at = i as usize * size;
+    read_element(order, form, &raw[at..at + size])
+}
+
 // The element of a type that the bytes spell.
 fn read_element(order: Order, form: Form, bytes: &[u8]) -> Element
     requires { length bytes.now ≡ size form }
     ensures { result ≡ element_of order form bytes.now }
 {
     match form {
-        Form::Byte | Form::Ascii | Form::SByte | Form::Undefined | Form::Utf8 => Element::Byte(bytes[0]),
+        Form::Byte | Form::Ascii | Form::SByte | Form::Undefined | Form::Utf8 => Element::Byte(
+            bytes[0],
+        ),
         Form::Short => Element::Short(number16(order, bytes)),
         Form::Long => Element::Long(number32(order, bytes)),
-        Form::Rational => Element::Rational(number32(order, &bytes[..4]), number32(order, &bytes[4..])),
+        Form::Rational => Element::Rational(
+            number32(order, &bytes[..4]),
+            number32(order, &bytes[4..]),
+        ),
         Form::SShort => Element::SShort(number16(order, bytes).cast_signed()),
         Form::SLong => Element::SLong(number32(order, bytes).cast_signed()),
         Form::SRational => Element::SRational(
