@@ -10,3 +10,5 @@ pub mod Fits
 pub mod Checks
 pub mod Faults
 pub mod Laws
+pub mod Places
+pub mod Seen

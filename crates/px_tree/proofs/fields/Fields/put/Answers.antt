@@ -1,0 +1,16 @@
+use Rattle.std.proofs.Common.{◌≡◌, sym, ap, refl, ◌∙◌}
+use Rattle.px_tree.proofs.FieldLemmas.{at_tag-some, at_tag-gap, put-insert, in_order-insert}
+use Rattle.px_tree.proofs.fields.Fields.put.Goals as goal
+
+pub invariant_of-self-in-Err : goal.invariant_of-self-in-Err
+invariant_of-self-in-Err c =
+    rw c.in_ok-insert-in-Err.ensures.items (in_order-insert _ _ _ _ c.self.invariant (rw c.as_slice.ensures.value at c.in-Err.ensures.absent))
+
+pub returns-in-Ok-clause-there : goal.returns-in-Ok-clause-there
+returns-in-Ok-clause-there c = λ _. (rw (← c.self.view_is) (at_tag-some _ _ _ (rw c.as_slice.ensures.value at c.in-Ok.ensures.found)), refl)
+
+pub returns-in_ok-insert-in-Err-clause-fresh : goal.returns-in_ok-insert-in-Err-clause-fresh
+returns-in_ok-insert-in-Err-clause-fresh c =
+    let gap = rw c.as_slice.ensures.value at c.in-Err.ensures.absent in
+    λ _. (rw (← c.self.view_is) (at_tag-gap _ _ _ gap),
+    rw (← c.self.view_is) (c.in_ok-insert-in-Err.ensures.items ∙ sym (put-insert _ _ _ _ gap)))

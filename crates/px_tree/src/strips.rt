@@ -1,0 +1,63 @@
+// The strips of a thumbnail.
+ghost use Rattle.std.specs.Prelude.{◌≡◌, ◌<◌, [], ◌∷◌, ◌++◌, length, slice_get, Some, OnOk, OnErr, IsTrue, ◌↔◌};
+
+use std::alloc::{AllocError, Global};
+use std::marker::Model;
+
+/// The strips of an uncompressed thumbnail, in the order of the list that names them: slices of the
+/// block that was read. TIFF 6.0 section 8, "StripOffsets" and "StripByteCounts".
+#[derive(Drop)]
+pub struct Strips<'a> {
+    list: Vec<&'a [u8]>,
+}
+
+impl<'a> Model for Strips<'a> {
+    ghost use Rattle.std.specs.Prelude.{List, ℕ, map};
+
+    ghost Value = { List (List ℕ) };
+
+    ghost view = { λ s. map (λ x. x.now) s.list.items };
+}
+
+impl<'a> Strips<'a> {
+    /// No strips. Takes no memory.
+    pub fn new(alloc: Global) -> Strips<'a>
+        ensures { result ≡ [] }
+    {
+        Strips {
+            list: Vec::new(alloc),
+        }
+    }
+
+    /// Puts a strip behind the others. On an error, which comes only for want of memory, nothing has
+    /// changed.
+    pub fn push(&mut self, strip: &'a [u8]) -> Result<(), AllocError>
+        ensures ok { OnOk result (self.new ≡ self.old ++ strip.now ∷ []) }
+        ensures err { OnErr result (self.new ≡ self.old) }
+    {
+        self.list.push(strip)?;
+        Ok(())
+    }
+
+    /// How many strips there are.
+    pub fn len(&self) -> usize
+        ensures { result ≡ length self.now }
+    {
+        self.list.len()
+    }
+
+    /// Whether there are none.
+    pub fn is_empty(&self) -> bool
+        ensures { IsTrue result ↔ (self.now ≡ []) }
+    {
+        self.list.is_empty()
+    }
+
+    /// The bytes of the strip at `i`, counted from 0.
+    pub fn at(&self, i: usize) -> &'a [u8]
+        requires { i < length self.now }
+        ensures { slice_get self.now i ≡ Some result.now }
+    {
+        self.list[i]
+    }
+}
