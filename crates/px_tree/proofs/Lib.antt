@@ -1,2 +1,4 @@
 pub mod FieldLemmas
 pub mod SameLists
+pub mod ItemCounts
+pub mod FitLemmas

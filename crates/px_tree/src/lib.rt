@@ -2,6 +2,7 @@
 #![tactic(auto)]
 
 mod fields;
+mod fitting;
 mod meanings;
 mod roles;
 mod same;
@@ -9,6 +10,7 @@ mod strips;
 mod values;
 
 pub use fields::Fields;
+pub use fitting::fits;
 pub use meanings::{ExifPart, Meaning, Thumb};
 pub use roles::{Dir, Role};
 pub use same::same_meaning;

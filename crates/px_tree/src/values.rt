@@ -1,5 +1,9 @@
 // A stand-in.
-ghost use Rattle.std.specs.Prelude.{◌≡◌, IsTrue, ◌↔◌};
+ghost use Rattle.std.specs.Prelude.{◌≡◌, ◌==◌, ◌≤◌, ◌<◌, ◌*◌, IsTrue, ◌↔◌, IsSome, length, MatchOption};
+ghost use Rattle.px_iim.specs.Group.{AreGroups};
+ghost use Rattle.px_iim.specs.Record.{normal_iim, iim_of};
+ghost use Rattle.px_bytes.specs.Parts.{limit};
+ghost use Rattle.px_bytes.specs.Numbers.{AreBytes};
 
 use std::marker::Model;
 
@@ -22,5 +26,36 @@ pub fn same_iim(a: &Iim, b: &Iim) -> bool
 {
     let _x = a.raw;
     let _y = b.raw;
+    true
+}
+
+impl<'a> Iim<'a> {
+    pub fn is_empty(&self) -> bool
+        ensures { result ≡ (length self.now == 0) }
+    {
+        let _x = self.raw;
+        true
+    }
+
+    pub fn groups(&self) -> u32
+        ensures count { result ≡ length self.now }
+        ensures whole { AreGroups self.now }
+    {
+        let _x = self.raw;
+        0
+    }
+}
+
+pub fn normal_len(i: &Iim) -> Option<u32>
+    ensures { MatchOption result (2 * limit < length (normal_iim i.now)) (λ n. (n ≡ length (normal_iim i.now)) × (n ≤ 2 * limit)) }
+{
+    let _x = i.raw;
+    Some(0)
+}
+
+pub fn accepts(bytes: &[u8]) -> bool
+    ensures { IsTrue result ↔ IsSome (iim_of bytes.now) }
+{
+    let _x = bytes.len();
     true
 }

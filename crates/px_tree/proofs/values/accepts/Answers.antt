@@ -1,0 +1,3 @@
+use Rattle.px_tree.proofs.values.accepts.Goals as goal
+pub returns : goal.returns
+returns c = ?
