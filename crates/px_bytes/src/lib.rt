@@ -7,6 +7,8 @@ mod causes;
 mod devices;
 mod held;
 mod numbers;
+#[cfg(test)]
+mod tests;
 mod whole;
 
 pub use blocks::{Block, LIMIT};
