@@ -85,6 +85,26 @@ impl io::Write for SlowWriter {
 
 const HEADER: &[u8] = b"MM\x00\x2a\x00\x00\x00\x08";
 
+// The example of the crate's page.
+#[test]
+fn a_header_is_read_and_spelled_anew(rt: HostRuntime) -> Result<(), Fail> {
+    let header = b"MM\x00\x2a\x00\x00\x00\x08";
+    let block = Block::new(header).ok().ok_or("too long")?;
+    let offset = block.u32_at(Order::Most, 4).ok_or("no offset")?;
+    assert_eq!(rt; offset, 8);
+    let mut held = Ranges::new(rt.alloc());
+    assert!(rt; held.add(0, offset)?);
+    assert!(rt; !held.add(7, 1)?);
+    let mut spelled = [0u8; 4];
+    Order::Least.put32(offset, &mut spelled);
+    let mut writer = Watched::new(Vec::new(rt.alloc()));
+    write_whole(&mut writer, &spelled)
+        .ok()
+        .ok_or("a write failed")?;
+    assert_eq!(rt; writer.into_inner().as_slice(), [8, 0, 0, 0].as_slice());
+    Ok(())
+}
+
 // The examples of byteorder's documentation.
 #[test]
 fn reads_published_numbers(rt: HostRuntime) {
