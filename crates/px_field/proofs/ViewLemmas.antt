@@ -13,7 +13,8 @@ use Rattle.px_field.specs.declared.forms.Kind.TheVariants as kind
 use Rattle.px_field.specs.declared.forms.Element.{Element}
 use Rattle.px_field.specs.declared.forms.Element.TheVariants as element
 use Rattle.px_field.specs.Forms.{size}
-use Rattle.px_field.specs.Values.{elements, widened, count_in, value_in, whole_in, form_in, spelled, IsValue, IsWhole, Value, is_bytes}
+use Rattle.px_field.specs.Values.{elements, widened, count_in, value_in, whole_in, form_in, spelled, IsValue, IsWhole, IsOf, Value, is_bytes}
+use Rattle.px_field.specs.PieceLaws.{all_at}
 use Rattle.px_field.specs.ValueLaws.{length-elements, IsValue-value_in, IsValue-whole_in, count_in-whole, length-spelled, elements-bytes}
 use Rattle.px_field.specs.Views.{shown}
 
@@ -84,3 +85,9 @@ pub bound-whole : (f : Form) (raw : List ℕ) → IsWhole f → 4 * count_in f r
 bound-whole form.Short raw h = omega arith
 bound-whole form.Long raw h = omega arith
 bound-whole _ raw h = absurd h
+
+-- an element that is seen is of its kind
+pub IsOf-shown : (w : Bool) (o : Order) (f : Form) (raw : List ℕ) (v : Value) (i : ℕ) (e : Element) → (w ≡ true → IsWhole f) → AreBytes raw → shown w o f raw ≡ v → slice_get v.elements i ≡ Some e → IsOf (form_in v.kind) e
+IsOf-shown w o f raw v i e whole are seen here =
+    let is : IsValue v = rw (← seen) (IsValue-shown w o f raw whole are) in
+    all_at (IsOf (form_in v.kind)) v.elements i e is here

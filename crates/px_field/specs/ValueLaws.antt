@@ -1,9 +1,9 @@
 -- Laws of values: what is spelled reads back, and what is read spells as it stood.
-use Rattle.std.proofs.Common.{◌≡◌, ℕ, zero, suc, ◌+◌, ◌*◌, ◌/◌, ◌%◌, ◌<◌, List, [], ◌∷◌, ◌++◌, map, flat_map, length, take, drop, slice_get, slice_index, Some, true, refl, sym, ◌∙◌, ap, ap₂, arith, append-nil, length-drop, take-append-drop}
+use Rattle.std.proofs.Common.{◌≡◌, ℕ, zero, suc, ◌+◌, ◌*◌, ◌/◌, ◌%◌, ◌<◌, List, [], ◌∷◌, ◌++◌, map, flat_map, length, take, drop, slice_get, slice_index, Some, true, refl, sym, ◌∙◌, ap, ap₂, arith, append-nil, append_assoc, length-drop, take-append-drop}
 use Rattle.std.specs.List.{AllByRecursion}
 use Rattle.std.proofs.lemmas.List.{length-map, length-take-le, nil_from_length}
 use Rattle.std.proofs.lemmas.Option.{slice_get-map}
-use Rattle.std.proofs.Math.Nat.{div-add-mod', mul-div_cancel}
+use Rattle.std.proofs.Math.Nat.{div-add-mod', mul-div_cancel, mul-mod_left}
 use Rattle.std.specs.Option.{option_map}
 use Rattle.px_bytes.specs.declared.Order.{Order}
 use Rattle.px_bytes.specs.Numbers.{AreBytes}
@@ -159,3 +159,30 @@ elements-bytes o _ x b = absurd (cc)
 pub spell-bytes : (o : Order) (x : List ℕ) → flat_map (spell o) (map element.Byte x) ≡ x
 spell-bytes o [] = refl
 spell-bytes o (b ∷ x) = ap (λ (l : List ℕ). b ∷ l) (spell-bytes o x)
+
+-- the bytes of the first elements, and of one more
+pub spell-take : (o : Order) (es : List Element) (i j : ℕ) (e : Element) → slice_get es i ≡ Some e → j ≡ suc i → flat_map (spell o) (take j es) ≡ flat_map (spell o) (take i es) ++ spell o e
+spell-take o [] i j e h s = absurd (cc)
+spell-take o (x ∷ es) zero j e h s =
+    let same : x ≡ e = cc in
+    let one : j ≡ 1 = omega arith in
+    rw (one, same) (append-nil (spell o e))
+spell-take o (x ∷ es) (suc i) j e h s =
+    rw s (ap (λ (l : List ℕ). spell o x ++ l) (spell-take o es i (suc i) e h refl) ∙ sym (append_assoc (spell o x) (flat_map (spell o) (take i es)) (spell o e)))
+
+-- a whole number that is read of LONGs spells them as they stood
+pub spelled-whole_in : (o : Order) (x : List ℕ) → length x % 4 ≡ 0 → AreBytes x → spelled o (whole_in o form.Long x) ≡ x
+unfolding spelled
+spelled-whole_in o x whole h =
+    ap (λ (es : List Element). flat_map (spell o) es) (widened-long o (count_in form.Long x) x h) ∙ spell-elements o form.Long (count_in form.Long x) x (sym (count_in-whole form.Long x whole)) h
+
+-- the value that n elements of a type give
+pub value_in-elements : (o : Order) (f : Form) (n : ℕ) (x : List ℕ) → n * size f ≡ length x → value_in o f x ≡ record { kind = kind.Of f; elements = elements o f n x }
+value_in-elements o f n x h = ap (λ (m : ℕ). record { kind = kind.Of f; elements = elements o f m x }) (count_in-times f x n h)
+
+pub whole_in-elements : (o : Order) (f : Form) (n : ℕ) (x : List ℕ) → n * size f ≡ length x → whole_in o f x ≡ record { kind = kind.Whole; elements = map widened (elements o f n x) }
+whole_in-elements o f n x h = ap (λ (m : ℕ). record { kind = kind.Whole; elements = map widened (elements o f m x) }) (count_in-times f x n h)
+
+-- so many bytes are a whole number of elements
+pub whole-times : (f : Form) (n : ℕ) (x : List ℕ) → n * size f ≡ length x → length x % size f ≡ 0
+whole-times f n x h = ap (λ (m : ℕ). m % size f) (sym h) ∙ mul-mod_left n (size f)

@@ -4,10 +4,10 @@ ghost use Rattle.px_bytes.specs.declared.Order.{Order};
 ghost use Rattle.px_bytes.specs.Parts.{limit};
 ghost use Rattle.px_bytes.specs.Numbers.{number};
 ghost use Rattle.px_field.specs.Forms.{size};
-ghost use Rattle.px_field.specs.Values.{count_in, element_of, elements, form_in, is_bytes, spelled, value_in, whole_in, widened, IsValue, IsWhole};
+ghost use Rattle.px_field.specs.Values.{count_in, element_of, elements, form_in, is_bytes, spelled, value_in, whole_in, widened, IsOf, IsValue, IsWhole};
 
 use crate::forms::{Element, Form, Kind};
-use px_bytes::{LeastFirst, MostFirst, Order, Spelling};
+use px_bytes::Order;
 use std::marker::Model;
 
 /// The value of a field: its kind and its elements, read from bytes that it borrows.
@@ -97,7 +97,8 @@ impl<'a> Value<'a> {
     /// The element at `i`.
     pub fn element(&self, i: u32) -> Element
         requires { i < length self.now.elements }
-        ensures { slice_get self.now.elements i ≡ Some result }
+        ensures element { slice_get self.now.elements i ≡ Some result }
+        ensures range { IsOf (form_in self.now.kind) result }
     {
         let element = element_in(self.order, self.form, self.raw, i);
         if self.widened {
@@ -171,20 +172,17 @@ fn read_element(order: Order, form: Form, bytes: &[u8]) -> Element
         Form::Byte | Form::Ascii | Form::SByte | Form::Undefined | Form::Utf8 => Element::Byte(
             bytes[0],
         ),
-        Form::Short => Element::Short(number16(order, bytes)),
-        Form::Long => Element::Long(number32(order, bytes)),
-        Form::Rational => Element::Rational(
-            number32(order, &bytes[..4]),
-            number32(order, &bytes[4..]),
-        ),
-        Form::SShort => Element::SShort(number16(order, bytes).cast_signed()),
-        Form::SLong => Element::SLong(number32(order, bytes).cast_signed()),
+        Form::Short => Element::Short(order.get16(bytes)),
+        Form::Long => Element::Long(order.get32(bytes)),
+        Form::Rational => Element::Rational(order.get32(&bytes[..4]), order.get32(&bytes[4..])),
+        Form::SShort => Element::SShort(order.get16(bytes).cast_signed()),
+        Form::SLong => Element::SLong(order.get32(bytes).cast_signed()),
         Form::SRational => Element::SRational(
-            number32(order, &bytes[..4]).cast_signed(),
-            number32(order, &bytes[4..]).cast_signed(),
+            order.get32(&bytes[..4]).cast_signed(),
+            order.get32(&bytes[4..]).cast_signed(),
         ),
-        Form::Float => Element::Float(number32(order, bytes)),
-        Form::Double => Element::Double(number64(order, bytes)),
+        Form::Float => Element::Float(order.get32(bytes)),
+        Form::Double => Element::Double(order.get64(bytes)),
     }
 }
 
@@ -195,35 +193,5 @@ fn widen(element: Element) -> Element
     match element {
         Element::Short(n) => Element::Long(u32::from(n)),
         other => other,
-    }
-}
-
-fn number16(order: Order, bytes: &[u8]) -> u16
-    requires { length bytes.now ≡ 2 }
-    ensures { result ≡ number order 2 bytes.now }
-{
-    match order {
-        Order::Least => LeastFirst::get16(bytes),
-        Order::Most => MostFirst::get16(bytes),
-    }
-}
-
-fn number32(order: Order, bytes: &[u8]) -> u32
-    requires { length bytes.now ≡ 4 }
-    ensures { result ≡ number order 4 bytes.now }
-{
-    match order {
-        Order::Least => LeastFirst::get32(bytes),
-        Order::Most => MostFirst::get32(bytes),
-    }
-}
-
-fn number64(order: Order, bytes: &[u8]) -> u64
-    requires { length bytes.now ≡ 8 }
-    ensures { result ≡ number order 8 bytes.now }
-{
-    match order {
-        Order::Least => LeastFirst::get64(bytes),
-        Order::Most => MostFirst::get64(bytes),
     }
 }

@@ -11,7 +11,7 @@ loop-i-preserved c k below = elim (cases_lt k c.loop-i.i) [
       let same : c.element.result ≡ c.element-in-loop-i.result = search rules in
       let here : c.loop-i.i ≡ k = omega arith in
       let P : ℕ → Type 0 = λ (j : ℕ). slice_get c.args.a.now.elements j ≡ slice_get c.args.b.now.elements j in
-      subst P here (c.element.ensures ∙ ap (λ (e : Element). Some e) same ∙ sym c.element-in-loop-i.ensures)
+      subst P here (c.element.ensures.element ∙ ap (λ (e : Element). Some e) same ∙ sym c.element-in-loop-i.ensures.element)
 ]
 
 pub returns : goal.returns
