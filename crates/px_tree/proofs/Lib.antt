@@ -1,0 +1,5 @@
+pub mod Each
+pub mod OneMeaning
+pub mod InRange
+pub mod FitsBack
+pub mod Filled
