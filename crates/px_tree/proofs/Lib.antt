@@ -3,5 +3,7 @@ pub mod OneMeaning
 pub mod InRange
 pub mod FitsBack
 pub mod Filled
+pub mod Members
+pub mod FieldPairs
 pub mod Opened
 pub mod Examples
