@@ -1,16 +1,16 @@
 -- The fields of a directory are exactly the pairs of its plain and widened entries.
-use Rattle.std.proofs.Common.{◌≡◌, ℕ, ◌*◌, ◌<◌, true, Option, Some, None, option_map, option_and_then, List, map, flat_map, length, refl, sym, ◌∙◌, ap, ap₂, subst, arith}
+use Rattle.std.proofs.Common.{◌≡◌, ℕ, ◌*◌, true, Option, Some, None, option_map, option_and_then, List, map, length, refl, sym, ◌∙◌, ap, ap₂, subst}
 use Rattle.std.specs.Prelude.{Contains, ◌↔◌}
 use Rattle.std.specs.List.{AllByRecursion}
 use Rattle.px_bytes.specs.declared.Order.{Order}
 use Rattle.px_bytes.specs.Numbers.{AreBytes}
 use Rattle.px_field.specs.declared.Form.{Form}
-use Rattle.px_field.specs.declared.Form.TheVariants.{Byte, Ascii, Short, Long, Rational, SByte, Undefined, SShort, SLong, SRational, Float, Double, Utf8}
+use Rattle.px_field.specs.declared.Form.TheVariants.{Short, Long}
 use Rattle.px_field.specs.declared.Kind.{Kind}
 use Rattle.px_field.specs.declared.Kind.TheVariants.{Of, Whole}
 use Rattle.px_field.specs.declared.Element.{Element}
 use Rattle.px_field.specs.Forms.{form_of, size}
-use Rattle.px_field.specs.Values.{Value, IsOf, spell, elements, spelled, widened, count_in}
+use Rattle.px_field.specs.Values.{Value, elements, spelled, widened}
 use Rattle.px_field.specs.ValueLaws.{IsOf-elements, spell-elements, length-spelled, elements-spelled, count_in-times}
 use Rattle.px_tree.specs.Iim.{Iim}
 use Rattle.px_tree.specs.declared.roles.Dir.{Dir}

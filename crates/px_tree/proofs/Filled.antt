@@ -4,6 +4,7 @@ use Rattle.std.specs.Prelude.{IfSome, ◌⊎◌}
 use Rattle.std.specs.List.{AllByRecursion, cons_option}
 use Rattle.std.proofs.lemmas.Bool.{cond-true, cond-false, cases_Bool, cond_both}
 use Rattle.std.proofs.lemmas.List.{length-map}
+use Rattle.std.proofs.Math.Nat.{le-mul_of_pos_right}
 use Rattle.px_bytes.specs.declared.Order.{Order}
 use Rattle.px_bytes.specs.Numbers.{AreBytes}
 use Rattle.px_bytes.specs.Parts.{limit, part, pieces}
@@ -24,10 +25,10 @@ use Rattle.px_tree.specs.declared.roles.Role.TheVariants.{Plain, Widened, Forbid
 use Rattle.px_tree.specs.Roles.{exif_tag, gps_tag, interop_tag, record_tag, jpeg_offset_tag, jpeg_length_tag, strip_offsets_tag, strip_lengths_tag, at_tag, special, offset_tags, role_or, role}
 use Rattle.px_tree.specs.Tree.{Fields, Meaning}
 use Rattle.px_tree.specs.Entry.{short, Entry, entry, table, entries, sized, raw_size, is_placed, offset, raw, has_raw, is_one_long, has_form, is_allowed, IsEntry, Rising, IsDirectory, entry_elements, widened_value, record_in, unless_record, value_in, field, fields}
-use Rattle.px_tree.specs.Directory.{dirs, entries_at, entry_with, is_pointer, pointer, main_at, dir_at, fields_at}
+use Rattle.px_tree.specs.Directory.{entries_at, entry_with, pointer, main_at, dir_at, fields_at}
 use Rattle.px_tree.specs.Thumbnail.{both, are_paired, whole_number, numbers_in, numbers, bytes_of, jpeg_range, ranges_of, strip_ranges, IsThumbnail}
 use Rattle.px_tree.specs.Says.{record_at, exif_part, thumbnail, meaning, IsExif, SaysExif}
-use Rattle.px_tree.specs.Fits.{Item, Iptc, Link, AtJpeg, JpegSize, AtStrips, StripSizes, put, put_some, link, field_items, main_items, exif_items, thumb_items, items, FitsField, FitsFields, FitsExif, FitsThumb, IsBytes, Fits}
+use Rattle.px_tree.specs.Fits.{Item, Iptc, AtJpeg, JpegSize, AtStrips, StripSizes, put, put_some, link, field_items, main_items, exif_items, thumb_items, items, FitsFields, FitsExif, FitsThumb, IsBytes, Fits}
 use Rattle.px_tree.proofs.Each.{each_map, each_map₂}
 use Rattle.px_tree.proofs.InRange.{bytes_part}
 use Rattle.px_tree.proofs.FitsBack.{whole, count_is, Plausible, entries_plausible, bytes_raw, length_raw, value_of, fields_fit}
@@ -231,21 +232,6 @@ module _ (iim_said : IimSaid) (b : List ℕ) (o : Order) (bytes : AreBytes b) (x
   few_ranges (y ∷ xs) [] = omega arith
   few_ranges (y ∷ xs) (n ∷ ns) = let e = few_ranges xs ns in omega arith
 
-  at_least : (f : Form) (n : ℕ) → n ≤ n * size f
-  at_least Byte n = omega arith
-  at_least Ascii n = omega arith
-  at_least Short n = omega arith
-  at_least Long n = omega arith
-  at_least Rational n = omega arith
-  at_least SByte n = omega arith
-  at_least Undefined n = omega arith
-  at_least SShort n = omega arith
-  at_least SLong n = omega arith
-  at_least SRational n = omega arith
-  at_least Float n = omega arith
-  at_least Double n = omega arith
-  at_least Utf8 n = omega arith
-
   few_numbers : (e : Entry) → length e.last ≡ 4 → has_raw b o e ≡ true → length (numbers b o e) ≤ limit
   unfolding numbers entry_elements raw_size
   few_numbers e l h = known (form_of e.code) refl
@@ -257,7 +243,7 @@ module _ (iim_said : IimSaid) (b : List ℕ) (o : Order) (bytes : AreBytes b) (x
           let k = length-elements o f e.count (raw b o e) in
           let r : length (raw b o e) ≡ e.count * size f = length_raw b o bytes e l h ∙ ap (λ f. sized f e.count) q in
           let s = short_raw e in
-          let c = at_least f e.count in
+          let c = le-mul_of_pos_right e.count (size-pos f) in
           omega arith
 
   count_strips : (u w : Option Entry) → IfSome u (IsBoth Thumb) → IfSome (option_map (map (bytes_of b)) (both (λ x n. ranges_of (numbers b o x) (numbers b o n)) u w)) (λ s. (length s ≤ limit) × AllByRecursion IsBytes s)
@@ -301,13 +287,9 @@ module _ (iim_said : IimSaid) (b : List ℕ) (o : Order) (bytes : AreBytes b) (x
   abbrev First : Dir → ℕ → Entry → List Entry → Type 0
   First d a e es = (entries_at b o a ≡ e ∷ es) × IsEntry b o d e
 
-  length_pieces : (n k : ℕ) (y : List ℕ) → length (map (entry o) (pieces n k y)) ≡ n
-  length_pieces zero k y = refl
-  length_pieces (suc n) k y = ap suc (length_pieces n k (drop k y))
-
   count : (d : Dir) (a : ℕ) → dir_at b o d ≡ Some a → 1 ≤ length (entries_at b o a)
   unfolding entries
-  count d a q = let l = length_pieces (short o (take 2 (table b o a))) 12 (drop 2 (table b o a)) in let c = count_is b o bytes d a (is d a q) in let w = (whole b o bytes d a (is d a q)).0 in omega arith
+  count d a q = let l = length-map (pieces (short o (take 2 (table b o a))) 12 (drop 2 (table b o a))) (entry o) in let n = length-pieces (short o (take 2 (table b o a))) 12 (drop 2 (table b o a)) in let c = count_is b o bytes d a (is d a q) in let w = (whole b o bytes d a (is d a q)).0 in omega arith
 
   not_empty : (d : Dir) (a : ℕ) → dir_at b o d ≡ Some a → (e : Entry) × (es : List Entry) × First d a e es
   not_empty d a q = go (entries_at b o a) refl (is d a q).each (count d a q)

@@ -6,7 +6,6 @@ use Rattle.std.proofs.lemmas.List.{length-take-le, take-take}
 use Rattle.px_bytes.specs.declared.Order.{Order}
 use Rattle.px_bytes.specs.declared.Order.TheVariants.{Least}
 use Rattle.px_bytes.specs.Numbers.{AreBytes, number}
-use Rattle.px_bytes.specs.NumberLaws.{number-take}
 use Rattle.px_bytes.specs.Parts.{part, pieces}
 use Rattle.px_field.specs.declared.Form.{Form}
 use Rattle.px_field.specs.declared.Form.TheVariants.{Byte, Ascii, Short, Long, Rational, SByte, Undefined, SShort, SLong, SRational, Float, Double, Utf8}

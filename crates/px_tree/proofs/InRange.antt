@@ -1,6 +1,5 @@
 -- What is read from bytes is in range, and bytes that are read as bytes spell as they stood.
 use Rattle.std.proofs.Common.{◌≡◌, ℕ, zero, suc, ◌^◌, ◌<◌, List, [], ◌∷◌, flat_map, length, drop, refl, ap, arith}
-use Rattle.std.specs.List.{AllByRecursion}
 use Rattle.px_bytes.specs.declared.Order.{Order}
 use Rattle.px_bytes.specs.declared.Order.TheVariants.{Least}
 use Rattle.px_bytes.specs.Numbers.{AreBytes, number}

@@ -1,5 +1,5 @@
 -- The laws over the definitions alone.
-use Rattle.std.specs.Prelude.{◌≡◌, ℕ, ◌<◌, ◌≤◌, ◌⊎◌, ◌↔◌, List, length, map, slice_index, flat_map, None, Some, Contains}
+use Rattle.std.specs.Prelude.{◌≡◌, ℕ, ◌≤◌, ◌⊎◌, ◌↔◌, List, length, map, slice_index, flat_map, None, Some, Contains}
 use Rattle.std.specs.List.{AllByRecursion}
 use Rattle.px_bytes.specs.declared.Order.{Order}
 use Rattle.px_bytes.specs.declared.Cause.{Cause}
