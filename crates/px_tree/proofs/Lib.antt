@@ -1,3 +1,12 @@
+pub mod Each
+pub mod OneMeaning
+pub mod InRange
+pub mod FitsBack
+pub mod Filled
+pub mod Members
+pub mod FieldPairs
+pub mod Opened
+pub mod Examples
 pub mod FieldLemmas
 pub mod SameLists
 pub mod ItemCounts

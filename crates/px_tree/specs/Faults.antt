@@ -1,7 +1,7 @@
 -- A standing fault, by its cause: what is wrong in a block, and where. It looks at the block alone, and at no order of checks;
 -- of several that stand, the list of checks tells the first. TIFF 6.0 section 2 and section 7, "No Duplicate Pointers"; CIPA
 -- DC-008 4.5.5 and 4.6.3.
-use Rattle.std.specs.Prelude.{◌≡◌, ℕ, ◌+◌, ◌*◌, ◌<◌, ◌≤◌, ◌⊎◌, false, Option, Some, None, option_map, option_to_list, List, [], ◌∷◌, ◌++◌, length, map, take, slice_get, flat_map, Contains}
+use Rattle.std.specs.Prelude.{◌≡◌, ℕ, ◌+◌, ◌*◌, ◌<◌, ◌≤◌, ◌⊎◌, false, Some, None, option_map, option_to_list, List, [], ◌∷◌, ◌++◌, length, map, take, slice_get, flat_map, Contains}
 use Rattle.std.specs.List.{cons_option}
 use Rattle.px_bytes.specs.declared.Order.{Order}
 use Rattle.px_bytes.specs.declared.Cause.{Cause}

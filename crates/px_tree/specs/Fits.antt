@@ -3,6 +3,7 @@
 use Rattle.std.specs.Prelude.{◌≡◌, ℕ, ◌*◌, ◌^◌, ◌<◌, ◌≤◌, nat_lt, if◌then◌else◌, Option, Some, None, option_map, option_and_then, List, [], ◌∷◌, length, map, IfSome}
 use Rattle.std.specs.List.{AllByRecursion}
 use Rattle.px_bytes.specs.declared.Order.TheVariants.{Least}
+use Rattle.px_bytes.specs.Numbers.{AreBytes}
 use Rattle.px_bytes.specs.Parts.{limit}
 use Rattle.px_field.specs.declared.Form.{Form}
 use Rattle.px_field.specs.declared.Form.TheVariants.{Undefined, Short, Long}
@@ -109,7 +110,7 @@ pub record FitsFields (d : Dir) (fs : Fields) : Type 0 where
 -- bytes, at most as many as a block may have
 pub record IsBytes (x : List ℕ) : Type 0 where
   pub most : length x ≤ limit
-  pub each : AllByRecursion (λ n. n < 256) x
+  pub each : AreBytes x
 
 pub record FitsExif (e : ExifPart) : Type 0 where
   pub fields : FitsFields Exif e.fields

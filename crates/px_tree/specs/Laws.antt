@@ -1,8 +1,9 @@
 -- The laws over the definitions alone.
-use Rattle.std.specs.Prelude.{◌≡◌, ℕ, ◌<◌, ◌≤◌, ◌⊎◌, ◌↔◌, List, length, map, slice_index, flat_map, None, Some, Contains}
+use Rattle.std.specs.Prelude.{◌≡◌, ℕ, ◌≤◌, ◌⊎◌, ◌↔◌, List, length, map, slice_index, flat_map, None, Some, Contains}
 use Rattle.std.specs.List.{AllByRecursion}
 use Rattle.px_bytes.specs.declared.Order.{Order}
 use Rattle.px_bytes.specs.declared.Cause.{Cause}
+use Rattle.px_bytes.specs.Numbers.{AreBytes}
 use Rattle.px_bytes.specs.Parts.{limit}
 use Rattle.px_bytes.specs.Range.{IsIn}
 use Rattle.px_field.specs.declared.Form.{Form}
@@ -30,7 +31,7 @@ OneMeaning = (b : List ℕ) (s t : Meaning) → SaysExif b s → SaysExif b t �
 
 -- What a block of bytes says fits.
 abbrev pub SaidFits : Type 0
-SaidFits = (b : List ℕ) (m : Meaning) → AllByRecursion (λ n. n < 256) b → SaysExif b m → Fits m
+SaidFits = (b : List ℕ) (m : Meaning) → AreBytes b → SaysExif b m → Fits m
 
 -- Bytes outside the footprint have no meaning.
 abbrev pub FootprintCounts : Type 0
@@ -85,5 +86,5 @@ Means b o d a t v = (e : Entry) × (f : Form) × Contains (entries_at b o a) e �
 
 -- A pair of tag and value is a field of a directory exactly if an entry there has the tag and means the value.
 abbrev pub FieldsArePairs : Type 0
-FieldsArePairs = (b : List ℕ) (o : Order) (d : Dir) (a t : ℕ) (v : Value) → AllByRecursion (λ n. n < 256) b → IsDirectory b o d a →
+FieldsArePairs = (b : List ℕ) (o : Order) (d : Dir) (a t : ℕ) (v : Value) → AreBytes b → IsDirectory b o d a →
     (Contains (fields b o d a) (t, v) ↔ Means b o d a t v)

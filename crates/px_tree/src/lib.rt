@@ -1,8 +1,9 @@
-//! The tree of directories of an Exif block.
+//! The tree of directories of an Exif block: what each tag is in a directory.
 #![tactic(auto)]
 
 mod fields;
 mod fitting;
+pub mod laws;
 mod meanings;
 mod roles;
 mod same;

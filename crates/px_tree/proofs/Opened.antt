@@ -1,0 +1,18 @@
+-- All definitions opened at once, for what is computed.
+use Rattle.std.proofs.Common.{ℕ}
+use Rattle.px_field.specs.Forms.{form_of}
+use Rattle.px_field.specs.Values.{elements, spelled}
+use Rattle.px_tree.specs.Iim.{iim_of, normal_iim}
+use Rattle.px_tree.specs.Roles.{role}
+use Rattle.px_tree.specs.Entry.{entry, has_table, table, entries, next, raw_size, raw, has_raw, entry_elements, field, fields}
+use Rattle.px_tree.specs.Directory.{pointer, dir_at}
+use Rattle.px_tree.specs.Thumbnail.{numbers, jpeg_range, strip_ranges}
+use Rattle.px_tree.specs.Footprint.{placed_range, dir_ranges, thumb_ranges, footprint}
+use Rattle.px_tree.specs.Says.{record_at, exif_part, thumbnail, meaning}
+use Rattle.px_tree.specs.Fits.{item_size, items}
+use Rattle.px_tree.specs.Checks.{entry_checks, dir_checks, named_at, thumb_checks, tree_checks, checks}
+use Rattle.px_tree.specs.Faults.{dir_owners, thumb_owners, owners}
+
+unfoldable pub opened : ℕ
+unfolding form_of elements spelled iim_of normal_iim role entry has_table table entries next raw_size raw has_raw entry_elements field fields pointer dir_at numbers jpeg_range strip_ranges placed_range dir_ranges thumb_ranges footprint record_at exif_part thumbnail meaning item_size items entry_checks dir_checks named_at thumb_checks tree_checks checks dir_owners thumb_owners owners
+opened = 0

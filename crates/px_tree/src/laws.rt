@@ -1,0 +1,12 @@
+// Laws over the definitions alone: what each states stands in specs/Laws.antt.
+ghost use Rattle.px_tree.specs.Laws.{OneMeaning, FieldsArePairs};
+
+/// A block says at most one meaning.
+pub fn one_meaning()
+    ensures { OneMeaning }
+{}
+
+/// The fields of a directory are exactly the pairs of tag and value that its entries mean.
+pub fn fields_are_pairs()
+    ensures { FieldsArePairs }
+{}
