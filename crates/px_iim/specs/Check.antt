@@ -1,0 +1,54 @@
+-- What is checked in a block, in order, and what is wrong where a check is false.
+use Rattle.std.specs.Prelude.{◌≡◌, ◌⊎◌, ◌<◌, ◌≤◌, ◌+◌, ℕ, zero, suc, nat_le, Bool, true, false, if◌then◌else◌, Some, List, [], ◌∷◌, ◌++◌, length, drop}
+use Rattle.px_bytes.specs.declared.Cause.{Cause}
+use Rattle.px_bytes.specs.declared.Cause.TheVariants.{TooLong, NoMarker, LengthForm, DataSetCut}
+use Rattle.px_bytes.specs.Checks.{Check, check, first_false}
+use Rattle.px_bytes.specs.Parts.{limit}
+use Rattle.px_iim.specs.DataSet.{DataSet, top_bit, Spells}
+use Rattle.px_iim.specs.Record.{form, extra, size, is_marked, has_form, is_dataset, is_end}
+
+-- the checks of a DataSet at place p, where the octets x stand
+abbrev pub dataset_checks : ℕ → List ℕ → List Check
+dataset_checks p x =
+    check NoMarker p (is_marked x)
+    ∷ check DataSetCut p (nat_le 5 (length x))
+    ∷ check LengthForm p (has_form x)
+    ∷ check DataSetCut p (nat_le (5 + extra x) (length x))
+    ∷ check DataSetCut p (nat_le (size x) (length x))
+    ∷ []
+
+-- those of a DataSet and of what follows it, n DataSets at most
+unfoldable pub checks_from : ℕ → ℕ → List ℕ → List Check
+checks_from zero p x = []
+checks_from (suc n) p x =
+    dataset_checks p x
+    ++ (if is_dataset x then (if is_end (drop (size x) x) then [] else checks_from n (p + size x) (drop (size x) x)) else [])
+
+-- the checks of a block; a block has no more DataSets than octets, and an empty one is checked for its first DataSet
+unfoldable pub iim_checks : List ℕ → List Check
+iim_checks x = check TooLong limit (nat_le (length x) limit) ∷ checks_from (length x + 1) 0 x
+
+-- the first fault
+abbrev pub First : List ℕ → Cause → ℕ → Type 0
+First x cause place = first_false (iim_checks x) ≡ Some (cause, place)
+
+-- ---- a fault that stands, cause by cause
+
+-- behind some DataSets, perhaps none, the octets `rest` stand at place p
+pub record Behind (x : List ℕ) (sequence : List DataSet) (rest : List ℕ) (p : ℕ) : Type 0 where
+  pub front : List ℕ
+  pub whole : x ≡ front ++ rest
+  pub spells : Spells sequence front
+  pub place : p ≡ length front
+
+-- the cause is true at place p
+abbrev pub Stands : List ℕ → Cause → ℕ → Type 0
+Stands x TooLong p = (p ≡ limit) × (limit < length x)
+-- no marker where a DataSet must begin: before the first, and wherever the block doesn't end
+Stands x NoMarker p = (sequence : List DataSet) × (rest : List ℕ) × Behind x sequence rest p × ((sequence ≡ []) ⊎ (is_end rest ≡ false)) × (is_marked rest ≡ false)
+-- an extended count of no octets, or of more than four
+Stands x LengthForm p = (sequence : List DataSet) × (rest : List ℕ) × Behind x sequence rest p × (is_marked rest ≡ true) × (5 ≤ length rest) × (top_bit ≤ form rest) × ((extra rest ≡ 0) ⊎ (4 < extra rest))
+-- the DataSet passes the end: its five octets, its count, or its data
+Stands x DataSetCut p = (sequence : List DataSet) × (rest : List ℕ) × Behind x sequence rest p × (is_marked rest ≡ true)
+    × ((length rest < 5) ⊎ ((has_form rest ≡ true) × ((length rest < 5 + extra rest) ⊎ (length rest < size rest))))
+Stands x _ p = ⊥

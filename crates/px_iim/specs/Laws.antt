@@ -1,0 +1,48 @@
+-- The laws over the definitions alone.
+use Rattle.std.specs.Prelude.{◌≡◌, ◌≤◌, ◌⊎◌, ◌↔◌, ◌*◌, ℕ, List, [], ◌∷◌, ◌++◌, Some, length, filter_map}
+use Rattle.px_bytes.specs.declared.Cause.{Cause}
+use Rattle.px_bytes.specs.Numbers.{AreBytes}
+use Rattle.px_bytes.specs.Parts.{limit}
+use Rattle.px_iim.specs.DataSet.{DataSet}
+use Rattle.px_iim.specs.Group.{Record, items_at, item_in, IsAscending, put, Gathers, gather, AreGroups, IsRecord}
+use Rattle.px_iim.specs.Record.{SaysIim, iim_of, normal_iim}
+use Rattle.px_iim.specs.Check.{First, Stands}
+
+-- A block says at most one record.
+abbrev pub OneRecord : Type 0
+OneRecord = (x : List ℕ) (i j : Record) → SaysIim x i → SaysIim x j → i ≡ j
+
+-- What a block says is computed.
+abbrev pub Computes : Type 0
+Computes = (x : List ℕ) (i : Record) → SaysIim x i ↔ (iim_of x ≡ Some i)
+
+-- One more DataSet stands at the end of its group's list, and no other list changes.
+abbrev pub PutAppends : Type 0
+PutAppends = (d : DataSet) (i : Record) → IsAscending i →
+    IsAscending (put d i) × ((rec number : ℕ) → items_at rec number (put d i) ≡ items_at rec number i ++ filter_map (item_in rec number) (d ∷ []))
+
+-- A sequence is gathered by putting its DataSets one after another.
+abbrev pub GatherGathers : Type 0
+GatherGathers = (ds : List DataSet) (i : Record) → Gathers ds i ↔ (gather [] ds ≡ i)
+
+-- What a block of octets says is a record.
+abbrev pub SaidIsRecord : Type 0
+SaidIsRecord = (x : List ℕ) (i : Record) → AreBytes x → SaysIim x i → IsRecord i
+
+-- A normal form is of octets, five or more, and says its record.
+abbrev pub NormalSays : Type 0
+NormalSays = (i : Record) → IsRecord i → AreBytes (normal_iim i) × (5 ≤ length (normal_iim i)) × (length (normal_iim i) ≤ limit → SaysIim (normal_iim i) i)
+
+-- Records have one normal form exactly if they are one.
+abbrev pub NormalTells : Type 0
+NormalTells = (i j : Record) → IsRecord i → IsRecord j → length (normal_iim i) ≤ limit → length (normal_iim j) ≤ limit → (normal_iim i ≡ normal_iim j) ↔ (i ≡ j)
+
+-- A normal form is at most twice as long as any block that says its record.
+abbrev pub NormalBound : Type 0
+NormalBound = (x : List ℕ) (i : Record) → SaysIim x i → length (normal_iim i) ≤ 2 * length x
+
+-- The first fault stands; where a fault stands no record is said; and each block says a record or has a first fault.
+abbrev pub FaultsTell : Type 0
+FaultsTell = ((x : List ℕ) (c : Cause) (p : ℕ) → First x c p → Stands x c p)
+    × ((x : List ℕ) (c : Cause) (p : ℕ) (i : Record) → Stands x c p → SaysIim x i → ⊥)
+    × ((x : List ℕ) → ((i : Record) × SaysIim x i) ⊎ ((c : Cause) × (p : ℕ) × First x c p))

@@ -1,0 +1,5 @@
+pub mod DataSet
+pub mod Group
+pub mod Record
+pub mod Check
+pub mod Laws
