@@ -61,17 +61,17 @@ unfoldable pub gather : Record → List DataSet → Record
 gather i [] = i
 gather i (d ∷ ds) = gather (put d i) ds
 
--- one of a group's DataSets: in the range of its type, and of this group
-pub record IsItem (g : Group) (x : ℕ × List ℕ) : Type 0 where
+-- one of a group's DataSets: in the range of its type, and of the group that is so named
+pub record IsItem (rec number : ℕ) (x : ℕ × List ℕ) : Type 0 where
   pub byte : x.0 < 256
-  pub member : named g.rec x.0 ≡ g.number
+  pub member : named rec x.0 ≡ number
   pub bytes : AreBytes x.1
   pub bounded : length x.1 ≤ limit
 
 pub record IsGroup (g : Group) : Type 0 where
   pub byte : g.rec < 256
   pub some : 1 ≤ length g.items
-  pub items : AllByRecursion (IsItem g) g.items
+  pub items : AllByRecursion (IsItem g.rec g.number) g.items
 
 -- groups in order, each with a DataSet
 pub record AreGroups (i : Record) : Type 0 where

@@ -1,10 +1,8 @@
 //! Caption records of IIM 4.2.
 #![tactic(auto)]
-ghost use Rattle.std.specs.Prelude.{◌≡◌};
 
-/// Placeholder.
-pub fn marker() -> u8
-    ensures { result ≡ 28 }
-{
-    28
-}
+mod group;
+mod iim;
+
+pub use group::{All, Item};
+pub use iim::Iim;
