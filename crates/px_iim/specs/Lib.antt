@@ -3,3 +3,7 @@ pub mod Group
 pub mod Record
 pub mod Check
 pub mod Laws
+pub mod KeyLaws
+pub mod GroupLaws
+pub mod GatherLaws
+pub mod SpellingLaws

@@ -1,5 +1,8 @@
 //! Caption records of IIM 4.2.
 #![tactic(auto)]
+
+pub mod laws;
+
 ghost use Rattle.std.specs.Prelude.{◌≡◌};
 
 /// Placeholder.
