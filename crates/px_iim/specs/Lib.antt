@@ -7,3 +7,4 @@ pub mod KeyLaws
 pub mod GroupLaws
 pub mod GatherLaws
 pub mod SpellingLaws
+pub mod SequenceLaws
