@@ -8,3 +8,5 @@ pub mod GroupLaws
 pub mod GatherLaws
 pub mod SpellingLaws
 pub mod SequenceLaws
+pub mod OctetLaws
+pub mod RecordLaws
