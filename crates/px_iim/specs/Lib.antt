@@ -10,3 +10,6 @@ pub mod SpellingLaws
 pub mod SequenceLaws
 pub mod OctetLaws
 pub mod RecordLaws
+pub mod NormalLaws
+pub mod BoundLaws
+pub mod FaultLaws

@@ -104,7 +104,7 @@ pub record Parsed (ds : List DataSet) (x : List ℕ) : Type 0 where
   pub short : length zeros ≤ 3
   pub blank : AllByRecursion IsZero zeros
 
-parsed_end : (x : List ℕ) → is_dataset x ≡ true → is_end (drop (size x) x) ≡ true → Parsed (dataset x ∷ []) x
+pub parsed_end : (x : List ℕ) → is_dataset x ≡ true → is_end (drop (size x) x) ≡ true → Parsed (dataset x ∷ []) x
 parsed_end x h k =
     let e = end_parts (drop (size x) x) k in record {
       front = take (size x) x;
@@ -116,7 +116,7 @@ parsed_end x h k =
       blank = e.1;
     }
 
-parsed_more : (x : List ℕ) (ds : List DataSet) → is_dataset x ≡ true → Parsed ds (drop (size x) x) → Parsed (dataset x ∷ ds) x
+pub parsed_more : (x : List ℕ) (ds : List DataSet) → is_dataset x ≡ true → Parsed ds (drop (size x) x) → Parsed (dataset x ∷ ds) x
 parsed_more x ds h p = record {
   front = take (size x) x ++ p.front;
   zeros = p.zeros;
