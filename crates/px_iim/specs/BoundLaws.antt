@@ -1,13 +1,13 @@
 -- A normal form is at most twice as long as any block that says its record.
-use Rattle.std.proofs.Common.{◌≡◌, ◌<◌, ◌≤◌, ◌+◌, ◌*◌, ℕ, nat_lt, true, false, inl, inr, refl, sym, ap, subst, ◌∙◌, arith, ltb-true, ltb-false, List, [], ◌∷◌, ◌++◌, length, flat_map, length-append, append-nil}
+use Rattle.std.proofs.Common.{◌≡◌, ◌<◌, ◌≤◌, ◌+◌, ◌*◌, ℕ, nat_lt, inl, inr, ap, ◌∙◌, arith, ltb-true, ltb-false, List, [], ◌∷◌, ◌++◌, length, flat_map, length-append, append-nil}
 use Rattle.std.proofs.lemmas.Bool.{cases_Bool}
 use Rattle.std.proofs.lemmas.Grind.{flat_map-append}
 use Rattle.px_bytes.specs.declared.Order.TheVariants.{Most}
 use Rattle.px_bytes.specs.Numbers.{spelling}
 use Rattle.px_bytes.specs.NumberLaws.{length-spelling}
-use Rattle.px_iim.specs.DataSet.{DataSet, marker, top_bit, IsSpelling, Spells}
+use Rattle.px_iim.specs.DataSet.{DataSet, top_bit, IsSpelling, Spells}
 use Rattle.px_iim.specs.Group.{Group, Record, named, put, gather}
-use Rattle.px_iim.specs.Record.{SaysIim, normal_count, normal_dataset, normal_group, normal_iim}
+use Rattle.px_iim.specs.Record.{normal_count, normal_dataset, normal_group, normal_iim}
 use Rattle.px_iim.specs.KeyLaws.{beside}
 use Rattle.px_iim.specs.GroupLaws.{Item, new_group, longer, put_nil, put_at, put_under, put_over}
 use Rattle.px_iim.specs.GatherLaws.{gather_gathers}
@@ -43,9 +43,9 @@ cost_bound d a (c, e, h) =
     elim h [
       | inl s ↦ let two = s.0 in let n = length-count_short (length d.octets) s.2 in omega arith
       | inr s ↦ let more = s.3 in let least = s.1 in elim (cases_Bool (nat_lt (length d.octets) top_bit)) [
-          | inl t ↦ let n = length-count_short (length d.octets) (ltb-true (length d.octets) top_bit t) in omega arith
-          | inr f ↦ let n = length-count_long (length d.octets) (ltb-false (length d.octets) top_bit f) in omega arith
-        ]
+        | inl t ↦ let n = length-count_short (length d.octets) (ltb-true (length d.octets) top_bit t) in omega arith
+        | inr f ↦ let n = length-count_long (length d.octets) (ltb-false (length d.octets) top_bit f) in omega arith
+      ]
     ]
 
 -- ---- a record

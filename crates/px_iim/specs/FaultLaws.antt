@@ -1,5 +1,5 @@
 -- What is wrong with a block, and what isn't.
-use Rattle.std.proofs.Common.{◌≡◌, ◌⊎◌, ◌<◌, ◌≤◌, ◌+◌, ℕ, zero, suc, nat_lt, nat_le, Bool, true, false, ◌&&◌, ◌||◌, if◌then◌else◌, inl, inr, refl, sym, ap, subst, ◌∙◌, arith, leb-true, leb-false, ltb-true, ltb-false, lt-ltb, Option, Some, None, List, [], ◌∷◌, ◌++◌, length, take, drop, length-append, length-drop, append_assoc, append-nil}
+use Rattle.std.proofs.Common.{◌≡◌, ◌⊎◌, ◌<◌, ◌≤◌, ◌+◌, ℕ, zero, suc, nat_lt, nat_le, Bool, true, false, ◌&&◌, if◌then◌else◌, inl, inr, refl, sym, ap, subst, ◌∙◌, arith, leb-true, leb-false, ltb-true, ltb-false, Option, Some, None, List, [], ◌∷◌, ◌++◌, length, take, drop, length-append, length-drop, append_assoc, append-nil}
 use Rattle.std.specs.List.{AllByRecursion}
 use Rattle.std.proofs.lemmas.Bool.{cond-true, cond-false, cases_Bool, and_parts, and_cases, or_cases, or_parts, true≢false}
 use Rattle.std.proofs.lemmas.List.{take-append-drop, length-take-le}
@@ -91,11 +91,13 @@ module _ (x : List ℕ) where
 
   long_form : (rest : List ℕ) → has_form rest ≡ false → (top_bit ≤ form rest) × ((extra rest ≡ 0) ⊎ (4 < extra rest))
   long_form rest h =
-      let p = or_parts (nat_lt (form rest) top_bit) (nat_le 1 (extra rest) && nat_le (extra rest) 4) h in
-      (ltb-false (form rest) top_bit p.0, elim (and_cases (nat_le 1 (extra rest)) (nat_le (extra rest) 4) p.1) [
-        | inl a ↦ let l = leb-false 1 (extra rest) a in inl (omega arith)
-        | inr b ↦ let l = leb-false (extra rest) 4 b in inr (omega arith)
-      ])
+      let p = or_parts (nat_lt (form rest) top_bit) (nat_le 1 (extra rest) && nat_le (extra rest) 4) h in (
+        ltb-false (form rest) top_bit p.0,
+        elim (and_cases (nat_le 1 (extra rest)) (nat_le (extra rest) 4) p.1) [
+          | inl a ↦ let l = leb-false 1 (extra rest) a in inl (omega arith)
+          | inr b ↦ let l = leb-false (extra rest) 4 b in inr (omega arith)
+        ],
+      )
 
   stands_from : (n : ℕ) (ds : List DataSet) (rest : List ℕ) (p : ℕ) (f : Cause × ℕ) → Behind x ds rest p → (ds ≡ []) ⊎ (is_end rest ≡ false) →
       first_false (checks_from n p rest) ≡ Some f → Stands x f.0 f.1
@@ -109,12 +111,12 @@ module _ (x : List ℕ) where
       (λ a c l. (ds, rest, b, a, inr (c, inl (let m = leb-false (5 + extra rest) (length rest) l in omega arith))))
       (λ a c l. (ds, rest, b, a, inr (c, inr (let m = leb-false (size rest) (length rest) l in omega arith))))
       (λ a l c d w q.
-          let h = five_hold rest a l c d w in
-          let i = holds_dataset rest h in
-          elim (cases_Bool (is_end (drop (size rest) rest))) [
-            | inl t ↦ let clash : None ≡ Some f = sym (ap first_false (behind_end n p rest i t)) ∙ q in absurd (cc)
-            | inr t ↦ stands_from n (ds ++ dataset rest ∷ []) (drop (size rest) rest) (p + size rest) f (behind_next ds rest p b h) (inr t) (sym (ap first_false (behind_more n p rest i t)) ∙ q)
-          ])
+      let h = five_hold rest a l c d w in
+      let i = holds_dataset rest h in
+      elim (cases_Bool (is_end (drop (size rest) rest))) [
+        | inl t ↦ let clash : None ≡ Some f = sym (ap first_false (behind_end n p rest i t)) ∙ q in absurd (cc)
+        | inr t ↦ stands_from n (ds ++ dataset rest ∷ []) (drop (size rest) rest) (p + size rest) f (behind_next ds rest p b h) (inr t) (sym (ap first_false (behind_more n p rest i t)) ∙ q)
+      ])
       (sym (ap first_false (checks_step n p rest)) ∙ e)
 
   behind_none : Behind x [] x 0
@@ -176,9 +178,9 @@ module _ (x : List ℕ) (i : Record) (s : SaysIim x i) where
   no_unmarked : (ds : List DataSet) (rest : List ℕ) (p : ℕ) → Behind x ds rest p → (ds ≡ []) ⊎ (is_end rest ≡ false) → is_marked rest ≡ false → ⊥
   no_unmarked ds rest p b o m = elim (next_of ds rest p b).or [
     | inl h ↦ elim o [
-        | inl none ↦ let l = ap length none in let k = h.1 in let n = s.some in omega arith
-        | inr more ↦ true≢false (sym (end_true s.zeros s.short s.blank) ∙ sym (ap is_end h.0) ∙ more)
-      ]
+      | inl none ↦ let l = ap length none in let k = h.1 in let n = s.some in omega arith
+      | inr more ↦ true≢false (sym (end_true s.zeros s.short s.blank) ∙ sym (ap is_end h.0) ∙ more)
+    ]
     | inr (d, a, y, u, q) ↦ true≢false (sym (marked_spelling d a y u) ∙ sym (ap is_marked q) ∙ m)
   ]
 

@@ -1,5 +1,5 @@
 -- A normal form says its record, and tells it.
-use Rattle.std.proofs.Common.{◌≡◌, ◌<◌, ◌≤◌, ◌⊎◌, ◌+◌, ◌^◌, ◌↔◌, ℕ, zero, suc, nat_lt, true, false, if◌then◌else◌, inl, inr, refl, sym, ap, ap₂, subst, ◌∙◌, arith, ltb-true, ltb-false, lt-ltb, Option, Some, None, List, [], ◌∷◌, ◌++◌, length, drop, drop_at, map, filter_map, flat_map, length-append, append_assoc, append-nil}
+use Rattle.std.proofs.Common.{◌≡◌, ◌<◌, ◌≤◌, ◌⊎◌, ◌+◌, ℕ, nat_lt, true, false, inl, inr, refl, sym, ap, ap₂, subst, ◌∙◌, arith, ltb-true, lt-ltb, Option, List, [], ◌∷◌, ◌++◌, length, drop, drop_at, map, filter_map, flat_map, length-append, append_assoc, append-nil}
 use Rattle.std.specs.List.{AllByRecursion, cons_option}
 use Rattle.std.proofs.lemmas.Bool.{cond-true, cond-false, cases_Bool, true≢false}
 use Rattle.std.proofs.lemmas.List.Elements.{filter_map-append}
@@ -8,7 +8,7 @@ use Rattle.px_bytes.specs.Numbers.{AreBytes, number, spelling}
 use Rattle.px_bytes.specs.NumberLaws.{number-spelling, length-spelling}
 use Rattle.px_bytes.specs.Parts.{limit}
 use Rattle.px_iim.specs.DataSet.{DataSet, marker, top_bit, IsStandardCount, IsExtendedCount, IsSpelling, Spells}
-use Rattle.px_iim.specs.Group.{Group, Record, named, is_at, IsAscending, items_at, item_in, Gathers, IsItem, IsGroup, AreGroups, IsRecord}
+use Rattle.px_iim.specs.Group.{Group, Record, is_at, IsAscending, items_at, item_in, Gathers, IsItem, IsGroup, AreGroups}
 use Rattle.px_iim.specs.Record.{SaysIim, normal_count, normal_dataset, normal_group, normal_iim}
 use Rattle.px_iim.specs.KeyLaws.{at_parts, at_true, at_false}
 use Rattle.px_iim.specs.GroupLaws.{Item, new_group, items_here, items_there, item_here, item_there}
@@ -37,11 +37,14 @@ long_count : (n : ℕ) → n ≤ limit → nat_lt n top_bit ≡ false → IsExte
 long_count n l h =
     let e = normal_count-long n h in
     let two = length-spelling Most 2 (top_bit + 4) in
-    let four = length-spelling Most 4 n in
-    (4, omega arith, omega arith,
+    let four = length-spelling Most 4 n in (
+      4,
+      omega arith,
+      omega arith,
       ap length e ∙ length-append (spelling Most 2 (top_bit + 4)) (spelling Most 4 n) ∙ ap₂ (λ (a b : ℕ). a + b) two four,
       ap (number Most 2) e ∙ number-front 2 (spelling Most 2 (top_bit + 4)) (spelling Most 4 n) (omega arith) ∙ number-spelling Most 2 (top_bit + 4) (omega arith),
-      ap (λ (z : List ℕ). number Most 4 (drop 2 z)) e ∙ ap (number Most 4) (drop_at (spelling Most 2 (top_bit + 4)) (spelling Most 4 n) 2 two) ∙ number-spelling Most 4 n (omega arith))
+      ap (λ (z : List ℕ). number Most 4 (drop 2 z)) e ∙ ap (number Most 4) (drop_at (spelling Most 2 (top_bit + 4)) (spelling Most 4 n) 2 two) ∙ number-spelling Most 4 n (omega arith),
+    )
 
 pub normal_counts : (n : ℕ) → n ≤ limit → IsStandardCount n (normal_count n) ⊎ IsExtendedCount n (normal_count n)
 normal_counts n l = elim (cases_Bool (nat_lt n top_bit)) [

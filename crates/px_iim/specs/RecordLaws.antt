@@ -1,16 +1,16 @@
 -- What a block says is computed, is one record, and is a record.
-use Rattle.std.proofs.Common.{◌≡◌, ◌<◌, ◌≤◌, ◌+◌, ◌*◌, ℕ, zero, suc, nat_le, true, false, if◌then◌else◌, inl, inr, refl, sym, ap, subst, ◌∙◌, arith, le-leb, leb-true, Option, Some, None, option_map, List, [], ◌∷◌, ◌++◌, length, length-append}
+use Rattle.std.proofs.Common.{◌≡◌, ◌<◌, ◌≤◌, ℕ, suc, nat_le, inl, inr, refl, sym, ap, subst, ◌∙◌, arith, le-leb, leb-true, Option, Some, None, option_map, List, [], ◌∷◌, ◌++◌, length, length-append}
 use Rattle.std.specs.List.{AllByRecursion}
 use Rattle.std.proofs.lemmas.Bool.{cond-true, cond-false, cases_Bool}
 use Rattle.px_bytes.specs.Numbers.{AreBytes}
 use Rattle.px_bytes.specs.Parts.{limit}
 use Rattle.px_iim.specs.DataSet.{DataSet, marker, IsSpelling, Spells}
-use Rattle.px_iim.specs.Group.{Group, Record, named, put, gather, Gathers, IsItem, IsGroup, AreGroups, IsRecord}
+use Rattle.px_iim.specs.Group.{Group, Record, named, put, gather, IsItem, IsGroup}
 use Rattle.px_iim.specs.Record.{SaysIim, sequence_of, iim_of}
-use Rattle.px_iim.specs.KeyLaws.{At, beside}
+use Rattle.px_iim.specs.KeyLaws.{beside}
 use Rattle.px_iim.specs.GroupLaws.{new_group, longer, put_nil, put_at, put_under, put_over, put_all}
 use Rattle.px_iim.specs.GatherLaws.{gather_gathers}
-use Rattle.px_iim.specs.SequenceLaws.{IsZero, Parsed, spells_read, spells_long, read_parsed}
+use Rattle.px_iim.specs.SequenceLaws.{Parsed, spells_read, spells_long, read_parsed}
 use Rattle.px_iim.specs.OctetLaws.{bytes_left, bytes_right, each_map, each_append}
 use Rattle.px_iim.specs.Laws.{Computes, OneRecord, SaidIsRecord}
 
