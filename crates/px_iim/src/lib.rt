@@ -3,6 +3,7 @@
 
 mod group;
 mod iim;
+pub mod laws;
 
 pub use group::{All, Item};
 pub use iim::Iim;
