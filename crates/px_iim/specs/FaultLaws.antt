@@ -49,7 +49,7 @@ five_none p true true true true false rest q = let clash : ◌≡◌ {A = Option
 -- ---- one step
 
 -- what is checked behind a DataSet
-pub checks_behind : ℕ → ℕ → List ℕ → List Check
+unfoldable pub checks_behind : ℕ → ℕ → List ℕ → List Check
 checks_behind n p x = if is_dataset x then (if is_end (drop (size x) x) then [] else checks_from n (p + size x) (drop (size x) x)) else []
 
 pub checks_step : (n p : ℕ) (x : List ℕ) → checks_from (suc n) p x ≡ dataset_checks p x ++ checks_behind n p x
@@ -253,6 +253,14 @@ said_or_fault x = go (first_false (iim_checks x)) refl
     go : (z : Option (Cause × ℕ)) → first_false (iim_checks x) ≡ z → ((i : Record) × SaysIim x i) ⊎ ((c : Cause) × (p : ℕ) × First x c p)
     go None e = inl (clean_says x e)
     go (Some f) e = inr (f.0, f.1, e)
+
+-- where a record is said nothing is wrong
+pub said_clean : (x : List ℕ) (i : Record) → SaysIim x i → first_false (iim_checks x) ≡ None
+said_clean x i s = go (first_false (iim_checks x)) refl
+  where
+    go : (z : Option (Cause × ℕ)) → first_false (iim_checks x) ≡ z → z ≡ None
+    go None e = refl
+    go (Some f) e = absurd (stands_unsaid x f.0 f.1 i (first_stands x f.0 f.1 e) s)
 
 pub faults_tell : FaultsTell
 faults_tell = (first_stands, stands_unsaid, said_or_fault)

@@ -14,3 +14,4 @@ pub mod RecordLaws
 pub mod NormalLaws
 pub mod BoundLaws
 pub mod FaultLaws
+pub mod ScanLaws
