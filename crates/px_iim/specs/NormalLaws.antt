@@ -76,7 +76,7 @@ pub spells_append : (ds es : List DataSet) (a b : List ℕ) → Spells ds a → 
 spells_append [] es a b h k = subst (λ (z : List ℕ). Spells es (z ++ b)) (sym h) k
 spells_append (d ∷ ds) es a b (x, y, e, s, t) k = (x, y ++ b, ap (λ (z : List ℕ). z ++ b) e ∙ append_assoc x y b, s, spells_append ds es y b t k)
 
-spells_items : (g : Group) (xs : List Item) → AllByRecursion (IsItem g) xs → Spells (map (dataset_in g) xs) (flat_map (normal_dataset g.rec) xs)
+spells_items : (g : Group) (xs : List Item) → AllByRecursion (IsItem g.rec g.number) xs → Spells (map (dataset_in g) xs) (flat_map (normal_dataset g.rec) xs)
 spells_items g [] h = refl
 spells_items g (x ∷ xs) h = (normal_dataset g.rec x, flat_map (normal_dataset g.rec) xs, refl, normal_spelling g x h.0.bounded, spells_items g xs h.1)
 
@@ -87,13 +87,13 @@ spells_groups (g ∷ gs) h = spells_append (map (dataset_in g) g.items) (sequenc
 -- ---- gathered again
 
 module _ (rec number : ℕ) where
-  filter_here : (g : Group) (xs : List Item) → AllByRecursion (IsItem g) xs → is_at rec number g ≡ true → filter_map (item_in rec number) (map (dataset_in g) xs) ≡ xs
+  filter_here : (g : Group) (xs : List Item) → AllByRecursion (IsItem g.rec g.number) xs → is_at rec number g ≡ true → filter_map (item_in rec number) (map (dataset_in g) xs) ≡ xs
   filter_here g [] h t = refl
   filter_here g (x ∷ xs) h t =
       let p = at_parts rec number g t in
       ap₂ (λ (o : Option Item) (ys : List Item). cons_option o ys) (item_here rec number (dataset_in g x) p.0 (h.0.member ∙ p.1)) (filter_here g xs h.1 t)
 
-  filter_there : (g : Group) (xs : List Item) → AllByRecursion (IsItem g) xs → is_at rec number g ≡ false → filter_map (item_in rec number) (map (dataset_in g) xs) ≡ []
+  filter_there : (g : Group) (xs : List Item) → AllByRecursion (IsItem g.rec g.number) xs → is_at rec number g ≡ false → filter_map (item_in rec number) (map (dataset_in g) xs) ≡ []
   filter_there g [] h f = refl
   filter_there g (x ∷ xs) h f =
       let other = at_false rec number (new_group (dataset_in g x)) (λ p q. true≢false (sym (at_true rec number g p (sym h.0.member ∙ q)) ∙ f)) in
@@ -122,14 +122,14 @@ gathered_again i h = record {
 
 -- ---- its octets
 
-dataset_bytes : (g : Group) (x : Item) → g.rec < 256 → IsItem g x → AreBytes (normal_dataset g.rec x)
+dataset_bytes : (g : Group) (x : Item) → g.rec < 256 → IsItem g.rec g.number x → AreBytes (normal_dataset g.rec x)
 unfolding normal_dataset
 dataset_bytes g x r h =
     let behind : List ℕ = normal_count (length x.1) ++ x.1 in
     bytes_cons marker (g.rec ∷ x.0 ∷ behind) (omega arith)
     (bytes_cons g.rec (x.0 ∷ behind) r (bytes_cons x.0 behind h.byte (bytes_append (normal_count (length x.1)) x.1 (count_bytes (length x.1)) h.bytes)))
 
-items_bytes : (g : Group) (xs : List Item) → g.rec < 256 → AllByRecursion (IsItem g) xs → AreBytes (flat_map (normal_dataset g.rec) xs)
+items_bytes : (g : Group) (xs : List Item) → g.rec < 256 → AllByRecursion (IsItem g.rec g.number) xs → AreBytes (flat_map (normal_dataset g.rec) xs)
 items_bytes g [] r h = λ i. omega arith
 items_bytes g (x ∷ xs) r h = bytes_append (normal_dataset g.rec x) (flat_map (normal_dataset g.rec) xs) (dataset_bytes g x r h.0) (items_bytes g xs r h.1)
 
@@ -149,7 +149,7 @@ dataset_long : (g : Group) (x : Item) → length x.1 ≤ limit → 5 ≤ length 
 unfolding normal_dataset
 dataset_long g x l = let c = count_long (length x.1) l in let e = length-append (normal_count (length x.1)) x.1 in omega arith
 
-items_long : (g : Group) (xs : List Item) → 1 ≤ length xs → AllByRecursion (IsItem g) xs → 5 ≤ length (flat_map (normal_dataset g.rec) xs)
+items_long : (g : Group) (xs : List Item) → 1 ≤ length xs → AllByRecursion (IsItem g.rec g.number) xs → 5 ≤ length (flat_map (normal_dataset g.rec) xs)
 items_long g [] l h = absurd (omega arith)
 items_long g (x ∷ xs) l h = let d = dataset_long g x h.0.bounded in let e = length-append (normal_dataset g.rec x) (flat_map (normal_dataset g.rec) xs) in omega arith
 

@@ -69,7 +69,7 @@ one_record x i j s t = let e : Some i ≡ Some j = sym (said_computed x i s) ∙
 
 -- in the range of its type
 abbrev pub IsGood : DataSet → Type 0
-IsGood d = (d.rec < 256) × IsItem (new_group d) (d.number, d.octets)
+IsGood d = (d.rec < 256) × IsItem (new_group d).rec (new_group d).number (d.number, d.octets)
 
 spelled_good : (d : DataSet) (a : List ℕ) → AreBytes a → length a ≤ limit → IsSpelling d a → IsGood d
 spelled_good d a b l (c, e, h) =
@@ -86,7 +86,7 @@ spells_good (d ∷ ds) a b l (x, y, e, s, t) =
     (spelled_good d x (bytes_left x y z) (omega arith) s, spells_good ds y (bytes_right x y z) (omega arith) t)
 
 -- an item of a group is one of any group of that name
-item_moves : (g h : Group) → g.rec ≡ h.rec → g.number ≡ h.number → (x : ℕ × List ℕ) → IsItem g x → IsItem h x
+item_moves : (g h : Group) → g.rec ≡ h.rec → g.number ≡ h.number → (x : ℕ × List ℕ) → IsItem g.rec g.number x → IsItem h.rec h.number x
 item_moves g h p q x k = record {
   byte = k.byte;
   member = ap (λ (r : ℕ). named r x.0) (sym p) ∙ k.member ∙ q;
@@ -100,8 +100,8 @@ put_groups d i good h = put_all IsGroup d
     (λ g a k. let e = length-append g.items ((d.number, d.octets) ∷ []) in record {
       byte = k.byte;
       some = omega arith;
-      items = each_append (IsItem (longer d g)) g.items ((d.number, d.octets) ∷ [])
-          (each_map (IsItem g) (IsItem (longer d g)) (item_moves g (longer d g) refl refl) g.items k.items)
+      items = each_append (IsItem (longer d g).rec (longer d g).number) g.items ((d.number, d.octets) ∷ [])
+          (each_map (IsItem g.rec g.number) (IsItem (longer d g).rec (longer d g).number) (item_moves g (longer d g) refl refl) g.items k.items)
           (item_moves (new_group d) (longer d g) (sym a.1) (sym a.2) (d.number, d.octets) good.1, tt);
     }) i h
 

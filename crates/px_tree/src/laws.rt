@@ -1,5 +1,5 @@
 // Laws over the definitions alone: what each states stands in specs/Laws.antt.
-ghost use Rattle.px_tree.specs.Laws.{OneMeaning, FieldsArePairs};
+ghost use Rattle.px_tree.specs.Laws.{OneMeaning, SaidFits, FieldsArePairs};
 
 /// A block says at most one meaning.
 pub fn one_meaning()
@@ -9,4 +9,9 @@ pub fn one_meaning()
 /// The fields of a directory are exactly the pairs of tag and value that its entries mean.
 pub fn fields_are_pairs()
     ensures { FieldsArePairs }
+{}
+
+/// What a block of bytes says can be written.
+pub fn said_fits()
+    ensures { SaidFits }
 {}
