@@ -1,0 +1,192 @@
+-- The checks of a block, in the order in which they are made: the first that is false is the first fault. The order of the
+-- checks is this project's profile; what each asks is said with the definition that it tests.
+use Rattle.std.specs.Prelude.{◌≡◌, ℕ, ◌+◌, ◌*◌, ◌==◌, nat_lt, nat_le, Bool, true, false, not, if◌then◌else◌, ◌&&◌, ◌||◌, Option, Some, None, unwrap_or, is_some, option_to_list, List, [], ◌∷◌, ◌++◌, length, take}
+use Rattle.std.specs.List.{list_any}
+use Rattle.px_bytes.specs.declared.Order.{Order}
+use Rattle.px_bytes.specs.declared.Order.TheVariants.{Least, Most}
+use Rattle.px_bytes.specs.declared.Cause.{Cause}
+use Rattle.px_bytes.specs.declared.Cause.TheVariants.{TooLong, UnknownKind, HeaderCut, Loop, DirectoryOutside, EmptyDirectory, Overlap, Unsorted, Doubled, UnknownType, MisplacedOffset, PointerForm, ValueOutside, ThumbnailPair, ExtraDirectory, ThumbnailOutside}
+use Rattle.px_bytes.specs.Parts.{limit, part}
+use Rattle.px_bytes.specs.Range.{Range, range, is_free}
+use Rattle.px_bytes.specs.Checks.{Check, check, first_false}
+use Rattle.px_field.specs.Forms.{form_of}
+use Rattle.px_tree.specs.declared.roles.Dir.{Dir}
+use Rattle.px_tree.specs.declared.roles.Dir.TheVariants.{Main, Exif, Interop, Gps, Thumb}
+use Rattle.px_tree.specs.Roles.{exif_tag, gps_tag, interop_tag, jpeg_offset_tag, jpeg_length_tag, strip_offsets_tag, strip_lengths_tag, role}
+use Rattle.px_tree.specs.Entry.{Entry, short, table_size, next, table, has_raw, has_form, is_allowed}
+use Rattle.px_tree.specs.Directory.{magic, dirs, entries_at, entry_with, is_pointer, main_at, exif_at, dir_at}
+use Rattle.px_tree.specs.Thumbnail.{are_paired, jpeg_range, strip_ranges}
+use Rattle.px_tree.specs.Footprint.{listed, placed_range, table_range, ranges_at}
+
+-- ---- the header
+
+abbrev pub same_bytes : List ℕ → List ℕ → Bool
+same_bytes [] [] = true
+same_bytes (x ∷ xs) (y ∷ ys) = (x == y) && same_bytes xs ys
+same_bytes _ _ = false
+
+-- the order that the first four bytes tell
+abbrev pub order_of : List ℕ → Option Order
+order_of b = if same_bytes (take 4 b) (magic Least) then Some Least else if same_bytes (take 4 b) (magic Most) then Some Most else None
+
+-- the first bytes, up to four, begin a header
+abbrev pub begins_header : List ℕ → Bool
+begins_header b = nat_lt 0 (length b) && (same_bytes (take 4 b) (take (length b) (magic Least)) || same_bytes (take 4 b) (take (length b) (magic Most)))
+
+abbrev pub header_checks : List ℕ → List Check
+header_checks b =
+    check TooLong limit (nat_le (length b) limit)
+    ∷ check UnknownKind 0 (begins_header b)
+    ∷ check HeaderCut (length b) (nat_le 8 (length b))
+    ∷ []
+
+-- ---- one entry
+
+-- a tag against the one before
+abbrev pub is_not_below : Option ℕ → ℕ → Bool
+is_not_below None t = true
+is_not_below (Some u) t = nat_le u t
+
+abbrev pub differs : Option ℕ → ℕ → Bool
+differs None t = true
+differs (Some u) t = not (u == t)
+
+abbrev pub is_free_value : List Range → Option Range → Bool
+is_free_value held None = true
+is_free_value held (Some r) = is_free held r
+
+-- what is asked of the entry at place p, behind one of tag u, before its value is looked at
+abbrev pub shape_checks : Dir → ℕ → Option ℕ → Entry → List Check
+shape_checks d p u e =
+    check Unsorted p (is_not_below u e.tag)
+    ∷ check Doubled p (differs u e.tag)
+    ∷ check UnknownType p (is_some (form_of e.code))
+    ∷ check MisplacedOffset p (is_allowed (role d e.tag))
+    ∷ check PointerForm p (has_form (role d e.tag) e)
+    ∷ []
+
+-- what is asked of its value, where held is taken
+abbrev pub value_checks : List ℕ → Order → List Range → ℕ → Entry → List Check
+value_checks b o held p e =
+    check ValueOutside p (has_raw b o e)
+    ∷ check Overlap p (is_free_value held (placed_range o e))
+    ∷ []
+
+unfoldable pub entry_checks : List ℕ → Order → Dir → List Range → ℕ → Option ℕ → Entry → List Check
+entry_checks b o d held p u e = shape_checks d p u e ++ value_checks b o held p e
+
+-- those of all entries; the values that were passed are held too
+abbrev pub entries_checks : List ℕ → Order → Dir → List Range → ℕ → Option ℕ → List Entry → List Check
+entries_checks b o d held p u [] = []
+entries_checks b o d held p u (e ∷ es) = entry_checks b o d held p u e ++ entries_checks b o d (option_to_list (placed_range o e) ++ held) (p + 12) (Some e.tag) es
+
+-- ---- one directory
+
+-- a directory that was read before stands at a
+abbrev pub is_earlier_at : List ℕ → ℕ → Bool
+is_earlier_at earlier a = list_any (λ x. x == a) earlier
+
+-- what is asked of the table at a, named at p, where the tables at the earlier offsets were read
+abbrev pub opening_checks : List ℕ → Order → List ℕ → List Range → ℕ → ℕ → List Check
+opening_checks b o earlier held p a =
+    check Loop p (not (is_earlier_at earlier a))
+    ∷ check DirectoryOutside p (nat_le (a + 2) (length b))
+    ∷ check EmptyDirectory a (nat_le 1 (short o (part b a 2)))
+    ∷ check DirectoryOutside p (nat_le (a + table_size (short o (part b a 2))) (length b))
+    ∷ check Overlap p (is_free held (table_range b o a))
+    ∷ []
+
+unfoldable pub dir_checks : List ℕ → Order → List ℕ → List Range → ℕ → Dir → ℕ → List Check
+dir_checks b o earlier held p d a = opening_checks b o earlier held p a ++ entries_checks b o d (table_range b o a ∷ held) (a + 2) None (entries_at b o a)
+
+-- the place of the first entry that passes a test, where the first of all stands at p
+abbrev pub place_of : (Entry → Bool) → ℕ → List Entry → ℕ
+place_of test p [] = p
+place_of test p (e ∷ es) = if test e then p else place_of test (p + 12) es
+
+abbrev pub pointer_place : List ℕ → Order → ℕ → ℕ → ℕ
+pointer_place b o a t = place_of (is_pointer t) (a + 2) (entries_at b o a)
+
+-- the place of what names a directory: the header's offset, a pointer, or the main directory's next offset
+unfoldable pub named_at : List ℕ → Order → Dir → ℕ
+named_at b o Main = 4
+named_at b o Exif = pointer_place b o (main_at b o) exif_tag
+named_at b o Interop = pointer_place b o (unwrap_or (exif_at b o) 0) interop_tag
+named_at b o Gps = pointer_place b o (main_at b o) gps_tag
+named_at b o Thumb = main_at b o + 2 + 12 * length (entries_at b o (main_at b o))
+
+-- a directory has checks where it is named
+abbrev pub checks_at : List ℕ → Order → List ℕ → List Range → Dir → Option ℕ → List Check
+checks_at b o earlier held d None = []
+checks_at b o earlier held d (Some a) = dir_checks b o earlier held (named_at b o d) d a
+
+-- the directories in order; the offsets of those that were passed are earlier, and their ranges held
+abbrev pub dirs_checks : List ℕ → Order → List ℕ → List Range → List Dir → List Check
+dirs_checks b o earlier held [] = []
+dirs_checks b o earlier held (d ∷ ds) = checks_at b o earlier held d (dir_at b o d) ++ dirs_checks b o (option_to_list (dir_at b o d) ++ earlier) (ranges_at b o d ++ held) ds
+
+-- the ranges that are held behind them
+abbrev pub dirs_held : List ℕ → Order → List Range → List Dir → List Range
+dirs_held b o held [] = held
+dirs_held b o held (d ∷ ds) = dirs_held b o (ranges_at b o d ++ held) ds
+
+-- ---- the thumbnail
+
+-- the place of the entry of a tag
+abbrev pub place_with : ℕ → ℕ → List Entry → ℕ
+place_with t p es = place_of (λ e. e.tag == t) p es
+
+-- the place of the entry of a pair that is there
+abbrev pub pair_place : ℕ → ℕ → ℕ → List Entry → ℕ
+pair_place t u p es = if is_some (entry_with t es) then place_with t p es else place_with u p es
+
+abbrev pub same_count : Option Entry → Option Entry → Bool
+same_count (Some x) (Some y) = x.count == y.count
+same_count _ _ = true
+
+-- what is asked of both pairs, where the first entry stands at p
+abbrev pub pair_checks : ℕ → List Entry → List Check
+pair_checks p es =
+    check ThumbnailPair (pair_place jpeg_offset_tag jpeg_length_tag p es) (are_paired (entry_with jpeg_offset_tag es) (entry_with jpeg_length_tag es))
+    ∷ check ThumbnailPair (pair_place strip_offsets_tag strip_lengths_tag p es) (are_paired (entry_with strip_offsets_tag es) (entry_with strip_lengths_tag es))
+    ∷ check ThumbnailPair (place_with strip_offsets_tag p es) (same_count (entry_with strip_offsets_tag es) (entry_with strip_lengths_tag es))
+    ∷ []
+
+-- no directory follows
+abbrev pub end_checks : List ℕ → Order → ℕ → List Check
+end_checks b o a = check ExtraDirectory (a + 2 + 12 * length (entries_at b o a)) (next o (table b o a) == 0) ∷ []
+
+-- ranges that have to lie within the block and to share no byte with those that are held
+abbrev pub range_checks : List ℕ → ℕ → List Range → List Range → List Check
+range_checks b p held [] = []
+range_checks b p held (r ∷ rs) = check ThumbnailOutside p (nat_le (r.start + r.size) (length b)) ∷ check Overlap p (is_free held r) ∷ range_checks b p (r ∷ held) rs
+
+-- the JPEG, then each strip
+abbrev pub part_checks : List ℕ → Order → List Range → ℕ → List Entry → List Check
+part_checks b o held p es =
+    range_checks b (place_with jpeg_offset_tag p es) held (option_to_list (jpeg_range o es))
+    ++ range_checks b (place_with strip_offsets_tag p es) (option_to_list (jpeg_range o es) ++ held) (listed (strip_ranges b o es))
+
+-- the thumbnail directory at a, behind its entries
+unfoldable pub thumb_checks : List ℕ → Order → List Range → ℕ → List Check
+thumb_checks b o held a = pair_checks (a + 2) (entries_at b o a) ++ end_checks b o a ++ part_checks b o held (a + 2) (entries_at b o a)
+
+abbrev pub thumb_checks_at : List ℕ → Order → List Range → Option ℕ → List Check
+thumb_checks_at b o held None = []
+thumb_checks_at b o held (Some a) = thumb_checks b o held a
+
+-- ---- all checks
+
+unfoldable pub tree_checks : List ℕ → Order → List Check
+tree_checks b o = dirs_checks b o [] (range 0 8 ∷ []) dirs ++ thumb_checks_at b o (dirs_held b o (range 0 8 ∷ []) dirs) (dir_at b o Thumb)
+
+abbrev pub checks_in : List ℕ → Option Order → List Check
+checks_in b None = []
+checks_in b (Some o) = tree_checks b o
+
+unfoldable pub checks : List ℕ → List Check
+checks b = header_checks b ++ checks_in b (order_of b)
+
+-- the first fault of a block: the cause and the place of its first false check
+abbrev pub FirstFault : List ℕ → Cause → ℕ → Type 0
+FirstFault b c p = first_false (checks b) ≡ Some (c, p)

@@ -1,0 +1,12 @@
+pub mod Iim
+pub mod Roles
+pub mod Tree
+pub mod Entry
+pub mod Directory
+pub mod Thumbnail
+pub mod Footprint
+pub mod Says
+pub mod Fits
+pub mod Checks
+pub mod Faults
+pub mod Laws

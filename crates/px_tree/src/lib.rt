@@ -1,0 +1,6 @@
+//! The tree of directories of an Exif block: what each tag is in a directory.
+#![tactic(auto)]
+
+mod roles;
+
+pub use roles::{Dir, Role};
