@@ -1,0 +1,4 @@
+pub mod Each
+pub mod Owned
+pub mod Footprint
+pub mod Fresh
