@@ -1,5 +1,5 @@
 -- Where each check holds, a block says a meaning.
-use Rattle.std.proofs.Common.{◌≡◌, ℕ, ◌+◌, ◌<◌, ◌≤◌, ◌==◌, ◌⊎◌, nat_lt, nat_le, inl, inr, true, false, not, if◌then◌else◌, ◌||◌, Option, Some, None, option_map, List, [], ◌∷◌, ◌++◌, map, filter_map, flat_map, length, take, refl, sym, ◌∙◌, ap, ap₂, subst, arith, leb-true, eqb-true}
+use Rattle.std.proofs.Common.{◌≡◌, ℕ, ◌+◌, ◌<◌, ◌≤◌, ◌==◌, ◌⊎◌, nat_lt, nat_le, inl, inr, true, not, if◌then◌else◌, ◌||◌, Option, Some, None, option_map, List, [], ◌∷◌, ◌++◌, map, filter_map, flat_map, length, take, refl, sym, ◌∙◌, ap, ap₂, subst, arith, leb-true, eqb-true, eq-eqb}
 use Rattle.std.specs.Prelude.{IfSome, option_to_list}
 use Rattle.std.specs.List.{AllByRecursion, cons_option}
 use Rattle.std.proofs.lemmas.Bool.{cases_Bool, cond-true, cond-false, and_parts, and_from, or_cases, not-true, eqb-false, cases_eq}
@@ -13,15 +13,15 @@ use Rattle.px_bytes.specs.RangeLaws.{shares-apart}
 use Rattle.px_bytes.specs.Checks.{Check, first_false}
 use Rattle.px_tree.specs.declared.roles.Dir.{Dir}
 use Rattle.px_tree.specs.declared.roles.Dir.TheVariants.{Thumb}
-use Rattle.px_tree.specs.Roles.{jpeg_offset_tag, jpeg_length_tag, strip_offsets_tag, strip_lengths_tag}
+use Rattle.px_tree.specs.Roles.{strip_offsets_tag, strip_lengths_tag}
 use Rattle.px_tree.specs.Tree.{Meaning}
 use Rattle.px_tree.specs.Entry.{Entry, short, table_size, next, table, has_table, IsEntry, Rising, IsDirectory}
 use Rattle.px_tree.specs.Directory.{magic, dirs, dir_at, entries_at, entry_with}
 use Rattle.px_tree.specs.Thumbnail.{are_paired, jpeg_range, strip_ranges, IsInside, IsThumbnail}
-use Rattle.px_tree.specs.Footprint.{listed, placed_range, table_range, dir_ranges, ranges_at, thumb_ranges, footprint}
+use Rattle.px_tree.specs.Footprint.{listed, placed_range, dir_ranges, thumb_ranges, footprint}
 use Rattle.px_tree.specs.Says.{meaning, SaysExif}
-use Rattle.px_tree.specs.Checks.{same_bytes, order_of, begins_header, header_checks, is_not_below, differs, is_free_value, entry_checks, entries_checks, dir_checks, named_at, checks_at, dirs_checks, dirs_held, same_count, range_checks, thumb_checks, thumb_checks_at, tree_checks, checks_in, checks, FirstFault}
-use Rattle.px_tree.proofs.Each.{each_map, each_left, each_right, each_append}
+use Rattle.px_tree.specs.Checks.{same_bytes, order_of, begins_header, is_not_below, differs, is_free_value, entry_checks, entries_checks, dir_checks, named_at, checks_at, dirs_checks, dirs_held, same_count, range_checks, thumb_checks, thumb_checks_at, tree_checks, checks_in, checks, FirstFault}
+use Rattle.px_tree.proofs.Each.{each_map, each_left, each_right}
 use Rattle.px_tree.proofs.Fresh.{Fresh, fresh_cons, fresh_append, fresh_left, fresh_right, fresh_nil, fresh_all}
 
 abbrev pub Holds : Check → Type 0
@@ -138,7 +138,7 @@ module _ (b : List ℕ) (o : Order) where
 
   -- ---- the thumbnail
 
-  ranges_facts : (p : ℕ) (held rs : List Range) → AllHold (range_checks b p held rs) → AllByRecursion (IsInside b) rs × Fresh held rs
+  pub ranges_facts : (p : ℕ) (held rs : List Range) → AllHold (range_checks b p held rs) → AllByRecursion (IsInside b) rs × Fresh held rs
   ranges_facts p held [] h = (tt, fresh_nil held)
   ranges_facts p held (r ∷ rs) h = let y = ranges_facts p (r ∷ held) rs h.1.1 in ((leb-true (r.start + r.size) (length b) h.0, y.0), fresh_cons held r rs (apart_each r held h.1.0) y.1)
 
@@ -210,7 +210,11 @@ bytes-true (x ∷ xs) (y ∷ ys) h = let p = and_parts (x == y) (same_bytes xs y
 bytes-true [] (y ∷ ys) h = cc
 bytes-true (x ∷ xs) [] h = cc
 
-order_told : (b : List ℕ) (o : Order) → take 4 b ≡ magic o → order_of b ≡ Some o
+pub bytes-self : (xs : List ℕ) → same_bytes xs xs ≡ true
+bytes-self [] = refl
+bytes-self (x ∷ xs) = and_from (x == x) (same_bytes xs xs) (eq-eqb x x refl) (bytes-self xs)
+
+pub order_told : (b : List ℕ) (o : Order) → take 4 b ≡ magic o → order_of b ≡ Some o
 order_told b Least h = ap (λ x. if same_bytes x (magic Least) then Some Least else if same_bytes x (magic Most) then Some Most else None) h
 order_told b Most h = ap (λ x. if same_bytes x (magic Least) then Some Least else if same_bytes x (magic Most) then Some Most else None) h
 
@@ -218,7 +222,7 @@ all_magic : (b : List ℕ) (o : Order) → 8 ≤ length b → take (length b) (m
 all_magic b Least l = take_all (length b) (magic Least) (omega arith)
 all_magic b Most l = take_all (length b) (magic Most) (omega arith)
 
-begun : (b : List ℕ) → 8 ≤ length b → begins_header b ≡ true → (o : Order) × (take 4 b ≡ magic o)
+pub begun : (b : List ℕ) → 8 ≤ length b → begins_header b ≡ true → (o : Order) × (take 4 b ≡ magic o)
 begun b l h = elim (or_cases (same_bytes (take 4 b) (take (length b) (magic Least))) (same_bytes (take 4 b) (take (length b) (magic Most)))
     (and_parts (nat_lt 0 (length b)) (same_bytes (take 4 b) (take (length b) (magic Least)) || same_bytes (take 4 b) (take (length b) (magic Most))) h).1) [
       | inl t ↦ (Least, bytes-true (take 4 b) (take (length b) (magic Least)) t ∙ all_magic b Least l)

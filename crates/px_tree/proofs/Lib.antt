@@ -5,3 +5,7 @@ pub mod Fresh
 pub mod Judged
 pub mod At
 pub mod Unsaid
+pub mod Told
+pub mod ToldDirs
+pub mod ToldThumb
+pub mod ToldAll

@@ -1,28 +1,27 @@
 -- Where a fault stands, no meaning is said.
-use Rattle.std.proofs.Common.{◌≡◌, ℕ, ◌+◌, ◌<◌, ◌≤◌, ◌==◌, nat_lt, nat_le, ◌⊎◌, inl, inr, true, false, Option, Some, None, is_some, option_map, List, [], ◌∷◌, ◌++◌, map, filter_map, flat_map, length, take, refl, sym, ◌∙◌, ap, ap₂, subst, arith, leb-true}
-use Rattle.std.specs.Prelude.{IfSome, Contains}
+use Rattle.std.proofs.Common.{◌≡◌, ℕ, ◌+◌, ◌<◌, ◌≤◌, nat_le, ◌⊎◌, inl, inr, true, Option, Some, None, is_some, option_map, List, [], ◌∷◌, ◌++◌, flat_map, length, take, refl, sym, ◌∙◌, ap, ap₂, subst, arith, leb-true}
+use Rattle.std.specs.Prelude.{IfSome}
 use Rattle.std.specs.List.{AllByRecursion}
-use Rattle.std.proofs.lemmas.Bool.{and_parts, both_ways, true≢false}
+use Rattle.std.proofs.lemmas.Bool.{and_parts, true≢false}
 use Rattle.std.proofs.lemmas.List.{take_all}
 use Rattle.px_bytes.specs.declared.Order.{Order}
 use Rattle.px_bytes.specs.declared.Order.TheVariants.{Least, Most}
 use Rattle.px_bytes.specs.declared.Cause.{Cause}
 use Rattle.px_bytes.specs.declared.Cause.TheVariants as cause
-use Rattle.px_bytes.specs.Parts.{limit, part}
+use Rattle.px_bytes.specs.Parts.{part}
 use Rattle.px_bytes.specs.Range.{Range, range, IsIn, Apart, AllApart}
 use Rattle.px_field.specs.Forms.{form_of}
 use Rattle.px_tree.specs.declared.roles.Dir.{Dir}
 use Rattle.px_tree.specs.declared.roles.Dir.TheVariants.{Main, Exif, Interop, Gps, Thumb}
-use Rattle.px_tree.specs.declared.roles.Role.{Role}
 use Rattle.px_tree.specs.declared.roles.Role.TheVariants.{Forbidden}
-use Rattle.px_tree.specs.Roles.{jpeg_offset_tag, jpeg_length_tag, strip_offsets_tag, strip_lengths_tag, at_tag, role}
+use Rattle.px_tree.specs.Roles.{jpeg_offset_tag, jpeg_length_tag, strip_offsets_tag, strip_lengths_tag, role}
 use Rattle.px_tree.specs.Tree.{Meaning}
-use Rattle.px_tree.specs.Entry.{Entry, short, table_size, next, table, has_table, has_form, has_raw, is_allowed, offset, IsEntry, Rising, IsDirectory}
+use Rattle.px_tree.specs.Entry.{Entry, short, table_size, has_table, is_allowed, offset, IsEntry, IsDirectory}
 use Rattle.px_tree.specs.Directory.{magic, dirs, dir_at, entries_at, entry_with}
 use Rattle.px_tree.specs.Thumbnail.{both, are_paired, numbers, jpeg_range, ranges_of, strip_ranges, IsInside, IsThumbnail}
-use Rattle.px_tree.specs.Footprint.{listed, placed_range, table_range, dir_ranges, ranges_at, thumb_ranges, footprint}
+use Rattle.px_tree.specs.Footprint.{listed, dir_ranges, ranges_at, thumb_ranges, footprint}
 use Rattle.px_tree.specs.Says.{IsExif, SaysExif}
-use Rattle.px_tree.specs.Faults.{At, Begins, Reached, EntryAt, dir_number, owners, partners, IsAlone, IsUneven, Names, PartAt, Fault}
+use Rattle.px_tree.specs.Faults.{At, Begins, EntryAt, dir_number, owners, partners, IsAlone, IsUneven, Names, PartAt, Fault}
 use Rattle.px_tree.proofs.Each.{each_left, each_right}
 use Rattle.px_tree.proofs.Fresh.{Clear, clear_across, apart_right}
 use Rattle.px_tree.proofs.Owned.{ranges, owners_own}
