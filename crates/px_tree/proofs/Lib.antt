@@ -11,3 +11,13 @@ pub mod FieldLemmas
 pub mod SameLists
 pub mod ItemCounts
 pub mod FitLemmas
+pub mod Owned
+pub mod Footprint
+pub mod Fresh
+pub mod Judged
+pub mod At
+pub mod Unsaid
+pub mod Told
+pub mod ToldDirs
+pub mod ToldThumb
+pub mod ToldAll

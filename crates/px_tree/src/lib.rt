@@ -1,6 +1,7 @@
 //! The tree of directories of an Exif block: what each tag is in a directory.
 #![tactic(auto)]
 
+pub mod fault_laws;
 mod fields;
 mod fitting;
 pub mod laws;

@@ -1,0 +1,5 @@
+use Rattle.px_tree.proofs.Owned as owned
+use Rattle.px_tree.proofs.fault_laws.owners_own.Goals as goal
+
+pub returns : goal.returns
+returns c = owned.owners_own
