@@ -4,10 +4,11 @@ use Rattle.px_bytes.specs.declared.Order.TheVariants.{Least, Most}
 use Rattle.px_bytes.specs.declared.Cause.{Cause}
 use Rattle.px_bytes.specs.declared.Cause.TheVariants.{UnknownKind, HeaderCut, Loop, DirectoryOutside, EmptyDirectory, Overlap, Unsorted, Doubled, UnknownType, MisplacedOffset, PointerForm, ValueOutside, ThumbnailPair, ExtraDirectory, ThumbnailOutside}
 use Rattle.px_bytes.specs.Checks.{first_false}
-use Rattle.px_field.specs.declared.Form.TheVariants.{Byte, Ascii, Short, Rational, Undefined}
+use Rattle.px_field.specs.declared.Form.TheVariants.{Byte, Ascii, Short, Long, Rational, Undefined}
 use Rattle.px_field.specs.declared.Kind.TheVariants.{Of, Whole}
 use Rattle.px_field.specs.declared.Element.TheVariants as element
 use Rattle.px_field.specs.Values.{Value}
+use Rattle.px_iim.specs.Group.{Group}
 use Rattle.px_tree.specs.Tree.{Meaning}
 use Rattle.px_tree.specs.Says.{meaning}
 use Rattle.px_tree.specs.Checks.{checks}
@@ -274,3 +275,37 @@ maker_note = 0x49 ∷ 0x49 ∷ 0x2A ∷ 0 ∷ 8 ∷ 0 ∷ 0 ∷ 0 ∷ 1 ∷ 0 �
 maker_note_says : (first_fault maker_note ≡ None) × (meaning maker_note Least ≡ record { main = []; iptc = None; exif = Some (record { fields = (0x927C, record { kind = Of Undefined; elements = element.Byte 1 ∷ element.Byte 2 ∷ element.Byte 3 ∷ element.Byte 4 ∷ element.Byte 5 ∷ [] }) ∷ []; interop = None }); gps = None; thumb = None })
 unfolding first_fault main_only maker_note opened
 maker_note_says = (refl, refl)
+
+-- ---- a record inside the block
+
+-- a caption as an extended DataSet of IIM, UNDEFINED
+recorded : List ℕ
+recorded = 0x4D ∷ 0x4D ∷ 0 ∷ 0x2A ∷ 0 ∷ 0 ∷ 0 ∷ 8 ∷ 0 ∷ 1 ∷ 0x83 ∷ 0xBB ∷ 0 ∷ 7 ∷ 0 ∷ 0 ∷ 0 ∷ 0x0C ∷ 0 ∷ 0 ∷ 0 ∷ 0x1A ∷ 0 ∷ 0 ∷ 0 ∷ 0 ∷ 0x1C ∷ 2 ∷ 0x78 ∷ 0x80 ∷ 4 ∷ 0 ∷ 0 ∷ 0 ∷ 3 ∷ 0x61 ∷ 0x62 ∷ 0x63 ∷ []
+
+recorded_says : (first_fault recorded ≡ None) × (meaning recorded Most ≡ record { main = []; iptc = Some (record { rec = 2; number = 120; items = (120, 0x61 ∷ 0x62 ∷ 0x63 ∷ []) ∷ [] } ∷ []); exif = None; gps = None; thumb = None })
+unfolding first_fault main_only recorded opened
+recorded_says = (refl, refl)
+
+-- the same of type BYTE, as a standard DataSet with zeros behind
+recorded_bytes : List ℕ
+recorded_bytes = 0x4D ∷ 0x4D ∷ 0 ∷ 0x2A ∷ 0 ∷ 0 ∷ 0 ∷ 8 ∷ 0 ∷ 1 ∷ 0x83 ∷ 0xBB ∷ 0 ∷ 1 ∷ 0 ∷ 0 ∷ 0 ∷ 0x0B ∷ 0 ∷ 0 ∷ 0 ∷ 0x1A ∷ 0 ∷ 0 ∷ 0 ∷ 0 ∷ 0x1C ∷ 2 ∷ 0x78 ∷ 0 ∷ 3 ∷ 0x61 ∷ 0x62 ∷ 0x63 ∷ 0 ∷ 0 ∷ 0 ∷ []
+
+recorded_bytes_say_the_same : (first_fault recorded_bytes ≡ None) × (meaning recorded_bytes Most ≡ meaning recorded Most)
+unfolding first_fault main_only recorded_bytes recorded opened
+recorded_bytes_say_the_same = (refl, refl)
+
+-- bytes that say no record are a field
+no_record : List ℕ
+no_record = 0x4D ∷ 0x4D ∷ 0 ∷ 0x2A ∷ 0 ∷ 0 ∷ 0 ∷ 8 ∷ 0 ∷ 1 ∷ 0x83 ∷ 0xBB ∷ 0 ∷ 7 ∷ 0 ∷ 0 ∷ 0 ∷ 5 ∷ 0 ∷ 0 ∷ 0 ∷ 0x1A ∷ 0 ∷ 0 ∷ 0 ∷ 0 ∷ 0x1C ∷ 2 ∷ 0x78 ∷ 0x80 ∷ 0 ∷ 0 ∷ []
+
+no_record_says : (first_fault no_record ≡ None) × (meaning no_record Most ≡ main_only ((0x83BB, record { kind = Of Undefined; elements = element.Byte 0x1C ∷ element.Byte 2 ∷ element.Byte 0x78 ∷ element.Byte 0x80 ∷ element.Byte 0 ∷ [] }) ∷ []))
+unfolding first_fault main_only no_record opened
+no_record_says = (refl, refl)
+
+-- and so are LONGs
+record_as_longs : List ℕ
+record_as_longs = 0x4D ∷ 0x4D ∷ 0 ∷ 0x2A ∷ 0 ∷ 0 ∷ 0 ∷ 8 ∷ 0 ∷ 1 ∷ 0x83 ∷ 0xBB ∷ 0 ∷ 4 ∷ 0 ∷ 0 ∷ 0 ∷ 2 ∷ 0 ∷ 0 ∷ 0 ∷ 0x1A ∷ 0 ∷ 0 ∷ 0 ∷ 0 ∷ 0x1C ∷ 2 ∷ 0x78 ∷ 0 ∷ 3 ∷ 0x61 ∷ 0x62 ∷ 0x63 ∷ []
+
+record_as_longs_says : (first_fault record_as_longs ≡ None) × (meaning record_as_longs Most ≡ main_only ((0x83BB, record { kind = Of Long; elements = element.Long 469923840 ∷ element.Long 56713827 ∷ [] }) ∷ []))
+unfolding first_fault main_only record_as_longs opened
+record_as_longs_says = (refl, refl)
