@@ -1,17 +1,21 @@
 -- Worked examples, computed: what a block says, or its first fault.
-use Rattle.std.proofs.Common.{◌≡◌, ℕ, Option, Some, None, List, [], ◌∷◌, ◌++◌, take, refl}
+use Rattle.std.proofs.Common.{◌≡◌, ℕ, Option, Some, None, List, [], ◌∷◌, ◌++◌, take, refl, lit≤}
 use Rattle.px_bytes.specs.declared.Order.TheVariants.{Least, Most}
 use Rattle.px_bytes.specs.declared.Cause.{Cause}
 use Rattle.px_bytes.specs.declared.Cause.TheVariants.{UnknownKind, HeaderCut, Loop, DirectoryOutside, EmptyDirectory, Overlap, Unsorted, Doubled, UnknownType, MisplacedOffset, PointerForm, ValueOutside, ThumbnailPair, ExtraDirectory, ThumbnailOutside}
 use Rattle.px_bytes.specs.Checks.{first_false}
+use Rattle.px_bytes.specs.Range.{range}
 use Rattle.px_field.specs.declared.Form.TheVariants.{Byte, Ascii, Short, Long, Rational, Undefined}
 use Rattle.px_field.specs.declared.Kind.TheVariants.{Of, Whole}
 use Rattle.px_field.specs.declared.Element.TheVariants as element
 use Rattle.px_field.specs.Values.{Value}
 use Rattle.px_iim.specs.Group.{Group}
+use Rattle.px_tree.specs.declared.roles.Dir.TheVariants.{Main, Thumb}
 use Rattle.px_tree.specs.Tree.{Meaning}
 use Rattle.px_tree.specs.Says.{meaning}
+use Rattle.px_tree.specs.Entry.{Entry}
 use Rattle.px_tree.specs.Checks.{checks}
+use Rattle.px_tree.specs.Faults.{Fault}
 use Rattle.px_tree.proofs.Opened.{opened}
 
 first_fault : List ℕ → Option (Cause × ℕ)
@@ -309,3 +313,20 @@ record_as_longs = 0x4D ∷ 0x4D ∷ 0 ∷ 0x2A ∷ 0 ∷ 0 ∷ 0 ∷ 8 ∷ 0 ∷
 record_as_longs_says : (first_fault record_as_longs ≡ None) × (meaning record_as_longs Most ≡ main_only ((0x83BB, record { kind = Of Long; elements = element.Long 469923840 ∷ element.Long 56713827 ∷ [] }) ∷ []))
 unfolding first_fault main_only record_as_longs opened
 record_as_longs_says = (refl, refl)
+
+-- ---- standing faults
+
+-- the thumbnail directory is named where the main directory stands
+loop_stands : Fault next_to_main Loop 22
+unfolding next_to_main opened
+loop_stands = (Most, Thumb, Main, 8, ((lit≤ tt, refl), refl), ((lit≤ tt, refl), refl), lit≤ tt, refl)
+
+-- the second resolution shares its first byte with the first
+overlap_stands : Fault one_for_both Overlap 22
+unfolding one_for_both opened
+overlap_stands = (Most, 2, 3, 10, range 38 8, range 38 8, 38, (lit≤ tt, refl), lit≤ tt, refl, refl, lit≤ tt, lit≤ tt, (lit≤ tt, lit≤ tt), (lit≤ tt, lit≤ tt))
+
+-- a fault stands behind another too: here the tags fall, which is the first, and the type of the second entry is unknown
+unknown_stands : Fault falling_unknown UnknownType 22
+unfolding falling_unknown opened
+unknown_stands = (Most, Main, 1, record { tag = 0x0100; code = 13; count = 1; last = 0 ∷ 1 ∷ 0 ∷ 0 ∷ [] }, (8, ((lit≤ tt, refl), refl), refl, refl), refl)
