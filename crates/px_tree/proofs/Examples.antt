@@ -1,5 +1,5 @@
 -- Worked examples, computed: what a block says, or its first fault.
-use Rattle.std.proofs.Common.{◌≡◌, ℕ, Option, Some, None, List, [], ◌∷◌, ◌++◌, take, refl, lit≤}
+use Rattle.std.proofs.Common.{◌≡◌, ℕ, Option, Some, None, List, [], ◌∷◌, ◌++◌, take, refl, lit≤, arith}
 use Rattle.px_bytes.specs.declared.Order.TheVariants.{Least, Most}
 use Rattle.px_bytes.specs.declared.Cause.{Cause}
 use Rattle.px_bytes.specs.declared.Cause.TheVariants.{UnknownKind, HeaderCut, Loop, DirectoryOutside, EmptyDirectory, Overlap, Unsorted, Doubled, UnknownType, MisplacedOffset, PointerForm, ValueOutside, ThumbnailPair, ExtraDirectory, ThumbnailOutside}
@@ -12,7 +12,7 @@ use Rattle.px_field.specs.Values.{Value}
 use Rattle.px_iim.specs.Group.{Group}
 use Rattle.px_tree.specs.declared.roles.Dir.TheVariants.{Main, Thumb}
 use Rattle.px_tree.specs.Tree.{Meaning}
-use Rattle.px_tree.specs.Says.{meaning}
+use Rattle.px_tree.specs.Says.{meaning, SaysExif}
 use Rattle.px_tree.specs.Entry.{Entry}
 use Rattle.px_tree.specs.Checks.{checks}
 use Rattle.px_tree.specs.Faults.{Fault}
@@ -43,6 +43,22 @@ one_field = main_only ((0x0112, record { kind = Of Short; elements = element.Sho
 one_entry_says : (first_fault one_entry ≡ None) × (meaning one_entry Most ≡ one_field)
 unfolding first_fault main_only header orientation one_entry one_field opened
 one_entry_says = (refl, refl)
+
+-- and, condition by condition, it says that field
+one_entry_says_exif : SaysExif one_entry one_field
+unfolding main_only header orientation one_entry one_field opened
+one_entry_says_exif = record {
+  order = Most;
+  is_block = record {
+    least = lit≤ tt;
+    most = lit≤ tt;
+    begins = refl;
+    directories = (record { there = refl; rising = (tt, tt); each = (record { known = refl; allowed = refl; formed = refl; inside = refl }, tt) }, (tt, (tt, (tt, (tt, tt)))));
+    thumbnail = tt;
+    apart = (((λ p i j. omega arith), tt), (tt, tt));
+  };
+  says = refl;
+}
 
 -- the same in the other order, with spare bytes that have no meaning
 turned : List ℕ
