@@ -34,7 +34,7 @@ pub none_false : (cs : List Check) → first_false cs ≡ None → AllHold cs
 none_false [] e = tt
 none_false (c ∷ cs) e = elim (cases_Bool c.holds) [
   | inl t ↦ (t, none_false cs (sym (cond-true c.holds (first_false cs) (Some (c.cause, c.place)) t) ∙ e))
-  | inr t ↦ let q : Some (c.cause, c.place) ≡ None = sym (cond-false c.holds (first_false cs) (Some (c.cause, c.place)) t) ∙ e in cc
+  | inr t ↦ let q : ◌≡◌ {A = Option (Cause × ℕ)} (Some (c.cause, c.place)) None = sym (cond-false c.holds (first_false cs) (Some (c.cause, c.place)) t) ∙ e in cc
 ]
 
 pub apart_each : (r : Range) (rs : List Range) → is_free rs r ≡ true → AllByRecursion (Apart r) rs
@@ -218,7 +218,7 @@ pub order_told : (b : List ℕ) (o : Order) → take 4 b ≡ magic o → order_o
 order_told b Least h = ap (λ x. if same_bytes x (magic Least) then Some Least else if same_bytes x (magic Most) then Some Most else None) h
 order_told b Most h = ap (λ x. if same_bytes x (magic Least) then Some Least else if same_bytes x (magic Most) then Some Most else None) h
 
-all_magic : (b : List ℕ) (o : Order) → 8 ≤ length b → take (length b) (magic o) ≡ magic o
+pub all_magic : (b : List ℕ) (o : Order) → 8 ≤ length b → take (length b) (magic o) ≡ magic o
 all_magic b Least l = take_all (length b) (magic Least) (omega arith)
 all_magic b Most l = take_all (length b) (magic Most) (omega arith)
 

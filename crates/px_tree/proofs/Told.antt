@@ -31,7 +31,7 @@ first_told b [] c p h e = cc
 first_told b (k ∷ cs) c p h e = elim (cases_Bool k.holds) [
   | inl t ↦ first_told b cs c p (h.1 t) (sym (cond-true k.holds (first_false cs) (Some (k.cause, k.place)) t) ∙ e)
   | inr t ↦
-      let q : Some (k.cause, k.place) ≡ Some (c, p) = sym (cond-false k.holds (first_false cs) (Some (k.cause, k.place)) t) ∙ e in
+      let q : ◌≡◌ {A = Option (Cause × ℕ)} (Some (k.cause, k.place)) (Some (c, p)) = sym (cond-false k.holds (first_false cs) (Some (k.cause, k.place)) t) ∙ e in
       let r : ◌≡◌ {A = Cause × ℕ} (k.cause, k.place) (c, p) = cc in
       subst (λ (f : Cause × ℕ). Fault b f.0 f.1) r (h.0 t)
 ]
