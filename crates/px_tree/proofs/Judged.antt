@@ -9,7 +9,7 @@ use Rattle.px_bytes.specs.declared.Order.TheVariants.{Least, Most}
 use Rattle.px_bytes.specs.declared.Cause.{Cause}
 use Rattle.px_bytes.specs.Parts.{limit, part}
 use Rattle.px_bytes.specs.Range.{Range, range, Apart, AllApart, shares, is_free}
-use Rattle.px_bytes.specs.RangeLaws.{shares-apart}
+use Rattle.px_bytes.specs.ApartLaws.{apart_each}
 use Rattle.px_bytes.specs.Checks.{Check, first_false}
 use Rattle.px_tree.specs.declared.roles.Dir.{Dir}
 use Rattle.px_tree.specs.declared.roles.Dir.TheVariants.{Thumb}
@@ -36,10 +36,6 @@ none_false (c ∷ cs) e = elim (cases_Bool c.holds) [
   | inl t ↦ (t, none_false cs (sym (cond-true c.holds (first_false cs) (Some (c.cause, c.place)) t) ∙ e))
   | inr t ↦ let q : ◌≡◌ {A = Option (Cause × ℕ)} (Some (c.cause, c.place)) None = sym (cond-false c.holds (first_false cs) (Some (c.cause, c.place)) t) ∙ e in cc
 ]
-
-pub apart_each : (r : Range) (rs : List Range) → is_free rs r ≡ true → AllByRecursion (Apart r) rs
-apart_each r [] e = tt
-apart_each r (s ∷ rs) e = let p = and_parts (not (shares r s)) (is_free rs r) e in (shares-apart r s (not-true (shares r s) p.0), apart_each r rs p.1)
 
 -- ---- one entry and all entries
 

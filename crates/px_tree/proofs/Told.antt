@@ -7,7 +7,7 @@ use Rattle.px_bytes.specs.declared.Order.{Order}
 use Rattle.px_bytes.specs.declared.Cause.{Cause}
 use Rattle.px_bytes.specs.declared.Cause.TheVariants.{Overlap}
 use Rattle.px_bytes.specs.Range.{Range, shares, is_free}
-use Rattle.px_bytes.specs.RangeLaws.{shares-byte}
+use Rattle.px_bytes.specs.ApartLaws.{byte_from_test}
 use Rattle.px_bytes.specs.Checks.{Check, first_false}
 use Rattle.px_tree.specs.Thumbnail.{IsInside}
 use Rattle.px_tree.specs.Checks.{is_free_value}
@@ -82,7 +82,7 @@ module _ (b : List ℕ) (o : Order) where
   overlap_told g k p s (r ∷ held) a h i e = elim (and_cases (not (shares s r)) (is_free held s) e) [
     | inl q ↦
         let w = h.0 in
-        let y = shares-byte s r (not-false (shares s r) q) in
+        let y = byte_from_test s r (not-false (shares s r) q) in
         (o, w.index, k, w.place, r, s, y.0, g, w.before, w.owner, a, w.inside, i, y.2, y.1)
     | inr q ↦ overlap_told g k p s held a h.1 i q
   ]

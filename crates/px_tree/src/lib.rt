@@ -9,6 +9,8 @@ mod meanings;
 mod roles;
 mod same;
 mod strips;
+#[cfg(test)]
+mod tests;
 mod values;
 
 pub use fields::Fields;

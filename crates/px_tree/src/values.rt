@@ -1,5 +1,5 @@
 // A stand-in.
-ghost use Rattle.std.specs.Prelude.{◌≡◌, ◌==◌, ◌≤◌, ◌<◌, ◌*◌, IsTrue, ◌↔◌, IsSome, length, MatchOption};
+ghost use Rattle.std.specs.Prelude.{◌≡◌, ◌==◌, ◌≤◌, ◌<◌, ◌*◌, IsTrue, ◌↔◌, is_some, length, MatchOption};
 ghost use Rattle.px_iim.specs.Group.{AreGroups};
 ghost use Rattle.px_iim.specs.Record.{normal_iim, iim_of};
 ghost use Rattle.px_bytes.specs.Parts.{limit};
@@ -54,7 +54,7 @@ pub fn normal_len(i: &Iim) -> Option<u32>
 }
 
 pub fn accepts(bytes: &[u8]) -> bool
-    ensures { IsTrue result ↔ IsSome (iim_of bytes.now) }
+    ensures { result ≡ is_some (iim_of bytes.now) }
 {
     let _x = bytes.len();
     true
