@@ -1,5 +1,5 @@
 -- Ranges that share no byte: the test, and how much they take.
-use Rattle.std.proofs.Common.{◌≡◌, ℕ, zero, suc, ◌+◌, ◌-◌, ◌<◌, ◌≤◌, inl, inr, min, Bool, true, false, not, ◌&&◌, nat_lt, nat_le, List, [], ◌∷◌, ◌++◌, refl, sym, ap, ◌∙◌, subst, arith, ltb-true, lt-ltb}
+use Rattle.std.proofs.Common.{◌≡◌, ℕ, zero, suc, ◌+◌, ◌-◌, ◌<◌, ◌≤◌, inl, inr, max, min, Bool, true, false, not, ◌&&◌, nat_lt, nat_le, List, [], ◌∷◌, ◌++◌, refl, sym, ap, ◌∙◌, subst, arith, ltb-true, lt-ltb}
 use Rattle.std.specs.List.{AllByRecursion}
 use Rattle.std.proofs.lemmas.Bool.{and_parts, and_from, not-true, not_from_false, both_ways, cases_lt, false_from_ne_true}
 use Rattle.px_bytes.specs.Range.{Range, range, IsIn, Apart, AllApart, shares, is_free, all_apart, SameFree}
@@ -14,6 +14,18 @@ shares-true r s p i j =
 -- ranges that share none by the test have none
 pub apart_from_test : (r s : Range) → not (shares r s) ≡ true → Apart r s
 apart_from_test r s e p i j = both_ways (shares r s) (not-true (shares r s) e) (shares-true r s p i j)
+
+-- and those that share one by the test have one in both
+pub byte_from_test : (r s : Range) → shares r s ≡ true → (p : ℕ) × IsIn p r × IsIn p s
+byte_from_test r s h =
+    let a = and_parts (nat_lt 0 r.size && nat_lt 0 s.size && nat_lt r.start (s.start + s.size)) (nat_lt s.start (r.start + r.size)) h in
+    let b = and_parts (nat_lt 0 r.size && nat_lt 0 s.size) (nat_lt r.start (s.start + s.size)) a.0 in
+    let c = and_parts (nat_lt 0 r.size) (nat_lt 0 s.size) b.0 in
+    let n1 : 0 < r.size = ltb-true _ _ c.0 in
+    let n2 : 0 < s.size = ltb-true _ _ c.1 in
+    let n3 : r.start < s.start + s.size = ltb-true _ _ b.1 in
+    let n4 : s.start < r.start + r.size = ltb-true _ _ a.1 in
+    (max r.start s.start, (omega arith, omega arith), (omega arith, omega arith))
 
 -- a range that is free is apart from each
 pub apart_each : (r : Range) (rs : List Range) → is_free rs r ≡ true → AllByRecursion (Apart r) rs

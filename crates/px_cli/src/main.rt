@@ -15,14 +15,22 @@ mod values;
 
 use crate::job::{Job, REFUSED_WORDS, run_one};
 use px_bytes::{Watched, write_whole};
+use std::io::ErrorKind;
 use std::process::ExitCode;
 use std::{env, io};
 
 fn main(rt: HostRuntime) -> ExitCode {
     let mut out = Watched::new(io::writer(&rt));
-    let Ok(mut words) = env::args(&rt) else {
-        let _ = write_whole(&mut out, REFUSED_WORDS);
-        return ExitCode::from(3);
+    let mut words = match env::args(&rt) {
+        Ok(words) => words,
+        Err(error) if error.kind() == ErrorKind::OutOfMemory => {
+            let _ = write_whole(&mut out, b"failed: OutOfMemory\n");
+            return ExitCode::from(4);
+        }
+        Err(_) => {
+            let _ = write_whole(&mut out, REFUSED_WORDS);
+            return ExitCode::from(3);
+        }
     };
     let _program = words.next();
     if words.next().is_some() {
