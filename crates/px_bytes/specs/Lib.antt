@@ -1,6 +1,7 @@
 pub mod Numbers
 pub mod NumberLaws
 pub mod Parts
+pub mod PartLaws
 pub mod Checks
 pub mod CheckLaws
 pub mod Devices

@@ -1,5 +1,5 @@
 -- Parts of a block.
-use Rattle.std.specs.Prelude.{ℕ, zero, suc, ◌+◌, List, [], ◌∷◌, length, take, drop, slice_range, Option, Some, None, option_map, if◌then◌else◌, nat_le}
+use Rattle.std.specs.Prelude.{ℕ, zero, suc, ◌+◌, List, [], ◌∷◌, length, take, drop, Option, Some, None, option_map, if◌then◌else◌, nat_le}
 use Rattle.px_bytes.specs.declared.numbers.Order.{Order}
 use Rattle.px_bytes.specs.Numbers.{number}
 
@@ -18,7 +18,7 @@ pieces (suc n) size b = take size b ∷ pieces n size (drop size b)
 
 -- the `len` bytes from `at` on, where they lie inside
 abbrev pub part_of : List ℕ → ℕ → ℕ → Option (List ℕ)
-part_of block at len = if nat_le (at + len) (length block) then Some (slice_range block at (at + len)) else None
+part_of block at len = if nat_le (at + len) (length block) then Some (part block at len) else None
 
 -- the number in the `width` bytes from `at` on, where they lie inside
 abbrev pub number_at : Order → ℕ → List ℕ → ℕ → Option ℕ

@@ -1,9 +1,30 @@
 -- Parts written one after another.
-use Rattle.std.proofs.Common.{◌≡◌, ◌+◌, ◌++◌, ℕ, List, length, take, Option, Some, None, Result, Ok, Err, OnOk, OnErr, ap, ◌∙◌, arith, append_assoc, length-append}
+use Rattle.std.proofs.Common.{◌≡◌, ◌+◌, ◌++◌, ℕ, List, [], length, take, Option, Result, Ok, Err, OnOk, OnErr, arith, length-append}
+use Rattle.std.proofs.KnownBytes.{Appends-nil, Appends-trans, Appends-kept}
+use Rattle.std.proofs.Math.Seq.{take-append-add, take-length}
 use Rattle.std.proofs.lemmas.List.{take-append-le}
-use Rattle.std.proofs.Math.Seq.{take-append-add}
-use Rattle.std.specs.Io.KnownBytes.{Appends}
+use Rattle.std.specs.Io.KnownBytes.{Appends, Keeps}
 use Rattle.px_bytes.specs.Devices.{AppendsPrefix, Writes}
+
+-- nothing was written
+pub appends_none : (a : Option (List ℕ)) → Appends a a []
+appends_none a = Appends-nil a
+
+-- the first part, and all of the second
+pub appends_both : (a b c : Option (List ℕ)) (xs ys : List ℕ) → Appends a b xs → Appends b c ys → Appends a c (xs ++ ys)
+appends_both a b c xs ys p q = Appends-trans a b c xs ys p q
+
+-- a part, and then a flush, or a call that failed and took nothing
+pub appends_kept : (a b c : Option (List ℕ)) (xs : List ℕ) → Appends a b xs → Keeps b c → Appends a c xs
+appends_kept a b c xs p q = Appends-kept a b c xs p q
+
+-- all of it is a prefix of it
+pub prefix_all : (a b : Option (List ℕ)) (xs : List ℕ) → Appends a b xs → AppendsPrefix a b xs
+prefix_all a b xs p = (length xs, omega arith, rw take-length p)
+
+-- nothing is a prefix
+pub prefix_none : (a b : Option (List ℕ)) (xs : List ℕ) → Keeps a b → AppendsPrefix a b xs
+prefix_none a b xs p = (0, omega arith, Appends-kept a a b [] (Appends-nil a) p)
 
 -- a prefix of the first part
 pub prefix_first : (a b : Option (List ℕ)) (xs ys : List ℕ) → AppendsPrefix a b xs → AppendsPrefix a b (xs ++ ys)
@@ -11,20 +32,22 @@ prefix_first a b xs ys h =
     let same : take h.0 (xs ++ ys) ≡ take h.0 xs = take-append-le h.0 xs ys h.1 in
     (h.0, omega (arith, h.1, length-append xs ys), rw same h.2)
 
--- the first part, and all of the second
-pub appends_both : (a b c : Option (List ℕ)) (xs ys : List ℕ) → Appends a b xs → Appends b c ys → Appends a c (xs ++ ys)
-appends_both None b c xs ys p q = tt
-appends_both (Some x) None c xs ys p q = absurd p
-appends_both (Some x) (Some y) None xs ys p q = absurd q
-appends_both (Some x) (Some y) (Some z) xs ys p q = q ∙ ap (λ (l : List ℕ). l ++ ys) p ∙ append_assoc x xs ys
-
 -- the first part, and a prefix of the second
 pub prefix_second : (a b c : Option (List ℕ)) (xs ys : List ℕ) → Appends a b xs → AppendsPrefix b c ys → AppendsPrefix a c (xs ++ ys)
 prefix_second a b c xs ys p h =
     let same : take (length xs + h.0) (xs ++ ys) ≡ xs ++ take h.0 ys = take-append-add xs ys h.0 in
     (length xs + h.0, omega (arith, h.1, length-append xs ys), rw same (appends_both a b c xs (take h.0 ys) p h.2))
 
+-- what stands before, and a prefix of what stands in the middle
+pub prefix_within : (a b c : Option (List ℕ)) (before middle after : List ℕ) → Appends a b before → AppendsPrefix b c middle → AppendsPrefix a c (before ++ (middle ++ after))
+prefix_within a b c before middle after p h = prefix_second a b c before (middle ++ after) p (prefix_first b c middle after h)
+
 -- the second part's answer is that of both
+pub writes_both : {A E : Type 0} (r : Result A E) (a b c : Option (List ℕ)) (xs ys : List ℕ) → Appends a b xs → Writes r b c ys → Writes r a c (xs ++ ys)
+writes_both (Ok x) a b c xs ys p w = appends_both a b c xs ys p w
+writes_both (Err e) a b c xs ys p w = prefix_second a b c xs ys p w
+
+-- the same of an answer told in two facts
 pub writes_second : {A E : Type 0} (r : Result A E) (a b c : Option (List ℕ)) (xs ys : List ℕ) → Appends a b xs → OnOk r (Appends b c ys) → OnErr r (AppendsPrefix b c ys) → Writes r a c (xs ++ ys)
 writes_second (Ok x) a b c xs ys p all front = appends_both a b c xs ys p all
 writes_second (Err e) a b c xs ys p all front = prefix_second a b c xs ys p front

@@ -1,0 +1,93 @@
+-- What is seen of a value.
+use Rattle.std.proofs.Common.{◌≡◌, ◌<◌, ◌≤◌, ◌+◌, ◌*◌, ◌/◌, ◌%◌, ℕ, Bool, true, false, List, [], ◌∷◌, zero, suc, length, map, slice_get, Option, Some, sym, ap, ap₂, ◌∙◌, refl, arith}
+use Rattle.std.specs.Option.{option_map}
+use Rattle.std.proofs.Math.Nat.{div-mul-le_self, mul-le-mul_right}
+use Rattle.std.proofs.lemmas.List.{length-map}
+use Rattle.std.proofs.lemmas.Option.{slice_get-map}
+use Rattle.px_bytes.specs.declared.Order.{Order}
+use Rattle.px_bytes.specs.Numbers.{AreBytes}
+use Rattle.px_field.specs.declared.forms.Form.{Form}
+use Rattle.px_field.specs.declared.forms.Form.TheVariants as form
+use Rattle.px_field.specs.declared.forms.Kind.{Kind}
+use Rattle.px_field.specs.declared.forms.Kind.TheVariants as kind
+use Rattle.px_field.specs.declared.forms.Element.{Element}
+use Rattle.px_field.specs.declared.forms.Element.TheVariants as element
+use Rattle.px_field.specs.Forms.{size}
+use Rattle.px_field.specs.Values.{elements, widened, count_in, value_in, whole_in, form_in, spelled, IsValue, IsWhole, IsOf, Value, is_bytes}
+use Rattle.px_field.specs.PieceLaws.{all_at}
+use Rattle.px_field.specs.ValueLaws.{length-elements, IsValue-value_in, IsValue-whole_in, count_in-whole, length-spelled, elements-bytes}
+use Rattle.px_field.specs.Views.{shown}
+
+-- an element lies inside
+pub element_fits : (i n : ℕ) (f : Form) → i < n / size f → i * size f + size f ≤ n
+element_fits i n f h =
+    let whole : n / size f * size f ≤ n = div-mul-le_self n (size f) in
+    let below : (i + 1) * size f ≤ n / size f * size f = mul-le-mul_right (size f) (omega arith) in
+    omega arith
+
+-- as many elements as the bytes have room for
+pub length-shown : (w : Bool) (o : Order) (f : Form) (raw : List ℕ) → length (shown w o f raw).elements ≡ count_in f raw
+length-shown true o f raw = length-map (elements o f (count_in f raw) raw) widened ∙ length-elements o f (count_in f raw) raw
+length-shown false o f raw = length-elements o f (count_in f raw) raw
+
+-- in their ranges
+pub IsValue-shown : (w : Bool) (o : Order) (f : Form) (raw : List ℕ) → (w ≡ true → IsWhole f) → AreBytes raw → IsValue (shown w o f raw)
+IsValue-shown true o f raw whole are = IsValue-whole_in o f raw (whole refl) are
+IsValue-shown false o f raw whole are = IsValue-value_in o f raw are
+
+-- the element at i, where it is widened and where it isn't
+pub get-whole : (o : Order) (f : Form) (raw : List ℕ) (i : ℕ) (e : Element) → slice_get (elements o f (count_in f raw) raw) i ≡ Some e → slice_get (shown true o f raw).elements i ≡ Some (widened e)
+get-whole o f raw i e h = slice_get-map widened (elements o f (count_in f raw) raw) i ∙ ap (option_map widened) h
+
+-- two values of one kind with the same elements are the same
+pub same_parts : (a b : Value) → a.kind ≡ b.kind → a.elements ≡ b.elements → a ≡ b
+same_parts a b p q = ap₂ (λ (k : Kind) (es : List Element). record { kind = k; elements = es }) p q
+
+-- lists with the same elements are the same
+pub same_by_get : {A : Type 0} (xs ys : List A) → length xs ≡ length ys → ((k : ℕ) → k < length xs → slice_get xs k ≡ slice_get ys k) → xs ≡ ys
+same_by_get [] [] len h = refl
+same_by_get [] (y ∷ ys) len h = absurd (omega arith)
+same_by_get (x ∷ xs) [] len h = absurd (omega arith)
+same_by_get (x ∷ xs) (y ∷ ys) len h =
+    let head : Some x ≡ Some y = h 0 (omega arith) in
+    let tail : xs ≡ ys = same_by_get xs ys (omega arith) (λ k below. h (suc k) (omega arith)) in
+    cc
+
+-- bytes and the elements of a byte type tell each other
+pub same_bytes : (xs ys : List ℕ) → map element.Byte xs ≡ map element.Byte ys → xs ≡ ys
+same_bytes [] [] e = refl
+same_bytes [] (y ∷ ys) e = absurd (cc)
+same_bytes (x ∷ xs) [] e = absurd (cc)
+same_bytes (x ∷ xs) (y ∷ ys) e =
+    let head : element.Byte x ≡ element.Byte y = cc in
+    let rest : map element.Byte xs ≡ map element.Byte ys = cc in
+    let tail : xs ≡ ys = same_bytes xs ys rest in
+    cc
+
+-- the size of what is seen
+pub size-shown : (w : Bool) (o : Order) (f : Form) (raw : List ℕ) → length raw % size f ≡ 0 → w ≡ false → length (shown w o f raw).elements * size (form_in (shown w o f raw).kind) ≡ length raw
+size-shown true o f raw whole e = absurd (cc)
+size-shown false o f raw whole e = ap (λ (n : ℕ). n * size f) (length-elements o f (count_in f raw) raw) ∙ count_in-whole f raw whole
+
+pub size-whole : (w : Bool) (o : Order) (f : Form) (raw : List ℕ) → w ≡ true → size (form_in (shown w o f raw).kind) ≡ 4
+size-whole true o f raw e = refl
+size-whole false o f raw e = absurd (cc)
+
+-- a byte type is not widened, and its elements are the bytes
+pub bytes_shown : (w : Bool) (o : Order) (f : Form) (raw : List ℕ) → (w ≡ true → IsWhole f) → is_bytes (kind.Of f) ≡ true → (shown w o f raw).elements ≡ map element.Byte raw
+bytes_shown true o form.Short raw whole b = absurd (cc)
+bytes_shown true o form.Long raw whole b = absurd (cc)
+bytes_shown true o _ raw whole b = absurd (whole refl)
+bytes_shown false o f raw whole b = elements-bytes o f raw b
+
+-- a whole number is spelled by at most twice as many bytes as were read
+pub bound-whole : (f : Form) (raw : List ℕ) → IsWhole f → 4 * count_in f raw ≤ 2 * length raw
+bound-whole form.Short raw h = omega arith
+bound-whole form.Long raw h = omega arith
+bound-whole _ raw h = absurd h
+
+-- an element that is seen is of its kind
+pub IsOf-shown : (w : Bool) (o : Order) (f : Form) (raw : List ℕ) (v : Value) (i : ℕ) (e : Element) → (w ≡ true → IsWhole f) → AreBytes raw → shown w o f raw ≡ v → slice_get v.elements i ≡ Some e → IsOf (form_in v.kind) e
+IsOf-shown w o f raw v i e whole are seen here =
+    let is : IsValue v = rw (← seen) (IsValue-shown w o f raw whole are) in
+    all_at (IsOf (form_in v.kind)) v.elements i e is here

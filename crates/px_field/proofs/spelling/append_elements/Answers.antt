@@ -1,0 +1,35 @@
+use Rattle.std.proofs.Common.{◌≡◌, ◌≤◌, ◌<◌, ◌+◌, ◌*◌, ◌++◌, ◌∙◌, List, ℕ, length, take, flat_map, get_or, slice_get, Some, sym, ap, append_assoc, arith, rules}
+use Rattle.std.specs.Prelude.{vec_len, vec_capacity}
+use Rattle.std.proofs.lemmas.Grind.{common_steps}
+use Rattle.std.proofs.lemmas.List.{take_all}
+use Rattle.std.proofs.lemmas.Option.{slice_get-get_or}
+use Rattle.px_field.specs.declared.forms.Element.{Element}
+use Rattle.px_field.specs.declared.forms.Element.TheVariants as element
+use Rattle.px_field.specs.Values.{form_in, spell, spelled}
+use Rattle.px_field.specs.ValueLaws.{spell-take}
+use Rattle.px_field.proofs.spelling.append_elements.Goals as goal
+
+pub loop-i-preserved : goal.loop-i-preserved
+loop-i-preserved c =
+    let o = c.args.order in
+    let es = c.args.value.now.elements in
+    let i = c.loop-i.i in
+    let inside : i < length es = omega arith in
+    let e : Element = get_or es i (element.Byte 0) in
+    let here : slice_get es i ≡ Some e = slice_get-get_or es i (element.Byte 0) inside in
+    let piece = take c.spell_at-width.result c.spell_at-width.new.into in
+    record {
+      items = c.in_ok-extend_from_slice.ensures.items
+          ∙ ap (λ (l : List ℕ). l ++ piece) c.loop-i.invariant.items
+          ∙ append_assoc c.args.out.now.items (flat_map (spell o) (take i es)) piece
+          ∙ ap (λ (l : List ℕ). c.args.out.now.items ++ l) (ap (λ (l : List ℕ). flat_map (spell o) (take i es) ++ l) (c.spell_at-width.ensures.front e here) ∙ sym (spell-take o es i (i + 1) e here (omega arith)));
+      len = grind (arith, common_steps, c.spell_at-width.array_long, c.loop-i.invariant.len, c.spell_at-width.ensures.width, c.in_ok-extend_from_slice.ensures.len);
+      room = omega (arith, c.loop-i.invariant.room, c.in_ok-extend_from_slice.ensures.capacity);
+    }
+
+pub returns-clause-done : goal.returns-clause-done
+unfolding spelled
+returns-clause-done c =
+    let es = c.args.value.now.elements in
+    let all : take c.loop-i.i es ≡ es = take_all c.loop-i.i es (omega arith) in
+    c.loop-i.invariant.items ∙ ap (λ (l : List Element). c.args.out.now.items ++ flat_map (spell c.args.order) l) all

@@ -1,0 +1,197 @@
+// A value: bytes in some order, seen as the elements that they spell.
+ghost use Rattle.std.specs.Prelude.{◌≡◌, ◌<◌, ◌≤◌, ◌+◌, ◌*◌, ◌/◌, ◌%◌, ℕ, List, length, drop, take, map, Some, slice_get, IsTrue, ◌↔◌, IsSome, IfSome};
+ghost use Rattle.px_bytes.specs.declared.Order.{Order};
+ghost use Rattle.px_bytes.specs.Parts.{limit};
+ghost use Rattle.px_bytes.specs.Numbers.{number};
+ghost use Rattle.px_field.specs.Forms.{size};
+ghost use Rattle.px_field.specs.Values.{count_in, element_of, elements, form_in, is_bytes, spelled, value_in, whole_in, widened, IsOf, IsValue, IsWhole};
+
+use crate::forms::{Element, Form, Kind};
+use px_bytes::Order;
+use std::marker::Model;
+
+/// The value of a field: its kind and its elements, read from bytes that it borrows.
+///
+/// Nothing is copied when a value is read. An element is read from the bytes each time that it is asked for.
+#[derive(Drop)]
+pub struct Value<'a> {
+    raw: &'a [u8],
+    order: Order,
+    form: Form,
+    widened: bool,
+}
+
+impl<'a> Model for Value<'a> {
+    ghost use Rattle.px_field.specs.Values as values;
+
+    ghost Value = { values.Value };
+
+    ghost use Rattle.px_field.specs.Views.{value_of, IsSound};
+
+    ghost view = { value_of };
+
+    ghost invariant = { IsSound };
+}
+
+/// The value of a type that the bytes spell in that order.
+pub fn read_value<'a>(form: Form, order: Order, raw: &'a [u8]) -> Value<'a>
+    requires whole { length raw.now % size form ≡ 0 }
+    requires bounded { length raw.now ≤ limit }
+    ensures { result ≡ value_in order form raw.now }
+{
+    Value {
+        raw,
+        order,
+        form,
+        widened: false,
+    }
+}
+
+/// The value of kind `Whole` that the bytes of a SHORT or LONG spell in that order.
+pub fn read_whole<'a>(form: Form, order: Order, raw: &'a [u8]) -> Value<'a>
+    requires whole { length raw.now % size form ≡ 0 }
+    requires bounded { length raw.now ≤ limit }
+    requires width { IsWhole form }
+    ensures { result ≡ whole_in order form raw.now }
+{
+    Value {
+        raw,
+        order,
+        form,
+        widened: true,
+    }
+}
+
+impl<'a> Value<'a> {
+    /// What the value is.
+    pub fn kind(&self) -> Kind
+        ensures kind { result ≡ self.now.kind }
+        ensures ranges { IsValue self.now }
+    {
+        if self.widened {
+            Kind::Whole
+        } else {
+            Kind::Of(self.form)
+        }
+    }
+
+    /// The elements of one of the five byte types, as they were read.
+    pub fn bytes(&self) -> Option<&'a [u8]>
+        ensures which { IsSome result ↔ IsTrue (is_bytes self.now.kind) }
+        ensures elements { IfSome result (λ s. self.now.elements ≡ map Element.Byte s.now) }
+    {
+        match self.form {
+            Form::Byte | Form::Ascii | Form::SByte | Form::Undefined | Form::Utf8 => Some(self.raw),
+            _ => None,
+        }
+    }
+
+    /// The number of elements.
+    pub fn count(&self) -> u32
+        ensures count { result ≡ length self.now.elements }
+        ensures bounded { result ≤ limit }
+    {
+        self.raw.len() as u32 / self.form.size()
+    }
+
+    /// The element at `i`.
+    pub fn element(&self, i: u32) -> Element
+        requires { i < length self.now.elements }
+        ensures element { slice_get self.now.elements i ≡ Some result }
+        ensures range { IsOf (form_in self.now.kind) result }
+    {
+        let element = element_in(self.order, self.form, self.raw, i);
+        if self.widened {
+            widen(element)
+        } else {
+            element
+        }
+    }
+
+    /// The number of bytes that spell the value: of kind `Whole` four for each element.
+    pub fn size(&self) -> u64
+        ensures spelled { (order : Order) → result ≡ length (spelled order self.now) }
+        ensures elements { result ≡ length self.now.elements * size (form_in self.now.kind) }
+        ensures bounded { result ≤ 2 * limit }
+    {
+        if self.widened {
+            4 * u64::from(self.count())
+        } else {
+            self.raw.len() as u64
+        }
+    }
+}
+
+/// Whether two values are of one kind and have the same elements.
+pub fn same_value(a: &Value, b: &Value) -> bool
+    ensures { IsTrue result ↔ (a.now ≡ b.now) }
+{
+    if a.kind() != b.kind() {
+        return false;
+    }
+    match (a.bytes(), b.bytes()) {
+        (Some(x), Some(y)) => x == y,
+        _ => same_elements(a, b),
+    }
+}
+
+// Whether two values have the same elements.
+fn same_elements(a: &Value, b: &Value) -> bool
+    ensures { IsTrue result ↔ (a.now.elements ≡ b.now.elements) }
+{
+    let count = a.count();
+    if count != b.count() {
+        return false;
+    }
+    for i in 0..count {
+        if a.element(i) != b.element(i) {
+            return false;
+        }
+    }
+    true
+}
+
+// The element at `i` of a type, where the bytes have room for it.
+#[tactic(auto, using(crate::proofs::ViewLemmas::element_fits))]
+fn element_in(order: Order, form: Form, raw: &[u8], i: u32) -> Element
+    requires bounded { length raw.now ≤ limit }
+    requires inside { i < count_in form raw.now }
+    ensures { slice_get (elements order form (count_in form raw.now) raw.now) i ≡ Some result }
+{
+    let size = form.size() as usize;
+    let at = i as usize * size;
+    read_element(order, form, &raw[at..at + size])
+}
+
+// The element of a type that the bytes spell.
+fn read_element(order: Order, form: Form, bytes: &[u8]) -> Element
+    requires { length bytes.now ≡ size form }
+    ensures { result ≡ element_of order form bytes.now }
+{
+    match form {
+        Form::Byte | Form::Ascii | Form::SByte | Form::Undefined | Form::Utf8 => Element::Byte(
+            bytes[0],
+        ),
+        Form::Short => Element::Short(order.get16(bytes)),
+        Form::Long => Element::Long(order.get32(bytes)),
+        Form::Rational => Element::Rational(order.get32(&bytes[..4]), order.get32(&bytes[4..])),
+        Form::SShort => Element::SShort(order.get16(bytes).cast_signed()),
+        Form::SLong => Element::SLong(order.get32(bytes).cast_signed()),
+        Form::SRational => Element::SRational(
+            order.get32(&bytes[..4]).cast_signed(),
+            order.get32(&bytes[4..]).cast_signed(),
+        ),
+        Form::Float => Element::Float(order.get32(bytes)),
+        Form::Double => Element::Double(order.get64(bytes)),
+    }
+}
+
+// An unsigned number of two or of four bytes as one of four.
+fn widen(element: Element) -> Element
+    ensures { result ≡ widened element }
+{
+    match element {
+        Element::Short(n) => Element::Long(u32::from(n)),
+        other => other,
+    }
+}

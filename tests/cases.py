@@ -1,0 +1,185 @@
+"""Reads the files of cases. cases/README.md says how they are written."""
+
+import json
+import os
+from dataclasses import dataclass, field
+
+from blocks import Blocks, Misspelled
+
+OLD = b"old"  # what stands in OUT before
+
+
+@dataclass
+class Case:
+    """One run of the program, and what is due."""
+
+    name: str
+    words: list = field(default_factory=list)
+    files: dict = field(default_factory=dict)
+    folders: list = field(default_factory=list)
+    input: bytes = b""
+    input_from: str = ""
+    in_pieces: int = 0
+    endless: bytes = b""
+    output_to: str = ""
+    status: int = 0
+    output: object = None  # the bytes that are due, where they are fixed
+    lines: object = None  # the number of lines that are due, where that alone is fixed
+    left: dict = field(default_factory=dict)  # files and the bytes that they hold afterwards
+    absent: list = field(default_factory=list)  # files that must not be there afterwards
+    refuses_growths: bool = False
+
+
+@dataclass
+class Sweep:
+    """Many blocks that come of one. The normal form of each that is accepted is its own normal form, and the others are refused."""
+
+    name: str
+    blocks: list
+    normal: object = None  # the one normal form of them all, where each must be accepted
+
+
+def fixed(line):
+    return f"{line}\n".encode()
+
+
+def normal_forms(blocks, entry, ways):
+    block = blocks.bytes_of(entry["block"])
+    normal = blocks.bytes_of(entry["normal"]) if "normal" in entry else block
+    if "filter" in ways:
+        yield Case(f"{entry['name']}, through standard input", input=block, output=normal)
+    if "commands" in ways:
+        yield Case(
+            f"{entry['name']}, by normalise",
+            words=["normalise", "a", "OUT"],
+            files={"a": block, "OUT": OLD},
+            output=b"",
+            left={"a": block, "OUT": normal},
+        )
+
+
+def refusals(blocks, entry, ways):
+    block = blocks.bytes_of(entry["block"])
+    due = {"status": 2, "output": fixed(f"refused: {entry['refused']}")}
+    if "filter" in ways:
+        yield Case(f"{entry['name']}, through standard input", input=block, **due)
+    if "commands" in ways:
+        yield Case(f"{entry['name']}, by check", words=["check", "a"], files={"a": block}, **due)
+
+
+def comparisons(blocks, entry, ways):
+    if "commands" not in ways:
+        return
+    files = {"a": blocks.bytes_of(entry["first"]), "b": blocks.bytes_of(entry["second"])}
+    due = {"status": 0 if entry["same"] else 1, "output": fixed("same" if entry["same"] else "different")}
+    yield Case(f"{entry['name']}, by compare", words=["compare", "a", "b"], files=files, **due)
+    yield Case(f"{entry['name']}, by compare the other way round", words=["compare", "b", "a"], files=files, **due)
+
+
+def texts(blocks, entry, ways):
+    if "commands" not in ways:
+        return
+    block = blocks.bytes_of(entry["block"])
+    for command in ("check", "show", "captions"):
+        if command in entry:
+            text = entry[command]
+            case = Case(f"{entry['name']}, by {command}", words=[command, "a"], files={"a": block})
+            if isinstance(text, int):
+                case.lines = text
+            else:
+                case.output = b"".join(map(fixed, text if isinstance(text, list) else [text]))
+            yield case
+
+
+def runs(blocks, entry, ways):
+    """A run written out: its words, files and streams, and what is due."""
+    known = {"name", "words", "files", "folders", "input", "input from", "in pieces", "endless", "output to"}
+    known |= {"status", "output", "line", "text", "lines", "left", "absent"}
+    if set(entry) - known:
+        raise Misspelled(f"unknown words {sorted(set(entry) - known)} in {entry['name']!r}")
+    output = None
+    if "output" in entry:
+        output = blocks.bytes_of(entry["output"])
+    elif "line" in entry or "text" in entry:
+        output = b"".join(map(fixed, entry.get("text", [entry.get("line")])))
+    yield Case(
+        entry["name"],
+        words=entry.get("words", []),
+        files={name: blocks.bytes_of(it) for name, it in entry.get("files", {}).items()},
+        folders=entry.get("folders", []),
+        input=blocks.bytes_of(entry.get("input", "")),
+        input_from=entry.get("input from", ""),
+        in_pieces=entry.get("in pieces", 0),
+        endless=blocks.bytes_of(entry.get("endless", "")),
+        output_to=entry.get("output to", ""),
+        status=entry.get("status", 0),
+        output=output,
+        lines=entry.get("lines"),
+        left={name: blocks.bytes_of(it) for name, it in entry.get("left", {}).items()},
+        absent=entry.get("absent", []),
+    )
+
+
+def sweeps(blocks, entry, ways):
+    if "filter" not in ways:
+        return
+    block = blocks.bytes_of(entry["block"])
+    normal = blocks.bytes_of(entry["normal"]) if "normal" in entry else None
+    if entry["each"] == "cut":
+        made = [block[:n] for n in range(len(block))]
+    else:
+        at, width = entry["at"], entry["width"]
+        numbers = {"offset": [*range(len(block) + 1), 0xFFFFFFFF], "byte": range(256)}[entry["each"]]
+        made = [block[:at] + n.to_bytes(width, "big") + block[at + width :] for n in numbers]
+    yield Sweep(entry["name"], made, normal)
+
+
+TABLES = {
+    "normal forms": normal_forms,
+    "refusals": refusals,
+    "comparisons": comparisons,
+    "texts": texts,
+    "runs": runs,
+    "sweeps": sweeps,
+}
+
+
+def read_file(path, ways, shared):
+    with open(path, encoding="utf-8") as it:
+        tables = json.load(it)
+    blocks = Blocks({**shared, **tables.pop("blocks", {})})
+    tables.pop("about", None)
+    refuses_all = tables.pop("refuse growths", False)
+    for table, entries in tables.items():
+        if table not in TABLES:
+            raise Misspelled(f"{path}: no table is named {table!r}")
+        for entry in entries:
+            refuses = entry.pop("refuse growths", refuses_all)
+            for case in TABLES[table](blocks, entry, ways):
+                if isinstance(case, Case):
+                    case.refuses_growths = refuses
+                yield case
+
+
+def read_list(path):
+    """The files of cases that are run, each with its ways."""
+    with open(path, encoding="utf-8") as it:
+        for line in it:
+            name, colon, ways = line.partition("#")[0].partition(":")
+            if colon:
+                yield name.strip(), ways.split()
+            elif name.strip():
+                raise Misspelled(f"{path}: a line is NAME: WAY .., and not {line.strip()!r}")
+
+
+def read_all(folder):
+    with open(os.path.join(folder, "cases", "blocks.json"), encoding="utf-8") as it:
+        shared = json.load(it)["blocks"]
+    found, names = [], set()
+    for name, ways in read_list(os.path.join(folder, "cases.txt")):
+        for case in read_file(os.path.join(folder, "cases", f"{name}.json"), ways, shared):
+            if case.name in names:
+                raise Misspelled(f"two cases are named {case.name!r}")
+            names.add(case.name)
+            found.append(case)
+    return found

@@ -1,0 +1,77 @@
+"""Runs a case with each of the program's growths refused in turn: first the first call for memory, then the second, and
+so on until a run meets no refusal. Each run answers as the case says, or it says that memory was refused."""
+
+import os
+import shutil
+import subprocess
+
+from program import run
+
+HERE = os.path.dirname(os.path.abspath(__file__))
+MOST_GROWTHS = 20000
+SECONDS = 20
+
+
+class NoShim(Exception):
+    """The library that refuses growths can't be made."""
+
+
+def make_shim(folder):
+    """Compiles the library and returns its path."""
+    compiler = shutil.which("cc") or shutil.which("gcc")
+    if not compiler:
+        raise NoShim("there is no C compiler cc: refused growths can't be tested without one")
+    shim = os.path.join(folder, "refuse_growth.so")
+    words = [compiler, "-shared", "-fPIC", "-O1", "-o", shim, os.path.join(HERE, "refuse_growth.c"), "-ldl"]
+    ran = subprocess.run(words, stdin=subprocess.DEVNULL, capture_output=True, text=True)
+    if ran.returncode:
+        raise NoShim(f"{compiler} did not compile refuse_growth.c: {ran.stderr.strip()}")
+    return shim
+
+
+def run_refusing(program, shim, case, number):
+    """Runs the case with this growth refused, and returns the outcome and whether the growth was met."""
+    hears, tells = os.pipe()
+    try:
+        environment = {"LD_PRELOAD": shim, "REFUSE_GROWTH": str(number), "REFUSE_GROWTH_TELLS": str(tells)}
+        outcome = run(program, case, environment, SECONDS, keeps_open=(tells,))
+    finally:
+        os.close(tells)
+    with os.fdopen(hears, "rb") as it:
+        return outcome, it.read() != b""
+
+
+def out_of_memory(case):
+    """The lines that may say so: compare names the file, where it has opened one."""
+    sides = ["", " in file 1", " in file 2"] if case.words[:1] == ["compare"] else [""]
+    return [f"failed: OutOfMemory{it}\n".encode() for it in sides]
+
+
+def says_out_of_memory(case, outcome):
+    """Whether the run says that memory was refused, wrote nothing else, and left the files as they were; OUT may be empty."""
+    kept = {name: octets for name, octets in outcome.files.items() if name != "OUT"}
+    were = {name: octets for name, octets in case.files.items() if name != "OUT"}
+    return (
+        outcome.status == 4
+        and outcome.output in out_of_memory(case)
+        and outcome.complaints == b""
+        and kept == were
+        and outcome.files.get("OUT", b"") in (b"", case.files.get("OUT", b""))
+    )
+
+
+def complaints_under_refusals(program, shim, case, complaints_of):
+    """Returns what is wrong, and how many growths were refused."""
+    bad = []
+    for number in range(1, MOST_GROWTHS + 1):
+        outcome, was_met = run_refusing(program, shim, case, number)
+        if was_met and says_out_of_memory(case, outcome):
+            continue
+        wrong = complaints_of(case, outcome)
+        if wrong:
+            bad.append(f"with growth {number} refused: {'; '.join(wrong)}")
+        if not was_met:
+            return bad, number - 1
+        if len(bad) >= 3:
+            return [*bad, "no more growths were tried"], number
+    return [*bad, f"{MOST_GROWTHS} growths were refused and the program went on"], MOST_GROWTHS

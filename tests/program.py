@@ -1,0 +1,91 @@
+"""Runs a program as a user does, in a new folder with the files of a case, and tells what it left."""
+
+import os
+import subprocess
+import tempfile
+import threading
+from dataclasses import dataclass, field
+
+
+@dataclass
+class Outcome:
+    status: object  # a number; below 0 the signal that stopped it; or 'no end' where it had to be stopped
+    output: bytes
+    complaints: bytes  # what came on standard error
+    files: dict = field(default_factory=dict)
+
+
+def run(program, case, environment=None, seconds=120, keeps_open=()):
+    """Runs the program on the case's words, files and input."""
+    with tempfile.TemporaryDirectory() as folder:
+        for name in case.folders:
+            os.mkdir(os.path.join(folder, name))
+        for name, octets in case.files.items():
+            with open(os.path.join(folder, name), "wb") as it:
+                it.write(octets)
+        outcome = run_in(folder, program, case, environment, seconds, keeps_open)
+        for name in sorted(set(os.listdir(folder)) - set(case.folders)):
+            with open(os.path.join(folder, name), "rb") as it:
+                outcome.files[name] = it.read()
+        return outcome
+
+
+def run_in(folder, program, case, environment, seconds, keeps_open):
+    given = os.open(os.path.join(folder, case.input_from), os.O_RDONLY) if case.input_from else subprocess.PIPE
+    taken = open(case.output_to, "wb") if case.output_to else subprocess.PIPE
+    try:
+        started = subprocess.Popen(
+            [program, *case.words],
+            cwd=folder,
+            stdin=given,
+            stdout=taken,
+            stderr=subprocess.PIPE,
+            env={"PATH": os.environ.get("PATH", ""), "LANG": "C", **(environment or {})},
+            pass_fds=keeps_open,
+        )
+    finally:
+        if case.input_from:
+            os.close(given)
+        if case.output_to:
+            taken.close()
+    said = {"stdout": b"", "stderr": b""}
+    threads = [
+        threading.Thread(target=take, args=(started, name, said), daemon=True)
+        for name in said
+        if getattr(started, name)
+    ]
+    if started.stdin:
+        threads.append(threading.Thread(target=feed, args=(started.stdin, case), daemon=True))
+    for it in threads:
+        it.start()
+    try:
+        status = started.wait(seconds)
+    except subprocess.TimeoutExpired:
+        started.kill()
+        started.wait()
+        status = "no end"
+    for it in threads:
+        it.join(20)
+    return Outcome(status, said["stdout"], said["stderr"])
+
+
+def take(started, name, said):
+    with getattr(started, name) as stream:
+        said[name] = stream.read()
+
+
+def feed(stream, case):
+    """Writes the case's input, in pieces where it asks for that, and then what it repeats without end."""
+    piece = case.in_pieces or max(len(case.input), 1)
+    try:
+        for at in range(0, len(case.input), piece):
+            stream.write(case.input[at : at + piece])
+            stream.flush()
+        while case.endless:
+            stream.write(case.endless * 65536)
+    except OSError:
+        pass  # the program reads no more
+    try:
+        stream.close()
+    except OSError:
+        pass

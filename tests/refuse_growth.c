@@ -1,0 +1,96 @@
+/* Refuses one call for memory of a program, so that a test sees what the program answers then.
+ *
+ * Compiled as a shared library and preloaded. REFUSE_GROWTH=N refuses the Nth call of malloc, calloc, realloc,
+ * aligned_alloc, memalign or posix_memalign, as the system does where there is no memory: a null pointer and ENOMEM
+ * (posix_memalign: ENOMEM as its result). Every other call is the C library's own. REFUSE_GROWTH_TELLS=FD has one
+ * byte written to that open file where a call was refused, so that a run that meets no refusal is known as such.
+ *
+ * Calls are counted from the program's main to its return, and not while the C library and the loader start: the
+ * library stands in for __libc_start_main, which gets the program's main, and hands it a main that begins to count.
+ */
+#define _GNU_SOURCE
+#include <dlfcn.h>
+#include <errno.h>
+#include <stddef.h>
+#include <stdlib.h>
+#include <unistd.h>
+
+typedef int Main(int, char **, char **);
+typedef int Start(Main *, int, char **, void (*)(void), void (*)(void), void (*)(void), void *);
+
+static Main *program_main;
+static int is_counting;
+static long until_refused;
+static int tells = -1;
+
+static long number_in(const char *name, long otherwise) {
+    const char *text = getenv(name);
+    return text ? strtol(text, NULL, 10) : otherwise;
+}
+
+static int counting_main(int count, char **words, char **environment) {
+    until_refused = number_in("REFUSE_GROWTH", 0);
+    tells = (int)number_in("REFUSE_GROWTH_TELLS", -1);
+    is_counting = 1;
+    int status = program_main(count, words, environment);
+    is_counting = 0;
+    return status;
+}
+
+int __libc_start_main(Main *main, int count, char **words, void (*init)(void), void (*fini)(void),
+                      void (*loader_fini)(void), void *stack_end) {
+    Start *start = (Start *)dlsym(RTLD_NEXT, "__libc_start_main");
+    program_main = main;
+    return start(counting_main, count, words, init, fini, loader_fini, stack_end);
+}
+
+/* Whether this call is the one to be refused. */
+static int is_refused(void) {
+    if (!is_counting || until_refused <= 0 || --until_refused > 0)
+        return 0;
+    if (tells >= 0 && write(tells, "r", 1) != 1)
+        _exit(99);
+    errno = ENOMEM;
+    return 1;
+}
+
+/* The C library's own function of this name. */
+#define OWN(name, type) \
+    static type *own; \
+    if (!own) \
+        own = (type *)dlsym(RTLD_NEXT, name)
+
+typedef void *Malloc(size_t);
+typedef void *Pair(size_t, size_t);
+typedef void *Realloc(void *, size_t);
+typedef int PosixMemalign(void **, size_t, size_t);
+
+void *malloc(size_t size) {
+    OWN("malloc", Malloc);
+    return is_refused() ? NULL : own(size);
+}
+
+void *calloc(size_t count, size_t size) {
+    OWN("calloc", Pair);
+    return is_refused() ? NULL : own(count, size);
+}
+
+void *realloc(void *old, size_t size) {
+    OWN("realloc", Realloc);
+    return is_refused() ? NULL : own(old, size);
+}
+
+void *aligned_alloc(size_t alignment, size_t size) {
+    OWN("aligned_alloc", Pair);
+    return is_refused() ? NULL : own(alignment, size);
+}
+
+void *memalign(size_t alignment, size_t size) {
+    OWN("memalign", Pair);
+    return is_refused() ? NULL : own(alignment, size);
+}
+
+int posix_memalign(void **made, size_t alignment, size_t size) {
+    OWN("posix_memalign", PosixMemalign);
+    return is_refused() ? ENOMEM : own(made, alignment, size);
+}
