@@ -4,3 +4,11 @@ pub mod Record
 pub mod View
 pub mod Check
 pub mod Laws
+pub mod KeyLaws
+pub mod GroupLaws
+pub mod GatherLaws
+pub mod SpellingLaws
+pub mod SequenceLaws
+pub mod OctetLaws
+pub mod RecordLaws
+pub mod Reading

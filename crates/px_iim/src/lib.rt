@@ -1,8 +1,10 @@
 //! Caption records of IIM 4.2.
 #![tactic(auto)]
 
+mod dataset;
 mod group;
 mod iim;
+pub mod laws;
 
 pub use group::{All, Item};
 pub use iim::Iim;

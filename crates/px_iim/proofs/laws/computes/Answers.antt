@@ -1,0 +1,5 @@
+use Rattle.px_iim.specs.RecordLaws.{computes}
+use Rattle.px_iim.proofs.laws.computes.Goals as goal
+
+pub returns : goal.returns
+returns c = computes
