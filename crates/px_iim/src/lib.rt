@@ -5,6 +5,8 @@ mod dataset;
 mod group;
 mod iim;
 pub mod laws;
+mod read;
 
 pub use group::{All, Item};
 pub use iim::Iim;
+pub use read::{accepts, read_iim};
