@@ -1,4 +1,6 @@
-pub mod Places
+mod Examples
+pub mod Octets
 pub mod Order
+pub mod Places
 pub mod Records
 pub mod Steps

@@ -1,5 +1,5 @@
 -- A sequence of DataSets is gathered in one way, by putting them one after another.
-use Rattle.std.proofs.Common.{◌≡◌, ◌≤◌, ◌⊎◌, ◌↔◌, ℕ, true, false, inl, inr, refl, sym, ap, subst, ◌∙◌, arith, List, [], ◌∷◌, ◌++◌, length, filter_map, append-nil, append_assoc, length-append}
+use Rattle.std.proofs.Common.{◌≡◌, ◌≤◌, ℕ, true, inl, inr, refl, sym, ap, subst, ◌∙◌, arith, List, [], ◌∷◌, ◌++◌, length, filter_map, append-nil, append_assoc, length-append}
 use Rattle.std.specs.List.{AllByRecursion}
 use Rattle.std.proofs.lemmas.Bool.{cases_Bool}
 use Rattle.std.proofs.lemmas.List.Elements.{filter_map-append}
@@ -46,7 +46,7 @@ leads g h gs hs b a l e = none g l (
     sym (items_here g.rec g.number g gs (at_true g.rec g.number g refl refl)) ∙ e
     ∙ items_past g.rec g.number (h ∷ hs) (b, each_after g.rec g.number h.rec h.number b hs a.0))
 
-no_more : (g : Group) (gs : Record) → AllByRecursion (After g.rec g.number) gs → (rec number : ℕ) → is_at rec number g ≡ true → items_at rec number gs ≡ []
+pub no_more : (g : Group) (gs : Record) → AllByRecursion (After g.rec g.number) gs → (rec number : ℕ) → is_at rec number g ≡ true → items_at rec number gs ≡ []
 no_more g gs a rec number t =
     let p = at_parts rec number g t in
     subst (λ (r : ℕ). items_at r number gs ≡ []) p.0 (subst (λ (n : ℕ). items_at g.rec n gs ≡ []) p.1 (items_past g.rec g.number gs a))

@@ -1,11 +1,10 @@
 -- The laws of records as lists of groups.
-use Rattle.std.proofs.Common.{◌≡◌, ◌≤◌, ◌⊎◌, ◌↔◌, ◌==◌, ℕ, Bool, true, false, ◌&&◌, inl, inr, refl, sym, ap, ap₂, subst, ◌∙◌, arith, eqb-true, eq-eqb, cond, if◌then◌else◌, Option, Some, None, List, [], ◌∷◌, ◌++◌, length, filter_map, append-nil, append_assoc}
+use Rattle.std.proofs.Common.{◌≡◌, ◌==◌, ℕ, true, false, inl, inr, refl, sym, ap, subst, ◌∙◌, eq-eqb, if◌then◌else◌, Option, Some, None, List, [], ◌∷◌, ◌++◌, filter_map, append-nil}
 use Rattle.std.specs.List.{AllByRecursion, cons_option}
-use Rattle.std.proofs.lemmas.Bool.{cond-true, cond-false, cases_Bool, and_parts, and_from, false_from_ne_true, true≢false}
-use Rattle.std.proofs.lemmas.List.Elements.{filter_map-append}
+use Rattle.std.proofs.lemmas.Bool.{cond-true, cond-false, cases_Bool, and_from, true≢false}
 use Rattle.px_iim.specs.DataSet.{DataSet}
-use Rattle.px_iim.specs.Group.{Group, Record, named, is_at, is_before, IsAscending, items_at, item_in, put, gather, Gathers}
-use Rattle.px_iim.specs.KeyLaws.{at_parts, at_true, at_false, before_trans, before_apart, before_true, At, Under, Over, beside}
+use Rattle.px_iim.specs.Group.{Group, Record, named, is_at, is_before, IsAscending, items_at, item_in, put}
+use Rattle.px_iim.specs.KeyLaws.{at_parts, at_true, at_false, before_trans, before_apart, At, beside}
 
 -- an item
 abbrev pub Item : Type 0

@@ -1,5 +1,5 @@
 -- The names of groups, compared.
-use Rattle.std.proofs.Common.{◌≡◌, ◌<◌, ◌⊎◌, ◌==◌, ℕ, nat_lt, true, false, ◌&&◌, ◌||◌, inl, inr, refl, sym, arith, eqb-true, eq-eqb, ltb-true, lt-ltb}
+use Rattle.std.proofs.Common.{◌≡◌, ◌<◌, ◌⊎◌, ◌==◌, ℕ, nat_lt, true, false, ◌&&◌, inl, inr, sym, arith, eqb-true, eq-eqb, ltb-true, lt-ltb}
 use Rattle.std.proofs.lemmas.Bool.{and_parts, and_from, or_cases, or_left, or_right, false_from_ne_true}
 use Rattle.px_iim.specs.Group.{Group, is_at, is_before}
 

@@ -12,3 +12,7 @@ pub mod SequenceLaws
 pub mod OctetLaws
 pub mod RecordLaws
 pub mod Reading
+pub mod NormalLaws
+pub mod BoundLaws
+pub mod FaultLaws
+pub mod ScanLaws

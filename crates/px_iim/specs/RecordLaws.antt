@@ -1,16 +1,16 @@
 -- What a block says is computed, is one record, and is a record.
-use Rattle.std.proofs.Common.{◌≡◌, ◌<◌, ◌≤◌, ◌+◌, ◌*◌, ℕ, zero, suc, nat_le, true, false, if◌then◌else◌, inl, inr, refl, sym, ap, subst, ◌∙◌, arith, le-leb, leb-true, Option, Some, None, option_map, List, [], ◌∷◌, ◌++◌, length, length-append}
+use Rattle.std.proofs.Common.{◌≡◌, ◌<◌, ◌≤◌, ℕ, suc, nat_le, inl, inr, refl, sym, ap, subst, ◌∙◌, arith, le-leb, leb-true, Option, Some, None, option_map, List, [], ◌∷◌, ◌++◌, length, length-append}
 use Rattle.std.specs.List.{AllByRecursion}
 use Rattle.std.proofs.lemmas.Bool.{cond-true, cond-false, cases_Bool}
 use Rattle.px_bytes.specs.Numbers.{AreBytes}
 use Rattle.px_bytes.specs.Parts.{limit}
 use Rattle.px_iim.specs.DataSet.{DataSet, marker, IsSpelling, Spells}
-use Rattle.px_iim.specs.Group.{Group, Record, named, put, gather, Gathers, IsItem, IsGroup, AreGroups, IsRecord}
+use Rattle.px_iim.specs.Group.{Group, Record, named, put, gather, IsItem, IsGroup}
 use Rattle.px_iim.specs.Record.{SaysIim, sequence_of, iim_of}
-use Rattle.px_iim.specs.KeyLaws.{At, beside}
+use Rattle.px_iim.specs.KeyLaws.{beside}
 use Rattle.px_iim.specs.GroupLaws.{new_group, longer, put_nil, put_at, put_under, put_over, put_all}
 use Rattle.px_iim.specs.GatherLaws.{gather_gathers}
-use Rattle.px_iim.specs.SequenceLaws.{IsZero, Parsed, spells_read, spells_long, read_parsed}
+use Rattle.px_iim.specs.SequenceLaws.{Parsed, spells_read, spells_long, read_parsed}
 use Rattle.px_iim.specs.OctetLaws.{bytes_left, bytes_right, each_map, each_append}
 use Rattle.px_iim.specs.Laws.{Computes, OneRecord, SaidIsRecord}
 
@@ -56,6 +56,10 @@ computed_said x i e = elim (cases_Bool (nat_le (length x) limit)) [
 pub computes : Computes
 computes x i = (said_computed x i, computed_said x i)
 
+-- what computes to nothing says nothing
+pub computed_unsaid : (x : List ℕ) → iim_of x ≡ None → (i : Record) → SaysIim x i → ⊥
+computed_unsaid x e i s = let clash : Some i ≡ None = sym (said_computed x i s) ∙ e in absurd (cc)
+
 -- ---- one record
 
 pub one_record : OneRecord
@@ -65,7 +69,7 @@ one_record x i j s t = let e : Some i ≡ Some j = sym (said_computed x i s) ∙
 
 -- in the range of its type
 abbrev pub IsGood : DataSet → Type 0
-IsGood d = (d.rec < 256) × IsItem (new_group d) (d.number, d.octets)
+IsGood d = (d.rec < 256) × IsItem (new_group d).rec (new_group d).number (d.number, d.octets)
 
 spelled_good : (d : DataSet) (a : List ℕ) → AreBytes a → length a ≤ limit → IsSpelling d a → IsGood d
 spelled_good d a b l (c, e, h) =
@@ -82,7 +86,7 @@ spells_good (d ∷ ds) a b l (x, y, e, s, t) =
     (spelled_good d x (bytes_left x y z) (omega arith) s, spells_good ds y (bytes_right x y z) (omega arith) t)
 
 -- an item of a group is one of any group of that name
-item_moves : (g h : Group) → g.rec ≡ h.rec → g.number ≡ h.number → (x : ℕ × List ℕ) → IsItem g x → IsItem h x
+item_moves : (g h : Group) → g.rec ≡ h.rec → g.number ≡ h.number → (x : ℕ × List ℕ) → IsItem g.rec g.number x → IsItem h.rec h.number x
 item_moves g h p q x k = record {
   byte = k.byte;
   member = ap (λ (r : ℕ). named r x.0) (sym p) ∙ k.member ∙ q;
@@ -96,8 +100,8 @@ put_groups d i good h = put_all IsGroup d
     (λ g a k. let e = length-append g.items ((d.number, d.octets) ∷ []) in record {
       byte = k.byte;
       some = omega arith;
-      items = each_append (IsItem (longer d g)) g.items ((d.number, d.octets) ∷ [])
-          (each_map (IsItem g) (IsItem (longer d g)) (item_moves g (longer d g) refl refl) g.items k.items)
+      items = each_append (IsItem (longer d g).rec (longer d g).number) g.items ((d.number, d.octets) ∷ [])
+          (each_map (IsItem g.rec g.number) (IsItem (longer d g).rec (longer d g).number) (item_moves g (longer d g) refl refl) g.items k.items)
           (item_moves (new_group d) (longer d g) (sym a.1) (sym a.2) (d.number, d.octets) good.1, tt);
     }) i h
 

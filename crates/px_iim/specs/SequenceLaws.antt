@@ -1,11 +1,11 @@
 -- The DataSets of a block, read one behind another.
-use Rattle.std.proofs.Common.{◌≡◌, ◌<◌, ◌≤◌, ◌+◌, ◌*◌, ◌==◌, ℕ, zero, suc, nat_le, Bool, true, false, ◌&&◌, if◌then◌else◌, inl, inr, refl, sym, ap, subst, ◌∙◌, arith, eqb-true, eq-eqb, leb-true, le-leb, Option, Some, None, option_map, List, [], ◌∷◌, ◌++◌, length, take, drop, drop_at, length-append, append_assoc, append-nil, slice_index}
+use Rattle.std.proofs.Common.{◌≡◌, ◌≤◌, ◌*◌, ◌==◌, ℕ, zero, suc, nat_le, Bool, true, false, inl, inr, refl, sym, ap, subst, ◌∙◌, arith, eqb-true, eq-eqb, leb-true, le-leb, Option, Some, None, option_map, List, [], ◌∷◌, ◌++◌, length, take, drop, drop_at, length-append, append_assoc, append-nil}
 use Rattle.std.specs.List.{AllByRecursion, list_all}
 use Rattle.std.proofs.lemmas.Bool.{cond-true, cond-false, cases_Bool, and_parts, and_from, false_from_ne_true}
 use Rattle.std.proofs.lemmas.List.{take-append-drop}
 use Rattle.px_iim.specs.DataSet.{DataSet, marker, IsSpelling, Spells}
 use Rattle.px_iim.specs.Record.{size, is_marked, is_dataset, dataset, is_end, sequence_of}
-use Rattle.px_iim.specs.SpellingLaws.{Holds, dataset_holds, Begins, spelled_begins, dataset_spelled}
+use Rattle.px_iim.specs.SpellingLaws.{dataset_holds, spelled_begins, dataset_spelled}
 
 -- ---- the end
 
@@ -104,7 +104,7 @@ pub record Parsed (ds : List DataSet) (x : List ℕ) : Type 0 where
   pub short : length zeros ≤ 3
   pub blank : AllByRecursion IsZero zeros
 
-parsed_end : (x : List ℕ) → is_dataset x ≡ true → is_end (drop (size x) x) ≡ true → Parsed (dataset x ∷ []) x
+pub parsed_end : (x : List ℕ) → is_dataset x ≡ true → is_end (drop (size x) x) ≡ true → Parsed (dataset x ∷ []) x
 parsed_end x h k =
     let e = end_parts (drop (size x) x) k in record {
       front = take (size x) x;
@@ -116,7 +116,7 @@ parsed_end x h k =
       blank = e.1;
     }
 
-parsed_more : (x : List ℕ) (ds : List DataSet) → is_dataset x ≡ true → Parsed ds (drop (size x) x) → Parsed (dataset x ∷ ds) x
+pub parsed_more : (x : List ℕ) (ds : List DataSet) → is_dataset x ≡ true → Parsed ds (drop (size x) x) → Parsed (dataset x ∷ ds) x
 parsed_more x ds h p = record {
   front = take (size x) x ++ p.front;
   zeros = p.zeros;
@@ -138,8 +138,8 @@ unfolding sequence_of
 read_parsed zero x ds e = cc
 read_parsed (suc n) x ds e = elim (cases_Bool (is_dataset x)) [
   | inl h ↦ elim (cases_Bool (is_end (drop (size x) x))) [
-      | inl k ↦ let s : Some (dataset x ∷ []) ≡ Some ds = sym (step_end n x h k) ∙ e in let q : dataset x ∷ [] ≡ ds = cc in subst (λ (z : List DataSet). Parsed z x) q (parsed_end x h k)
-      | inr k ↦ after_step x ds (sequence_of n (drop (size x) x)) h (λ es q. read_parsed n (drop (size x) x) es q) (sym (step_more n x h k) ∙ e)
-    ]
+    | inl k ↦ let s : Some (dataset x ∷ []) ≡ Some ds = sym (step_end n x h k) ∙ e in let q : dataset x ∷ [] ≡ ds = cc in subst (λ (z : List DataSet). Parsed z x) q (parsed_end x h k)
+    | inr k ↦ after_step x ds (sequence_of n (drop (size x) x)) h (λ es q. read_parsed n (drop (size x) x) es q) (sym (step_more n x h k) ∙ e)
+  ]
   | inr h ↦ let clash : None ≡ Some ds = sym (step_none n x h) ∙ e in absurd (cc)
 ]

@@ -1,7 +1,7 @@
 -- What stands at the head of octets, read back from a spelling, and a spelling from what is read.
-use Rattle.std.proofs.Common.{◌≡◌, ◌<◌, ◌≤◌, ◌⊎◌, ◌+◌, ◌-◌, ◌==◌, ℕ, zero, suc, nat_lt, nat_le, Bool, true, false, ◌&&◌, ◌||◌, if◌then◌else◌, inl, inr, refl, sym, ap, ap₂, subst, ◌∙◌, arith, eqb-true, eq-eqb, ltb-true, ltb-false, lt-ltb, leb-true, le-leb, List, [], ◌∷◌, ◌++◌, length, take, drop, take_at, drop_at, take-add, length-append, length-take-le, length-drop, append_assoc, slice_index}
+use Rattle.std.proofs.Common.{◌≡◌, ◌<◌, ◌≤◌, ◌⊎◌, ◌+◌, ◌-◌, ◌==◌, ℕ, suc, nat_lt, nat_le, true, false, ◌&&◌, inl, inr, refl, sym, ap, subst, ◌∙◌, arith, eqb-true, eq-eqb, ltb-true, ltb-false, lt-ltb, leb-true, le-leb, List, [], ◌∷◌, ◌++◌, length, take, drop, take_at, drop_at, take-add, length-append, length-take-le, length-drop, append_assoc, slice_index}
 use Rattle.std.proofs.lemmas.Bool.{cond-true, cond-false, cases_Bool, and_parts, and_from, or_cases, or_left, or_right, false_from_ne_true}
-use Rattle.std.proofs.lemmas.List.{take-append-drop, drop-take, drop-append-le}
+use Rattle.std.proofs.lemmas.List.{drop-take, drop-append-le}
 use Rattle.px_bytes.specs.declared.Order.TheVariants.{Most}
 use Rattle.px_bytes.specs.Numbers.{number}
 use Rattle.px_bytes.specs.NumberLaws.{number-take}

@@ -1,0 +1,5 @@
+use Rattle.px_iim.specs.BoundLaws.{normal_bound}
+use Rattle.px_iim.proofs.laws.normal_bound.Goals as goal
+
+pub returns : goal.returns
+returns c = normal_bound

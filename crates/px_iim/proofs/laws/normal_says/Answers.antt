@@ -1,0 +1,5 @@
+use Rattle.px_iim.specs.NormalLaws.{normal_says}
+use Rattle.px_iim.proofs.laws.normal_says.Goals as goal
+
+pub returns : goal.returns
+returns c = normal_says

@@ -1,0 +1,5 @@
+use Rattle.px_iim.specs.NormalLaws.{normal_tells}
+use Rattle.px_iim.proofs.laws.normal_tells.Goals as goal
+
+pub returns : goal.returns
+returns c = normal_tells
