@@ -4,3 +4,4 @@ pub mod Order
 pub mod Places
 pub mod Records
 pub mod Steps
+pub mod Writes

@@ -16,3 +16,4 @@ pub mod NormalLaws
 pub mod BoundLaws
 pub mod FaultLaws
 pub mod ScanLaws
+pub mod Writing
