@@ -11,7 +11,6 @@ mod same;
 mod strips;
 #[cfg(test)]
 mod tests;
-mod values;
 
 pub use fields::Fields;
 pub use fitting::fits;
@@ -19,4 +18,3 @@ pub use meanings::{ExifPart, Meaning, Thumb};
 pub use roles::{Dir, Role};
 pub use same::same_meaning;
 pub use strips::Strips;
-pub use values::Iim;

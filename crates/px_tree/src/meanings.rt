@@ -1,7 +1,7 @@
 // What a block means.
 use crate::fields::Fields;
 use crate::strips::Strips;
-use crate::values::Iim;
+use px_iim::Iim;
 
 /// The Exif directory, and the Interoperability directory that it may name. CIPA DC-008 4.6.3.
 #[derive(Drop)]

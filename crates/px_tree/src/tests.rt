@@ -1,6 +1,7 @@
 // The calls of `Fields` and `Strips`, and each condition of a meaning that can be written.
-use crate::{Dir, ExifPart, Fields, Meaning, Strips, Thumb, fits, same_meaning};
-use px_field::{Form, Order, Value, read_value, read_whole};
+use crate::{ExifPart, Fields, Meaning, Strips, Thumb, fits, same_meaning};
+use px_bytes::Order;
+use px_field::{Form, Value, read_value, read_whole};
 use px_iim::Iim;
 use std::alloc::{AllocError, Global};
 use std::test::Fail;
