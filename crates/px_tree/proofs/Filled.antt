@@ -1,5 +1,5 @@
 -- What a block says fits: the tree, and each directory has an entry.
-use Rattle.std.proofs.Common.{◌≡◌, ℕ, zero, suc, ◌+◌, ◌*◌, ◌<◌, ◌≤◌, ◌==◌, nat_lt, inl, inr, true, false, ◌&&◌, Option, Some, None, is_some, option_map, option_and_then, find, List, [], ◌∷◌, map, filter_map, length, take, drop, refl, sym, ◌∙◌, ap, ap₂, subst, arith, ltb-false, eq-eqb, eqb-true, ne_eqb, length-take, length-drop}
+use Rattle.std.proofs.Common.{◌≡◌, ℕ, suc, ◌+◌, ◌*◌, ◌<◌, ◌≤◌, ◌==◌, nat_lt, inl, inr, true, false, ◌&&◌, Option, Some, None, is_some, option_map, option_and_then, find, List, [], ◌∷◌, map, filter_map, length, take, drop, refl, sym, ◌∙◌, ap, ap₂, subst, arith, ltb-false, eq-eqb, eqb-true, ne_eqb, length-take, length-drop}
 use Rattle.std.specs.Prelude.{IfSome, ◌⊎◌}
 use Rattle.std.specs.List.{AllByRecursion, cons_option}
 use Rattle.std.proofs.lemmas.Bool.{cond-true, cond-false, cases_Bool, cond_both}
