@@ -9,6 +9,8 @@ pub mod laws;
 mod pending;
 mod read;
 mod same;
+#[cfg(test)]
+mod tests;
 mod write;
 
 pub use group::{All, Item};

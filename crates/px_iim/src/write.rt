@@ -50,11 +50,7 @@ fn put_group<W: Sink>(
     Ok(())
 }
 
-fn put_record<W: Sink>(
-    pending: &mut Pending,
-    writer: &mut W,
-    iim: &Iim,
-) -> Result<(), Failed>
+fn put_record<W: Sink>(pending: &mut Pending, writer: &mut W, iim: &Iim) -> Result<(), Failed>
     requires { W.failed writer.old + 1 < 2 ^ 64 }
     ensures bytes { Puts result (W.bytes_taken writer.old) (W.bytes_taken writer.new) pending.old pending.new (normal_iim iim.now) }
     ensures count { Counts result (W.failed writer.old) (W.failed writer.new) }
