@@ -5,3 +5,4 @@ pub mod Places
 pub mod Records
 pub mod Steps
 pub mod Writes
+pub mod Alike
