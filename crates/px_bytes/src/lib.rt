@@ -1,5 +1,20 @@
-//! Numbers in either byte order, bounded blocks of bytes, ranges that share no byte, the causes of
-//! a refusal, and devices that count their failures.
+//! What every part that reads or writes blocks of metadata stands on: numbers in either byte order,
+//! bytes of bounded length, ranges that share no byte, the causes of a refusal, and readers and
+//! writers that count their failures. It knows nothing of directories, types or DataSets, opens no
+//! file, and takes memory in `Ranges::add` and `read_up_to` alone.
+//!
+//! ```
+//! let header = b"MM\x00\x2a\x00\x00\x00\x08";
+//! let block = Block::new(header).ok().ok_or("too long")?;
+//! let offset = block.u32_at(Order::Most, 4).ok_or("no offset")?;
+//! let mut held = Ranges::new(rt.alloc());
+//! held.add(0, offset)?; // true: nothing was held
+//! held.add(7, 1)?; // false: the header has this byte
+//! let mut spelled = [0u8; 4];
+//! Order::Least.put32(offset, &mut spelled);
+//! let mut writer = Watched::new(Vec::new(rt.alloc()));
+//! write_whole(&mut writer, &spelled).ok().ok_or("a write failed")?; // 08 00 00 00
+//! ```
 #![tactic(auto)]
 
 mod blocks;
@@ -7,6 +22,8 @@ mod causes;
 mod devices;
 mod held;
 mod numbers;
+#[cfg(test)]
+mod tests;
 mod whole;
 
 pub use blocks::{Block, LIMIT};
