@@ -39,7 +39,7 @@ same_sequence (suc n) zero (y ∷ ys) h k = absurd (omega arith)
 same_sequence (suc n) (suc m) x h k =
     let l = size_at_least x in
     ap (λ (o : Option (List DataSet)). if is_dataset x then option_map (λ ds. dataset x ∷ ds) (if is_end (drop (size x) x) then Some [] else o) else None)
-      (same_sequence n m (drop (size x) x) (omega arith) (omega arith))
+    (same_sequence n m (drop (size x) x) (omega arith) (omega arith))
 
 long : (x : List ℕ) → is_dataset x ≡ true → 5 ≤ length x
 unfolding is_dataset
@@ -66,7 +66,7 @@ datasets_more (y ∷ ys) e f =
     let l = size_at_least (y ∷ ys) in
     cond-true (is_dataset (y ∷ ys)) _ _ e
     ∙ ap (option_map (λ ds. dataset (y ∷ ys) ∷ ds))
-      (cond-false (is_end (drop (size (y ∷ ys)) (y ∷ ys))) _ _ f ∙ same_sequence (length ys) (length (drop (size (y ∷ ys)) (y ∷ ys))) (drop (size (y ∷ ys)) (y ∷ ys)) (omega arith) (omega arith))
+    (cond-false (is_end (drop (size (y ∷ ys)) (y ∷ ys))) _ _ f ∙ same_sequence (length ys) (length (drop (size (y ∷ ys)) (y ∷ ys))) (drop (size (y ∷ ys)) (y ∷ ys)) (omega arith) (omega arith))
 
 -- ---- behind a DataSet that was read
 

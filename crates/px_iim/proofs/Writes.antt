@@ -17,9 +17,11 @@ use Rattle.px_iim.specs.BoundLaws.{length-normal_dataset}
 use Rattle.std.proofs.lemmas.Bool.{cond-true, cond-false, cases_lt, lt-leb}
 
 pub owes_more : (a b c : Option (List ℕ)) (h k out octets : List ℕ) → Owes a b h out → Owes b c k (h ++ octets) → Owes a c k (out ++ octets)
-owes_more a b c h k out octets p q =
-    (p.0 ++ q.0, appends_both a b c p.0 q.0 p.1 q.1,
-      append_assoc p.0 q.0 k ∙ ap (λ (l : List ℕ). p.0 ++ l) q.2 ∙ sym (append_assoc p.0 h octets) ∙ ap (λ (l : List ℕ). l ++ octets) p.2)
+owes_more a b c h k out octets p q = (
+  p.0 ++ q.0,
+  appends_both a b c p.0 q.0 p.1 q.1,
+  append_assoc p.0 q.0 k ∙ ap (λ (l : List ℕ). p.0 ++ l) q.2 ∙ sym (append_assoc p.0 h octets) ∙ ap (λ (l : List ℕ). l ++ octets) p.2,
+)
 
 pub owes_stop : (a b c : Option (List ℕ)) (h out octets : List ℕ) → Owes a b h out → AppendsPrefix b c (h ++ octets) → AppendsPrefix a c (out ++ octets)
 owes_stop a b c h out octets p q =
@@ -62,14 +64,14 @@ module _ {X : Type 0} (f : X → List ℕ) (xs : List X) (i : ℕ) (x : X) (read
   pub loop_more : (a b c : Option (List ℕ)) (h k m : List ℕ) → Owes a b k (h ++ flat_map f (take i xs)) → Owes b c m (k ++ f x) → Owes a c m (h ++ flat_map f (take (i + 1) xs))
   loop_more a b c h k m p q =
       subst (Owes a c m) (append_assoc h (flat_map f (take i xs)) (f x) ∙ ap (λ (l : List ℕ). h ++ l) (sym parts_more))
-        (owes_more a b c k m (h ++ flat_map f (take i xs)) (f x) p q)
+      (owes_more a b c k m (h ++ flat_map f (take i xs)) (f x) p q)
 
   pub loop_stop : (a b c : Option (List ℕ)) (h k : List ℕ) → Owes a b k (h ++ flat_map f (take i xs)) → AppendsPrefix b c (k ++ f x) → AppendsPrefix a c (h ++ flat_map f xs)
   loop_stop a b c h k p q =
       let stop = owes_stop a b c k (h ++ flat_map f (take i xs)) (f x) p q in
       let rest = flat_map f (drop (i + 1) xs) in
       let out : h ++ flat_map f (take i xs) ++ f x ++ rest ≡ h ++ flat_map f xs =
-          append_assoc (h ++ flat_map f (take i xs)) (f x) rest ∙ append_assoc h (flat_map f (take i xs)) (f x ++ rest) ∙ ap (λ (l : List ℕ). h ++ l) (sym parts_all) in
+      append_assoc (h ++ flat_map f (take i xs)) (f x) rest ∙ append_assoc h (flat_map f (take i xs)) (f x ++ rest) ∙ ap (λ (l : List ℕ). h ++ l) (sym parts_all) in
       subst (AppendsPrefix a c) out (prefix_first a c (h ++ flat_map f (take i xs) ++ f x) rest stop)
 
   pub grows_more : (old now new : List ℕ) → now ≡ old ++ flat_map f (take i xs) → new ≡ now ++ f x → new ≡ old ++ flat_map f (take (i + 1) xs)
@@ -89,15 +91,21 @@ pub parts_left : {X : Type 0} (f : X → List ℕ) (xs : List X) (i : ℕ) (x : 
     → length (flat_map f (drop i xs)) ≡ length (f x) + length (flat_map f (drop (i + 1) xs))
 parts_left f xs i x read =
     let here : flat_map f (drop i xs) ≡ f x ++ flat_map f (drop (i + 1) xs) =
-        ap (flat_map f) (drop_more xs i x (slice_get_within xs i x read)) ∙ ap (λ y. f y ++ flat_map f (drop (i + 1) xs)) (get_or_from_slice_get xs i x x read) in
+    ap (flat_map f) (drop_more xs i x (slice_get_within xs i x read)) ∙ ap (λ y. f y ++ flat_map f (drop (i + 1) xs)) (get_or_from_slice_get xs i x x read) in
     ap length here ∙ length-append (f x) (flat_map f (drop (i + 1) xs))
 
 -- a length counts no record number
 pub same_length : (r s : ℕ) (xs : List (ℕ × List ℕ)) → length (flat_map (normal_dataset r) xs) ≡ length (flat_map (normal_dataset s) xs)
 same_length r s [] = refl
 same_length r s (x ∷ xs) =
-    omega (arith, length-append (normal_dataset r x) (flat_map (normal_dataset r) xs), length-append (normal_dataset s x) (flat_map (normal_dataset s) xs),
-      length-normal_dataset r x, length-normal_dataset s x, same_length r s xs)
+    omega (
+      arith,
+      length-append (normal_dataset r x) (flat_map (normal_dataset r) xs),
+      length-append (normal_dataset s x) (flat_map (normal_dataset s) xs),
+      length-normal_dataset r x,
+      length-normal_dataset s x,
+      same_length r s xs,
+    )
 
 pub within_past : (n : ℕ) → most < n → None ≡ within_most n
 within_past n h = sym (cond-false (nat_le n most) (Some n) None (lt-leb n most h))
@@ -107,15 +115,15 @@ within_some n m e h = ap (λ (k : ℕ). Some k) e ∙ sym (cond-true (nat_le m m
 
 pub some_within : (n m : ℕ) → Some n ≡ within_most m → (n ≡ m) × (m ≤ most)
 some_within n m e = elim (cases_lt most m) [
-    | inl l ↦ let clash : ◌≡◌ {A = Option ℕ} (Some n) None = e ∙ sym (within_past m l) in absurd (cc)
-    | inr l ↦ let same : ◌≡◌ {A = Option ℕ} (Some n) (Some m) = e ∙ sym (within_some m m refl l) in (cc, l)
-  ]
+  | inl l ↦ let clash : ◌≡◌ {A = Option ℕ} (Some n) None = e ∙ sym (within_past m l) in absurd (cc)
+  | inr l ↦ let same : ◌≡◌ {A = Option ℕ} (Some n) (Some m) = e ∙ sym (within_some m m refl l) in (cc, l)
+]
 
 pub none_more : (m n : ℕ) → None ≡ within_most m → m ≤ n → None ≡ within_most n
 none_more m n e h = elim (cases_lt most m) [
-    | inl l ↦ within_past n (omega arith)
-    | inr l ↦ let clash : ◌≡◌ {A = Option ℕ} None (Some m) = e ∙ sym (within_some m m refl l) in absurd (cc)
-  ]
+  | inl l ↦ within_past n (omega arith)
+  | inr l ↦ let clash : ◌≡◌ {A = Option ℕ} None (Some m) = e ∙ sym (within_some m m refl l) in absurd (cc)
+]
 
 -- what a loop names where there is no item
 abbrev pub no_item : Item
@@ -153,7 +161,7 @@ counted (Some m) n l e f h = let s = some_within m n e in (omega (arith, s.0), o
 
 pub not_counted : (o : Option ℕ) (n l : ℕ) → o ≡ within_most n → l ≡ unwrap_or o 16777217 → limit < l → limit < n
 not_counted None n l e f h = elim (cases_lt most n) [
-    | inl k ↦ omega arith
-    | inr k ↦ let clash : ◌≡◌ {A = Option ℕ} None (Some n) = e ∙ sym (within_some n n refl k) in absurd (cc)
-  ]
+  | inl k ↦ omega arith
+  | inr k ↦ let clash : ◌≡◌ {A = Option ℕ} None (Some n) = e ∙ sym (within_some n n refl k) in absurd (cc)
+]
 not_counted (Some m) n l e f h = let s = some_within m n e in omega (arith, s.0)

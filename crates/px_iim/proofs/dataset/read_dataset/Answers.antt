@@ -15,7 +15,7 @@ unfolding dataset
 value x k n a b =
     let same : 5 + k + n - (5 + k) ≡ n = omega arith in
     let octets : take (5 + k + n - (5 + k)) (drop (5 + k) x) ≡ part x (5 + extra x) (count x) =
-        ap (λ (m : ℕ). take m (drop (5 + k) x)) (same ∙ b) ∙ ap (λ (m : ℕ). take (count x) (drop (5 + m) x)) a in
+    ap (λ (m : ℕ). take m (drop (5 + k) x)) (same ∙ b) ∙ ap (λ (m : ℕ). take (count x) (drop (5 + m) x)) a in
     ap (λ (o : List ℕ). let d : DataSet = record { rec = slice_index x 1; number = slice_index x 2; octets = o } in d) octets
 
 pub returns : goal.returns
@@ -26,5 +26,5 @@ returns c =
     record {
       there = there x (sym c.if-not-is_marked.ensures) c.if-x-lt5.false (sym c.if-not-has_form.ensures) (omega (arith, c.if-x-start.false)) (omega (arith, c.if-x-start.false, c.if-x-start-2.false));
       value = value x c.extra.result c.count-count.result k n;
-      sized = omega arith
+      sized = omega arith;
     }

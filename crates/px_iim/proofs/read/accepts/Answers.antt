@@ -12,7 +12,7 @@ returns-then-bytes c = sym (ap is_some (iim_of-past c.args.bytes.now c.if-bytes.
 pub loop-found-init : goal.loop-found-init
 loop-found-init c = record {
   inside = omega arith;
-  said = sym (ap is_some (iim_of-within c.args.bytes.now c.if-bytes.false) ∙ some_mapped [] (datasets c.args.bytes.now))
+  said = sym (ap is_some (iim_of-within c.args.bytes.now c.if-bytes.false) ∙ some_mapped [] (datasets c.args.bytes.now));
 }
 
 pub returns-in_default : goal.returns-in_default
@@ -47,7 +47,7 @@ loop-found-preserved c =
     let e : is_end (drop (c.loop-found.at + c.in-Ok.found.size) x) ≡ false = sym (ap is_end c.rest-in-loop-found.ensures) ∙ sym c.if-is_end.ensures in
     record {
       inside = inside x c.loop-found.at c.in-Ok.found r c.loop-found.invariant.inside;
-      said = sym (ap is_some (said_more x c.loop-found.at c.in-Ok.found r e) ∙ some_more (found_view c.in-Ok.found) (datasets (drop (c.loop-found.at + c.in-Ok.found.size) x))) ∙ c.loop-found.invariant.said
+      said = sym (ap is_some (said_more x c.loop-found.at c.in-Ok.found r e) ∙ some_more (found_view c.in-Ok.found) (datasets (drop (c.loop-found.at + c.in-Ok.found.size) x))) ∙ c.loop-found.invariant.said;
     }
 
 pub loop-found-smaller : goal.loop-found-smaller

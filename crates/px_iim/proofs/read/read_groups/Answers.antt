@@ -19,7 +19,7 @@ pub loop-record-init : goal.loop-record-init
 loop-record-init c = record {
   inside = omega arith;
   said = ap (λ (i : Record). option_map (gather i) (datasets c.args.bytes.now)) c.new-record.ensures ∙ sym (iim_of-within c.args.bytes.now c.requires);
-  faults = sym (iim_left c.args.bytes.now c.requires)
+  faults = sym (iim_left c.args.bytes.now c.requires);
 }
 
 refuses : (e : Refusal) (x : List ℕ) (at : ℕ) → JudgesAt (Err e) x at → first_false (checks_left at (drop at x)) ≡ first_false (iim_checks x) → Refuses e (iim_checks x)
@@ -47,10 +47,11 @@ returns-then-is_end c =
     let x = c.args.bytes.now in
     let f = c.in_ok-found.found in
     let r : Reads (drop c.loop-record.at x) f = c.in_ok-found.ensures in
-    let e : is_end (drop (c.loop-record.at + f.size) x) ≡ true = sym (ap is_end c.rest.ensures) ∙ sym c.if-is_end.ensures in
-    (sym c.loop-record.invariant.faults ∙ fault_last x c.loop-record.at f r e,
+    let e : is_end (drop (c.loop-record.at + f.size) x) ≡ true = sym (ap is_end c.rest.ensures) ∙ sym c.if-is_end.ensures in (
+      sym c.loop-record.invariant.faults ∙ fault_last x c.loop-record.at f r e,
       sym c.loop-record.invariant.said ∙ ap (option_map (gather c.loop-record.record)) (said_last x c.loop-record.at f r e)
-      ∙ gather_last c.loop-record.record (found_view f) ∙ ap (λ (i : Record). Some i) (sym c.in_ok-push.ensures.done))
+          ∙ gather_last c.loop-record.record (found_view f) ∙ ap (λ (i : Record). Some i) (sym c.in_ok-push.ensures.done),
+    )
 
 pub loop-record-preserved : goal.loop-record-preserved
 loop-record-preserved c =
@@ -61,9 +62,9 @@ loop-record-preserved c =
     record {
       inside = inside x c.loop-record.at f r c.loop-record.invariant.inside;
       said = ap (λ (i : Record). option_map (gather i) (datasets (drop (c.loop-record.at + f.size) x))) c.in_ok-push.ensures.done
-        ∙ sym (gather_more c.loop-record.record (found_view f) (datasets (drop (c.loop-record.at + f.size) x)))
-        ∙ ap (option_map (gather c.loop-record.record)) (sym (said_more x c.loop-record.at f r e)) ∙ c.loop-record.invariant.said;
-      faults = sym (fault_more x c.loop-record.at f r e) ∙ c.loop-record.invariant.faults
+          ∙ sym (gather_more c.loop-record.record (found_view f) (datasets (drop (c.loop-record.at + f.size) x)))
+          ∙ ap (option_map (gather c.loop-record.record)) (sym (said_more x c.loop-record.at f r e)) ∙ c.loop-record.invariant.said;
+      faults = sym (fault_more x c.loop-record.at f r e) ∙ c.loop-record.invariant.faults;
     }
 
 pub loop-record-smaller : goal.loop-record-smaller

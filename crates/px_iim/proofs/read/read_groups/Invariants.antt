@@ -12,7 +12,7 @@ abbrev pub invariant-loop-record : goal.invariant-loop-record
 invariant-loop-record l = record {
   inside : l.at ≤ length l.bytes;
   said : option_map (gather l.record) (datasets (drop l.at l.bytes)) ≡ iim_of l.bytes;
-  faults : first_false (checks_left l.at (drop l.at l.bytes)) ≡ first_false (iim_checks l.bytes)
+  faults : first_false (checks_left l.at (drop l.at l.bytes)) ≡ first_false (iim_checks l.bytes);
 }
 
 abbrev pub decreases-loop-record : goal.decreases-loop-record

@@ -18,4 +18,4 @@ returns-in_err-append_item c =
 pub loop-item-preserved : goal.loop-item-preserved
 loop-item-preserved c =
     grows_more (normal_dataset c.args.rec) (map item_view c.args.items.now) c.loop-item.item-index _ (item_read c.args.items.now c.loop-item.item-index _ c.loop-item-test.true)
-      c.args.out.now.items c.loop-item.out.items c.append_item.new.out.items c.loop-item.invariant c.in_ok-append_item.ensures
+    c.args.out.now.items c.loop-item.out.items c.append_item.new.out.items c.loop-item.invariant c.in_ok-append_item.ensures

@@ -12,4 +12,4 @@ returns-in_err-append_group c =
 pub loop-i-preserved : goal.loop-i-preserved
 loop-i-preserved c =
     grows_more normal_group c.args.iim.now c.loop-i.i (part_view c.group_at-rec.result) c.group_at-rec.ensures
-      c.args.out.now.items c.loop-i.out.items c.append_group.new.out.items c.loop-i.invariant c.in_ok-append_group.ensures
+    c.args.out.now.items c.loop-i.out.items c.append_group.new.out.items c.loop-i.invariant c.in_ok-append_group.ensures

@@ -7,5 +7,5 @@ use Rattle.px_iim.proofs.write.normal_len.Given as goal
 abbrev pub invariant-loop-i : goal.invariant-loop-i
 invariant-loop-i l = record {
   bound : l.total ≤ most;
-  all : l.total + length (normal_iim (drop l.i l.iim)) ≡ length (normal_iim l.iim)
+  all : l.total + length (normal_iim (drop l.i l.iim)) ≡ length (normal_iim l.iim);
 }

@@ -9,5 +9,5 @@ use Rattle.px_iim.proofs.write.put_group.Given as goal
 abbrev pub invariant-loop-item : goal.invariant-loop-item
 invariant-loop-item g l = record {
   owes : Owes (g.W.Sink.bytes_taken l.initial.writer) (g.W.Sink.bytes_taken l.writer) l.pending (l.initial.pending ++ flat_map (normal_dataset l.rec) (take l.item-index (map item_view l.items)));
-  count : g.W.Device.failed l.writer ≡ g.W.Device.failed l.initial.writer
+  count : g.W.Device.failed l.writer ≡ g.W.Device.failed l.initial.writer;
 }

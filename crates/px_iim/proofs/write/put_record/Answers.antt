@@ -9,11 +9,11 @@ pub returns-in_err-put_group-clause-bytes : goal.returns-in_err-put_group-clause
 returns-in_err-put_group-clause-bytes g c =
     let p = err_from_is_err_and c.from_residual.result c.from_residual.ensures.1 in
     rw p.1 (loop_stop normal_group c.args.iim.now c.loop-i.i (part_view c.group_at-rec.result) c.group_at-rec.ensures
-      _ _ _ c.args.pending.now c.loop-i.pending c.loop-i.invariant.owes c.in_err-put_group.ensures.bytes)
+    _ _ _ c.args.pending.now c.loop-i.pending c.loop-i.invariant.owes c.in_err-put_group.ensures.bytes)
 
 pub loop-i-preserved : goal.loop-i-preserved
 loop-i-preserved g c = record {
   owes = loop_more normal_group c.args.iim.now c.loop-i.i (part_view c.group_at-rec.result) c.group_at-rec.ensures
       _ _ _ c.args.pending.now c.loop-i.pending c.put_group.new.pending c.loop-i.invariant.owes c.in_ok-put_group.ensures.bytes;
-  count = c.in_ok-put_group.ensures.count ∙ c.loop-i.invariant.count
+  count = c.in_ok-put_group.ensures.count ∙ c.loop-i.invariant.count;
 }

@@ -7,5 +7,5 @@ use Rattle.px_iim.proofs.write.put_record.Given as goal
 abbrev pub invariant-loop-i : goal.invariant-loop-i
 invariant-loop-i g l = record {
   owes : Owes (g.W.Sink.bytes_taken l.initial.writer) (g.W.Sink.bytes_taken l.writer) l.pending (l.initial.pending ++ normal_iim (take l.i l.iim));
-  count : g.W.Device.failed l.writer ≡ g.W.Device.failed l.initial.writer
+  count : g.W.Device.failed l.writer ≡ g.W.Device.failed l.initial.writer;
 }

@@ -9,5 +9,5 @@ use Rattle.px_iim.proofs.write.with_group.Given as goal
 abbrev pub invariant-loop-item : goal.invariant-loop-item
 invariant-loop-item l = record {
   bound : l.total ≤ most;
-  all : l.total + length (flat_map (normal_dataset 0) (drop l.item-index (map item_view l.items))) ≡ l.initial.total + length (flat_map (normal_dataset 0) (map item_view l.items))
+  all : l.total + length (flat_map (normal_dataset 0) (drop l.item-index (map item_view l.items))) ≡ l.initial.total + length (flat_map (normal_dataset 0) (map item_view l.items));
 }
