@@ -1,0 +1,6 @@
+//! Layouts of a meaning: the normal form, and any other legal one.
+#![tactic(auto)]
+
+mod chunks;
+
+pub use chunks::Chunk;
