@@ -13,7 +13,7 @@ use Rattle.px_layout.specs.Normal.{normal_plan, normal_exif}
 
 -- A block that a legal plan lays out says its meaning, in either order, with any filler byte.
 abbrev pub LegalSays : Type 0
-LegalSays = (m : Meaning) (plan : Plan) (o : Order) (filler : ℕ) → filler < 256 → Fits m → Legal m plan → SaysExif (laid m plan o filler) m
+LegalSays = (m : Meaning) (plan : Plan) (o : Order) (filler : ℕ) → Fits m → Legal m plan → SaysExif (laid m plan o filler) m
 
 -- The normal form is laid out by its plan, which is legal.
 abbrev pub NormalIsLaid : Type 0

@@ -2,5 +2,6 @@
 #![tactic(auto)]
 
 mod chunks;
+pub mod laws;
 
 pub use chunks::Chunk;
