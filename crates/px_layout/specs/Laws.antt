@@ -11,7 +11,7 @@ use Rattle.px_layout.specs.Plans.{Plan, Legal}
 use Rattle.px_layout.specs.Laid.{laid}
 use Rattle.px_layout.specs.Normal.{normal_plan, normal_exif}
 
--- A block that a legal plan lays out says its meaning, in either order, with any filler byte.
+-- A block that a legal plan lays out says its meaning, in either order, with any filler.
 abbrev pub LegalSays : Type 0
 LegalSays = (m : Meaning) (plan : Plan) (o : Order) (filler : ℕ) → Fits m → Legal m plan → SaysExif (laid m plan o filler) m
 

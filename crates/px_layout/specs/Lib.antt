@@ -19,3 +19,4 @@ pub mod LegalLaws
 pub mod RankLaws
 pub mod LineLaws
 pub mod NormalLaws
+pub mod ByteLaws

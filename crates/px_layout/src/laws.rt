@@ -19,3 +19,8 @@ pub fn normal_is_laid()
 pub fn normal_tells()
     ensures { NormalTells }
 {}
+
+/// A block that a plan lays out, with a byte as its filler, is made of bytes.
+pub fn laid_is_bytes()
+    ensures { LaidIsBytes }
+{}
