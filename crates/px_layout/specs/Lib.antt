@@ -20,3 +20,6 @@ pub mod RankLaws
 pub mod LineLaws
 pub mod NormalLaws
 pub mod ByteLaws
+pub mod CostLaws
+pub mod PayLaws
+pub mod BoundLaws

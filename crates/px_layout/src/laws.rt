@@ -24,3 +24,10 @@ pub fn normal_tells()
 pub fn laid_is_bytes()
     ensures { LaidIsBytes }
 {}
+
+/// The normal form of a meaning is at most twice as long as any block that says the meaning.
+pub fn normal_bound()
+    ensures { NormalBound }
+{
+    px_tree::laws::said_fits();
+}
