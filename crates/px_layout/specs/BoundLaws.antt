@@ -2,10 +2,10 @@
 use Rattle.std.proofs.Common.{◌≡◌, ℕ, ◌+◌, ◌*◌, ◌≤◌, nat_le, inl, inr, true, Option, Some, None, option_map, option_and_then, List, [], ◌∷◌, ◌++◌, map, filter_map, flat_map, length, take, drop, refl, sym, ◌∙◌, ap, subst, arith, leb-true, length-take}
 use Rattle.std.specs.Prelude.{IfSome, option_to_list}
 use Rattle.std.specs.List.{AllByRecursion, cons_option}
-use Rattle.std.proofs.lemmas.Bool.{cond-true, cond-false, cond_both, cases_Bool, and_parts}
+use Rattle.std.proofs.lemmas.Bool.{cond-true, cond-false, cases_Bool, and_parts}
 use Rattle.std.proofs.lemmas.List.{length-map, take-take}
 use Rattle.px_bytes.specs.declared.Order.{Order}
-use Rattle.px_bytes.specs.Numbers.{number, AreBytes}
+use Rattle.px_bytes.specs.Numbers.{number}
 use Rattle.px_bytes.specs.Parts.{part, pieces}
 use Rattle.px_bytes.specs.Range.{Range, range}
 use Rattle.px_field.specs.PieceLaws.{length-pieces}
@@ -15,13 +15,13 @@ use Rattle.px_tree.specs.Tree.{Meaning}
 use Rattle.px_tree.specs.Entry.{Entry, entry, short, table_size, has_table, table, entries, raw_size, is_placed, offset, has_raw, IsEntry, IsDirectory, fields}
 use Rattle.px_tree.specs.Directory.{dirs, entries_at, main_at, dir_at}
 use Rattle.px_tree.specs.Thumbnail.{bytes_of, IsInside, jpeg_range, strip_ranges, IsThumbnail}
-use Rattle.px_tree.specs.Footprint.{listed, placed_range, table_range, dir_ranges, ranges_at, thumb_ranges, footprint}
-use Rattle.px_tree.specs.Says.{exif_part, thumbnail, meaning, IsExif, SaysExif}
+use Rattle.px_tree.specs.Footprint.{listed, placed_range, dir_ranges, ranges_at, thumb_ranges, footprint}
+use Rattle.px_tree.specs.Says.{exif_part, thumbnail, meaning, IsExif}
 use Rattle.px_tree.specs.Fits.{Item, field_items, exif_items, thumb_items, items, Fits}
 use Rattle.px_tree.specs.Laws.{SaidFits}
 use Rattle.px_layout.specs.declared.chunks.Chunk.{Chunk}
-use Rattle.px_layout.specs.Chunks.{placed_chunk, dir_chunks, chunks_of_dir, jpeg_chunks, strip_chunks, all_strip_chunks, thumb_chunks, chunks}
-use Rattle.px_layout.specs.Normal.{even, padded_size, normal_plan, normal_exif}
+use Rattle.px_layout.specs.Chunks.{dir_chunks, chunks_of_dir, jpeg_chunks, strip_chunks, all_strip_chunks, thumb_chunks, chunks}
+use Rattle.px_layout.specs.Normal.{padded_size, normal_plan, normal_exif}
 use Rattle.px_layout.specs.Laws.{NormalBound}
 use Rattle.px_layout.specs.EachLaws.{each_append}
 use Rattle.px_layout.specs.RangeLaws.{total, total_le}

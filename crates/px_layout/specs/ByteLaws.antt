@@ -18,7 +18,7 @@ use Rattle.px_field.specs.Values.{spell, IsOf, Value, IsValue, form_in, spelled}
 use Rattle.px_iim.specs.OctetLaws.{bytes_cons, bytes_append}
 use Rattle.px_iim.specs.NormalLaws.{normal_says}
 use Rattle.px_tree.specs.declared.Dir.{Dir}
-use Rattle.px_tree.specs.declared.Dir.TheVariants.{Main, Exif, Interop, Gps, Thumb}
+use Rattle.px_tree.specs.declared.Dir.TheVariants.{Main, Thumb}
 use Rattle.px_tree.specs.declared.Role.{Role}
 use Rattle.px_tree.specs.declared.Role.TheVariants.{Plain, Widened, Record, JpegOffset, JpegLength, StripOffsets, StripLengths, To}
 use Rattle.px_tree.specs.Roles.{role}

@@ -1,5 +1,5 @@
 -- What an entry costs in the normal form: at most twice what it takes where it stands.
-use Rattle.std.proofs.Common.{◌≡◌, ℕ, suc, ◌+◌, ◌*◌, ◌%◌, ◌<◌, ◌≤◌, ◌==◌, nat_lt, if◌then◌else◌, inl, inr, true, false, Bool, Option, Some, None, option_map, find, List, [], ◌∷◌, map, filter_map, length, refl, sym, ◌∙◌, subst, arith, ltb-false}
+use Rattle.std.proofs.Common.{◌≡◌, ℕ, suc, ◌+◌, ◌*◌, ◌%◌, ◌<◌, ◌≤◌, nat_lt, if◌then◌else◌, inl, inr, true, false, Bool, Option, Some, None, option_map, find, List, [], ◌∷◌, map, filter_map, length, refl, sym, ◌∙◌, subst, arith, ltb-false}
 use Rattle.std.specs.Prelude.{◌⊎◌}
 use Rattle.std.specs.List.{AllByRecursion, cons_option}
 use Rattle.std.proofs.Math.Nat.{mod-lt, mod-le}
@@ -8,7 +8,7 @@ use Rattle.px_bytes.specs.Range.{Range, range}
 use Rattle.px_field.specs.Values.{Value}
 use Rattle.px_bytes.specs.declared.Order.{Order}
 use Rattle.px_tree.specs.declared.Dir.{Dir}
-use Rattle.px_tree.specs.Entry.{Entry, raw_size, is_placed, offset, Rising}
+use Rattle.px_tree.specs.Entry.{Entry, raw_size, offset, Rising}
 use Rattle.px_tree.specs.Footprint.{placed_range}
 use Rattle.px_tree.specs.Fits.{Item, Field, item_size, field_items}
 use Rattle.px_layout.specs.declared.chunks.Chunk.{Chunk}

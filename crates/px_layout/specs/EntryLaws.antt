@@ -194,13 +194,7 @@ forbidden Gps = refl
 forbidden Thumb = refl
 
 no_suit : (x : Item) → Suits Forbidden x → ⊥
-no_suit (Field v) h = h
-no_suit (Iptc i) h = h
-no_suit (Link d) h = h
-no_suit AtJpeg h = h
-no_suit (JpegSize n) h = h
-no_suit (AtStrips n) h = h
-no_suit (StripSizes ns) h = h
+no_suit _ h = h
 
 each_tag : (P : ℕ → Type 0) (Q : ℕ × Item → Type 0) → ((i : ℕ × Item) → Q i → P i.0) → (xs : List (ℕ × Item)) → AllByRecursion Q xs → AllByRecursion P (map (λ i. i.0) xs)
 each_tag P Q f [] h = tt

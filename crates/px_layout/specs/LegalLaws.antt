@@ -37,7 +37,7 @@ use Rattle.px_layout.specs.EntryLaws.{NotThere}
 use Rattle.px_layout.specs.TagLaws.{at_some_same, at_some_other, at_fields, each_at, fields_back, entry_found}
 use Rattle.px_layout.specs.PlacedLaws.{block, length_block, near, thumb_here, good_dir, table_here, items_here, some_items, few}
 use Rattle.px_layout.specs.PointerLaws.{main_items_are, main_place, entries_of, fields_of, next_of, exif_items_are, interop_items_are, thumb_items_are, dir_at_plan, begins_is}
-use Rattle.px_layout.specs.PartLaws.{fields_main, fields_exif, fields_thumb, numbers_at_strips, numbers_sizes, offset_jpeg, offset_size, at_jpeg, at_size, at_strips, at_lengths, R, strip_ranges_are, strip_bytes_are, strips_inside_are, strips_near}
+use Rattle.px_layout.specs.PartLaws.{fields_main, fields_exif, fields_thumb, numbers_at_strips, numbers_sizes, offset_jpeg, offset_size, at_jpeg, at_size, at_strips, at_lengths, chunk_range, strip_ranges_are, strip_bytes_are, strips_inside_are, strips_near}
 
 module _ (m : Meaning) (plan : Plan) (o : Order) (filler : ℕ) (f : Fits m) (l : Legal m plan) where
   abbrev b : List ℕ
@@ -63,31 +63,31 @@ module _ (m : Meaning) (plan : Plan) (o : Order) (filler : ℕ) (f : Fits m) (l 
 
   -- ---- the footprint of each directory
 
-  placed_one : (d : Dir) (i : ℕ × Item) → IsHere plan o filler b d i → placed_range o (entry_of plan o filler d i) ≡ option_map (R plan) (placed_chunk d i)
+  placed_one : (d : Dir) (i : ℕ × Item) → IsHere plan o filler b d i → placed_range o (entry_of plan o filler d i) ≡ option_map (chunk_range plan) (placed_chunk d i)
   unfolding placed_range placed_chunk
   placed_one d i h = elim (cases_Bool (nat_lt 4 (item_size i.1))) [
     | inl t ↦ cond-true (is_placed (entry_of plan o filler d i)) (Some (range (offset o (entry_of plan o filler d i)) (raw_size (entry_of plan o filler d i)))) None (placed_as plan o filler b d i h ∙ t)
         ∙ ap₂ (λ x n. Some (range x n)) (offset_is plan o filler b d i h t) (size_is plan o filler b d i h)
-        ∙ sym (ap (option_map (R plan)) (cond-true (nat_lt 4 (item_size i.1)) (Some (Placed d i.0, item_size i.1)) None t))
+        ∙ sym (ap (option_map (chunk_range plan)) (cond-true (nat_lt 4 (item_size i.1)) (Some (Placed d i.0, item_size i.1)) None t))
     | inr n ↦ cond-false (is_placed (entry_of plan o filler d i)) (Some (range (offset o (entry_of plan o filler d i)) (raw_size (entry_of plan o filler d i)))) None (placed_as plan o filler b d i h ∙ n)
-        ∙ sym (ap (option_map (R plan)) (cond-false (nat_lt 4 (item_size i.1)) (Some (Placed d i.0, item_size i.1)) None n))
+        ∙ sym (ap (option_map (chunk_range plan)) (cond-false (nat_lt 4 (item_size i.1)) (Some (Placed d i.0, item_size i.1)) None n))
   ]
 
   same_each : {X Y : Type 0} (g : X → Y) (xs : List X) → AllByRecursion (λ x. g x ≡ g x) xs
   same_each g [] = tt
   same_each g (x ∷ xs) = (refl, same_each g xs)
 
-  ranges_dir : (d : Dir) (xs : List (ℕ × Item)) → items m d ≡ Some xs → dir_ranges b o (at_plan d) ≡ map (R plan) (dir_chunks d xs)
+  ranges_dir : (d : Dir) (xs : List (ℕ × Item)) → items m d ≡ Some xs → dir_ranges b o (at_plan d) ≡ map (chunk_range plan) (dir_chunks d xs)
   unfolding dir_ranges
   ranges_dir d xs is = ap₂ (λ n rs. range (at_plan d) (table_size n) ∷ rs)
       (count_is plan o filler b m d xs (items_here m plan o filler f l d xs is) (some_items m plan o filler f l d xs is) (few m plan o filler f l d xs is) (table_here m plan o filler f l d xs is))
       (ap (filter_map (placed_range o)) (entries_of m plan o filler f l d xs is)
-      ∙ filter_map-each (placed_range o) (entry_of plan o filler d) (λ i. option_map (R plan) (placed_chunk d i)) xs (each_map (IsHere plan o filler b d) (λ i. placed_range o (entry_of plan o filler d i) ≡ option_map (R plan) (placed_chunk d i)) (placed_one d) xs (items_here m plan o filler f l d xs is))
-      ∙ sym (filter_map-map (R plan) (placed_chunk d) (λ i. option_map (R plan) (placed_chunk d i)) xs (same_each (λ i. option_map (R plan) (placed_chunk d i)) xs)))
+      ∙ filter_map-each (placed_range o) (entry_of plan o filler d) (λ i. option_map (chunk_range plan) (placed_chunk d i)) xs (each_map (IsHere plan o filler b d) (λ i. placed_range o (entry_of plan o filler d i) ≡ option_map (chunk_range plan) (placed_chunk d i)) (placed_one d) xs (items_here m plan o filler f l d xs is))
+      ∙ sym (filter_map-map (chunk_range plan) (placed_chunk d) (λ i. option_map (chunk_range plan) (placed_chunk d i)) xs (same_each (λ i. option_map (chunk_range plan) (placed_chunk d i)) xs)))
 
-  ranges_opt : (d : Dir) (x : Option (List (ℕ × Item))) → items m d ≡ x → listed (option_map (dir_ranges b o) (dir_at b o d)) ≡ map (R plan) (chunks_of_dir d (items m d))
-  ranges_opt d None is = ap (λ a. listed (option_map (dir_ranges b o) a)) (not_there d is) ∙ sym (ap (λ x. map (R plan) (chunks_of_dir d x)) is)
-  ranges_opt d (Some xs) is = ap (λ a. listed (option_map (dir_ranges b o) a)) (there d xs is) ∙ ranges_dir d xs is ∙ sym (ap (λ x. map (R plan) (chunks_of_dir d x)) is)
+  ranges_opt : (d : Dir) (x : Option (List (ℕ × Item))) → items m d ≡ x → listed (option_map (dir_ranges b o) (dir_at b o d)) ≡ map (chunk_range plan) (chunks_of_dir d (items m d))
+  ranges_opt d None is = ap (λ a. listed (option_map (dir_ranges b o) a)) (not_there d is) ∙ sym (ap (λ x. map (chunk_range plan) (chunks_of_dir d x)) is)
+  ranges_opt d (Some xs) is = ap (λ a. listed (option_map (dir_ranges b o) a)) (there d xs is) ∙ ranges_dir d xs is ∙ sym (ap (λ x. map (chunk_range plan) (chunks_of_dir d x)) is)
 
   -- ---- the thumbnail
 
@@ -141,7 +141,7 @@ module _ (m : Meaning) (plan : Plan) (o : Order) (filler : ℕ) (f : Fits m) (l 
         ∙ ap₂ (λ x n. Some (range x n)) (offset_jpeg plan o filler b Thumb jpeg_offset_tag p) (offset_size plan o filler b Thumb jpeg_length_tag (length x) (omega arith))
 
     -- the strips
-    strips_are : (s : Option (List (List ℕ))) → t.strips ≡ s → strip_ranges b o es ≡ option_map (λ s. map (R plan) (strip_chunks 0 s)) s
+    strips_are : (s : Option (List (List ℕ))) → t.strips ≡ s → strip_ranges b o es ≡ option_map (λ s. map (chunk_range plan) (strip_chunks 0 s)) s
     unfolding strip_ranges
     strips_are None q = ap₂ (both (λ x n. ranges_of (numbers b o x) (numbers b o n))) (found strip_offsets_tag None (at_strips t fit ∙ ap (option_map (λ s. AtStrips (length s))) q)) (found strip_lengths_tag None (at_lengths t fit ∙ ap (option_map (λ s. StripSizes (map (λ x. length x) s))) q))
     strips_are (Some s) q =
@@ -174,11 +174,11 @@ module _ (m : Meaning) (plan : Plan) (o : Order) (filler : ℕ) (f : Fits m) (l 
     unfolding thumbnail
     thumb_is i = record { fields = (fields_of m plan o filler f l Thumb (thumb_items t) items_are ∙ fields_thumb t) i; jpeg = thumb_jpeg t.jpeg refl i; strips = thumb_strips t.strips refl i }
 
-    ranges_thumb : thumb_ranges b o (at_plan Thumb) ≡ map (R plan) (jpeg_chunks t.jpeg ++ all_strip_chunks t.strips)
+    ranges_thumb : thumb_ranges b o (at_plan Thumb) ≡ map (chunk_range plan) (jpeg_chunks t.jpeg ++ all_strip_chunks t.strips)
     unfolding thumb_ranges
     ranges_thumb = ap₂ (λ j s. option_to_list j ++ listed s) (jpeg_is t.jpeg refl) (strips_are t.strips refl) ∙ joined t.jpeg t.strips
       where
-        joined : (j : Option (List ℕ)) (s : Option (List (List ℕ))) → option_to_list (option_map (λ x. range (place plan Jpeg) (length x)) j) ++ listed (option_map (λ s. map (R plan) (strip_chunks 0 s)) s) ≡ map (R plan) (jpeg_chunks j ++ all_strip_chunks s)
+        joined : (j : Option (List ℕ)) (s : Option (List (List ℕ))) → option_to_list (option_map (λ x. range (place plan Jpeg) (length x)) j) ++ listed (option_map (λ s. map (chunk_range plan) (strip_chunks 0 s)) s) ≡ map (chunk_range plan) (jpeg_chunks j ++ all_strip_chunks s)
         joined None None = refl
         joined None (Some s) = refl
         joined (Some x) None = refl
@@ -228,7 +228,7 @@ module _ (m : Meaning) (plan : Plan) (o : Order) (filler : ℕ) (f : Fits m) (l 
   thumb_checked None q = subst (λ a. IfSome a (IsThumbnail b o)) (sym (no_thumb q)) tt
   thumb_checked (Some t) q = subst (λ a. IfSome a (IsThumbnail b o)) (sym (is_thumb t q)) (thumb_ok t q)
 
-  ranges_of_thumb : (x : Option Thumbnail) → m.thumb ≡ x → listed (option_map (thumb_ranges b o) (dir_at b o Thumb)) ≡ map (R plan) (thumb_chunks x)
+  ranges_of_thumb : (x : Option Thumbnail) → m.thumb ≡ x → listed (option_map (thumb_ranges b o) (dir_at b o Thumb)) ≡ map (chunk_range plan) (thumb_chunks x)
   unfolding thumb_chunks
   ranges_of_thumb None q = ap (λ a. listed (option_map (thumb_ranges b o) a)) (no_thumb q)
   ranges_of_thumb (Some t) q = ap (λ a. listed (option_map (thumb_ranges b o) a)) (is_thumb t q) ∙ ranges_thumb t q
@@ -240,9 +240,9 @@ module _ (m : Meaning) (plan : Plan) (o : Order) (filler : ℕ) (f : Fits m) (l 
   footprint_is : footprint b o ≡ plan_ranges m plan
   unfolding footprint plan_ranges chunks
   footprint_is = ap (λ rs. range 0 8 ∷ rs) (ap₂ (λ a c. a ++ c)
-      (map-flat (R plan) (λ d. chunks_of_dir d (items m d)) (λ d. listed (option_map (dir_ranges b o) (dir_at b o d))) dirs
+      (map-flat (chunk_range plan) (λ d. chunks_of_dir d (items m d)) (λ d. listed (option_map (dir_ranges b o) (dir_at b o d))) dirs
       (ranges_opt Main (items m Main) refl, (ranges_opt Exif (items m Exif) refl, (ranges_opt Interop (items m Interop) refl, (ranges_opt Gps (items m Gps) refl, (ranges_opt Thumb (items m Thumb) refl, tt))))))
-      (ranges_of_thumb m.thumb refl) ∙ sym (map-append (R plan) (flat_map (λ d. chunks_of_dir d (items m d)) dirs) (thumb_chunks m.thumb)))
+      (ranges_of_thumb m.thumb refl) ∙ sym (map-append (chunk_range plan) (flat_map (λ d. chunks_of_dir d (items m d)) dirs) (thumb_chunks m.thumb)))
 
   -- ---- the fields
 

@@ -32,44 +32,14 @@ same_dir Exif Exif h = refl
 same_dir Interop Interop h = refl
 same_dir Gps Gps h = refl
 same_dir Thumb Thumb h = refl
-same_dir Main Exif h = absurd (omega arith)
-same_dir Main Interop h = absurd (omega arith)
-same_dir Main Gps h = absurd (omega arith)
-same_dir Main Thumb h = absurd (omega arith)
-same_dir Exif Main h = absurd (omega arith)
-same_dir Exif Interop h = absurd (omega arith)
-same_dir Exif Gps h = absurd (omega arith)
-same_dir Exif Thumb h = absurd (omega arith)
-same_dir Interop Main h = absurd (omega arith)
-same_dir Interop Exif h = absurd (omega arith)
-same_dir Interop Gps h = absurd (omega arith)
-same_dir Interop Thumb h = absurd (omega arith)
-same_dir Gps Main h = absurd (omega arith)
-same_dir Gps Exif h = absurd (omega arith)
-same_dir Gps Interop h = absurd (omega arith)
-same_dir Gps Thumb h = absurd (omega arith)
-same_dir Thumb Main h = absurd (omega arith)
-same_dir Thumb Exif h = absurd (omega arith)
-same_dir Thumb Interop h = absurd (omega arith)
-same_dir Thumb Gps h = absurd (omega arith)
+same_dir _ _ h = absurd (omega arith)
 
 pub same_chunk-true : (c e : Chunk) → same_chunk c e ≡ true → c ≡ e
 same_chunk-true (Table d) (Table e) h = ap (λ x. Table x) (same_dir d e (eqb-true (dir_number d) (dir_number e) h))
 same_chunk-true (Placed d t) (Placed e u) h = let p = and_parts (dir_number d == dir_number e) (t == u) h in ap₂ (λ x y. Placed x y) (same_dir d e (eqb-true (dir_number d) (dir_number e) p.0)) (eqb-true t u p.1)
 same_chunk-true Jpeg Jpeg h = refl
 same_chunk-true (Strip i) (Strip j) h = ap (λ x. Strip x) (eqb-true i j h)
-same_chunk-true (Table d) (Placed e u) h = cc
-same_chunk-true (Table d) Jpeg h = cc
-same_chunk-true (Table d) (Strip j) h = cc
-same_chunk-true (Placed d t) (Table e) h = cc
-same_chunk-true (Placed d t) Jpeg h = cc
-same_chunk-true (Placed d t) (Strip j) h = cc
-same_chunk-true Jpeg (Table e) h = cc
-same_chunk-true Jpeg (Placed e u) h = cc
-same_chunk-true Jpeg (Strip j) h = cc
-same_chunk-true (Strip i) (Table e) h = cc
-same_chunk-true (Strip i) (Placed e u) h = cc
-same_chunk-true (Strip i) Jpeg h = cc
+same_chunk-true _ _ h = cc
 
 same_chunk-self : (c : Chunk) → same_chunk c c ≡ true
 same_chunk-self (Table d) = eq-eqb (dir_number d) (dir_number d) refl
@@ -199,35 +169,35 @@ line_byte x k d (c ∷ cs) l =
 -- ---- the normal form
 
 module _ (m : Meaning) (f : Fits m) where
-  abbrev P : Plan
-  P = normal_plan m
+  abbrev plan : Plan
+  plan = normal_plan m
 
-  abbrev C : List (Chunk × List ℕ)
-  C = contents P Most 0 m
+  abbrev placed : List (Chunk × List ℕ)
+  placed = contents plan Most 0 m
 
   abbrev bytes_size : Chunk × List ℕ → ℕ
   bytes_size c = length c.1
 
-  names_are : map (λ (c : Chunk × List ℕ). (c.0, length c.1)) C ≡ chunks m
-  names_are = contents_sized P Most 0 m f
+  names_are : map (λ (c : Chunk × List ℕ). (c.0, length c.1)) placed ≡ chunks m
+  names_are = contents_sized plan Most 0 m f
 
-  ranks : Rising (map (λ (c : Chunk × List ℕ). chunk_rank c.0) C)
-  ranks = subst Rising (sym (sym (map-map rank (λ (c : Chunk × List ℕ). (c.0, length c.1)) C) ∙ ap (map rank) names_are)) (chunks_rise m f)
+  ranks : Rising (map (λ (c : Chunk × List ℕ). chunk_rank c.0) placed)
+  ranks = subst Rising (sym (sym (map-map rank (λ (c : Chunk × List ℕ). (c.0, length c.1)) placed) ∙ ap (map rank) names_are)) (chunks_rise m f)
 
   -- the pieces of the plan stand in a line behind the header
-  abbrev D : List (List ℕ)
-  D = map (λ (c : Chunk × List ℕ). c.1) C
+  abbrev bodies : List (List ℕ)
+  bodies = map (λ (c : Chunk × List ℕ). c.1) placed
 
   lined-map : (x : ℕ) (cs : List (Chunk × List ℕ)) → map (λ (y : ℕ × (Chunk × List ℕ)). (y.0, y.1.1)) (lined bytes_size x cs) ≡ lined (λ (c : List ℕ). length c) x (map (λ c. c.1) cs)
   lined-map x [] = refl
   lined-map x (c ∷ cs) = ap (λ ys. (x, c.1) ∷ ys) (lined-map (x + even (length c.1)) cs)
 
-  pieces_are : map (λ (c : Chunk × List ℕ). (place P c.0, c.1)) C ≡ lined (λ (c : List ℕ). length c) 8 D
+  pieces_are : map (λ (c : Chunk × List ℕ). (place plan c.0, c.1)) placed ≡ lined (λ (c : List ℕ). length c) 8 bodies
   unfolding normal_plan
-  pieces_are = ap (λ ns. map (λ (c : Chunk × List ℕ). (found 8 ns c.0, c.1)) C) (sym names_are)
-      ∙ sym (map-map (λ (y : ℕ × (Chunk × List ℕ)). (y.0, y.1.1)) (spot (λ (c : Chunk × List ℕ). c.0) bytes_size 8 (named (λ (c : Chunk × List ℕ). c.0) bytes_size C)) C)
-      ∙ ap (map (λ (y : ℕ × (Chunk × List ℕ)). (y.0, y.1.1))) (found_lined (λ (c : Chunk × List ℕ). c.0) bytes_size 8 C ranks)
-      ∙ lined-map 8 C
+  pieces_are = ap (λ ns. map (λ (c : Chunk × List ℕ). (found 8 ns c.0, c.1)) placed) (sym names_are)
+      ∙ sym (map-map (λ (y : ℕ × (Chunk × List ℕ)). (y.0, y.1.1)) (spot (λ (c : Chunk × List ℕ). c.0) bytes_size 8 (named (λ (c : Chunk × List ℕ). c.0) bytes_size placed)) placed)
+      ∙ ap (map (λ (y : ℕ × (Chunk × List ℕ)). (y.0, y.1.1))) (found_lined (λ (c : Chunk × List ℕ). c.0) bytes_size 8 placed ranks)
+      ∙ lined-map 8 placed
 
   flat-map : (cs : List (Chunk × List ℕ)) → flat_map (λ (c : Chunk × List ℕ). padded c.1) cs ≡ flat_map padded (map (λ c. c.1) cs)
   flat-map [] = refl
@@ -238,55 +208,55 @@ module _ (m : Meaning) (f : Fits m) where
   sizes-map (c ∷ cs) = ap (λ n. even (length c.1) + n) (sizes-map cs)
 
   abbrev line : List ℕ
-  line = flat_map padded D
+  line = flat_map padded bodies
 
   abbrev head : List ℕ
-  head = header P Most 0
+  head = header plan Most 0
 
   normal_as : normal_exif m ≡ head ++ line
   unfolding normal_exif
-  normal_as = ap (λ x. head ++ x) (flat-map C)
+  normal_as = ap (λ x. head ++ x) (flat-map placed)
 
   length_rest : length line ≡ padded_size (chunks m)
-  length_rest = length_line D ∙ sizes-map C ∙ ap padded_size names_are
+  length_rest = length_line bodies ∙ sizes-map placed ∙ ap padded_size names_are
 
-  plan_length : P.length ≡ 8 + padded_size (chunks m)
+  plan_length : plan.length ≡ 8 + padded_size (chunks m)
   unfolding normal_plan
   plan_length = refl
 
-  pub length_normal : length (normal_exif m) ≡ P.length
-  length_normal = ap (λ x. length x) normal_as ∙ length-append head line ∙ ap₂ (λ x y. x + y) (length_header P Most 0) length_rest ∙ sym plan_length
+  pub length_normal : length (normal_exif m) ≡ plan.length
+  length_normal = ap (λ x. length x) normal_as ∙ length-append head line ∙ ap₂ (λ x y. x + y) (length_header plan Most 0) length_rest ∙ sym plan_length
 
   abbrev pieces : List (ℕ × List ℕ)
-  pieces = (0, head) ∷ lined (λ (c : List ℕ). length c) 8 D
+  pieces = (0, head) ∷ lined (λ (c : List ℕ). length c) 8 bodies
 
-  laid_as : laid m P Most 0 ≡ map (byte_at 0 pieces) (range_with_len 0 P.length)
+  laid_as : laid m plan Most 0 ≡ map (byte_at 0 pieces) (range_with_len 0 plan.length)
   unfolding laid laid_pieces
-  laid_as = ap (λ ps. map (byte_at 0 ((0, head) ∷ ps)) (range_with_len 0 P.length)) pieces_are
+  laid_as = ap (λ ps. map (byte_at 0 ((0, head) ∷ ps)) (range_with_len 0 plan.length)) pieces_are
 
   each_byte : (k d : ℕ) → k < length (head ++ line) → get_or (head ++ line) k d ≡ byte_at 0 pieces k
   each_byte k d l =
-      let lh : length head ≡ 8 = length_header P Most 0 in
+      let lh : length head ≡ 8 = length_header plan Most 0 in
       let la : length (head ++ line) ≡ length head + length line = length-append head line in
       elim (cases_lt k 8) [
         | inl a ↦ get_or_append_left head line d k (omega arith) ∙ default head k d (omega arith)
-            ∙ sym (cond-true (nat_le 0 k && nat_lt k (0 + length head)) (slice_index head (k - 0)) (byte_at 0 (lined (λ (c : List ℕ). length c) 8 D) k) (and_from _ _ (le-leb 0 k (omega arith)) (lt-ltb k (0 + length head) (omega arith)))
+            ∙ sym (cond-true (nat_le 0 k && nat_lt k (0 + length head)) (slice_index head (k - 0)) (byte_at 0 (lined (λ (c : List ℕ). length c) 8 bodies) k) (and_from _ _ (le-leb 0 k (omega arith)) (lt-ltb k (0 + length head) (omega arith)))
             ∙ ap (λ j. slice_index head j) (omega arith))
-        | inr a ↦ get_or-append_right head line 8 k d lh a ∙ line_byte 8 (k - 8) d D (omega arith)
-            ∙ ap (byte_at 0 (lined (λ (c : List ℕ). length c) 8 D)) (omega arith)
-            ∙ sym (cond-false (nat_le 0 k && nat_lt k (0 + length head)) (slice_index head (k - 0)) (byte_at 0 (lined (λ (c : List ℕ). length c) 8 D) k) (false_from_ne_true _ (λ e. let q = and_parts (nat_le 0 k) (nat_lt k (0 + length head)) e in let z = ltb-true k (0 + length head) q.1 in omega arith)))
+        | inr a ↦ get_or-append_right head line 8 k d lh a ∙ line_byte 8 (k - 8) d bodies (omega arith)
+            ∙ ap (byte_at 0 (lined (λ (c : List ℕ). length c) 8 bodies)) (omega arith)
+            ∙ sym (cond-false (nat_le 0 k && nat_lt k (0 + length head)) (slice_index head (k - 0)) (byte_at 0 (lined (λ (c : List ℕ). length c) 8 bodies) k) (false_from_ne_true _ (λ e. let q = and_parts (nat_le 0 k) (nat_lt k (0 + length head)) e in let z = ltb-true k (0 + length head) q.1 in omega arith)))
       ]
 
   -- The normal form is what its plan lays out.
-  pub normal_is_laid : normal_exif m ≡ laid m P Most 0
-  normal_is_laid = normal_as ∙ same_lists (head ++ line) (map (byte_at 0 pieces) (range_with_len 0 P.length))
-      (ap (λ x. length x) (sym normal_as) ∙ length_normal ∙ sym (length-laid (byte_at 0 pieces) P.length))
-      (λ k d l. each_byte k d l ∙ sym (laid_at (byte_at 0 pieces) P.length k d (let e = ap (λ x. length x) normal_as in let g = length_normal in omega arith)))
+  pub normal_is_laid : normal_exif m ≡ laid m plan Most 0
+  normal_is_laid = normal_as ∙ same_lists (head ++ line) (map (byte_at 0 pieces) (range_with_len 0 plan.length))
+      (ap (λ x. length x) (sym normal_as) ∙ length_normal ∙ sym (length-laid (byte_at 0 pieces) plan.length))
+      (λ k d l. each_byte k d l ∙ sym (laid_at (byte_at 0 pieces) plan.length k d (let e = ap (λ x. length x) normal_as in let g = length_normal in omega arith)))
       ∙ sym laid_as
 
   -- ---- the plan is legal
 
-  ranges_in_line : map (λ (c : Chunk × ℕ). range (place P c.0) c.1) (chunks m) ≡ map (ranged (λ (c : Chunk × ℕ). c.1)) (lined (λ (c : Chunk × ℕ). c.1) 8 (chunks m))
+  ranges_in_line : map (λ (c : Chunk × ℕ). range (place plan c.0) c.1) (chunks m) ≡ map (ranged (λ (c : Chunk × ℕ). c.1)) (lined (λ (c : Chunk × ℕ). c.1) 8 (chunks m))
   unfolding normal_plan
   ranges_in_line = ap (λ ns. map (λ (c : Chunk × ℕ). range (found 8 ns c.0) c.1) (chunks m)) (sym (map-same (chunks m)))
       ∙ sym (map-map (ranged (λ (c : Chunk × ℕ). c.1)) (spot (λ (c : Chunk × ℕ). c.0) (λ c. c.1) 8 (named (λ (c : Chunk × ℕ). c.0) (λ c. c.1) (chunks m))) (chunks m))
@@ -316,17 +286,17 @@ module _ (m : Meaning) (f : Fits m) where
       | inr q ↦ subst IsSome (sym (cond-false (same_chunk y.0 c) (Some x) (running (x + even y.1) ys c) q)) (back (x + even y.1) ys k (omega arith) e)
     ]
 
-  all_there : (c : Chunk) → IsSome (P.offset c) ↔ Contains (map (λ x. x.0) (chunks m)) c
+  all_there : (c : Chunk) → IsSome (plan.offset c) ↔ Contains (map (λ x. x.0) (chunks m)) c
   unfolding normal_plan
   all_there c = (forth c 8 (chunks m), λ h. back c 8 (chunks m) h.0 h.1 h.2)
 
-  pub normal_is_legal : length (normal_exif m) ≤ limit → Legal m P
+  pub normal_is_legal : length (normal_exif m) ≤ limit → Legal m plan
   unfolding plan_ranges
   normal_is_legal l = record {
     exactly = all_there;
     least = let e = plan_length in omega arith;
     most = let e = length_normal in omega arith;
-    inside = (let e = plan_length in omega arith, subst (AllByRecursion (λ r. r.start + r.size ≤ P.length)) (sym ranges_in_line) (lined_inside (λ (c : Chunk × ℕ). c.1) P.length 8 (chunks m) (let e = plan_length in let t = padded_total (chunks m) in omega arith)));
+    inside = (let e = plan_length in omega arith, subst (AllByRecursion (λ r. r.start + r.size ≤ plan.length)) (sym ranges_in_line) (lined_inside (λ (c : Chunk × ℕ). c.1) plan.length 8 (chunks m) (let e = plan_length in let t = padded_total (chunks m) in omega arith)));
     apart = (
       subst (AllByRecursion (Apart (range 0 8))) (sym ranges_in_line) (apart_from (λ (c : Chunk × ℕ). c.1) (range 0 8) 8 _ (omega arith) (starts_from (λ (c : Chunk × ℕ). c.1) 8 8 (chunks m) (omega arith))),
       subst AllApart (sym ranges_in_line) (lined_apart (λ (c : Chunk × ℕ). c.1) 8 (chunks m)),

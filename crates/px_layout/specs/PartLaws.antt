@@ -2,7 +2,7 @@
 use Rattle.std.proofs.Common.{◌≡◌, ℕ, ◌+◌, ◌^◌, ◌<◌, Option, Some, None, option_map, List, [], ◌∷◌, map, filter_map, flat_map, length, refl, sym, ◌∙◌, ap, ap₂, arith, append-nil}
 use Rattle.std.specs.Prelude.{IfSome}
 use Rattle.std.specs.List.{AllByRecursion, range_with_len}
-use Rattle.px_bytes.specs.Parts.{limit, part, pieces}
+use Rattle.px_bytes.specs.Parts.{pieces}
 use Rattle.px_bytes.specs.declared.Order.{Order}
 use Rattle.px_bytes.specs.Numbers.{number, spelling}
 use Rattle.px_bytes.specs.Range.{Range, range}
@@ -120,18 +120,19 @@ module _ (t : Thumbnail) (f : FitsThumb t) where
 
 -- ---- strips
 
-abbrev pub R : Plan → Chunk × ℕ → Range
-R plan c = range (place plan c.0) c.1
+-- the range of a chunk
+abbrev pub chunk_range : Plan → Chunk × ℕ → Range
+chunk_range plan c = range (place plan c.0) c.1
 
-pub strip_ranges_are : (plan : Plan) (n : ℕ) (s : List (List ℕ)) → ranges_of (map (λ i. place plan (Strip i)) (range_with_len n (length s))) (map (λ x. length x) s) ≡ map (R plan) (strip_chunks n s)
+pub strip_ranges_are : (plan : Plan) (n : ℕ) (s : List (List ℕ)) → ranges_of (map (λ i. place plan (Strip i)) (range_with_len n (length s))) (map (λ x. length x) s) ≡ map (chunk_range plan) (strip_chunks n s)
 strip_ranges_are plan n [] = refl
 strip_ranges_are plan n (x ∷ s) = ap (λ rs. range (place plan (Strip n)) (length x) ∷ rs) (strip_ranges_are plan (n + 1) s)
 
-pub strip_bytes_are : (plan : Plan) (o : Order) (filler : ℕ) (b : List ℕ) (n : ℕ) (s : List (List ℕ)) → AllByRecursion (λ c. Stands b (place plan c.0) c.1) (strip_contents n s) → map (bytes_of b) (map (R plan) (strip_chunks n s)) ≡ s
+pub strip_bytes_are : (plan : Plan) (o : Order) (filler : ℕ) (b : List ℕ) (n : ℕ) (s : List (List ℕ)) → AllByRecursion (λ c. Stands b (place plan c.0) c.1) (strip_contents n s) → map (bytes_of b) (map (chunk_range plan) (strip_chunks n s)) ≡ s
 strip_bytes_are plan o filler b n [] h = refl
 strip_bytes_are plan o filler b n (x ∷ s) h = ap₂ (λ y ys. y ∷ ys) h.0.is (strip_bytes_are plan o filler b (n + 1) s h.1)
 
-pub strips_inside_are : (plan : Plan) (o : Order) (filler : ℕ) (b : List ℕ) (n : ℕ) (s : List (List ℕ)) → AllByRecursion (λ c. Stands b (place plan c.0) c.1) (strip_contents n s) → AllByRecursion (IsInside b) (map (R plan) (strip_chunks n s))
+pub strips_inside_are : (plan : Plan) (o : Order) (filler : ℕ) (b : List ℕ) (n : ℕ) (s : List (List ℕ)) → AllByRecursion (λ c. Stands b (place plan c.0) c.1) (strip_contents n s) → AllByRecursion (IsInside b) (map (chunk_range plan) (strip_chunks n s))
 strips_inside_are plan o filler b n [] h = tt
 strips_inside_are plan o filler b n (x ∷ s) h = (h.0.inside, strips_inside_are plan o filler b (n + 1) s h.1)
 
