@@ -18,7 +18,7 @@ use Rattle.px_tree.specs.declared.Role.TheVariants.{Record}
 use Rattle.px_tree.specs.Roles.{exif_tag, gps_tag, record_tag, jpeg_offset_tag, jpeg_length_tag, strip_offsets_tag, strip_lengths_tag, role, at_tag}
 use Rattle.px_tree.specs.Entry.{Entry, raw, raw_size, is_placed, offset, record_in, fields, table_size, IsDirectory}
 use Rattle.px_tree.specs.Directory.{dir_at, entries_at, entry_with, fields_at, dirs}
-use Rattle.px_tree.specs.Says.{record_at, exif_part, thumbnail, meaning, IsExif, SaysExif}
+use Rattle.px_tree.specs.Says.{record_at, exif_part, thumbnail, meaning, IsExif}
 use Rattle.px_tree.specs.Thumbnail.{both, are_paired, numbers, jpeg_range, ranges_of, strip_ranges, bytes_of, IsInside, IsThumbnail}
 use Rattle.px_tree.specs.Footprint.{placed_range, dir_ranges, thumb_ranges, listed, footprint}
 use Rattle.px_tree.specs.Fits.{Item, Field, Iptc, AtJpeg, JpegSize, AtStrips, StripSizes, item_form, item_size, put_some, link, field_items, main_items, exif_items, thumb_items, items, Allows, FitsField, FitsThumb, IsBytes, Fits}
@@ -26,7 +26,8 @@ use Rattle.px_layout.specs.declared.chunks.Chunk.{Chunk}
 use Rattle.px_layout.specs.declared.chunks.Chunk.TheVariants.{Table, Placed, Jpeg}
 use Rattle.px_layout.specs.Chunks.{placed_chunk, dir_chunks, chunks_of_dir, jpeg_chunks, strip_chunks, all_strip_chunks, thumb_chunks, chunks}
 use Rattle.px_layout.specs.Plans.{Plan, place, Legal, plan_ranges}
-use Rattle.px_layout.specs.Laid.{item_bytes, jpeg_contents, strip_contents, all_strip_contents, thumb_contents, laid}
+use Rattle.px_layout.specs.Laws.{LegalSays}
+use Rattle.px_layout.specs.Laid.{item_bytes, jpeg_contents, strip_contents, all_strip_contents, thumb_contents}
 use Rattle.px_layout.specs.StandLaws.{Stands, length-range}
 use Rattle.px_layout.specs.EachLaws.{each_map, each_left, each_right}
 use Rattle.px_layout.specs.ItemLaws.{IsHere, entry_of, raw_is, form_of-code, iim-normal, size_is, placed_as, offset_is}
@@ -335,6 +336,6 @@ module _ (m : Meaning) (plan : Plan) (o : Order) (filler : ℕ) (f : Fits m) (l 
     apart = subst AllApart (sym footprint_is) l.apart;
   }
 
-  -- A legal block of a meaning that fits says it, in either order, with any filler.
-  pub legal_says : SaysExif (laid m plan o filler) m
-  legal_says = record { order = o; is_block = legal_is_exif; says = sym meaning_is }
+-- A legal block of a meaning that fits says it, in either order, with any filler.
+pub legal_says : LegalSays
+legal_says m plan o filler f l = record { order = o; is_block = legal_is_exif m plan o filler f l; says = sym (meaning_is m plan o filler f l) }

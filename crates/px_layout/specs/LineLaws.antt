@@ -248,8 +248,8 @@ module _ (m : Meaning) (f : Fits m) where
       ]
 
   -- The normal form is what its plan lays out.
-  pub normal_is_laid : normal_exif m ≡ laid m plan Most 0
-  normal_is_laid = normal_as ∙ same_lists (head ++ line) (map (byte_at 0 pieces) (range_with_len 0 plan.length))
+  pub laid_in_line : normal_exif m ≡ laid m plan Most 0
+  laid_in_line = normal_as ∙ same_lists (head ++ line) (map (byte_at 0 pieces) (range_with_len 0 plan.length))
       (ap (λ x. length x) (sym normal_as) ∙ length_normal ∙ sym (length-laid (byte_at 0 pieces) plan.length))
       (λ k d l. each_byte k d l ∙ sym (laid_at (byte_at 0 pieces) plan.length k d (let e = ap (λ x. length x) normal_as in let g = length_normal in omega arith)))
       ∙ sym laid_as
@@ -290,9 +290,9 @@ module _ (m : Meaning) (f : Fits m) where
   unfolding normal_plan
   all_there c = (forth c 8 (chunks m), λ h. back c 8 (chunks m) h.0 h.1 h.2)
 
-  pub normal_is_legal : length (normal_exif m) ≤ limit → Legal m plan
+  pub legal_in_line : length (normal_exif m) ≤ limit → Legal m plan
   unfolding plan_ranges
-  normal_is_legal l = record {
+  legal_in_line l = record {
     exactly = all_there;
     least = let e = plan_length in omega arith;
     most = let e = length_normal in omega arith;

@@ -1,5 +1,5 @@
--- Equal normal forms are those of equal meanings.
-use Rattle.std.proofs.Common.{◌≡◌, ℕ, ◌≤◌, ◌↔◌, List, length, refl, sym, ◌∙◌, ap, subst}
+-- The normal form is a legal block of its meaning, and tells it.
+use Rattle.std.proofs.Common.{◌≡◌, ℕ, ◌≤◌, List, length, refl, sym, ◌∙◌, ap, subst}
 use Rattle.px_bytes.specs.Parts.{limit}
 use Rattle.px_bytes.specs.declared.Order.{Order}
 use Rattle.px_bytes.specs.declared.Order.TheVariants.{Least, Most}
@@ -8,8 +8,9 @@ use Rattle.px_tree.specs.Directory.{magic}
 use Rattle.px_tree.specs.Says.{meaning, SaysExif}
 use Rattle.px_tree.specs.Fits.{Fits}
 use Rattle.px_layout.specs.Normal.{normal_plan, normal_exif}
+use Rattle.px_layout.specs.Laws.{NormalIsLaid, NormalTells}
 use Rattle.px_layout.specs.LegalLaws.{legal_says}
-use Rattle.px_layout.specs.LineLaws.{normal_is_laid, normal_is_legal}
+use Rattle.px_layout.specs.LineLaws.{laid_in_line, legal_in_line}
 
 -- the first bytes tell the order
 magic_tells : (o p : Order) → magic o ≡ magic p → o ≡ p
@@ -24,8 +25,18 @@ one_meaning b s t x y =
     let same : x.order ≡ y.order = magic_tells x.order y.order (sym x.is_block.begins ∙ y.is_block.begins) in
     x.says ∙ ap (meaning b) same ∙ sym y.says
 
-pub normal_says : (s : Meaning) → Fits s → length (normal_exif s) ≤ limit → SaysExif (normal_exif s) s
-normal_says s f l = subst (λ b. SaysExif b s) (sym (normal_is_laid s f)) (legal_says s (normal_plan s) Most 0 f (normal_is_legal s f l))
+-- ---- the normal form
 
-pub normal_tells : (s t : Meaning) → Fits s → Fits t → length (normal_exif s) ≤ limit → length (normal_exif t) ≤ limit → ((normal_exif s ≡ normal_exif t) ↔ (s ≡ t)) × SaysExif (normal_exif s) s
+-- The normal form is laid out by its plan, which is legal.
+pub normal_is_laid : NormalIsLaid
+normal_is_laid m f l = (legal_in_line m f l, laid_in_line m f)
+
+-- So it says its meaning.
+pub normal_says : (s : Meaning) → Fits s → length (normal_exif s) ≤ limit → SaysExif (normal_exif s) s
+normal_says s f l =
+    let is = normal_is_laid s f l in
+    subst (λ b. SaysExif b s) (sym is.1) (legal_says s (normal_plan s) Most 0 f is.0)
+
+-- Meanings have one normal form exactly if they are one.
+pub normal_tells : NormalTells
 normal_tells s t f g l k = ((λ e. one_meaning (normal_exif t) s t (subst (λ b. SaysExif b s) e (normal_says s f l)) (normal_says t g k), λ e. ap normal_exif e), normal_says s f l)

@@ -2,4 +2,4 @@ use Rattle.px_layout.specs.LegalLaws.{legal_says as says}
 use Rattle.px_layout.proofs.laws.legal_says.Goals as goal
 
 pub returns : goal.returns
-returns c = λ m plan o filler f l. says m plan o filler f l
+returns c = says
