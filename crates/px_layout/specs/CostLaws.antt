@@ -16,7 +16,7 @@ use Rattle.px_layout.specs.declared.chunks.Chunk.TheVariants.{Placed}
 use Rattle.px_layout.specs.Chunks.{placed_chunk}
 use Rattle.px_layout.specs.Normal.{even, padded_size}
 use Rattle.px_layout.specs.EachLaws.{each_map}
-use Rattle.px_layout.specs.RangeLaws.{total}
+use Rattle.px_bytes.specs.ApartLaws.{total}
 
 -- ---- padding
 

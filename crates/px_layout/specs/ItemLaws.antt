@@ -12,6 +12,7 @@ use Rattle.px_bytes.specs.NumberLaws.{length-spelling, number-spelling}
 use Rattle.px_field.specs.declared.Form.{Form}
 use Rattle.px_field.specs.declared.Form.TheVariants.{Byte, Ascii, Short, Long, Rational, SByte, Undefined, SShort, SLong, SRational, Float, Double, Utf8}
 use Rattle.px_field.specs.Forms.{code, form_of}
+use Rattle.px_field.specs.FormLaws.{form_of-code, code-lt}
 use Rattle.px_field.specs.Values.{Value, IsValue}
 use Rattle.px_field.specs.ValueLaws.{length-spelled}
 use Rattle.px_field.specs.PieceLaws.{length_joined}
@@ -30,40 +31,6 @@ use Rattle.px_layout.specs.Plans.{Plan, place}
 use Rattle.px_layout.specs.Laid.{long_bytes, item_bytes, last_bytes, entry_bytes}
 use Rattle.px_layout.specs.StandLaws.{Stands, length-range}
 use Rattle.px_layout.specs.EachLaws.{each_all}
-
-pub form_of-code : (f : Form) → form_of (code f) ≡ Some f
-unfolding form_of
-form_of-code Byte = refl
-form_of-code Ascii = refl
-form_of-code Short = refl
-form_of-code Long = refl
-form_of-code Rational = refl
-form_of-code SByte = refl
-form_of-code Undefined = refl
-form_of-code SShort = refl
-form_of-code SLong = refl
-form_of-code SRational = refl
-form_of-code Float = refl
-form_of-code Double = refl
-form_of-code Utf8 = refl
-
-pub code_below : (f : Form) → code f < 2 ^ 16
-code_below f = subst (λ n. n < 2 ^ 16) refl (small f)
-  where
-    small : (f : Form) → code f < 2 ^ 16
-    small Byte = omega arith
-    small Ascii = omega arith
-    small Short = omega arith
-    small Long = omega arith
-    small Rational = omega arith
-    small SByte = omega arith
-    small Undefined = omega arith
-    small SShort = omega arith
-    small SLong = omega arith
-    small SRational = omega arith
-    small Float = omega arith
-    small Double = omega arith
-    small Utf8 = omega arith
 
 -- a record's normal form reads back
 pub iim-normal : (i : Iim) → IsRecord i → length (normal_iim i) ≤ limit → iim_of (normal_iim i) ≡ Some i
@@ -168,7 +135,7 @@ module _ (plan : Plan) (o : Order) (filler : ℕ) where
 
     pub entry_is : entry o (entry_bytes plan o filler d i) ≡ entry_of d i
     unfolding entry_bytes entry_of
-    entry_is = entry-spelled o i.0 (code (item_form i.1)) (item_count i.1) (last_bytes plan o filler d i) h.tag (code_below (item_form i.1)) h.count (length_last d i h.suits)
+    entry_is = entry-spelled o i.0 (code (item_form i.1)) (item_count i.1) (last_bytes plan o filler d i) h.tag (code-lt (item_form i.1)) h.count (length_last d i h.suits)
 
     pub placed_as : is_placed (entry_of d i) ≡ nat_lt 4 (item_size i.1)
     placed_as = ap (nat_lt 4) size_is

@@ -10,6 +10,7 @@ use Rattle.px_bytes.specs.Range.{range, AllApart}
 use Rattle.px_bytes.specs.NumberLaws.{number-spelling}
 use Rattle.px_field.specs.Values.{form_in, Value}
 use Rattle.px_field.specs.Forms.{form_of}
+use Rattle.px_field.specs.FormLaws.{form_of-code}
 use Rattle.px_tree.specs.Iim.{Iim, IsRecord, normal_iim}
 use Rattle.px_tree.specs.declared.Dir.{Dir}
 use Rattle.px_tree.specs.declared.Dir.TheVariants.{Main, Exif, Interop, Gps, Thumb}
@@ -30,7 +31,7 @@ use Rattle.px_layout.specs.Laws.{LegalSays}
 use Rattle.px_layout.specs.Laid.{item_bytes, jpeg_contents, strip_contents, all_strip_contents, thumb_contents}
 use Rattle.px_layout.specs.StandLaws.{Stands, length-range}
 use Rattle.px_layout.specs.EachLaws.{each_map, each_left, each_right}
-use Rattle.px_layout.specs.ItemLaws.{IsHere, entry_of, raw_is, form_of-code, iim-normal, size_is, placed_as, offset_is}
+use Rattle.px_layout.specs.ItemLaws.{IsHere, entry_of, raw_is, iim-normal, size_is, placed_as, offset_is}
 use Rattle.px_layout.specs.ReadLaws.{record_turned}
 use Rattle.px_layout.specs.DirectoryLaws.{filter_map-each, directory_stands, count_is}
 use Rattle.px_layout.specs.SizeLaws.{filter_map-map}

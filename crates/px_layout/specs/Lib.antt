@@ -4,7 +4,6 @@ pub mod Laid
 pub mod Normal
 pub mod Laws
 pub mod EachLaws
-pub mod RangeLaws
 pub mod StandLaws
 pub mod ItemLaws
 pub mod ReadLaws

@@ -10,6 +10,7 @@ use Rattle.px_bytes.specs.NumberLaws.{number-spelling, length-spelling}
 use Rattle.px_field.specs.declared.Form.TheVariants.{Long}
 use Rattle.px_field.specs.Values.{element_of, elements}
 use Rattle.px_field.specs.PieceLaws.{pieces_joined}
+use Rattle.px_field.specs.FormLaws.{form_of-code}
 use Rattle.px_tree.specs.declared.Dir.{Dir}
 use Rattle.px_tree.specs.declared.Dir.TheVariants.{Exif, Interop, Gps, Thumb}
 use Rattle.px_tree.specs.Tree.{ExifPart, Thumbnail, Meaning}
@@ -23,7 +24,7 @@ use Rattle.px_layout.specs.Chunks.{strip_chunks}
 use Rattle.px_layout.specs.Plans.{Plan, place}
 use Rattle.px_layout.specs.Laid.{item_bytes, last_bytes, strip_contents}
 use Rattle.px_layout.specs.StandLaws.{Stands}
-use Rattle.px_layout.specs.ItemLaws.{item_value, item_field, IsHere, entry_of, raw_is, form_of-code}
+use Rattle.px_layout.specs.ItemLaws.{item_value, item_field, IsHere, entry_of, raw_is}
 use Rattle.px_layout.specs.EntryLaws.{no_field, not_put}
 use Rattle.px_layout.specs.TagLaws.{at_some_same, at_some_other, fields_some, fields_back}
 

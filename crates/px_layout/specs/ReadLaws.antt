@@ -13,6 +13,7 @@ use Rattle.px_field.specs.Values.{spell, IsOf, Value, IsValue, form_in, spelled,
 use Rattle.px_field.specs.declared.Kind.{Kind}
 use Rattle.px_field.specs.declared.Kind.TheVariants.{Of, Whole}
 use Rattle.px_field.specs.ValueLaws.{elements-spelled}
+use Rattle.px_field.specs.FormLaws.{form_of-code}
 use Rattle.px_tree.specs.Iim.{iim_of}
 use Rattle.px_tree.specs.declared.Dir.{Dir}
 use Rattle.px_tree.specs.declared.Role.{Role}
@@ -22,7 +23,7 @@ use Rattle.px_tree.specs.Entry.{Entry, raw, has_form, is_allowed, IsEntry, entry
 use Rattle.px_tree.specs.Fits.{Item, Field, Iptc, Link, AtJpeg, JpegSize, AtStrips, StripSizes, item_form, item_count, item_size}
 use Rattle.px_layout.specs.Plans.{Plan}
 use Rattle.px_layout.specs.Laid.{item_bytes}
-use Rattle.px_layout.specs.ItemLaws.{Suits, item_value, item_field, IsHere, entry_of, raw_is, has_raw_is, form_of-code, iim-normal}
+use Rattle.px_layout.specs.ItemLaws.{Suits, item_value, item_field, IsHere, entry_of, raw_is, has_raw_is, iim-normal}
 
 -- the bytes of BYTE and UNDEFINED don't turn with the order
 byte_spelled : (o : Order) (es : List Element) → AllByRecursion (IsOf Byte) es → flat_map (spell o) es ≡ flat_map (spell Least) es
