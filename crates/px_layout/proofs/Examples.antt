@@ -70,7 +70,7 @@ pointers_to exif gps = 0 ∷ 2 ∷ 0x87 ∷ 0x69 ∷ 0 ∷ 4 ∷ 0 ∷ 0 ∷ 0 �
 exif_dir : ℕ → List ℕ
 exif_dir interop = 0 ∷ 1 ∷ 0xA0 ∷ 5 ∷ 0 ∷ 4 ∷ 0 ∷ 0 ∷ 0 ∷ 1 ∷ 0 ∷ 0 ∷ 0 ∷ interop ∷ last
 
--- InteroperabilityIndex, "R98"
+-- InteroperabilityIndex, four bytes of text
 interop_dir : List ℕ
 interop_dir = 0 ∷ 1 ∷ 0 ∷ 1 ∷ 0 ∷ 2 ∷ 0 ∷ 0 ∷ 0 ∷ 4 ∷ 0x52 ∷ 0x39 ∷ 0x38 ∷ 0 ∷ last
 
