@@ -21,3 +21,8 @@ pub mod Told
 pub mod ToldDirs
 pub mod ToldThumb
 pub mod ToldAll
+pub mod Pieces
+pub mod Shapes
+pub mod Raw
+pub mod Kept
+pub mod Loop

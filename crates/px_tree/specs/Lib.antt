@@ -12,3 +12,4 @@ pub mod Faults
 pub mod Laws
 pub mod Places
 pub mod Seen
+pub mod Reading

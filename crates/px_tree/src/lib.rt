@@ -2,6 +2,8 @@
 #![tactic(auto)]
 
 pub mod fault_laws;
+mod entries;
+mod field_reading;
 mod fields;
 mod fitting;
 pub mod laws;
