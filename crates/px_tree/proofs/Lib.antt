@@ -26,3 +26,6 @@ pub mod Shapes
 pub mod Raw
 pub mod Kept
 pub mod Loop
+pub mod Standing
+pub mod Pointers
+pub mod Named

@@ -13,3 +13,5 @@ pub mod Laws
 pub mod Places
 pub mod Seen
 pub mod Reading
+pub mod Linked
+pub mod ReadTree

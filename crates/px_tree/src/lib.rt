@@ -7,10 +7,13 @@ mod field_reading;
 mod fields;
 mod fitting;
 pub mod laws;
+mod links;
 mod meanings;
 mod roles;
 mod same;
 mod strips;
+mod tables;
+mod tree;
 mod values;
 
 pub use fields::Fields;
