@@ -29,3 +29,7 @@ pub mod Loop
 pub mod Standing
 pub mod Pointers
 pub mod Named
+pub mod Earlier
+pub mod Parted
+pub mod Listed
+pub mod StripRanges

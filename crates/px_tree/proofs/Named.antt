@@ -73,6 +73,10 @@ module _ (b : List ℕ) (o : Order) (taken : List Range) where
       ends = s.ends
     }
 
+  -- in the end
+  pub dirs_end : (earlier : List (Option Link)) (held : List (ℕ × ℕ)) → DirsSoFar earlier [] held → Agrees (dirs_held b o taken dirs) held
+  dirs_end earlier held s = subst (λ (rs : List Range). Agrees rs held) s.ends s.agrees
+
 -- ---- the links
 module _ (b : List ℕ) (o : Order) where
   pub names_main : (k : Link) → k.at ≡ main_at b o → k.place ≡ 4 → Names b o Main (Some k)

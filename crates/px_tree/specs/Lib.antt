@@ -15,3 +15,4 @@ pub mod Seen
 pub mod Reading
 pub mod Linked
 pub mod ReadTree
+pub mod Parts

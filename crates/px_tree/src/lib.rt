@@ -13,6 +13,7 @@ mod roles;
 mod same;
 mod strips;
 mod tables;
+mod thumbnail;
 mod tree;
 mod values;
 

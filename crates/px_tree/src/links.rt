@@ -5,7 +5,7 @@ ghost use Rattle.px_tree.specs.Entry.{next, table};
 ghost use Rattle.px_tree.specs.Directory.{entries_at, entry_with, is_pointer, pointer, unless_zero};
 ghost use Rattle.px_tree.specs.Checks.{is_earlier_at, pointer_place};
 ghost use Rattle.px_tree.specs.Reading.{HasTable, bare};
-ghost use Rattle.px_tree.specs.Linked.{IsFound, offsets_of};
+ghost use Rattle.px_tree.specs.Linked.{IsFound, offset_of, offsets_of};
 
 use crate::entries::{Head, head_at, number32};
 use px_bytes::Order;
@@ -84,14 +84,22 @@ pub fn next_link(block: &[u8], order: Order, at: u32, count: u16) -> Option<Link
     Some(Link { at: next, place })
 }
 
+// Whether a link leads to an offset.
+fn leads_to(link: Option<Link>, at: u32) -> bool
+    ensures { result ≡ is_earlier_at (offset_of link) at }
+{
+    match link {
+        Some(link) => link.at == at,
+        None => false,
+    }
+}
+
 // Whether one of the links leads to an offset.
 pub fn is_earlier(earlier: &[Option<Link>], at: u32) -> bool
     ensures { result ≡ is_earlier_at (offsets_of earlier.now) at }
 {
     for link in earlier {
-        if let Some(link) = link
-            && link.at == at
-        {
+        if leads_to(*link, at) {
             return true;
         }
     }

@@ -45,6 +45,16 @@ fn read_linked<'a>(alloc: Global, block: &'a [u8], order: Order, dir: Dir, held:
 }
 
 // The link of a tag in a directory that was read.
+fn link_from(block: &[u8], order: Order, directory: &Directory, tag: u16) -> Option<Link>
+    requires bounded { length block.now ≤ limit }
+    requires stands { HasTable block.now order directory.now.at directory.now.count }
+    ensures leads { option_map (λ l. l.at) result ≡ pointer order tag (entries_at block.now order directory.now.at) }
+    ensures place { IfSome result (λ l. l.place ≡ pointer_place block.now order directory.now.at tag) }
+{
+    find_link(block, order, directory.at, directory.count, tag)
+}
+
+// The link of a tag in a directory, if that is there.
 fn link_in(block: &[u8], order: Order, directory: &Option<Directory>, tag: u16) -> Option<Link>
     requires bounded { length block.now ≤ limit }
     requires stands { IfSome directory.now (λ t. HasTable block.now order t.at t.count) }
@@ -53,8 +63,18 @@ fn link_in(block: &[u8], order: Order, directory: &Option<Directory>, tag: u16) 
 {
     match directory {
         None => None,
-        Some(directory) => find_link(block, order, directory.at, directory.count, tag),
+        Some(directory) => link_from(block, order, directory, tag),
     }
+}
+
+// The link behind a directory that was read.
+fn link_behind(block: &[u8], order: Order, directory: &Directory) -> Option<Link>
+    requires bounded { length block.now ≤ limit }
+    requires stands { HasTable block.now order directory.now.at directory.now.count }
+    ensures leads { option_map (λ l. l.at) result ≡ unless_zero (next order (table block.now order directory.now.at)) }
+    ensures place { IfSome result (λ l. l.place ≡ next_place block.now order directory.now.at) }
+{
+    next_link(block, order, directory.at, directory.count)
 }
 
 // The main directory, which the header names.
@@ -76,13 +96,13 @@ pub fn read_dirs<'a>(alloc: Global, block: &'a [u8], order: Order, held: &mut Ra
 {
     let main_link = link_to_main(block, order);
     let main = read_directory(alloc, block, order, Dir::Main, held, &[], main_link)?;
-    let exif_link = find_link(block, order, main.at, main.count, 0x8769);
+    let exif_link = link_from(block, order, &main, 0x8769);
     let exif = read_linked(alloc, block, order, Dir::Exif, held, &[Some(main_link)], exif_link)?;
     let interop_link = link_in(block, order, &exif, 0xA005);
     let interop = read_linked(alloc, block, order, Dir::Interop, held, &[exif_link, Some(main_link)], interop_link)?;
-    let gps_link = find_link(block, order, main.at, main.count, 0x8825);
+    let gps_link = link_from(block, order, &main, 0x8825);
     let gps = read_linked(alloc, block, order, Dir::Gps, held, &[interop_link, exif_link, Some(main_link)], gps_link)?;
-    let thumb_link = next_link(block, order, main.at, main.count);
+    let thumb_link = link_behind(block, order, &main);
     let thumb = read_linked(alloc, block, order, Dir::Thumb, held, &[gps_link, interop_link, exif_link, Some(main_link)], thumb_link)?;
     Ok(Directories {
         main,
