@@ -33,3 +33,4 @@ pub mod Earlier
 pub mod Parted
 pub mod Listed
 pub mod StripRanges
+pub mod Assembled

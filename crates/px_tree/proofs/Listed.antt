@@ -18,7 +18,7 @@ use Rattle.px_tree.specs.Directory.{entries_at}
 use Rattle.px_tree.specs.Thumbnail.{whole_number, numbers, numbers_in}
 use Rattle.px_tree.specs.Reading.{Shows, bare}
 use Rattle.px_tree.specs.Linked.{IsFound}
-use Rattle.px_tree.specs.Parts.{Finds, HasNumbers, HaveNumbers, entry_here}
+use Rattle.px_tree.specs.Parts.{Finds, HasValue, HasNumbers, HaveNumbers, entry_here}
 
 pub codes_from : (h : Head) → is_short_or_long (bare h) ≡ true → (h.code ≡ 3) ⊎ (h.code ≡ 4)
 codes_from h e = elim (or_cases (h.code == 3) (h.code == 4) e) [
@@ -48,6 +48,9 @@ found_each {X} P test (y ∷ xs) x h e = elim (cases_Bool (test y)) [
   | inr t ↦ found_each P test xs x h.1 (sym (cond-false (test y) (Some y) (find test xs) t) ∙ e)
 ]
 
+abbrev is_code : ℕ → Bool
+is_code c = is_short_or_long (record { tag = 0; code = c; count = 0; last = [] })
+
 module _ (b : List ℕ) (o : Order) (a : ℕ) (bounded : length b ≤ limit) where
   -- an entry that was found is in order
   pub found_entry : (d : Dir) (t : ℕ) (f : Found) → AllByRecursion (IsEntry b o d) (entries_at b o a) → IsFound b o a t f → IsEntry b o d (entry_here b o f) × ((entry_here b o f).tag ≡ t)
@@ -55,6 +58,9 @@ module _ (b : List ℕ) (o : Order) (a : ℕ) (bounded : length b ≤ limit) whe
       let e = entry_here b o f in
       let k = found_each (IsEntry b o d) (λ e. e.tag == t) (entries_at b o a) e each is.is in
       (k.0, eqb-true e.tag t k.1)
+
+  pub has_value : (d : Dir) (t : ℕ) (f : Found) → AllByRecursion (IsEntry b o d) (entries_at b o a) → IsFound b o a t f → HasValue b o f
+  has_value d t f each is = record { bounded = bounded; inside = is.inside; shown = is.shown; whole = (found_entry d t f each is).0.inside }
 
   module _ (each : AllByRecursion (IsEntry b o Thumb) (entries_at b o a)) where
     has_numbers : (t : ℕ) → ((e : Entry) → has_form (role Thumb t) e ≡ is_short_or_long e) → (f : Found) → IsFound b o a t f → HasNumbers b o f
@@ -68,9 +74,6 @@ module _ (b : List ℕ) (o : Order) (a : ℕ) (bounded : length b ≤ limit) whe
           formed = ap (λ (c : ℕ). is_code c) is.shown.code ∙ sym (form e) ∙ ap (λ (u : ℕ). has_form (role Thumb u) e) (sym k.1) ∙ k.0.formed;
           whole = k.0.inside
         }
-      where
-        abbrev is_code : ℕ → Bool
-        is_code c = is_short_or_long (record { tag = 0; code = c; count = 0; last = [] })
 
     pub have_numbers : (t : ℕ) → ((e : Entry) → has_form (role Thumb t) e ≡ is_short_or_long e) → (x : Option Found) → Finds b o a t x → HaveNumbers b o x
     have_numbers t form None h = tt

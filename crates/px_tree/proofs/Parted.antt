@@ -178,7 +178,7 @@ module _ (b : List ℕ) (o : Order) (a : ℕ) where
                 (all_true (end_checks b o a) (jpeg_part ++ strip_part) ended (all_true jpeg_part strip_part jpeg_true (subst (λ (cs : List Check). first_false cs ≡ None) strips_now-is h)))
 
 -- as many offsets as lengths, where the checks say so
-pub even_from : (x y : Option Found) → first_false (count_check x y) ≡ None → AreEven x y
+even_from : (x y : Option Found) → first_false (count_check x y) ≡ None → AreEven x y
 even_from (Some f) (Some g) h = even_by (f.head.count == g.head.count) f.head.count g.head.count f.place refl h
   where
     even_by : (t : Bool) (n m p : ℕ) → (n == m) ≡ t → first_false (check ThumbnailPair p t ∷ []) ≡ None → n ≡ m
@@ -187,3 +187,15 @@ even_from (Some f) (Some g) h = even_by (f.head.count == g.head.count) f.head.co
 even_from (Some f) None h = tt
 even_from None (Some g) h = tt
 even_from None None h = tt
+
+or_none : (x y : Option (Cause × ℕ)) → or_else x y ≡ None → y ≡ None
+or_none None y h = h
+or_none (Some f) y h = cc
+
+none_right : (xs ys : List Check) → first_false (xs ++ ys) ≡ None → first_false ys ≡ None
+none_right xs ys h = or_none (first_false xs) (first_false ys) (sym (first_append xs ys) ∙ h)
+
+pub even_parts : (p : Parts) → first_false (pairs_checks p) ≡ None → AreEven p.strip_offsets p.strip_lengths
+even_parts p h = even_from p.strip_offsets p.strip_lengths
+    (none_right (pair_check p.strip_offsets p.strip_lengths) (count_check p.strip_offsets p.strip_lengths)
+    (none_right (pair_check p.jpeg_offset p.jpeg_length) (pair_check p.strip_offsets p.strip_lengths ++ count_check p.strip_offsets p.strip_lengths) h))

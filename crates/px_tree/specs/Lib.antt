@@ -16,3 +16,4 @@ pub mod Reading
 pub mod Linked
 pub mod ReadTree
 pub mod Parts
+pub mod Refused

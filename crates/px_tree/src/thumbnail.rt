@@ -1,24 +1,25 @@
 // The thumbnail's bytes: a JPEG, or strips. CIPA DC-008 4.5.5; TIFF 6.0 section 8, "StripOffsets" and "StripByteCounts".
 ghost use Rattle.std.specs.Prelude.{◌≡◌, ◌≤◌, ◌<◌, ◌+◌, ◌++◌, ◌⊎◌, ℕ, List, [], ◌∷◌, length, map, nat_le, slice_get, Some, IfOk, IfSome, IfErr, option_map, option_to_list, ⊤};
-ghost use Rattle.std.specs.List.{AllByRecursion};
 ghost use Rattle.px_bytes.specs.declared.Cause.TheVariants.{Overlap, ThumbnailOutside};
 ghost use Rattle.px_bytes.specs.Parts.{limit, part};
 ghost use Rattle.px_bytes.specs.Range.{Range, range, is_free, Agrees};
 ghost use Rattle.px_bytes.specs.Checks.{Judges, check};
 ghost use Rattle.px_field.specs.Forms.{form_of};
-ghost use Rattle.px_tree.specs.Entry.{IsEntry};
-ghost use Rattle.px_tree.specs.Directory.{entries_at};
-ghost use Rattle.px_tree.specs.Thumbnail.{whole_number, numbers, ranges_of, bytes_of, jpeg_range, strip_ranges};
+ghost use Rattle.px_tree.specs.Thumbnail.{whole_number, numbers, ranges_of, bytes_of};
 ghost use Rattle.px_tree.specs.Footprint.{listed};
-ghost use Rattle.px_tree.specs.Checks.{end_checks, range_checks, thumb_checks};
+ghost use Rattle.px_tree.specs.Says.{thumbnail};
+ghost use Rattle.px_tree.specs.Seen.{thumb_of};
+ghost use Rattle.px_tree.specs.Checks.{end_checks, range_checks, thumb_checks, thumb_checks_at};
 ghost use Rattle.px_tree.specs.Reading.{HasTable};
-ghost use Rattle.px_tree.specs.Parts.{AreParts, HasNumbers, HaveNumbers, AreEven, entry_here, place_in, pair_check, count_check, pairs_checks, jpeg_of, strips_of};
+ghost use Rattle.px_tree.specs.Parts.{AreParts, HasNumbers, HaveNumbers, AreEven, entry_here, place_in, pair_check, count_check, pairs_checks, jpeg_of, strips_of, IsReadThumb};
 
 use crate::entries::{hold, number32};
 use crate::field_reading::{part_of, value_at};
+use crate::fields::Fields;
 use crate::links::{Found, find_entry};
-use crate::roles::Dir;
+use crate::meanings::Thumb;
 use crate::strips::Strips;
+use crate::tables::Directory;
 use px_bytes::{Cause, Order, Ranges, Refusal};
 use px_field::{Element, Form, Value};
 use std::alloc::Global;
@@ -30,13 +31,6 @@ pub struct Parts {
     pub jpeg_length: Option<Found>,
     pub strip_offsets: Option<Found>,
     pub strip_lengths: Option<Found>,
-}
-
-// The bytes that a thumbnail names.
-#[derive(Drop)]
-pub struct Picture<'a> {
-    pub jpeg: Option<&'a [u8]>,
-    pub strips: Option<Strips<'a>>,
 }
 
 // The entries of the directory at a place that name its bytes.
@@ -219,19 +213,37 @@ fn hold_strips<'a>(alloc: Global, block: &'a [u8], order: Order, held: &mut Rang
     }
 }
 
-// The bytes that the thumbnail directory at a place names, behind its entries.
-pub fn read_picture<'a>(alloc: Global, block: &'a [u8], order: Order, held: &mut Ranges, at: u32, count: u16) -> Result<Picture<'a>, Refusal>
+// The thumbnail directory at a place, behind its entries, with its bytes.
+pub fn read_thumbnail<'a>(alloc: Global, block: &'a [u8], order: Order, held: &mut Ranges, fields: Fields<'a>, at: u32, count: u16) -> Result<Thumb<'a>, Refusal>
     requires bounded { length block.now ≤ limit }
-    requires stands { HasTable block.now order at count }
-    requires each { AllByRecursion (IsEntry block.now order Dir.Thumb) (entries_at block.now order at) }
-    ensures { let es = entries_at block.now order at in (taken : List Range) → Agrees taken held.old →
-        Judges result (thumb_checks block.now order taken at) (λ p. (option_map (λ s. s.now) p.jpeg ≡ option_map (bytes_of block.now) (jpeg_range order es))
-            × (p.strips ≡ option_map (map (bytes_of block.now)) (strip_ranges block.now order es))) }
+    requires read { IsReadThumb block.now order (record { fields = fields; at = at; count = count }) }
+    ensures { (taken : List Range) → Agrees taken held.old → Judges result (thumb_checks block.now order taken at) (λ t. thumb_of t ≡ thumbnail block.now order at) }
 {
     let parts = find_parts(block, order, at, count);
     judge_pairs(parts)?;
     judge_end(block, order, at, count)?;
     let jpeg = hold_jpeg(block, held, parts.jpeg_offset, parts.jpeg_length)?;
     let strips = hold_strips(alloc, block, order, held, parts.strip_offsets, parts.strip_lengths)?;
-    Ok(Picture { jpeg, strips })
+    Ok(Thumb {
+        fields,
+        jpeg,
+        strips,
+    })
+}
+
+// The thumbnail directory that was read, with its bytes, if it is there.
+pub fn read_thumb<'a>(alloc: Global, block: &'a [u8], order: Order, held: &mut Ranges, directory: Option<Directory<'a>>) -> Result<Option<Thumb<'a>>, Refusal>
+    requires bounded { length block.now ≤ limit }
+    requires read { IfSome directory (IsReadThumb block.now order) }
+    ensures { let a = option_map (λ t. t.at) directory.entry in (taken : List Range) → Agrees taken held.old →
+        Judges result (thumb_checks_at block.now order taken a) (λ t. option_map thumb_of t ≡ option_map (thumbnail block.now order) a) }
+{
+    match directory {
+        None => Ok(None),
+        Some(directory) => {
+            let Directory { fields, at, count } = directory;
+            let thumb = read_thumbnail(alloc, block, order, held, fields, at, count)?;
+            Ok(Some(thumb))
+        }
+    }
 }

@@ -1,10 +1,14 @@
 // A stand-in.
-ghost use Rattle.std.specs.Prelude.{◌≡◌, ◌==◌, ◌≤◌, ◌<◌, ◌*◌, IsTrue, ◌↔◌, IsSome, length, MatchOption};
+ghost use Rattle.std.specs.Prelude.{◌≡◌, ◌==◌, ◌≤◌, ◌<◌, ◌*◌, IsTrue, ◌↔◌, IsSome, length, MatchOption, IfOk, Some};
 ghost use Rattle.px_iim.specs.Group.{AreGroups};
-ghost use Rattle.px_iim.specs.Record.{normal_iim, iim_of};
+ghost use Rattle.px_iim.specs.Record.{normal_iim, iim_of, SaysIim};
+ghost use Rattle.px_iim.specs.Check.{iim_checks};
+ghost use Rattle.px_bytes.specs.Checks.{Judges};
 ghost use Rattle.px_bytes.specs.Parts.{limit};
 ghost use Rattle.px_bytes.specs.Numbers.{AreBytes};
 
+use px_bytes::Refusal;
+use std::alloc::Global;
 use std::marker::Model;
 
 #[derive(Drop)]
@@ -58,4 +62,12 @@ pub fn accepts(bytes: &[u8]) -> bool
 {
     let _x = bytes.len();
     true
+}
+
+pub fn read_iim<'a>(alloc: Global, bytes: &'a [u8]) -> Result<Iim<'a>, Refusal>
+    ensures judged { Judges result (iim_checks bytes.now) (SaysIim bytes.now) }
+    ensures computed { IfOk result (λ i. iim_of bytes.now ≡ Some i) }
+{
+    let _x = alloc;
+    Ok(Iim { raw: bytes })
 }
