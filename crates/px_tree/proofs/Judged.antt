@@ -204,7 +204,7 @@ module _ (b : List ℕ) (o : Order) where
 
 -- ---- the header
 
-bytes-true : (xs ys : List ℕ) → same_bytes xs ys ≡ true → xs ≡ ys
+pub bytes-true : (xs ys : List ℕ) → same_bytes xs ys ≡ true → xs ≡ ys
 bytes-true [] [] h = refl
 bytes-true (x ∷ xs) (y ∷ ys) h = let p = and_parts (x == y) (same_bytes xs ys) h in ap₂ (λ z zs. z ∷ zs) (eqb-true x y p.0) (bytes-true xs ys p.1)
 bytes-true [] (y ∷ ys) h = cc

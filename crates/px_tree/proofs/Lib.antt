@@ -34,3 +34,5 @@ pub mod Parted
 pub mod Listed
 pub mod StripRanges
 pub mod Assembled
+pub mod Bounded
+pub mod Answered

@@ -74,6 +74,9 @@ module _ (b : List ℕ) (o : Order) (taken : List Range) where
     }
 
   -- in the end
+  pub dirs_clean : (earlier : List (Option Link)) (held : List (ℕ × ℕ)) → DirsSoFar earlier [] held → first_false (dirs_checks b o [] taken dirs) ≡ None
+  dirs_clean earlier held s = sym s.faults
+
   pub dirs_end : (earlier : List (Option Link)) (held : List (ℕ × ℕ)) → DirsSoFar earlier [] held → Agrees (dirs_held b o taken dirs) held
   dirs_end earlier held s = subst (λ (rs : List Range). Agrees rs held) s.ends s.agrees
 

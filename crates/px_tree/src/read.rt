@@ -1,6 +1,7 @@
 // A whole block. TIFF 6.0 section 2, "Image File Header".
 ghost use Rattle.std.specs.Prelude.{◌≡◌, ◌≤◌, ◌++◌, List, [], ◌∷◌, length, take, true, Some, IfOk, IfErr, option_map, ⊤};
 ghost use Rattle.px_bytes.specs.Parts.{limit};
+ghost use Rattle.px_bytes.specs.Numbers.{AreBytes};
 ghost use Rattle.px_bytes.specs.Checks.{Judges};
 ghost use Rattle.px_tree.specs.Directory.{magic};
 ghost use Rattle.px_tree.specs.Fits.{Fits};
@@ -75,7 +76,8 @@ fn judge_header(block: &[u8]) -> Result<(), Refusal>
 fn order_in(block: &[u8]) -> Order
     requires least { 8 ≤ length block.now }
     requires begun { begins_header block.now ≡ true }
-    ensures { order_of block.now ≡ Some result }
+    ensures told { order_of block.now ≡ Some result }
+    ensures bytes { AreBytes block.now }
 {
     if begins(block, Order::Least) {
         return Order::Least;

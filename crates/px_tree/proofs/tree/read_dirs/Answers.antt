@@ -6,7 +6,7 @@ use Rattle.px_tree.specs.declared.roles.Dir.TheVariants.{Main, Exif, Interop, Gp
 use Rattle.px_tree.specs.Directory.{main_at}
 use Rattle.px_tree.specs.Entry.{fields}
 use Rattle.px_tree.specs.Tree.{Fields}
-use Rattle.px_tree.proofs.Named.{dirs_start, dirs_step, dirs_refuse, dirs_end, names_exif, names_gps, names_interop, names_thumb, main_is, some_checks, some_ranges}
+use Rattle.px_tree.proofs.Named.{dirs_start, dirs_step, dirs_refuse, dirs_clean, dirs_end, names_exif, names_gps, names_interop, names_thumb, main_is, some_checks, some_ranges}
 use Rattle.px_tree.proofs.tree.read_dirs.Goals as goal
 
 pub read_linked-requires-clause-named : goal.read_linked-requires-clause-named
@@ -159,7 +159,7 @@ returns c = λ taken a.
     let j4 = c.in_ok-thumb.ensures.judged s4.now s4.agrees in
     let s5 = dirs_step b o taken (c.link_from-gps_link.result ∷ c.link_in-interop_link.result ∷ c.link_from-exif_link.result ∷ Some lm ∷ []) Thumb [] _ s4 c.link_behind-thumb_link.result _ nt j4.0 j4.1.1 in
     (
-      sym s5.faults,
+      dirs_clean b o taken _ _ s5,
       (
         record {
           main = j0.1.0 ∙ ap (λ (n : ℕ). fields b o Main n) (main_is b o lm nm);
