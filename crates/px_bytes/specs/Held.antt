@@ -8,7 +8,8 @@ use Rattle.std.specs.BTreeMap.{is_at}
 abbrev pub Holds : List (ℕ × ℕ) → ℕ → ℕ → Type 0
 Holds held start end = lookup (is_at (nat_cmp start)) held ≡ Some end
 
--- no byte lies both between a and b and between c and d
+-- no byte lies both from a up to b and from c up to d: the lesser end is at most the greater start
+-- (that this says so is `gap-byte` and `byte-gap` of RangeLaws)
 abbrev pub AreApartAt : ℕ → ℕ → ℕ → ℕ → Type 0
 AreApartAt a b c d = min b d ≤ max a c
 

@@ -10,3 +10,4 @@ pub mod Reading
 pub mod Held
 pub mod Range
 pub mod RangeLaws
+pub mod ApartLaws

@@ -2,7 +2,7 @@
 use Rattle.std.proofs.Common.{subst, [], refl, None, Some, ◌≡◌, ℕ, ◌+◌, ◌≤◌, ◌<◌, inl, inr, min, max, true, false, not, ◌&&◌, nat_lt, List, ◌∷◌, sym, ◌∙◌, arith, ltb-true, lt-ltb}
 use Rattle.std.proofs.lemmas.Bool.{and_parts, and_from, not-true, not_from_false, both_ways, cases_lt, false_from_ne_true}
 use Rattle.px_bytes.specs.Held.{Holds, AreApartAt, IsFree, IsTaken, Takes}
-use Rattle.px_bytes.specs.Range.{Range, range, IsIn, Apart, shares, is_free, Agrees}
+use Rattle.px_bytes.specs.Range.{Range, range, shares, is_free, SameFree, Agrees}
 
 -- ranges that do not share a byte, as one fact on numbers
 gap_from_test : (s n t m : ℕ) → not (shares (range s n) (range t m)) ≡ true → min (s + n) (t + m) ≤ max s t
@@ -34,22 +34,6 @@ byte-gap a b c d h = elim (cases_lt (max a c) (min b d)) [
   | inr l ↦ l
 ]
 
--- two ranges that don't share a byte by the test have none in both
-pub shares-apart : (r s : Range) → shares r s ≡ false → Apart r s
-shares-apart r s h p x y = gap-byte r.start (r.start + r.size) s.start (s.start + s.size) p (gap_from_test r.start r.size s.start s.size (not_from_false _ h)) x.0 x.1 y.0 y.1
-
--- and those that share one by the test have one in both
-pub shares-byte : (r s : Range) → shares r s ≡ true → (p : ℕ) × IsIn p r × IsIn p s
-shares-byte r s h =
-    let a = and_parts (nat_lt 0 r.size && nat_lt 0 s.size && nat_lt r.start (s.start + s.size)) (nat_lt s.start (r.start + r.size)) h in
-    let b = and_parts (nat_lt 0 r.size && nat_lt 0 s.size) (nat_lt r.start (s.start + s.size)) a.0 in
-    let c = and_parts (nat_lt 0 r.size) (nat_lt 0 s.size) b.0 in
-    let n1 : 0 < r.size = ltb-true _ _ c.0 in
-    let n2 : 0 < s.size = ltb-true _ _ c.1 in
-    let n3 : r.start < s.start + s.size = ltb-true _ _ b.1 in
-    let n4 : s.start < r.start + r.size = ltb-true _ _ a.1 in
-    (max r.start s.start, (omega arith, omega arith), (omega arith, omega arith))
-
 -- what is free or taken is so in the list
 pub is_free-free : (taken : List Range) (held : List (ℕ × ℕ)) (s n : ℕ) → Agrees taken held → IsFree held s (s + n) → is_free taken (range s n) ≡ true
 is_free-free taken held s n a h = a.all_free s n h
@@ -75,10 +59,7 @@ agrees-empty taken old s n a z = record {
   all_free = λ t m h. and_from _ _ (test_from_gap t m s n (omega arith)) (a.all_free t m h);
 }
 
--- lists that leave the same free
-abbrev pub SameFree : List Range → List Range → Type 0
-SameFree xs ys = (s n : ℕ) → is_free xs (range s n) ≡ is_free ys (range s n)
-
+-- lists that leave the same free agree with the same
 pub agrees-same : (xs ys : List Range) (held : List (ℕ × ℕ)) → SameFree xs ys → Agrees xs held → Agrees ys held
 agrees-same xs ys held e a = record {
   free = λ s n h. a.free s n (e s n ∙ h);

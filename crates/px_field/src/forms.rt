@@ -1,48 +1,72 @@
-// The types of a field.
+// The types of a field, and the elements of its value.
 ghost use Rattle.std.specs.Prelude.{◌≡◌};
 ghost use Rattle.px_field.specs.Forms.{code, form_of, size};
 
-/// A type of a field: TIFF 6.0 section 2, "Types", and type 129 of Exif 3.0.
+/// A type of a field: the twelve of TIFF 6.0 section 2, "Types", and UTF-8 of Exif 3.0.
 #[derive(Clone, Copy, Debug, PartialEq, Eq)]
 pub enum Form {
+    /// BYTE, 1: an unsigned number of one byte.
     Byte,
+    /// ASCII, 2: one byte of a text, kept as it stands.
     Ascii,
+    /// SHORT, 3: an unsigned number of two bytes.
     Short,
+    /// LONG, 4: an unsigned number of four bytes.
     Long,
+    /// RATIONAL, 5: two LONGs, the numerator first.
     Rational,
+    /// SBYTE, 6: a signed number of one byte, kept as that byte.
     SByte,
+    /// UNDEFINED, 7: one byte without meaning here.
     Undefined,
+    /// SSHORT, 8: a number of two bytes in two's complement.
     SShort,
+    /// SLONG, 9: a number of four bytes in two's complement.
     SLong,
+    /// SRATIONAL, 10: two SLONGs, the numerator first.
     SRational,
+    /// FLOAT, 11: four bytes, kept as a bit pattern.
     Float,
+    /// DOUBLE, 12: eight bytes, kept as a bit pattern.
     Double,
+    /// UTF-8, 129: one byte of a text, which isn't checked.
     Utf8,
 }
 
-/// What a value is: of a type, or a whole number where SHORT and LONG mean the same.
+/// What a value is: of a type, or a whole number where a tag takes SHORT and LONG as the same.
 #[derive(Clone, Copy, Debug, PartialEq, Eq)]
 pub enum Kind {
+    /// Of that type.
     Of(Form),
+    /// A whole number, read from SHORT or LONG and written as LONG.
     Whole,
 }
 
-/// An element of a value.
+/// An element of a value, with its byte order undone.
 #[derive(Clone, Copy, Debug, PartialEq, Eq)]
 pub enum Element {
+    /// Of BYTE, ASCII, SBYTE, UNDEFINED and UTF-8: the byte as it stands.
     Byte(u8),
+    /// Of SHORT.
     Short(u16),
+    /// Of LONG, and of each whole number.
     Long(u32),
+    /// Of RATIONAL: the numerator and the denominator, which may be 0.
     Rational(u32, u32),
+    /// Of SSHORT.
     SShort(i16),
+    /// Of SLONG.
     SLong(i32),
+    /// Of SRATIONAL: the numerator and the denominator, which may be 0.
     SRational(i32, i32),
+    /// Of FLOAT: the bit pattern.
     Float(u32),
+    /// Of DOUBLE: the bit pattern.
     Double(u64),
 }
 
 impl Form {
-    /// The type of that number.
+    /// The type of that number in an entry, or `None` where the number is none of the thirteen.
     #[tactic(auto, unfolding(crate::specs::Forms::form_of))]
     pub fn of(code: u16) -> Option<Form>
         ensures { result ≡ form_of code }
@@ -65,7 +89,7 @@ impl Form {
         })
     }
 
-    /// The bytes of one element.
+    /// The bytes of one element: 1, 2, 4 or 8.
     pub fn size(self) -> u32
         ensures { result ≡ size self }
     {
@@ -77,7 +101,7 @@ impl Form {
         }
     }
 
-    /// The number of the type in an entry.
+    /// The number of the type in an entry: 1 to 12, or 129.
     pub fn code(self) -> u16
         ensures { result ≡ code self }
     {

@@ -11,7 +11,8 @@ use px_bytes::Order;
 use std::alloc::AllocError;
 
 impl<'a> Value<'a> {
-    /// Puts the spelling of the element at `i` in front, and answers its length. The rest stays.
+    /// Puts the bytes of the element at `i` in front of `into`, and answers how many: 1, 2, 4 or 8.
+    /// The rest of `into` is unchanged. `i` is below `count`.
     pub fn spell_at(&self, order: Order, i: u32, into: &mut [u8; 8]) -> usize
         requires { i < length self.now.elements }
         ensures width { result ≡ size (form_in self.now.kind) }
@@ -22,7 +23,9 @@ impl<'a> Value<'a> {
     }
 }
 
-/// Appends the spelling of the value.
+/// Appends the bytes that spell the value in `order`, `size` of them.
+///
+/// The error is the only one: memory for them was refused, and the vector's items are unchanged.
 pub fn append_value(order: Order, value: &Value, out: &mut Vec<u8>) -> Result<(), AllocError>
     ensures done { OnOk result (out.new.items ≡ out.old.items ++ spelled order value.now) }
     ensures failed { OnErr result (out.new.items ≡ out.old.items) }

@@ -10,10 +10,11 @@ use crate::forms::{Element, Form, Kind};
 use px_bytes::Order;
 use std::marker::Model;
 
-/// The value of a field: its kind and its elements, read from bytes that it borrows.
+/// The value of a field: its kind and its elements.
 ///
-/// Nothing is copied when a value is read. An element is read from the bytes each time that it is asked for.
-#[derive(Drop)]
+/// A value borrows the bytes that it was read from. No number is copied when it is read, and no call
+/// of its own takes memory: an element is read from the bytes each time that it is asked for.
+#[derive(Debug, Drop)]
 pub struct Value<'a> {
     raw: &'a [u8],
     order: Order,
@@ -33,11 +34,15 @@ impl<'a> Model for Value<'a> {
     ghost invariant = { IsSound };
 }
 
-/// The value of a type that the bytes spell in that order.
+/// The value of type `form` that the bytes spell in `order`: TIFF 6.0 section 2, "Types".
+///
+/// `raw` is a whole number of elements, perhaps none, of at most `LIMIT` bytes; this is the caller's
+/// condition. Each such `raw` spells a value, so there is no refusal.
 pub fn read_value<'a>(form: Form, order: Order, raw: &'a [u8]) -> Value<'a>
     requires whole { length raw.now % size form ≡ 0 }
     requires bounded { length raw.now ≤ limit }
-    ensures { result ≡ value_in order form raw.now }
+    ensures value { result ≡ value_in order form raw.now }
+    ensures spells { raw.now ≡ spelled order result }
 {
     Value {
         raw,
@@ -47,7 +52,12 @@ pub fn read_value<'a>(form: Form, order: Order, raw: &'a [u8]) -> Value<'a>
     }
 }
 
-/// The value of kind `Whole` that the bytes of a SHORT or LONG spell in that order.
+/// The whole numbers that the bytes of a SHORT or LONG spell in `order`, for a tag that takes both
+/// types as the same.
+///
+/// `raw` is a whole number of elements of `form`, perhaps none, of at most `LIMIT` bytes, and `form`
+/// is `Short` or `Long`; both are the caller's conditions. The value is of kind `Whole`, and its
+/// elements are `Long`, whichever of the two it was read from.
 pub fn read_whole<'a>(form: Form, order: Order, raw: &'a [u8]) -> Value<'a>
     requires whole { length raw.now % size form ≡ 0 }
     requires bounded { length raw.now ≤ limit }
@@ -63,9 +73,11 @@ pub fn read_whole<'a>(form: Form, order: Order, raw: &'a [u8]) -> Value<'a>
 }
 
 impl<'a> Value<'a> {
-    /// What the value is.
+    /// The type of the value, or `Whole`.
     pub fn kind(&self) -> Kind
         ensures kind { result ≡ self.now.kind }
+
+        // Each element is of that kind, and in its range.
         ensures ranges { IsValue self.now }
     {
         if self.widened {
@@ -75,7 +87,8 @@ impl<'a> Value<'a> {
         }
     }
 
-    /// The elements of one of the five byte types, as they were read.
+    /// The elements of a value of BYTE, ASCII, SBYTE, UNDEFINED or UTF-8 as the slice that was read;
+    /// `None` for each other kind.
     pub fn bytes(&self) -> Option<&'a [u8]>
         ensures which { IsSome result ↔ IsTrue (is_bytes self.now.kind) }
         ensures elements { IfSome result (λ s. self.now.elements ≡ map Element.Byte s.now) }
@@ -86,7 +99,7 @@ impl<'a> Value<'a> {
         }
     }
 
-    /// The number of elements.
+    /// The number of elements, at most `LIMIT`.
     pub fn count(&self) -> u32
         ensures count { result ≡ length self.now.elements }
         ensures bounded { result ≤ limit }
@@ -94,7 +107,7 @@ impl<'a> Value<'a> {
         self.raw.len() as u32 / self.form.size()
     }
 
-    /// The element at `i`.
+    /// The element at `i`, counted from 0; `i` is below `count`.
     pub fn element(&self, i: u32) -> Element
         requires { i < length self.now.elements }
         ensures element { slice_get self.now.elements i ≡ Some result }
@@ -108,7 +121,8 @@ impl<'a> Value<'a> {
         }
     }
 
-    /// The number of bytes that spell the value: of kind `Whole` four for each element.
+    /// The number of bytes that spell the value in either order. A value of kind `Whole` takes four for
+    /// each element, so one read from SHORT takes twice as many as were read.
     pub fn size(&self) -> u64
         ensures spelled { (order : Order) → result ≡ length (spelled order self.now) }
         ensures elements { result ≡ length self.now.elements * size (form_in self.now.kind) }
@@ -122,7 +136,8 @@ impl<'a> Value<'a> {
     }
 }
 
-/// Whether two values are of one kind and have the same elements.
+/// Whether two values are of one kind and have the same elements in the same sequence, whatever the
+/// orders in which they were read.
 pub fn same_value(a: &Value, b: &Value) -> bool
     ensures { IsTrue result ↔ (a.now ≡ b.now) }
 {

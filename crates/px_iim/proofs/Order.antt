@@ -10,7 +10,7 @@ use Rattle.px_iim.specs.Group.{Group, Record, named, put, is_at, is_before, IsAs
 
 -- what the tests tell
 pub before_fact : (r n s m : ℕ) → is_before r n s m ≡ true → (r < s) ⊎ ((r ≡ s) × (n < m))
-before_fact r n s m h = elim (cases_lt r s) [ | inl l ↦ inl l | inr l ↦ inr (grind (arith, nat_tests), grind (arith, nat_tests)) ]
+before_fact r n s m h = elim (cases_lt r s) [ inl l ↦ inl l | inr l ↦ inr (grind (arith, nat_tests), grind (arith, nat_tests)) ]
 
 pub before_less : (r n s m : ℕ) → r < s → is_before r n s m ≡ true
 before_less r n s m h = grind (arith, nat_tests)
@@ -23,9 +23,9 @@ not_before r n s m l h = grind (arith, nat_tests)
 
 pub before_trans : (r n s m t k : ℕ) → is_before r n s m ≡ true → is_before s m t k ≡ true → is_before r n t k ≡ true
 before_trans r n s m t k a b = elim (before_fact r n s m a) [
-    | inl f ↦ elim (before_fact s m t k b) [ | inl g ↦ before_less r n t k (omega arith) | inr g ↦ before_less r n t k (omega (arith, g.0)) ]
-    | inr f ↦ elim (before_fact s m t k b) [ | inl g ↦ before_less r n t k (omega (arith, f.0)) | inr g ↦ before_equal r n t k (f.0 ∙ g.0) (omega (arith, f.1, g.1)) ]
-  ]
+  | inl f ↦ elim (before_fact s m t k b) [ inl g ↦ before_less r n t k (omega arith) | inr g ↦ before_less r n t k (omega (arith, g.0)) ]
+  | inr f ↦ elim (before_fact s m t k b) [ inl g ↦ before_less r n t k (omega (arith, f.0)) | inr g ↦ before_equal r n t k (f.0 ∙ g.0) (omega (arith, f.1, g.1)) ]
+]
 
 pub at_fact : (r n : ℕ) (g : Group) → is_at r n g ≡ true → (g.rec ≡ r) × (g.number ≡ n)
 at_fact r n g h = (grind (arith, nat_tests), grind (arith, nat_tests))
@@ -44,18 +44,18 @@ pub data Standing (r n : ℕ) (g : Group) : Type 0 where
 
 pub standing : (r n : ℕ) (g : Group) → Standing r n g
 standing r n g = elim (cases_order r g.rec) [
-    | inl e ↦ elim (cases_order n g.number) [
-        | inl f ↦ here (at_test r n g (sym e) (sym f))
-        | inr f ↦ elim f [
-            | inl l ↦ earlier (not_at r n g (λ a b. omega arith)) (before_equal r n g.rec g.number e l)
-            | inr l ↦ later (not_at r n g (λ a b. omega arith)) (not_before r n g.rec g.number (omega arith) (λ q. omega arith)) (before_equal g.rec g.number r n (sym e) l)
-          ]
-      ]
+  | inl e ↦ elim (cases_order n g.number) [
+    | inl f ↦ here (at_test r n g (sym e) (sym f))
     | inr f ↦ elim f [
-        | inl l ↦ earlier (not_at r n g (λ a b. omega arith)) (before_less r n g.rec g.number l)
-        | inr l ↦ later (not_at r n g (λ a b. omega arith)) (not_before r n g.rec g.number (omega arith) (λ e. omega arith)) (before_less g.rec g.number r n l)
-      ]
+      | inl l ↦ earlier (not_at r n g (λ a b. omega arith)) (before_equal r n g.rec g.number e l)
+      | inr l ↦ later (not_at r n g (λ a b. omega arith)) (not_before r n g.rec g.number (omega arith) (λ q. omega arith)) (before_equal g.rec g.number r n (sym e) l)
+    ]
   ]
+  | inr f ↦ elim f [
+    | inl l ↦ earlier (not_at r n g (λ a b. omega arith)) (before_less r n g.rec g.number l)
+    | inr l ↦ later (not_at r n g (λ a b. omega arith)) (not_before r n g.rec g.number (omega arith) (λ e. omega arith)) (before_less g.rec g.number r n l)
+  ]
+]
 
 -- ---- put keeps the order
 
@@ -66,10 +66,10 @@ pub behind_put : (d : DataSet) (x : Group) (gs : Record) → is_before x.rec x.n
 unfolding put
 behind_put d x [] h a = (h, tt)
 behind_put d x (g ∷ gs) h a = elim (standing d.rec (named d.rec d.number) g) [
-    | here e ↦ subst (AllBehind x) (sym (cond-true (is_at d.rec (named d.rec d.number) g) _ _ e)) (a.0, a.1)
-    | earlier e f ↦ subst (AllBehind x) (sym (cond-false (is_at d.rec (named d.rec d.number) g) _ _ e ∙ cond-true (is_before d.rec (named d.rec d.number) g.rec g.number) _ _ f)) (h, a)
-    | later e f k ↦ subst (AllBehind x) (sym (cond-false (is_at d.rec (named d.rec d.number) g) _ _ e ∙ cond-false (is_before d.rec (named d.rec d.number) g.rec g.number) _ _ f)) (a.0, behind_put d x gs h a.1)
-  ]
+  | here e ↦ subst (AllBehind x) (sym (cond-true (is_at d.rec (named d.rec d.number) g) _ _ e)) (a.0, a.1)
+  | earlier e f ↦ subst (AllBehind x) (sym (cond-false (is_at d.rec (named d.rec d.number) g) _ _ e ∙ cond-true (is_before d.rec (named d.rec d.number) g.rec g.number) _ _ f)) (h, a)
+  | later e f k ↦ subst (AllBehind x) (sym (cond-false (is_at d.rec (named d.rec d.number) g) _ _ e ∙ cond-false (is_before d.rec (named d.rec d.number) g.rec g.number) _ _ f)) (a.0, behind_put d x gs h a.1)
+]
 
 pub all_behind : (r n : ℕ) (g : Group) (gs : Record) → is_before r n g.rec g.number ≡ true → AllBehind g gs → AllByRecursion (λ h. is_before r n h.rec h.number ≡ true) gs
 all_behind r n g [] e a = tt
@@ -79,12 +79,12 @@ pub ascending_put : (d : DataSet) (gs : Record) → IsAscending gs → IsAscendi
 unfolding put
 ascending_put d [] a = (tt, tt)
 ascending_put d (g ∷ gs) a = elim (standing d.rec (named d.rec d.number) g) [
-    | here e ↦ subst IsAscending (sym (cond-true (is_at d.rec (named d.rec d.number) g) _ _ e)) (a.0, a.1)
-    | earlier e f ↦ subst IsAscending (sym (cond-false (is_at d.rec (named d.rec d.number) g) _ _ e ∙ cond-true (is_before d.rec (named d.rec d.number) g.rec g.number) _ _ f))
-        ((f, all_behind d.rec (named d.rec d.number) g gs f a.0), a)
-    | later e f k ↦ subst IsAscending (sym (cond-false (is_at d.rec (named d.rec d.number) g) _ _ e ∙ cond-false (is_before d.rec (named d.rec d.number) g.rec g.number) _ _ f))
-        (behind_put d g gs k a.0, ascending_put d gs a.1)
-  ]
+  | here e ↦ subst IsAscending (sym (cond-true (is_at d.rec (named d.rec d.number) g) _ _ e)) (a.0, a.1)
+  | earlier e f ↦ subst IsAscending (sym (cond-false (is_at d.rec (named d.rec d.number) g) _ _ e ∙ cond-true (is_before d.rec (named d.rec d.number) g.rec g.number) _ _ f))
+      ((f, all_behind d.rec (named d.rec d.number) g gs f a.0), a)
+  | later e f k ↦ subst IsAscending (sym (cond-false (is_at d.rec (named d.rec d.number) g) _ _ e ∙ cond-false (is_before d.rec (named d.rec d.number) g.rec g.number) _ _ f))
+      (behind_put d g gs k a.0, ascending_put d gs a.1)
+]
 
 -- ---- put keeps the groups whole
 
@@ -107,14 +107,14 @@ module _ (d : DataSet) (rec_byte : d.rec < 256) (number_byte : d.number < 256) (
   unfolding put
   groups_put [] a = (record { byte = rec_byte; some = omega arith; items = (item, tt) }, tt)
   groups_put (g ∷ gs) a = elim (standing d.rec (named d.rec d.number) g) [
-      | here e ↦ let f = at_fact d.rec (named d.rec d.number) g e in
-          subst (AllByRecursion IsGroup) (sym (cond-true (is_at d.rec (named d.rec d.number) g) _ _ e))
-            (record { byte = (a.0).byte; some = length_pos g.items (d.number, d.octets); items = all_push (IsItem g.rec g.number) g.items (d.number, d.octets) (a.0).items (item_at g.rec g.number f.0 f.1) }, a.1)
-      | earlier e f ↦ subst (AllByRecursion IsGroup) (sym (cond-false (is_at d.rec (named d.rec d.number) g) _ _ e ∙ cond-true (is_before d.rec (named d.rec d.number) g.rec g.number) _ _ f))
-          (record { byte = rec_byte; some = omega arith; items = (item, tt) }, a)
-      | later e f k ↦ subst (AllByRecursion IsGroup) (sym (cond-false (is_at d.rec (named d.rec d.number) g) _ _ e ∙ cond-false (is_before d.rec (named d.rec d.number) g.rec g.number) _ _ f))
-          (a.0, groups_put gs a.1)
-    ]
+    | here e ↦ let f = at_fact d.rec (named d.rec d.number) g e in
+        subst (AllByRecursion IsGroup) (sym (cond-true (is_at d.rec (named d.rec d.number) g) _ _ e))
+        (record { byte = (a.0).byte; some = length_pos g.items (d.number, d.octets); items = all_push (IsItem g.rec g.number) g.items (d.number, d.octets) (a.0).items (item_at g.rec g.number f.0 f.1) }, a.1)
+    | earlier e f ↦ subst (AllByRecursion IsGroup) (sym (cond-false (is_at d.rec (named d.rec d.number) g) _ _ e ∙ cond-true (is_before d.rec (named d.rec d.number) g.rec g.number) _ _ f))
+        (record { byte = rec_byte; some = omega arith; items = (item, tt) }, a)
+    | later e f k ↦ subst (AllByRecursion IsGroup) (sym (cond-false (is_at d.rec (named d.rec d.number) g) _ _ e ∙ cond-false (is_before d.rec (named d.rec d.number) g.rec g.number) _ _ f))
+        (a.0, groups_put gs a.1)
+  ]
 
   pub whole_put : (gs : Record) → AreGroups gs → AreGroups (put d gs)
   whole_put gs a = record { ascending = ascending_put d gs a.ascending; groups = groups_put gs a.groups }
@@ -128,10 +128,10 @@ named_byte : (r n : ℕ) → n < 256 → named r n < 256
 unfolding named
 named_byte r n h =
     cond_both (r == 2) _ _ (λ x. x < 256)
-      (λ e. cond_both (n == 27) _ _ (λ x. x < 256) (λ f. omega arith)
-        (λ f. cond_both ((n == 47) || (n == 50)) _ _ (λ x. x < 256) (λ k. omega arith)
-          (λ k. cond_both (n == 85) _ _ (λ x. x < 256) (λ q. omega arith) (λ q. h))))
-      (λ e. h)
+    (λ e. cond_both (n == 27) _ _ (λ x. x < 256) (λ f. omega arith)
+    (λ f. cond_both ((n == 47) || (n == 50)) _ _ (λ x. x < 256) (λ k. omega arith)
+    (λ k. cond_both (n == 85) _ _ (λ x. x < 256) (λ q. omega arith) (λ q. h))))
+    (λ e. h)
 
 abbrev rank : Group → ℕ
 rank g = 256 * g.rec + g.number
@@ -143,7 +143,7 @@ number_byte g h = go g.rec g.number g.items h.some h.items where
   go r n (x ∷ xs) l a = omega (arith, named_byte r x.0 (a.0).byte, (a.0).member)
 
 ranks_rise : (g h : Group) → g.number < 256 → h.number < 256 → is_before g.rec g.number h.rec h.number ≡ true → rank g < rank h
-ranks_rise g h a b e = elim (before_fact g.rec g.number h.rec h.number e) [ | inl f ↦ omega arith | inr f ↦ omega (arith, f.0, f.1) ]
+ranks_rise g h a b e = elim (before_fact g.rec g.number h.rec h.number e) [ inl f ↦ omega arith | inr f ↦ omega (arith, f.0, f.1) ]
 
 all_above : (g : Group) (gs : Record) → g.number < 256 → AllByRecursion IsGroup gs → AllBehind g gs → AllByRecursion (λ h. rank g + 1 ≤ rank h) gs
 all_above g [] a b e = tt

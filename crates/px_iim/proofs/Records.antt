@@ -40,8 +40,8 @@ unfolding put
 put_within d [] ys a = put_front d ys a
 put_within d (x ∷ xs) ys a =
     ap (λ (l : Record). if is_at d.rec (named d.rec d.number) x then record { rec = x.rec; number = x.number; items = x.items ++ (d.number, d.octets) ∷ [] } ∷ (xs ++ ys)
-      else if is_before d.rec (named d.rec d.number) x.rec x.number then record { rec = d.rec; number = named d.rec d.number; items = (d.number, d.octets) ∷ [] } ∷ x ∷ (xs ++ ys)
-      else x ∷ l) (put_within d xs ys a)
+    else if is_before d.rec (named d.rec d.number) x.rec x.number then record { rec = d.rec; number = named d.rec d.number; items = (d.number, d.octets) ∷ [] } ∷ x ∷ (xs ++ ys)
+    else x ∷ l) (put_within d xs ys a)
     ∙ out (is_at d.rec (named d.rec d.number) x) (is_before d.rec (named d.rec d.number) x.rec x.number) _ _ _ ys
   where
     out : (a b : Bool) (p q t ys : Record) → (if a then p ++ ys else if b then q ++ ys else t ++ ys) ≡ (if a then p else if b then q else t) ++ ys
@@ -143,8 +143,8 @@ missing_record r k zero n (x ∷ xs) e q l h a =
     let same : r ≡ k = omega arith in
     ap (λ (s : ℕ). items_at k n (groups_view s x.items ++ records_view (suc r) xs)) same
     ∙ items_missing k n x.items (records_view (suc r) xs) h.0 (h.1).0 (omega (arith, (h.1).1, length-map x.items (λ (g : CodeGroup). g.number)))
-      (λ m. (h.1).2 (omega (arith, length-map x.items (λ (g : CodeGroup). g.number)))) (records_greater k (suc r) xs (omega arith))
-      (subst (λ (s : ℕ). IsAscending (groups_view s x.items ++ records_view (suc r) xs)) same a)
+    (λ m. (h.1).2 (omega (arith, length-map x.items (λ (g : CodeGroup). g.number)))) (records_greater k (suc r) xs (omega arith))
+    (subst (λ (s : ℕ). IsAscending (groups_view s x.items ++ records_view (suc r) xs)) same a)
 missing_record r k (suc i) n (x ∷ xs) e q l h a =
     items_skip k n (groups_view r x.items) (records_view (suc r) xs) (lesser r k x.items (omega arith))
     ∙ missing_record (suc r) k i n xs e (omega arith) (omega arith) h (ascending_behind (groups_view r x.items) (records_view (suc r) xs) a)

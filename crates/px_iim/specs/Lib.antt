@@ -11,7 +11,9 @@ pub mod SpellingLaws
 pub mod SequenceLaws
 pub mod OctetLaws
 pub mod RecordLaws
+pub mod Reading
 pub mod NormalLaws
 pub mod BoundLaws
 pub mod FaultLaws
 pub mod ScanLaws
+pub mod Writing

@@ -28,11 +28,7 @@ impl<'a> Model for Iim<'a> {
 }
 
 // Makes room for the groups of a record number.
-fn reach<'a>(
-    alloc: Global,
-    records: &mut Vec<Vec<Group<'a>>>,
-    rec: u8,
-) -> Result<(), AllocError>
+fn reach<'a>(alloc: Global, records: &mut Vec<Vec<Group<'a>>>, rec: u8) -> Result<(), AllocError>
     requires { vec_len records.old ≤ 256 }
     ensures same { records_view 0 records.new.items ≡ records_view 0 records.old.items }
     ensures there { OnOk result (rec < vec_len records.new) }

@@ -11,8 +11,7 @@ use Rattle.px_bytes.specs.Checks.{Check, first_false, Refuses, Judges}
 use Rattle.px_bytes.specs.CheckLaws.{all_true, Refuses-more, Refuses-behind}
 use Rattle.px_iim.specs.Check.{iim_checks}
 use Rattle.px_iim.specs.FaultLaws.{said_clean}
-use Rattle.px_iim.specs.RecordLaws.{computed_said, said_is_record}
-use Rattle.px_iim.specs.BoundLaws.{normal_bound}
+use Rattle.px_iim.specs.RecordLaws.{computed_said}
 use Rattle.px_tree.specs.Iim.{Iim, iim_of}
 use Rattle.px_tree.specs.Tree as said
 use Rattle.px_tree.specs.Fits.{Fits}
@@ -32,9 +31,6 @@ faulty_says_none x c p h = go (iim_of x) refl
     go : (z : Option Iim) → iim_of x ≡ z → iim_of x ≡ None
     go None e = e
     go (Some i) e = let q : ◌≡◌ {A = Option (Cause × ℕ)} None (Some (c, p)) = sym (said_clean x i (computed_said x i e)) ∙ h in cc
-
-pub fits_too : (b : List ℕ) (m : said.Meaning) → AreBytes b → SaysExif b m → Fits m
-fits_too = said_fits (λ x i octets said. let s = computed_said x i said in (said_is_record x i octets s, normal_bound x i s))
 
 -- a refusal
 pub refused_by : (b : List ℕ) (e : Refusal) → length b ≤ limit → Refuses e (checks b) → IsRefused b e
@@ -72,5 +68,5 @@ module _ (b : List ℕ) (o : Order) (headed : first_false (header_checks b) ≡ 
     tree_refused (Err e) l j = refused_by b e l (tree_refuses e j)
 
     pub tree_fits : (r : Result M Refusal) → AreBytes b → IfOk r (λ m. SaysExif b (see m)) → IfOk r (λ m. Fits (see m))
-    tree_fits (Ok m) a s = fits_too b (see m) a s
+    tree_fits (Ok m) a s = said_fits b (see m) a s
     tree_fits (Err e) a s = tt

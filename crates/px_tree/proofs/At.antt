@@ -1,13 +1,12 @@
 -- Elements of a list by their index.
-use Rattle.std.proofs.Common.{◌≡◌, ℕ, zero, suc, ◌+◌, ◌<◌, ◌==◌, inl, inr, Some, option_map, List, [], ◌∷◌, ◌++◌, map, length, refl, sym, ◌∙◌, ap, subst, arith, eqb-true, ne_eqb, eq-eqb}
+use Rattle.std.proofs.Common.{◌≡◌, ℕ, zero, suc, ◌+◌, ◌<◌, ◌==◌, Some, option_map, List, [], ◌∷◌, ◌++◌, map, length, refl, ◌∙◌, ap, subst, arith, ne_eqb, eq-eqb}
 use Rattle.std.specs.Prelude.{Contains}
 use Rattle.std.specs.List.{AllByRecursion}
-use Rattle.std.proofs.lemmas.Bool.{cond-true, cond-false, cases_Bool}
-use Rattle.std.proofs.lemmas.Option.{slice_get-get_or, slice_get_within, get_or_from_slice_get}
+use Rattle.std.proofs.lemmas.Bool.{cond-true, cond-false}
+use Rattle.std.proofs.lemmas.Option.{slice_get_within, get_or_from_slice_get}
 use Rattle.px_bytes.specs.Range.{Range, Apart, AllApart}
 use Rattle.px_tree.specs.Entry.{Entry, Rising}
 use Rattle.px_tree.specs.Directory.{entry_with}
-use Rattle.px_tree.specs.Roles.{at_tag}
 use Rattle.px_tree.specs.Faults.{At}
 
 module _ {X : Type 0} where
@@ -16,6 +15,11 @@ module _ {X : Type 0} where
   at_each P [] i x h e = cc
   at_each P (y ∷ xs) zero x h e = let q : y ≡ x = cc in subst P q h.0
   at_each P (y ∷ xs) (suc i) x h e = at_each P xs i x h.1 e
+
+  -- what holds at each index holds of each
+  pub each_from_at : (P : X → Type 0) (xs : List X) → ((i : ℕ) (x : X) → At xs i x → P x) → AllByRecursion P xs
+  each_from_at P [] f = tt
+  each_from_at P (x ∷ xs) f = (f 0 x refl, each_from_at P xs (λ i y e. f (suc i) y e))
 
   pub at_map : {Y : Type 0} (f : X → Y) (xs : List X) (i : ℕ) (x : X) → At xs i x → At (map f xs) i (f x)
   at_map f [] i x e = cc
@@ -49,16 +53,6 @@ module _ {X : Type 0} where
       let z : k + 1 + length xs ≡ k + length (x ∷ xs) = omega arith in
       subst (λ k. From all k ys) z (from_right all (k + 1) xs ys (from_tail all k x (xs ++ ys) f))
 
-  -- what holds of each pair holds of the one at a tag
-  pub tag_each : (P : ℕ × X → Type 0) (t : ℕ) (x : X) (xs : List (ℕ × X)) → AllByRecursion P xs → at_tag t xs ≡ Some x → P (t, x)
-  tag_each P t x [] h e = cc
-  tag_each P t x (y ∷ ys) h e = elim (cases_Bool (y.0 == t)) [
-    | inl q ↦ let s : Some y.1 ≡ Some x = sym (cond-true (y.0 == t) (Some y.1) (at_tag t ys) q) ∙ e in
-        let k : y.1 ≡ x = cc in let u : y.0 ≡ t = eqb-true y.0 t q in
-        subst (λ (z : X). P (t, z)) k (subst (λ (u : ℕ). P (u, y.1)) u h.0)
-    | inr q ↦ tag_each P t x ys h.1 (sym (cond-false (y.0 == t) (Some y.1) (at_tag t ys) q) ∙ e)
-  ]
-
 -- ranges that are apart, by their places
 pub at_apart : (rs : List Range) (i j : ℕ) (r s : Range) → AllApart rs → i < j → At rs i r → At rs j s → Apart r s
 at_apart [] i j r s h l e f = cc
@@ -88,9 +82,6 @@ at_found (x ∷ es) (suc i) e r h =
     cond-false (x.tag == e.tag) (Some x) (entry_with e.tag es) (ne_eqb x.tag e.tag (λ q. omega arith)) ∙ at_found es i e r.1 h
 
 -- ---- what a list contains
-
-pub contains_each : {X : Type 0} (P : X → Type 0) (xs : List X) (x : X) → AllByRecursion P xs → Contains xs x → P x
-contains_each P xs x h c = at_each P xs c.0 x h (slice_get-get_or xs c.0 x c.1 ∙ ap (λ y. Some y) c.2)
 
 pub contains_at : {X : Type 0} (xs : List X) (i : ℕ) (x : X) → At xs i x → Contains xs x
 contains_at xs i x e = (i, slice_get_within xs i x e, get_or_from_slice_get xs i x x e)

@@ -1,16 +1,19 @@
 -- Worked examples, computed: what a block says, or its first fault.
-use Rattle.std.proofs.Common.{◌≡◌, ℕ, Option, Some, None, List, [], ◌∷◌, ◌++◌, take, refl}
+use Rattle.std.proofs.Common.{◌≡◌, ℕ, Option, Some, None, List, [], ◌∷◌, ◌++◌, take, refl, lit≤, arith}
 use Rattle.px_bytes.specs.declared.Order.TheVariants.{Least, Most}
 use Rattle.px_bytes.specs.declared.Cause.{Cause}
 use Rattle.px_bytes.specs.declared.Cause.TheVariants.{UnknownKind, HeaderCut, Loop, DirectoryOutside, EmptyDirectory, Overlap, Unsorted, Doubled, UnknownType, MisplacedOffset, PointerForm, ValueOutside, ThumbnailPair, ExtraDirectory, ThumbnailOutside}
 use Rattle.px_bytes.specs.Checks.{first_false}
-use Rattle.px_field.specs.declared.Form.TheVariants.{Byte, Ascii, Short, Rational, Undefined}
+use Rattle.px_bytes.specs.Range.{range}
+use Rattle.px_field.specs.declared.Form.TheVariants.{Byte, Ascii, Short, Long, Rational, Undefined}
 use Rattle.px_field.specs.declared.Kind.TheVariants.{Of, Whole}
 use Rattle.px_field.specs.declared.Element.TheVariants as element
 use Rattle.px_field.specs.Values.{Value}
+use Rattle.px_tree.specs.declared.roles.Dir.TheVariants.{Main, Thumb}
 use Rattle.px_tree.specs.Tree.{Meaning}
-use Rattle.px_tree.specs.Says.{meaning}
+use Rattle.px_tree.specs.Says.{meaning, SaysExif}
 use Rattle.px_tree.specs.Checks.{checks}
+use Rattle.px_tree.specs.Faults.{Fault}
 use Rattle.px_tree.proofs.Opened.{opened}
 
 first_fault : List ℕ → Option (Cause × ℕ)
@@ -38,6 +41,22 @@ one_field = main_only ((0x0112, record { kind = Of Short; elements = element.Sho
 one_entry_says : (first_fault one_entry ≡ None) × (meaning one_entry Most ≡ one_field)
 unfolding first_fault main_only header orientation one_entry one_field opened
 one_entry_says = (refl, refl)
+
+-- and, condition by condition, it says that field
+one_entry_says_exif : SaysExif one_entry one_field
+unfolding main_only header orientation one_entry one_field opened
+one_entry_says_exif = record {
+  order = Most;
+  is_block = record {
+    least = lit≤ tt;
+    most = lit≤ tt;
+    begins = refl;
+    directories = (record { there = refl; rising = (tt, tt); each = (record { known = refl; allowed = refl; formed = refl; inside = refl }, tt) }, (tt, (tt, (tt, (tt, tt)))));
+    thumbnail = tt;
+    apart = (((λ p i j. omega arith), tt), (tt, tt));
+  };
+  says = refl;
+}
 
 -- the same in the other order, with spare bytes that have no meaning
 turned : List ℕ
@@ -274,3 +293,54 @@ maker_note = 0x49 ∷ 0x49 ∷ 0x2A ∷ 0 ∷ 8 ∷ 0 ∷ 0 ∷ 0 ∷ 1 ∷ 0 �
 maker_note_says : (first_fault maker_note ≡ None) × (meaning maker_note Least ≡ record { main = []; iptc = None; exif = Some (record { fields = (0x927C, record { kind = Of Undefined; elements = element.Byte 1 ∷ element.Byte 2 ∷ element.Byte 3 ∷ element.Byte 4 ∷ element.Byte 5 ∷ [] }) ∷ []; interop = None }); gps = None; thumb = None })
 unfolding first_fault main_only maker_note opened
 maker_note_says = (refl, refl)
+
+-- ---- a record inside the block
+
+-- a caption as an extended DataSet of IIM, UNDEFINED
+recorded : List ℕ
+recorded = 0x4D ∷ 0x4D ∷ 0 ∷ 0x2A ∷ 0 ∷ 0 ∷ 0 ∷ 8 ∷ 0 ∷ 1 ∷ 0x83 ∷ 0xBB ∷ 0 ∷ 7 ∷ 0 ∷ 0 ∷ 0 ∷ 0x0C ∷ 0 ∷ 0 ∷ 0 ∷ 0x1A ∷ 0 ∷ 0 ∷ 0 ∷ 0 ∷ 0x1C ∷ 2 ∷ 0x78 ∷ 0x80 ∷ 4 ∷ 0 ∷ 0 ∷ 0 ∷ 3 ∷ 0x61 ∷ 0x62 ∷ 0x63 ∷ []
+
+recorded_says : (first_fault recorded ≡ None) × (meaning recorded Most ≡ record { main = []; iptc = Some (record { rec = 2; number = 120; items = (120, 0x61 ∷ 0x62 ∷ 0x63 ∷ []) ∷ [] } ∷ []); exif = None; gps = None; thumb = None })
+unfolding first_fault main_only recorded opened
+recorded_says = (refl, refl)
+
+-- the same of type BYTE, as a standard DataSet with zeros behind
+recorded_bytes : List ℕ
+recorded_bytes = 0x4D ∷ 0x4D ∷ 0 ∷ 0x2A ∷ 0 ∷ 0 ∷ 0 ∷ 8 ∷ 0 ∷ 1 ∷ 0x83 ∷ 0xBB ∷ 0 ∷ 1 ∷ 0 ∷ 0 ∷ 0 ∷ 0x0B ∷ 0 ∷ 0 ∷ 0 ∷ 0x1A ∷ 0 ∷ 0 ∷ 0 ∷ 0 ∷ 0x1C ∷ 2 ∷ 0x78 ∷ 0 ∷ 3 ∷ 0x61 ∷ 0x62 ∷ 0x63 ∷ 0 ∷ 0 ∷ 0 ∷ []
+
+recorded_bytes_say_the_same : (first_fault recorded_bytes ≡ None) × (meaning recorded_bytes Most ≡ meaning recorded Most)
+unfolding first_fault main_only recorded_bytes recorded opened
+recorded_bytes_say_the_same = (refl, refl)
+
+-- bytes that say no record are a field
+no_record : List ℕ
+no_record = 0x4D ∷ 0x4D ∷ 0 ∷ 0x2A ∷ 0 ∷ 0 ∷ 0 ∷ 8 ∷ 0 ∷ 1 ∷ 0x83 ∷ 0xBB ∷ 0 ∷ 7 ∷ 0 ∷ 0 ∷ 0 ∷ 5 ∷ 0 ∷ 0 ∷ 0 ∷ 0x1A ∷ 0 ∷ 0 ∷ 0 ∷ 0 ∷ 0x1C ∷ 2 ∷ 0x78 ∷ 0x80 ∷ 0 ∷ 0 ∷ []
+
+no_record_says : (first_fault no_record ≡ None) × (meaning no_record Most ≡ main_only ((0x83BB, record { kind = Of Undefined; elements = element.Byte 0x1C ∷ element.Byte 2 ∷ element.Byte 0x78 ∷ element.Byte 0x80 ∷ element.Byte 0 ∷ [] }) ∷ []))
+unfolding first_fault main_only no_record opened
+no_record_says = (refl, refl)
+
+-- and so are LONGs
+record_as_longs : List ℕ
+record_as_longs = 0x4D ∷ 0x4D ∷ 0 ∷ 0x2A ∷ 0 ∷ 0 ∷ 0 ∷ 8 ∷ 0 ∷ 1 ∷ 0x83 ∷ 0xBB ∷ 0 ∷ 4 ∷ 0 ∷ 0 ∷ 0 ∷ 2 ∷ 0 ∷ 0 ∷ 0 ∷ 0x1A ∷ 0 ∷ 0 ∷ 0 ∷ 0 ∷ 0x1C ∷ 2 ∷ 0x78 ∷ 0 ∷ 3 ∷ 0x61 ∷ 0x62 ∷ 0x63 ∷ []
+
+record_as_longs_says : (first_fault record_as_longs ≡ None) × (meaning record_as_longs Most ≡ main_only ((0x83BB, record { kind = Of Long; elements = element.Long 469923840 ∷ element.Long 56713827 ∷ [] }) ∷ []))
+unfolding first_fault main_only record_as_longs opened
+record_as_longs_says = (refl, refl)
+
+-- ---- standing faults
+
+-- the thumbnail directory is named where the main directory stands
+loop_stands : Fault next_to_main Loop 22
+unfolding next_to_main opened
+loop_stands = (Most, Thumb, Main, 8, ((lit≤ tt, refl), refl), ((lit≤ tt, refl), refl), lit≤ tt, refl)
+
+-- the second resolution shares its first byte with the first
+overlap_stands : Fault one_for_both Overlap 22
+unfolding one_for_both opened
+overlap_stands = (Most, 2, 3, 10, range 38 8, range 38 8, 38, (lit≤ tt, refl), lit≤ tt, refl, refl, lit≤ tt, lit≤ tt, (lit≤ tt, lit≤ tt), (lit≤ tt, lit≤ tt))
+
+-- a fault stands behind another too: here the tags fall, which is the first, and the type of the second entry is unknown
+unknown_stands : Fault falling_unknown UnknownType 22
+unfolding falling_unknown opened
+unknown_stands = (Most, Main, 1, record { tag = 0x0100; code = 13; count = 1; last = 0 ∷ 1 ∷ 0 ∷ 0 ∷ [] }, (8, ((lit≤ tt, refl), refl), refl, refl), refl)

@@ -1,5 +1,5 @@
 -- What a block says fits: the tree, and each directory has an entry.
-use Rattle.std.proofs.Common.{◌≡◌, ℕ, zero, suc, ◌+◌, ◌*◌, ◌<◌, ◌≤◌, ◌==◌, nat_lt, inl, inr, true, false, ◌&&◌, Option, Some, None, is_some, option_map, option_and_then, find, List, [], ◌∷◌, map, filter_map, length, take, drop, refl, sym, ◌∙◌, ap, ap₂, subst, arith, ltb-false, eq-eqb, eqb-true, ne_eqb, length-take, length-drop}
+use Rattle.std.proofs.Common.{◌≡◌, ℕ, suc, ◌+◌, ◌*◌, ◌<◌, ◌≤◌, ◌==◌, nat_lt, inl, inr, true, false, ◌&&◌, Option, Some, None, is_some, option_map, option_and_then, find, List, [], ◌∷◌, map, filter_map, length, take, drop, refl, sym, ◌∙◌, ap, ap₂, subst, arith, ltb-false, eq-eqb, eqb-true, ne_eqb, length-take, length-drop}
 use Rattle.std.specs.Prelude.{IfSome, ◌⊎◌}
 use Rattle.std.specs.List.{AllByRecursion, cons_option}
 use Rattle.std.proofs.lemmas.Bool.{cond-true, cond-false, cases_Bool, cond_both}
@@ -17,6 +17,9 @@ use Rattle.px_field.specs.Values.{Value, elements}
 use Rattle.px_field.specs.ElementLaws.{size-pos}
 use Rattle.px_field.specs.PieceLaws.{length-pieces}
 use Rattle.px_field.specs.ValueLaws.{length-elements}
+use Rattle.px_iim.specs.Record.{SaysIim}
+use Rattle.px_iim.specs.RecordLaws.{computed_said, said_is_record}
+use Rattle.px_iim.specs.BoundLaws.{normal_bound}
 use Rattle.px_tree.specs.Iim.{Iim, iim_of, IsRecord, normal_iim}
 use Rattle.px_tree.specs.declared.roles.Dir.{Dir}
 use Rattle.px_tree.specs.declared.roles.Dir.TheVariants.{Main, Exif, Interop, Gps, Thumb}
@@ -34,8 +37,8 @@ use Rattle.px_tree.proofs.InRange.{bytes_part}
 use Rattle.px_tree.proofs.FitsBack.{whole, count_is, Plausible, entries_plausible, bytes_raw, length_raw, value_of, fields_fit}
 
 -- what is used of records: bytes say a whole one, with a normal form no longer than twice the bytes
-abbrev pub IimSaid : Type 0
-IimSaid = (x : List ℕ) (i : Iim) → AreBytes x → iim_of x ≡ Some i → IsRecord i × (length (normal_iim i) ≤ 2 * length x)
+iim_said : (x : List ℕ) (i : Iim) → AreBytes x → iim_of x ≡ Some i → IsRecord i × (length (normal_iim i) ≤ 2 * length x)
+iim_said x i h e = let s : SaysIim x i = computed_said x i e in (said_is_record x i h s, normal_bound x i s)
 
 pub each_at : {X : Type 0} (P : ℕ × X → Type 0) (t : ℕ) (x : X) (xs : List (ℕ × X)) → AllByRecursion P xs → at_tag t xs ≡ Some x → P (t, x)
 each_at P t x [] h e = cc
@@ -92,7 +95,7 @@ found P t (e ∷ es) h = elim (cases_Bool (e.tag == t)) [
   | inr q ↦ subst (λ z. IfSome z P) (sym (cond-false (e.tag == t) (Some e) (entry_with t es) q)) (found P t es h.1)
 ]
 
-module _ (iim_said : IimSaid) (b : List ℕ) (o : Order) (bytes : AreBytes b) (x : IsExif b o) where
+module _ (b : List ℕ) (o : Order) (bytes : AreBytes b) (x : IsExif b o) where
   most : length b ≤ limit
   most = x.most
 
@@ -492,5 +495,5 @@ module _ (iim_said : IimSaid) (b : List ℕ) (o : Order) (bytes : AreBytes b) (x
   }
 
 -- What a block of bytes says fits.
-pub said_fits : IimSaid → (b : List ℕ) (m : Meaning) → AreBytes b → SaysExif b m → Fits m
-said_fits iim_said b m h s = subst Fits (sym s.says) (meaning_fits iim_said b s.order h s.is_block)
+pub said_fits : (b : List ℕ) (m : Meaning) → AreBytes b → SaysExif b m → Fits m
+said_fits b m h s = subst Fits (sym s.says) (meaning_fits b s.order h s.is_block)

@@ -28,11 +28,11 @@ unfolding spelled
 spelled-bytes o v s h = ap (flat_map (spell o)) h ∙ joined_bytes o s
 
 -- is there, or is not none
-pub some_not_none : {X : Type 0} (o : Option X) → IsSome o → o ≡ None → ⊥
+pub some_not_none : {X : Type 0} (o : Option X) → is_some o ≡ true → o ≡ None → ⊥
 some_not_none None h e = let clash : false ≡ true = h in cc
 some_not_none (Some x) h e = let clash : Some x ≡ None = e in cc
 
-pub not_none_some : {X : Type 0} (o : Option X) → (o ≡ None → ⊥) → IsSome o
+pub not_none_some : {X : Type 0} (o : Option X) → (o ≡ None → ⊥) → is_some o ≡ true
 not_none_some None h = absurd (h refl)
 not_none_some (Some x) h = refl
 
@@ -61,9 +61,9 @@ each_absent t (f ∷ fs) h = elim (cases_Bool (f.0 == t)) [
   | inr q ↦ cond-false (f.0 == t) (Some f.1) (at_tag t fs) q ∙ each_absent t fs h.1
 ]
 
-module _ (v : Value) (s : List ℕ) (r : Bool) (elements : v.elements ≡ map Byte s) (test : IsTrue r ↔ IsSome (iim_of s)) where
+module _ (v : Value) (s : List ℕ) (r : Bool) (elements : v.elements ≡ map Byte s) (test : r ≡ is_some (iim_of s)) where
   says : record_in (form_in v.kind) (spelled Least v) ≡ iim_of s → IsTrue r ↔ (record_in (form_in v.kind) (spelled Least v) ≡ None → ⊥)
-  says same = (λ h e. some_not_none (iim_of s) (test.0 h) (sym same ∙ e), λ h. test.1 (not_none_some (iim_of s) (λ e. h (same ∙ e))))
+  says same = (λ h e. some_not_none (iim_of s) (sym test ∙ h) (sym same ∙ e), λ h. test ∙ not_none_some (iim_of s) (λ e. h (same ∙ e)))
 
   -- the bytes of BYTE or UNDEFINED say a record
   pub says_at_byte : v.kind ≡ kind.Of form.Byte → IsTrue r ↔ (record_in (form_in v.kind) (spelled Least v) ≡ None → ⊥)

@@ -23,6 +23,7 @@ use Rattle.px_tree.specs.Directory.{pointer, dir_at, dirs, entries_at, entry_wit
 use Rattle.px_tree.specs.Thumbnail.{both, are_paired, whole_number, numbers, numbers_in, jpeg_range, ranges_of, strip_ranges, bytes_of, IsInside, IsThumbnail}
 use Rattle.px_tree.specs.Footprint.{listed, placed_range, dir_ranges, thumb_ranges, footprint}
 use Rattle.px_tree.specs.Says.{record_at, exif_part, thumbnail, meaning, IsExif, SaysExif}
+use Rattle.px_tree.proofs.EachDir.{each_dir}
 use Rattle.px_tree.proofs.Each.{each_map, each_map₂, each_left, each_right}
 
 -- two blocks that agree at each byte of a range
@@ -202,11 +203,7 @@ module _ (b c : List ℕ) (o : Order) (longer : length b ≤ length c) (most : l
       picked P G Thumb h = each_left P (G Thumb) [] (each_right P (G Gps) _ (each_right P (G Interop) _ (each_right P (G Exif) _ (each_right P (G Main) _ h))))
 
   in_order : (d : Dir) → IfSome (dir_at b o d) (IsDirectory b o d)
-  in_order Main = x.directories.0
-  in_order Exif = x.directories.1.0
-  in_order Interop = x.directories.1.1.0
-  in_order Gps = x.directories.1.1.1.0
-  in_order Thumb = x.directories.1.1.1.1.0
+  in_order d = each_dir (λ d. IfSome (dir_at b o d) (IsDirectory b o d)) x.directories d
 
   module _ (d : Dir) (a : ℕ) (at : dir_at b o d ≡ Some a) where
     dir_is : IsDirectory b o d a

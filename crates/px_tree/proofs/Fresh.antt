@@ -43,7 +43,7 @@ apart_append : (rs ss : List Range) → AllApart rs → AllApart ss → Clear rs
 apart_append [] ss a b c = b
 apart_append (r ∷ rs) ss a b c = (each_append (Apart r) rs ss a.0 (unturned r rs ss c), apart_append rs ss a.1 b (each_map (λ s. AllByRecursion (Apart s) (r ∷ rs)) (λ s. AllByRecursion (Apart s) rs) (λ s h. h.1) ss c))
 
-apart_left : (rs ss : List Range) → AllApart (rs ++ ss) → AllApart rs
+pub apart_left : (rs ss : List Range) → AllApart (rs ++ ss) → AllApart rs
 apart_left [] ss h = tt
 apart_left (r ∷ rs) ss h = (each_left (Apart r) rs ss h.0, apart_left rs ss h.1)
 

@@ -9,7 +9,7 @@ use Rattle.px_bytes.specs.declared.Order.TheVariants.{Least, Most}
 use Rattle.px_bytes.specs.declared.Cause.{Cause}
 use Rattle.px_bytes.specs.Parts.{limit, part}
 use Rattle.px_bytes.specs.Range.{Range, range, Apart, AllApart, shares, is_free}
-use Rattle.px_bytes.specs.RangeLaws.{shares-apart}
+use Rattle.px_bytes.specs.ApartLaws.{apart_each}
 use Rattle.px_bytes.specs.Checks.{Check, first_false}
 use Rattle.px_tree.specs.declared.roles.Dir.{Dir}
 use Rattle.px_tree.specs.declared.roles.Dir.TheVariants.{Thumb}
@@ -34,12 +34,8 @@ pub none_false : (cs : List Check) → first_false cs ≡ None → AllHold cs
 none_false [] e = tt
 none_false (c ∷ cs) e = elim (cases_Bool c.holds) [
   | inl t ↦ (t, none_false cs (sym (cond-true c.holds (first_false cs) (Some (c.cause, c.place)) t) ∙ e))
-  | inr t ↦ let q : Some (c.cause, c.place) ≡ None = sym (cond-false c.holds (first_false cs) (Some (c.cause, c.place)) t) ∙ e in cc
+  | inr t ↦ let q : ◌≡◌ {A = Option (Cause × ℕ)} (Some (c.cause, c.place)) None = sym (cond-false c.holds (first_false cs) (Some (c.cause, c.place)) t) ∙ e in cc
 ]
-
-pub apart_each : (r : Range) (rs : List Range) → is_free rs r ≡ true → AllByRecursion (Apart r) rs
-apart_each r [] e = tt
-apart_each r (s ∷ rs) e = let p = and_parts (not (shares r s)) (is_free rs r) e in (shares-apart r s (not-true (shares r s) p.0), apart_each r rs p.1)
 
 -- ---- one entry and all entries
 
@@ -204,7 +200,7 @@ module _ (b : List ℕ) (o : Order) where
 
 -- ---- the header
 
-pub bytes-true : (xs ys : List ℕ) → same_bytes xs ys ≡ true → xs ≡ ys
+bytes-true : (xs ys : List ℕ) → same_bytes xs ys ≡ true → xs ≡ ys
 bytes-true [] [] h = refl
 bytes-true (x ∷ xs) (y ∷ ys) h = let p = and_parts (x == y) (same_bytes xs ys) h in ap₂ (λ z zs. z ∷ zs) (eqb-true x y p.0) (bytes-true xs ys p.1)
 bytes-true [] (y ∷ ys) h = cc
@@ -218,7 +214,7 @@ pub order_told : (b : List ℕ) (o : Order) → take 4 b ≡ magic o → order_o
 order_told b Least h = ap (λ x. if same_bytes x (magic Least) then Some Least else if same_bytes x (magic Most) then Some Most else None) h
 order_told b Most h = ap (λ x. if same_bytes x (magic Least) then Some Least else if same_bytes x (magic Most) then Some Most else None) h
 
-all_magic : (b : List ℕ) (o : Order) → 8 ≤ length b → take (length b) (magic o) ≡ magic o
+pub all_magic : (b : List ℕ) (o : Order) → 8 ≤ length b → take (length b) (magic o) ≡ magic o
 all_magic b Least l = take_all (length b) (magic Least) (omega arith)
 all_magic b Most l = take_all (length b) (magic Most) (omega arith)
 

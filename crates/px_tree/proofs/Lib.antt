@@ -11,6 +11,7 @@ pub mod FieldLemmas
 pub mod SameLists
 pub mod ItemCounts
 pub mod FitLemmas
+pub mod EachDir
 pub mod Owned
 pub mod Footprint
 pub mod Fresh

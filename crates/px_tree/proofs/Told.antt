@@ -7,7 +7,7 @@ use Rattle.px_bytes.specs.declared.Order.{Order}
 use Rattle.px_bytes.specs.declared.Cause.{Cause}
 use Rattle.px_bytes.specs.declared.Cause.TheVariants.{Overlap}
 use Rattle.px_bytes.specs.Range.{Range, shares, is_free}
-use Rattle.px_bytes.specs.RangeLaws.{shares-byte}
+use Rattle.px_bytes.specs.ApartLaws.{byte_from_test}
 use Rattle.px_bytes.specs.Checks.{Check, first_false}
 use Rattle.px_tree.specs.Thumbnail.{IsInside}
 use Rattle.px_tree.specs.Checks.{is_free_value}
@@ -31,7 +31,7 @@ first_told b [] c p h e = cc
 first_told b (k ∷ cs) c p h e = elim (cases_Bool k.holds) [
   | inl t ↦ first_told b cs c p (h.1 t) (sym (cond-true k.holds (first_false cs) (Some (k.cause, k.place)) t) ∙ e)
   | inr t ↦
-      let q : Some (k.cause, k.place) ≡ Some (c, p) = sym (cond-false k.holds (first_false cs) (Some (k.cause, k.place)) t) ∙ e in
+      let q : ◌≡◌ {A = Option (Cause × ℕ)} (Some (k.cause, k.place)) (Some (c, p)) = sym (cond-false k.holds (first_false cs) (Some (k.cause, k.place)) t) ∙ e in
       let r : ◌≡◌ {A = Cause × ℕ} (k.cause, k.place) (c, p) = cc in
       subst (λ (f : Cause × ℕ). Fault b f.0 f.1) r (h.0 t)
 ]
@@ -82,7 +82,7 @@ module _ (b : List ℕ) (o : Order) where
   overlap_told g k p s (r ∷ held) a h i e = elim (and_cases (not (shares s r)) (is_free held s) e) [
     | inl q ↦
         let w = h.0 in
-        let y = shares-byte s r (not-false (shares s r) q) in
+        let y = byte_from_test s r (not-false (shares s r) q) in
         (o, w.index, k, w.place, r, s, y.0, g, w.before, w.owner, a, w.inside, i, y.2, y.1)
     | inr q ↦ overlap_told g k p s held a h.1 i q
   ]

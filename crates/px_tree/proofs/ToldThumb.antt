@@ -15,7 +15,7 @@ use Rattle.px_tree.specs.Footprint.{listed}
 use Rattle.px_tree.specs.Checks.{place_with, pair_place, same_count, pair_checks, end_checks, range_checks, part_checks, thumb_checks}
 use Rattle.px_tree.specs.Faults.{At, Reached, EntryAt, thumb_owners, owners, partners, PartAt, Fault}
 use Rattle.px_tree.proofs.Owned.{ranges-placed}
-use Rattle.px_tree.proofs.At.{From, from_head, from_tail, from_left, from_right, at_each, contains_at}
+use Rattle.px_tree.proofs.At.{From, from_head, from_tail, from_left, from_right, at_each, each_from_at, contains_at}
 use Rattle.px_tree.proofs.Judged.{ranges_facts}
 use Rattle.px_tree.proofs.Told.{Tells, tells_append, Held, held_cons, held_append, overlap_told}
 
@@ -37,10 +37,6 @@ found_at t p (x ∷ es) e h = elim (cases_Bool (x.tag == t)) [
       let w = found_at t (p + 12) es e (sym (cond-false (x.tag == t) (Some x) (entry_with t es) q) ∙ h) in
       record { index = suc w.index; is = w.is; place = cond-false (x.tag == t) p (place_with t (p + 12) es) q ∙ w.place ∙ (let z : p + 12 + 12 * w.index ≡ p + 12 * suc w.index = omega arith in z); tag = w.tag }
 ]
-
-each_at : {X : Type 0} (P : X → Type 0) (xs : List X) → ((i : ℕ) (x : X) → At xs i x → P x) → AllByRecursion P xs
-each_at P [] f = tt
-each_at P (x ∷ xs) f = (f 0 x refl, each_at P xs (λ i y e. f (suc i) y e))
 
 module _ (b : List ℕ) (o : Order) (a : ℕ) (reached : Reached b o Thumb a) (each : AllByRecursion (IsEntry b o Thumb) (entries_at b o a)) where
   abbrev es : List Entry
@@ -120,7 +116,7 @@ module _ (b : List ℕ) (o : Order) (a : ℕ) (reached : Reached b o Thumb a) (e
           let u = found strip_offsets_tag y k in
           let v = found strip_lengths_tag z l in
           let rs = ranges_of (numbers b o y) (numbers b o z) in
-          each_at (PartAt b o (place_with strip_offsets_tag (a + 2) es)) rs
+          each_from_at (PartAt b o (place_with strip_offsets_tag (a + 2) es)) rs
           (λ i r h. (u.index, v.index, place_with strip_lengths_tag (a + 2) es, y, z, entry_there strip_offsets_tag y k, entry_there strip_lengths_tag z l, entry_fine strip_offsets_tag y k, entry_fine strip_lengths_tag z l, inr (u.tag, v.tag, contains_at rs i r h)))
 
   -- ranges that are named at p

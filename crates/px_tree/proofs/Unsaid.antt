@@ -1,11 +1,9 @@
 -- Where a fault stands, no meaning is said.
-use Rattle.std.proofs.Common.{◌≡◌, ℕ, ◌+◌, ◌<◌, ◌≤◌, nat_le, ◌⊎◌, inl, inr, true, Option, Some, None, is_some, option_map, List, [], ◌∷◌, ◌++◌, flat_map, length, take, refl, sym, ◌∙◌, ap, ap₂, subst, arith, leb-true}
+use Rattle.std.proofs.Common.{◌≡◌, ℕ, ◌+◌, ◌<◌, ◌≤◌, nat_le, ◌⊎◌, inl, inr, true, Option, Some, None, is_some, option_map, List, [], ◌++◌, flat_map, length, sym, ◌∙◌, ap, ap₂, subst, arith, leb-true}
 use Rattle.std.specs.Prelude.{IfSome}
 use Rattle.std.specs.List.{AllByRecursion}
 use Rattle.std.proofs.lemmas.Bool.{and_parts, true≢false}
-use Rattle.std.proofs.lemmas.List.{take_all}
 use Rattle.px_bytes.specs.declared.Order.{Order}
-use Rattle.px_bytes.specs.declared.Order.TheVariants.{Least, Most}
 use Rattle.px_bytes.specs.declared.Cause.{Cause}
 use Rattle.px_bytes.specs.declared.Cause.TheVariants as cause
 use Rattle.px_bytes.specs.Parts.{part}
@@ -17,28 +15,20 @@ use Rattle.px_tree.specs.declared.roles.Role.TheVariants.{Forbidden}
 use Rattle.px_tree.specs.Roles.{jpeg_offset_tag, jpeg_length_tag, strip_offsets_tag, strip_lengths_tag, role}
 use Rattle.px_tree.specs.Tree.{Meaning}
 use Rattle.px_tree.specs.Entry.{Entry, short, table_size, has_table, is_allowed, offset, IsEntry, IsDirectory}
-use Rattle.px_tree.specs.Directory.{magic, dirs, dir_at, entries_at, entry_with}
+use Rattle.px_tree.specs.Directory.{dirs, dir_at, entries_at, entry_with}
 use Rattle.px_tree.specs.Thumbnail.{both, are_paired, numbers, jpeg_range, ranges_of, strip_ranges, IsInside, IsThumbnail}
 use Rattle.px_tree.specs.Footprint.{listed, dir_ranges, ranges_at, thumb_ranges, footprint}
 use Rattle.px_tree.specs.Says.{IsExif, SaysExif}
 use Rattle.px_tree.specs.Faults.{At, Begins, EntryAt, dir_number, owners, partners, IsAlone, IsUneven, Names, PartAt, Fault}
+use Rattle.px_tree.proofs.EachDir.{each_dir}
 use Rattle.px_tree.proofs.Each.{each_left, each_right}
-use Rattle.px_tree.proofs.Fresh.{Clear, clear_across, apart_right}
+use Rattle.px_tree.proofs.Fresh.{Clear, clear_across, apart_left, apart_right}
 use Rattle.px_tree.proofs.Owned.{ranges, owners_own}
-use Rattle.px_tree.proofs.At.{at_each, at_map, at_apart, at_rising, at_found, tag_each, contains_each}
-
--- ---- the header
-
--- a header is of one order
-pub one_order : (o p : Order) → magic o ≡ magic p → o ≡ p
-one_order Least Least h = refl
-one_order Most Most h = refl
-one_order Least Most h = cc
-one_order Most Least h = cc
-
-pub all_magic : (n : ℕ) (o : Order) → 8 ≤ n → take n (magic o) ≡ magic o
-all_magic n Least l = take_all n (magic Least) (omega arith)
-all_magic n Most l = take_all n (magic Most) (omega arith)
+use Rattle.px_tree.proofs.OneMeaning.{magic_tells}
+use Rattle.px_tree.proofs.Filled.{each_at}
+use Rattle.px_tree.proofs.Judged.{all_magic}
+use Rattle.px_tree.proofs.Members.{each_member}
+use Rattle.px_tree.proofs.At.{at_each, at_map, at_apart, at_rising, at_found}
 
 -- ---- no directory stands twice
 
@@ -106,18 +96,10 @@ module _ (b : List ℕ) (o : Order) (x : IsExif b o) where
 
   dirs_apart : AllApart (flat_map of_dir dirs)
   unfolding footprint
-  dirs_apart = go (flat_map of_dir dirs) x.apart.1
-    where
-      go : (rs : List Range) → AllApart (rs ++ of_thumb) → AllApart rs
-      go [] h = tt
-      go (r ∷ rs) h = (each_left (Apart r) rs of_thumb h.0, go rs h.1)
+  dirs_apart = apart_left (flat_map of_dir dirs) of_thumb x.apart.1
 
   in_order : (d : Dir) → IfSome (dir_at b o d) (IsDirectory b o d)
-  in_order Main = x.directories.0
-  in_order Exif = x.directories.1.0
-  in_order Interop = x.directories.1.1.0
-  in_order Gps = x.directories.1.1.1.0
-  in_order Thumb = x.directories.1.1.1.1.0
+  in_order d = each_dir (λ d. IfSome (dir_at b o d) (IsDirectory b o d)) x.directories d
 
   one_place : (d : Dir) (a c : ℕ) → dir_at b o d ≡ Some a → dir_at b o d ≡ Some c → a ≡ c
   one_place d a c h k = let q : Some a ≡ Some c = sym h ∙ k in cc
@@ -220,24 +202,24 @@ module _ (b : List ℕ) (o : Order) (x : IsExif b o) where
     )
 
     alone_unsaid : (i : ℕ) (e : Entry) → At ts i e → IsAlone e ts → ⊥
-    alone_unsaid i e h (u, q, n) = tag_each HasPartner e.tag u partners have_partners q e (found Thumb a at i e h) n
+    alone_unsaid i e h (u, q, n) = each_at HasPartner e.tag u partners have_partners q e (found Thumb a at i e h) n
 
-    at_tag_found : (i t : ℕ) (e : Entry) → At ts i e → e.tag ≡ t → entry_with t ts ≡ Some e
-    at_tag_found i t e h q = subst (λ t. entry_with t ts ≡ Some e) q (found Thumb a at i e h)
+    tag_found : (i t : ℕ) (e : Entry) → At ts i e → e.tag ≡ t → entry_with t ts ≡ Some e
+    tag_found i t e h q = subst (λ t. entry_with t ts ≡ Some e) q (found Thumb a at i e h)
 
     uneven_unsaid : (i : ℕ) (e : Entry) → At ts i e → IsUneven e ts → ⊥
     uneven_unsaid i e h (f, q, k, n) =
-        let same : Some e.count ≡ Some f.count = sym (ap (option_map (λ (e : Entry). e.count)) (at_tag_found i strip_offsets_tag e h q)) ∙ thumb_is.strip_counts ∙ ap (option_map (λ (e : Entry). e.count)) k in
+        let same : Some e.count ≡ Some f.count = sym (ap (option_map (λ (e : Entry). e.count)) (tag_found i strip_offsets_tag e h q)) ∙ thumb_is.strip_counts ∙ ap (option_map (λ (e : Entry). e.count)) k in
         n cc
 
     part_inside : (i j : ℕ) (e n : Entry) (r : Range) → At ts i e → At ts j n → Names b o e n r → IsInside b r
     unfolding jpeg_range strip_ranges
     part_inside i j e n r h k (inl (t, u, q)) =
-        let is : jpeg_range o ts ≡ Some (range (offset o e) (offset o n)) = ap₂ (both (λ x n. range (offset o x) (offset o n))) (at_tag_found i jpeg_offset_tag e h t) (at_tag_found j jpeg_length_tag n k u) in
+        let is : jpeg_range o ts ≡ Some (range (offset o e) (offset o n)) = ap₂ (both (λ x n. range (offset o x) (offset o n))) (tag_found i jpeg_offset_tag e h t) (tag_found j jpeg_length_tag n k u) in
         subst (IsInside b) (sym q) (subst (λ z. IfSome z (IsInside b)) is thumb_is.jpeg_inside)
     part_inside i j e n r h k (inr (t, u, q)) =
-        let is : strip_ranges b o ts ≡ Some (ranges_of (numbers b o e) (numbers b o n)) = ap₂ (both (λ x n. ranges_of (numbers b o x) (numbers b o n))) (at_tag_found i strip_offsets_tag e h t) (at_tag_found j strip_lengths_tag n k u) in
-        contains_each (IsInside b) (ranges_of (numbers b o e) (numbers b o n)) r (subst (λ z. IfSome z (AllByRecursion (IsInside b))) is thumb_is.strips_inside) q
+        let is : strip_ranges b o ts ≡ Some (ranges_of (numbers b o e) (numbers b o n)) = ap₂ (both (λ x n. ranges_of (numbers b o x) (numbers b o n))) (tag_found i strip_offsets_tag e h t) (tag_found j strip_lengths_tag n k u) in
+        each_member (IsInside b) (ranges_of (numbers b o e) (numbers b o n)) r (subst (λ z. IfSome z (AllByRecursion (IsInside b))) is thumb_is.strips_inside) q
 
   pair_unsaid : (a i p : ℕ) (e : Entry) → dir_at b o Thumb ≡ Some a → At (entries_at b o a) i e → IsAlone e (entries_at b o a) ⊎ IsUneven e (entries_at b o a) → ⊥
   pair_unsaid a i p e h k (inl s) = alone_unsaid a h i e k s
@@ -250,13 +232,13 @@ module _ (b : List ℕ) (o : Order) (x : IsExif b o) where
 
 -- the order of a fault is that of what is said
 block : (b : List ℕ) (m : Meaning) (o : Order) (s : SaysExif b m) → Begins b o → IsExif b o
-block b m o s h = subst (IsExif b) (one_order s.order o (sym s.is_block.begins ∙ h.1)) s.is_block
+block b m o s h = subst (IsExif b) (magic_tells s.order o (sym s.is_block.begins ∙ h.1)) s.is_block
 
 -- Where a fault stands, no meaning is said.
 pub stands_unsaid : (b : List ℕ) (c : Cause) (p : ℕ) (m : Meaning) → Fault b c p → SaysExif b m → ⊥
 stands_unsaid b cause.TooLong p m f s = let l = f.1 in let k = s.is_block.most in omega arith
 stands_unsaid b cause.UnknownKind p m (q, inl z) s = let l = s.is_block.least in omega arith
-stands_unsaid b cause.UnknownKind p m (q, inr n) s = n s.order (s.is_block.begins ∙ sym (all_magic (length b) s.order s.is_block.least))
+stands_unsaid b cause.UnknownKind p m (q, inr n) s = n s.order (s.is_block.begins ∙ sym (all_magic b s.order s.is_block.least))
 stands_unsaid b cause.HeaderCut p m f s = let l = f.1 in let k = s.is_block.least in omega arith
 stands_unsaid b cause.Loop p m (o, d, e, a, h, k, l, q) s = loop_unsaid b o (block b m o s h.0) d e a h.1 k.1 l
 stands_unsaid b cause.DirectoryOutside p m (o, d, a, h, q, l) s = outside_unsaid b o (block b m o s h.0) d a h.1 l

@@ -16,9 +16,9 @@ ghost use Rattle.px_tree.specs.Reading.{IsHeld, is_whole, entries_from};
 use crate::entries::{Head, Shape, judge_entry};
 use crate::fields::Fields;
 use crate::roles::{Dir, Role};
-use crate::values::accepts;
 use px_bytes::{Order, Ranges, Refusal};
 use px_field::{Form, Value, read_value, read_whole};
+use px_iim::accepts;
 use std::alloc::Global;
 
 // The bytes of a block from a place on.

@@ -1,5 +1,5 @@
-// The fields of a directory.
-ghost use Rattle.std.specs.Prelude.{◌≡◌, ◌<◌, ◌≤◌, [], ◌∷◌, ◌++◌, OnOk, IfOk, IfErr, OnErr, Some, None, length, slice_get, option_copied, is_some, true, false};
+// The fields of a directory, by their tags.
+ghost use Rattle.std.specs.Prelude.{◌≡◌, ◌<◌, ◌≤◌, [], ◌∷◌, ◌++◌, OnOk, IfOk, IfErr, OnErr, Some, None, length, slice_get, option_copied, is_some, true, false, IsTrue, ◌↔◌};
 ghost use Rattle.px_tree.specs.Roles.{at_tag};
 ghost use Rattle.px_tree.specs.Fits.{put};
 ghost use Rattle.px_tree.specs.Entry.{Rising};
@@ -9,7 +9,12 @@ use px_field::Value;
 use std::alloc::{AllocError, Global};
 use std::marker::Model;
 
-/// The fields of a directory, by their tags.
+/// The fields of a directory: a finite map from tag to value. TIFF 6.0 section 2, "Image File
+/// Directory" and "Sort Order".
+///
+/// The fields stand in a vector by ascending tag, so that a tag is found by halving, and fields that
+/// come by ascending tag, as in a block, are put behind the others. A field that comes in between
+/// moves those behind it.
 #[derive(Drop)]
 pub struct Fields<'a> {
     list: Vec<(u16, Value<'a>)>,
@@ -27,6 +32,7 @@ impl<'a> Model for Fields<'a> {
 }
 
 impl<'a> Fields<'a> {
+    /// No fields. Takes no memory; `alloc` serves the fields that are put later.
     pub fn new(alloc: Global) -> Fields<'a>
         ensures { result ≡ [] }
     {
@@ -35,6 +41,7 @@ impl<'a> Fields<'a> {
         }
     }
 
+    /// How many fields there are: at most 65,536, one for each tag. Takes no memory.
     pub fn len(&self) -> usize
         ensures value { result ≡ length self.now }
         ensures order { Rising (tags self.now) }
@@ -42,7 +49,14 @@ impl<'a> Fields<'a> {
         self.list.len()
     }
 
-    /// The field at `i`, in ascending order of the tags.
+    /// Whether there are none. Takes no memory.
+    pub fn is_empty(&self) -> bool
+        ensures { IsTrue result ↔ (self.now ≡ []) }
+    {
+        self.list.is_empty()
+    }
+
+    /// The tag and the value at place `i`, counted from 0 by ascending tag. Takes no memory.
     pub fn at(&self, i: usize) -> (u16, &Value<'a>)
         requires { i < length self.now }
         ensures { slice_get self.now i ≡ Some (result.0, result.1.now) }
@@ -51,6 +65,7 @@ impl<'a> Fields<'a> {
         (*tag, value)
     }
 
+    /// The value at a tag, where there is one. Takes no memory.
     pub fn get(&self, tag: u16) -> Option<&Value<'a>>
         ensures { option_copied result ≡ at_tag tag self.now }
     {
@@ -60,7 +75,9 @@ impl<'a> Fields<'a> {
         }
     }
 
-    /// Puts a field, unless the tag is there.
+    /// Puts a field, unless its tag is there: true where it was put, false where the tag was there
+    /// already. On false, and on an error, which comes for want of memory alone, the value is dropped
+    /// and nothing has changed.
     pub fn put(&mut self, tag: u16, value: Value<'a>) -> Result<bool, AllocError>
         ensures fresh { IfOk result (λ fresh. fresh ≡ true → (at_tag tag self.old ≡ None) × (self.new ≡ put tag value.entry self.old)) }
         ensures there { IfOk result (λ fresh. fresh ≡ false → (is_some (at_tag tag self.old) ≡ true) × (self.new ≡ self.old)) }

@@ -16,9 +16,9 @@ use crate::fields::Fields;
 use crate::meanings::{ExifPart, Meaning, Thumb};
 use crate::roles::{Dir, Role, role_of};
 use crate::strips::Strips;
-use crate::values::{Iim, accepts, normal_len};
 use px_bytes::LIMIT;
 use px_field::{Form, Kind, Value};
+use px_iim::{Iim, accepts, normal_len};
 
 /// Whether a meaning can be written: every tag is plain or widened in its directory, and its value
 /// isn't `Whole` at a plain tag, nor SHORT or LONG at a widened one; bytes at 0x83BB in the main

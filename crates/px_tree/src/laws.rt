@@ -6,12 +6,12 @@ pub fn one_meaning()
     ensures { OneMeaning }
 {}
 
+/// What a block of bytes says fits.
+pub fn said_fits()
+    ensures { SaidFits }
+{}
+
 /// The fields of a directory are exactly the pairs of tag and value that its entries mean.
 pub fn fields_are_pairs()
     ensures { FieldsArePairs }
-{}
-
-/// What a block of bytes says can be written.
-pub fn said_fits()
-    ensures { SaidFits }
 {}

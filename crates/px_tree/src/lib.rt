@@ -15,9 +15,10 @@ mod roles;
 mod same;
 mod strips;
 mod tables;
+#[cfg(test)]
+mod tests;
 mod thumbnail;
 mod tree;
-mod values;
 
 pub use fields::Fields;
 pub use fitting::fits;
@@ -26,4 +27,3 @@ pub use read::read_block;
 pub use roles::{Dir, Role};
 pub use same::same_meaning;
 pub use strips::Strips;
-pub use values::Iim;

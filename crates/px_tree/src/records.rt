@@ -15,9 +15,9 @@ use crate::field_reading::raw_of;
 use crate::links::{Found, find_entry};
 use crate::roles::Dir;
 use crate::tables::Directory;
-use crate::values::{Iim, read_iim};
 use px_bytes::{Order, Refusal};
 use px_field::Form;
+use px_iim::{Iim, read_iim};
 use std::alloc::Global;
 
 // The record that bytes say, if they say one.

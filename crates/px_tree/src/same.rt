@@ -5,8 +5,8 @@ ghost use Rattle.px_tree.specs.Seen.{exif_of, thumb_of, meaning_of};
 use crate::fields::Fields;
 use crate::meanings::{ExifPart, Meaning, Thumb};
 use crate::strips::Strips;
-use crate::values::{Iim, same_iim};
 use px_field::same_value;
+use px_iim::{Iim, same_iim};
 
 /// Whether two meanings are the same: the same directories with the same fields, the same record,
 /// the same JPEG and the same strips. Takes no memory.

@@ -5,7 +5,7 @@ use Rattle.px_iim.proofs.iim.reach.Given as goal
 abbrev pub invariant-loop-alloc : goal.invariant-loop-alloc
 invariant-loop-alloc l = record {
   same : records_view 0 l.records.items ≡ records_view 0 l.initial.records.items;
-  bounded : vec_len l.records ≤ 256
+  bounded : vec_len l.records ≤ 256;
 }
 
 abbrev pub decreases-loop-alloc : goal.decreases-loop-alloc

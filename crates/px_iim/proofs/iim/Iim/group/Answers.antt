@@ -10,13 +10,13 @@ found : (k n m : ℕ) (vs : List (Vec Group Global)) (v : Vec Group Global) (gs 
     → Holds n gs items → items ≡ items_at k m (records_view 0 vs)
 found k n m vs v gs items l e f q h =
     sym (found_record 0 k k m vs v items (sym (zero-add k)) l
-      (subst (λ (x : ℕ). Holds x (get_or vs k v).items items) q (subst (λ (x : List Group). Holds n x items) (f ∙ ap (λ (x : Vec Group Global). x.items) e) h)))
+    (subst (λ (x : ℕ). Holds x (get_or vs k v).items items) q (subst (λ (x : List Group). Holds n x items) (f ∙ ap (λ (x : Vec Group Global). x.items) e) h)))
 
 missing : (k n m : ℕ) (vs : List (Vec Group Global)) (v : Vec Group Global) (gs : List Group) → k < length vs → v ≡ get_or vs k v → gs ≡ v.items → n ≡ m
     → MissingIn n (numbers gs) → AreGroups (records_view 0 vs) → [] ≡ items_at k m (records_view 0 vs)
 missing k n m vs v gs l e f q h a =
     sym (missing_record 0 k k m vs v (sym (zero-add k)) l
-      (subst (λ (x : ℕ). MissingIn x (numbers (get_or vs k v).items)) q (subst (λ (x : List Group). MissingIn n (numbers x)) (f ∙ ap (λ (x : Vec Group Global). x.items) e) h)) a.ascending)
+    (subst (λ (x : ℕ). MissingIn x (numbers (get_or vs k v).items)) q (subst (λ (x : List Group). MissingIn n (numbers x)) (f ∙ ap (λ (x : Vec Group Global). x.items) e) h)) a.ascending)
 
 pub returns-then-rec-len : goal.returns-then-rec-len
 returns-then-rec-len c =

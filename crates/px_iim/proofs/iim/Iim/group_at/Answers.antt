@@ -47,4 +47,4 @@ none vs k left i xs o l h e =
 pub returns : goal.returns
 returns c =
     none c.self.inside.records.items c.loop-rec.rec c.loop-rec.left c.args.i c.args.self.now _ (omega (arith, c.self.inside.records.ok.0, c.len-rec-end.ensures, c.loop-rec-test.false)) c.requires
-      (ap (λ (xs : Record). slice_get xs c.args.i) (sym c.self.view_is) ∙ c.loop-rec.invariant)
+    (ap (λ (xs : Record). slice_get xs c.args.i) (sym c.self.view_is) ∙ c.loop-rec.invariant)

@@ -25,23 +25,25 @@ same k vs old v e i a b r h =
 pub invariant_of-self-2 : goal.invariant_of-self-2
 invariant_of-self-2 c =
     let there : c.args.rec < length c.reach.new.records.items = omega (arith, c.in_ok-reach.ensures.there, c.reach.new.records.ok.0) in
-    let whole : AreGroups (records_view 0 c.self.inside.records.items) = (c.self.invariant.2) in
-    (c.self.invariant.0, omega (arith, c.reach.ensures.bounded),
+    let whole : AreGroups (records_view 0 c.self.inside.records.items) = (c.self.invariant.2) in (
+      c.self.invariant.0,
+      omega (arith, c.reach.ensures.bounded),
       elim (ok_or_err c.add.result c.add.ensures.done c.add.ensures.failed) [
         | inl h ↦ subst AreGroups (sym (more c.args.rec c.args.number c.args.octets.now c.reach.new.records.items c.self.inside.records.items c.add.new.groups c.index_mut-groups.result.now (records_view 0 c.self.inside.records.items) c.reach.ensures.same refl there c.index_mut-groups.ensures.value h))
             (whole_put (record { rec = c.args.rec; number = c.args.number; octets = c.args.octets.now }) c.ranges.rec.fits c.ranges.number.fits (λ i. (c.type_inv.octets i).fits) c.requires _ whole)
         | inr h ↦ subst AreGroups (sym (same c.args.rec c.reach.new.records.items c.self.inside.records.items c.add.new.groups c.index_mut-groups.result.now (records_view 0 c.self.inside.records.items) c.reach.ensures.same refl c.index_mut-groups.ensures.value h)) whole
-      ])
+      ],
+    )
 
 pub returns-clause-done : goal.returns-clause-done
 returns-clause-done c =
     let there : c.args.rec < length c.reach.new.records.items = omega (arith, c.in_ok-reach.ensures.there, c.reach.new.records.ok.0) in
     on_ok_weaker c.add.result
-      (λ h. more c.args.rec c.args.number c.args.octets.now c.reach.new.records.items c.self.inside.records.items c.add.new.groups c.index_mut-groups.result.now c.args.self.now c.reach.ensures.same c.self.view_is there c.index_mut-groups.ensures.value h)
-      c.add.ensures.done
+    (λ h. more c.args.rec c.args.number c.args.octets.now c.reach.new.records.items c.self.inside.records.items c.add.new.groups c.index_mut-groups.result.now c.args.self.now c.reach.ensures.same c.self.view_is there c.index_mut-groups.ensures.value h)
+    c.add.ensures.done
 
 pub returns-clause-failed : goal.returns-clause-failed
 returns-clause-failed c =
     on_err_weaker c.add.result
-      (λ h. same c.args.rec c.reach.new.records.items c.self.inside.records.items c.add.new.groups c.index_mut-groups.result.now c.args.self.now c.reach.ensures.same c.self.view_is c.index_mut-groups.ensures.value h)
-      c.add.ensures.failed
+    (λ h. same c.args.rec c.reach.new.records.items c.self.inside.records.items c.add.new.groups c.index_mut-groups.result.now c.args.self.now c.reach.ensures.same c.self.view_is c.index_mut-groups.ensures.value h)
+    c.add.ensures.failed

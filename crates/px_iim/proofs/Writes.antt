@@ -1,0 +1,167 @@
+-- Parts put one behind another.
+use Rattle.std.proofs.Common.{◌≡◌, ℕ, zero, suc, ◌+◌, ◌<◌, ◌≤◌, ◌++◌, List, [], ◌∷◌, length, take, drop, get_or, slice_get, Option, Some, None, Result, Ok, Err, refl, sym, ap, ◌∙◌, subst, inl, inr, map, option_map, unwrap_or, is_ok, if◌then◌else◌, nat_le, le-leb, arith, append_assoc, append-nil, length-append}
+use Rattle.std.specs.List.{flat_map, AllByRecursion}
+use Rattle.std.specs.Io.KnownBytes.{Appends}
+use Rattle.std.proofs.lemmas.List.{take_more, flat_map_more, drop_more, take-append-drop, take-take, take_at}
+use Rattle.std.proofs.lemmas.List.Concat.{flat_map-append}
+use Rattle.std.proofs.lemmas.Option.{slice_get_within, get_or_from_slice_get, slice_get-map, slice_get-get_or}
+use Rattle.px_bytes.specs.Parts.{limit}
+use Rattle.px_bytes.specs.Devices.{AppendsPrefix, Writes}
+use Rattle.px_bytes.specs.WriteLaws.{appends_none, appends_both, prefix_first, prefix_second, prefix_all}
+use Rattle.px_iim.specs.Writing.{Owes, Puts, AreShort, Grows, normal_head, most, within as within_most}
+use Rattle.px_iim.specs.Group.{Group, IsGroup, IsItem}
+use Rattle.px_iim.specs.Record.{normal_dataset}
+use Rattle.px_iim.specs.View.{item_view}
+use Rattle.px_iim.specs.declared.group.Item.{Item}
+use Rattle.px_iim.specs.BoundLaws.{length-normal_dataset}
+use Rattle.std.proofs.lemmas.Bool.{cond-true, cond-false, cases_lt, lt-leb}
+
+pub owes_more : (a b c : Option (List ℕ)) (h k out octets : List ℕ) → Owes a b h out → Owes b c k (h ++ octets) → Owes a c k (out ++ octets)
+owes_more a b c h k out octets p q = (
+  p.0 ++ q.0,
+  appends_both a b c p.0 q.0 p.1 q.1,
+  append_assoc p.0 q.0 k ∙ ap (λ (l : List ℕ). p.0 ++ l) q.2 ∙ sym (append_assoc p.0 h octets) ∙ ap (λ (l : List ℕ). l ++ octets) p.2,
+)
+
+pub owes_stop : (a b c : Option (List ℕ)) (h out octets : List ℕ) → Owes a b h out → AppendsPrefix b c (h ++ octets) → AppendsPrefix a c (out ++ octets)
+owes_stop a b c h out octets p q =
+    subst (AppendsPrefix a c) (sym (append_assoc p.0 h octets) ∙ ap (λ (l : List ℕ). l ++ octets) p.2) (prefix_second a b c p.0 (h ++ octets) p.1 q)
+
+-- two parts
+pub puts_both : {A E : Type 0} (r : Result A E) (a b c : Option (List ℕ)) (h k m xs ys : List ℕ) → Owes a b k (h ++ xs) → Puts r b c k m ys → Puts r a c h m (xs ++ ys)
+puts_both (Ok x) a b c h k m xs ys p q = subst (Owes a c m) (append_assoc h xs ys) (owes_more a b c k m (h ++ xs) ys p q)
+puts_both (Err e) a b c h k m xs ys p q = subst (AppendsPrefix a c) (append_assoc h xs ys) (owes_stop a b c k (h ++ xs) ys p q)
+
+-- the first of two parts failed
+pub puts_first : (a b : Option (List ℕ)) (h xs ys : List ℕ) → AppendsPrefix a b (h ++ xs) → AppendsPrefix a b (h ++ (xs ++ ys))
+puts_first a b h xs ys p = subst (AppendsPrefix a b) (append_assoc h xs ys) (prefix_first a b (h ++ xs) ys p)
+
+-- octets that were written at once, behind what waited
+pub puts_written : {A E : Type 0} (r : Result A E) (a b c : Option (List ℕ)) (h k octets : List ℕ) → k ≡ [] → Appends a b h → Writes r b c octets → Puts r a c h k octets
+puts_written (Ok x) a b c h k octets e p q = (h ++ octets, appends_both a b c h octets p q, ap (λ (l : List ℕ). h ++ octets ++ l) e ∙ append-nil (h ++ octets))
+puts_written (Err x) a b c h k octets e p q = prefix_second a b c h octets p q
+
+-- ---- the parts of a list's elements
+
+module _ {X : Type 0} (f : X → List ℕ) (xs : List X) (i : ℕ) (x : X) (read : slice_get xs i ≡ Some x) where
+  within : i < length xs
+  within = slice_get_within xs i x read
+
+  element : get_or xs i x ≡ x
+  element = get_or_from_slice_get xs i x x read
+
+  pub parts_more : flat_map f (take (i + 1) xs) ≡ flat_map f (take i xs) ++ f x
+  parts_more =
+      ap (flat_map f) (take_more xs i x within ∙ ap (λ (y : X). take i xs ++ y ∷ []) element)
+      ∙ sym (flat_map_more f [] (take i xs) x)
+
+  parts_all : flat_map f xs ≡ flat_map f (take i xs) ++ (f x ++ flat_map f (drop (i + 1) xs))
+  parts_all =
+      ap (flat_map f) (sym (take-append-drop i xs)) ∙ flat_map-append f (take i xs) (drop i xs)
+      ∙ ap (λ (ys : List X). flat_map f (take i xs) ++ flat_map f ys) (drop_more xs i x within)
+      ∙ ap (λ (y : X). flat_map f (take i xs) ++ (f y ++ flat_map f (drop (i + 1) xs))) element
+
+  pub loop_more : (a b c : Option (List ℕ)) (h k m : List ℕ) → Owes a b k (h ++ flat_map f (take i xs)) → Owes b c m (k ++ f x) → Owes a c m (h ++ flat_map f (take (i + 1) xs))
+  loop_more a b c h k m p q =
+      subst (Owes a c m) (append_assoc h (flat_map f (take i xs)) (f x) ∙ ap (λ (l : List ℕ). h ++ l) (sym parts_more))
+      (owes_more a b c k m (h ++ flat_map f (take i xs)) (f x) p q)
+
+  pub loop_stop : (a b c : Option (List ℕ)) (h k : List ℕ) → Owes a b k (h ++ flat_map f (take i xs)) → AppendsPrefix b c (k ++ f x) → AppendsPrefix a c (h ++ flat_map f xs)
+  loop_stop a b c h k p q =
+      let stop = owes_stop a b c k (h ++ flat_map f (take i xs)) (f x) p q in
+      let rest = flat_map f (drop (i + 1) xs) in
+      let out : h ++ flat_map f (take i xs) ++ f x ++ rest ≡ h ++ flat_map f xs =
+      append_assoc (h ++ flat_map f (take i xs)) (f x) rest ∙ append_assoc h (flat_map f (take i xs)) (f x ++ rest) ∙ ap (λ (l : List ℕ). h ++ l) (sym parts_all) in
+      subst (AppendsPrefix a c) out (prefix_first a c (h ++ flat_map f (take i xs) ++ f x) rest stop)
+
+  pub grows_more : (old now new : List ℕ) → now ≡ old ++ flat_map f (take i xs) → new ≡ now ++ f x → new ≡ old ++ flat_map f (take (i + 1) xs)
+  grows_more old now new e h =
+      h ∙ ap (λ (l : List ℕ). l ++ f x) e ∙ append_assoc old (flat_map f (take i xs)) (f x) ∙ ap (λ (l : List ℕ). old ++ l) (sym parts_more)
+
+  pub all_at : (P : X → Type 0) → AllByRecursion P xs → P x
+  all_at P a = go xs i read a where
+    go : (ys : List X) (j : ℕ) → slice_get ys j ≡ Some x → AllByRecursion P ys → P x
+    go [] j e b = absurd (cc)
+    go (y ∷ ys) zero e b = let same : y ≡ x = cc in subst P same b.0
+    go (y ∷ ys) (suc j) e b = go ys j e b.1
+
+-- ---- lengths
+
+pub parts_left : {X : Type 0} (f : X → List ℕ) (xs : List X) (i : ℕ) (x : X) → slice_get xs i ≡ Some x
+    → length (flat_map f (drop i xs)) ≡ length (f x) + length (flat_map f (drop (i + 1) xs))
+parts_left f xs i x read =
+    let here : flat_map f (drop i xs) ≡ f x ++ flat_map f (drop (i + 1) xs) =
+    ap (flat_map f) (drop_more xs i x (slice_get_within xs i x read)) ∙ ap (λ y. f y ++ flat_map f (drop (i + 1) xs)) (get_or_from_slice_get xs i x x read) in
+    ap length here ∙ length-append (f x) (flat_map f (drop (i + 1) xs))
+
+-- a length counts no record number
+pub same_length : (r s : ℕ) (xs : List (ℕ × List ℕ)) → length (flat_map (normal_dataset r) xs) ≡ length (flat_map (normal_dataset s) xs)
+same_length r s [] = refl
+same_length r s (x ∷ xs) =
+    omega (
+      arith,
+      length-append (normal_dataset r x) (flat_map (normal_dataset r) xs),
+      length-append (normal_dataset s x) (flat_map (normal_dataset s) xs),
+      length-normal_dataset r x,
+      length-normal_dataset s x,
+      same_length r s xs,
+    )
+
+pub within_past : (n : ℕ) → most < n → None ≡ within_most n
+within_past n h = sym (cond-false (nat_le n most) (Some n) None (lt-leb n most h))
+
+pub within_some : (n m : ℕ) → n ≡ m → m ≤ most → Some n ≡ within_most m
+within_some n m e h = ap (λ (k : ℕ). Some k) e ∙ sym (cond-true (nat_le m most) (Some m) None (le-leb m most h))
+
+pub some_within : (n m : ℕ) → Some n ≡ within_most m → (n ≡ m) × (m ≤ most)
+some_within n m e = elim (cases_lt most m) [
+  | inl l ↦ let clash : ◌≡◌ {A = Option ℕ} (Some n) None = e ∙ sym (within_past m l) in absurd (cc)
+  | inr l ↦ let same : ◌≡◌ {A = Option ℕ} (Some n) (Some m) = e ∙ sym (within_some m m refl l) in (cc, l)
+]
+
+pub none_more : (m n : ℕ) → None ≡ within_most m → m ≤ n → None ≡ within_most n
+none_more m n e h = elim (cases_lt most m) [
+  | inl l ↦ within_past n (omega arith)
+  | inr l ↦ let clash : ◌≡◌ {A = Option ℕ} None (Some m) = e ∙ sym (within_some m m refl l) in absurd (cc)
+]
+
+-- what a loop names where there is no item
+abbrev pub no_item : Item
+no_item = record { number = 0; octets = record { ref_ptr = (0, 0); now = [] } }
+
+pub item_read : (items : List Item) (i : ℕ) (d : Item) → i < length items → slice_get (map item_view items) i ≡ Some (item_view (get_or items i d))
+item_read items i d h = slice_get-map item_view items i ∙ ap (option_map item_view) (slice_get-get_or items i d h)
+
+pub group_short : (g : Group) → IsGroup g → AreShort g.items
+group_short g h = go g.items h.items where
+  go : (xs : List (ℕ × List ℕ)) → AllByRecursion (IsItem g.rec g.number) xs → AreShort xs
+  go [] a = tt
+  go (x ∷ xs) a = ((a.0).bounded, go xs a.1)
+
+-- ---- growth
+
+pub grows_stop : (old now new parts : List ℕ) → now ≡ old ++ parts → take (length now) new ≡ now → take (length old) new ≡ old
+grows_stop old now new parts e f =
+    let short : length old ≤ length now = omega (arith, ap length e, length-append old parts) in
+    sym (take-take (length old) (length now) new short) ∙ ap (take (length old)) (f ∙ e) ∙ take_at old parts (length old) refl
+
+pub grows_item : {A E : Type 0} (r : Result A E) (old now new head octets whole : List ℕ) → now ≡ old ++ head → new ≡ (if is_ok r then now ++ octets else now) → head ++ octets ≡ whole → Grows r old new whole
+grows_item (Ok x) old now new head octets whole e h w = h ∙ ap (λ (l : List ℕ). l ++ octets) e ∙ append_assoc old head octets ∙ ap (λ (l : List ℕ). old ++ l) w
+grows_item (Err x) old now new head octets whole e h w = ap (take (length old)) (h ∙ e) ∙ take_at old head (length old) refl
+
+-- a DataSet is its head and its data
+pub head_and_data : (rec number : ℕ) (octets head : List ℕ) → head ≡ normal_head rec number (length octets) → head ++ octets ≡ normal_dataset rec (number, octets)
+unfolding normal_head normal_dataset
+head_and_data rec number octets head e = ap (λ (h : List ℕ). h ++ octets) e
+
+-- a length that is counted and no more than the limit
+pub counted : (o : Option ℕ) (n l : ℕ) → o ≡ within_most n → l ≡ unwrap_or o 16777217 → l ≤ limit → (l ≡ n) × (n ≤ limit)
+counted None n l e f h = absurd (omega arith)
+counted (Some m) n l e f h = let s = some_within m n e in (omega (arith, s.0), omega (arith, s.0))
+
+pub not_counted : (o : Option ℕ) (n l : ℕ) → o ≡ within_most n → l ≡ unwrap_or o 16777217 → limit < l → limit < n
+not_counted None n l e f h = elim (cases_lt most n) [
+  | inl k ↦ omega arith
+  | inr k ↦ let clash : ◌≡◌ {A = Option ℕ} None (Some n) = e ∙ sym (within_some n n refl k) in absurd (cc)
+]
+not_counted (Some m) n l e f h = let s = some_within m n e in omega (arith, s.0)

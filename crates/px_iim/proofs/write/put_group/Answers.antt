@@ -1,0 +1,24 @@
+use Rattle.std.proofs.Common.{◌≡◌, ℕ, ◌++◌, Some, get_or, map, length, slice_get, arith, [], ◌∙◌, ◌≤◌}
+use Rattle.std.proofs.lemmas.Result.{err_from_is_err_and}
+use Rattle.px_bytes.specs.Parts.{limit}
+use Rattle.px_iim.specs.Record.{normal_dataset}
+use Rattle.px_iim.specs.View.{item_view}
+use Rattle.px_iim.proofs.Writes.{item_read, all_at, loop_more, loop_stop}
+use Rattle.px_iim.proofs.write.put_group.Goals as goal
+
+pub put_item-requires-clause-short : goal.put_item-requires-clause-short
+put_item-requires-clause-short g c =
+    all_at (normal_dataset 0) (map item_view c.args.items.now) c.loop-item.item-index _ (item_read c.args.items.now c.loop-item.item-index _ c.loop-item-test.true) (λ x. length x.1 ≤ limit) c.requires.short
+
+pub returns-in_err-put_item-clause-bytes : goal.returns-in_err-put_item-clause-bytes
+returns-in_err-put_item-clause-bytes g c =
+    let p = err_from_is_err_and c.from_residual.result c.from_residual.ensures.1 in
+    rw p.1 (loop_stop (normal_dataset c.args.rec) (map item_view c.args.items.now) c.loop-item.item-index _ (item_read c.args.items.now c.loop-item.item-index _ c.loop-item-test.true)
+    _ _ _ c.args.pending.now c.loop-item.pending c.loop-item.invariant.owes c.in_err-put_item.ensures.bytes)
+
+pub loop-item-preserved : goal.loop-item-preserved
+loop-item-preserved g c = record {
+  owes = loop_more (normal_dataset c.args.rec) (map item_view c.args.items.now) c.loop-item.item-index _ (item_read c.args.items.now c.loop-item.item-index _ c.loop-item-test.true)
+      _ _ _ c.args.pending.now c.loop-item.pending c.put_item.new.pending c.loop-item.invariant.owes c.in_ok-put_item.ensures.bytes;
+  count = c.in_ok-put_item.ensures.count ∙ c.loop-item.invariant.count;
+}

@@ -1,0 +1,31 @@
+-- What was read of a block, and what a refusal of it tells.
+use Rattle.std.specs.Prelude.{◌≡◌, ◌≤◌, ℕ, true, List, drop, Option, Some, None, Result, Ok, Err, ⊤}
+use Rattle.px_bytes.specs.declared.Refusal.{Refusal}
+use Rattle.px_bytes.specs.declared.Refusal.TheVariants.{Content, OutOfMemory}
+use Rattle.px_bytes.specs.Checks.{first_false}
+use Rattle.px_bytes.specs.Parts.{limit}
+use Rattle.px_iim.specs.declared.dataset.Found.{Found}
+use Rattle.px_iim.specs.DataSet.{DataSet}
+use Rattle.px_iim.specs.Group.{Record}
+use Rattle.px_iim.specs.Record.{SaysIim, iim_of, size, dataset, is_dataset}
+use Rattle.px_iim.specs.Check.{dataset_checks, Stands}
+
+abbrev pub found_view : Found → DataSet
+found_view f = record { rec = f.rec; number = f.number; octets = f.octets.now }
+
+-- a DataSet stands in front of x, and this is it
+pub record Reads (x : List ℕ) (f : Found) : Type 0 where
+  pub there : is_dataset x ≡ true
+  pub value : found_view f ≡ dataset x
+  pub sized : f.size ≡ size x
+
+-- the DataSet at a place, or the first of its checks that is false
+abbrev pub JudgesAt : Result Found Refusal → List ℕ → ℕ → Type 0
+JudgesAt (Ok f) x at = Reads (drop at x) f
+JudgesAt (Err (Content cause place)) x at = first_false (dataset_checks at (drop at x)) ≡ Some (cause, place)
+JudgesAt (Err OutOfMemory) x at = ⊥
+
+-- a refusal of content carries a fault that stands, at a place up to the limit, and the block says nothing
+abbrev pub RefusesIim : List ℕ → Refusal → Type 0
+RefusesIim x (Content cause place) = Stands x cause place × (place ≤ limit) × (iim_of x ≡ None) × ((i : Record) → SaysIim x i → ⊥)
+RefusesIim x OutOfMemory = ⊤

@@ -1,0 +1,49 @@
+-- What writing a record does.
+use Rattle.std.specs.Prelude.{◌≡◌, ◌<◌, ◌≤◌, ◌+◌, ◌*◌, ℕ, nat_le, if◌then◌else◌, List, [], ◌∷◌, ◌++◌, length, take, Option, Some, None, Result, Ok, Err}
+use Rattle.std.specs.List.{AllByRecursion}
+use Rattle.std.specs.Io.KnownBytes.{Appends}
+use Rattle.px_bytes.specs.declared.WriteRefusal.{WriteRefusal}
+use Rattle.px_bytes.specs.declared.WriteRefusal.TheVariants.{NormalTooLong, OutOfMemory, WriteFailed}
+use Rattle.px_bytes.specs.Devices.{AppendsPrefix}
+use Rattle.px_bytes.specs.Parts.{limit}
+use Rattle.px_iim.specs.DataSet.{marker}
+use Rattle.px_iim.specs.Group.{Record}
+use Rattle.px_iim.specs.Record.{normal_count, normal_iim}
+
+-- a normal form is counted up to this length, twice the longest block's
+abbrev pub most : ℕ
+most = 33554432
+
+-- the length, where it is at most that
+abbrev pub within : ℕ → Option ℕ
+within n = if nat_le n most then Some n else None
+
+-- each item's data has at most as many octets as a block
+abbrev pub AreShort : List (ℕ × List ℕ) → Type 0
+AreShort items = AllByRecursion (λ x. length x.1 ≤ limit) items
+
+-- a DataSet up to its data
+unfoldable pub normal_head : ℕ → ℕ → ℕ → List ℕ
+normal_head rec number n = marker ∷ rec ∷ number ∷ normal_count n
+
+-- of `out` the writer has taken all but the octets `held`
+abbrev pub Owes : Option (List ℕ) → Option (List ℕ) → List ℕ → List ℕ → Type 0
+Owes old new held out = (w : List ℕ) × Appends old new w × (w ++ held ≡ out)
+
+-- the octets follow those held, and are held or taken; where a call failed, the writer has taken a prefix of all these
+abbrev pub Puts : {A E : Type 0} → Result A E → Option (List ℕ) → Option (List ℕ) → List ℕ → List ℕ → List ℕ → Type 0
+Puts (Ok x) old new held held_now octets = Owes old new held_now (held ++ octets)
+Puts (Err e) old new held held_now octets = AppendsPrefix old new (held ++ octets)
+
+-- the writer has taken the record's normal form, whose length is answered; a form that is too long leaves the writer as it
+-- was; where a call failed, the writer has taken a prefix of the form
+abbrev pub WritesIim : Result ℕ WriteRefusal → Option (List ℕ) → Option (List ℕ) → ℕ → ℕ → Record → Type 0
+WritesIim (Ok n) old new failed failed_now i = Appends old new (normal_iim i) × (n ≡ length (normal_iim i)) × (n ≤ limit) × (failed_now ≡ failed)
+WritesIim (Err NormalTooLong) old new failed failed_now i = (limit < length (normal_iim i)) × (new ≡ old) × (failed_now ≡ failed)
+WritesIim (Err WriteFailed) old new failed failed_now i = (length (normal_iim i) ≤ limit) × AppendsPrefix old new (normal_iim i) × (failed_now ≡ failed + 1)
+WritesIim (Err OutOfMemory) old new failed failed_now i = ⊥
+
+-- the octets stand behind the old ones; where a growth was refused, some of them may
+abbrev pub Grows : {A E : Type 0} → Result A E → List ℕ → List ℕ → List ℕ → Type 0
+Grows (Ok x) old new octets = new ≡ old ++ octets
+Grows (Err e) old new octets = take (length old) new ≡ old

@@ -1,0 +1,77 @@
+// A whole block, read DataSet by DataSet.
+ghost use Rattle.std.specs.Prelude.{◌≡◌, ◌≤◌, ℕ, length, Some, is_some, IfOk, IfErr, Option, None};
+ghost use Rattle.px_bytes.specs.Checks.{Judges};
+ghost use Rattle.px_iim.specs.Record.{SaysIim, iim_of};
+ghost use Rattle.px_iim.specs.Check.{iim_checks};
+ghost use Rattle.px_iim.specs.Reading.{JudgesAt, RefusesIim};
+
+use crate::dataset::{Found, is_end, read_dataset, rest};
+use crate::iim::Iim;
+use px_bytes::{Cause, LIMIT, Refusal};
+use std::alloc::Global;
+
+// The DataSet at a place, or the refusal of it.
+fn dataset_at<'a>(bytes: &'a [u8], at: usize) -> Result<Found<'a>, Refusal>
+    requires inside { at ≤ length bytes.now }
+    requires bounded { length bytes.now ≤ 16777216 }
+    ensures { JudgesAt result bytes.now at }
+{
+    match read_dataset(rest(bytes, at)) {
+        Ok(found) => Ok(found),
+        Err(cause) => Err(Refusal::Content {
+            cause,
+            place: at as u32,
+        }),
+    }
+}
+
+// Reads the groups, judged by the checks.
+fn read_groups<'a>(alloc: Global, bytes: &'a [u8]) -> Result<Iim<'a>, Refusal>
+    requires { length bytes.now ≤ 16777216 }
+    ensures { Judges result (iim_checks bytes.now) (λ i. iim_of bytes.now ≡ Some i) }
+{
+    let mut record = Iim::new(alloc);
+    let mut at = 0;
+    loop {
+        let found = dataset_at(bytes, at)?;
+        record.push(found.rec, found.number, found.octets)?;
+        at += found.size;
+        if is_end(rest(bytes, at)) {
+            return Ok(record);
+        }
+    }
+}
+
+/// The record that a block says.
+pub fn read_iim<'a>(alloc: Global, bytes: &'a [u8]) -> Result<Iim<'a>, Refusal>
+    ensures judged { Judges result (iim_checks bytes.now) (SaysIim bytes.now) }
+    ensures computed { IfOk result (λ i. iim_of bytes.now ≡ Some i) }
+    ensures stands { IfErr result (RefusesIim bytes.now) }
+{
+    if bytes.len() > LIMIT as usize {
+        return Err(Refusal::Content {
+            cause: Cause::TooLong,
+            place: LIMIT,
+        });
+    }
+    read_groups(alloc, bytes)
+}
+
+/// Whether the octets say a record.
+pub fn accepts(bytes: &[u8]) -> bool
+    ensures { result ≡ is_some (iim_of bytes.now) }
+{
+    if bytes.len() > LIMIT as usize {
+        return false;
+    }
+    let mut at = 0;
+    loop {
+        let Ok(found) = read_dataset(rest(bytes, at)) else {
+            return false;
+        };
+        at += found.size;
+        if is_end(rest(bytes, at)) {
+            return true;
+        }
+    }
+}

@@ -1,0 +1,54 @@
+// Records that are the same.
+ghost use Rattle.std.specs.Prelude.{◌≡◌, map, MatchBool};
+ghost use Rattle.px_iim.specs.View.{item_view, part_view};
+
+use crate::group::Item;
+use crate::iim::Iim;
+
+fn same_octets(first: &[u8], second: &[u8]) -> bool
+    ensures { MatchBool result (first.now ≡ second.now) (first.now ≡ second.now → ⊥) }
+{
+    first == second
+}
+
+fn same_item(first: &Item, second: &Item) -> bool
+    ensures { MatchBool result (item_view first.now ≡ item_view second.now) (item_view first.now ≡ item_view second.now → ⊥) }
+{
+    first.number == second.number && same_octets(first.octets, second.octets)
+}
+
+fn same_items(first: &[Item], second: &[Item]) -> bool
+    ensures { MatchBool result (map item_view first.now ≡ map item_view second.now) (map item_view first.now ≡ map item_view second.now → ⊥) }
+{
+    if first.len() != second.len() {
+        return false;
+    }
+    for i in 0..first.len() {
+        if !same_item(&first[i], &second[i]) {
+            return false;
+        }
+    }
+    true
+}
+
+fn same_group(first: (u8, u8, &[Item]), second: (u8, u8, &[Item])) -> bool
+    ensures { MatchBool result (part_view first.entry ≡ part_view second.entry) (part_view first.entry ≡ part_view second.entry → ⊥) }
+{
+    first.0 == second.0 && first.1 == second.1 && same_items(first.2, second.2)
+}
+
+/// Whether two records hold the same groups with the same lists.
+pub fn same_iim(first: &Iim, second: &Iim) -> bool
+    ensures { MatchBool result (first.now ≡ second.now) (first.now ≡ second.now → ⊥) }
+{
+    let groups = first.groups();
+    if groups != second.groups() {
+        return false;
+    }
+    for i in 0..groups {
+        if !same_group(first.group_at(i), second.group_at(i)) {
+            return false;
+        }
+    }
+    true
+}

@@ -1,0 +1,184 @@
+// The normal form, written and measured.
+ghost use Rattle.std.specs.Prelude.{◌≡◌, ◌≤◌, ◌<◌, ◌+◌, ◌^◌, ◌++◌, [], ℕ, length, map, OnOk, OnErr};
+ghost use Rattle.std.specs.List.{flat_map};
+ghost use Rattle.px_bytes.specs.Devices.{Counts};
+ghost use Rattle.px_iim.specs.Record.{normal_count, normal_dataset, normal_group, normal_iim};
+ghost use Rattle.px_iim.specs.View.{item_view};
+ghost use Rattle.px_iim.specs.Writing.{AreShort, Grows, Puts, WritesIim, within};
+
+use crate::dataset::TOP_BIT;
+use crate::group::Item;
+use crate::head::head;
+use crate::iim::Iim;
+use crate::pending::Pending;
+use px_bytes::{Failed, LIMIT, Sink, WriteRefusal};
+use std::alloc::AllocError;
+
+// A normal form is counted up to this length.
+const MOST: usize = 2 * LIMIT as usize;
+
+fn put_item<W: Sink>(
+    pending: &mut Pending,
+    writer: &mut W,
+    rec: u8,
+    item: &Item,
+) -> Result<(), Failed>
+    requires few { W.failed writer.old + 1 < 2 ^ 64 }
+    requires short { length item.now.octets.now ≤ 16777216 }
+    ensures bytes { Puts result (W.bytes_taken writer.old) (W.bytes_taken writer.new) pending.old pending.new (normal_dataset rec (item_view item.now)) }
+    ensures count { Counts result (W.failed writer.old) (W.failed writer.new) }
+{
+    let (octets, len) = head(rec, item.number, item.octets.len() as u32);
+    pending.put(writer, &octets[..len])?;
+    pending.put(writer, item.octets)
+}
+
+fn put_group<W: Sink>(
+    pending: &mut Pending,
+    writer: &mut W,
+    rec: u8,
+    items: &[Item],
+) -> Result<(), Failed>
+    requires few { W.failed writer.old + 1 < 2 ^ 64 }
+    requires short { AreShort (map item_view items.now) }
+    ensures bytes { Puts result (W.bytes_taken writer.old) (W.bytes_taken writer.new) pending.old pending.new (flat_map (normal_dataset rec) (map item_view items.now)) }
+    ensures count { Counts result (W.failed writer.old) (W.failed writer.new) }
+{
+    for item in items {
+        put_item(pending, writer, rec, item)?;
+    }
+    Ok(())
+}
+
+fn put_record<W: Sink>(pending: &mut Pending, writer: &mut W, iim: &Iim) -> Result<(), Failed>
+    requires { W.failed writer.old + 1 < 2 ^ 64 }
+    ensures bytes { Puts result (W.bytes_taken writer.old) (W.bytes_taken writer.new) pending.old pending.new (normal_iim iim.now) }
+    ensures count { Counts result (W.failed writer.old) (W.failed writer.new) }
+{
+    for i in 0..iim.groups() {
+        let (rec, _, items) = iim.group_at(i);
+        put_group(pending, writer, rec, items)?;
+    }
+    Ok(())
+}
+
+// How long a DataSet is up to its data.
+fn head_len(count: usize) -> usize
+    ensures value { result ≡ 3 + length (normal_count count) }
+    ensures bound { result ≤ 9 }
+{
+    if count < TOP_BIT as usize {
+        return 5;
+    }
+    9
+}
+
+// A length with one more DataSet, where it is at most MOST.
+fn with_item(total: usize, item: &Item) -> Option<usize>
+    requires { total ≤ 33554432 }
+    ensures { result ≡ within (total + length (normal_dataset 0 (item_view item.now))) }
+{
+    let len = item.octets.len();
+    if len > MOST - total {
+        return None;
+    }
+    let longer = total + head_len(len) + len;
+    if longer > MOST {
+        return None;
+    }
+    Some(longer)
+}
+
+// A length with the DataSets of a group.
+fn with_group(total: usize, items: &[Item]) -> Option<usize>
+    requires { total ≤ 33554432 }
+    ensures { result ≡ within (total + length (flat_map (normal_dataset 0) (map item_view items.now))) }
+{
+    let mut total = total;
+    for item in items {
+        total = with_item(total, item)?;
+    }
+    Some(total)
+}
+
+/// The length of the normal form.
+pub fn normal_len(iim: &Iim) -> Option<u32>
+    ensures { result ≡ within (length (normal_iim iim.now)) }
+{
+    let mut total = 0;
+    for i in 0..iim.groups() {
+        let (_, _, items) = iim.group_at(i);
+        total = with_group(total, items)?;
+    }
+    Some(total as u32)
+}
+
+/// Writes the normal form, without a flush.
+pub fn write_iim_part<W: Sink>(iim: &Iim, writer: &mut W) -> Result<u64, WriteRefusal>
+    requires few { W.failed writer.old + 1 < 2 ^ 64 }
+    requires some { 0 < length iim.now }
+    ensures { WritesIim result (W.bytes_taken writer.old) (W.bytes_taken writer.new) (W.failed writer.old) (W.failed writer.new) iim.now }
+{
+    let len = normal_len(iim).unwrap_or(LIMIT + 1);
+    if len > LIMIT {
+        return Err(WriteRefusal::NormalTooLong);
+    }
+    let mut pending = Pending::new();
+    put_record(&mut pending, writer, iim)?;
+    pending.send(writer)?;
+    Ok(u64::from(len))
+}
+
+/// Writes the normal form, and flushes once.
+pub fn write_iim<W: Sink>(iim: &Iim, writer: &mut W) -> Result<u64, WriteRefusal>
+    requires few { W.failed writer.old + 1 < 2 ^ 64 }
+    requires some { 0 < length iim.now }
+    ensures { WritesIim result (W.bytes_taken writer.old) (W.bytes_taken writer.new) (W.failed writer.old) (W.failed writer.new) iim.now }
+{
+    let len = write_iim_part(iim, writer)?;
+    writer.flush_all()?;
+    Ok(len)
+}
+
+fn append_item(rec: u8, item: &Item, out: &mut Vec<u8>) -> Result<(), AllocError>
+    requires { length item.now.octets.now ≤ 16777216 }
+    ensures { Grows result out.old.items out.new.items (normal_dataset rec (item_view item.now)) }
+{
+    let (octets, len) = head(rec, item.number, item.octets.len() as u32);
+    out.extend_from_slice(&octets[..len])?;
+    out.extend_from_slice(item.octets)
+}
+
+fn append_group(rec: u8, items: &[Item], out: &mut Vec<u8>) -> Result<(), AllocError>
+    requires { AreShort (map item_view items.now) }
+    ensures { Grows result out.old.items out.new.items (flat_map (normal_dataset rec) (map item_view items.now)) }
+{
+    for item in items {
+        append_item(rec, item, out)?;
+    }
+    Ok(())
+}
+
+fn append_record(iim: &Iim, out: &mut Vec<u8>) -> Result<(), AllocError>
+    ensures { Grows result out.old.items out.new.items (normal_iim iim.now) }
+{
+    for i in 0..iim.groups() {
+        let (rec, _, items) = iim.group_at(i);
+        append_group(rec, items, out)?;
+    }
+    Ok(())
+}
+
+/// Appends the normal form.
+pub fn append_iim(iim: &Iim, out: &mut Vec<u8>) -> Result<(), AllocError>
+    requires { length (normal_iim iim.now) ≤ 33554432 }
+    ensures done { OnOk result (out.new.items ≡ out.old.items ++ normal_iim iim.now) }
+    ensures failed { OnErr result (out.new.items ≡ out.old.items) }
+{
+    let before = out.len();
+    let result = append_record(iim, out);
+    if result.is_err() {
+        out.truncate(before);
+    }
+    result
+}

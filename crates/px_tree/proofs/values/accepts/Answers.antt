@@ -1,3 +1,0 @@
-use Rattle.px_tree.proofs.values.accepts.Goals as goal
-pub returns : goal.returns
-returns c = ?
