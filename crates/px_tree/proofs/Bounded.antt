@@ -127,10 +127,13 @@ module _ (b : List ℕ) (o : Order) where
 
   near_dir : Begins b o → (d : Dir) (a : ℕ) → dir_at b o d ≡ Some a → AllByRecursion IsNear (dir_owners b o d a)
   unfolding dir_owners
-  near_dir g d a h = (named_bound g d a h, elim (entries_bound a) [
-    | inl e ↦ subst (λ (es : List Entry). AllByRecursion IsNear (value_owners o (a + 2) es)) (sym e.0) tt
-    | inr l ↦ near_values (a + 2) (entries_at b o a) l
-  ])
+  near_dir g d a h = (
+    named_bound g d a h,
+    elim (entries_bound a) [
+      | inl e ↦ subst (λ (es : List Entry). AllByRecursion IsNear (value_owners o (a + 2) es)) (sym e.0) tt
+      | inr l ↦ near_values (a + 2) (entries_at b o a) l
+    ],
+  )
 
   near_at : Begins b o → (d : Dir) (z : Option ℕ) → dir_at b o d ≡ z → AllByRecursion IsNear (listed (option_map (dir_owners b o d) z))
   near_at g d None h = tt

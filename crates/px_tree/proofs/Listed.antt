@@ -72,7 +72,7 @@ module _ (b : List ℕ) (o : Order) (a : ℕ) (bounded : length b ≤ limit) whe
           inside = is.inside;
           shown = is.shown;
           formed = ap (λ (c : ℕ). is_code c) is.shown.code ∙ sym (form e) ∙ ap (λ (u : ℕ). has_form (role Thumb u) e) (sym k.1) ∙ k.0.formed;
-          whole = k.0.inside
+          whole = k.0.inside;
         }
 
     pub have_numbers : (t : ℕ) → ((e : Entry) → has_form (role Thumb t) e ≡ is_short_or_long e) → (x : Option Found) → Finds b o a t x → HaveNumbers b o x

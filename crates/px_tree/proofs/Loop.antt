@@ -87,13 +87,13 @@ module _ (b : List ℕ) (o : Order) (d : Dir) where
       now = option_to_list (placed_range o e) ++ s.now;
       agrees = a;
       faults =
-        ap (λ (k : ℕ). first_false (entries_checks b o d (option_to_list (placed_range o e) ++ s.now) (at + 12) (Some k) (entries_from b o (at + 12) m))) t
-        ∙ sym (first_false-true (entry_checks b o d s.now at before e) (behind s.now at before m) h)
-        ∙ ap (λ (k : ℕ). first_false (entries_checks b o d s.now at before (entries_from b o at k))) (sym more)
-        ∙ s.faults;
+          ap (λ (k : ℕ). first_false (entries_checks b o d (option_to_list (placed_range o e) ++ s.now) (at + 12) (Some k) (entries_from b o (at + 12) m))) t
+          ∙ sym (first_false-true (entry_checks b o d s.now at before e) (behind s.now at before m) h)
+          ∙ ap (λ (k : ℕ). first_false (entries_checks b o d s.now at before (entries_from b o at k))) (sym more)
+          ∙ s.faults;
       free = same_trans (filter_map (placed_range o) (entries_from b o (at + 12) m) ++ (option_to_list (placed_range o e) ++ s.now)) (filter_map (placed_range o) (entries_from b o at (suc m)) ++ s.now) (filter_map (placed_range o) all ++ taken)
-        (same_moved (placed_range o e) (filter_map (placed_range o) (entries_from b o (at + 12) m)) s.now)
-        (subst (λ (k : ℕ). SameFree (filter_map (placed_range o) (entries_from b o at k) ++ s.now) (filter_map (placed_range o) all ++ taken)) more s.free);
+          (same_moved (placed_range o e) (filter_map (placed_range o) (entries_from b o (at + 12) m)) s.now)
+          (subst (λ (k : ℕ). SameFree (filter_map (placed_range o) (entries_from b o at k) ++ s.now) (filter_map (placed_range o) all ++ taken)) more s.free);
     }
 
   -- the fields of the first entry and those behind
@@ -116,5 +116,5 @@ module _ (b : List ℕ) (o : Order) (d : Dir) where
       → (first_false (entries_checks b o d taken start None all) ≡ None) × Agrees (filter_map (placed_range o) all ++ taken) held
   so_far_end taken all start held at before n z s = (
     sym s.faults ∙ ap (λ (k : ℕ). first_false (entries_checks b o d s.now at before (entries_from b o at k))) z,
-    agrees-same s.now (filter_map (placed_range o) all ++ taken) held (subst (λ (k : ℕ). SameFree (filter_map (placed_range o) (entries_from b o at k) ++ s.now) (filter_map (placed_range o) all ++ taken)) z s.free) s.agrees
+    agrees-same s.now (filter_map (placed_range o) all ++ taken) held (subst (λ (k : ℕ). SameFree (filter_map (placed_range o) (entries_from b o at k) ++ s.now) (filter_map (placed_range o) all ++ taken)) z s.free) s.agrees,
   )

@@ -67,10 +67,10 @@ module _ (b : List ℕ) (o : Order) (taken : List Range) where
       now = ranges_at b o d ++ s.now;
       agrees = a;
       faults =
-        ap (λ (x : Option ℕ). first_false (dirs_checks b o (option_to_list x ++ offsets_of earlier) (ranges_at b o d ++ s.now) ds)) n.leads
-        ∙ sym (first_false-true (checks_at b o (offsets_of earlier) s.now d (dir_at b o d)) (dirs_checks b o behind (ranges_at b o d ++ s.now) ds) h)
-        ∙ s.faults;
-      ends = s.ends
+          ap (λ (x : Option ℕ). first_false (dirs_checks b o (option_to_list x ++ offsets_of earlier) (ranges_at b o d ++ s.now) ds)) n.leads
+          ∙ sym (first_false-true (checks_at b o (offsets_of earlier) s.now d (dir_at b o d)) (dirs_checks b o behind (ranges_at b o d ++ s.now) ds) h)
+          ∙ s.faults;
+      ends = s.ends;
     }
 
   -- in the end
@@ -120,5 +120,5 @@ module _ (b : List ℕ) (o : Order) where
   unfolding dir_at named_at
   names_thumb link a e h p = record {
     leads = subst (λ (x : ℕ). option_map (λ (l : Link). l.at) link ≡ unless_zero (next o (table b o x))) e h;
-    place = subst (λ (x : ℕ). IfSome link (λ l. l.place ≡ next_place b o x)) e p
+    place = subst (λ (x : ℕ). IfSome link (λ l. l.place ≡ next_place b o x)) e p;
   }

@@ -80,10 +80,10 @@ module _ (b : List ℕ) (o : Order) (a : ℕ) where
         (pair_at strip_offsets_tag strip_lengths_tag (entry_with strip_offsets_tag es) (entry_with strip_lengths_tag es) ++ count_at strip_offsets_tag (entry_with strip_offsets_tag es) (entry_with strip_lengths_tag es))
         (pair-is jpeg_offset_tag jpeg_length_tag p.jpeg_offset p.jpeg_length found.jpeg_offset found.jpeg_length)
         (joined (pair_check p.strip_offsets p.strip_lengths) (count_check p.strip_offsets p.strip_lengths)
-          (pair_at strip_offsets_tag strip_lengths_tag (entry_with strip_offsets_tag es) (entry_with strip_lengths_tag es))
-          (count_at strip_offsets_tag (entry_with strip_offsets_tag es) (entry_with strip_lengths_tag es))
-          (pair-is strip_offsets_tag strip_lengths_tag p.strip_offsets p.strip_lengths found.strip_offsets found.strip_lengths)
-          (count-is strip_offsets_tag strip_lengths_tag p.strip_offsets p.strip_lengths found.strip_offsets found.strip_lengths))
+        (pair_at strip_offsets_tag strip_lengths_tag (entry_with strip_offsets_tag es) (entry_with strip_lengths_tag es))
+        (count_at strip_offsets_tag (entry_with strip_offsets_tag es) (entry_with strip_lengths_tag es))
+        (pair-is strip_offsets_tag strip_lengths_tag p.strip_offsets p.strip_lengths found.strip_offsets found.strip_lengths)
+        (count-is strip_offsets_tag strip_lengths_tag p.strip_offsets p.strip_lengths found.strip_offsets found.strip_lengths))
 
     -- ---- the JPEG and the strips
 

@@ -50,7 +50,7 @@ module _ (b : List ℕ) (p : ℕ) (taken all : List Range) where
     ranges_step new h a = record {
       now = r ∷ s.now;
       agrees = a;
-      faults = sym (first_false-true (range_check b p s.now r) (range_checks b p (r ∷ s.now) rs) h) ∙ ap (λ (xs : List Range). first_false (range_checks b p s.now xs)) (sym is) ∙ s.faults
+      faults = sym (first_false-true (range_check b p s.now r) (range_checks b p (r ∷ s.now) rs) h) ∙ ap (λ (xs : List Range). first_false (range_checks b p s.now xs)) (sym is) ∙ s.faults;
     }
 
 -- one more strip

@@ -12,7 +12,7 @@ abbrev pub thumb_of : Thumb → said.Thumbnail
 thumb_of t = record {
   fields = t.fields;
   jpeg = option_map (λ x. x.now) t.jpeg;
-  strips = t.strips
+  strips = t.strips;
 }
 
 abbrev pub meaning_of : Meaning → said.Meaning
@@ -21,5 +21,5 @@ meaning_of m = record {
   iptc = m.iptc;
   exif = option_map exif_of m.exif;
   gps = m.gps;
-  thumb = option_map thumb_of m.thumb
+  thumb = option_map thumb_of m.thumb;
 }

@@ -77,7 +77,8 @@ fn is_formed(role: Role, head: Head) -> bool
 
 // The type and role of an entry at a place, behind a tag.
 fn shape_of(dir: Dir, at: u32, before: Option<u16>, head: Head) -> Result<Shape, Refusal>
-    ensures judged { Judges result (shape_checks dir at before (bare head)) (λ s. (s.head ≡ head) × (form_of head.code ≡ Some s.form) × (s.role ≡ role dir head.tag)) }
+    ensures judged { Judges result (shape_checks dir at before (bare head))
+        (λ s. (s.head ≡ head) × (form_of head.code ≡ Some s.form) × (s.role ≡ role dir head.tag)) }
     ensures follows { IfOk result (λ _. Follows before head.tag) }
 {
     if let Some(last) = before {
@@ -119,7 +120,9 @@ fn shape_of(dir: Dir, at: u32, before: Option<u16>, head: Head) -> Result<Shape,
 // Holds a range that is named at a place.
 pub fn hold(held: &mut Ranges, at: u32, start: u32, len: u32) -> Result<(), Refusal>
     requires { start + len ≤ limit }
-    ensures { (taken : List Range) → Agrees taken held.old → Judges result (check Overlap at (is_free taken (range start len)) ∷ []) (λ _. Agrees (range start len ∷ taken) held.new) }
+    ensures { (taken : List Range) → Agrees taken held.old →
+        Judges result (check Overlap at (is_free taken (range start len)) ∷ [])
+        (λ _. Agrees (range start len ∷ taken) held.new) }
 {
     if !held.add(start, len)? {
         return Err(Refusal::Content {
@@ -134,7 +137,9 @@ pub fn hold(held: &mut Ranges, at: u32, start: u32, len: u32) -> Result<(), Refu
 fn hold_value(block: &[u8], held: &mut Ranges, at: u32, start: u32, len: u64) -> Result<(), Refusal>
     requires small { len < 2 ^ 36 }
     requires bounded { length block.now ≤ limit }
-    ensures judged { (taken : List Range) → Agrees taken held.old → Judges result (span_checks block.now taken at start len) (λ _. Agrees (option_to_list (span start len) ++ taken) held.new) }
+    ensures judged { (taken : List Range) → Agrees taken held.old →
+        Judges result (span_checks block.now taken at start len)
+        (λ _. Agrees (option_to_list (span start len) ++ taken) held.new) }
     ensures inside { IfOk result (λ _. 4 < len → start + len ≤ length block.now) }
 {
     if len <= 4 {
@@ -150,13 +155,24 @@ fn hold_value(block: &[u8], held: &mut Ranges, at: u32, start: u32, len: u64) ->
 }
 
 // Judges the entry at a place, behind a tag, and holds its value.
-pub fn judge_entry(block: &[u8], order: Order, dir: Dir, held: &mut Ranges, at: u32, before: Option<u16>) -> Result<Shape, Refusal>
+pub fn judge_entry(
+    block: &[u8],
+    order: Order,
+    dir: Dir,
+    held: &mut Ranges,
+    at: u32,
+    before: Option<u16>,
+) -> Result<Shape, Refusal>
     requires inside { at + 12 ≤ length block.now }
     requires bounded { length block.now ≤ limit }
-    ensures judged { let e = entry order (part block.now at 12) in (taken : List Range) → Agrees taken held.old →
-        Judges result (entry_checks block.now order dir taken at before e) (λ s. Agrees (option_to_list (placed_range order e) ++ taken) held.new) }
+    ensures judged { let e = entry order (part block.now at 12) in
+        (taken : List Range) → Agrees taken held.old →
+        Judges result (entry_checks block.now order dir taken at before e)
+        (λ s. Agrees (option_to_list (placed_range order e) ++ taken) held.new) }
     ensures shape { IfOk result (λ s. IsShape order dir s (entry order (part block.now at 12))) }
-    ensures inside { IfOk result (λ s. 4 < s.head.count * size s.form → s.head.offset + s.head.count * size s.form ≤ length block.now) }
+    ensures inside { IfOk result
+        (λ s. 4 < s.head.count * size s.form
+        → s.head.offset + s.head.count * size s.form ≤ length block.now) }
     ensures follows { IfOk result (λ s. Follows before s.head.tag) }
 {
     let head = head_at(block, order, at);

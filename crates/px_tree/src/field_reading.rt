@@ -47,7 +47,12 @@ pub fn raw_of<'a>(block: &'a [u8], order: Order, at: u32, head: Head, form: Form
 // The value of an entry.
 pub fn value_at<'a>(block: &'a [u8], order: Order, at: u32, head: Head, form: Form) -> Value<'a>
     requires { IsHeld block.now order at head form }
-    ensures { result ≡ record { kind = Of form; elements = entry_elements block.now order (entry order (part block.now at 12)) form } }
+    ensures { result
+        ≡ record {
+          kind = Of form;
+          elements = entry_elements block.now order (entry order
+              (part block.now at 12)) form;
+        } }
 {
     read_value(form, order, raw_of(block, order, at, head, form))
 }
@@ -62,7 +67,9 @@ fn is_whole_form(form: Form) -> bool
 // The value of an entry where SHORT and LONG mean the same.
 fn widened_at<'a>(block: &'a [u8], order: Order, at: u32, head: Head, form: Form) -> Value<'a>
     requires { IsHeld block.now order at head form }
-    ensures { result ≡ widened_value form (entry_elements block.now order (entry order (part block.now at 12)) form) }
+    ensures { result
+        ≡ widened_value form (entry_elements block.now order (entry order
+        (part block.now at 12)) form) }
 {
     if is_whole_form(form) {
         return read_whole(form, order, raw_of(block, order, at, head, form));
@@ -81,10 +88,17 @@ fn says_record(form: Form, raw: &[u8]) -> bool
 }
 
 // The value of an entry at the record's tag, where its bytes say no record.
-fn unless_record_at<'a>(block: &'a [u8], order: Order, at: u32, head: Head, form: Form) -> Option<Value<'a>>
+fn unless_record_at<'a>(
+    block: &'a [u8],
+    order: Order,
+    at: u32,
+    head: Head,
+    form: Form,
+) -> Option<Value<'a>>
     requires { IsHeld block.now order at head form }
     ensures { let e = entry order (part block.now at 12) in
-        result ≡ unless_record (record_in form (raw block.now order e)) (record { kind = Of form; elements = entry_elements block.now order e form }) }
+        result ≡ unless_record (record_in form (raw block.now order e))
+        (record { kind = Of form; elements = entry_elements block.now order e form }) }
 {
     if says_record(form, raw_of(block, order, at, head, form)) {
         return None;
@@ -95,7 +109,8 @@ fn unless_record_at<'a>(block: &'a [u8], order: Order, at: u32, head: Head, form
 // The value of a field; pointers, parts of the thumbnail and a record are no fields.
 fn field_of<'a>(block: &'a [u8], order: Order, at: u32, shape: Shape) -> Option<Value<'a>>
     requires { IsHeld block.now order at shape.head shape.form }
-    ensures { result ≡ value_in block.now order (entry order (part block.now at 12)) shape.role shape.form }
+    ensures { result
+        ≡ value_in block.now order (entry order (part block.now at 12)) shape.role shape.form }
 {
     match shape.role {
         Role::Plain => Some(value_at(block, order, at, shape.head, shape.form)),
@@ -106,12 +121,20 @@ fn field_of<'a>(block: &'a [u8], order: Order, at: u32, shape: Shape) -> Option<
 }
 
 // Keeps the field of an entry, if it is one.
-fn keep_field<'a>(fields: &mut Fields<'a>, block: &'a [u8], order: Order, at: u32, shape: Shape) -> Result<(), Refusal>
+fn keep_field<'a>(
+    fields: &mut Fields<'a>,
+    block: &'a [u8],
+    order: Order,
+    at: u32,
+    shape: Shape,
+) -> Result<(), Refusal>
     requires held { IsHeld block.now order at shape.head shape.form }
     requires rising { Rising (tags fields.old) }
     requires below { AllByRecursion (λ t. t < shape.head.tag) (tags fields.old) }
     ensures kept { let e = entry order (part block.now at 12) in
-        IfOk result (λ _. fields.new ≡ fields.old ++ option_to_list (option_map (λ v. (shape.head.tag, v)) (value_in block.now order e shape.role shape.form))) }
+        IfOk result (λ _. fields.new ≡ fields.old
+        ++ option_to_list (option_map (λ v. (shape.head.tag, v))
+        (value_in block.now order e shape.role shape.form))) }
     ensures err { IfErr result (λ e. e ≡ OutOfMemory) }
 {
     match field_of(block, order, at, shape) {
@@ -124,11 +147,22 @@ fn keep_field<'a>(fields: &mut Fields<'a>, block: &'a [u8], order: Order, at: u3
 }
 
 // The fields of so many entries, each judged, and its value held.
-pub fn read_entries<'a>(alloc: Global, block: &'a [u8], order: Order, dir: Dir, held: &mut Ranges, start: u32, count: u16) -> Result<Fields<'a>, Refusal>
+pub fn read_entries<'a>(
+    alloc: Global,
+    block: &'a [u8],
+    order: Order,
+    dir: Dir,
+    held: &mut Ranges,
+    start: u32,
+    count: u16,
+) -> Result<Fields<'a>, Refusal>
     requires inside { start + 12 * count ≤ length block.now }
     requires bounded { length block.now ≤ limit }
-    ensures { let es = entries_from block.now order start count in (taken : List Range) → Agrees taken held.old →
-        Judges result (entries_checks block.now order dir taken start None es) (λ v. (v ≡ filter_map (field block.now order dir) es) × Agrees (filter_map (placed_range order) es ++ taken) held.new) }
+    ensures { let es = entries_from block.now order start count in
+        (taken : List Range) → Agrees taken held.old →
+        Judges result (entries_checks block.now order dir taken start None es)
+        (λ v. (v ≡ filter_map (field block.now order dir) es)
+        × Agrees (filter_map (placed_range order) es ++ taken) held.new) }
 {
     let mut fields = Fields::new(alloc);
     let mut at = start;

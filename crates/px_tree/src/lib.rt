@@ -1,8 +1,8 @@
 //! The tree of directories of an Exif block: what each tag is in a directory.
 #![tactic(auto)]
 
-pub mod fault_laws;
 mod entries;
+pub mod fault_laws;
 mod field_reading;
 mod fields;
 mod fitting;
@@ -10,6 +10,8 @@ pub mod laws;
 mod links;
 mod meanings;
 mod read;
+#[cfg(test)]
+mod read_tests;
 mod records;
 mod roles;
 mod same;

@@ -35,7 +35,8 @@ fn is_link(head: Head, tag: u16) -> bool
 pub fn find_link(block: &[u8], order: Order, at: u32, count: u16, tag: u16) -> Option<Link>
     requires bounded { length block.now ≤ limit }
     requires stands { HasTable block.now order at count }
-    ensures leads { option_map (λ l. l.at) result ≡ pointer order tag (entries_at block.now order at) }
+    ensures leads { option_map
+        (λ l. l.at) result ≡ pointer order tag (entries_at block.now order at) }
     ensures place { IfSome result (λ l. l.place ≡ pointer_place block.now order at tag) }
 {
     let mut place = at + 2;
@@ -56,7 +57,8 @@ pub fn find_link(block: &[u8], order: Order, at: u32, count: u16, tag: u16) -> O
 pub fn find_entry(block: &[u8], order: Order, at: u32, count: u16, tag: u16) -> Option<Found>
     requires bounded { length block.now ≤ limit }
     requires stands { HasTable block.now order at count }
-    ensures { MatchOption result (entry_with tag (entries_at block.now order at) ≡ None) (λ f. IsFound block.now order at tag f) }
+    ensures { MatchOption result (entry_with tag (entries_at block.now order at) ≡ None)
+        (λ f. IsFound block.now order at tag f) }
 {
     let mut place = at + 2;
     for _ in 0..count {
@@ -73,8 +75,10 @@ pub fn find_entry(block: &[u8], order: Order, at: u32, count: u16, tag: u16) -> 
 pub fn next_link(block: &[u8], order: Order, at: u32, count: u16) -> Option<Link>
     requires bounded { length block.now ≤ limit }
     requires stands { HasTable block.now order at count }
-    ensures leads { option_map (λ l. l.at) result ≡ unless_zero (next order (table block.now order at)) }
-    ensures place { IfSome result (λ l. l.place ≡ at + 2 + 12 * length (entries_at block.now order at)) }
+    ensures leads { option_map
+        (λ l. l.at) result ≡ unless_zero (next order (table block.now order at)) }
+    ensures place { IfSome result
+        (λ l. l.place ≡ at + 2 + 12 * length (entries_at block.now order at)) }
 {
     let place = at + 2 + 12 * u32::from(count);
     let next = number32(block, order, place);

@@ -97,7 +97,8 @@ fn fields_in<'a>(directory: Option<Directory<'a>>) -> Option<Fields<'a>>
 
 // The Exif directory, with the Interoperability directory below it.
 fn exif_in<'a>(exif: Option<Fields<'a>>, interop: Option<Fields<'a>>) -> Option<ExifPart<'a>>
-    ensures { option_map exif_of result ≡ option_map (λ f. record { fields = f; interop = interop.entry }) exif.entry }
+    ensures { option_map exif_of result ≡ option_map
+        (λ f. record { fields = f; interop = interop.entry }) exif.entry }
 {
     match exif {
         Some(fields) => Some(ExifPart { fields, interop }),
@@ -109,12 +110,19 @@ fn exif_in<'a>(exif: Option<Fields<'a>>, interop: Option<Fields<'a>>) -> Option<
 fn read_tree<'a>(alloc: Global, block: &'a [u8], order: Order) -> Result<Meaning<'a>, Refusal>
     requires least { 8 ≤ length block.now }
     requires bounded { length block.now ≤ limit }
-    ensures { Judges result (tree_checks block.now order) (λ m. meaning_of m ≡ meaning block.now order) }
+    ensures { Judges result (tree_checks block.now order)
+        (λ m. meaning_of m ≡ meaning block.now order) }
 {
     let mut held = Ranges::new(alloc);
     hold(&mut held, 0, 0, 8)?;
     let directories = read_dirs(alloc, block, order, &mut held)?;
-    let Directories { main, exif, interop, gps, thumb } = directories;
+    let Directories {
+        main,
+        exif,
+        interop,
+        gps,
+        thumb,
+    } = directories;
     let thumb = read_thumb(alloc, block, order, &mut held, thumb)?;
     let iptc = read_record(alloc, block, order, &main)?;
     let Directory { fields, .. } = main;
@@ -127,7 +135,19 @@ fn read_tree<'a>(alloc: Global, block: &'a [u8], order: Order) -> Result<Meaning
     })
 }
 
-/// What an Exif block means.
+/// What an Exif block means. The same meaning is read whatever the byte order and the layout; the
+/// values, the JPEG and the strips borrow the block's bytes, and none is copied. TIFF 6.0 section 2;
+/// CIPA DC-008 4.5 and 4.6.
+///
+/// A block that says no meaning is refused by the cause and the place of its first fault, in the
+/// order of the checks: header, then the directories main, Exif, Interoperability, GPS and
+/// thumbnail, each with its table and then its entries, then the thumbnail's bytes. A place is at
+/// most `LIMIT`. Bytes at 0x83BB in the main directory, of type BYTE or UNDEFINED, are a record where
+/// they say one, and else a field.
+///
+/// It takes memory for the fields, the record, the list of strips and the ranges that are held while
+/// it reads. `OutOfMemory` comes where that was refused, and says nothing of the block. The cost
+/// grows with the block's length, but for the ranges, where it grows with n log n.
 pub fn read_block<'a>(alloc: Global, block: Block<'a>) -> Result<Meaning<'a>, Refusal>
     ensures says { IfOk result (λ m. SaysExif block.entry (meaning_of m)) }
     ensures fits { IfOk result (λ m. Fits (meaning_of m)) }

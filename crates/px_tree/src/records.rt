@@ -44,9 +44,16 @@ fn record_of<'a>(alloc: Global, form: Form, raw: &'a [u8]) -> Result<Option<Iim<
 }
 
 // The record in the value of an entry.
-fn record_found<'a>(alloc: Global, block: &'a [u8], order: Order, found: Found) -> Result<Option<Iim<'a>>, Refusal>
+fn record_found<'a>(
+    alloc: Global,
+    block: &'a [u8],
+    order: Order,
+    found: Found,
+) -> Result<Option<Iim<'a>>, Refusal>
     requires { HasValue block.now order found }
-    ensures ok { let e = entry_here block.now order found in IfOk result (λ r. r ≡ option_and_then (λ f. record_in f (raw block.now order e)) (form_of e.code)) }
+    ensures ok { let e = entry_here block.now order found in
+        IfOk result (λ r. r ≡ option_and_then
+        (λ f. record_in f (raw block.now order e)) (form_of e.code)) }
     ensures err { IfErr result (λ e. e ≡ OutOfMemory) }
 {
     match Form::of(found.head.code) {
@@ -59,10 +66,16 @@ fn record_found<'a>(alloc: Global, block: &'a [u8], order: Order, found: Found) 
 }
 
 // The record in the main directory that was read.
-pub fn read_record<'a>(alloc: Global, block: &'a [u8], order: Order, directory: &Directory<'a>) -> Result<Option<Iim<'a>>, Refusal>
+pub fn read_record<'a>(
+    alloc: Global,
+    block: &'a [u8],
+    order: Order,
+    directory: &Directory<'a>,
+) -> Result<Option<Iim<'a>>, Refusal>
     requires bounded { length block.now ≤ limit }
     requires stands { HasTable block.now order directory.now.at directory.now.count }
-    requires each { AllByRecursion (IsEntry block.now order Dir.Main) (entries_at block.now order directory.now.at) }
+    requires each { AllByRecursion (IsEntry block.now order Dir.Main)
+        (entries_at block.now order directory.now.at) }
     ensures ok { IfOk result (λ r. r ≡ record_at block.now order directory.now.at) }
     ensures err { IfErr result (λ e. e ≡ OutOfMemory) }
 {

@@ -26,9 +26,18 @@ pub struct Directory<'a> {
 }
 
 // How many entries the table that a link leads to has, once it is held.
-fn open_table(block: &[u8], order: Order, held: &mut Ranges, earlier: &[Option<Link>], link: Link) -> Result<u16, Refusal>
+fn open_table(
+    block: &[u8],
+    order: Order,
+    held: &mut Ranges,
+    earlier: &[Option<Link>],
+    link: Link,
+) -> Result<u16, Refusal>
     requires { length block.now ≤ limit }
-    ensures judged { (taken : List Range) → Agrees taken held.old → Judges result (opening_checks block.now order (offsets_of earlier.now) taken link.place link.at) (λ n. Agrees (range link.at (table_size n) ∷ taken) held.new) }
+    ensures judged { (taken : List Range) → Agrees taken held.old →
+        Judges result (opening_checks block.now order
+        (offsets_of earlier.now) taken link.place link.at)
+        (λ n. Agrees (range link.at (table_size n) ∷ taken) held.new) }
     ensures there { IfOk result (λ n. HasTable block.now order link.at n) }
 {
     let at = link.at;
@@ -64,9 +73,21 @@ fn open_table(block: &[u8], order: Order, held: &mut Ranges, earlier: &[Option<L
 }
 
 // The directory that a link leads to.
-pub fn read_directory<'a>(alloc: Global, block: &'a [u8], order: Order, dir: Dir, held: &mut Ranges, earlier: &[Option<Link>], link: Link) -> Result<Directory<'a>, Refusal>
+pub fn read_directory<'a>(
+    alloc: Global,
+    block: &'a [u8],
+    order: Order,
+    dir: Dir,
+    held: &mut Ranges,
+    earlier: &[Option<Link>],
+    link: Link,
+) -> Result<Directory<'a>, Refusal>
     requires { length block.now ≤ limit }
-    ensures judged { (taken : List Range) → Agrees taken held.old → Judges result (dir_checks block.now order (offsets_of earlier.now) taken link.place dir link.at) (λ t. (t.fields ≡ fields block.now order dir link.at) × Agrees (dir_ranges block.now order link.at ++ taken) held.new) }
+    ensures judged { (taken : List Range) → Agrees taken held.old →
+        Judges result (dir_checks block.now order
+        (offsets_of earlier.now) taken link.place dir link.at)
+        (λ t. (t.fields ≡ fields block.now order dir link.at)
+        × Agrees (dir_ranges block.now order link.at ++ taken) held.new) }
     ensures there { IfOk result (λ t. (t.at ≡ link.at) × HasTable block.now order t.at t.count) }
 {
     let count = open_table(block, order, held, earlier, link)?;

@@ -134,10 +134,14 @@ fn whole_stands_at_widened_tags_alone(rt: HostRuntime) -> Result<(), Fail> {
     let _ = m.main.put(0x0100, short(b"\x00\x01"))?;
     assert!(rt; !fits(&m));
     let mut m = one_field(alloc)?;
-    let _ = m.main.put(0x0100, read_whole(Form::Short, Order::Most, b"\x00\x01"))?;
+    let _ = m
+        .main
+        .put(0x0100, read_whole(Form::Short, Order::Most, b"\x00\x01"))?;
     assert!(rt; fits(&m));
     let mut m = one_field(alloc)?;
-    let _ = m.main.put(0x0113, read_whole(Form::Short, Order::Most, b"\x00\x01"))?;
+    let _ = m
+        .main
+        .put(0x0113, read_whole(Form::Short, Order::Most, b"\x00\x01"))?;
     assert!(rt; !fits(&m));
     Ok(())
 }
@@ -148,16 +152,25 @@ fn bytes_that_say_a_record_are_no_field(rt: HostRuntime) -> Result<(), Fail> {
     let record = b"\x1C\x02\x78\x00\x00";
     let mut m = one_field(alloc)?;
     m.main = Fields::new(alloc);
-    let _ = m.main.put(0x83BB, read_value(Form::Undefined, Order::Most, record))?;
+    let _ = m
+        .main
+        .put(0x83BB, read_value(Form::Undefined, Order::Most, record))?;
     assert!(rt; !fits(&m));
     m.main = Fields::new(alloc);
-    let _ = m.main.put(0x83BB, read_value(Form::Byte, Order::Most, record))?;
+    let _ = m
+        .main
+        .put(0x83BB, read_value(Form::Byte, Order::Most, record))?;
     assert!(rt; !fits(&m));
     m.main = Fields::new(alloc);
-    let _ = m.main.put(0x83BB, read_value(Form::Ascii, Order::Most, record))?;
+    let _ = m
+        .main
+        .put(0x83BB, read_value(Form::Ascii, Order::Most, record))?;
     assert!(rt; fits(&m));
     m.main = Fields::new(alloc);
-    let _ = m.main.put(0x83BB, read_value(Form::Undefined, Order::Most, b"\x1C\x02\x78\x80\x00"))?;
+    let _ = m.main.put(
+        0x83BB,
+        read_value(Form::Undefined, Order::Most, b"\x1C\x02\x78\x80\x00"),
+    )?;
     assert!(rt; fits(&m));
     Ok(())
 }
@@ -172,7 +185,9 @@ fn a_record_stands_alone_and_is_not_empty(rt: HostRuntime) -> Result<(), Fail> {
     record.push(2, 120, b"abc")?;
     m.iptc = Some(record);
     assert!(rt; fits(&m));
-    let _ = m.main.put(0x83BB, read_value(Form::Ascii, Order::Most, b"abcd"))?;
+    let _ = m
+        .main
+        .put(0x83BB, read_value(Form::Ascii, Order::Most, b"abcd"))?;
     assert!(rt; !fits(&m));
     Ok(())
 }

@@ -1,4 +1,5 @@
-// The thumbnail's bytes: a JPEG, or strips. CIPA DC-008 4.5.5; TIFF 6.0 section 8, "StripOffsets" and "StripByteCounts".
+// The thumbnail's bytes: a JPEG, or strips. CIPA DC-008 4.5.5; TIFF 6.0 section 8, "StripOffsets" and
+// "StripByteCounts".
 ghost use Rattle.std.specs.Prelude.{◌≡◌, ◌≤◌, ◌<◌, ◌+◌, ◌++◌, ◌⊎◌, ℕ, List, [], ◌∷◌, length, map, nat_le, slice_get, Some, IfOk, IfSome, IfErr, option_map, option_to_list, ⊤};
 ghost use Rattle.px_bytes.specs.declared.Cause.TheVariants.{Overlap, ThumbnailOutside};
 ghost use Rattle.px_bytes.specs.Parts.{limit, part};
@@ -108,11 +109,18 @@ fn judge_end(block: &[u8], order: Order, at: u32, count: u16) -> Result<(), Refu
 }
 
 // Holds a part of the block that is named at a place.
-fn hold_part<'a>(block: &'a [u8], held: &mut Ranges, place: u32, start: u32, len: u32) -> Result<&'a [u8], Refusal>
+fn hold_part<'a>(
+    block: &'a [u8],
+    held: &mut Ranges,
+    place: u32,
+    start: u32,
+    len: u32,
+) -> Result<&'a [u8], Refusal>
     requires { length block.now ≤ limit }
     ensures judged { (taken : List Range) → Agrees taken held.old →
-        Judges result (check ThumbnailOutside place (nat_le (start + len) (length block.now)) ∷ check Overlap place (is_free taken (range start len)) ∷ [])
-            (λ _. Agrees (range start len ∷ taken) held.new) }
+        Judges result (check ThumbnailOutside place (nat_le (start + len) (length block.now))
+        ∷ check Overlap place (is_free taken (range start len)) ∷ [])
+        (λ _. Agrees (range start len ∷ taken) held.new) }
     ensures part { IfOk result (λ s. s.now ≡ bytes_of block.now (range start len)) }
 {
     if u64::from(start) + u64::from(len) > block.len() as u64 {
@@ -126,15 +134,29 @@ fn hold_part<'a>(block: &'a [u8], held: &mut Ranges, place: u32, start: u32, len
 }
 
 // The JPEG, held, where both of its entries are there.
-fn hold_jpeg<'a>(block: &'a [u8], held: &mut Ranges, offset: Option<Found>, size: Option<Found>) -> Result<Option<&'a [u8]>, Refusal>
+fn hold_jpeg<'a>(
+    block: &'a [u8],
+    held: &mut Ranges,
+    offset: Option<Found>,
+    size: Option<Found>,
+) -> Result<Option<&'a [u8]>, Refusal>
     requires { length block.now ≤ limit }
-    ensures judged { let rs = option_to_list (jpeg_of offset size) in (taken : List Range) → Agrees taken held.old →
-        Judges result (range_checks block.now (place_in offset) taken rs) (λ _. Agrees (rs ++ taken) held.new) }
-    ensures part { IfOk result (λ j. option_map (λ s. s.now) j ≡ option_map (bytes_of block.now) (jpeg_of offset size)) }
+    ensures judged { let rs = option_to_list (jpeg_of offset size) in
+        (taken : List Range) → Agrees taken held.old →
+        Judges result (range_checks block.now (place_in offset) taken rs)
+        (λ _. Agrees (rs ++ taken) held.new) }
+    ensures part { IfOk result (λ j. option_map
+        (λ s. s.now) j ≡ option_map (bytes_of block.now) (jpeg_of offset size)) }
 {
     match (offset, size) {
         (Some(offset), Some(size)) => {
-            let jpeg = hold_part(block, held, offset.place, offset.head.offset, size.head.offset)?;
+            let jpeg = hold_part(
+                block,
+                held,
+                offset.place,
+                offset.head.offset,
+                size.head.offset,
+            )?;
             Ok(Some(jpeg))
         }
         _ => Ok(None),
@@ -154,10 +176,17 @@ fn number_form(code: u16) -> Form
 // The list of numbers of an entry.
 fn numbers_at<'a>(block: &'a [u8], order: Order, found: Found) -> Value<'a>
     requires { HasNumbers block.now order found }
-    ensures numbers { map whole_number result.elements ≡ numbers block.now order (entry_here block.now order found) }
+    ensures numbers { map whole_number result.elements
+        ≡ numbers block.now order (entry_here block.now order found) }
     ensures count { length result.elements ≡ found.head.count }
 {
-    value_at(block, order, found.place, found.head, number_form(found.head.code))
+    value_at(
+        block,
+        order,
+        found.place,
+        found.head,
+        number_form(found.head.code),
+    )
 }
 
 // The number of a SHORT or a LONG.
@@ -180,27 +209,51 @@ fn number_in(list: &Value, i: u32) -> u32
 }
 
 // The strips of those starts and sizes, held.
-fn hold_each<'a>(alloc: Global, block: &'a [u8], held: &mut Ranges, place: u32, starts: &Value, sizes: &Value) -> Result<Strips<'a>, Refusal>
+fn hold_each<'a>(
+    alloc: Global,
+    block: &'a [u8],
+    held: &mut Ranges,
+    place: u32,
+    starts: &Value,
+    sizes: &Value,
+) -> Result<Strips<'a>, Refusal>
     requires bounded { length block.now ≤ limit }
     requires same { length starts.now.elements ≡ length sizes.now.elements }
-    ensures { let rs = ranges_of (map whole_number starts.now.elements) (map whole_number sizes.now.elements) in (taken : List Range) → Agrees taken held.old →
+    ensures { let rs = ranges_of (map whole_number starts.now.elements)
+        (map whole_number sizes.now.elements) in
+        (taken : List Range) → Agrees taken held.old →
         Judges result (range_checks block.now place taken rs) (λ s. s ≡ map (bytes_of block.now) rs) }
 {
     let mut strips = Strips::new(alloc);
     for i in 0..starts.count() {
-        let strip = hold_part(block, held, place, number_in(starts, i), number_in(sizes, i))?;
+        let strip = hold_part(
+            block,
+            held,
+            place,
+            number_in(starts, i),
+            number_in(sizes, i),
+        )?;
         strips.push(strip)?;
     }
     Ok(strips)
 }
 
 // The strips, held, where both of their lists are there.
-fn hold_strips<'a>(alloc: Global, block: &'a [u8], order: Order, held: &mut Ranges, offsets: Option<Found>, lengths: Option<Found>) -> Result<Option<Strips<'a>>, Refusal>
+fn hold_strips<'a>(
+    alloc: Global,
+    block: &'a [u8],
+    order: Order,
+    held: &mut Ranges,
+    offsets: Option<Found>,
+    lengths: Option<Found>,
+) -> Result<Option<Strips<'a>>, Refusal>
     requires bounded { length block.now ≤ limit }
     requires numbers { HaveNumbers block.now order offsets × HaveNumbers block.now order lengths }
     requires even { AreEven offsets lengths }
-    ensures { let rs = strips_of block.now order offsets lengths in (taken : List Range) → Agrees taken held.old →
-        Judges result (range_checks block.now (place_in offsets) taken (listed rs)) (λ s. s ≡ option_map (map (bytes_of block.now)) rs) }
+    ensures { let rs = strips_of block.now order offsets lengths in
+        (taken : List Range) → Agrees taken held.old →
+        Judges result (range_checks block.now (place_in offsets) taken (listed rs))
+        (λ s. s ≡ option_map (map (bytes_of block.now)) rs) }
 {
     match (offsets, lengths) {
         (Some(offsets), Some(lengths)) => {
@@ -214,16 +267,34 @@ fn hold_strips<'a>(alloc: Global, block: &'a [u8], order: Order, held: &mut Rang
 }
 
 // The thumbnail directory at a place, behind its entries, with its bytes.
-pub fn read_thumbnail<'a>(alloc: Global, block: &'a [u8], order: Order, held: &mut Ranges, fields: Fields<'a>, at: u32, count: u16) -> Result<Thumb<'a>, Refusal>
+pub fn read_thumbnail<'a>(
+    alloc: Global,
+    block: &'a [u8],
+    order: Order,
+    held: &mut Ranges,
+    fields: Fields<'a>,
+    at: u32,
+    count: u16,
+) -> Result<Thumb<'a>, Refusal>
     requires bounded { length block.now ≤ limit }
-    requires read { IsReadThumb block.now order (record { fields = fields; at = at; count = count }) }
-    ensures { (taken : List Range) → Agrees taken held.old → Judges result (thumb_checks block.now order taken at) (λ t. thumb_of t ≡ thumbnail block.now order at) }
+    requires read { IsReadThumb block.now order
+        (record { fields = fields; at = at; count = count }) }
+    ensures { (taken : List Range) → Agrees taken held.old →
+        Judges result (thumb_checks block.now order taken at)
+        (λ t. thumb_of t ≡ thumbnail block.now order at) }
 {
     let parts = find_parts(block, order, at, count);
     judge_pairs(parts)?;
     judge_end(block, order, at, count)?;
     let jpeg = hold_jpeg(block, held, parts.jpeg_offset, parts.jpeg_length)?;
-    let strips = hold_strips(alloc, block, order, held, parts.strip_offsets, parts.strip_lengths)?;
+    let strips = hold_strips(
+        alloc,
+        block,
+        order,
+        held,
+        parts.strip_offsets,
+        parts.strip_lengths,
+    )?;
     Ok(Thumb {
         fields,
         jpeg,
@@ -232,11 +303,19 @@ pub fn read_thumbnail<'a>(alloc: Global, block: &'a [u8], order: Order, held: &m
 }
 
 // The thumbnail directory that was read, with its bytes, if it is there.
-pub fn read_thumb<'a>(alloc: Global, block: &'a [u8], order: Order, held: &mut Ranges, directory: Option<Directory<'a>>) -> Result<Option<Thumb<'a>>, Refusal>
+pub fn read_thumb<'a>(
+    alloc: Global,
+    block: &'a [u8],
+    order: Order,
+    held: &mut Ranges,
+    directory: Option<Directory<'a>>,
+) -> Result<Option<Thumb<'a>>, Refusal>
     requires bounded { length block.now ≤ limit }
     requires read { IfSome directory (IsReadThumb block.now order) }
-    ensures { let a = option_map (λ t. t.at) directory.entry in (taken : List Range) → Agrees taken held.old →
-        Judges result (thumb_checks_at block.now order taken a) (λ t. option_map thumb_of t ≡ option_map (thumbnail block.now order) a) }
+    ensures { let a = option_map (λ t. t.at) directory.entry in
+        (taken : List Range) → Agrees taken held.old →
+        Judges result (thumb_checks_at block.now order taken a)
+        (λ t. option_map thumb_of t ≡ option_map (thumbnail block.now order) a) }
 {
     match directory {
         None => Ok(None),

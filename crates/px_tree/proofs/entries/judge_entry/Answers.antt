@@ -30,10 +30,9 @@ returns-clause-judged c = λ taken a.
     let shows = c.head_at-head.ensures in
     let k = c.in_ok-hold_value.ensures.judged taken a in
     let known = c.in_ok-shape.ensures.judged.1.1 in
-    let len : c.from.result * c.from-2.result ≡ h.count * size c.in_ok-shape.shape.form = cc in
-    (
+    let len : c.from.result * c.from-2.result ≡ h.count * size c.in_ok-shape.shape.form = cc in (
       entry_true c.args.block.now c.args.order c.args.dir taken c.args.at c.args.before h _ shows _ _ known len c.in_ok-shape.ensures.judged.0 k.0,
-      subst (λ (r : Option Range). Agrees (option_to_list r ++ taken) c.hold_value.new.held) (range_same c.args.block.now c.args.order c.args.dir taken c.args.at c.args.before h e shows _ _ known len c.in_ok-shape.ensures.judged.0) k.1
+      subst (λ (r : Option Range). Agrees (option_to_list r ++ taken) c.hold_value.new.held) (range_same c.args.block.now c.args.order c.args.dir taken c.args.at c.args.before h e shows _ _ known len c.in_ok-shape.ensures.judged.0) k.1,
     )
 
 pub returns-clause-shape : goal.returns-clause-shape
@@ -43,7 +42,7 @@ returns-clause-shape c =
     record {
       head = subst (λ (x : Head). Shows c.args.order x e) (sym c.in_ok-shape.ensures.judged.1.0) shows;
       form = ap form_of (sym shows.code) ∙ c.in_ok-shape.ensures.judged.1.1;
-      role_is = c.in_ok-shape.ensures.judged.1.2 ∙ ap (role c.args.dir) shows.tag
+      role_is = c.in_ok-shape.ensures.judged.1.2 ∙ ap (role c.args.dir) shows.tag;
     }
 
 pub returns-clause-inside : goal.returns-clause-inside

@@ -25,7 +25,7 @@ loop-init c =
       precede = λ t _. subst (λ (l : Fields). AllByRecursion (λ s. s < t) (tags l)) (sym c.new-fields.ensures) tt;
       fields = ap (λ (l : Fields). l ++ filter_map (field b o d) (es (c.args.count - 0))) c.new-fields.ensures ∙ ap (λ (k : ℕ). filter_map (field b o d) (es k)) n;
       judged = λ taken a. subst (λ (k : ℕ). SoFar b o d taken (es c.args.count) c.args.start c.args.held.now c.args.start None k) (sym n)
-        (so_far_start b o d taken c.args.start c.args.count c.args.held.now a)
+          (so_far_start b o d taken c.args.start c.args.count c.args.held.now a);
     }
 
 pub returns-in_err-shape : goal.returns-in_err-shape
@@ -61,15 +61,15 @@ loop-preserved c =
       rising = rising_kept c.loop.fields _ s.head.tag x kept c.loop.invariant.rising below;
       precede = precede_kept c.loop.fields _ s.head.tag x kept below;
       fields =
-        ap (λ (l : Fields). l ++ rest) (kept ∙ ap (λ (y : Option (ℕ × Value)). c.loop.fields ++ option_to_list y)
+          ap (λ (l : Fields). l ++ rest) (kept ∙ ap (λ (y : Option (ℕ × Value)). c.loop.fields ++ option_to_list y)
           (ap (λ (t : ℕ). option_map (λ (v : Value). (t, v)) x) shape.head.tag ∙ sym (field-is b o d s e shape)))
-        ∙ append_assoc c.loop.fields (option_to_list (field b o d e)) rest
-        ∙ ap (λ (l : Fields). c.loop.fields ++ l) (sym (fields_step b o d c.loop.at _ _ step))
-        ∙ c.loop.invariant.fields;
+          ∙ append_assoc c.loop.fields (option_to_list (field b o d e)) rest
+          ∙ ap (λ (l : Fields). c.loop.fields ++ l) (sym (fields_step b o d c.loop.at _ _ step))
+          ∙ c.loop.invariant.fields;
       judged = λ taken a.
-        let w = c.loop.invariant.judged taken a in
-        let k = c.in_ok-shape.ensures.judged w.now w.agrees in
-        so_far_step b o d taken _ _ _ _ _ _ _ step w _ _ shape.head.tag k.0 k.1
+          let w = c.loop.invariant.judged taken a in
+          let k = c.in_ok-shape.ensures.judged w.now w.agrees in
+          so_far_step b o d taken _ _ _ _ _ _ _ step w _ _ shape.head.tag k.0 k.1;
     }
 
 pub returns : goal.returns
@@ -78,11 +78,10 @@ returns c = λ taken a.
     let b = c.args.block.now in
     let o = c.args.order in
     let d = c.args.dir in
-    let end = so_far_end b o d taken _ _ _ _ _ _ none (c.loop.invariant.judged taken a) in
-    (
+    let end = so_far_end b o d taken _ _ _ _ _ _ none (c.loop.invariant.judged taken a) in (
       end.0,
       (
         sym (append-nil c.loop.fields) ∙ ap (λ (k : ℕ). c.loop.fields ++ filter_map (field b o d) (entries_from b o c.loop.at k)) (sym none) ∙ c.loop.invariant.fields,
-        end.1
-      )
+        end.1,
+      ),
     )

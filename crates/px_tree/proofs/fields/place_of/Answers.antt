@@ -13,7 +13,7 @@ loop-low-preserved-then-here-tag-2 c =
       order = omega arith;
       inside = omega arith;
       below = below_middle c.args.list.now c.args.tag m c.requires inside small;
-      above = c.loop-low.invariant.above
+      above = c.loop-low.invariant.above;
     }
 
 pub loop-low-preserved : goal.loop-low-preserved
@@ -26,5 +26,5 @@ loop-low-preserved c =
       order = omega arith;
       inside = omega arith;
       below = c.loop-low.invariant.below;
-      above = above_middle c.args.list.now c.args.tag m c.requires inside great
+      above = above_middle c.args.list.now c.args.tag m c.requires inside great;
     }

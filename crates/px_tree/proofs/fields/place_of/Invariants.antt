@@ -7,7 +7,7 @@ invariant-loop-low l = record {
   order : l.low ≤ l.high;
   inside : l.high ≤ length l.list;
   below : (k : ℕ) → k < l.low → slice_index (tags l.list) k < l.tag;
-  above : (k : ℕ) → l.high ≤ k → k < length l.list → l.tag < slice_index (tags l.list) k
+  above : (k : ℕ) → l.high ≤ k → k < length l.list → l.tag < slice_index (tags l.list) k;
 }
 
 abbrev pub decreases-loop-low : goal.decreases-loop-low

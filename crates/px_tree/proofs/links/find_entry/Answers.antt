@@ -17,7 +17,7 @@ returns-then-head-tag c =
       is = find-is b o c.args.at c.args.count c.requires.stands (λ e. e.tag == t) ∙ sym c.loop.invariant.found ∙ find_here b o (λ e. e.tag == t) c.loop.place _ _ step h;
       place = sym (place_of-is b o c.args.at c.args.count c.requires.stands (λ e. e.tag == t) ∙ sym c.loop.invariant.named ∙ place_here b o (λ e. e.tag == t) c.loop.place _ _ step h);
       shown = shows;
-      inside = omega arith
+      inside = omega arith;
     }
 
 pub loop-preserved : goal.loop-preserved
@@ -31,7 +31,7 @@ loop-preserved c =
     record {
       at = omega arith;
       found = sym (find_pass b o (λ e. e.tag == t) c.loop.place _ _ step h) ∙ c.loop.invariant.found;
-      named = sym (place_pass b o (λ e. e.tag == t) c.loop.place _ _ step h) ∙ c.loop.invariant.named
+      named = sym (place_pass b o (λ e. e.tag == t) c.loop.place _ _ step h) ∙ c.loop.invariant.named;
     }
 
 pub returns : goal.returns

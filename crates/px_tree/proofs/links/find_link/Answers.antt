@@ -35,7 +35,7 @@ loop-preserved c =
     record {
       at = omega arith;
       found = sym (find_pass b o (is_pointer t) c.loop.place _ _ step h) ∙ c.loop.invariant.found;
-      named = sym (place_pass b o (is_pointer t) c.loop.place _ _ step h) ∙ c.loop.invariant.named
+      named = sym (place_pass b o (is_pointer t) c.loop.place _ _ step h) ∙ c.loop.invariant.named;
     }
 
 pub returns-clause-leads : goal.returns-clause-leads

@@ -63,16 +63,15 @@ returns c =
     let d = c.in_ok-directories.ensures (range 0 8 ∷ []) h in
     let seen = d.1.0 in
     let t = c.in_ok-thumb.ensures (dirs_held b o (range 0 8 ∷ []) dirs) d.1.1 in
-    let a = option_map (λ (t : Directory). t.at) c.in_ok-directories.directories.thumb in
-    (
+    let a = option_map (λ (t : Directory). t.at) c.in_ok-directories.directories.thumb in (
       tree_true b o a seen.thumb_read.stands d.0 t.0,
       meaning-is b o _ _ _ _ _ c.fields_in.result c.fields_in-2.result a
-        seen.main
-        (c.in_ok-iptc.ensures.ok ∙ ap (λ (n : ℕ). record_at b o n) seen.main_stands)
-        c.exif_in.ensures
-        (c.fields_in.ensures ∙ seen.exif)
-        (c.fields_in-2.ensures ∙ seen.interop)
-        (c.fields_in-3.ensures ∙ seen.gps)
-        t.1
-        seen.thumb_read.stands
+          seen.main
+          (c.in_ok-iptc.ensures.ok ∙ ap (λ (n : ℕ). record_at b o n) seen.main_stands)
+          c.exif_in.ensures
+          (c.fields_in.ensures ∙ seen.exif)
+          (c.fields_in-2.ensures ∙ seen.interop)
+          (c.fields_in-3.ensures ∙ seen.gps)
+          t.1
+          seen.thumb_read.stands,
     )

@@ -44,12 +44,11 @@ returns-clause-judged c = λ taken a.
     let n = c.in_ok-count.count in
     let t = c.in_ok-count.ensures.there in
     let k = c.in_ok-count.ensures.judged taken a in
-    let j = c.in_ok-fields.ensures (range l.at (table_size n) ∷ taken) k.1 in
-    (
+    let j = c.in_ok-fields.ensures (range l.at (table_size n) ∷ taken) k.1 in (
       ap first_false (dir_checks-parts b o c.args.dir es taken l.place l.at)
-      ∙ all_true (opening_checks b o es taken l.place l.at) (entries_checks b o c.args.dir (table_range b o l.at ∷ taken) (l.at + 2) None (entries_at b o l.at)) k.0 (ap first_false (entries_checks-is b o l.at n t c.args.dir taken) ∙ j.0),
+          ∙ all_true (opening_checks b o es taken l.place l.at) (entries_checks b o c.args.dir (table_range b o l.at ∷ taken) (l.at + 2) None (entries_at b o l.at)) k.0 (ap first_false (entries_checks-is b o l.at n t c.args.dir taken) ∙ j.0),
       (
         j.1.0 ∙ sym (fields-is b o l.at n t c.args.dir),
-        ranges-is b o l.at n t taken _ j.1.1
-      )
+        ranges-is b o l.at n t taken _ j.1.1,
+      ),
     )

@@ -22,10 +22,10 @@ loop-i-preserved c =
     let is = ranges-next xs ns c.loop-i.i c.number_in.result c.number_in-in-loop-i.result c.number_in.ensures c.number_in-in-loop-i.ensures in
     record {
       strips =
-        pushed b c.loop-i.strips _ c.in_ok-strip.strip.now (range c.number_in.result c.number_in-in-loop-i.result) _ _ c.in_ok-push.ensures.ok c.in_ok-strip.ensures.part is
-        ∙ c.loop-i.invariant.strips;
+          pushed b c.loop-i.strips _ c.in_ok-strip.strip.now (range c.number_in.result c.number_in-in-loop-i.result) _ _ c.in_ok-push.ensures.ok c.in_ok-strip.ensures.part is
+          ∙ c.loop-i.invariant.strips;
       judged = λ taken a.
-        let s = c.loop-i.invariant.judged taken a in
-        let k = c.in_ok-strip.ensures.judged s.now s.agrees in
-        ranges_step b c.args.place taken (ranges_of xs ns) _ _ _ _ is s _ k.0 k.1
+          let s = c.loop-i.invariant.judged taken a in
+          let k = c.in_ok-strip.ensures.judged s.now s.agrees in
+          ranges_step b c.args.place taken (ranges_of xs ns) _ _ _ _ is s _ k.0 k.1;
     }

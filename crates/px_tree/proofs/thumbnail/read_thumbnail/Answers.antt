@@ -14,10 +14,9 @@ hold_strips-requires-clause-numbers c =
     let b = c.args.block.now in
     let o = c.args.order in
     let found = c.find_parts-parts.ensures in
-    let each = c.requires.read.each in
-    (
+    let each = c.requires.read.each in (
       have_numbers b o c.args.at c.requires.bounded each strip_offsets_tag offsets_form c.find_parts-parts.result.strip_offsets found.strip_offsets,
-      have_numbers b o c.args.at c.requires.bounded each strip_lengths_tag lengths_form c.find_parts-parts.result.strip_lengths found.strip_lengths
+      have_numbers b o c.args.at c.requires.bounded each strip_lengths_tag lengths_form c.find_parts-parts.result.strip_lengths found.strip_lengths,
     )
 
 pub hold_strips-requires-clause-even : goal.hold_strips-requires-clause-even
@@ -53,10 +52,9 @@ returns c = λ taken a.
     let x = c.find_parts-parts.result in
     let found = c.find_parts-parts.ensures in
     let j = c.in_ok-jpeg.ensures.judged taken a in
-    let s = c.in_ok-strips.ensures (option_to_list (jpeg_of x.jpeg_offset x.jpeg_length) ++ taken) j.1 in
-    (
+    let s = c.in_ok-strips.ensures (option_to_list (jpeg_of x.jpeg_offset x.jpeg_length) ++ taken) j.1 in (
       thumb_true b o c.args.at x found taken c.in_ok-judge_pairs.ensures.0 c.in_ok-judge_end.ensures.0 j.0 s.0,
       thumbnail-is b o c.args.at _ _ _ c.requires.read.fields_are
-        (c.in_ok-jpeg.ensures.part ∙ ap (λ (r : Option Range). option_map (bytes_of b) r) (jpeg-is b o c.args.at x found))
-        (s.1 ∙ ap (λ (r : Option (List Range)). option_map (map (bytes_of b)) r) (strips-is b o c.args.at x found))
+          (c.in_ok-jpeg.ensures.part ∙ ap (λ (r : Option Range). option_map (bytes_of b) r) (jpeg-is b o c.args.at x found))
+          (s.1 ∙ ap (λ (r : Option (List Range)). option_map (map (bytes_of b)) r) (strips-is b o c.args.at x found)),
     )

@@ -67,8 +67,8 @@ returns-in_err-exif c = λ taken a.
     let s0 = dirs_start b o taken c.args.held.now a in
     let j0 = c.in_ok-main.ensures.judged s0.now s0.agrees in
     let s1 = dirs_step b o taken [] Main (Exif ∷ Interop ∷ Gps ∷ Thumb ∷ []) _ s0 (Some lm) _ nm
-      (ap first_false (some_checks b o Main lm nm [] s0.now) ∙ j0.0)
-      (subst (λ (rs : List Range). Agrees (rs ++ s0.now) c.read_directory.new.held) (sym (some_ranges b o Main lm nm)) j0.1.1) in
+    (ap first_false (some_checks b o Main lm nm [] s0.now) ∙ j0.0)
+    (subst (λ (rs : List Range). Agrees (rs ++ s0.now) c.read_directory.new.held) (sym (some_ranges b o Main lm nm)) j0.1.1) in
     rw (p.1, p.2) (dirs_refuse b o taken (Some lm ∷ []) Exif (Interop ∷ Gps ∷ Thumb ∷ []) _ s1 c.in_err-exif.field-0.0 (c.in_err-exif.ensures.judged s1.now s1.agrees))
 
 pub returns-in_err-interop : goal.returns-in_err-interop
@@ -83,8 +83,8 @@ returns-in_err-interop c = λ taken a.
     let s0 = dirs_start b o taken c.args.held.now a in
     let j0 = c.in_ok-main.ensures.judged s0.now s0.agrees in
     let s1 = dirs_step b o taken [] Main (Exif ∷ Interop ∷ Gps ∷ Thumb ∷ []) _ s0 (Some lm) _ nm
-      (ap first_false (some_checks b o Main lm nm [] s0.now) ∙ j0.0)
-      (subst (λ (rs : List Range). Agrees (rs ++ s0.now) c.read_directory.new.held) (sym (some_ranges b o Main lm nm)) j0.1.1) in
+    (ap first_false (some_checks b o Main lm nm [] s0.now) ∙ j0.0)
+    (subst (λ (rs : List Range). Agrees (rs ++ s0.now) c.read_directory.new.held) (sym (some_ranges b o Main lm nm)) j0.1.1) in
     let j1 = c.in_ok-exif.ensures.judged s1.now s1.agrees in
     let s2 = dirs_step b o taken (Some lm ∷ []) Exif (Interop ∷ Gps ∷ Thumb ∷ []) _ s1 c.link_from-exif_link.result _ ne j1.0 j1.1.1 in
     rw (p.1, p.2) (dirs_refuse b o taken (c.link_from-exif_link.result ∷ Some lm ∷ []) Interop (Gps ∷ Thumb ∷ []) _ s2 c.in_err-interop.field-0.0 (c.in_err-interop.ensures.judged s2.now s2.agrees))
@@ -102,8 +102,8 @@ returns-in_err-gps c = λ taken a.
     let s0 = dirs_start b o taken c.args.held.now a in
     let j0 = c.in_ok-main.ensures.judged s0.now s0.agrees in
     let s1 = dirs_step b o taken [] Main (Exif ∷ Interop ∷ Gps ∷ Thumb ∷ []) _ s0 (Some lm) _ nm
-      (ap first_false (some_checks b o Main lm nm [] s0.now) ∙ j0.0)
-      (subst (λ (rs : List Range). Agrees (rs ++ s0.now) c.read_directory.new.held) (sym (some_ranges b o Main lm nm)) j0.1.1) in
+    (ap first_false (some_checks b o Main lm nm [] s0.now) ∙ j0.0)
+    (subst (λ (rs : List Range). Agrees (rs ++ s0.now) c.read_directory.new.held) (sym (some_ranges b o Main lm nm)) j0.1.1) in
     let j1 = c.in_ok-exif.ensures.judged s1.now s1.agrees in
     let s2 = dirs_step b o taken (Some lm ∷ []) Exif (Interop ∷ Gps ∷ Thumb ∷ []) _ s1 c.link_from-exif_link.result _ ne j1.0 j1.1.1 in
     let j2 = c.in_ok-interop.ensures.judged s2.now s2.agrees in
@@ -124,8 +124,8 @@ returns-in_err-thumb c = λ taken a.
     let s0 = dirs_start b o taken c.args.held.now a in
     let j0 = c.in_ok-main.ensures.judged s0.now s0.agrees in
     let s1 = dirs_step b o taken [] Main (Exif ∷ Interop ∷ Gps ∷ Thumb ∷ []) _ s0 (Some lm) _ nm
-      (ap first_false (some_checks b o Main lm nm [] s0.now) ∙ j0.0)
-      (subst (λ (rs : List Range). Agrees (rs ++ s0.now) c.read_directory.new.held) (sym (some_ranges b o Main lm nm)) j0.1.1) in
+    (ap first_false (some_checks b o Main lm nm [] s0.now) ∙ j0.0)
+    (subst (λ (rs : List Range). Agrees (rs ++ s0.now) c.read_directory.new.held) (sym (some_ranges b o Main lm nm)) j0.1.1) in
     let j1 = c.in_ok-exif.ensures.judged s1.now s1.agrees in
     let s2 = dirs_step b o taken (Some lm ∷ []) Exif (Interop ∷ Gps ∷ Thumb ∷ []) _ s1 c.link_from-exif_link.result _ ne j1.0 j1.1.1 in
     let j2 = c.in_ok-interop.ensures.judged s2.now s2.agrees in
@@ -148,8 +148,8 @@ returns c = λ taken a.
     let s0 = dirs_start b o taken c.args.held.now a in
     let j0 = c.in_ok-main.ensures.judged s0.now s0.agrees in
     let s1 = dirs_step b o taken [] Main (Exif ∷ Interop ∷ Gps ∷ Thumb ∷ []) _ s0 (Some lm) _ nm
-      (ap first_false (some_checks b o Main lm nm [] s0.now) ∙ j0.0)
-      (subst (λ (rs : List Range). Agrees (rs ++ s0.now) c.read_directory.new.held) (sym (some_ranges b o Main lm nm)) j0.1.1) in
+    (ap first_false (some_checks b o Main lm nm [] s0.now) ∙ j0.0)
+    (subst (λ (rs : List Range). Agrees (rs ++ s0.now) c.read_directory.new.held) (sym (some_ranges b o Main lm nm)) j0.1.1) in
     let j1 = c.in_ok-exif.ensures.judged s1.now s1.agrees in
     let s2 = dirs_step b o taken (Some lm ∷ []) Exif (Interop ∷ Gps ∷ Thumb ∷ []) _ s1 c.link_from-exif_link.result _ ne j1.0 j1.1.1 in
     let j2 = c.in_ok-interop.ensures.judged s2.now s2.agrees in
@@ -157,8 +157,7 @@ returns c = λ taken a.
     let j3 = c.in_ok-gps.ensures.judged s3.now s3.agrees in
     let s4 = dirs_step b o taken (c.link_in-interop_link.result ∷ c.link_from-exif_link.result ∷ Some lm ∷ []) Gps (Thumb ∷ []) _ s3 c.link_from-gps_link.result _ ng j3.0 j3.1.1 in
     let j4 = c.in_ok-thumb.ensures.judged s4.now s4.agrees in
-    let s5 = dirs_step b o taken (c.link_from-gps_link.result ∷ c.link_in-interop_link.result ∷ c.link_from-exif_link.result ∷ Some lm ∷ []) Thumb [] _ s4 c.link_behind-thumb_link.result _ nt j4.0 j4.1.1 in
-    (
+    let s5 = dirs_step b o taken (c.link_from-gps_link.result ∷ c.link_in-interop_link.result ∷ c.link_from-exif_link.result ∷ Some lm ∷ []) Thumb [] _ s4 c.link_behind-thumb_link.result _ nt j4.0 j4.1.1 in (
       dirs_clean b o taken _ _ s5,
       (
         record {
@@ -169,8 +168,8 @@ returns c = λ taken a.
           thumb = j4.1.0;
           main_stands = me;
           main_table = c.in_ok-main.ensures.there.1;
-          thumb_read = c.in_ok-thumb.ensures.there
+          thumb_read = c.in_ok-thumb.ensures.there;
         },
-        dirs_end b o taken _ _ s5
-      )
+        dirs_end b o taken _ _ s5,
+      ),
     )

@@ -12,5 +12,7 @@ returns-in-Ok-clause-there c = λ _. (rw (← c.self.view_is) (at_tag-some _ _ _
 pub returns-in_ok-insert-in-Err-clause-fresh : goal.returns-in_ok-insert-in-Err-clause-fresh
 returns-in_ok-insert-in-Err-clause-fresh c =
     let gap = rw c.as_slice.ensures.value at c.in-Err.ensures.absent in
-    λ _. (rw (← c.self.view_is) (at_tag-gap _ _ _ gap),
-    rw (← c.self.view_is) (c.in_ok-insert-in-Err.ensures.items ∙ sym (put-insert _ _ _ _ gap)))
+    λ _. (
+      rw (← c.self.view_is) (at_tag-gap _ _ _ gap),
+      rw (← c.self.view_is) (c.in_ok-insert-in-Err.ensures.items ∙ sym (put-insert _ _ _ _ gap)),
+    )
