@@ -12,3 +12,8 @@ pub mod Faults
 pub mod Laws
 pub mod Places
 pub mod Seen
+pub mod Reading
+pub mod Linked
+pub mod ReadTree
+pub mod Parts
+pub mod Refused

@@ -1,0 +1,87 @@
+use Rattle.std.proofs.Common.{◌≡◌, ◌<◌, ◌+◌, ◌-◌, ◌++◌, ℕ, suc, Option, None, filter_map, option_map, option_to_list, sym, ap, subst, ◌∙◌, arith, append-nil, append_assoc}
+use Rattle.std.proofs.lemmas.Result.{err_from_is_err_and}
+use Rattle.std.specs.List.{AllByRecursion}
+use Rattle.px_bytes.specs.Parts.{part}
+use Rattle.px_field.specs.Forms.{form_of}
+use Rattle.px_field.specs.Values.{Value}
+use Rattle.px_tree.specs.Tree.{Fields}
+use Rattle.px_tree.specs.Entry.{entry, field, value_in, Rising}
+use Rattle.px_tree.specs.Places.{tags}
+use Rattle.px_tree.specs.Reading.{entries_from}
+use Rattle.px_tree.proofs.Kept.{rising_kept, precede_kept}
+use Rattle.px_tree.proofs.Loop.{SoFar, so_far_start, so_far_step, so_far_refuses, so_far_end, fields_step, field-is}
+use Rattle.px_tree.proofs.field_reading.read_entries.Goals as goal
+
+pub loop-init : goal.loop-init
+loop-init c =
+    let b = c.args.block.now in
+    let o = c.args.order in
+    let d = c.args.dir in
+    let n : c.args.count - 0 ≡ c.args.count = omega arith in
+    let es = λ (k : ℕ). entries_from b o c.args.start k in
+    record {
+      place = omega arith;
+      rising = subst (λ (l : Fields). Rising (tags l)) (sym c.new-fields.ensures) tt;
+      precede = λ t _. subst (λ (l : Fields). AllByRecursion (λ s. s < t) (tags l)) (sym c.new-fields.ensures) tt;
+      fields = ap (λ (l : Fields). l ++ filter_map (field b o d) (es (c.args.count - 0))) c.new-fields.ensures ∙ ap (λ (k : ℕ). filter_map (field b o d) (es k)) n;
+      judged = λ taken a. subst (λ (k : ℕ). SoFar b o d taken (es c.args.count) c.args.start c.args.held.now c.args.start None k) (sym n)
+          (so_far_start b o d taken c.args.start c.args.count c.args.held.now a);
+    }
+
+pub returns-in_err-shape : goal.returns-in_err-shape
+returns-in_err-shape c = λ taken a.
+    let p = err_from_is_err_and c.from_residual.result c.from_residual.ensures.1 in
+    let step : c.args.count - c.loop.counter ≡ suc (c.args.count - (c.loop.counter + 1)) = omega arith in
+    let s = c.loop.invariant.judged taken a in
+    rw (p.1, p.2) (so_far_refuses c.args.block.now c.args.order c.args.dir taken _ _ _ _ _ _ _ step s _ (c.in_err-shape.ensures.judged s.now s.agrees))
+
+pub keep_field-requires-clause-held : goal.keep_field-requires-clause-held
+keep_field-requires-clause-held c =
+    let s = c.in_ok-shape.ensures.shape in
+    record { bounded = c.requires.bounded; inside = omega arith; shown = s.head; known = ap form_of s.head.code ∙ s.form; whole = c.in_ok-shape.ensures.inside }
+
+pub keep_field-requires-clause-below : goal.keep_field-requires-clause-below
+keep_field-requires-clause-below c = c.loop.invariant.precede c.in_ok-shape.shape.head.tag c.in_ok-shape.ensures.follows
+
+pub loop-preserved : goal.loop-preserved
+loop-preserved c =
+    let step : c.args.count - c.loop.counter ≡ suc (c.args.count - (c.loop.counter + 1)) = omega arith in
+    let b = c.args.block.now in
+    let o = c.args.order in
+    let d = c.args.dir in
+    let s = c.in_ok-shape.shape in
+    let shape = c.in_ok-shape.ensures.shape in
+    let rest = filter_map (field b o d) (entries_from b o (c.loop.at + 12) (c.args.count - (c.loop.counter + 1))) in
+    let e = entry o (part b c.loop.at 12) in
+    let x = value_in b o e s.role s.form in
+    let kept = c.in_ok-keep_field.ensures.kept in
+    let below = c.loop.invariant.precede s.head.tag c.in_ok-shape.ensures.follows in
+    record {
+      place = omega arith;
+      rising = rising_kept c.loop.fields _ s.head.tag x kept c.loop.invariant.rising below;
+      precede = precede_kept c.loop.fields _ s.head.tag x kept below;
+      fields =
+          ap (λ (l : Fields). l ++ rest) (kept ∙ ap (λ (y : Option (ℕ × Value)). c.loop.fields ++ option_to_list y)
+          (ap (λ (t : ℕ). option_map (λ (v : Value). (t, v)) x) shape.head.tag ∙ sym (field-is b o d s e shape)))
+          ∙ append_assoc c.loop.fields (option_to_list (field b o d e)) rest
+          ∙ ap (λ (l : Fields). c.loop.fields ++ l) (sym (fields_step b o d c.loop.at _ _ step))
+          ∙ c.loop.invariant.fields;
+      judged = λ taken a.
+          let w = c.loop.invariant.judged taken a in
+          let k = c.in_ok-shape.ensures.judged w.now w.agrees in
+          so_far_step b o d taken _ _ _ _ _ _ _ step w _ _ shape.head.tag k.0 k.1;
+    }
+
+pub returns : goal.returns
+returns c = λ taken a.
+    let none : c.args.count - c.loop.counter ≡ 0 = omega arith in
+    let b = c.args.block.now in
+    let o = c.args.order in
+    let d = c.args.dir in
+    let end = so_far_end b o d taken _ _ _ _ _ _ none (c.loop.invariant.judged taken a) in (
+      end.0,
+      (
+        sym (append-nil c.loop.fields) ∙ ap (λ (k : ℕ). c.loop.fields ++ filter_map (field b o d) (entries_from b o c.loop.at k)) (sym none) ∙ c.loop.invariant.fields,
+        end.1,
+      ),
+    )

@@ -1,0 +1,16 @@
+use Rattle.std.proofs.Common.{◌≡◌, ◌+◌, ◌-◌, ◌*◌, ◌++◌, List, filter_map}
+use Rattle.px_bytes.specs.Range.{Range, Agrees}
+use Rattle.px_tree.specs.Entry.{field, Rising}
+use Rattle.px_tree.specs.Places.{tags}
+use Rattle.px_tree.specs.Reading.{Precede, entries_from}
+use Rattle.px_tree.proofs.Loop.{SoFar}
+use Rattle.px_tree.proofs.field_reading.read_entries.Given as goal
+
+abbrev pub invariant-loop : goal.invariant-loop
+invariant-loop l = record {
+  place : l.at ≡ l.start + 12 * l.counter;
+  rising : Rising (tags l.fields);
+  precede : Precede l.before l.fields;
+  fields : l.fields ++ filter_map (field l.block l.order l.dir) (entries_from l.block l.order l.at (l.count - l.counter)) ≡ filter_map (field l.block l.order l.dir) (entries_from l.block l.order l.start l.count);
+  judged : (taken : List Range) → Agrees taken l.initial.held → SoFar l.block l.order l.dir taken (entries_from l.block l.order l.start l.count) l.start l.held l.at l.before (l.count - l.counter);
+}

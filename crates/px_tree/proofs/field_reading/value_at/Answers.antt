@@ -1,0 +1,10 @@
+use Rattle.std.proofs.Common.{◌∙◌}
+use Rattle.px_field.specs.ValueLaws.{whole-times}
+use Rattle.px_tree.proofs.Raw.{value-held}
+use Rattle.px_tree.proofs.field_reading.value_at.Goals as goal
+
+pub read_value-requires-clause-whole : goal.read_value-requires-clause-whole
+read_value-requires-clause-whole c = whole-times c.args.form c.args.head.count c.raw_of.result.now c.raw_of.ensures.size
+
+pub returns : goal.returns
+returns c = c.read_value.ensures ∙ value-held c.args.block.now c.args.order c.args.at c.args.head c.args.form c.requires c.raw_of.result.now c.raw_of.ensures.bytes c.raw_of.ensures.size

@@ -1,0 +1,77 @@
+use Rattle.std.proofs.Common.{List, [], ◌∷◌, option_map, refl, sym, ap, ◌∙◌, ℕ}
+use Rattle.std.proofs.lemmas.Result.{err_from_is_err_and}
+use Rattle.px_bytes.specs.declared.Cause.TheVariants.{Overlap}
+use Rattle.px_bytes.specs.Range.{range, is_free}
+use Rattle.px_bytes.specs.RangeLaws.{agrees-none}
+use Rattle.px_bytes.specs.Checks.{check}
+use Rattle.px_bytes.specs.CheckLaws.{Refuses-none}
+use Rattle.px_tree.specs.declared.tables.Directory.{Directory}
+use Rattle.px_tree.specs.Directory.{dirs}
+use Rattle.px_tree.specs.Says.{record_at}
+use Rattle.px_tree.specs.Checks.{dirs_held}
+use Rattle.px_tree.proofs.Assembled.{thumb_read, main_each, dirs_refuse_tree, thumb_refuses_tree, tree_true, all_in_order, meaning-is}
+use Rattle.px_tree.proofs.read.read_tree.Goals as goal
+
+pub returns-in_err-hold : goal.returns-in_err-hold
+returns-in_err-hold c =
+    let p = err_from_is_err_and c.from_residual.result c.from_residual.ensures.1 in
+    let a = agrees-none _ c.new-held.ensures in
+    rw (p.1, p.2) (Refuses-none c.in_err-hold.field-0.0 (check Overlap 0 (is_free [] (range 0 8)) ∷ []) _ refl (c.in_err-hold.ensures [] a))
+
+pub returns-in_err-directories : goal.returns-in_err-directories
+returns-in_err-directories c =
+    let p = err_from_is_err_and c.from_residual-in_err-directories.result c.from_residual-in_err-directories.ensures.1 in
+    let h = (c.in_ok-hold.ensures [] (agrees-none _ c.new-held.ensures)).1 in
+    rw (p.1, p.2) (dirs_refuse_tree c.args.block.now c.args.order c.in_err-directories.field-0.0 (c.in_err-directories.ensures (range 0 8 ∷ []) h))
+
+pub read_thumb-requires-clause-read : goal.read_thumb-requires-clause-read
+read_thumb-requires-clause-read c =
+    let b = c.args.block.now in
+    let o = c.args.order in
+    let h = (c.in_ok-hold.ensures [] (agrees-none _ c.new-held.ensures)).1 in
+    let d = c.in_ok-directories.ensures (range 0 8 ∷ []) h in
+    thumb_read b o c.in_ok-directories.directories.thumb d.1.0.thumb_read d.1.0.thumb (all_in_order b o d.0).1.1.1.1.0
+
+pub returns-in_err-thumb : goal.returns-in_err-thumb
+returns-in_err-thumb c =
+    let p = err_from_is_err_and c.from_residual-in_err-thumb.result c.from_residual-in_err-thumb.ensures.1 in
+    let b = c.args.block.now in
+    let o = c.args.order in
+    let h = (c.in_ok-hold.ensures [] (agrees-none _ c.new-held.ensures)).1 in
+    let d = c.in_ok-directories.ensures (range 0 8 ∷ []) h in
+    rw (p.1, p.2) (thumb_refuses_tree b o (option_map (λ (t : Directory). t.at) c.in_ok-directories.directories.thumb) d.1.0.thumb_read.stands d.0 c.in_err-thumb.field-0.0
+    (c.in_err-thumb.ensures (dirs_held b o (range 0 8 ∷ []) dirs) d.1.1))
+
+pub read_record-requires-clause-stands : goal.read_record-requires-clause-stands
+read_record-requires-clause-stands c =
+    let h = (c.in_ok-hold.ensures [] (agrees-none _ c.new-held.ensures)).1 in
+    (c.in_ok-directories.ensures (range 0 8 ∷ []) h).1.0.main_table
+
+pub read_record-requires-clause-each : goal.read_record-requires-clause-each
+read_record-requires-clause-each c =
+    let b = c.args.block.now in
+    let o = c.args.order in
+    let h = (c.in_ok-hold.ensures [] (agrees-none _ c.new-held.ensures)).1 in
+    let d = c.in_ok-directories.ensures (range 0 8 ∷ []) h in
+    main_each b o c.in_ok-directories.directories.main.at d.1.0.main_stands (all_in_order b o d.0).0
+
+pub returns : goal.returns
+returns c =
+    let b = c.args.block.now in
+    let o = c.args.order in
+    let h = (c.in_ok-hold.ensures [] (agrees-none _ c.new-held.ensures)).1 in
+    let d = c.in_ok-directories.ensures (range 0 8 ∷ []) h in
+    let seen = d.1.0 in
+    let t = c.in_ok-thumb.ensures (dirs_held b o (range 0 8 ∷ []) dirs) d.1.1 in
+    let a = option_map (λ (t : Directory). t.at) c.in_ok-directories.directories.thumb in (
+      tree_true b o a seen.thumb_read.stands d.0 t.0,
+      meaning-is b o _ _ _ _ _ c.fields_in.result c.fields_in-2.result a
+          seen.main
+          (c.in_ok-iptc.ensures.ok ∙ ap (λ (n : ℕ). record_at b o n) seen.main_stands)
+          c.exif_in.ensures
+          (c.fields_in.ensures ∙ seen.exif)
+          (c.fields_in-2.ensures ∙ seen.interop)
+          (c.fields_in-3.ensures ∙ seen.gps)
+          t.1
+          seen.thumb_read.stands,
+    )

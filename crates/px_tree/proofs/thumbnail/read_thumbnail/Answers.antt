@@ -1,0 +1,60 @@
+use Rattle.std.proofs.Common.{◌≡◌, ◌++◌, ℕ, List, Option, option_map, option_to_list, map, sym, ap, subst, ◌∙◌}
+use Rattle.std.proofs.lemmas.Result.{err_from_is_err_and}
+use Rattle.px_bytes.specs.Range.{Range}
+use Rattle.px_tree.specs.Roles.{strip_offsets_tag, strip_lengths_tag}
+use Rattle.px_tree.specs.Thumbnail.{bytes_of}
+use Rattle.px_tree.specs.Parts.{jpeg_of}
+use Rattle.px_tree.proofs.Listed.{have_numbers, offsets_form, lengths_form}
+use Rattle.px_tree.proofs.Parted.{even_parts, pairs_refuse, end_refuses, jpeg_refuses, strips_refuse, thumb_true, jpeg-is, strips-is}
+use Rattle.px_tree.proofs.Assembled.{thumbnail-is}
+use Rattle.px_tree.proofs.thumbnail.read_thumbnail.Goals as goal
+
+pub hold_strips-requires-clause-numbers : goal.hold_strips-requires-clause-numbers
+hold_strips-requires-clause-numbers c =
+    let b = c.args.block.now in
+    let o = c.args.order in
+    let found = c.find_parts-parts.ensures in
+    let each = c.requires.read.each in (
+      have_numbers b o c.args.at c.requires.bounded each strip_offsets_tag offsets_form c.find_parts-parts.result.strip_offsets found.strip_offsets,
+      have_numbers b o c.args.at c.requires.bounded each strip_lengths_tag lengths_form c.find_parts-parts.result.strip_lengths found.strip_lengths,
+    )
+
+pub hold_strips-requires-clause-even : goal.hold_strips-requires-clause-even
+hold_strips-requires-clause-even c = even_parts c.find_parts-parts.result c.in_ok-judge_pairs.ensures.0
+
+pub returns-in_err-judge_pairs : goal.returns-in_err-judge_pairs
+returns-in_err-judge_pairs c = λ taken a.
+    let p = err_from_is_err_and c.from_residual.result c.from_residual.ensures.1 in
+    rw (p.1, p.2) (pairs_refuse c.args.block.now c.args.order c.args.at c.find_parts-parts.result c.find_parts-parts.ensures taken _ c.in_err-judge_pairs.ensures)
+
+pub returns-in_err-judge_end : goal.returns-in_err-judge_end
+returns-in_err-judge_end c = λ taken a.
+    let p = err_from_is_err_and c.from_residual-in_err-judge_end.result c.from_residual-in_err-judge_end.ensures.1 in
+    rw (p.1, p.2) (end_refuses c.args.block.now c.args.order c.args.at c.find_parts-parts.result c.find_parts-parts.ensures taken c.in_ok-judge_pairs.ensures.0 _ c.in_err-judge_end.ensures)
+
+pub returns-in_err-jpeg : goal.returns-in_err-jpeg
+returns-in_err-jpeg c = λ taken a.
+    let p = err_from_is_err_and c.from_residual-in_err-jpeg.result c.from_residual-in_err-jpeg.ensures.1 in
+    rw (p.1, p.2) (jpeg_refuses c.args.block.now c.args.order c.args.at c.find_parts-parts.result c.find_parts-parts.ensures taken c.in_ok-judge_pairs.ensures.0 c.in_ok-judge_end.ensures.0 _ (c.in_err-jpeg.ensures.judged taken a))
+
+pub returns-in_err-strips : goal.returns-in_err-strips
+returns-in_err-strips c = λ taken a.
+    let p = err_from_is_err_and c.from_residual-in_err-strips.result c.from_residual-in_err-strips.ensures.1 in
+    let j = c.in_ok-jpeg.ensures.judged taken a in
+    let x = c.find_parts-parts.result in
+    rw (p.1, p.2) (strips_refuse c.args.block.now c.args.order c.args.at x c.find_parts-parts.ensures taken c.in_ok-judge_pairs.ensures.0 c.in_ok-judge_end.ensures.0 j.0 _
+    (c.in_err-strips.ensures (option_to_list (jpeg_of x.jpeg_offset x.jpeg_length) ++ taken) j.1))
+
+pub returns : goal.returns
+returns c = λ taken a.
+    let b = c.args.block.now in
+    let o = c.args.order in
+    let x = c.find_parts-parts.result in
+    let found = c.find_parts-parts.ensures in
+    let j = c.in_ok-jpeg.ensures.judged taken a in
+    let s = c.in_ok-strips.ensures (option_to_list (jpeg_of x.jpeg_offset x.jpeg_length) ++ taken) j.1 in (
+      thumb_true b o c.args.at x found taken c.in_ok-judge_pairs.ensures.0 c.in_ok-judge_end.ensures.0 j.0 s.0,
+      thumbnail-is b o c.args.at _ _ _ c.requires.read.fields_are
+          (c.in_ok-jpeg.ensures.part ∙ ap (λ (r : Option Range). option_map (bytes_of b) r) (jpeg-is b o c.args.at x found))
+          (s.1 ∙ ap (λ (r : Option (List Range)). option_map (map (bytes_of b)) r) (strips-is b o c.args.at x found)),
+    )

@@ -1,0 +1,42 @@
+-- How what the reader keeps shows what the definitions say: what was found, and the directories.
+use Rattle.std.specs.Prelude.{◌≡◌, ◌≤◌, ℕ, ◌+◌, ◌*◌, Option, Some, None, option_map, option_to_list, List, ◌++◌, length, flat_map, IfSome}
+use Rattle.px_bytes.specs.declared.Order.{Order}
+use Rattle.px_bytes.specs.Parts.{part}
+use Rattle.px_tree.specs.declared.roles.Dir.{Dir}
+use Rattle.px_tree.specs.declared.links.Link.{Link}
+use Rattle.px_tree.specs.declared.links.Found.{Found}
+use Rattle.px_tree.specs.declared.tables.Directory.{Directory}
+use Rattle.px_tree.specs.Tree.{Fields}
+use Rattle.px_tree.specs.Entry.{entry}
+use Rattle.px_tree.specs.Directory.{entries_at, entry_with, dir_at}
+use Rattle.px_tree.specs.Checks.{named_at, place_with}
+use Rattle.px_tree.specs.Reading.{Shows, HasTable}
+
+-- f is the entry of tag t in the table at a
+pub record IsFound (b : List ℕ) (o : Order) (a t : ℕ) (f : Found) : Type 0 where
+  pub is : entry_with t (entries_at b o a) ≡ Some (entry o (part b f.place 12))
+  pub place : f.place ≡ place_with t (a + 2) (entries_at b o a)
+  pub shown : Shows o f.head (entry o (part b f.place 12))
+  pub inside : f.place + 12 ≤ length b
+
+-- where a link leads
+abbrev pub offset_of : Option Link → List ℕ
+offset_of link = option_to_list (option_map (λ l. l.at) link)
+
+-- where links lead
+abbrev pub offsets_of : List (Option Link) → List ℕ
+offsets_of links = flat_map offset_of links
+
+-- a link leads to a directory, and is named at its place
+pub record Names (b : List ℕ) (o : Order) (d : Dir) (link : Option Link) : Type 0 where
+  pub leads : option_map (λ l. l.at) link ≡ dir_at b o d
+  pub place : IfSome link (λ l. l.place ≡ named_at b o d)
+
+-- a directory that was read, if it is there
+pub record IsRead (b : List ℕ) (o : Order) (d : Dir) (t : Option Directory) : Type 0 where
+  pub stands : option_map (λ t. t.at) t ≡ dir_at b o d
+  pub table : IfSome t (λ t. HasTable b o t.at t.count)
+
+-- the place behind the entries of the directory at a
+abbrev pub next_place : List ℕ → Order → ℕ → ℕ
+next_place b o a = a + 2 + 12 * length (entries_at b o a)

@@ -1,0 +1,22 @@
+-- A block that is refused.
+use Rattle.std.specs.Prelude.{ℕ, ◌≤◌, List, ⊤}
+use Rattle.px_bytes.specs.declared.Cause.{Cause}
+use Rattle.px_bytes.specs.declared.Refusal.{Refusal}
+use Rattle.px_bytes.specs.declared.Refusal.TheVariants.{Content, OutOfMemory}
+use Rattle.px_bytes.specs.Parts.{limit}
+use Rattle.px_tree.specs.Tree.{Meaning}
+use Rattle.px_tree.specs.Says.{SaysExif}
+use Rattle.px_tree.specs.Checks.{FirstFault}
+use Rattle.px_tree.specs.Faults.{Fault}
+
+-- the fault is the first one, it stands, its place is at most the limit, and the block says no meaning
+pub record IsFaulty (b : List ℕ) (cause : Cause) (place : ℕ) : Type 0 where
+  pub first : FirstFault b cause place
+  pub stands : Fault b cause place
+  pub bounded : place ≤ limit
+  pub unsaid : (m : Meaning) → SaysExif b m → ⊥
+
+-- a refusal of content names such a fault; want of memory says nothing of the block
+abbrev pub IsRefused : List ℕ → Refusal → Type 0
+IsRefused b (Content cause place) = IsFaulty b cause place
+IsRefused b OutOfMemory = ⊤

@@ -1,0 +1,183 @@
+// One entry of a table, judged. TIFF 6.0 section 2, "IFD Entry", "Sort Order", "Types" and "Value/Offset".
+ghost use Rattle.std.specs.Prelude.{◌≡◌, ◌≤◌, ◌<◌, ◌+◌, ◌*◌, ◌^◌, ℕ, List, [], ◌∷◌, ◌++◌, length, option_to_list, IfOk, Some};
+ghost use Rattle.px_bytes.specs.declared.Cause.TheVariants.{Overlap};
+ghost use Rattle.px_bytes.specs.Parts.{limit, part};
+ghost use Rattle.px_bytes.specs.Range.{Range, range, is_free, Agrees};
+ghost use Rattle.px_bytes.specs.Checks.{Judges, check};
+ghost use Rattle.px_field.specs.Forms.{form_of, size};
+ghost use Rattle.px_tree.specs.Roles.{role};
+ghost use Rattle.px_tree.specs.Entry.{entry, short, long, has_form};
+ghost use Rattle.px_tree.specs.Footprint.{placed_range};
+ghost use Rattle.px_tree.specs.Checks.{shape_checks, entry_checks};
+ghost use Rattle.px_tree.specs.Reading.{Shows, bare, IsShape, Follows, span, span_checks};
+
+use crate::roles::{Dir, Role, role_of};
+use px_bytes::{Cause, Order, Ranges, Refusal};
+use px_field::Form;
+
+// What the twelve bytes of an entry say.
+#[derive(Clone, Copy)]
+pub struct Head {
+    pub tag: u16,
+    pub code: u16,
+    pub count: u32,
+    pub offset: u32,
+}
+
+// An entry with its type, and what its tag is.
+#[derive(Clone, Copy)]
+pub struct Shape {
+    pub head: Head,
+    pub form: Form,
+    pub role: Role,
+}
+
+// The number in the two bytes at a place.
+pub fn number16(block: &[u8], order: Order, at: u32) -> u16
+    requires { at + 2 ≤ length block.now }
+    ensures { result ≡ short order (part block.now at 2) }
+{
+    let from = at as usize;
+    order.get16(&block[from..from + 2])
+}
+
+// The number in the four bytes at a place.
+pub fn number32(block: &[u8], order: Order, at: u32) -> u32
+    requires { at + 4 ≤ length block.now }
+    ensures { result ≡ long order (part block.now at 4) }
+{
+    let from = at as usize;
+    order.get32(&block[from..from + 4])
+}
+
+// The entry at a place.
+pub fn head_at(block: &[u8], order: Order, at: u32) -> Head
+    requires inside { at + 12 ≤ length block.now }
+    requires bounded { length block.now ≤ limit }
+    ensures { Shows order result (entry order (part block.now at 12)) }
+{
+    Head {
+        tag: number16(block, order, at),
+        code: number16(block, order, at + 2),
+        count: number32(block, order, at + 4),
+        offset: number32(block, order, at + 8),
+    }
+}
+
+// Whether a pointer or a part of the thumbnail has the form that is asked.
+fn is_formed(role: Role, head: Head) -> bool
+    ensures { result ≡ has_form role (bare head) }
+{
+    match role {
+        Role::To(_) | Role::JpegOffset | Role::JpegLength => head.code == 4 && head.count == 1,
+        Role::StripOffsets | Role::StripLengths => head.code == 3 || head.code == 4,
+        _ => true,
+    }
+}
+
+// The type and role of an entry at a place, behind a tag.
+fn shape_of(dir: Dir, at: u32, before: Option<u16>, head: Head) -> Result<Shape, Refusal>
+    ensures judged { Judges result (shape_checks dir at before (bare head))
+        (λ s. (s.head ≡ head) × (form_of head.code ≡ Some s.form) × (s.role ≡ role dir head.tag)) }
+    ensures follows { IfOk result (λ _. Follows before head.tag) }
+{
+    if let Some(last) = before {
+        if head.tag < last {
+            return Err(Refusal::Content {
+                cause: Cause::Unsorted,
+                place: at,
+            });
+        }
+        if head.tag == last {
+            return Err(Refusal::Content {
+                cause: Cause::Doubled,
+                place: at,
+            });
+        }
+    }
+    let Some(form) = Form::of(head.code) else {
+        return Err(Refusal::Content {
+            cause: Cause::UnknownType,
+            place: at,
+        });
+    };
+    let role = role_of(dir, head.tag);
+    if let Role::Forbidden = role {
+        return Err(Refusal::Content {
+            cause: Cause::MisplacedOffset,
+            place: at,
+        });
+    }
+    if !is_formed(role, head) {
+        return Err(Refusal::Content {
+            cause: Cause::PointerForm,
+            place: at,
+        });
+    }
+    Ok(Shape { head, form, role })
+}
+
+// Holds a range that is named at a place.
+pub fn hold(held: &mut Ranges, at: u32, start: u32, len: u32) -> Result<(), Refusal>
+    requires { start + len ≤ limit }
+    ensures { (taken : List Range) → Agrees taken held.old →
+        Judges result (check Overlap at (is_free taken (range start len)) ∷ [])
+        (λ _. Agrees (range start len ∷ taken) held.new) }
+{
+    if !held.add(start, len)? {
+        return Err(Refusal::Content {
+            cause: Cause::Overlap,
+            place: at,
+        });
+    }
+    Ok(())
+}
+
+// Holds the bytes of a value of so many bytes, where it stands at an offset.
+fn hold_value(block: &[u8], held: &mut Ranges, at: u32, start: u32, len: u64) -> Result<(), Refusal>
+    requires small { len < 2 ^ 36 }
+    requires bounded { length block.now ≤ limit }
+    ensures judged { (taken : List Range) → Agrees taken held.old →
+        Judges result (span_checks block.now taken at start len)
+        (λ _. Agrees (option_to_list (span start len) ++ taken) held.new) }
+    ensures inside { IfOk result (λ _. 4 < len → start + len ≤ length block.now) }
+{
+    if len <= 4 {
+        return Ok(());
+    }
+    if u64::from(start) + len > block.len() as u64 {
+        return Err(Refusal::Content {
+            cause: Cause::ValueOutside,
+            place: at,
+        });
+    }
+    hold(held, at, start, len as u32)
+}
+
+// Judges the entry at a place, behind a tag, and holds its value.
+pub fn judge_entry(
+    block: &[u8],
+    order: Order,
+    dir: Dir,
+    held: &mut Ranges,
+    at: u32,
+    before: Option<u16>,
+) -> Result<Shape, Refusal>
+    requires inside { at + 12 ≤ length block.now }
+    requires bounded { length block.now ≤ limit }
+    ensures judged { let e = entry order (part block.now at 12) in
+        (taken : List Range) → Agrees taken held.old →
+        Judges result (entry_checks block.now order dir taken at before e)
+        (λ s. Agrees (option_to_list (placed_range order e) ++ taken) held.new) }
+    ensures shape { IfOk result (λ s. IsShape order dir s (entry order (part block.now at 12))) }
+    ensures inside { IfOk result
+        (λ s. 4 < s.head.count * size s.form
+        → s.head.offset + s.head.count * size s.form ≤ length block.now) }
+    ensures follows { IfOk result (λ s. Follows before s.head.tag) }
+{
+    let head = head_at(block, order, at);
+    let shape = shape_of(dir, at, before, head)?;
+    let len = u64::from(head.count) * u64::from(shape.form.size());
+    hold_value(block, held, at, head.offset, len)?;
+    Ok(shape)
+}

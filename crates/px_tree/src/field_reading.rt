@@ -1,0 +1,177 @@
+// The fields of a directory, read from its entries. TIFF 6.0 section 2, "IFD Entry" and "Value/Offset".
+ghost use Rattle.std.specs.Prelude.{◌≡◌, ◌≤◌, ◌<◌, ◌+◌, ◌*◌, ◌++◌, ℕ, List, [], ◌∷◌, length, map, filter_map, option_map, option_to_list, is_some, Some, None, IfOk, IfErr};
+ghost use Rattle.std.specs.List.{AllByRecursion};
+ghost use Rattle.px_bytes.specs.declared.Refusal.TheVariants.{OutOfMemory};
+ghost use Rattle.px_bytes.specs.Parts.{limit, part};
+ghost use Rattle.px_bytes.specs.Range.{Range, Agrees};
+ghost use Rattle.px_bytes.specs.Checks.{Judges};
+ghost use Rattle.px_field.specs.declared.Kind.TheVariants.{Of};
+ghost use Rattle.px_field.specs.Forms.{form_of, size};
+ghost use Rattle.px_tree.specs.Entry.{entry, raw, entry_elements, widened_value, record_in, unless_record, value_in, field, Rising};
+ghost use Rattle.px_tree.specs.Footprint.{placed_range};
+ghost use Rattle.px_tree.specs.Checks.{entries_checks};
+ghost use Rattle.px_tree.specs.Places.{tags};
+ghost use Rattle.px_tree.specs.Reading.{IsHeld, is_whole, entries_from};
+
+use crate::entries::{Head, Shape, judge_entry};
+use crate::fields::Fields;
+use crate::roles::{Dir, Role};
+use px_bytes::{Order, Ranges, Refusal};
+use px_field::{Form, Value, read_value, read_whole};
+use px_iim::accepts;
+use std::alloc::Global;
+
+// The bytes of a block from a place on.
+pub fn part_of<'a>(block: &'a [u8], at: u32, len: u32) -> &'a [u8]
+    requires { at + len ≤ length block.now }
+    ensures { result.now ≡ part block.now at len }
+{
+    let from = at as usize;
+    &block[from..from + len as usize]
+}
+
+// The raw bytes of an entry.
+pub fn raw_of<'a>(block: &'a [u8], order: Order, at: u32, head: Head, form: Form) -> &'a [u8]
+    requires { IsHeld block.now order at head form }
+    ensures bytes { result.now ≡ raw block.now order (entry order (part block.now at 12)) }
+    ensures size { head.count * size form ≡ length result.now }
+    ensures bounded { length result.now ≤ limit }
+{
+    let len = u64::from(head.count) * u64::from(form.size());
+    if len > 4 {
+        return part_of(block, head.offset, len as u32);
+    }
+    part_of(block, at + 8, len as u32)
+}
+
+// The value of an entry.
+pub fn value_at<'a>(block: &'a [u8], order: Order, at: u32, head: Head, form: Form) -> Value<'a>
+    requires { IsHeld block.now order at head form }
+    ensures { result
+        ≡ record {
+          kind = Of form;
+          elements = entry_elements block.now order (entry order
+              (part block.now at 12)) form;
+        } }
+{
+    read_value(form, order, raw_of(block, order, at, head, form))
+}
+
+// Whether SHORT or LONG.
+fn is_whole_form(form: Form) -> bool
+    ensures { result ≡ is_whole form }
+{
+    matches!(form, Form::Short | Form::Long)
+}
+
+// The value of an entry where SHORT and LONG mean the same.
+fn widened_at<'a>(block: &'a [u8], order: Order, at: u32, head: Head, form: Form) -> Value<'a>
+    requires { IsHeld block.now order at head form }
+    ensures { result
+        ≡ widened_value form (entry_elements block.now order (entry order
+        (part block.now at 12)) form) }
+{
+    if is_whole_form(form) {
+        return read_whole(form, order, raw_of(block, order, at, head, form));
+    }
+    value_at(block, order, at, head, form)
+}
+
+// Whether bytes of a type say a record.
+fn says_record(form: Form, raw: &[u8]) -> bool
+    ensures { result ≡ is_some (record_in form raw.now) }
+{
+    match form {
+        Form::Byte | Form::Undefined => accepts(raw),
+        _ => false,
+    }
+}
+
+// The value of an entry at the record's tag, where its bytes say no record.
+fn unless_record_at<'a>(
+    block: &'a [u8],
+    order: Order,
+    at: u32,
+    head: Head,
+    form: Form,
+) -> Option<Value<'a>>
+    requires { IsHeld block.now order at head form }
+    ensures { let e = entry order (part block.now at 12) in
+        result ≡ unless_record (record_in form (raw block.now order e))
+        (record { kind = Of form; elements = entry_elements block.now order e form }) }
+{
+    if says_record(form, raw_of(block, order, at, head, form)) {
+        return None;
+    }
+    Some(value_at(block, order, at, head, form))
+}
+
+// The value of a field; pointers, parts of the thumbnail and a record are no fields.
+fn field_of<'a>(block: &'a [u8], order: Order, at: u32, shape: Shape) -> Option<Value<'a>>
+    requires { IsHeld block.now order at shape.head shape.form }
+    ensures { result
+        ≡ value_in block.now order (entry order (part block.now at 12)) shape.role shape.form }
+{
+    match shape.role {
+        Role::Plain => Some(value_at(block, order, at, shape.head, shape.form)),
+        Role::Widened => Some(widened_at(block, order, at, shape.head, shape.form)),
+        Role::Record => unless_record_at(block, order, at, shape.head, shape.form),
+        _ => None,
+    }
+}
+
+// Keeps the field of an entry, if it is one.
+fn keep_field<'a>(
+    fields: &mut Fields<'a>,
+    block: &'a [u8],
+    order: Order,
+    at: u32,
+    shape: Shape,
+) -> Result<(), Refusal>
+    requires held { IsHeld block.now order at shape.head shape.form }
+    requires rising { Rising (tags fields.old) }
+    requires below { AllByRecursion (λ t. t < shape.head.tag) (tags fields.old) }
+    ensures kept { let e = entry order (part block.now at 12) in
+        IfOk result (λ _. fields.new ≡ fields.old
+        ++ option_to_list (option_map (λ v. (shape.head.tag, v))
+        (value_in block.now order e shape.role shape.form))) }
+    ensures err { IfErr result (λ e. e ≡ OutOfMemory) }
+{
+    match field_of(block, order, at, shape) {
+        Some(value) => {
+            fields.push(shape.head.tag, value)?;
+            Ok(())
+        }
+        None => Ok(()),
+    }
+}
+
+// The fields of so many entries, each judged, and its value held.
+pub fn read_entries<'a>(
+    alloc: Global,
+    block: &'a [u8],
+    order: Order,
+    dir: Dir,
+    held: &mut Ranges,
+    start: u32,
+    count: u16,
+) -> Result<Fields<'a>, Refusal>
+    requires inside { start + 12 * count ≤ length block.now }
+    requires bounded { length block.now ≤ limit }
+    ensures { let es = entries_from block.now order start count in
+        (taken : List Range) → Agrees taken held.old →
+        Judges result (entries_checks block.now order dir taken start None es)
+        (λ v. (v ≡ filter_map (field block.now order dir) es)
+        × Agrees (filter_map (placed_range order) es ++ taken) held.new) }
+{
+    let mut fields = Fields::new(alloc);
+    let mut at = start;
+    let mut before = None;
+    for _ in 0..count {
+        let shape = judge_entry(block, order, dir, held, at, before)?;
+        keep_field(&mut fields, block, order, at, shape)?;
+        before = Some(shape.head.tag);
+        at += 12;
+    }
+    Ok(fields)
+}

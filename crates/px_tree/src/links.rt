@@ -1,0 +1,111 @@
+// Where directories are named. TIFF 6.0 section 2, "Image File Directory"; CIPA DC-008 4.6.3 (pointers).
+ghost use Rattle.std.specs.Prelude.{◌≡◌, ◌≤◌, ◌<◌, ◌+◌, ◌*◌, ℕ, List, length, IfSome, option_map, MatchOption, None};
+ghost use Rattle.px_bytes.specs.Parts.{limit};
+ghost use Rattle.px_tree.specs.Entry.{next, table};
+ghost use Rattle.px_tree.specs.Directory.{entries_at, entry_with, is_pointer, pointer, unless_zero};
+ghost use Rattle.px_tree.specs.Checks.{is_earlier_at, pointer_place};
+ghost use Rattle.px_tree.specs.Reading.{HasTable, bare};
+ghost use Rattle.px_tree.specs.Linked.{IsFound, offset_of, offsets_of};
+
+use crate::entries::{Head, head_at, number32};
+use px_bytes::Order;
+
+// The offset of a directory, and the place of what names it.
+#[derive(Clone, Copy)]
+pub struct Link {
+    pub at: u32,
+    pub place: u32,
+}
+
+// An entry, and its place.
+#[derive(Clone, Copy)]
+pub struct Found {
+    pub head: Head,
+    pub place: u32,
+}
+
+// Whether an entry is the pointer of a tag.
+fn is_link(head: Head, tag: u16) -> bool
+    ensures { result ≡ is_pointer tag (bare head) }
+{
+    head.tag == tag && head.code == 4 && head.count == 1
+}
+
+// The pointer of a tag in the table at a place.
+pub fn find_link(block: &[u8], order: Order, at: u32, count: u16, tag: u16) -> Option<Link>
+    requires bounded { length block.now ≤ limit }
+    requires stands { HasTable block.now order at count }
+    ensures leads { option_map
+        (λ l. l.at) result ≡ pointer order tag (entries_at block.now order at) }
+    ensures place { IfSome result (λ l. l.place ≡ pointer_place block.now order at tag) }
+{
+    let mut place = at + 2;
+    for _ in 0..count {
+        let head = head_at(block, order, place);
+        if is_link(head, tag) {
+            return Some(Link {
+                at: head.offset,
+                place,
+            });
+        }
+        place += 12;
+    }
+    None
+}
+
+// The entry of a tag in the table at a place.
+pub fn find_entry(block: &[u8], order: Order, at: u32, count: u16, tag: u16) -> Option<Found>
+    requires bounded { length block.now ≤ limit }
+    requires stands { HasTable block.now order at count }
+    ensures { MatchOption result (entry_with tag (entries_at block.now order at) ≡ None)
+        (λ f. IsFound block.now order at tag f) }
+{
+    let mut place = at + 2;
+    for _ in 0..count {
+        let head = head_at(block, order, place);
+        if head.tag == tag {
+            return Some(Found { head, place });
+        }
+        place += 12;
+    }
+    None
+}
+
+// The next directory behind the table at a place.
+pub fn next_link(block: &[u8], order: Order, at: u32, count: u16) -> Option<Link>
+    requires bounded { length block.now ≤ limit }
+    requires stands { HasTable block.now order at count }
+    ensures leads { option_map
+        (λ l. l.at) result ≡ unless_zero (next order (table block.now order at)) }
+    ensures place { IfSome result
+        (λ l. l.place ≡ at + 2 + 12 * length (entries_at block.now order at)) }
+{
+    let place = at + 2 + 12 * u32::from(count);
+    let next = number32(block, order, place);
+    if next == 0 {
+        return None;
+    }
+    Some(Link { at: next, place })
+}
+
+// Whether a link leads to an offset.
+fn leads_to(link: Option<Link>, at: u32) -> bool
+    ensures { result ≡ is_earlier_at (offset_of link) at }
+{
+    match link {
+        Some(link) => link.at == at,
+        None => false,
+    }
+}
+
+// Whether one of the links leads to an offset.
+pub fn is_earlier(earlier: &[Option<Link>], at: u32) -> bool
+    ensures { result ≡ is_earlier_at (offsets_of earlier.now) at }
+{
+    for link in earlier {
+        if leads_to(*link, at) {
+            return true;
+        }
+    }
+    false
+}

@@ -1,0 +1,160 @@
+// A whole block. TIFF 6.0 section 2, "Image File Header".
+ghost use Rattle.std.specs.Prelude.{◌≡◌, ◌≤◌, ◌++◌, List, [], ◌∷◌, length, take, true, Some, IfOk, IfErr, option_map, ⊤};
+ghost use Rattle.px_bytes.specs.Parts.{limit};
+ghost use Rattle.px_bytes.specs.Numbers.{AreBytes};
+ghost use Rattle.px_bytes.specs.Checks.{Judges};
+ghost use Rattle.px_tree.specs.Directory.{magic};
+ghost use Rattle.px_tree.specs.Fits.{Fits};
+ghost use Rattle.px_tree.specs.Says.{meaning, SaysExif};
+ghost use Rattle.px_tree.specs.Seen.{exif_of, meaning_of};
+ghost use Rattle.px_tree.specs.Checks.{same_bytes, begins_header, order_of, header_checks, tree_checks};
+ghost use Rattle.px_tree.specs.Refused.{IsRefused};
+
+use crate::entries::hold;
+use crate::fields::Fields;
+use crate::meanings::{ExifPart, Meaning};
+use crate::records::read_record;
+use crate::tables::Directory;
+use crate::thumbnail::read_thumb;
+use crate::tree::{Directories, read_dirs};
+use px_bytes::{Block, Cause, Order, Ranges, Refusal};
+use std::alloc::Global;
+
+// The first four bytes of a block in an order.
+fn magic_of(order: Order) -> [u8; 4]
+    ensures { result ≡ magic order }
+{
+    match order {
+        Order::Least => [0x49, 0x49, 0x2A, 0],
+        Order::Most => [0x4D, 0x4D, 0, 0x2A],
+    }
+}
+
+// Whether the first bytes, up to four, begin the header of an order.
+fn begins(block: &[u8], order: Order) -> bool
+    ensures { result ≡ same_bytes (take 4 block.now) (take (length block.now) (magic order)) }
+{
+    let magic = magic_of(order);
+    let n = block.len().min(4);
+    block[..n] == magic[..n]
+}
+
+// Whether the first bytes, up to four, begin a header.
+fn is_begun(block: &[u8]) -> bool
+    ensures { result ≡ begins_header block.now }
+{
+    if block.is_empty() {
+        return false;
+    }
+    if begins(block, Order::Least) {
+        return true;
+    }
+    begins(block, Order::Most)
+}
+
+// The block has a header.
+fn judge_header(block: &[u8]) -> Result<(), Refusal>
+    requires { length block.now ≤ limit }
+    ensures { Judges result (header_checks block.now) (λ _. ⊤) }
+{
+    if !is_begun(block) {
+        return Err(Refusal::Content {
+            cause: Cause::UnknownKind,
+            place: 0,
+        });
+    }
+    if block.len() < 8 {
+        return Err(Refusal::Content {
+            cause: Cause::HeaderCut,
+            place: block.len() as u32,
+        });
+    }
+    Ok(())
+}
+
+// The order that the header tells.
+fn order_in(block: &[u8]) -> Order
+    requires least { 8 ≤ length block.now }
+    requires begun { begins_header block.now ≡ true }
+    ensures told { order_of block.now ≡ Some result }
+    ensures bytes { AreBytes block.now }
+{
+    if begins(block, Order::Least) {
+        return Order::Least;
+    }
+    Order::Most
+}
+
+// The fields of a directory, if it is there.
+fn fields_in<'a>(directory: Option<Directory<'a>>) -> Option<Fields<'a>>
+    ensures { result ≡ option_map (λ t. t.fields) directory.entry }
+{
+    match directory {
+        Some(directory) => Some(directory.fields),
+        None => None,
+    }
+}
+
+// The Exif directory, with the Interoperability directory below it.
+fn exif_in<'a>(exif: Option<Fields<'a>>, interop: Option<Fields<'a>>) -> Option<ExifPart<'a>>
+    ensures { option_map exif_of result ≡ option_map
+        (λ f. record { fields = f; interop = interop.entry }) exif.entry }
+{
+    match exif {
+        Some(fields) => Some(ExifPart { fields, interop }),
+        None => None,
+    }
+}
+
+// The meaning of a block that has a header.
+fn read_tree<'a>(alloc: Global, block: &'a [u8], order: Order) -> Result<Meaning<'a>, Refusal>
+    requires least { 8 ≤ length block.now }
+    requires bounded { length block.now ≤ limit }
+    ensures { Judges result (tree_checks block.now order)
+        (λ m. meaning_of m ≡ meaning block.now order) }
+{
+    let mut held = Ranges::new(alloc);
+    hold(&mut held, 0, 0, 8)?;
+    let directories = read_dirs(alloc, block, order, &mut held)?;
+    let Directories {
+        main,
+        exif,
+        interop,
+        gps,
+        thumb,
+    } = directories;
+    let thumb = read_thumb(alloc, block, order, &mut held, thumb)?;
+    let iptc = read_record(alloc, block, order, &main)?;
+    let Directory { fields, .. } = main;
+    Ok(Meaning {
+        main: fields,
+        iptc,
+        exif: exif_in(fields_in(exif), fields_in(interop)),
+        gps: fields_in(gps),
+        thumb,
+    })
+}
+
+/// What an Exif block means. The same meaning is read whatever the byte order and the layout; the
+/// values, the JPEG and the strips borrow the block's bytes, and none is copied. TIFF 6.0 section 2;
+/// CIPA DC-008 4.5 and 4.6.
+///
+/// A block that says no meaning is refused by the cause and the place of its first fault, in the
+/// order of the checks: header, then the directories main, Exif, Interoperability, GPS and
+/// thumbnail, each with its table and then its entries, then the thumbnail's bytes. A place is at
+/// most `LIMIT`. Bytes at 0x83BB in the main directory, of type BYTE or UNDEFINED, are a record where
+/// they say one, and else a field.
+///
+/// It takes memory for the fields, the record, the list of strips and the ranges that are held while
+/// it reads. `OutOfMemory` comes where that was refused, and says nothing of the block. The cost
+/// grows with the block's length, but for the ranges, where it grows with n log n.
+pub fn read_block<'a>(alloc: Global, block: Block<'a>) -> Result<Meaning<'a>, Refusal>
+    ensures says { IfOk result (λ m. SaysExif block.entry (meaning_of m)) }
+    ensures fits { IfOk result (λ m. Fits (meaning_of m)) }
+    ensures refused { IfErr result (IsRefused block.entry) }
+{
+    let bytes = block.bytes();
+    judge_header(bytes)?;
+    let order = order_in(bytes);
+    read_tree(alloc, bytes, order)
+}

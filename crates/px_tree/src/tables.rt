@@ -1,0 +1,100 @@
+// One directory. TIFF 6.0 section 2, "Image File Directory".
+ghost use Rattle.std.specs.Prelude.{◌≡◌, ◌≤◌, ◌<◌, ◌+◌, ◌*◌, ◌++◌, ℕ, List, [], ◌∷◌, length, IfOk};
+ghost use Rattle.px_bytes.specs.Parts.{limit};
+ghost use Rattle.px_bytes.specs.Range.{Range, range, Agrees};
+ghost use Rattle.px_bytes.specs.Checks.{Judges};
+ghost use Rattle.px_tree.specs.Entry.{fields, table_size};
+ghost use Rattle.px_tree.specs.Footprint.{dir_ranges};
+ghost use Rattle.px_tree.specs.Checks.{opening_checks, dir_checks};
+ghost use Rattle.px_tree.specs.Reading.{HasTable};
+ghost use Rattle.px_tree.specs.Linked.{offsets_of};
+
+use crate::entries::{hold, number16};
+use crate::field_reading::read_entries;
+use crate::fields::Fields;
+use crate::links::{Link, is_earlier};
+use crate::roles::Dir;
+use px_bytes::{Cause, Order, Ranges, Refusal};
+use std::alloc::Global;
+
+// A directory that was read: its fields, its offset and its number of entries.
+#[derive(Drop)]
+pub struct Directory<'a> {
+    pub fields: Fields<'a>,
+    pub at: u32,
+    pub count: u16,
+}
+
+// How many entries the table that a link leads to has, once it is held.
+fn open_table(
+    block: &[u8],
+    order: Order,
+    held: &mut Ranges,
+    earlier: &[Option<Link>],
+    link: Link,
+) -> Result<u16, Refusal>
+    requires { length block.now ≤ limit }
+    ensures judged { (taken : List Range) → Agrees taken held.old →
+        Judges result (opening_checks block.now order
+        (offsets_of earlier.now) taken link.place link.at)
+        (λ n. Agrees (range link.at (table_size n) ∷ taken) held.new) }
+    ensures there { IfOk result (λ n. HasTable block.now order link.at n) }
+{
+    let at = link.at;
+    let place = link.place;
+    if is_earlier(earlier, at) {
+        return Err(Refusal::Content {
+            cause: Cause::Loop,
+            place,
+        });
+    }
+    if u64::from(at) + 2 > block.len() as u64 {
+        return Err(Refusal::Content {
+            cause: Cause::DirectoryOutside,
+            place,
+        });
+    }
+    let count = number16(block, order, at);
+    if count == 0 {
+        return Err(Refusal::Content {
+            cause: Cause::EmptyDirectory,
+            place: at,
+        });
+    }
+    let size = 2 + 12 * u32::from(count) + 4;
+    if u64::from(at) + u64::from(size) > block.len() as u64 {
+        return Err(Refusal::Content {
+            cause: Cause::DirectoryOutside,
+            place,
+        });
+    }
+    hold(held, place, at, size)?;
+    Ok(count)
+}
+
+// The directory that a link leads to.
+pub fn read_directory<'a>(
+    alloc: Global,
+    block: &'a [u8],
+    order: Order,
+    dir: Dir,
+    held: &mut Ranges,
+    earlier: &[Option<Link>],
+    link: Link,
+) -> Result<Directory<'a>, Refusal>
+    requires { length block.now ≤ limit }
+    ensures judged { (taken : List Range) → Agrees taken held.old →
+        Judges result (dir_checks block.now order
+        (offsets_of earlier.now) taken link.place dir link.at)
+        (λ t. (t.fields ≡ fields block.now order dir link.at)
+        × Agrees (dir_ranges block.now order link.at ++ taken) held.new) }
+    ensures there { IfOk result (λ t. (t.at ≡ link.at) × HasTable block.now order t.at t.count) }
+{
+    let count = open_table(block, order, held, earlier, link)?;
+    let fields = read_entries(alloc, block, order, dir, held, link.at + 2, count)?;
+    Ok(Directory {
+        fields,
+        at: link.at,
+        count,
+    })
+}

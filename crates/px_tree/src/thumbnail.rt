@@ -1,0 +1,328 @@
+// The thumbnail's bytes: a JPEG, or strips. CIPA DC-008 4.5.5; TIFF 6.0 section 8, "StripOffsets" and
+// "StripByteCounts".
+ghost use Rattle.std.specs.Prelude.{◌≡◌, ◌≤◌, ◌<◌, ◌+◌, ◌++◌, ◌⊎◌, ℕ, List, [], ◌∷◌, length, map, nat_le, slice_get, Some, IfOk, IfSome, IfErr, option_map, option_to_list, ⊤};
+ghost use Rattle.px_bytes.specs.declared.Cause.TheVariants.{Overlap, ThumbnailOutside};
+ghost use Rattle.px_bytes.specs.Parts.{limit, part};
+ghost use Rattle.px_bytes.specs.Range.{Range, range, is_free, Agrees};
+ghost use Rattle.px_bytes.specs.Checks.{Judges, check};
+ghost use Rattle.px_field.specs.Forms.{form_of};
+ghost use Rattle.px_tree.specs.Thumbnail.{whole_number, numbers, ranges_of, bytes_of};
+ghost use Rattle.px_tree.specs.Footprint.{listed};
+ghost use Rattle.px_tree.specs.Says.{thumbnail};
+ghost use Rattle.px_tree.specs.Seen.{thumb_of};
+ghost use Rattle.px_tree.specs.Checks.{end_checks, range_checks, thumb_checks, thumb_checks_at};
+ghost use Rattle.px_tree.specs.Reading.{HasTable};
+ghost use Rattle.px_tree.specs.Parts.{AreParts, HasNumbers, HaveNumbers, AreEven, entry_here, place_in, pair_check, count_check, pairs_checks, jpeg_of, strips_of, IsReadThumb};
+
+use crate::entries::{hold, number32};
+use crate::field_reading::{part_of, value_at};
+use crate::fields::Fields;
+use crate::links::{Found, find_entry};
+use crate::meanings::Thumb;
+use crate::strips::Strips;
+use crate::tables::Directory;
+use px_bytes::{Cause, Order, Ranges, Refusal};
+use px_field::{Element, Form, Value};
+use std::alloc::Global;
+
+// The entries that name the thumbnail's bytes.
+#[derive(Clone, Copy)]
+pub struct Parts {
+    pub jpeg_offset: Option<Found>,
+    pub jpeg_length: Option<Found>,
+    pub strip_offsets: Option<Found>,
+    pub strip_lengths: Option<Found>,
+}
+
+// The entries of the directory at a place that name its bytes.
+fn find_parts(block: &[u8], order: Order, at: u32, count: u16) -> Parts
+    requires bounded { length block.now ≤ limit }
+    requires stands { HasTable block.now order at count }
+    ensures { AreParts block.now order at result }
+{
+    Parts {
+        jpeg_offset: find_entry(block, order, at, count, 0x0201),
+        jpeg_length: find_entry(block, order, at, count, 0x0202),
+        strip_offsets: find_entry(block, order, at, count, 0x0111),
+        strip_lengths: find_entry(block, order, at, count, 0x0117),
+    }
+}
+
+// One of a pair is not there without the other.
+fn judge_pair(first: Option<Found>, second: Option<Found>) -> Result<(), Refusal>
+    ensures { Judges result (pair_check first second) (λ _. ⊤) }
+{
+    match (first, second) {
+        (Some(one), None) => Err(Refusal::Content {
+            cause: Cause::ThumbnailPair,
+            place: one.place,
+        }),
+        (None, Some(one)) => Err(Refusal::Content {
+            cause: Cause::ThumbnailPair,
+            place: one.place,
+        }),
+        _ => Ok(()),
+    }
+}
+
+// There are as many offsets as lengths.
+fn judge_counts(offsets: Option<Found>, lengths: Option<Found>) -> Result<(), Refusal>
+    ensures { Judges result (count_check offsets lengths) (λ _. ⊤) }
+{
+    match (offsets, lengths) {
+        (Some(offsets), Some(lengths)) => {
+            if offsets.head.count != lengths.head.count {
+                return Err(Refusal::Content {
+                    cause: Cause::ThumbnailPair,
+                    place: offsets.place,
+                });
+            }
+            Ok(())
+        }
+        _ => Ok(()),
+    }
+}
+
+// Both pairs are whole.
+fn judge_pairs(parts: Parts) -> Result<(), Refusal>
+    ensures { Judges result (pairs_checks parts) (λ _. ⊤) }
+{
+    judge_pair(parts.jpeg_offset, parts.jpeg_length)?;
+    judge_pair(parts.strip_offsets, parts.strip_lengths)?;
+    judge_counts(parts.strip_offsets, parts.strip_lengths)
+}
+
+// No directory follows the one at a place.
+fn judge_end(block: &[u8], order: Order, at: u32, count: u16) -> Result<(), Refusal>
+    requires bounded { length block.now ≤ limit }
+    requires stands { HasTable block.now order at count }
+    ensures { Judges result (end_checks block.now order at) (λ _. ⊤) }
+{
+    let place = at + 2 + 12 * u32::from(count);
+    if number32(block, order, place) != 0 {
+        return Err(Refusal::Content {
+            cause: Cause::ExtraDirectory,
+            place,
+        });
+    }
+    Ok(())
+}
+
+// Holds a part of the block that is named at a place.
+fn hold_part<'a>(
+    block: &'a [u8],
+    held: &mut Ranges,
+    place: u32,
+    start: u32,
+    len: u32,
+) -> Result<&'a [u8], Refusal>
+    requires { length block.now ≤ limit }
+    ensures judged { (taken : List Range) → Agrees taken held.old →
+        Judges result (check ThumbnailOutside place (nat_le (start + len) (length block.now))
+        ∷ check Overlap place (is_free taken (range start len)) ∷ [])
+        (λ _. Agrees (range start len ∷ taken) held.new) }
+    ensures part { IfOk result (λ s. s.now ≡ bytes_of block.now (range start len)) }
+{
+    if u64::from(start) + u64::from(len) > block.len() as u64 {
+        return Err(Refusal::Content {
+            cause: Cause::ThumbnailOutside,
+            place,
+        });
+    }
+    hold(held, place, start, len)?;
+    Ok(part_of(block, start, len))
+}
+
+// The JPEG, held, where both of its entries are there.
+fn hold_jpeg<'a>(
+    block: &'a [u8],
+    held: &mut Ranges,
+    offset: Option<Found>,
+    size: Option<Found>,
+) -> Result<Option<&'a [u8]>, Refusal>
+    requires { length block.now ≤ limit }
+    ensures judged { let rs = option_to_list (jpeg_of offset size) in
+        (taken : List Range) → Agrees taken held.old →
+        Judges result (range_checks block.now (place_in offset) taken rs)
+        (λ _. Agrees (rs ++ taken) held.new) }
+    ensures part { IfOk result (λ j. option_map
+        (λ s. s.now) j ≡ option_map (bytes_of block.now) (jpeg_of offset size)) }
+{
+    match (offset, size) {
+        (Some(offset), Some(size)) => {
+            let jpeg = hold_part(
+                block,
+                held,
+                offset.place,
+                offset.head.offset,
+                size.head.offset,
+            )?;
+            Ok(Some(jpeg))
+        }
+        _ => Ok(None),
+    }
+}
+
+// The type of that number, of the two that a list of numbers may have.
+fn number_form(code: u16) -> Form
+    ensures { (code ≡ 3) ⊎ (code ≡ 4) → form_of code ≡ Some result }
+{
+    if code == 3 {
+        return Form::Short;
+    }
+    Form::Long
+}
+
+// The list of numbers of an entry.
+fn numbers_at<'a>(block: &'a [u8], order: Order, found: Found) -> Value<'a>
+    requires { HasNumbers block.now order found }
+    ensures numbers { map whole_number result.elements
+        ≡ numbers block.now order (entry_here block.now order found) }
+    ensures count { length result.elements ≡ found.head.count }
+{
+    value_at(
+        block,
+        order,
+        found.place,
+        found.head,
+        number_form(found.head.code),
+    )
+}
+
+// The number of a SHORT or a LONG.
+fn number_of(element: Element) -> u32
+    ensures { result ≡ whole_number element }
+{
+    match element {
+        Element::Short(n) => u32::from(n),
+        Element::Long(n) => n,
+        _ => 0,
+    }
+}
+
+// A number of a list.
+fn number_in(list: &Value, i: u32) -> u32
+    requires { i < length list.now.elements }
+    ensures { slice_get (map whole_number list.now.elements) i ≡ Some result }
+{
+    number_of(list.element(i))
+}
+
+// The strips of those starts and sizes, held.
+fn hold_each<'a>(
+    alloc: Global,
+    block: &'a [u8],
+    held: &mut Ranges,
+    place: u32,
+    starts: &Value,
+    sizes: &Value,
+) -> Result<Strips<'a>, Refusal>
+    requires bounded { length block.now ≤ limit }
+    requires same { length starts.now.elements ≡ length sizes.now.elements }
+    ensures { let rs = ranges_of (map whole_number starts.now.elements)
+        (map whole_number sizes.now.elements) in
+        (taken : List Range) → Agrees taken held.old →
+        Judges result (range_checks block.now place taken rs) (λ s. s ≡ map (bytes_of block.now) rs) }
+{
+    let mut strips = Strips::new(alloc);
+    for i in 0..starts.count() {
+        let strip = hold_part(
+            block,
+            held,
+            place,
+            number_in(starts, i),
+            number_in(sizes, i),
+        )?;
+        strips.push(strip)?;
+    }
+    Ok(strips)
+}
+
+// The strips, held, where both of their lists are there.
+fn hold_strips<'a>(
+    alloc: Global,
+    block: &'a [u8],
+    order: Order,
+    held: &mut Ranges,
+    offsets: Option<Found>,
+    lengths: Option<Found>,
+) -> Result<Option<Strips<'a>>, Refusal>
+    requires bounded { length block.now ≤ limit }
+    requires numbers { HaveNumbers block.now order offsets × HaveNumbers block.now order lengths }
+    requires even { AreEven offsets lengths }
+    ensures { let rs = strips_of block.now order offsets lengths in
+        (taken : List Range) → Agrees taken held.old →
+        Judges result (range_checks block.now (place_in offsets) taken (listed rs))
+        (λ s. s ≡ option_map (map (bytes_of block.now)) rs) }
+{
+    match (offsets, lengths) {
+        (Some(offsets), Some(lengths)) => {
+            let starts = numbers_at(block, order, offsets);
+            let sizes = numbers_at(block, order, lengths);
+            let strips = hold_each(alloc, block, held, offsets.place, &starts, &sizes)?;
+            Ok(Some(strips))
+        }
+        _ => Ok(None),
+    }
+}
+
+// The thumbnail directory at a place, behind its entries, with its bytes.
+pub fn read_thumbnail<'a>(
+    alloc: Global,
+    block: &'a [u8],
+    order: Order,
+    held: &mut Ranges,
+    fields: Fields<'a>,
+    at: u32,
+    count: u16,
+) -> Result<Thumb<'a>, Refusal>
+    requires bounded { length block.now ≤ limit }
+    requires read { IsReadThumb block.now order
+        (record { fields = fields; at = at; count = count }) }
+    ensures { (taken : List Range) → Agrees taken held.old →
+        Judges result (thumb_checks block.now order taken at)
+        (λ t. thumb_of t ≡ thumbnail block.now order at) }
+{
+    let parts = find_parts(block, order, at, count);
+    judge_pairs(parts)?;
+    judge_end(block, order, at, count)?;
+    let jpeg = hold_jpeg(block, held, parts.jpeg_offset, parts.jpeg_length)?;
+    let strips = hold_strips(
+        alloc,
+        block,
+        order,
+        held,
+        parts.strip_offsets,
+        parts.strip_lengths,
+    )?;
+    Ok(Thumb {
+        fields,
+        jpeg,
+        strips,
+    })
+}
+
+// The thumbnail directory that was read, with its bytes, if it is there.
+pub fn read_thumb<'a>(
+    alloc: Global,
+    block: &'a [u8],
+    order: Order,
+    held: &mut Ranges,
+    directory: Option<Directory<'a>>,
+) -> Result<Option<Thumb<'a>>, Refusal>
+    requires bounded { length block.now ≤ limit }
+    requires read { IfSome directory (IsReadThumb block.now order) }
+    ensures { let a = option_map (λ t. t.at) directory.entry in
+        (taken : List Range) → Agrees taken held.old →
+        Judges result (thumb_checks_at block.now order taken a)
+        (λ t. option_map thumb_of t ≡ option_map (thumbnail block.now order) a) }
+{
+    match directory {
+        None => Ok(None),
+        Some(directory) => {
+            let Directory { fields, at, count } = directory;
+            let thumb = read_thumbnail(alloc, block, order, held, fields, at, count)?;
+            Ok(Some(thumb))
+        }
+    }
+}
