@@ -37,7 +37,11 @@ line_of OutOfMemory = codes "failed: OutOfMemory\n"
 line_of ReadFailed = codes "failed: ReadFailed\n"
 line_of WriteFailed = codes "failed: WriteFailed\n"
 
--- its exit status
+-- the line where there are words on the command line
+abbrev pub refused_words : List ℕ
+refused_words = codes "refused words\n"
+
+-- the exit status of a fault
 abbrev pub status_of : Fault → ℕ
 status_of (Refused cause place) = 2
 status_of Unsupported = 2
@@ -45,10 +49,13 @@ status_of OutOfMemory = 4
 status_of ReadFailed = 4
 status_of WriteFailed = 4
 
--- Done: status 0, and no line. Else the fault's status and line, or, where the writer of lines fails, status 4 and a prefix
--- of the line.
+-- the status and the line that are due; or, where the writer of lines fails, status 4 and a prefix of the line
+abbrev pub TellsLine : ℕ → List ℕ → ℕ → ℕ → ℕ → Option (List ℕ) → Option (List ℕ) → Type 0
+TellsLine due line status failed failed_now old new =
+    ((status ≡ due) × (failed_now ≡ failed) × Appends old new line)
+    ⊎ ((status ≡ 4) × (failed_now ≡ failed + 1) × AppendsPrefix old new line)
+
+-- done: status 0, and no line; else the status and the line of the fault
 abbrev pub Tells : {A : Type 0} → Result A Fault → ℕ → ℕ → ℕ → Option (List ℕ) → Option (List ℕ) → Type 0
 Tells (Ok x) status failed failed_now old new = (status ≡ 0) × (failed_now ≡ failed) × Keeps old new
-Tells (Err e) status failed failed_now old new =
-    ((status ≡ status_of e) × (failed_now ≡ failed) × Appends old new (line_of e))
-    ⊎ ((status ≡ 4) × (failed_now ≡ failed + 1) × AppendsPrefix old new (line_of e))
+Tells (Err e) status failed failed_now old new = TellsLine (status_of e) (line_of e) status failed failed_now old new

@@ -3,16 +3,13 @@ ghost use Rattle.std.specs.Prelude.{◌≡◌, ◌<◌, ◌+◌, ◌^◌, List, 
 ghost use Rattle.px_bytes.specs.Devices.{Counts, Writes};
 ghost use Rattle.px_cli.specs.declared.faults.Fault.{Fault};
 ghost use Rattle.px_cli.specs.Runs.{taken, Settles, CountsReads, CountsWrites};
-ghost use Rattle.px_cli.specs.Lines.{name_of, line_of, status_of, Tells};
+ghost use Rattle.px_cli.specs.Lines.{name_of, line_of, status_of, refused_words, TellsLine, Tells};
 
 use crate::faults::Fault;
 use crate::run::normalise;
 use itoa::Buffer;
 use px_bytes::{Cause, Failed, Sink, Source, write_whole};
 use std::alloc::Global;
-
-/// The line where there are words on the command line.
-pub const REFUSED_WORDS: &[u8] = b"refused words\n";
 
 /// What the program does.
 #[derive(Clone, Copy, Debug, PartialEq, Eq)]
@@ -86,8 +83,9 @@ fn status(fault: Fault) -> u8
     }
 }
 
-// Writes the line of a fault and flushes, and answers the exit status.
-fn tell<L: Sink>(lines: &mut L, fault: Fault) -> u8
+/// Writes the line of a fault and flushes, and answers the exit status: the fault's, or 4 where that
+/// fails.
+pub fn tell<L: Sink>(lines: &mut L, fault: Fault) -> u8
     requires { L.failed lines.old + 1 < 2 ^ 64 }
     ensures { (r : Result ⊤ Fault) → r ≡ Err fault → Tells r result (L.failed lines.old) (L.failed lines.new) (L.bytes_taken lines.old) (L.bytes_taken lines.new) }
 {
@@ -98,6 +96,21 @@ fn tell<L: Sink>(lines: &mut L, fault: Fault) -> u8
         return 4;
     }
     status(fault)
+}
+
+/// Writes the line where words are refused and flushes, and answers the exit status: 3, or 4 where
+/// that fails.
+pub fn refuse_words<L: Sink>(lines: &mut L) -> u8
+    requires { L.failed lines.old + 1 < 2 ^ 64 }
+    ensures { TellsLine 3 refused_words result (L.failed lines.old) (L.failed lines.new) (L.bytes_taken lines.old) (L.bytes_taken lines.new) }
+{
+    if write_whole(lines, b"refused words\n").is_err() {
+        return 4;
+    }
+    if lines.flush_all().is_err() {
+        return 4;
+    }
+    3
 }
 
 /// Does a job, and answers the exit status: 0 where it is done, 2 where the content is refused, 4

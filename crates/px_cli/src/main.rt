@@ -13,37 +13,38 @@ mod tables;
 mod tests;
 mod values;
 
-use crate::job::{Job, REFUSED_WORDS, run_one};
-use px_bytes::{Watched, write_whole};
+use crate::faults::Fault;
+use crate::job::{Job, refuse_words, run_one, tell};
+use px_bytes::Watched;
 use std::io::ErrorKind;
 use std::process::ExitCode;
 use std::{env, io};
 
-fn main(rt: HostRuntime) -> ExitCode {
-    let mut out = Watched::new(io::writer(&rt));
-    let mut words = match env::args(&rt) {
+// Standard input to standard output, where there are no words behind the program's name.
+fn run_words(rt: &HostRuntime) -> u8 {
+    let mut lines = Watched::new(io::writer(rt));
+    let mut words = match env::args(rt) {
         Ok(words) => words,
         Err(error) if error.kind() == ErrorKind::OutOfMemory => {
-            let _ = write_whole(&mut out, b"failed: OutOfMemory\n");
-            return ExitCode::from(4);
+            return tell(&mut lines, Fault::OutOfMemory);
         }
-        Err(_) => {
-            let _ = write_whole(&mut out, REFUSED_WORDS);
-            return ExitCode::from(3);
-        }
+        Err(_) => return refuse_words(&mut lines),
     };
     let _program = words.next();
     if words.next().is_some() {
-        let _ = write_whole(&mut out, REFUSED_WORDS);
-        return ExitCode::from(3);
+        return refuse_words(&mut lines);
     }
     let mut reader = Watched::new(rt.reader());
-    let mut lines = Watched::new(io::writer(&rt));
-    ExitCode::from(run_one(
+    let mut out = Watched::new(io::writer(rt));
+    run_one(
         rt.alloc(),
         Job::Normalise,
         &mut reader,
         &mut out,
         &mut lines,
-    ))
+    )
+}
+
+fn main(rt: HostRuntime) -> ExitCode {
+    ExitCode::from(run_words(&rt))
 }

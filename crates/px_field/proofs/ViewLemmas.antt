@@ -1,5 +1,5 @@
 -- What is seen of a value.
-use Rattle.std.proofs.Common.{◌≡◌, ◌<◌, ◌≤◌, ◌+◌, ◌*◌, ◌/◌, ◌%◌, ℕ, Bool, true, false, List, [], ◌∷◌, zero, suc, length, map, slice_get, Option, Some, sym, ap, ap₂, ◌∙◌, refl, arith}
+use Rattle.std.proofs.Common.{◌≡◌, ◌<◌, ◌≤◌, ◌+◌, ◌*◌, ◌/◌, ◌%◌, ℕ, Bool, true, false, List, [], ◌∷◌, suc, length, map, slice_get, Some, ap, ap₂, ◌∙◌, refl, arith}
 use Rattle.std.specs.Option.{option_map}
 use Rattle.std.proofs.Math.Nat.{div-mul-le_self, mul-le-mul_right}
 use Rattle.std.proofs.lemmas.List.{length-map}
@@ -13,9 +13,9 @@ use Rattle.px_field.specs.declared.forms.Kind.TheVariants as kind
 use Rattle.px_field.specs.declared.forms.Element.{Element}
 use Rattle.px_field.specs.declared.forms.Element.TheVariants as element
 use Rattle.px_field.specs.Forms.{size}
-use Rattle.px_field.specs.Values.{elements, widened, count_in, value_in, whole_in, form_in, spelled, IsValue, IsWhole, IsOf, Value, is_bytes}
+use Rattle.px_field.specs.Values.{elements, widened, count_in, form_in, IsValue, IsWhole, IsOf, Value, is_bytes}
 use Rattle.px_field.specs.PieceLaws.{all_at}
-use Rattle.px_field.specs.ValueLaws.{length-elements, IsValue-value_in, IsValue-whole_in, count_in-whole, length-spelled, elements-bytes}
+use Rattle.px_field.specs.ValueLaws.{length-elements, IsValue-value_in, IsValue-whole_in, count_in-whole, elements-bytes}
 use Rattle.px_field.specs.Views.{shown}
 
 -- an element lies inside
@@ -79,12 +79,6 @@ bytes_shown true o form.Short raw whole b = absurd (cc)
 bytes_shown true o form.Long raw whole b = absurd (cc)
 bytes_shown true o _ raw whole b = absurd (whole refl)
 bytes_shown false o f raw whole b = elements-bytes o f raw b
-
--- a whole number is spelled by at most twice as many bytes as were read
-pub bound-whole : (f : Form) (raw : List ℕ) → IsWhole f → 4 * count_in f raw ≤ 2 * length raw
-bound-whole form.Short raw h = omega arith
-bound-whole form.Long raw h = omega arith
-bound-whole _ raw h = absurd h
 
 -- an element that is seen is of its kind
 pub IsOf-shown : (w : Bool) (o : Order) (f : Form) (raw : List ℕ) (v : Value) (i : ℕ) (e : Element) → (w ≡ true → IsWhole f) → AreBytes raw → shown w o f raw ≡ v → slice_get v.elements i ≡ Some e → IsOf (form_in v.kind) e

@@ -1,15 +1,12 @@
 -- Laws of elements: what is spelled reads back, and what is read spells as it stood.
-use Rattle.std.proofs.Common.{◌≡◌, ℕ, zero, suc, ◌+◌, ◌*◌, ◌^◌, ◌<◌, ℤ, List, [], ◌∷◌, ◌++◌, map, flat_map, length, take, drop, slice_index, refl, sym, ◌∙◌, ap, ap₂, arith, append-nil, length-append, length-drop, take-append-drop}
-use Rattle.std.specs.Prelude.{FitsSigned}
+use Rattle.std.proofs.Common.{◌≡◌, ℕ, ◌+◌, ◌^◌, ◌<◌, List, [], ◌∷◌, ◌++◌, length, take, drop, slice_index, refl, sym, ◌∙◌, ap, ap₂, arith, length-append, length-drop, take-append-drop}
 use Rattle.std.specs.Int.{w16, w32, cast_signed, cast_unsigned}
-use Rattle.std.specs.List.{AllByRecursion}
 use Rattle.std.proofs.lemmas.Int.{of_z-to_z}
 use Rattle.std.proofs.lemmas.List.{take_at, drop_at, length-take-le, nil_from_length}
 use Rattle.std.proofs.Math.Facts.{Fits-of_z, to_z-of_z, sfits_to_z, Fits-of_lt}
 use Rattle.px_bytes.specs.declared.Order.{Order}
 use Rattle.px_bytes.specs.Numbers.{number, spelling, AreBytes}
 use Rattle.px_bytes.specs.NumberLaws.{number-spelling, spelling-number, length-spelling, number-lt}
-use Rattle.px_bytes.specs.Parts.{pieces}
 use Rattle.px_field.specs.declared.forms.Form.{Form}
 use Rattle.px_field.specs.declared.forms.Form.TheVariants as form
 use Rattle.px_field.specs.declared.forms.Element.{Element}

@@ -1,5 +1,5 @@
 -- Laws of values: what is spelled reads back, and what is read spells as it stood.
-use Rattle.std.proofs.Common.{◌≡◌, ℕ, zero, suc, ◌+◌, ◌*◌, ◌/◌, ◌%◌, ◌<◌, List, [], ◌∷◌, ◌++◌, map, flat_map, length, take, drop, slice_get, slice_index, Some, true, refl, sym, ◌∙◌, ap, ap₂, arith, append-nil, append_assoc, length-drop, take-append-drop}
+use Rattle.std.proofs.Common.{◌≡◌, ℕ, zero, suc, ◌*◌, ◌/◌, ◌%◌, ◌<◌, ◌≤◌, List, [], ◌∷◌, ◌++◌, map, flat_map, length, take, drop, slice_get, slice_index, Some, true, refl, sym, ◌∙◌, ap, ap₂, arith, append-nil, append_assoc, length-drop, take-append-drop}
 use Rattle.std.specs.List.{AllByRecursion}
 use Rattle.std.proofs.lemmas.List.{length-map, length-take-le, nil_from_length}
 use Rattle.std.proofs.lemmas.Option.{slice_get-map}
@@ -186,3 +186,21 @@ whole_in-elements o f n x h = ap (λ (m : ℕ). record { kind = kind.Whole; elem
 -- so many bytes are a whole number of elements
 pub whole-times : (f : Form) (n : ℕ) (x : List ℕ) → n * size f ≡ length x → length x % size f ≡ 0
 whole-times f n x h = ap (λ (m : ℕ). m % size f) (sym h) ∙ mul-mod_left n (size f)
+
+-- a value that is read is spelled by as many bytes as were read, in either order
+pub length-value_in : (o p : Order) (f : Form) (x : List ℕ) → length x % size f ≡ 0 → AreBytes x → length (spelled p (value_in o f x)) ≡ length x
+length-value_in o p f x whole h =
+    length-spelled p (value_in o f x) (IsValue-value_in o f x h) ∙ ap (λ (n : ℕ). n * size f) (length-elements o f (count_in f x) x) ∙ count_in-whole f x whole
+
+-- four bytes for each whole number are at most twice as many as were read
+pub count_in-bound : (f : Form) (x : List ℕ) → IsWhole f → 4 * count_in f x ≤ 2 * length x
+count_in-bound form.Short x h = omega arith
+count_in-bound form.Long x h = omega arith
+count_in-bound _ x h = absurd h
+
+-- a whole number by at most twice as many
+pub length-whole_in : (o p : Order) (f : Form) (x : List ℕ) → IsWhole f → AreBytes x → length (spelled p (whole_in o f x)) ≤ 2 * length x
+length-whole_in o p f x w h =
+    let len : length (spelled p (whole_in o f x)) ≡ length (map widened (elements o f (count_in f x) x)) * 4 = length-spelled p (whole_in o f x) (IsValue-whole_in o f x w h) in
+    let count : length (map widened (elements o f (count_in f x) x)) ≡ count_in f x = length-map (elements o f (count_in f x) x) widened ∙ length-elements o f (count_in f x) x in
+    omega (arith, count_in-bound f x w, len, count)

@@ -1,5 +1,5 @@
 -- Values: the elements that bytes spell. TIFF 6.0 section 2, "Types".
-use Rattle.std.specs.Prelude.{◌≡◌, ℕ, ◌^◌, ◌/◌, ◌<◌, Bool, true, false, List, [], ◌∷◌, ◌++◌, length, map, take, drop, flat_map, slice_index, ℤ, FitsSigned}
+use Rattle.std.specs.Prelude.{ℕ, ◌^◌, ◌/◌, ◌<◌, Bool, true, false, List, [], ◌∷◌, ◌++◌, length, map, take, drop, flat_map, slice_index, FitsSigned}
 use Rattle.std.specs.List.{AllByRecursion}
 use Rattle.std.specs.Int.{w16, w32, cast_signed, cast_unsigned}
 use Rattle.px_bytes.specs.declared.Order.{Order}
@@ -90,11 +90,11 @@ count_in f raw = length raw / size f
 abbrev pub value_in : Order → Form → List ℕ → Value
 value_in o f raw = record { kind = kind.Of f; elements = elements o f (count_in f raw) raw }
 
--- the same where SHORT and LONG are one kind
+-- the same where a tag takes SHORT and LONG as one
 abbrev pub whole_in : Order → Form → List ℕ → Value
 whole_in o f raw = record { kind = kind.Whole; elements = map widened (elements o f (count_in f raw) raw) }
 
--- the types of which a whole number may be
+-- the types that a whole number is read from
 abbrev pub IsWhole : Form → Type 0
 IsWhole form.Short = Unit {0}
 IsWhole form.Long = Unit {0}

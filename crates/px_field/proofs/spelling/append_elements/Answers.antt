@@ -1,11 +1,10 @@
-use Rattle.std.proofs.Common.{◌≡◌, ◌≤◌, ◌<◌, ◌+◌, ◌*◌, ◌++◌, ◌∙◌, List, ℕ, length, take, flat_map, get_or, slice_get, Some, sym, ap, append_assoc, arith, rules}
-use Rattle.std.specs.Prelude.{vec_len, vec_capacity}
+use Rattle.std.proofs.Common.{◌≡◌, ◌<◌, ◌+◌, ◌++◌, ◌∙◌, List, ℕ, length, take, flat_map, get_or, slice_get, Some, sym, ap, append_assoc, arith}
 use Rattle.std.proofs.lemmas.Grind.{common_steps}
 use Rattle.std.proofs.lemmas.List.{take_all}
 use Rattle.std.proofs.lemmas.Option.{slice_get-get_or}
 use Rattle.px_field.specs.declared.forms.Element.{Element}
 use Rattle.px_field.specs.declared.forms.Element.TheVariants as element
-use Rattle.px_field.specs.Values.{form_in, spell, spelled}
+use Rattle.px_field.specs.Values.{spell, spelled}
 use Rattle.px_field.specs.ValueLaws.{spell-take}
 use Rattle.px_field.proofs.spelling.append_elements.Goals as goal
 

@@ -1,4 +1,4 @@
-use Rattle.std.proofs.Common.{◌≡◌, ◌≤◌, ◌+◌, ◌*◌, ◌++◌, ℕ, length, take, flat_map}
+use Rattle.std.proofs.Common.{◌≡◌, ◌≤◌, ◌+◌, ◌*◌, ◌++◌, length, take, flat_map}
 use Rattle.std.specs.Prelude.{vec_len, vec_capacity}
 use Rattle.px_field.specs.Forms.{size}
 use Rattle.px_field.specs.Values.{spell, form_in}

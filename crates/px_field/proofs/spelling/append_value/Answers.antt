@@ -1,6 +1,5 @@
-use Rattle.std.proofs.Common.{◌≡◌, ◌++◌, ◌∙◌, List, ℕ, map, flat_map, sym, ap, rules}
+use Rattle.std.proofs.Common.{◌≡◌, ◌∙◌, List, flat_map, ap, rules}
 use Rattle.px_field.specs.declared.forms.Element.{Element}
-use Rattle.px_field.specs.declared.forms.Element.TheVariants as element
 use Rattle.px_field.specs.Values.{spell, spelled}
 use Rattle.px_field.specs.ValueLaws.{spell-bytes}
 use Rattle.px_field.proofs.spelling.append_value.Goals as goal

@@ -1,5 +1,4 @@
-use Rattle.std.proofs.Common.{◌≡◌, ◌↔◌, IsTrue, List, ℕ, map, sym, ap, ◌∙◌, rules}
-use Rattle.px_field.specs.declared.forms.Element.{Element}
+use Rattle.std.proofs.Common.{◌≡◌, IsTrue, List, ℕ, map, sym, ap, ◌∙◌, rules}
 use Rattle.px_field.specs.declared.forms.Element.TheVariants as element
 use Rattle.px_field.specs.Values.{Value}
 use Rattle.px_field.proofs.ViewLemmas.{same_parts, same_bytes}

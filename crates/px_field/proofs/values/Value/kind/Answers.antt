@@ -1,4 +1,3 @@
-use Rattle.std.proofs.Common.{◌≡◌}
 use Rattle.px_field.proofs.ViewLemmas.{IsValue-shown}
 use Rattle.px_field.proofs.values.Value.kind.Goals as goal
 

@@ -1,9 +1,8 @@
-use Rattle.std.proofs.Common.{◌≡◌, ◌<◌, ◌*◌, ℕ, length, sym, ap, ◌∙◌, arith, rules}
-use Rattle.px_bytes.specs.declared.Order.{Order}
+use Rattle.std.proofs.Common.{◌≡◌, ◌*◌, length, sym, ap, ◌∙◌, arith}
 use Rattle.px_field.specs.Forms.{size}
-use Rattle.px_field.specs.Values.{Value, IsValue, form_in, spelled}
-use Rattle.px_field.specs.ValueLaws.{length-spelled}
-use Rattle.px_field.proofs.ViewLemmas.{size-shown, size-whole, length-shown, bound-whole, IsValue-shown}
+use Rattle.px_field.specs.Values.{Value, IsValue, form_in}
+use Rattle.px_field.specs.ValueLaws.{length-spelled, count_in-bound}
+use Rattle.px_field.proofs.ViewLemmas.{size-shown, size-whole, length-shown, IsValue-shown}
 use Rattle.px_field.specs.Views.{shown}
 use Rattle.px_field.proofs.values.Value.size.Goals as goal
 
@@ -35,4 +34,4 @@ pub returns-then-self-clause-bounded : goal.returns-then-self-clause-bounded
 returns-then-self-clause-bounded c =
     let v = c.self.inside in
     let seen : length (shown v.widened v.order v.form v.raw.now).elements ≡ length c.args.self.now.elements = ap (λ (w : Value). length w.elements) c.self.view_is in
-    omega (arith, bound-whole v.form v.raw.now (c.self.invariant.width c.if-self.true), length-shown v.widened v.order v.form v.raw.now, seen, c.self.invariant.bounded, c.count.ensures.count)
+    omega (arith, count_in-bound v.form v.raw.now (c.self.invariant.width c.if-self.true), length-shown v.widened v.order v.form v.raw.now, seen, c.self.invariant.bounded, c.count.ensures.count)

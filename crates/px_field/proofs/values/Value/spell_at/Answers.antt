@@ -1,4 +1,4 @@
-use Rattle.std.proofs.Common.{◌≡◌, ◌++◌, ◌∙◌, List, ℕ, length, take, drop, Some, sym, ap}
+use Rattle.std.proofs.Common.{◌≡◌, ◌∙◌, List, ℕ, take, drop, Some, sym, ap}
 use Rattle.std.proofs.lemmas.List.{take_at, drop_at}
 use Rattle.px_field.specs.declared.forms.Element.{Element}
 use Rattle.px_field.specs.Values.{form_in, spell}
