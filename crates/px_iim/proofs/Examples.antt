@@ -1,9 +1,9 @@
 -- Worked examples, computed against the definitions.
-use Rattle.std.proofs.Common.{◌≡◌, ◌≢◌, ℕ, Option, Some, None, List, [], ◌∷◌, ◌++◌, refl}
+use Rattle.std.proofs.Common.{◌≡◌, ℕ, Option, Some, None, List, [], ◌∷◌, ◌++◌, refl}
 use Rattle.px_bytes.specs.declared.Cause.{Cause}
 use Rattle.px_bytes.specs.declared.Cause.TheVariants.{NoMarker, LengthForm, DataSetCut}
 use Rattle.px_bytes.specs.Checks.{first_false}
-use Rattle.px_iim.specs.Group.{Group, Record, named, put, gather}
+use Rattle.px_iim.specs.Group.{Record, named, put, gather}
 use Rattle.px_iim.specs.Record.{is_dataset, dataset, sequence_of, iim_of, normal_count, normal_dataset, normal_iim}
 use Rattle.px_iim.specs.Check.{checks_from, iim_checks}
 

@@ -1,14 +1,13 @@
 -- The groups of all record numbers, one record number behind another.
-use Rattle.std.proofs.Common.{◌≡◌, ◌⊎◌, ℕ, ◌+◌, ◌-◌, ◌<◌, ◌≤◌, ◌==◌, zero, suc, Bool, true, false, ◌&&◌, List, [], ◌∷◌, ◌++◌, length, drop, get_or, slice_get, slice_index, if◌then◌else◌, Option, Some, None, Vec, Global, Result, Ok, Err, OnOk, OnErr, map, set, refl, sym, ap, ◌∙◌, subst, inl, inr, arith, add-zero, zero-add, add-one, option_map, append_assoc, append-nil, length-append}
+use Rattle.std.proofs.Common.{◌≡◌, ◌⊎◌, ℕ, ◌+◌, ◌<◌, ◌≤◌, zero, suc, Bool, true, false, List, [], ◌∷◌, ◌++◌, length, drop, get_or, slice_get, slice_index, if◌then◌else◌, Some, Vec, Global, Result, Ok, Err, OnOk, OnErr, map, set, refl, sym, ap, ◌∙◌, subst, inl, inr, arith, zero-add, add-one, option_map}
 use Rattle.std.specs.List.{AllByRecursion}
-use Rattle.std.proofs.lemmas.Bool.{cond-true, cond-false, cases_lt, both_ways}
+use Rattle.std.proofs.lemmas.Bool.{cond-true, cond-false, both_ways}
 use Rattle.std.proofs.lemmas.Option.{slice_get-map, slice_get_read}
-use Rattle.std.proofs.lemmas.Bool.Decides.{nat_tests}
 use Rattle.std.proofs.lemmas.List.{length-map, drop_more}
 use Rattle.px_iim.specs.declared.group.Group.{Group as CodeGroup}
 use Rattle.px_iim.specs.DataSet.{DataSet}
-use Rattle.px_iim.specs.Group.{Group, Record, named, put, items_at, is_at, is_before, IsAscending, AreGroups}
-use Rattle.px_iim.specs.View.{item_view, group_view, groups_view, records_view, numbers, IsBelow, Found, Missing, MissingIn, Holds}
+use Rattle.px_iim.specs.Group.{Record, named, put, items_at, is_at, is_before, IsAscending}
+use Rattle.px_iim.specs.View.{item_view, group_view, groups_view, records_view, numbers, IsBelow, MissingIn, Holds}
 use Rattle.px_iim.proofs.Order.{not_at, at_test, before_less, not_before}
 
 -- no groups of one more record number

@@ -1,20 +1,19 @@
 -- A block, one DataSet on.
-use Rattle.std.proofs.Common.{◌≡◌, ◌⊎◌, ℕ, ◌+◌, ◌-◌, ◌<◌, ◌≤◌, zero, suc, nat_le, nat_lt, Bool, true, false, ◌&&◌, if◌then◌else◌, Option, Some, None, option_map, is_some, List, [], ◌∷◌, ◌++◌, length, drop, refl, sym, ap, ◌∙◌, subst, inl, inr, arith, add-one, length-drop, length-take, leb-true, le-leb}
-use Rattle.std.proofs.lemmas.Bool.{cond-true, cond-false, cases_Bool, and_parts, false_from_ne_true, lt-leb}
+use Rattle.std.proofs.Common.{◌≡◌, ℕ, ◌+◌, ◌-◌, ◌<◌, ◌≤◌, zero, suc, nat_le, Bool, true, false, ◌&&◌, if◌then◌else◌, Option, Some, None, option_map, is_some, List, [], ◌∷◌, length, drop, refl, sym, ap, ◌∙◌, arith, length-drop, length-take, leb-true, le-leb}
+use Rattle.std.proofs.lemmas.Bool.{cond-true, cond-false, and_parts, false_from_ne_true, lt-leb}
 use Rattle.std.proofs.lemmas.List.{drop-drop}
 use Rattle.px_bytes.specs.declared.Cause.{Cause}
 use Rattle.px_bytes.specs.declared.Cause.TheVariants.{TooLong}
-use Rattle.px_bytes.specs.Checks.{Check, first_false}
-use Rattle.px_bytes.specs.CheckLaws.{first_false-true, first_false-false}
+use Rattle.px_bytes.specs.Checks.{first_false}
 use Rattle.px_bytes.specs.Parts.{limit}
 use Rattle.px_iim.specs.DataSet.{DataSet}
 use Rattle.px_iim.specs.Group.{Record, put, gather}
-use Rattle.px_iim.specs.Record.{form, extra, count, size, is_marked, has_form, is_dataset, dataset, is_end, sequence_of, iim_of}
+use Rattle.px_iim.specs.Record.{extra, count, size, is_marked, has_form, is_dataset, dataset, is_end, sequence_of, iim_of}
 use Rattle.px_iim.specs.Check.{dataset_checks, iim_checks}
 use Rattle.px_iim.specs.Reading.{Reads, found_view}
 use Rattle.px_iim.specs.declared.dataset.Found.{Found}
 use Rattle.px_iim.specs.ScanLaws.{checks_left, dataset_clean, left_fault, left_end, left_more}
-use Rattle.px_iim.specs.SpellingLaws.{Holds, dataset_holds}
+use Rattle.px_iim.specs.SpellingLaws.{dataset_holds}
 
 -- the DataSets of some octets
 unfoldable pub datasets : List ℕ → Option (List DataSet)

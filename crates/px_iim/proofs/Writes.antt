@@ -7,7 +7,7 @@ use Rattle.std.proofs.lemmas.List.Concat.{flat_map-append}
 use Rattle.std.proofs.lemmas.Option.{slice_get_within, get_or_from_slice_get, slice_get-map, slice_get-get_or}
 use Rattle.px_bytes.specs.Parts.{limit}
 use Rattle.px_bytes.specs.Devices.{AppendsPrefix, Writes}
-use Rattle.px_bytes.specs.WriteLaws.{appends_none, appends_both, prefix_first, prefix_second, prefix_all}
+use Rattle.px_bytes.specs.WriteLaws.{appends_both, prefix_first, prefix_second}
 use Rattle.px_iim.specs.Writing.{Owes, Puts, AreShort, Grows, normal_head, most, within as within_most}
 use Rattle.px_iim.specs.Group.{Group, IsGroup, IsItem}
 use Rattle.px_iim.specs.Record.{normal_dataset}

@@ -4,7 +4,7 @@ use Rattle.px_bytes.specs.declared.Cause.{Cause}
 use Rattle.px_bytes.specs.Numbers.{AreBytes}
 use Rattle.px_bytes.specs.Parts.{limit}
 use Rattle.px_iim.specs.DataSet.{DataSet}
-use Rattle.px_iim.specs.Group.{Record, items_at, item_in, IsAscending, put, Gathers, gather, AreGroups, IsRecord}
+use Rattle.px_iim.specs.Group.{Record, items_at, item_in, IsAscending, put, Gathers, gather, IsRecord}
 use Rattle.px_iim.specs.Record.{SaysIim, iim_of, normal_iim}
 use Rattle.px_iim.specs.Check.{First, Stands}
 

@@ -1,18 +1,17 @@
 -- What a scan of a block keeps: the DataSets so far, the octets left, and the checks that they have.
-use Rattle.std.proofs.Common.{◌≡◌, ◌⊎◌, ◌<◌, ◌≤◌, ◌+◌, ℕ, zero, suc, nat_le, true, false, inl, inr, refl, sym, ap, subst, ◌∙◌, arith, le-leb, Option, Some, None, List, [], ◌∷◌, ◌++◌, length, drop, length-drop, append-nil}
+use Rattle.std.proofs.Common.{◌≡◌, ◌<◌, ◌≤◌, ◌+◌, ℕ, zero, suc, true, false, inl, inr, refl, sym, ap, ◌∙◌, arith, le-leb, None, List, [], ◌∷◌, ◌++◌, length, drop, length-drop, append-nil}
 use Rattle.std.proofs.lemmas.Bool.{cond-true, cond-false, cases_Bool}
-use Rattle.px_bytes.specs.declared.Cause.{Cause}
 use Rattle.px_bytes.specs.Checks.{Check, first_false}
 use Rattle.px_bytes.specs.CheckLaws.{first_false-true}
 use Rattle.px_bytes.specs.Parts.{limit}
 use Rattle.px_iim.specs.DataSet.{DataSet}
 use Rattle.px_iim.specs.Group.{Record, put, gather}
-use Rattle.px_iim.specs.Record.{SaysIim, extra, size, is_marked, has_form, is_dataset, is_end}
+use Rattle.px_iim.specs.Record.{SaysIim, extra, size, is_dataset, is_end}
 use Rattle.px_iim.specs.Check.{dataset_checks, checks_from, iim_checks, Behind}
 use Rattle.px_iim.specs.GatherLaws.{gathers}
-use Rattle.px_iim.specs.SpellingLaws.{Holds, dataset_holds}
+use Rattle.px_iim.specs.SpellingLaws.{dataset_holds}
 use Rattle.px_iim.specs.SequenceLaws.{end_parts}
-use Rattle.px_iim.specs.FaultLaws.{five, checks_behind, checks_step, behind_end, behind_more}
+use Rattle.px_iim.specs.FaultLaws.{checks_behind, checks_step, behind_end, behind_more}
 
 -- one more DataSet behind those gathered
 pub gather_push : (ds : List DataSet) (d : DataSet) (i : Record) → gather i (ds ++ d ∷ []) ≡ put d (gather i ds)

@@ -1,5 +1,5 @@
 -- How the code's groups are seen.
-use Rattle.std.specs.Prelude.{◌≡◌, ℕ, suc, ◌+◌, ◌==◌, ◌<◌, ◌≤◌, length, slice_index, get_or, insert, if◌then◌else◌, Option, Some, None, List, [], ◌∷◌, ◌++◌, drop, map, filter_map}
+use Rattle.std.specs.Prelude.{◌≡◌, ℕ, suc, ◌==◌, ◌<◌, ◌≤◌, length, slice_index, get_or, insert, if◌then◌else◌, Some, None, List, [], ◌∷◌, ◌++◌, drop, map, filter_map}
 use Rattle.std.specs.Borrow.{Bor}
 use Rattle.std.proofs.Common.{set}
 use Rattle.std.specs.Prelude.{Vec}

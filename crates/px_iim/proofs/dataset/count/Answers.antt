@@ -1,4 +1,4 @@
-use Rattle.std.proofs.Common.{◌≡◌, ◌≤◌, ◌∙◌, sym, arith}
+use Rattle.std.proofs.Common.{◌≤◌, ◌∙◌, sym, arith}
 use Rattle.std.proofs.lemmas.Bool.{cond-false}
 use Rattle.px_iim.specs.DataSet.{top_bit}
 use Rattle.px_iim.specs.Record.{form, extra}

@@ -1,4 +1,4 @@
-use Rattle.std.proofs.Common.{◌≡◌, ℕ, ◌+◌, ◌*◌, ◌<◌, ◌≤◌, ◌∙◌, ap, sym, arith, length}
+use Rattle.std.proofs.Common.{◌<◌, arith}
 use Rattle.px_iim.proofs.Octets.{number_more, number_below}
 use Rattle.px_iim.proofs.dataset.number_of.Goals as goal
 

@@ -1,9 +1,8 @@
-use Rattle.std.proofs.Common.{◌≡◌, ℕ, ◌+◌, ◌-◌, ◌≤◌, ◌<◌, true, List, length, take, drop, slice_index, ◌∙◌, ap, ap₂, sym, refl, arith, le-leb}
+use Rattle.std.proofs.Common.{◌≡◌, ℕ, ◌+◌, ◌-◌, ◌≤◌, true, List, length, take, drop, slice_index, ◌∙◌, ap, sym, arith, le-leb}
 use Rattle.std.proofs.lemmas.Bool.{and_from}
 use Rattle.px_bytes.specs.Parts.{part}
 use Rattle.px_iim.specs.DataSet.{DataSet}
-use Rattle.px_iim.specs.Record.{form, extra, count, size, is_marked, has_form, is_dataset, dataset}
-use Rattle.px_iim.specs.Reading.{Reads, found_view}
+use Rattle.px_iim.specs.Record.{extra, count, size, is_marked, has_form, is_dataset, dataset}
 use Rattle.px_iim.proofs.dataset.read_dataset.Goals as goal
 
 there : (x : List ℕ) → is_marked x ≡ true → 5 ≤ length x → has_form x ≡ true → 5 + extra x ≤ length x → size x ≤ length x → is_dataset x ≡ true

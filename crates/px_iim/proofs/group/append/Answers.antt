@@ -1,6 +1,5 @@
-use Rattle.std.proofs.Common.{◌≡◌, ◌∷◌, ◌++◌, [], refl, sym, ap, ◌∙◌, map, get_or, List, arith}
-use Rattle.std.proofs.lemmas.List.{map-append, set-get_or, get_or_read}
-use Rattle.px_iim.specs.declared.group.Item.{Item}
+use Rattle.std.proofs.Common.{◌≡◌, ◌∷◌, ◌++◌, [], refl, ap, ◌∙◌, map, get_or, arith}
+use Rattle.std.proofs.lemmas.List.{map-append, get_or_read}
 use Rattle.px_iim.specs.declared.group.Group.{Group}
 use Rattle.px_iim.specs.View.{item_view}
 use Rattle.px_iim.proofs.Places.{same_view}

@@ -1,4 +1,4 @@
-use Rattle.std.proofs.Common.{◌≡◌, ◌∷◌, ◌++◌, [], refl, sym, ap, ◌∙◌, map, get_or, List, arith}
+use Rattle.std.proofs.Common.{◌∷◌, ◌++◌, [], refl, ap, ◌∙◌, map, List}
 use Rattle.px_iim.specs.declared.group.Item.{Item}
 use Rattle.px_iim.specs.View.{item_view}
 use Rattle.px_iim.proofs.group.insert.Goals as goal

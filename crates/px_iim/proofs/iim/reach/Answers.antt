@@ -1,4 +1,4 @@
-use Rattle.std.proofs.Common.{◌≡◌, ◌∙◌, ap, arith}
+use Rattle.std.proofs.Common.{◌∙◌, ap, arith}
 use Rattle.px_iim.specs.View.{records_view}
 use Rattle.px_iim.proofs.Records.{records_push}
 use Rattle.px_iim.proofs.iim.reach.Goals as goal

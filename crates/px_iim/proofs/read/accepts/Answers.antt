@@ -1,7 +1,5 @@
-use Rattle.std.proofs.Common.{◌≡◌, ℕ, ◌+◌, ◌-◌, ◌≤◌, ◌<◌, Bool, true, false, is_some, Option, Some, None, List, ◌∷◌, [], length, drop, option_map, subst, ◌∙◌, ap, sym, refl, arith}
-use Rattle.px_bytes.specs.Checks.{first_false}
-use Rattle.px_iim.specs.Check.{dataset_checks}
-use Rattle.px_iim.specs.Record.{iim_of, is_end}
+use Rattle.std.proofs.Common.{◌≡◌, ℕ, ◌+◌, true, false, is_some, None, List, [], drop, subst, ◌∙◌, ap, sym, arith}
+use Rattle.px_iim.specs.Record.{is_end}
 use Rattle.px_iim.specs.Reading.{Reads, found_view}
 use Rattle.px_iim.proofs.Steps.{datasets, iim_of-past, iim_of-within, some_mapped, some_more, refused_says, wide, inside, said_last, said_more}
 use Rattle.px_iim.proofs.read.accepts.Goals as goal

@@ -1,15 +1,12 @@
-use Rattle.std.proofs.Common.{◌≡◌, ℕ, ◌+◌, ◌-◌, ◌≤◌, ◌<◌, Bool, true, false, Option, Some, None, List, ◌∷◌, [], length, drop, option_map, subst, ◌∙◌, ap, sym, refl, arith}
+use Rattle.std.proofs.Common.{◌≡◌, ℕ, ◌+◌, true, false, Some, List, drop, option_map, ◌∙◌, ap, sym, arith}
 use Rattle.std.proofs.lemmas.Result.{err_from_is_err_and}
 use Rattle.px_bytes.specs.declared.Refusal.{Refusal}
 use Rattle.px_bytes.specs.declared.Refusal.TheVariants.{Content, OutOfMemory}
-use Rattle.px_bytes.specs.declared.Cause.{Cause}
-use Rattle.px_bytes.specs.Checks.{Check, first_false, Refuses}
-use Rattle.px_iim.specs.declared.dataset.Found.{Found}
-use Rattle.std.proofs.Common.{Result, Err}
-use Rattle.px_iim.specs.DataSet.{DataSet}
-use Rattle.px_iim.specs.Group.{Record, gather, put}
-use Rattle.px_iim.specs.Check.{dataset_checks, iim_checks}
-use Rattle.px_iim.specs.Record.{iim_of, is_end}
+use Rattle.px_bytes.specs.Checks.{first_false, Refuses}
+use Rattle.std.proofs.Common.{Err}
+use Rattle.px_iim.specs.Group.{Record, gather}
+use Rattle.px_iim.specs.Check.{iim_checks}
+use Rattle.px_iim.specs.Record.{is_end}
 use Rattle.px_iim.specs.Reading.{Reads, JudgesAt, found_view}
 use Rattle.px_iim.specs.ScanLaws.{checks_left, iim_left}
 use Rattle.px_iim.proofs.Steps.{datasets, iim_of-within, gather_last, gather_more, refused_fault, wide, inside, octets_within, said_last, said_more, fault_last, fault_more}

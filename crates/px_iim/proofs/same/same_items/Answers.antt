@@ -1,4 +1,4 @@
-use Rattle.std.proofs.Common.{◌≡◌, ◌<◌, length, map, get_or, arith}
+use Rattle.std.proofs.Common.{◌<◌, length, map, get_or, arith}
 use Rattle.px_iim.specs.View.{item_view}
 use Rattle.px_iim.proofs.Writes.{no_item, item_read}
 use Rattle.px_iim.proofs.Alike.{same_more, same_at}

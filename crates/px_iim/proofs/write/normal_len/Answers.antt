@@ -1,5 +1,5 @@
-use Rattle.std.proofs.Common.{◌≡◌, ℕ, ◌+◌, length, drop, map, flat_map, Some, slice_get, arith}
-use Rattle.px_iim.specs.Record.{normal_dataset, normal_group}
+use Rattle.std.proofs.Common.{map, arith}
+use Rattle.px_iim.specs.Record.{normal_group}
 use Rattle.px_iim.specs.View.{item_view, part_view}
 use Rattle.px_iim.proofs.Writes.{parts_left, same_length, none_more, some_within}
 use Rattle.px_iim.proofs.write.normal_len.Goals as goal

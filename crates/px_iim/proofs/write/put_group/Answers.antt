@@ -1,4 +1,4 @@
-use Rattle.std.proofs.Common.{◌≡◌, ℕ, ◌++◌, Some, get_or, map, length, slice_get, arith, [], ◌∙◌, ◌≤◌}
+use Rattle.std.proofs.Common.{map, length, ◌∙◌, ◌≤◌}
 use Rattle.std.proofs.lemmas.Result.{err_from_is_err_and}
 use Rattle.px_bytes.specs.Parts.{limit}
 use Rattle.px_iim.specs.Record.{normal_dataset}

@@ -1,4 +1,4 @@
-use Rattle.std.proofs.Common.{◌≡◌, ℕ, ◌-◌, ◌++◌, List, Option, Result, length, take, ap, subst, ◌∙◌, arith}
+use Rattle.std.proofs.Common.{ℕ, ◌++◌, List, take, subst}
 use Rattle.std.proofs.lemmas.Result.{err_from_is_err_and}
 use Rattle.px_bytes.specs.Devices.{AppendsPrefix}
 use Rattle.px_iim.specs.Writing.{Puts}

@@ -1,4 +1,4 @@
-use Rattle.std.proofs.Common.{◌≡◌, ℕ, ◌+◌, length, drop, get_or, map, flat_map, Some, slice_get, arith}
+use Rattle.std.proofs.Common.{get_or, map, arith}
 use Rattle.px_iim.specs.Record.{normal_dataset}
 use Rattle.px_iim.specs.View.{item_view}
 use Rattle.px_iim.proofs.Writes.{no_item, item_read, parts_left, none_more, some_within}

@@ -2,7 +2,7 @@ use Rattle.std.proofs.Common.{◌≡◌, ◌≤◌, ◌+◌, length, drop, map}
 use Rattle.std.specs.List.{flat_map}
 use Rattle.px_iim.specs.Record.{normal_dataset}
 use Rattle.px_iim.specs.View.{item_view}
-use Rattle.px_iim.specs.Writing.{most, within}
+use Rattle.px_iim.specs.Writing.{most}
 use Rattle.px_iim.proofs.write.with_group.Given as goal
 
 -- the length so far, and that of the items left, is all

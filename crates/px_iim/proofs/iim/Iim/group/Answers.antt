@@ -1,7 +1,6 @@
-use Rattle.std.proofs.Common.{◌≡◌, ◌∙◌, ◌+◌, ◌≤◌, ◌<◌, ℕ, [], List, Vec, Global, ap, sym, subst, arith, vec_len, get_or, map, length, zero-add, refl}
+use Rattle.std.proofs.Common.{◌≡◌, ◌∙◌, ◌<◌, ℕ, [], List, Vec, Global, ap, sym, subst, arith, get_or, map, length, zero-add}
 use Rattle.px_iim.specs.declared.group.Group.{Group}
-use Rattle.px_iim.specs.declared.group.Item.{Item}
-use Rattle.px_iim.specs.Group.{Record, named, items_at, AreGroups}
+use Rattle.px_iim.specs.Group.{named, items_at, AreGroups}
 use Rattle.px_iim.specs.View.{item_view, records_view, numbers, Holds, MissingIn}
 use Rattle.px_iim.proofs.Records.{found_record, missing_record, past_record}
 use Rattle.px_iim.proofs.iim.Iim.group.Goals as goal

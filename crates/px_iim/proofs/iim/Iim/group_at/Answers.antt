@@ -1,4 +1,4 @@
-use Rattle.std.proofs.Common.{◌≡◌, ◌∙◌, ◌+◌, ◌-◌, ◌≤◌, ◌<◌, ◌++◌, ℕ, [], List, Vec, Global, Option, Some, None, ap, sym, subst, arith, vec_len, get_or, drop, map, length, slice_get, refl}
+use Rattle.std.proofs.Common.{◌≡◌, ◌∙◌, ◌+◌, ◌-◌, ◌≤◌, ◌<◌, ◌++◌, ℕ, [], List, Vec, Global, Option, Some, None, ap, sym, arith, vec_len, get_or, drop, map, length, slice_get}
 use Rattle.std.proofs.lemmas.List.{length-map, drop_all}
 use Rattle.std.proofs.lemmas.Option.{slice_get-get_or}
 use Rattle.px_iim.specs.declared.group.Group.{Group as CodeGroup}

@@ -1,4 +1,4 @@
-use Rattle.std.proofs.Common.{◌≡◌, ◌+◌, slice_get, drop}
+use Rattle.std.proofs.Common.{◌≡◌, slice_get, drop}
 use Rattle.px_iim.specs.View.{records_view}
 use Rattle.px_iim.proofs.iim.Iim.group_at.Given as goal
 

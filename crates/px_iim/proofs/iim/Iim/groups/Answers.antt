@@ -1,7 +1,7 @@
-use Rattle.std.proofs.Common.{◌≡◌, ◌∙◌, ◌+◌, ◌≤◌, ◌<◌, ◌++◌, ℕ, List, Vec, Global, ap, sym, arith, vec_len, get_or, drop, map, length, length-append, Fits-lit}
+use Rattle.std.proofs.Common.{◌≡◌, ◌∙◌, ◌+◌, ◌≤◌, ◌<◌, ◌++◌, ℕ, List, Vec, Global, ap, sym, arith, vec_len, get_or, drop, length, length-append}
 use Rattle.std.proofs.lemmas.List.{length-map}
 use Rattle.px_iim.specs.declared.group.Group.{Group}
-use Rattle.px_iim.specs.Group.{Record, AreGroups}
+use Rattle.px_iim.specs.Group.{AreGroups}
 use Rattle.px_iim.specs.View.{group_view, groups_view, records_view}
 use Rattle.px_iim.proofs.Order.{few_groups}
 use Rattle.px_iim.proofs.Records.{drop_view}

@@ -1,7 +1,6 @@
-use Rattle.std.proofs.Common.{◌≡◌, ◌∙◌, ◌+◌, ◌≤◌, ◌<◌, ℕ, [], List, Vec, Global, OnOk, OnErr, ap, sym, subst, inl, inr, arith, vec_len, get_or, set, length, zero-add, refl}
+use Rattle.std.proofs.Common.{◌≡◌, ◌∙◌, ◌<◌, ℕ, List, Vec, Global, ap, sym, subst, inl, inr, arith, get_or, set, length, zero-add, refl}
 use Rattle.std.proofs.lemmas.Result.{on_ok_weaker, on_err_weaker}
 use Rattle.px_iim.specs.declared.group.Group.{Group}
-use Rattle.px_iim.specs.DataSet.{DataSet}
 use Rattle.px_iim.specs.Group.{Record, put, AreGroups}
 use Rattle.px_iim.specs.View.{groups_view, records_view}
 use Rattle.px_iim.proofs.Order.{whole_put}
