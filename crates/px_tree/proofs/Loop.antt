@@ -13,44 +13,19 @@ use Rattle.px_tree.specs.Tree.{Fields}
 use Rattle.px_tree.specs.Roles.{role}
 use Rattle.px_field.specs.Values.{Value}
 use Rattle.px_tree.specs.Entry.{Entry, entry, field, value_in}
-use Rattle.px_bytes.specs.Range.{Range, range, shares, is_free, Agrees}
+use Rattle.px_bytes.specs.Range.{Range, SameFree, Agrees}
 use Rattle.px_tree.specs.Footprint.{placed_range}
 use Rattle.px_bytes.specs.Checks.{Check, first_false, Refuses}
 use Rattle.px_tree.specs.Checks.{entry_checks, entries_checks}
 use Rattle.px_tree.specs.Reading.{IsShape, entries_from}
-use Rattle.px_bytes.specs.RangeLaws.{SameFree, agrees-same}
+use Rattle.px_bytes.specs.RangeLaws.{agrees-same}
+use Rattle.px_bytes.specs.ApartLaws.{same_refl, same_trans, same_front}
 use Rattle.px_bytes.specs.CheckLaws.{first_false-true, Refuses-more, Refuses-same}
 
--- ---- what is free of lists joined
-
-free_append : (xs ys : List Range) (r : Range) → is_free (xs ++ ys) r ≡ (is_free xs r && is_free ys r)
-free_append [] ys r = refl
-free_append (x ∷ xs) ys r = ap (λ (t : Bool). not (shares r x) && t) (free_append xs ys r) ∙ regroup (not (shares r x)) (is_free xs r) (is_free ys r)
-  where
-    regroup : (p q t : Bool) → (p && (q && t)) ≡ ((p && q) && t)
-    regroup true q t = refl
-    regroup false q t = refl
-
+-- the range of an entry, held before those of the entries behind it or after them
 pub same_moved : (x : Option Range) (es now : List Range) → SameFree (es ++ (option_to_list x ++ now)) (cons_option x es ++ now)
-same_moved None es now s n = refl
-same_moved (Some x) es now s n =
-    let r = range s n in
-    free_append es (x ∷ now) r ∙ swap (is_free es r) (not (shares r x)) (is_free now r) ∙ ap (λ (t : Bool). not (shares r x) && t) (sym (free_append es now r))
-  where
-    swap : (p q t : Bool) → (p && (q && t)) ≡ (q && (p && t))
-    swap true true t = refl
-    swap true false t = refl
-    swap false true t = refl
-    swap false false t = refl
-
-pub same_trans : (xs ys zs : List Range) → SameFree xs ys → SameFree ys zs → SameFree xs zs
-same_trans xs ys zs h k s n = h s n ∙ k s n
-
-pub same_refl : (xs : List Range) → SameFree xs xs
-same_refl xs s n = refl
-
-pub same_turned : (xs ys : List Range) → SameFree xs ys → SameFree ys xs
-same_turned xs ys h s n = sym (h s n)
+same_moved None es now = same_refl (es ++ now)
+same_moved (Some x) es now = same_front x es now
 
 -- ---- the loop
 module _ (b : List ℕ) (o : Order) (d : Dir) where

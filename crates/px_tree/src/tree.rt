@@ -125,45 +125,17 @@ pub fn read_dirs<'a>(
     let main_link = link_to_main(block, order);
     let main = read_directory(alloc, block, order, Dir::Main, held, &[], main_link)?;
     let exif_link = link_from(block, order, &main, 0x8769);
-    let exif = read_linked(
-        alloc,
-        block,
-        order,
-        Dir::Exif,
-        held,
-        &[Some(main_link)],
-        exif_link,
-    )?;
+    let read = [Some(main_link)];
+    let exif = read_linked(alloc, block, order, Dir::Exif, held, &read, exif_link)?;
     let interop_link = link_in(block, order, &exif, 0xA005);
-    let interop = read_linked(
-        alloc,
-        block,
-        order,
-        Dir::Interop,
-        held,
-        &[exif_link, Some(main_link)],
-        interop_link,
-    )?;
+    let read = [exif_link, Some(main_link)];
+    let interop = read_linked(alloc, block, order, Dir::Interop, held, &read, interop_link)?;
     let gps_link = link_from(block, order, &main, 0x8825);
-    let gps = read_linked(
-        alloc,
-        block,
-        order,
-        Dir::Gps,
-        held,
-        &[interop_link, exif_link, Some(main_link)],
-        gps_link,
-    )?;
+    let read = [interop_link, exif_link, Some(main_link)];
+    let gps = read_linked(alloc, block, order, Dir::Gps, held, &read, gps_link)?;
     let thumb_link = link_behind(block, order, &main);
-    let thumb = read_linked(
-        alloc,
-        block,
-        order,
-        Dir::Thumb,
-        held,
-        &[gps_link, interop_link, exif_link, Some(main_link)],
-        thumb_link,
-    )?;
+    let read = [gps_link, interop_link, exif_link, Some(main_link)];
+    let thumb = read_linked(alloc, block, order, Dir::Thumb, held, &read, thumb_link)?;
     Ok(Directories {
         main,
         exif,
