@@ -5,12 +5,12 @@ ghost use Rattle.px_iim.specs.View.{item_view, groups_view, numbers, Found, Miss
 
 use std::alloc::{AllocError, Global};
 
-/// A DataSet as it stands in its group.
+/// A DataSet as it stands in its group; the group tells its record number.
 #[derive(Clone, Copy, Debug)]
 pub struct Item<'a> {
     /// The DataSet number.
     pub number: u8,
-    /// The data.
+    /// The data, as they stand in the block; at most `LIMIT` octets.
     pub octets: &'a [u8],
 }
 
@@ -110,7 +110,8 @@ pub(crate) fn items_of<'b, 'a>(groups: &'b [Group<'a>], number: u8) -> Option<&'
     }
 }
 
-/// The data of the DataSets of one number, in order.
+/// The data of the DataSets of one number, in their group's order: what `Iim::all` answers. It takes
+/// no memory.
 #[derive(Clone, Copy)]
 pub struct All<'b, 'a> {
     pub(crate) items: &'b [Item<'a>],

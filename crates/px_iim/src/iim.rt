@@ -7,7 +7,11 @@ use crate::group::{All, Group, Item, add, items_of, named};
 use std::alloc::{AllocError, Global};
 use std::marker::Model;
 
-/// What an IIM block says.
+/// What an IIM block says: a map from group to a list of DataSets, of which none is empty. Contracts
+/// see it as the list of its groups in ascending order of record, then number. The data are borrowed.
+///
+/// The groups of one record number stand in a list of their own, so a DataSet looks through at most
+/// 256 groups and moves at most 256, whatever the order in which groups come.
 #[derive(Drop)]
 pub struct Iim<'a> {
     alloc: Global,
@@ -41,7 +45,7 @@ fn reach<'a>(alloc: Global, records: &mut Vec<Vec<Group<'a>>>, rec: u8) -> Resul
 }
 
 impl<'a> Iim<'a> {
-    /// An empty record.
+    /// A record without a DataSet. It takes no memory.
     pub fn new(alloc: Global) -> Iim<'a>
         ensures { result ≡ [] }
     {
@@ -52,7 +56,8 @@ impl<'a> Iim<'a> {
         }
     }
 
-    /// Puts a DataSet at its group's end.
+    /// Puts a DataSet, of any record number and number and at most `LIMIT` octets of data, at the end of
+    /// its group. It takes memory for it; where that is refused, nothing changes.
     pub fn push(&mut self, rec: u8, number: u8, octets: &'a [u8]) -> Result<(), AllocError>
         requires { length octets.now ≤ 16777216 }
         ensures done { OnOk result (self.new ≡ put (record { rec = rec; number = number; octets = octets.now }) self.old) }
@@ -64,14 +69,14 @@ impl<'a> Iim<'a> {
         add(alloc, groups, rec, Item { number, octets })
     }
 
-    /// Whether it has no DataSet.
+    /// Whether it has no DataSet. It takes no memory.
     pub fn is_empty(&self) -> bool
         ensures { result ≡ (length self.now == 0) }
     {
         self.groups() == 0
     }
 
-    /// How many groups there are.
+    /// How many groups there are, at most 65,536. It takes no memory.
     pub fn groups(&self) -> u32
         ensures count { result ≡ length self.now }
         ensures whole { AreGroups self.now }
@@ -83,7 +88,8 @@ impl<'a> Iim<'a> {
         count
     }
 
-    /// The group that holds this number.
+    /// The group that holds this number, also where another number names it: its DataSets in order, none
+    /// where there is no such group. It takes no memory.
     pub fn group(&self, rec: u8, number: u8) -> &[Item<'a>]
         ensures { map item_view result.now ≡ items_at rec (named rec number) self.now }
     {
@@ -96,7 +102,7 @@ impl<'a> Iim<'a> {
         self.none.as_slice()
     }
 
-    /// The data of the DataSets of one number.
+    /// The data of the DataSets of this number alone, in their group's order. It takes no memory.
     pub fn all(&self, rec: u8, number: u8) -> All<'_, 'a>
         ensures { octets_left result ≡ octets_of number (items_at rec (named rec number) self.now) }
     {
@@ -107,7 +113,9 @@ impl<'a> Iim<'a> {
         }
     }
 
-    /// The group at a place.
+    /// The group at a place, in ascending order of record, then number: the record and the number that
+    /// name it, and its DataSets. The place is below `groups`. It takes no memory, and passes at most 256
+    /// lists.
     pub fn group_at(&self, i: u32) -> (u8, u8, &[Item<'a>])
         requires { i < length self.now }
         ensures { slice_get self.now i ≡ Some (part_view result) }

@@ -1,6 +1,7 @@
 // A whole block, read DataSet by DataSet.
 ghost use Rattle.std.specs.Prelude.{◌≡◌, ◌≤◌, ℕ, length, Some, is_some, IfOk, IfErr, Option, None};
 ghost use Rattle.px_bytes.specs.Checks.{Judges};
+ghost use Rattle.px_iim.specs.Group.{IsRecord};
 ghost use Rattle.px_iim.specs.Record.{SaysIim, iim_of};
 ghost use Rattle.px_iim.specs.Check.{iim_checks};
 ghost use Rattle.px_iim.specs.Reading.{JudgesAt, RefusesIim};
@@ -42,10 +43,18 @@ fn read_groups<'a>(alloc: Global, bytes: &'a [u8]) -> Result<Iim<'a>, Refusal>
     }
 }
 
-/// The record that a block says.
+/// The record that a block says. IIM 4.2, chapter 1.
+///
+/// A refusal of content is the first check that is false: TooLong at `LIMIT` for more octets than that;
+/// then at each place where a DataSet must begin NoMarker where no `1C` stands, DataSetCut where fewer
+/// than five octets are left, LengthForm where an extended count has no octets or more than four, and
+/// DataSetCut where its octets or the data pass the end. The block ends behind a DataSet where at most
+/// three octets are left, all of them zero. Places count from the first octet. OutOfMemory is answered
+/// where a growth of the record was refused.
 pub fn read_iim<'a>(alloc: Global, bytes: &'a [u8]) -> Result<Iim<'a>, Refusal>
     ensures judged { Judges result (iim_checks bytes.now) (SaysIim bytes.now) }
     ensures computed { IfOk result (λ i. iim_of bytes.now ≡ Some i) }
+    ensures whole { IfOk result IsRecord }
     ensures stands { IfErr result (RefusesIim bytes.now) }
 {
     if bytes.len() > LIMIT as usize {
@@ -57,7 +66,7 @@ pub fn read_iim<'a>(alloc: Global, bytes: &'a [u8]) -> Result<Iim<'a>, Refusal>
     read_groups(alloc, bytes)
 }
 
-/// Whether the octets say a record.
+/// Whether the octets say a record, as `read_iim` judges it. It takes no memory.
 pub fn accepts(bytes: &[u8]) -> bool
     ensures { result ≡ is_some (iim_of bytes.now) }
 {

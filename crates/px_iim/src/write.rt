@@ -101,7 +101,8 @@ fn with_group(total: usize, items: &[Item]) -> Option<usize>
     Some(total)
 }
 
-/// The length of the normal form.
+/// The length of the normal form in octets; None where it is more than twice `LIMIT`. It takes no
+/// memory.
 pub fn normal_len(iim: &Iim) -> Option<u32>
     ensures { result ≡ within (length (normal_iim iim.now)) }
 {
@@ -113,7 +114,13 @@ pub fn normal_len(iim: &Iim) -> Option<u32>
     Some(total as u32)
 }
 
-/// Writes the normal form, without a flush.
+/// Writes the normal form and answers its length, at most `LIMIT`: the groups in ascending order, each
+/// list in its order, a standard count up to 32,767 octets of data, else `80 04` and four octets. The
+/// record isn't empty. No flush follows.
+///
+/// NormalTooLong is answered before the first octet, where the form is longer than `LIMIT`; WriteFailed
+/// at the first failed call, after which the writer has taken a prefix of the form. Octets go out in
+/// writes of up to 8,192, longer data at once; no memory is taken, but for such a buffer on the stack.
 pub fn write_iim_part<W: Sink>(iim: &Iim, writer: &mut W) -> Result<u64, WriteRefusal>
     requires few { W.failed writer.old + 1 < 2 ^ 64 }
     requires some { 0 < length iim.now }
@@ -129,7 +136,8 @@ pub fn write_iim_part<W: Sink>(iim: &Iim, writer: &mut W) -> Result<u64, WriteRe
     Ok(u64::from(len))
 }
 
-/// Writes the normal form, and flushes once.
+/// Writes the normal form as `write_iim_part` does, and flushes once behind the last octet. A failed
+/// flush is WriteFailed.
 pub fn write_iim<W: Sink>(iim: &Iim, writer: &mut W) -> Result<u64, WriteRefusal>
     requires few { W.failed writer.old + 1 < 2 ^ 64 }
     requires some { 0 < length iim.now }
@@ -169,7 +177,8 @@ fn append_record(iim: &Iim, out: &mut Vec<u8>) -> Result<(), AllocError>
     Ok(())
 }
 
-/// Appends the normal form.
+/// Appends the normal form, which is at most twice `LIMIT` long (`normal_len` is Some). It takes memory
+/// for the vector; where that is refused, the vector holds what it held.
 pub fn append_iim(iim: &Iim, out: &mut Vec<u8>) -> Result<(), AllocError>
     requires { length (normal_iim iim.now) ≤ 33554432 }
     ensures done { OnOk result (out.new.items ≡ out.old.items ++ normal_iim iim.now) }

@@ -40,7 +40,7 @@ put-insert (f ∷ fields) tag (suc i) value gap =
     let rest : IsGapFor fields tag i = record {
       inside = omega (arith, gap.inside);
       below = λ k h. gap.below (suc k) (omega arith);
-      above = λ k h inside. gap.above (suc k) (omega arith) (omega arith)
+      above = λ k h inside. gap.above (suc k) (omega arith) (omega arith);
     } in
     grind (arith, nat_tests, gap.below 0 (omega arith), put-insert fields tag i value rest)
 

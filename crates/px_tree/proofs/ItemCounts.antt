@@ -44,9 +44,16 @@ length-main_items m =
     let r = field_items m.main in
     let r1 = put_some record_tag (option_map Iptc m.iptc) r in
     let r2 = put_some gps_tag (link Gps m.gps) r1 in
-    omega (arith, length-pairs m.main, length-put_some record_tag (option_map Iptc m.iptc) r, one_of-map Iptc m.iptc,
-      length-put_some gps_tag (link Gps m.gps) r1, one_of-map (λ _. Link Gps) m.gps,
-      length-put_some exif_tag (link Exif m.exif) r2, one_of-map (λ _. Link Exif) m.exif)
+    omega (
+      arith,
+      length-pairs m.main,
+      length-put_some record_tag (option_map Iptc m.iptc) r,
+      one_of-map Iptc m.iptc,
+      length-put_some gps_tag (link Gps m.gps) r1,
+      one_of-map (λ _. Link Gps) m.gps,
+      length-put_some exif_tag (link Exif m.exif) r2,
+      one_of-map (λ _. Link Exif) m.exif,
+    )
 
 pub length-exif_items : (e : ExifPart) → length (exif_items e) ≡ one_of e.interop + length e.fields
 length-exif_items e =
@@ -61,10 +68,18 @@ length-thumb_items t =
     let r1 = put_some strip_lengths_tag sizes r in
     let r2 = put_some strip_offsets_tag starts r1 in
     let r3 = put_some jpeg_length_tag (option_map (λ x. JpegSize (length x)) t.jpeg) r2 in
-    omega (arith, length-pairs t.fields, length-put_some strip_lengths_tag sizes r, one_of-map (λ s. StripSizes (map (λ x. length x) s)) t.strips,
-      length-put_some strip_offsets_tag starts r1, one_of-map (λ s. AtStrips (length s)) t.strips,
-      length-put_some jpeg_length_tag (option_map (λ x. JpegSize (length x)) t.jpeg) r2, one_of-map (λ x. JpegSize (length x)) t.jpeg,
-      length-put_some jpeg_offset_tag (option_map (λ _. AtJpeg) t.jpeg) r3, one_of-map (λ _. AtJpeg) t.jpeg)
+    omega (
+      arith,
+      length-pairs t.fields,
+      length-put_some strip_lengths_tag sizes r,
+      one_of-map (λ s. StripSizes (map (λ x. length x) s)) t.strips,
+      length-put_some strip_offsets_tag starts r1,
+      one_of-map (λ s. AtStrips (length s)) t.strips,
+      length-put_some jpeg_length_tag (option_map (λ x. JpegSize (length x)) t.jpeg) r2,
+      one_of-map (λ x. JpegSize (length x)) t.jpeg,
+      length-put_some jpeg_offset_tag (option_map (λ _. AtJpeg) t.jpeg) r3,
+      one_of-map (λ _. AtJpeg) t.jpeg,
+    )
 
 pub length-field_items : (fs : Fields) → length (field_items fs) ≡ length fs
 length-field_items fs = length-pairs fs

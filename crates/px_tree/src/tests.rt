@@ -29,17 +29,6 @@ fn tags_of(alloc: Global, fields: &Fields) -> Result<Vec<u16>, AllocError> {
     Ok(tags)
 }
 
-// A meaning with one field in its main directory.
-fn one_field(alloc: Global) -> Result<Meaning<'static>, AllocError> {
-    Ok(Meaning {
-        main: filled(alloc, &[0x0112])?,
-        iptc: None,
-        exif: None,
-        gps: None,
-        thumb: None,
-    })
-}
-
 #[test]
 fn a_tag_is_put_once(rt: HostRuntime) -> Result<(), Fail> {
     let mut fields = Fields::new(rt.alloc());
@@ -72,146 +61,182 @@ fn strips_are_a_list(rt: HostRuntime) -> Result<(), Fail> {
     Ok(())
 }
 
+// A meaning with the fields of its main directory.
+fn with_main<'a>(main: Fields<'a>) -> Meaning<'a> {
+    Meaning {
+        main,
+        iptc: None,
+        exif: None,
+        gps: None,
+        thumb: None,
+    }
+}
+
+// A meaning with one field in its main directory.
+fn with_field<'a>(alloc: Global, tag: u16, value: Value<'a>) -> Result<Meaning<'a>, AllocError> {
+    let mut main = Fields::new(alloc);
+    let _ = main.put(tag, value)?;
+    Ok(with_main(main))
+}
+
+// A meaning with one field in its main directory, and a thumbnail directory.
+fn with_thumb<'a>(
+    alloc: Global,
+    jpeg: Option<&'a [u8]>,
+    strips: Option<Strips<'a>>,
+) -> Result<Meaning<'a>, AllocError> {
+    let mut m = with_field(alloc, 0x0112, short(b"\x00\x01"))?;
+    m.thumb = Some(Thumb {
+        fields: Fields::new(alloc),
+        jpeg,
+        strips,
+    });
+    Ok(m)
+}
+
+// A record with one DataSet, a caption.
+fn caption(alloc: Global) -> Result<Iim<'static>, AllocError> {
+    let mut record = Iim::new(alloc);
+    record.push(2, 120, b"abc")?;
+    Ok(record)
+}
+
+// Whether a value at a tag of the main directory, and nothing else, fits.
+fn fits_at(alloc: Global, tag: u16, value: Value) -> Result<bool, AllocError> {
+    Ok(fits(&with_field(alloc, tag, value)?))
+}
+
 #[test]
 fn one_field_fits(rt: HostRuntime) -> Result<(), Fail> {
-    let m = one_field(rt.alloc())?;
-    assert!(rt; fits(&m));
-    assert!(rt; same_meaning(&m, &one_field(rt.alloc())?));
+    assert!(rt; fits_at(rt.alloc(), 0x0112, short(b"\x00\x01"))?);
     Ok(())
 }
 
 #[test]
-fn an_empty_directory_does_not_fit(rt: HostRuntime) -> Result<(), Fail> {
-    let alloc = rt.alloc();
-    let mut m = one_field(alloc)?;
-    m.main = Fields::new(alloc);
+fn an_empty_main_directory_does_not_fit(rt: HostRuntime) {
+    assert!(rt; !fits(&with_main(Fields::new(rt.alloc()))));
+}
+
+#[test]
+fn an_empty_gps_directory_does_not_fit(rt: HostRuntime) -> Result<(), Fail> {
+    let mut m = with_field(rt.alloc(), 0x0112, short(b"\x00\x01"))?;
+    m.gps = Some(Fields::new(rt.alloc()));
     assert!(rt; !fits(&m));
-    let mut m = one_field(alloc)?;
-    m.gps = Some(Fields::new(alloc));
-    assert!(rt; !fits(&m));
-    let mut m = one_field(alloc)?;
+    Ok(())
+}
+
+#[test]
+fn an_empty_exif_directory_does_not_fit(rt: HostRuntime) -> Result<(), Fail> {
+    let mut m = with_field(rt.alloc(), 0x0112, short(b"\x00\x01"))?;
     m.exif = Some(ExifPart {
-        fields: Fields::new(alloc),
+        fields: Fields::new(rt.alloc()),
         interop: None,
     });
     assert!(rt; !fits(&m));
+    Ok(())
+}
+
+#[test]
+fn an_empty_interoperability_directory_does_not_fit(rt: HostRuntime) -> Result<(), Fail> {
+    let mut m = with_field(rt.alloc(), 0x0112, short(b"\x00\x01"))?;
     m.exif = Some(ExifPart {
-        fields: Fields::new(alloc),
-        interop: Some(Fields::new(alloc)),
+        fields: Fields::new(rt.alloc()),
+        interop: Some(Fields::new(rt.alloc())),
     });
     assert!(rt; !fits(&m));
-    let mut m = one_field(alloc)?;
-    m.thumb = Some(Thumb {
-        fields: Fields::new(alloc),
-        jpeg: None,
-        strips: None,
-    });
-    assert!(rt; !fits(&m));
-    m.thumb = Some(Thumb {
-        fields: Fields::new(alloc),
-        jpeg: Some(b""),
-        strips: None,
-    });
-    assert!(rt; fits(&m));
+    Ok(())
+}
+
+#[test]
+fn an_empty_thumbnail_directory_does_not_fit(rt: HostRuntime) -> Result<(), Fail> {
+    assert!(rt; !fits(&with_thumb(rt.alloc(), None, None)?));
+    Ok(())
+}
+
+#[test]
+fn an_empty_jpeg_fits(rt: HostRuntime) -> Result<(), Fail> {
+    assert!(rt; fits(&with_thumb(rt.alloc(), Some(b""), None)?));
     Ok(())
 }
 
 #[test]
 fn pointers_and_parts_are_no_fields(rt: HostRuntime) -> Result<(), Fail> {
-    let alloc = rt.alloc();
     for tag in [0x8769, 0x8825, 0x0201, 0x0111, 0x014A, 0xA005] {
-        let mut m = one_field(alloc)?;
-        m.main = filled(alloc, &[tag])?;
-        assert!(rt; !fits(&m));
+        assert!(rt; !fits_at(rt.alloc(), tag, short(b"\x00\x01"))?);
     }
     Ok(())
 }
 
 #[test]
-fn whole_stands_at_widened_tags_alone(rt: HostRuntime) -> Result<(), Fail> {
-    let alloc = rt.alloc();
-    let mut m = one_field(alloc)?;
-    let _ = m.main.put(0x0100, short(b"\x00\x01"))?;
-    assert!(rt; !fits(&m));
-    let mut m = one_field(alloc)?;
-    let _ = m
-        .main
-        .put(0x0100, read_whole(Form::Short, Order::Most, b"\x00\x01"))?;
+fn a_short_width_does_not_fit(rt: HostRuntime) -> Result<(), Fail> {
+    assert!(rt; !fits_at(rt.alloc(), 0x0100, short(b"\x00\x01"))?);
+    Ok(())
+}
+
+#[test]
+fn a_whole_width_fits(rt: HostRuntime) -> Result<(), Fail> {
+    let whole = read_whole(Form::Short, Order::Most, b"\x00\x01");
+    assert!(rt; fits_at(rt.alloc(), 0x0100, whole)?);
+    Ok(())
+}
+
+#[test]
+fn a_whole_number_at_a_plain_tag_does_not_fit(rt: HostRuntime) -> Result<(), Fail> {
+    let whole = read_whole(Form::Short, Order::Most, b"\x00\x01");
+    assert!(rt; !fits_at(rt.alloc(), 0x0113, whole)?);
+    Ok(())
+}
+
+#[test]
+fn undefined_bytes_that_say_a_record_are_no_field(rt: HostRuntime) -> Result<(), Fail> {
+    let value = read_value(Form::Undefined, Order::Most, b"\x1C\x02\x78\x00\x00");
+    assert!(rt; !fits_at(rt.alloc(), 0x83BB, value)?);
+    Ok(())
+}
+
+#[test]
+fn the_same_bytes_as_text_are_a_field(rt: HostRuntime) -> Result<(), Fail> {
+    let value = read_value(Form::Ascii, Order::Most, b"\x1C\x02\x78\x00\x00");
+    assert!(rt; fits_at(rt.alloc(), 0x83BB, value)?);
+    Ok(())
+}
+
+#[test]
+fn undefined_bytes_that_say_no_record_are_a_field(rt: HostRuntime) -> Result<(), Fail> {
+    let value = read_value(Form::Undefined, Order::Most, b"\x1C\x02\x78\x80\x00");
+    assert!(rt; fits_at(rt.alloc(), 0x83BB, value)?);
+    Ok(())
+}
+
+#[test]
+fn a_record_fits(rt: HostRuntime) -> Result<(), Fail> {
+    let mut m = with_main(Fields::new(rt.alloc()));
+    m.iptc = Some(caption(rt.alloc())?);
     assert!(rt; fits(&m));
-    let mut m = one_field(alloc)?;
-    let _ = m
-        .main
-        .put(0x0113, read_whole(Form::Short, Order::Most, b"\x00\x01"))?;
+    Ok(())
+}
+
+#[test]
+fn an_empty_record_does_not_fit(rt: HostRuntime) -> Result<(), Fail> {
+    let mut m = with_field(rt.alloc(), 0x0112, short(b"\x00\x01"))?;
+    m.iptc = Some(Iim::new(rt.alloc()));
     assert!(rt; !fits(&m));
     Ok(())
 }
 
 #[test]
-fn bytes_that_say_a_record_are_no_field(rt: HostRuntime) -> Result<(), Fail> {
-    let alloc = rt.alloc();
-    let record = b"\x1C\x02\x78\x00\x00";
-    let mut m = one_field(alloc)?;
-    m.main = Fields::new(alloc);
-    let _ = m
-        .main
-        .put(0x83BB, read_value(Form::Undefined, Order::Most, record))?;
-    assert!(rt; !fits(&m));
-    m.main = Fields::new(alloc);
-    let _ = m
-        .main
-        .put(0x83BB, read_value(Form::Byte, Order::Most, record))?;
-    assert!(rt; !fits(&m));
-    m.main = Fields::new(alloc);
-    let _ = m
-        .main
-        .put(0x83BB, read_value(Form::Ascii, Order::Most, record))?;
-    assert!(rt; fits(&m));
-    m.main = Fields::new(alloc);
-    let _ = m.main.put(
-        0x83BB,
-        read_value(Form::Undefined, Order::Most, b"\x1C\x02\x78\x80\x00"),
-    )?;
-    assert!(rt; fits(&m));
-    Ok(())
-}
-
-#[test]
-fn a_record_stands_alone_and_is_not_empty(rt: HostRuntime) -> Result<(), Fail> {
-    let alloc = rt.alloc();
-    let mut m = one_field(alloc)?;
-    m.iptc = Some(Iim::new(alloc));
-    assert!(rt; !fits(&m));
-    let mut record = Iim::new(alloc);
-    record.push(2, 120, b"abc")?;
-    m.iptc = Some(record);
-    assert!(rt; fits(&m));
-    let _ = m
-        .main
-        .put(0x83BB, read_value(Form::Ascii, Order::Most, b"abcd"))?;
+fn a_record_beside_a_field_at_its_tag_does_not_fit(rt: HostRuntime) -> Result<(), Fail> {
+    let text = read_value(Form::Ascii, Order::Most, b"abcd");
+    let mut m = with_field(rt.alloc(), 0x83BB, text)?;
+    m.iptc = Some(caption(rt.alloc())?);
     assert!(rt; !fits(&m));
     Ok(())
 }
 
 #[test]
-fn every_part_tells_meanings_apart(rt: HostRuntime) -> Result<(), Fail> {
-    let alloc = rt.alloc();
-    let plain = one_field(alloc)?;
-    let mut m = one_field(alloc)?;
-    let mut strips = Strips::new(alloc);
-    strips.push(b"\x41")?;
-    m.thumb = Some(Thumb {
-        fields: Fields::new(alloc),
-        jpeg: None,
-        strips: Some(strips),
-    });
-    assert!(rt; !same_meaning(&plain, &m));
-    let mut m = one_field(alloc)?;
-    m.gps = Some(filled(alloc, &[1])?);
-    assert!(rt; !same_meaning(&plain, &m));
-    let mut m = one_field(alloc)?;
-    let mut record = Iim::new(alloc);
-    record.push(2, 120, b"abc")?;
-    m.iptc = Some(record);
-    assert!(rt; !same_meaning(&plain, &m));
+fn a_meaning_is_the_same_as_itself(rt: HostRuntime) -> Result<(), Fail> {
+    let m = with_thumb(rt.alloc(), Some(b"\xFF\xD8"), None)?;
+    let other = with_thumb(rt.alloc(), Some(b"\xFF\xD8"), None)?;
+    assert!(rt; same_meaning(&m, &other));
     Ok(())
 }

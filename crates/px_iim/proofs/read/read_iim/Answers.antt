@@ -1,16 +1,17 @@
-use Rattle.std.proofs.Common.{◌≡◌, ℕ, ◌+◌, ◌≤◌, ◌<◌, Option, Some, None, List, length, Result, Ok, Err, IfErr, ◌++◌, ◌∙◌, ap, sym, refl, arith, length-append}
+use Rattle.std.proofs.Common.{◌≡◌, ℕ, ◌+◌, ◌≤◌, ◌<◌, Option, Some, None, List, length, Result, Ok, Err, IfOk, IfErr, ◌++◌, ◌∙◌, ap, sym, refl, arith, length-append}
 use Rattle.px_bytes.specs.declared.Refusal.{Refusal}
 use Rattle.px_bytes.specs.declared.Refusal.TheVariants.{Content, OutOfMemory}
 use Rattle.px_bytes.specs.declared.Cause.{Cause}
 use Rattle.px_bytes.specs.declared.Cause.TheVariants.{TooLong, NoMarker, LengthForm, DataSetCut}
 use Rattle.px_bytes.specs.Checks.{Judges}
 use Rattle.px_bytes.specs.CheckLaws.{Judges-good}
+use Rattle.px_bytes.specs.Numbers.{AreBytes}
 use Rattle.px_bytes.specs.Parts.{limit}
 use Rattle.px_iim.specs.DataSet.{DataSet}
-use Rattle.px_iim.specs.Group.{Record}
+use Rattle.px_iim.specs.Group.{Record, IsRecord}
 use Rattle.px_iim.specs.Record.{SaysIim, iim_of}
 use Rattle.px_iim.specs.Check.{iim_checks, First, Stands, Behind}
-use Rattle.px_iim.specs.RecordLaws.{computes}
+use Rattle.px_iim.specs.RecordLaws.{computes, said_is_record}
 use Rattle.px_iim.specs.FaultLaws.{first_stands, stands_unsaid}
 use Rattle.px_iim.specs.Reading.{RefusesIim}
 use Rattle.px_iim.proofs.Steps.{checks_past}
@@ -43,6 +44,10 @@ stands (Ok i) x good l j = tt
 stands (Err (Content c p)) x good l j = refuses x c p j (place x c p (first_stands x c p j) l)
 stands (Err OutOfMemory) x good l j = tt
 
+wholes : (r : Result Record Refusal) (x : List ℕ) → AreBytes x → Judges r (iim_checks x) (λ i. iim_of x ≡ Some i) → IfOk r IsRecord
+wholes (Ok i) x b j = said_is_record x i b ((computes x i).1 j.1)
+wholes (Err e) x b j = tt
+
 pub returns-then-bytes-clause-judged : goal.returns-then-bytes-clause-judged
 returns-then-bytes-clause-judged c = checks_past c.args.bytes.now c.if-bytes.true
 
@@ -58,3 +63,6 @@ pub returns-clause-stands : goal.returns-clause-stands
 returns-clause-stands c =
     let x = c.args.bytes.now in
     stands c.read_groups.result x (λ i. iim_of x ≡ Some i) c.if-bytes.false c.read_groups.ensures
+
+pub returns-clause-whole : goal.returns-clause-whole
+returns-clause-whole c = wholes c.read_groups.result c.args.bytes.now (λ k. (c.type_inv.bytes k).fits) c.read_groups.ensures

@@ -1,0 +1,5 @@
+use Rattle.px_layout.specs.ByteLaws.{laid_is_bytes as bytes}
+use Rattle.px_layout.proofs.laws.laid_is_bytes.Goals as goal
+
+pub returns : goal.returns
+returns c = bytes

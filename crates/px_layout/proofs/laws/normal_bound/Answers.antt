@@ -1,0 +1,5 @@
+use Rattle.px_layout.specs.BoundLaws.{normal_bound as bound}
+use Rattle.px_layout.proofs.laws.normal_bound.Goals as goal
+
+pub returns : goal.returns
+returns c = bound c.said_fits.ensures

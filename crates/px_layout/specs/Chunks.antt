@@ -1,0 +1,51 @@
+-- The chunks of a meaning: what stands at an offset of its own, each with its size in bytes. TIFF 6.0 section 2, "Image File
+-- Directory" and "Value/Offset"; section 8, "StripOffsets"; CIPA DC-008 4.5.5 (the thumbnail).
+use Rattle.std.specs.Prelude.{ℕ, ◌+◌, ◌==◌, ◌&&◌, Bool, true, false, nat_lt, if◌then◌else◌, Option, Some, None, List, [], ◌∷◌, ◌++◌, length, filter_map, flat_map}
+use Rattle.px_tree.specs.declared.Dir.{Dir}
+use Rattle.px_tree.specs.Tree.{Thumbnail, Meaning}
+use Rattle.px_tree.specs.Entry.{table_size}
+use Rattle.px_tree.specs.Directory.{dirs}
+use Rattle.px_tree.specs.Faults.{dir_number}
+use Rattle.px_tree.specs.Fits.{Item, item_size, items}
+use Rattle.px_layout.specs.declared.chunks.Chunk.{Chunk}
+use Rattle.px_layout.specs.declared.chunks.Chunk.TheVariants.{Table, Placed, Jpeg, Strip}
+
+abbrev pub same_chunk : Chunk → Chunk → Bool
+same_chunk (Table d) (Table e) = dir_number d == dir_number e
+same_chunk (Placed d t) (Placed e u) = (dir_number d == dir_number e) && (t == u)
+same_chunk Jpeg Jpeg = true
+same_chunk (Strip i) (Strip j) = i == j
+same_chunk _ _ = false
+
+-- a value of more than four bytes stands at a place of its own
+unfoldable pub placed_chunk : Dir → ℕ × Item → Option (Chunk × ℕ)
+placed_chunk d i = if nat_lt 4 (item_size i.1) then Some (Placed d i.0, item_size i.1) else None
+
+-- a directory's table, and its placed values by ascending tag
+abbrev pub dir_chunks : Dir → List (ℕ × Item) → List (Chunk × ℕ)
+dir_chunks d xs = (Table d, table_size (length xs)) ∷ filter_map (placed_chunk d) xs
+
+abbrev pub chunks_of_dir : Dir → Option (List (ℕ × Item)) → List (Chunk × ℕ)
+chunks_of_dir d None = []
+chunks_of_dir d (Some xs) = dir_chunks d xs
+
+abbrev pub jpeg_chunks : Option (List ℕ) → List (Chunk × ℕ)
+jpeg_chunks None = []
+jpeg_chunks (Some x) = (Jpeg, length x) ∷ []
+
+-- the strips, numbered from n on
+abbrev pub strip_chunks : ℕ → List (List ℕ) → List (Chunk × ℕ)
+strip_chunks n [] = []
+strip_chunks n (x ∷ xs) = (Strip n, length x) ∷ strip_chunks (n + 1) xs
+
+abbrev pub all_strip_chunks : Option (List (List ℕ)) → List (Chunk × ℕ)
+all_strip_chunks None = []
+all_strip_chunks (Some xs) = strip_chunks 0 xs
+
+unfoldable pub thumb_chunks : Option Thumbnail → List (Chunk × ℕ)
+thumb_chunks None = []
+thumb_chunks (Some t) = jpeg_chunks t.jpeg ++ all_strip_chunks t.strips
+
+-- the chunks in the order of the normal form
+unfoldable pub chunks : Meaning → List (Chunk × ℕ)
+chunks m = flat_map (λ d. chunks_of_dir d (items m d)) dirs ++ thumb_chunks m.thumb

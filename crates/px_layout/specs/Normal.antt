@@ -1,0 +1,31 @@
+-- The normal form of a meaning: most significant byte first, the chunks in one order, each directly behind the one before and
+-- padded to an even number of bytes, as TIFF 6.0 section 2, "IFD Entry", asks that offsets be even.
+use Rattle.std.specs.Prelude.{ℕ, ◌+◌, ◌%◌, if◌then◌else◌, Option, Some, None, List, [], ◌∷◌, ◌++◌, length, replicate, flat_map}
+use Rattle.px_bytes.specs.declared.Order.TheVariants.{Most}
+use Rattle.px_tree.specs.Tree.{Meaning}
+use Rattle.px_layout.specs.declared.chunks.Chunk.{Chunk}
+use Rattle.px_layout.specs.Chunks.{same_chunk, chunks}
+use Rattle.px_layout.specs.Plans.{Plan}
+use Rattle.px_layout.specs.Laid.{header, contents}
+
+abbrev pub even : ℕ → ℕ
+even n = n + n % 2
+
+-- a chunk's offset, where the first of the list stands at x
+abbrev pub running : ℕ → List (Chunk × ℕ) → Chunk → Option ℕ
+running x [] c = None
+running x (y ∷ ys) c = if same_chunk y.0 c then Some x else running (x + even y.1) ys c
+
+-- the bytes of the chunks, each padded to an even number
+abbrev pub padded_size : List (Chunk × ℕ) → ℕ
+padded_size [] = 0
+padded_size (c ∷ cs) = even c.1 + padded_size cs
+
+unfoldable pub normal_plan : Meaning → Plan
+normal_plan m = record { length = 8 + padded_size (chunks m); offset = running 8 (chunks m) }
+
+abbrev pub padded : List ℕ → List ℕ
+padded x = x ++ replicate (length x % 2) 0
+
+unfoldable pub normal_exif : Meaning → List ℕ
+normal_exif m = header (normal_plan m) Most 0 ++ flat_map (λ c. padded c.1) (contents (normal_plan m) Most 0 m)
