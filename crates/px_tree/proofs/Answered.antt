@@ -1,5 +1,5 @@
 -- What the answer to a whole block tells.
-use Rattle.std.proofs.Common.{◌≡◌, ◌++◌, ℕ, ◌≤◌, List, Option, Some, None, Result, Ok, Err, refl, length, sym, ap, ◌∙◌, subst}
+use Rattle.std.proofs.Common.{◌≡◌, ℕ, ◌≤◌, List, Option, Some, None, Result, Ok, Err, refl, length, sym, ap, ◌∙◌, subst}
 use Rattle.std.specs.Prelude.{IfOk, IfErr}
 use Rattle.px_bytes.specs.declared.Order.{Order}
 use Rattle.px_bytes.specs.declared.Cause.{Cause}
@@ -7,7 +7,7 @@ use Rattle.px_bytes.specs.declared.Refusal.{Refusal}
 use Rattle.px_bytes.specs.declared.Refusal.TheVariants.{Content, OutOfMemory}
 use Rattle.px_bytes.specs.Parts.{limit}
 use Rattle.px_bytes.specs.Numbers.{AreBytes}
-use Rattle.px_bytes.specs.Checks.{Check, first_false, Refuses, Judges}
+use Rattle.px_bytes.specs.Checks.{first_false, Refuses, Judges}
 use Rattle.px_bytes.specs.CheckLaws.{all_true, Refuses-more, Refuses-behind}
 use Rattle.px_iim.specs.Check.{iim_checks}
 use Rattle.px_iim.specs.FaultLaws.{said_clean}

@@ -1,5 +1,5 @@
 -- Each fault stands at a place of at most the limit.
-use Rattle.std.proofs.Common.{◌≡◌, ℕ, zero, suc, ◌+◌, ◌*◌, ◌<◌, ◌≤◌, ◌==◌, ◌⊎◌, nat_le, Bool, true, false, inl, inr, Option, Some, None, option_map, option_to_list, List, [], ◌∷◌, ◌++◌, map, flat_map, length, refl, sym, ap, ◌∙◌, subst, arith, leb-true}
+use Rattle.std.proofs.Common.{◌≡◌, ℕ, ◌+◌, ◌*◌, ◌<◌, ◌≤◌, ◌==◌, ◌⊎◌, nat_le, Bool, inl, inr, Option, Some, None, option_map, option_to_list, List, [], ◌∷◌, map, flat_map, length, refl, sym, ap, ◌∙◌, subst, arith, leb-true}
 use Rattle.std.specs.Prelude.{find, unwrap_or, option_and_then}
 use Rattle.std.specs.List.{AllByRecursion, cons_option}
 use Rattle.std.proofs.lemmas.Bool.{cases_Bool, cond-true, cond-false, and_parts}
@@ -16,9 +16,9 @@ use Rattle.px_tree.specs.Roles.{exif_tag, gps_tag, interop_tag, jpeg_offset_tag,
 use Rattle.px_tree.specs.Entry.{Entry, short, table_size, has_table, table, entries, next, offset}
 use Rattle.px_tree.specs.Directory.{dirs, dir_at, main_at, exif_at, entries_at, entry_with, is_pointer, pointer, unless_zero}
 use Rattle.px_tree.specs.Thumbnail.{both, numbers, ranges_of, jpeg_range, strip_ranges}
-use Rattle.px_tree.specs.Footprint.{listed, placed_range, table_range}
+use Rattle.px_tree.specs.Footprint.{listed, placed_range}
 use Rattle.px_tree.specs.Checks.{named_at, place_of, place_with, pointer_place}
-use Rattle.px_tree.specs.Faults.{At, Begins, Reached, EntryAt, PartAt, value_owners, dir_owners, owners_at, thumb_owners, owners, Fault}
+use Rattle.px_tree.specs.Faults.{Begins, EntryAt, value_owners, dir_owners, owners_at, thumb_owners, owners, Fault}
 use Rattle.px_tree.specs.Reading.{HasTable}
 use Rattle.px_tree.proofs.Each.{each_append}
 use Rattle.px_tree.proofs.At.{at_each}

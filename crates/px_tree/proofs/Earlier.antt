@@ -1,5 +1,5 @@
 -- Links that lead to an offset.
-use Rattle.std.proofs.Common.{◌≡◌, ℕ, zero, suc, ◌+◌, ◌<◌, ◌==◌, ◌||◌, Bool, true, false, List, [], ◌∷◌, ◌++◌, Option, drop, length, get_or, refl, sym, ap, ◌∙◌, arith, add-one}
+use Rattle.std.proofs.Common.{◌≡◌, ℕ, zero, suc, ◌+◌, ◌<◌, ◌==◌, ◌||◌, Bool, true, false, List, [], ◌∷◌, ◌++◌, Option, drop, length, get_or, refl, sym, ap, ◌∙◌, arith}
 use Rattle.px_tree.specs.declared.links.Link.{Link}
 use Rattle.px_tree.specs.Checks.{is_earlier_at}
 use Rattle.px_tree.specs.Linked.{offset_of, offsets_of}

@@ -1,5 +1,5 @@
 -- Directories where they are named.
-use Rattle.std.proofs.Common.{◌≡◌, ℕ, ◌+◌, ◌*◌, List, [], ◌∷◌, ◌++◌, Option, Some, None, option_map, option_to_list, flat_map, length, refl, sym, ap, ap₂, ◌∙◌, subst}
+use Rattle.std.proofs.Common.{◌≡◌, ℕ, List, [], ◌∷◌, ◌++◌, Option, Some, None, option_map, option_to_list, refl, sym, ap, ◌∙◌, subst}
 use Rattle.std.specs.Prelude.{IfSome, option_and_then, unwrap_or}
 use Rattle.px_bytes.specs.declared.Order.{Order}
 use Rattle.px_bytes.specs.declared.Refusal.{Refusal}
@@ -14,7 +14,7 @@ use Rattle.px_tree.specs.Entry.{fields, next, table}
 use Rattle.px_tree.specs.Directory.{dirs, dir_at, main_at, fields_at, pointer, entries_at, unless_zero}
 use Rattle.px_tree.specs.Footprint.{dir_ranges, listed, ranges_at}
 use Rattle.px_tree.specs.Checks.{named_at, pointer_place, dir_checks, checks_at, dirs_checks, dirs_held}
-use Rattle.px_tree.specs.Linked.{Names, offset_of, offsets_of, next_place}
+use Rattle.px_tree.specs.Linked.{Names, offsets_of, next_place}
 
 module _ (b : List ℕ) (o : Order) (d : Dir) where
   -- no such directory

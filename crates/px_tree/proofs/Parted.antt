@@ -1,15 +1,12 @@
 -- The entries that name the thumbnail's bytes, and what is asked of them.
-use Rattle.std.proofs.Common.{◌≡◌, ◌≤◌, ◌<◌, ℕ, ◌+◌, ◌*◌, ◌==◌, nat_lt, nat_le, Bool, true, false, if◌then◌else◌, Option, Some, None, is_some, option_map, option_to_list, List, [], ◌∷◌, ◌++◌, map, length, refl, sym, ap, ap₂, ◌∙◌, subst, inl, inr, arith, eqb-true, leb-true, lt-ltb}
-use Rattle.std.specs.Prelude.{IfSome}
-use Rattle.std.specs.List.{AllByRecursion}
-use Rattle.std.proofs.lemmas.Bool.{cond-true, or_cases}
+use Rattle.std.proofs.Common.{◌≡◌, ℕ, ◌+◌, ◌==◌, Bool, true, false, if◌then◌else◌, Option, Some, None, is_some, option_map, option_to_list, List, [], ◌∷◌, ◌++◌, refl, sym, ap, ap₂, ◌∙◌, subst, eqb-true}
 use Rattle.px_bytes.specs.declared.Order.{Order}
 use Rattle.px_bytes.specs.declared.Refusal.{Refusal}
 use Rattle.px_bytes.specs.declared.Cause.{Cause}
 use Rattle.px_bytes.specs.declared.Cause.TheVariants.{ThumbnailPair}
 use Rattle.px_bytes.specs.Range.{Range, range}
 use Rattle.px_bytes.specs.Checks.{Check, check, first_false, Refuses}
-use Rattle.px_bytes.specs.CheckLaws.{Refuses-more, Refuses-behind, Refuses-same, all_true, first_false-true}
+use Rattle.px_bytes.specs.CheckLaws.{Refuses-more, Refuses-behind, Refuses-same, all_true}
 use Rattle.px_tree.specs.declared.links.Found.{Found}
 use Rattle.px_tree.specs.declared.thumbnail.Parts.{Parts}
 use Rattle.px_tree.specs.Roles.{jpeg_offset_tag, jpeg_length_tag, strip_offsets_tag, strip_lengths_tag}
@@ -17,8 +14,7 @@ use Rattle.px_tree.specs.Entry.{Entry, offset}
 use Rattle.px_tree.specs.Directory.{entries_at, entry_with}
 use Rattle.px_tree.specs.Thumbnail.{both, are_paired, numbers, ranges_of, jpeg_range, strip_ranges}
 use Rattle.px_tree.specs.Footprint.{listed}
-use Rattle.px_tree.specs.Checks.{place_with, pair_place, same_count, pair_checks, end_checks, range_checks, part_checks, thumb_checks}
-use Rattle.px_tree.specs.Linked.{IsFound}
+use Rattle.px_tree.specs.Checks.{place_with, same_count, pair_checks, end_checks, range_checks, thumb_checks}
 use Rattle.px_tree.specs.Parts.{Finds, AreParts, AreEven, entry_here, place_in, pair_check, count_check, pairs_checks, jpeg_of, strips_of}
 
 -- the first of two faults

@@ -7,7 +7,7 @@ use Rattle.px_bytes.specs.PartLaws.{drop-part}
 use Rattle.px_tree.specs.declared.entries.Head.{Head}
 use Rattle.px_tree.specs.Entry.{Entry, entry, long, next, table, table_size, offset}
 use Rattle.px_tree.specs.Directory.{entries_at, is_pointer, pointer}
-use Rattle.px_tree.specs.Checks.{place_of, pointer_place}
+use Rattle.px_tree.specs.Checks.{place_of}
 use Rattle.px_tree.specs.Reading.{HasTable, Shows, bare, entries_from}
 use Rattle.px_tree.proofs.Standing.{entries_at-is, table-is, count-is}
 

@@ -1,5 +1,5 @@
 -- Ranges judged one by one.
-use Rattle.std.proofs.Common.{◌≡◌, ℕ, zero, suc, ◌+◌, ◌<◌, ◌≤◌, List, [], ◌∷◌, ◌++◌, None, Some, map, drop, length, refl, sym, ap, ◌∙◌, arith, nat_le, append_assoc, slice_get}
+use Rattle.std.proofs.Common.{◌≡◌, ℕ, zero, suc, ◌+◌, ◌≤◌, List, [], ◌∷◌, ◌++◌, None, Some, map, drop, length, refl, sym, ap, ◌∙◌, arith, nat_le, append_assoc, slice_get}
 use Rattle.px_bytes.specs.declared.Refusal.{Refusal}
 use Rattle.px_bytes.specs.declared.Cause.TheVariants.{Overlap, ThumbnailOutside}
 use Rattle.px_bytes.specs.Range.{Range, range, is_free, Agrees}

@@ -1,12 +1,11 @@
 -- How what the reader keeps shows what the definitions say: what was found, and the directories.
-use Rattle.std.specs.Prelude.{◌≡◌, ◌≤◌, ℕ, ◌+◌, ◌*◌, Option, Some, None, option_map, option_to_list, List, ◌++◌, length, flat_map, IfSome}
+use Rattle.std.specs.Prelude.{◌≡◌, ◌≤◌, ℕ, ◌+◌, ◌*◌, Option, Some, option_map, option_to_list, List, length, flat_map, IfSome}
 use Rattle.px_bytes.specs.declared.Order.{Order}
 use Rattle.px_bytes.specs.Parts.{part}
 use Rattle.px_tree.specs.declared.roles.Dir.{Dir}
 use Rattle.px_tree.specs.declared.links.Link.{Link}
 use Rattle.px_tree.specs.declared.links.Found.{Found}
 use Rattle.px_tree.specs.declared.tables.Directory.{Directory}
-use Rattle.px_tree.specs.Tree.{Fields}
 use Rattle.px_tree.specs.Entry.{entry}
 use Rattle.px_tree.specs.Directory.{entries_at, entry_with, dir_at}
 use Rattle.px_tree.specs.Checks.{named_at, place_with}

@@ -1,5 +1,5 @@
 -- The entries that name the thumbnail's bytes, as the reader keeps them.
-use Rattle.std.specs.Prelude.{◌≡◌, ◌≤◌, ℕ, ◌+◌, ◌==◌, Bool, true, false, Option, Some, None, option_map, unwrap_or, List, [], ◌∷◌, ◌++◌, length, IfSome, MatchOption, ⊤}
+use Rattle.std.specs.Prelude.{◌≡◌, ◌≤◌, ℕ, ◌+◌, ◌==◌, true, false, Option, Some, None, option_map, unwrap_or, List, [], ◌∷◌, ◌++◌, length, IfSome, MatchOption, ⊤}
 use Rattle.std.specs.List.{AllByRecursion}
 use Rattle.px_bytes.specs.declared.Order.{Order}
 use Rattle.px_bytes.specs.declared.Cause.TheVariants.{ThumbnailPair}

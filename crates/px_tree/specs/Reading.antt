@@ -12,7 +12,7 @@ use Rattle.px_tree.specs.declared.entries.Head.{Head}
 use Rattle.px_tree.specs.declared.entries.Shape.{Shape}
 use Rattle.px_tree.specs.declared.roles.Dir.{Dir}
 use Rattle.px_tree.specs.Roles.{role}
-use Rattle.px_tree.specs.Entry.{Entry, entry, short, table_size, offset}
+use Rattle.px_tree.specs.Entry.{Entry, entry, short, offset}
 use Rattle.px_tree.specs.Checks.{is_free_value}
 use Rattle.px_tree.specs.Tree.{Fields}
 use Rattle.px_tree.specs.Places.{tags}

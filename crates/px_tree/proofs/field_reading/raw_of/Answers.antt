@@ -1,4 +1,4 @@
-use Rattle.std.proofs.Common.{◌≡◌, ◌≤◌, ap, ℕ, ◌∙◌, sym, subst, arith, ◌*◌, ◌+◌, length}
+use Rattle.std.proofs.Common.{◌≡◌, ap, ℕ, ◌∙◌, sym, arith, ◌*◌, ◌+◌}
 use Rattle.px_bytes.specs.Parts.{part}
 use Rattle.px_field.specs.Forms.{size}
 use Rattle.px_tree.proofs.Raw.{raw-placed, raw-inline, part-bounded}

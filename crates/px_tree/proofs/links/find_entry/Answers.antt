@@ -1,4 +1,4 @@
-use Rattle.std.proofs.Common.{◌≡◌, ℕ, suc, ◌+◌, ◌-◌, ◌==◌, Bool, true, false, sym, ap, ◌∙◌, arith, eq-eqb, ne_eqb}
+use Rattle.std.proofs.Common.{◌≡◌, suc, ◌+◌, ◌-◌, ◌==◌, sym, ◌∙◌, arith, eq-eqb, ne_eqb}
 use Rattle.px_bytes.specs.Parts.{part}
 use Rattle.px_tree.specs.Entry.{entry}
 use Rattle.px_tree.proofs.Pointers.{find_pass, place_pass, find_here, place_here, find_none, find-is, place_of-is}

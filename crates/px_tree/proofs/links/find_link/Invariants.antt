@@ -1,4 +1,4 @@
-use Rattle.std.proofs.Common.{◌≡◌, ◌+◌, ◌-◌, ◌*◌, ◌==◌}
+use Rattle.std.proofs.Common.{◌≡◌, ◌+◌, ◌-◌, ◌*◌}
 use Rattle.std.specs.Prelude.{find}
 use Rattle.px_tree.specs.Directory.{is_pointer}
 use Rattle.px_tree.specs.Checks.{place_of}

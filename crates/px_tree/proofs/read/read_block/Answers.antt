@@ -1,8 +1,7 @@
-use Rattle.std.proofs.Common.{◌≡◌, ◌≤◌, List, ℕ, length, ap, sym, subst, ◌∙◌}
+use Rattle.std.proofs.Common.{◌≤◌, List, ℕ, length, sym, subst}
 use Rattle.std.specs.Prelude.{IfOk, IfErr}
 use Rattle.std.proofs.lemmas.Result.{err_from_is_err_and}
 use Rattle.px_bytes.specs.Parts.{limit}
-use Rattle.px_tree.specs.Fits.{Fits}
 use Rattle.px_tree.specs.Says.{SaysExif}
 use Rattle.px_tree.specs.Seen.{meaning_of}
 use Rattle.px_tree.specs.Refused.{IsRefused}

@@ -1,4 +1,4 @@
-use Rattle.std.proofs.Common.{List, [], ◌∷◌, option_map, refl, sym, ap, ◌∙◌, ℕ}
+use Rattle.std.proofs.Common.{[], ◌∷◌, option_map, refl, ap, ◌∙◌, ℕ}
 use Rattle.std.proofs.lemmas.Result.{err_from_is_err_and}
 use Rattle.px_bytes.specs.declared.Cause.TheVariants.{Overlap}
 use Rattle.px_bytes.specs.Range.{range, is_free}

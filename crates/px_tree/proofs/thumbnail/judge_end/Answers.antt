@@ -1,5 +1,4 @@
-use Rattle.std.proofs.Common.{◌≡◌, ℕ, ◌+◌, ◌*◌, ◌==◌, Bool, Option, Some, None, if◌then◌else◌, [], ◌∷◌, sym, ap, ◌∙◌, eq-eqb, ne_eqb}
-use Rattle.px_bytes.specs.declared.Cause.{Cause}
+use Rattle.std.proofs.Common.{◌≡◌, ℕ, ◌+◌, ◌*◌, ◌==◌, Bool, Some, None, if◌then◌else◌, [], ◌∷◌, sym, ap, ◌∙◌, eq-eqb, ne_eqb}
 use Rattle.px_bytes.specs.declared.Cause.TheVariants.{ExtraDirectory}
 use Rattle.px_bytes.specs.Checks.{check, first_false}
 use Rattle.px_bytes.specs.Parts.{part}

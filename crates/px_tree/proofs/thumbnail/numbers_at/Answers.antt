@@ -1,4 +1,4 @@
-use Rattle.std.proofs.Common.{◌≡◌, ℕ, map, length, sym, ap, ◌∙◌}
+use Rattle.std.proofs.Common.{map, length, sym, ap, ◌∙◌}
 use Rattle.px_field.specs.Values.{Value}
 use Rattle.px_tree.specs.Thumbnail.{whole_number}
 use Rattle.px_tree.proofs.Listed.{codes_from, numbers-is, length-list}

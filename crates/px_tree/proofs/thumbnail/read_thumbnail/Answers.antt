@@ -1,4 +1,4 @@
-use Rattle.std.proofs.Common.{◌≡◌, ◌++◌, ℕ, List, Option, option_map, option_to_list, map, sym, ap, subst, ◌∙◌}
+use Rattle.std.proofs.Common.{◌++◌, List, Option, option_map, option_to_list, map, ap, ◌∙◌}
 use Rattle.std.proofs.lemmas.Result.{err_from_is_err_and}
 use Rattle.px_bytes.specs.Range.{Range}
 use Rattle.px_tree.specs.Roles.{strip_offsets_tag, strip_lengths_tag}

@@ -1,11 +1,10 @@
-use Rattle.std.proofs.Common.{◌≡◌, ◌++◌, List, [], Option, Some, None, sym, ap, subst, ◌∙◌}
+use Rattle.std.proofs.Common.{◌++◌, List, Some, sym, ap, subst, ◌∙◌}
 use Rattle.std.proofs.lemmas.Result.{err_from_is_err_and}
 use Rattle.px_bytes.specs.Range.{Range, Agrees}
 use Rattle.px_bytes.specs.Checks.{first_false, Refuses}
-use Rattle.px_tree.specs.declared.links.Link.{Link}
 use Rattle.px_tree.specs.Tree.{Fields}
 use Rattle.px_tree.specs.Linked.{Names, offsets_of}
-use Rattle.px_tree.proofs.Named.{none_checks, none_ranges, none_fields, some_checks, some_ranges, some_fields}
+use Rattle.px_tree.proofs.Named.{some_checks, some_ranges, some_fields}
 use Rattle.px_tree.proofs.tree.read_linked.Goals as goal
 
 pub returns-in_err-directory-in-Some-clause-judged : goal.returns-in_err-directory-in-Some-clause-judged
