@@ -6,6 +6,8 @@ pub mod Checks
 pub mod CheckLaws
 pub mod Devices
 pub mod WriteLaws
+pub mod Waiting
+pub mod WaitingLaws
 pub mod Reading
 pub mod Held
 pub mod Range

@@ -22,6 +22,7 @@ mod causes;
 mod devices;
 mod held;
 mod numbers;
+mod pending;
 #[cfg(test)]
 mod tests;
 mod whole;
@@ -31,4 +32,5 @@ pub use causes::{Cause, Refusal, WriteRefusal};
 pub use devices::{Device, Failed, Sink, Source, Watched};
 pub use held::Ranges;
 pub use numbers::{LeastFirst, MostFirst, Order, Spelling};
+pub use pending::Pending;
 pub use whole::{ReadFault, read_up_to, write_whole};

@@ -1,4 +1,4 @@
--- Parts put one behind another.
+-- Lengths and growths of parts put one behind another.
 use Rattle.std.proofs.Common.{◌≡◌, ℕ, zero, suc, ◌+◌, ◌<◌, ◌≤◌, ◌++◌, List, [], ◌∷◌, length, take, drop, get_or, slice_get, Option, Some, None, Result, Ok, Err, refl, sym, ap, ◌∙◌, subst, inl, inr, map, option_map, unwrap_or, is_ok, if◌then◌else◌, nat_le, le-leb, arith, append_assoc, append-nil, length-append}
 use Rattle.std.specs.List.{flat_map, AllByRecursion}
 use Rattle.std.specs.Io.KnownBytes.{Appends}
@@ -7,8 +7,8 @@ use Rattle.std.proofs.lemmas.List.Concat.{flat_map-append}
 use Rattle.std.proofs.lemmas.Option.{slice_get_within, get_or_from_slice_get, slice_get-map, slice_get-get_or}
 use Rattle.px_bytes.specs.Parts.{limit}
 use Rattle.px_bytes.specs.Devices.{AppendsPrefix, Writes}
-use Rattle.px_bytes.specs.WriteLaws.{appends_both, prefix_first, prefix_second}
-use Rattle.px_iim.specs.Writing.{Owes, Puts, AreShort, Grows, normal_head, most, within as within_most}
+use Rattle.px_bytes.specs.WaitingLaws.{parts_more}
+use Rattle.px_iim.specs.Writing.{AreShort, Grows, normal_head, most, within as within_most}
 use Rattle.px_iim.specs.Group.{Group, IsGroup, IsItem}
 use Rattle.px_iim.specs.Record.{normal_dataset}
 use Rattle.px_iim.specs.View.{item_view}
@@ -16,67 +16,12 @@ use Rattle.px_iim.specs.declared.group.Item.{Item}
 use Rattle.px_iim.specs.BoundLaws.{length-normal_dataset}
 use Rattle.std.proofs.lemmas.Bool.{cond-true, cond-false, cases_lt, lt-leb}
 
-pub owes_more : (a b c : Option (List ℕ)) (h k out octets : List ℕ) → Owes a b h out → Owes b c k (h ++ octets) → Owes a c k (out ++ octets)
-owes_more a b c h k out octets p q = (
-  p.0 ++ q.0,
-  appends_both a b c p.0 q.0 p.1 q.1,
-  append_assoc p.0 q.0 k ∙ ap (λ (l : List ℕ). p.0 ++ l) q.2 ∙ sym (append_assoc p.0 h octets) ∙ ap (λ (l : List ℕ). l ++ octets) p.2,
-)
-
-pub owes_stop : (a b c : Option (List ℕ)) (h out octets : List ℕ) → Owes a b h out → AppendsPrefix b c (h ++ octets) → AppendsPrefix a c (out ++ octets)
-owes_stop a b c h out octets p q =
-    subst (AppendsPrefix a c) (sym (append_assoc p.0 h octets) ∙ ap (λ (l : List ℕ). l ++ octets) p.2) (prefix_second a b c p.0 (h ++ octets) p.1 q)
-
--- two parts
-pub puts_both : {A E : Type 0} (r : Result A E) (a b c : Option (List ℕ)) (h k m xs ys : List ℕ) → Owes a b k (h ++ xs) → Puts r b c k m ys → Puts r a c h m (xs ++ ys)
-puts_both (Ok x) a b c h k m xs ys p q = subst (Owes a c m) (append_assoc h xs ys) (owes_more a b c k m (h ++ xs) ys p q)
-puts_both (Err e) a b c h k m xs ys p q = subst (AppendsPrefix a c) (append_assoc h xs ys) (owes_stop a b c k (h ++ xs) ys p q)
-
--- the first of two parts failed
-pub puts_first : (a b : Option (List ℕ)) (h xs ys : List ℕ) → AppendsPrefix a b (h ++ xs) → AppendsPrefix a b (h ++ (xs ++ ys))
-puts_first a b h xs ys p = subst (AppendsPrefix a b) (append_assoc h xs ys) (prefix_first a b (h ++ xs) ys p)
-
--- octets that were written at once, behind what waited
-pub puts_written : {A E : Type 0} (r : Result A E) (a b c : Option (List ℕ)) (h k octets : List ℕ) → k ≡ [] → Appends a b h → Writes r b c octets → Puts r a c h k octets
-puts_written (Ok x) a b c h k octets e p q = (h ++ octets, appends_both a b c h octets p q, ap (λ (l : List ℕ). h ++ octets ++ l) e ∙ append-nil (h ++ octets))
-puts_written (Err x) a b c h k octets e p q = prefix_second a b c h octets p q
-
 -- ---- the parts of a list's elements
 
 module _ {X : Type 0} (f : X → List ℕ) (xs : List X) (i : ℕ) (x : X) (read : slice_get xs i ≡ Some x) where
-  within : i < length xs
-  within = slice_get_within xs i x read
-
-  element : get_or xs i x ≡ x
-  element = get_or_from_slice_get xs i x x read
-
-  pub parts_more : flat_map f (take (i + 1) xs) ≡ flat_map f (take i xs) ++ f x
-  parts_more =
-      ap (flat_map f) (take_more xs i x within ∙ ap (λ (y : X). take i xs ++ y ∷ []) element)
-      ∙ sym (flat_map_more f [] (take i xs) x)
-
-  parts_all : flat_map f xs ≡ flat_map f (take i xs) ++ (f x ++ flat_map f (drop (i + 1) xs))
-  parts_all =
-      ap (flat_map f) (sym (take-append-drop i xs)) ∙ flat_map-append f (take i xs) (drop i xs)
-      ∙ ap (λ (ys : List X). flat_map f (take i xs) ++ flat_map f ys) (drop_more xs i x within)
-      ∙ ap (λ (y : X). flat_map f (take i xs) ++ (f y ++ flat_map f (drop (i + 1) xs))) element
-
-  pub loop_more : (a b c : Option (List ℕ)) (h k m : List ℕ) → Owes a b k (h ++ flat_map f (take i xs)) → Owes b c m (k ++ f x) → Owes a c m (h ++ flat_map f (take (i + 1) xs))
-  loop_more a b c h k m p q =
-      subst (Owes a c m) (append_assoc h (flat_map f (take i xs)) (f x) ∙ ap (λ (l : List ℕ). h ++ l) (sym parts_more))
-      (owes_more a b c k m (h ++ flat_map f (take i xs)) (f x) p q)
-
-  pub loop_stop : (a b c : Option (List ℕ)) (h k : List ℕ) → Owes a b k (h ++ flat_map f (take i xs)) → AppendsPrefix b c (k ++ f x) → AppendsPrefix a c (h ++ flat_map f xs)
-  loop_stop a b c h k p q =
-      let stop = owes_stop a b c k (h ++ flat_map f (take i xs)) (f x) p q in
-      let rest = flat_map f (drop (i + 1) xs) in
-      let out : h ++ flat_map f (take i xs) ++ f x ++ rest ≡ h ++ flat_map f xs =
-      append_assoc (h ++ flat_map f (take i xs)) (f x) rest ∙ append_assoc h (flat_map f (take i xs)) (f x ++ rest) ∙ ap (λ (l : List ℕ). h ++ l) (sym parts_all) in
-      subst (AppendsPrefix a c) out (prefix_first a c (h ++ flat_map f (take i xs) ++ f x) rest stop)
-
   pub grows_more : (old now new : List ℕ) → now ≡ old ++ flat_map f (take i xs) → new ≡ now ++ f x → new ≡ old ++ flat_map f (take (i + 1) xs)
   grows_more old now new e h =
-      h ∙ ap (λ (l : List ℕ). l ++ f x) e ∙ append_assoc old (flat_map f (take i xs)) (f x) ∙ ap (λ (l : List ℕ). old ++ l) (sym parts_more)
+      h ∙ ap (λ (l : List ℕ). l ++ f x) e ∙ append_assoc old (flat_map f (take i xs)) (f x) ∙ ap (λ (l : List ℕ). old ++ l) (sym (parts_more f xs i x read))
 
   pub all_at : (P : X → Type 0) → AllByRecursion P xs → P x
   all_at P a = go xs i read a where

@@ -26,15 +26,6 @@ AreShort items = AllByRecursion (λ x. length x.1 ≤ limit) items
 unfoldable pub normal_head : ℕ → ℕ → ℕ → List ℕ
 normal_head rec number n = marker ∷ rec ∷ number ∷ normal_count n
 
--- of `out` the writer has taken all but the octets `held`
-abbrev pub Owes : Option (List ℕ) → Option (List ℕ) → List ℕ → List ℕ → Type 0
-Owes old new held out = (w : List ℕ) × Appends old new w × (w ++ held ≡ out)
-
--- the octets follow those held, and are held or taken; where a call failed, the writer has taken a prefix of all these
-abbrev pub Puts : {A E : Type 0} → Result A E → Option (List ℕ) → Option (List ℕ) → List ℕ → List ℕ → List ℕ → Type 0
-Puts (Ok x) old new held held_now octets = Owes old new held_now (held ++ octets)
-Puts (Err e) old new held held_now octets = AppendsPrefix old new (held ++ octets)
-
 -- the writer has taken the record's normal form, whose length is answered; a form that is too long leaves the writer as it
 -- was; where a call failed, the writer has taken a prefix of the form
 abbrev pub WritesIim : Result ℕ WriteRefusal → Option (List ℕ) → Option (List ℕ) → ℕ → ℕ → Record → Type 0

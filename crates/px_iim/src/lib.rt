@@ -23,7 +23,6 @@ mod group;
 mod head;
 mod iim;
 pub mod laws;
-mod pending;
 mod read;
 mod same;
 #[cfg(test)]

@@ -2,16 +2,16 @@
 ghost use Rattle.std.specs.Prelude.{◌≡◌, ◌≤◌, ◌<◌, ◌+◌, ◌^◌, ◌++◌, [], ℕ, length, map, OnOk, OnErr};
 ghost use Rattle.std.specs.List.{flat_map};
 ghost use Rattle.px_bytes.specs.Devices.{Counts};
+ghost use Rattle.px_bytes.specs.Waiting.{Puts};
 ghost use Rattle.px_iim.specs.Record.{normal_count, normal_dataset, normal_group, normal_iim};
 ghost use Rattle.px_iim.specs.View.{item_view};
-ghost use Rattle.px_iim.specs.Writing.{AreShort, Grows, Puts, WritesIim, within};
+ghost use Rattle.px_iim.specs.Writing.{AreShort, Grows, WritesIim, within};
 
 use crate::dataset::TOP_BIT;
 use crate::group::Item;
 use crate::head::head;
 use crate::iim::Iim;
-use crate::pending::Pending;
-use px_bytes::{Failed, LIMIT, Sink, WriteRefusal};
+use px_bytes::{Failed, LIMIT, Pending, Sink, WriteRefusal};
 use std::alloc::AllocError;
 
 // A normal form is counted up to this length.

@@ -3,7 +3,8 @@ use Rattle.std.proofs.lemmas.Result.{err_from_is_err_and}
 use Rattle.px_bytes.specs.Parts.{limit}
 use Rattle.px_iim.specs.Record.{normal_dataset}
 use Rattle.px_iim.specs.View.{item_view}
-use Rattle.px_iim.proofs.Writes.{item_read, all_at, loop_more, loop_stop}
+use Rattle.px_iim.proofs.Writes.{item_read, all_at}
+use Rattle.px_bytes.specs.WaitingLaws.{loop_more, loop_stop}
 use Rattle.px_iim.proofs.write.put_group.Goals as goal
 
 pub put_item-requires-clause-short : goal.put_item-requires-clause-short

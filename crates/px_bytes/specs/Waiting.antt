@@ -1,0 +1,13 @@
+-- Bytes that wait for a writer.
+use Rattle.std.specs.Prelude.{◌≡◌, ℕ, List, ◌++◌, Option, Result, Ok, Err}
+use Rattle.std.specs.Io.KnownBytes.{Appends}
+use Rattle.px_bytes.specs.Devices.{AppendsPrefix}
+
+-- of `out` the writer has taken all but the bytes `held`
+abbrev pub Owes : Option (List ℕ) → Option (List ℕ) → List ℕ → List ℕ → Type 0
+Owes old new held out = (w : List ℕ) × Appends old new w × (w ++ held ≡ out)
+
+-- the bytes follow those held, and are held or taken; where a call failed, the writer has taken a prefix of all these
+abbrev pub Puts : {A E : Type 0} → Result A E → Option (List ℕ) → Option (List ℕ) → List ℕ → List ℕ → List ℕ → Type 0
+Puts (Ok x) old new held held_now bytes = Owes old new held_now (held ++ bytes)
+Puts (Err e) old new held held_now bytes = AppendsPrefix old new (held ++ bytes)

@@ -1,0 +1,91 @@
+// Bytes on their way to a writer, which gets them in large writes.
+ghost use Rattle.std.specs.Prelude.{◌≡◌, ◌≤◌, ◌<◌, ◌+◌, ◌^◌, ◌++◌, [], ℕ, length, take, OnOk, OnErr};
+ghost use Rattle.px_bytes.specs.Devices.{Counts, Writes, AppendsPrefix};
+ghost use Rattle.px_bytes.specs.Waiting.{Puts};
+
+use crate::devices::{Failed, Sink};
+use crate::whole::write_whole;
+use std::marker::Model;
+
+// How many bytes wait at most.
+const ROOM: usize = 8192;
+
+/// Bytes that wait for a writer: up to 8,192 in a buffer of its own, so that a writer gets many small parts in few large
+/// writes. Contracts see it as the list of the bytes that wait. It takes no memory but its own place.
+///
+/// What waits is lost with it: `send` hands it on.
+#[derive(Drop)]
+pub struct Pending {
+    bytes: [u8; ROOM],
+    held: usize,
+}
+
+impl Model for Pending {
+    ghost use Rattle.std.specs.Prelude.{◌≤◌, List, ℕ, take};
+
+    ghost Value = { List ℕ };
+
+    ghost view = { λ p. take p.held p.bytes };
+
+    ghost invariant = { λ p. p.held ≤ 8192 };
+}
+
+impl Pending {
+    /// Nothing waits.
+    pub fn new() -> Pending
+        ensures { result ≡ [] }
+    {
+        Pending {
+            bytes: [0; ROOM],
+            held: 0,
+        }
+    }
+
+    // How many more can wait.
+    fn room(&self) -> usize
+        ensures { result + length self.now ≡ 8192 }
+    {
+        ROOM - self.held
+    }
+
+    // Holds the bytes behind those that wait.
+    fn keep(&mut self, bytes: &[u8])
+        requires { length self.old + length bytes.now ≤ 8192 }
+        ensures { self.new ≡ self.old ++ bytes.now }
+    {
+        let end = self.held + bytes.len();
+        self.bytes[self.held..end].copy_from_slice(bytes);
+        self.held = end;
+    }
+
+    /// Writes those that wait. It ends at the first call that fails: the writer has then taken a prefix of them, and nothing
+    /// is promised of what waits.
+    pub fn send<W: Sink>(&mut self, writer: &mut W) -> Result<(), Failed>
+        requires { W.failed writer.old + 1 < 2 ^ 64 }
+        ensures bytes { Writes result (W.bytes_taken writer.old) (W.bytes_taken writer.new) self.old }
+        ensures count { Counts result (W.failed writer.old) (W.failed writer.new) }
+        ensures none { OnOk result (self.new ≡ []) }
+    {
+        write_whole(writer, &self.bytes[..self.held])?;
+        self.held = 0;
+        Ok(())
+    }
+
+    /// Puts the bytes behind those that wait. Where there is no room for them, those that wait are written first, and more
+    /// than can wait are written at once. It ends at the first call that fails: the writer has then taken a prefix of those
+    /// that waited and of these behind them.
+    pub fn put<W: Sink>(&mut self, writer: &mut W, bytes: &[u8]) -> Result<(), Failed>
+        requires { W.failed writer.old + 1 < 2 ^ 64 }
+        ensures bytes { Puts result (W.bytes_taken writer.old) (W.bytes_taken writer.new) self.old self.new bytes.now }
+        ensures count { Counts result (W.failed writer.old) (W.failed writer.new) }
+    {
+        if bytes.len() > self.room() {
+            self.send(writer)?;
+            if bytes.len() > self.room() {
+                return write_whole(writer, bytes);
+            }
+        }
+        self.keep(bytes);
+        Ok(())
+    }
+}
