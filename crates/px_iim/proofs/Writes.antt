@@ -1,12 +1,9 @@
 -- Lengths and growths of parts put one behind another.
-use Rattle.std.proofs.Common.{◌≡◌, ℕ, zero, suc, ◌+◌, ◌<◌, ◌≤◌, ◌++◌, List, [], ◌∷◌, length, take, drop, get_or, slice_get, Option, Some, None, Result, Ok, Err, refl, sym, ap, ◌∙◌, subst, inl, inr, map, option_map, unwrap_or, is_ok, if◌then◌else◌, nat_le, le-leb, arith, append_assoc, append-nil, length-append}
+use Rattle.std.proofs.Common.{◌≡◌, ℕ, zero, suc, ◌+◌, ◌<◌, ◌≤◌, ◌++◌, List, [], ◌∷◌, length, take, drop, get_or, slice_get, Option, Some, None, Result, Ok, Err, refl, sym, ap, ◌∙◌, subst, inl, inr, map, option_map, unwrap_or, is_ok, if◌then◌else◌, nat_le, le-leb, arith, append_assoc, length-append}
 use Rattle.std.specs.List.{flat_map, AllByRecursion}
-use Rattle.std.specs.Io.KnownBytes.{Appends}
-use Rattle.std.proofs.lemmas.List.{take_more, flat_map_more, drop_more, take-append-drop, take-take, take_at}
-use Rattle.std.proofs.lemmas.List.Concat.{flat_map-append}
+use Rattle.std.proofs.lemmas.List.{drop_more, take-take, take_at}
 use Rattle.std.proofs.lemmas.Option.{slice_get_within, get_or_from_slice_get, slice_get-map, slice_get-get_or}
 use Rattle.px_bytes.specs.Parts.{limit}
-use Rattle.px_bytes.specs.Devices.{AppendsPrefix, Writes}
 use Rattle.px_bytes.specs.WaitingLaws.{parts_more}
 use Rattle.px_iim.specs.Writing.{AreShort, Grows, normal_head, most, within as within_most}
 use Rattle.px_iim.specs.Group.{Group, IsGroup, IsItem}
