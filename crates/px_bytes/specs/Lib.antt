@@ -1,4 +1,5 @@
 pub mod Numbers
+pub mod Marks
 pub mod NumberLaws
 pub mod Parts
 pub mod PartLaws
@@ -10,6 +11,7 @@ pub mod Waiting
 pub mod WaitingLaws
 pub mod Reading
 pub mod Held
+pub mod Marked
 pub mod Range
 pub mod RangeLaws
 pub mod ApartLaws

@@ -21,6 +21,7 @@ mod blocks;
 mod causes;
 mod devices;
 mod held;
+mod marks;
 mod numbers;
 mod pending;
 #[cfg(test)]
