@@ -33,4 +33,4 @@ pub use group::{All, Item};
 pub use iim::Iim;
 pub use read::{accepts, read_iim};
 pub use same::same_iim;
-pub use write::{append_iim, normal_len, write_iim, write_iim_part};
+pub use write::{append_iim, normal_len, put_iim, write_iim, write_iim_part};

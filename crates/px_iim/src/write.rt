@@ -50,7 +50,10 @@ fn put_group<W: Sink>(
     Ok(())
 }
 
-fn put_record<W: Sink>(pending: &mut Pending, writer: &mut W, iim: &Iim) -> Result<(), Failed>
+/// Puts the normal form behind the octets that wait, group by group. It takes no memory, and ends at the
+/// first call that fails: the writer has then taken a prefix of those that waited and of the form behind
+/// them. A record that isn't empty gives at least five octets.
+pub fn put_iim<W: Sink>(pending: &mut Pending, writer: &mut W, iim: &Iim) -> Result<(), Failed>
     requires { W.failed writer.old + 1 < 2 ^ 64 }
     ensures bytes { Puts result (W.bytes_taken writer.old) (W.bytes_taken writer.new) pending.old pending.new (normal_iim iim.now) }
     ensures count { Counts result (W.failed writer.old) (W.failed writer.new) }
@@ -131,7 +134,7 @@ pub fn write_iim_part<W: Sink>(iim: &Iim, writer: &mut W) -> Result<u64, WriteRe
         return Err(WriteRefusal::NormalTooLong);
     }
     let mut pending = Pending::new();
-    put_record(&mut pending, writer, iim)?;
+    put_iim(&mut pending, writer, iim)?;
     pending.send(writer)?;
     Ok(u64::from(len))
 }

@@ -3,7 +3,7 @@ use Rattle.std.proofs.lemmas.Result.{err_from_is_err_and}
 use Rattle.px_iim.specs.Record.{normal_group}
 use Rattle.px_iim.specs.View.{part_view}
 use Rattle.px_bytes.specs.WaitingLaws.{loop_more, loop_stop}
-use Rattle.px_iim.proofs.write.put_record.Goals as goal
+use Rattle.px_iim.proofs.write.put_iim.Goals as goal
 
 pub returns-in_err-put_group-clause-bytes : goal.returns-in_err-put_group-clause-bytes
 returns-in_err-put_group-clause-bytes g c =

@@ -1,7 +1,7 @@
 use Rattle.std.proofs.Common.{◌≡◌, ◌++◌, take}
 use Rattle.px_iim.specs.Record.{normal_iim}
 use Rattle.px_bytes.specs.Waiting.{Owes}
-use Rattle.px_iim.proofs.write.put_record.Given as goal
+use Rattle.px_iim.proofs.write.put_iim.Given as goal
 
 -- the groups so far were put, and no call failed
 abbrev pub invariant-loop-i : goal.invariant-loop-i
