@@ -14,14 +14,22 @@
 //! ```
 #![tactic(auto)]
 
+#[cfg(test)]
+mod edge_tests;
 mod entries;
 pub mod fault_laws;
+#[cfg(test)]
+mod fault_tests;
 mod field_reading;
 mod fields;
 mod fitting;
 pub mod laws;
 mod links;
 mod meanings;
+#[cfg(test)]
+mod plain;
+#[cfg(test)]
+mod plain_tests;
 mod read;
 #[cfg(test)]
 mod read_tests;

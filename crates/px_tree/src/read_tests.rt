@@ -5,13 +5,13 @@ use std::alloc::Global;
 use std::test::Fail;
 
 // The meaning of the block.
-fn meaning_of(alloc: Global, bytes: &[u8]) -> Result<Meaning<'_>, Fail> {
+pub fn meaning_of(alloc: Global, bytes: &[u8]) -> Result<Meaning<'_>, Fail> {
     let block = Block::new(bytes).ok().ok_or("too long")?;
     Ok(read_block(alloc, block).ok().ok_or("refused")?)
 }
 
 // Whether the block is refused by that cause at that place.
-fn is_refused(alloc: Global, bytes: &[u8], cause: Cause, place: u32) -> bool {
+pub fn is_refused(alloc: Global, bytes: &[u8], cause: Cause, place: u32) -> bool {
     let Ok(block) = Block::new(bytes) else {
         return false;
     };
@@ -22,7 +22,7 @@ fn is_refused(alloc: Global, bytes: &[u8], cause: Cause, place: u32) -> bool {
 }
 
 // Whether two blocks mean the same.
-fn mean_the_same(alloc: Global, one: &[u8], other: &[u8]) -> Result<bool, Fail> {
+pub fn mean_the_same(alloc: Global, one: &[u8], other: &[u8]) -> Result<bool, Fail> {
     Ok(same_meaning(&meaning_of(alloc, one)?, &meaning_of(alloc, other)?))
 }
 
