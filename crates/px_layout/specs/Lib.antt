@@ -2,7 +2,13 @@ pub mod Chunks
 pub mod Plans
 pub mod Laid
 pub mod Normal
+pub mod Writing
 pub mod Laws
+pub mod Kept
+pub mod Counted
+pub mod Planned
+pub mod PlanningNormal
+pub mod Judging
 pub mod EachLaws
 pub mod StandLaws
 pub mod ItemLaws
@@ -22,3 +28,6 @@ pub mod ByteLaws
 pub mod CostLaws
 pub mod PayLaws
 pub mod BoundLaws
+pub mod Items
+pub mod Layers
+pub mod Building

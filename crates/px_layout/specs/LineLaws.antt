@@ -41,13 +41,13 @@ same_chunk-true Jpeg Jpeg h = refl
 same_chunk-true (Strip i) (Strip j) h = ap (λ x. Strip x) (eqb-true i j h)
 same_chunk-true _ _ h = cc
 
-same_chunk-self : (c : Chunk) → same_chunk c c ≡ true
+pub same_chunk-self : (c : Chunk) → same_chunk c c ≡ true
 same_chunk-self (Table d) = eq-eqb (dir_number d) (dir_number d) refl
 same_chunk-self (Placed d t) = and_from _ _ (eq-eqb (dir_number d) (dir_number d) refl) (eq-eqb t t refl)
 same_chunk-self Jpeg = refl
 same_chunk-self (Strip i) = eq-eqb i i refl
 
-other_chunk : (c e : Chunk) → chunk_rank c < chunk_rank e → same_chunk c e ≡ false
+pub other_chunk : (c e : Chunk) → chunk_rank c < chunk_rank e → same_chunk c e ≡ false
 other_chunk c e l = false_from_ne_true (same_chunk c e) (λ h. let q : chunk_rank c ≡ chunk_rank e = ap chunk_rank (same_chunk-true c e h) in absurd (omega arith))
 
 -- ---- running offsets

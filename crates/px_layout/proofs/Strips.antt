@@ -1,0 +1,24 @@
+-- The thumbnail's bytes as they are put.
+use Rattle.std.proofs.Common.{◌≡◌, ℕ, ◌+◌, Option, Some, None, List, [], ◌∷◌, ◌++◌, flat_map, refl, sym, ◌∙◌, ap}
+use Rattle.std.proofs.lemmas.List.Concat.{flat_map-append}
+use Rattle.px_tree.specs.Tree.{Thumbnail}
+use Rattle.px_layout.specs.declared.chunks.Chunk.{Chunk}
+use Rattle.px_layout.specs.Laid.{jpeg_contents, strip_contents, all_strip_contents, thumb_contents}
+use Rattle.px_layout.specs.Normal.{padded}
+
+abbrev pub padded_content : Chunk × List ℕ → List ℕ
+padded_content c = padded c.1
+
+-- the strips alone, whatever their numbers
+pub strips_padded : (n : ℕ) (xs : List (List ℕ)) → flat_map padded xs ≡ flat_map (λ c. padded c.1) (strip_contents n xs)
+strips_padded n [] = refl
+strips_padded n (x ∷ xs) = ap (λ y. padded x ++ y) (strips_padded (n + 1) xs)
+
+-- the JPEG, then the strips
+pub parts_padded : (t : Thumbnail) → flat_map padded_content (jpeg_contents t.jpeg) ++ flat_map padded_content (all_strip_contents t.strips) ≡ flat_map padded_content (thumb_contents (Some t))
+unfolding thumb_contents
+parts_padded t = sym (flat_map-append padded_content (jpeg_contents t.jpeg) (all_strip_contents t.strips))
+
+pub none_padded : [] ≡ flat_map padded_content (thumb_contents None)
+unfolding thumb_contents
+none_padded = refl

@@ -1,0 +1,17 @@
+use Rattle.std.proofs.Common.{refl}
+use Rattle.std.proofs.lemmas.Result.{err_from_is_err_and}
+use Rattle.px_layout.specs.Items.{item_of}
+use Rattle.px_layout.specs.Planned.{plan_of}
+use Rattle.px_layout.proofs.Puts.{both_as, first_as}
+use Rattle.px_layout.proofs.EntryBytes.{item_padded}
+use Rattle.px_layout.proofs.put_normal.put_padded_item.Goals as goal
+
+pub returns-clause-bytes : goal.returns-clause-bytes
+returns-clause-bytes g c =
+    both_as c.put_padding.result _ _ _ c.args.pending.now c.put_item.new.pending c.put_padding.new.pending _ _ _ (item_padded (plan_of c.args.plan.now) c.args.dir (c.args.tag, item_of c.args.item) c.size.result c.requires.suits c.size.ensures)
+    (c.in_ok-put_item.ensures.bytes 0) c.put_padding.ensures.bytes
+
+pub returns-in_err-put_item-clause-bytes : goal.returns-in_err-put_item-clause-bytes
+returns-in_err-put_item-clause-bytes g c =
+    let p = err_from_is_err_and c.from_residual.result c.from_residual.ensures.1 in
+    rw p.1 (first_as _ _ c.args.pending.now _ _ _ refl (c.in_err-put_item.ensures.bytes 0))

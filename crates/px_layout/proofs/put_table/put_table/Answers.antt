@@ -1,0 +1,35 @@
+use Rattle.std.proofs.Common.{◌≡◌, ◌++◌, ◌∙◌, List, ℕ, length, flat_map, ap, subst}
+use Rattle.std.proofs.lemmas.Result.{err_from_is_err_and}
+use Rattle.px_bytes.specs.Numbers.{spelling}
+use Rattle.px_bytes.specs.Waiting.{Owes}
+use Rattle.px_bytes.specs.WaitingLaws.{puts_both}
+use Rattle.px_tree.specs.Seen.{meaning_of}
+use Rattle.px_layout.specs.Laid.{entry_bytes, next_bytes}
+use Rattle.px_layout.specs.Planned.{plan_of}
+use Rattle.px_layout.proofs.Puts.{prefix_as, puts_as, first_as, second_of}
+use Rattle.px_layout.proofs.EntryBytes.{table_as}
+use Rattle.px_layout.proofs.put_table.put_table.Goals as goal
+
+pub returns-in_err-put_short-clause-bytes : goal.returns-in_err-put_short-clause-bytes
+returns-in_err-put_short-clause-bytes g c =
+    let p = err_from_is_err_and c.from_residual.result c.from_residual.ensures.1 in
+    let head : spelling c.args.order 2 c.len.result ≡ spelling c.args.order 2 (length c.args.entries.now) = ap (spelling c.args.order 2) c.len.ensures in
+    rw p.1 (first_as _ _ c.args.pending.now _ _ _ (table_as (plan_of c.args.plan.now) c.args.order c.args.filler (meaning_of c.args.m.now) c.args.dir c.args.entries.now)
+    (prefix_as _ _ c.args.pending.now _ _ head c.in_err-put_short.ensures.bytes))
+
+pub returns-in_err-put_entries-clause-bytes : goal.returns-in_err-put_entries-clause-bytes
+returns-in_err-put_entries-clause-bytes g c =
+    let p = err_from_is_err_and c.from_residual-in_err-put_entries.result c.from_residual-in_err-put_entries.ensures.1 in
+    let head : spelling c.args.order 2 c.len.result ≡ spelling c.args.order 2 (length c.args.entries.now) = ap (spelling c.args.order 2) c.len.ensures in
+    rw p.1 (prefix_as _ _ c.args.pending.now _ _ (table_as (plan_of c.args.plan.now) c.args.order c.args.filler (meaning_of c.args.m.now) c.args.dir c.args.entries.now)
+    (second_of _ _ _ c.args.pending.now c.put_short.new.pending (spelling c.args.order 2 (length c.args.entries.now)) _ _
+    (subst (λ (x : List ℕ). Owes (g.W.Sink.bytes_taken c.args.writer.now) (g.W.Sink.bytes_taken c.put_short.new.writer) c.put_short.new.pending (c.args.pending.now ++ x)) head c.in_ok-put_short.ensures.bytes)
+    c.in_err-put_entries.ensures.bytes))
+
+pub returns-clause-bytes : goal.returns-clause-bytes
+returns-clause-bytes g c =
+    let head : spelling c.args.order 2 c.len.result ≡ spelling c.args.order 2 (length c.args.entries.now) = ap (spelling c.args.order 2) c.len.ensures in
+    puts_as c.put_next.result _ _ c.args.pending.now c.put_next.new.pending _ _ (table_as (plan_of c.args.plan.now) c.args.order c.args.filler (meaning_of c.args.m.now) c.args.dir c.args.entries.now)
+    (puts_both c.put_next.result _ _ _ c.args.pending.now c.put_short.new.pending c.put_next.new.pending (spelling c.args.order 2 (length c.args.entries.now)) _
+    (subst (λ (x : List ℕ). Owes (g.W.Sink.bytes_taken c.args.writer.now) (g.W.Sink.bytes_taken c.put_short.new.writer) c.put_short.new.pending (c.args.pending.now ++ x)) head c.in_ok-put_short.ensures.bytes)
+    (puts_both c.put_next.result _ _ _ c.put_short.new.pending c.put_entries.new.pending c.put_next.new.pending _ _ c.in_ok-put_entries.ensures.bytes c.put_next.ensures.bytes))

@@ -1,0 +1,31 @@
+-- How a plan keeps its offsets, and what it says by them.
+use Rattle.std.specs.Prelude.{ℕ, nat_lt, if◌then◌else◌, Option, length, slice_get}
+use Rattle.std.specs.Ordering.{nat_cmp}
+use Rattle.std.specs.BTreeMap.{get}
+use Rattle.px_tree.specs.declared.Dir.{Dir}
+use Rattle.px_tree.specs.declared.Dir.TheVariants.{Main, Exif, Interop, Gps, Thumb}
+use Rattle.px_layout.specs.declared.chunks.Chunk.{Chunk}
+use Rattle.px_layout.specs.declared.chunks.Chunk.TheVariants.{Table, Placed, Jpeg, Strip}
+use Rattle.px_layout.specs.declared.offsets.DirOffsets.{DirOffsets}
+use Rattle.px_layout.specs.declared.offsets.StripOffsets.{StripOffsets}
+use Rattle.px_layout.specs.declared.offsets.Offsets.{Offsets}
+
+abbrev pub value_in : DirOffsets → ℕ → Option ℕ
+value_in d t = get nat_cmp d.values t
+
+-- a strip of the line, and else one of the others
+abbrev pub strip_in : StripOffsets → ℕ → Option ℕ
+strip_in s i = if nat_lt i (length s.line.items) then slice_get s.line.items i else get nat_cmp s.others i
+
+abbrev pub dir_in : Offsets → Dir → DirOffsets
+dir_in o Main = o.main
+dir_in o Exif = o.exif
+dir_in o Interop = o.interop
+dir_in o Gps = o.gps
+dir_in o Thumb = o.thumb
+
+abbrev pub offset_in : Offsets → Chunk → Option ℕ
+offset_in o (Table d) = (dir_in o d).table
+offset_in o (Placed d t) = value_in (dir_in o d) t
+offset_in o Jpeg = o.jpeg
+offset_in o (Strip i) = strip_in o.strips i

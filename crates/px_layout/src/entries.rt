@@ -1,0 +1,345 @@
+// The entries of a directory by ascending tag, without a list of them: its fields, with at most four
+// further entries put between. TIFF 6.0 section 2, "Sort Order".
+ghost use Rattle.std.specs.Prelude.{◌≡◌, ◌<◌, ◌≤◌, ◌+◌, ◌*◌, ◌^◌, ℕ, List, length, map, slice_get, option_map, option_and_then, Some, None, IfSome};
+ghost use Rattle.std.specs.List.{AllByRecursion};
+ghost use Rattle.px_bytes.specs.Parts.{limit};
+ghost use Rattle.px_tree.specs.Iim.{normal_iim};
+ghost use Rattle.px_tree.specs.Fits as said;
+ghost use Rattle.px_tree.specs.Fits.{Fits, FitsThumb, IsBytes, AtJpeg, JpegSize, AtStrips, StripSizes, Iptc, items, link, put_some, main_items, exif_items, thumb_items, field_items, FitsExif};
+ghost use Rattle.px_tree.specs.Seen.{exif_of, thumb_of, meaning_of};
+ghost use Rattle.px_layout.specs.Items.{item_of, IsCounted, rank};
+ghost use Rattle.px_layout.specs.Layers.{Stands, Tells, over};
+
+use crate::items::Item;
+use px_iim::Iim;
+use px_tree::{Dir, ExifPart, Fields, Meaning, Strips, Thumb};
+use std::marker::Model;
+
+// An entry that is no field, and how many entries stand before it.
+#[derive(Clone, Copy)]
+struct Extra<'m, 'a> {
+    place: usize,
+    tag: u16,
+    item: Item<'m, 'a>,
+}
+
+// At a place: an entry that is no field, or the place under it.
+enum Step<'m, 'a> {
+    Here(u16, Item<'m, 'a>),
+    Under(usize),
+}
+
+/// The entries of a directory by ascending tag. It takes no memory, and an entry is found in a few
+/// comparisons.
+#[derive(Drop)]
+pub(crate) struct Entries<'m, 'a> {
+    fields: &'m Fields<'a>,
+    first: Option<Extra<'m, 'a>>,
+    second: Option<Extra<'m, 'a>>,
+    third: Option<Extra<'m, 'a>>,
+    fourth: Option<Extra<'m, 'a>>,
+}
+
+impl<'m, 'a> Model for Entries<'m, 'a> {
+    ghost use Rattle.std.specs.Prelude.{List, ℕ};
+    ghost use Rattle.px_tree.specs.Fits as said;
+    ghost use Rattle.px_layout.specs.Layers.{entries_of, AreLayers};
+
+    ghost Value = { List (ℕ × said.Item) };
+
+    ghost view = { entries_of };
+
+    ghost invariant = { AreLayers };
+}
+
+// Goes by one further entry.
+fn pass<'m, 'a>(extra: &Option<Extra<'m, 'a>>, i: usize) -> Step<'m, 'a>
+    ensures { (xs : List (ℕ × said.Item)) → Stands extra.now xs → i < length (over extra.now xs) → Tells result extra.now xs i }
+{
+    let Some(extra) = extra else {
+        return Step::Under(i);
+    };
+    if i < extra.place {
+        return Step::Under(i);
+    }
+    if i == extra.place {
+        return Step::Here(extra.tag, extra.item);
+    }
+    Step::Under(i - 1)
+}
+
+// How many entries it adds.
+#[tactic(auto, using(crate::proofs::EntryLists::length_over))]
+fn number(extra: &Option<Extra>) -> usize
+    ensures added { (xs : List (ℕ × said.Item)) → length (over extra.now xs) ≡ length xs + result }
+    ensures bound { result ≤ 1 }
+{
+    match extra {
+        Some(_) => 1,
+        None => 0,
+    }
+}
+
+impl<'m, 'a> Entries<'m, 'a> {
+    // The fields, with each further entry put over those before it.
+    fn layered(
+        fields: &'m Fields<'a>,
+        first: Option<Extra<'m, 'a>>,
+        second: Option<Extra<'m, 'a>>,
+        third: Option<Extra<'m, 'a>>,
+        fourth: Option<Extra<'m, 'a>>,
+    ) -> Entries<'m, 'a>
+        requires few { length fields.now < 2 ^ 16 }
+        requires first { Stands first (field_items fields.now) }
+        requires second { Stands second (over first (field_items fields.now)) }
+        requires third { Stands third (over second (over first (field_items fields.now))) }
+        requires fourth { Stands fourth (over third (over second (over first (field_items fields.now)))) }
+        ensures { result ≡ over fourth.entry (over third.entry (over second.entry (over first.entry (field_items fields.now)))) }
+    {
+        Entries {
+            fields,
+            first,
+            second,
+            third,
+            fourth,
+        }
+    }
+
+    /// How many there are.
+    pub(crate) fn len(&self) -> usize
+        ensures { result ≡ length self.now }
+    {
+        self.fields.len()
+            + number(&self.first)
+            + number(&self.second)
+            + number(&self.third)
+            + number(&self.fourth)
+    }
+
+    /// The tag and the item at place `i`, counted from 0.
+    pub(crate) fn at(&self, i: usize) -> (u16, Item<'m, 'a>)
+        requires { i < length self.now }
+        ensures entry { slice_get self.now i ≡ Some (result.0, item_of result.1) }
+        ensures counted { IsCounted (item_of result.1) }
+    {
+        let i = match pass(&self.fourth, i) {
+            Step::Here(tag, item) => return (tag, item),
+            Step::Under(i) => i,
+        };
+        let i = match pass(&self.third, i) {
+            Step::Here(tag, item) => return (tag, item),
+            Step::Under(i) => i,
+        };
+        let i = match pass(&self.second, i) {
+            Step::Here(tag, item) => return (tag, item),
+            Step::Under(i) => i,
+        };
+        let i = match pass(&self.first, i) {
+            Step::Here(tag, item) => return (tag, item),
+            Step::Under(i) => i,
+        };
+        let (tag, value) = self.fields.at(i);
+        (tag, Item::Field(value))
+    }
+
+    // How many entries stand before the first of a greater tag.
+    fn rank(&self, tag: u16) -> usize
+        ensures { result ≡ rank tag self.now }
+    {
+        for i in 0..self.len() {
+            if self.at(i).0 > tag {
+                return i;
+            }
+        }
+        self.len()
+    }
+
+    // An entry that is put over these, where there is one.
+    fn extra(&self, tag: u16, item: Option<Item<'m, 'a>>) -> Option<Extra<'m, 'a>>
+        requires { IfSome (option_map item_of item) IsCounted }
+        ensures stands { Stands result self.now }
+        ensures over { over result self.now ≡ put_some tag (option_map item_of item.entry) self.now }
+    {
+        let Some(item) = item else {
+            return None;
+        };
+        Some(Extra {
+            place: self.rank(tag),
+            tag,
+            item,
+        })
+    }
+}
+
+// The record, where there is one.
+fn record_item<'m, 'a>(record: &'m Option<Iim<'a>>) -> Option<Item<'m, 'a>>
+    requires { IfSome record.now (λ i. length (normal_iim i) ≤ 2 * limit) }
+    ensures item { option_map item_of result ≡ option_map Iptc record.now }
+    ensures counted { IfSome (option_map item_of result) IsCounted }
+{
+    match record {
+        Some(record) => Some(Item::Record(record)),
+        None => None,
+    }
+}
+
+fn exif_link<'m, 'a>(part: &Option<ExifPart>) -> Option<Item<'m, 'a>>
+    ensures { option_map item_of result ≡ link Dir.Exif (option_map exif_of part.now) }
+{
+    match part {
+        Some(_) => Some(Item::Link(Dir::Exif)),
+        None => None,
+    }
+}
+
+// A pointer to a directory of fields alone, where it is there.
+fn fields_link<'m, 'a>(dir: Dir, fields: &Option<Fields>) -> Option<Item<'m, 'a>>
+    ensures { option_map item_of result ≡ link dir fields.now }
+{
+    match fields {
+        Some(_) => Some(Item::Link(dir)),
+        None => None,
+    }
+}
+
+fn jpeg_offset<'m, 'a>(jpeg: Option<&[u8]>) -> Option<Item<'m, 'a>>
+    ensures { option_map item_of result ≡ option_map (λ _. AtJpeg) (option_map (λ x. x.now) jpeg.entry) }
+{
+    match jpeg {
+        Some(_) => Some(Item::JpegOffset),
+        None => None,
+    }
+}
+
+fn jpeg_length<'m, 'a>(jpeg: Option<&[u8]>) -> Option<Item<'m, 'a>>
+    requires { IfSome (option_map (λ x. x.now) jpeg) IsBytes }
+    ensures item { option_map item_of result ≡ option_map (λ x. JpegSize (length x)) (option_map (λ x. x.now) jpeg.entry) }
+    ensures counted { IfSome (option_map item_of result) IsCounted }
+{
+    match jpeg {
+        Some(jpeg) => Some(Item::JpegLength(jpeg.len() as u32)),
+        None => None,
+    }
+}
+
+fn strip_offsets<'m, 'a>(strips: &'m Option<Strips<'a>>) -> Option<Item<'m, 'a>>
+    requires { IfSome strips.now (λ s. length s ≤ limit) }
+    ensures item { option_map item_of result ≡ option_map (λ s. AtStrips (length s)) strips.now }
+    ensures counted { IfSome (option_map item_of result) IsCounted }
+{
+    match strips {
+        Some(strips) => Some(Item::StripOffsets(strips)),
+        None => None,
+    }
+}
+
+#[tactic(auto, using(crate::proofs::EntryLists::lengths_counted))]
+fn strip_lengths<'m, 'a>(strips: &'m Option<Strips<'a>>) -> Option<Item<'m, 'a>>
+    requires { IfSome strips.now (λ s. (length s ≤ limit) × AllByRecursion IsBytes s) }
+    ensures item { option_map item_of result ≡ option_map (λ s. StripSizes (map (λ x. length x) s)) strips.now }
+    ensures counted { IfSome (option_map item_of result) IsCounted }
+{
+    match strips {
+        Some(strips) => Some(Item::StripLengths(strips)),
+        None => None,
+    }
+}
+
+fn main_entries<'m, 'a>(m: &'m Meaning<'a>) -> Entries<'m, 'a>
+    requires few { length m.now.main < 2 ^ 16 }
+    requires counted { IfSome m.now.iptc (λ i. length (normal_iim i) ≤ 2 * limit) }
+    ensures { result ≡ main_items (meaning_of m.now) }
+{
+    let fields = &m.main;
+    let alone = Entries::layered(fields, None, None, None, None);
+    let record = alone.extra(0x83BB, record_item(&m.iptc));
+    let under = Entries::layered(fields, record, None, None, None);
+    let gps = under.extra(0x8825, fields_link(Dir::Gps, &m.gps));
+    let under = Entries::layered(fields, record, gps, None, None);
+    let exif = under.extra(0x8769, exif_link(&m.exif));
+    Entries::layered(fields, record, gps, exif, None)
+}
+
+fn exif_part_entries<'m, 'a>(part: &'m ExifPart<'a>) -> Entries<'m, 'a>
+    requires { length part.now.fields < 2 ^ 16 }
+    ensures { result ≡ exif_items (exif_of part.now) }
+{
+    let alone = Entries::layered(&part.fields, None, None, None, None);
+    let interop = alone.extra(0xA005, fields_link(Dir::Interop, &part.interop));
+    Entries::layered(&part.fields, interop, None, None, None)
+}
+
+fn thumb_part_entries<'m, 'a>(thumb: &'m Thumb<'a>) -> Entries<'m, 'a>
+    requires few { length thumb.now.fields < 2 ^ 16 }
+    requires fits { FitsThumb (thumb_of thumb.now) }
+    ensures { result ≡ thumb_items (thumb_of thumb.now) }
+{
+    let fields = &thumb.fields;
+    let alone = Entries::layered(fields, None, None, None, None);
+    let lengths = alone.extra(0x0117, strip_lengths(&thumb.strips));
+    let under = Entries::layered(fields, lengths, None, None, None);
+    let offsets = under.extra(0x0111, strip_offsets(&thumb.strips));
+    let under = Entries::layered(fields, lengths, offsets, None, None);
+    let size = under.extra(0x0202, jpeg_length(thumb.jpeg));
+    let under = Entries::layered(fields, lengths, offsets, size, None);
+    let jpeg = under.extra(0x0201, jpeg_offset(thumb.jpeg));
+    Entries::layered(fields, lengths, offsets, size, jpeg)
+}
+
+// The entries of a directory of fields alone, where it is there.
+fn field_entries<'m, 'a>(fields: &'m Option<Fields<'a>>) -> Option<Entries<'m, 'a>>
+    requires { IfSome fields.now (λ fs. length fs < 2 ^ 16) }
+    ensures { result ≡ option_map field_items fields.now }
+{
+    match fields {
+        Some(fields) => Some(Entries::layered(fields, None, None, None, None)),
+        None => None,
+    }
+}
+
+fn exif_entries<'m, 'a>(part: &'m Option<ExifPart<'a>>) -> Option<Entries<'m, 'a>>
+    requires { IfSome (option_map exif_of part.now) (λ e. length e.fields < 2 ^ 16) }
+    ensures { result ≡ option_map exif_items (option_map exif_of part.now) }
+{
+    match part {
+        Some(part) => Some(exif_part_entries(part)),
+        None => None,
+    }
+}
+
+fn interop_entries<'m, 'a>(part: &'m Option<ExifPart<'a>>) -> Option<Entries<'m, 'a>>
+    requires { IfSome (option_map exif_of part.now) (λ e. IfSome e.interop (λ fs. length fs < 2 ^ 16)) }
+    ensures { result ≡ option_and_then (λ e. option_map field_items e.interop) (option_map exif_of part.now) }
+{
+    match part {
+        Some(part) => field_entries(&part.interop),
+        None => None,
+    }
+}
+
+fn thumb_entries<'m, 'a>(thumb: &'m Option<Thumb<'a>>) -> Option<Entries<'m, 'a>>
+    requires few { IfSome (option_map thumb_of thumb.now) (λ t. length t.fields < 2 ^ 16) }
+    requires fits { IfSome (option_map thumb_of thumb.now) FitsThumb }
+    ensures { result ≡ option_map thumb_items (option_map thumb_of thumb.now) }
+{
+    match thumb {
+        Some(thumb) => Some(thumb_part_entries(thumb)),
+        None => None,
+    }
+}
+
+/// The entries of a directory, where it is there: its fields, pointers, the record, and what names the
+/// thumbnail's bytes.
+#[tactic(auto, using(crate::proofs::EntryLists::items_are))]
+pub(crate) fn entries_in<'m, 'a>(m: &'m Meaning<'a>, dir: Dir) -> Option<Entries<'m, 'a>>
+    requires { Fits (meaning_of m.now) }
+    ensures { result ≡ items (meaning_of m.now) dir }
+{
+    match dir {
+        Dir::Main => Some(main_entries(m)),
+        Dir::Exif => exif_entries(&m.exif),
+        Dir::Interop => interop_entries(&m.exif),
+        Dir::Gps => field_entries(&m.gps),
+        Dir::Thumb => thumb_entries(&m.thumb),
+    }
+}

@@ -1,0 +1,68 @@
+// What the entries of a directory say.
+ghost use Rattle.std.specs.Prelude.{◌≡◌};
+ghost use Rattle.px_field.specs.Values.{form_in};
+ghost use Rattle.px_tree.specs.Fits.{item_form, item_count, item_size};
+ghost use Rattle.px_layout.specs.Items.{item_of, IsCounted};
+
+use px_bytes::LIMIT;
+use px_field::{Form, Kind, Value};
+use px_iim::{Iim, normal_len};
+use px_tree::{Dir, Strips};
+
+/// What an entry says: a field, the record, a pointer, the JPEG's offset or its length, or the
+/// offsets or the lengths of the strips.
+#[derive(Clone, Copy)]
+pub(crate) enum Item<'m, 'a> {
+    Field(&'m Value<'a>),
+    Record(&'m Iim<'a>),
+    Link(Dir),
+    JpegOffset,
+    JpegLength(u32),
+    StripOffsets(&'m Strips<'a>),
+    StripLengths(&'m Strips<'a>),
+}
+
+// The type of a field: whole numbers are written as LONG.
+fn form_of(value: &Value) -> Form
+    ensures { result ≡ form_in value.now.kind }
+{
+    match value.kind() {
+        Kind::Of(form) => form,
+        Kind::Whole => Form::Long,
+    }
+}
+
+impl Item<'_, '_> {
+    /// The type of the entry.
+    pub(crate) fn form(self) -> Form
+        ensures { result ≡ item_form (item_of self.entry) }
+    {
+        match self {
+            Item::Field(value) => form_of(value),
+            Item::Record(_) => Form::Undefined,
+            _ => Form::Long,
+        }
+    }
+
+    /// The count of the entry.
+    pub(crate) fn count(self) -> u32
+        requires { IsCounted (item_of self) }
+        ensures { result ≡ item_count (item_of self.entry) }
+    {
+        match self {
+            Item::Field(value) => value.count(),
+            Item::Record(record) => normal_len(record).unwrap_or(2 * LIMIT),
+            Item::StripOffsets(strips) => strips.len() as u32,
+            Item::StripLengths(strips) => strips.len() as u32,
+            _ => 1,
+        }
+    }
+
+    /// The bytes of the entry's value.
+    pub(crate) fn size(self) -> u64
+        requires { IsCounted (item_of self) }
+        ensures { result ≡ item_size (item_of self.entry) }
+    {
+        u64::from(self.count()) * u64::from(self.form().size())
+    }
+}

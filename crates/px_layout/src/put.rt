@@ -1,0 +1,118 @@
+// Numbers, values and filler, put behind the bytes that wait for a writer.
+ghost use Rattle.std.specs.Prelude.{◌≡◌, ◌≤◌, ◌<◌, ◌+◌, ◌^◌, ◌%◌, ◌++◌, length, replicate, flat_map};
+ghost use Rattle.px_bytes.specs.Devices.{Counts};
+ghost use Rattle.px_bytes.specs.Numbers.{spelling};
+ghost use Rattle.px_bytes.specs.Waiting.{Puts};
+ghost use Rattle.px_field.specs.Forms.{code};
+ghost use Rattle.px_field.specs.Values.{spell, spelled};
+ghost use Rattle.px_layout.specs.Laid.{long_bytes};
+
+use px_bytes::{Failed, Order, Pending, Sink};
+use px_field::{Form, Value};
+
+// A number of two bytes.
+pub(crate) fn put_short<W: Sink>(
+    pending: &mut Pending,
+    writer: &mut W,
+    order: Order,
+    n: u16,
+) -> Result<(), Failed>
+    requires { W.failed writer.old + 1 < 2 ^ 64 }
+    ensures bytes { Puts result (W.bytes_taken writer.old) (W.bytes_taken writer.new) pending.old pending.new (spelling order 2 n) }
+    ensures count { Counts result (W.failed writer.old) (W.failed writer.new) }
+{
+    let mut bytes = [0; 2];
+    order.put16(n, &mut bytes);
+    pending.put(writer, &bytes)
+}
+
+// A number of four bytes.
+pub(crate) fn put_long<W: Sink>(
+    pending: &mut Pending,
+    writer: &mut W,
+    order: Order,
+    n: u32,
+) -> Result<(), Failed>
+    requires { W.failed writer.old + 1 < 2 ^ 64 }
+    ensures bytes { Puts result (W.bytes_taken writer.old) (W.bytes_taken writer.new) pending.old pending.new (long_bytes order n) }
+    ensures count { Counts result (W.failed writer.old) (W.failed writer.new) }
+{
+    let mut bytes = [0; 4];
+    order.put32(n, &mut bytes);
+    pending.put(writer, &bytes)
+}
+
+// Up to four bytes of filler.
+pub(crate) fn put_filler<W: Sink>(
+    pending: &mut Pending,
+    writer: &mut W,
+    filler: u8,
+    count: usize,
+) -> Result<(), Failed>
+    requires few { W.failed writer.old + 1 < 2 ^ 64 }
+    requires most { count ≤ 4 }
+    ensures bytes { Puts result (W.bytes_taken writer.old) (W.bytes_taken writer.new) pending.old pending.new (replicate count filler) }
+    ensures count { Counts result (W.failed writer.old) (W.failed writer.new) }
+{
+    pending.put(writer, &[filler; 4][..count])
+}
+
+// The 0 behind an odd number of bytes.
+pub(crate) fn put_padding<W: Sink>(
+    pending: &mut Pending,
+    writer: &mut W,
+    len: u64,
+) -> Result<(), Failed>
+    requires { W.failed writer.old + 1 < 2 ^ 64 }
+    ensures bytes { Puts result (W.bytes_taken writer.old) (W.bytes_taken writer.new) pending.old pending.new (replicate (len % 2) 0) }
+    ensures count { Counts result (W.failed writer.old) (W.failed writer.new) }
+{
+    put_filler(pending, writer, 0, (len % 2) as usize)
+}
+
+// The elements of a value, one by one.
+fn put_elements<W: Sink>(
+    pending: &mut Pending,
+    writer: &mut W,
+    order: Order,
+    value: &Value,
+) -> Result<(), Failed>
+    requires { W.failed writer.old + 1 < 2 ^ 64 }
+    ensures bytes { Puts result (W.bytes_taken writer.old) (W.bytes_taken writer.new) pending.old pending.new (flat_map (spell order) value.now.elements) }
+    ensures count { Counts result (W.failed writer.old) (W.failed writer.new) }
+{
+    let mut piece = [0; 8];
+    for i in 0..value.count() {
+        let width = value.spell_at(order, i, &mut piece);
+        pending.put(writer, &piece[..width])?;
+    }
+    Ok(())
+}
+
+// A value. Where its elements are bytes, they go as the slice that was read.
+pub(crate) fn put_value<W: Sink>(
+    pending: &mut Pending,
+    writer: &mut W,
+    order: Order,
+    value: &Value,
+) -> Result<(), Failed>
+    requires { W.failed writer.old + 1 < 2 ^ 64 }
+    ensures bytes { Puts result (W.bytes_taken writer.old) (W.bytes_taken writer.new) pending.old pending.new (spelled order value.now) }
+    ensures count { Counts result (W.failed writer.old) (W.failed writer.new) }
+{
+    if let Some(bytes) = value.bytes() {
+        return pending.put(writer, bytes);
+    }
+    put_elements(pending, writer, order, value)
+}
+
+// An entry up to its last field: tag, type, count.
+pub(crate) fn entry_head(order: Order, tag: u16, form: Form, count: u32) -> [u8; 8]
+    ensures { result ≡ spelling order 2 tag ++ (spelling order 2 (code form) ++ long_bytes order count) }
+{
+    let mut head = [0; 8];
+    order.put16(tag, &mut head[..2]);
+    order.put16(form.code(), &mut head[2..4]);
+    order.put32(count, &mut head[4..]);
+    head
+}

@@ -1,0 +1,139 @@
+// What an entry says, put behind the bytes that wait for a writer. TIFF 6.0 section 2, "IFD Entry" and "Value/Offset".
+ghost use Rattle.std.specs.Prelude.{◌≡◌, ◌≤◌, ◌<◌, ◌+◌, ◌^◌, ℕ, length, map, flat_map};
+ghost use Rattle.std.specs.List.{AllByRecursion, range_with_len};
+ghost use Rattle.px_bytes.specs.Devices.{Counts};
+ghost use Rattle.px_bytes.specs.Parts.{limit};
+ghost use Rattle.px_bytes.specs.Waiting.{Puts};
+ghost use Rattle.px_layout.specs.Items.{item_of, IsCounted};
+ghost use Rattle.px_layout.specs.Laid.{long_bytes, item_bytes, last_bytes, entry_bytes};
+ghost use Rattle.px_layout.specs.Planned.{plan_of};
+ghost use Rattle.px_layout.specs.Plans.{place};
+
+use crate::chunks::Chunk;
+use crate::items::Item;
+use crate::plan::Plan;
+use crate::put::{entry_head, put_filler, put_long, put_value};
+use px_bytes::{Failed, Order, Pending, Sink};
+use px_iim::put_iim;
+use px_tree::{Dir, Strips};
+
+// Where a chunk stands.
+pub(crate) fn place_of(plan: &Plan, chunk: Chunk) -> u32
+    ensures { result ≡ place (plan_of plan.now) chunk }
+{
+    plan.offset(chunk).unwrap_or(0)
+}
+
+// The offsets of the first strips.
+fn put_strip_offsets<W: Sink>(
+    pending: &mut Pending,
+    writer: &mut W,
+    plan: &Plan,
+    order: Order,
+    count: u32,
+) -> Result<(), Failed>
+    requires { W.failed writer.old + 1 < 2 ^ 64 }
+    ensures bytes { Puts result (W.bytes_taken writer.old) (W.bytes_taken writer.new) pending.old pending.new (flat_map
+        (λ i. long_bytes order (place (plan_of plan.now) (Chunk.Strip i))) (range_with_len 0 count)) }
+    ensures count { Counts result (W.failed writer.old) (W.failed writer.new) }
+{
+    for i in 0..count {
+        put_long(pending, writer, order, place_of(plan, Chunk::Strip(i)))?;
+    }
+    Ok(())
+}
+
+fn put_strip_lengths<W: Sink>(
+    pending: &mut Pending,
+    writer: &mut W,
+    order: Order,
+    strips: &Strips,
+) -> Result<(), Failed>
+    requires few { W.failed writer.old + 1 < 2 ^ 64 }
+    requires short { AllByRecursion (λ n. n ≤ limit) (map (λ x. length x) strips.now) }
+    ensures bytes { Puts result (W.bytes_taken writer.old) (W.bytes_taken writer.new) pending.old pending.new (flat_map
+        (long_bytes order) (map (λ x. length x) strips.now)) }
+    ensures count { Counts result (W.failed writer.old) (W.failed writer.new) }
+{
+    for i in 0..strips.len() {
+        put_long(pending, writer, order, strips.at(i).len() as u32)?;
+    }
+    Ok(())
+}
+
+// The value of an entry, whatever fills the gaps of the block.
+#[tactic(auto, unfolding(crate::specs::Laid::item_bytes))]
+pub(crate) fn put_item<W: Sink>(
+    pending: &mut Pending,
+    writer: &mut W,
+    plan: &Plan,
+    order: Order,
+    item: Item,
+) -> Result<(), Failed>
+    requires few { W.failed writer.old + 1 < 2 ^ 64 }
+    requires counted { IsCounted (item_of item) }
+    ensures bytes { (filler : ℕ) → Puts result (W.bytes_taken writer.old) (W.bytes_taken writer.new) pending.old pending.new (item_bytes (plan_of plan.now) order filler (item_of item.entry)) }
+    ensures count { Counts result (W.failed writer.old) (W.failed writer.new) }
+{
+    match item {
+        Item::Field(value) => put_value(pending, writer, order, value),
+        Item::Record(iim) => put_iim(pending, writer, iim),
+        Item::Link(dir) => put_long(pending, writer, order, place_of(plan, Chunk::Table(dir))),
+        Item::JpegOffset => put_long(pending, writer, order, place_of(plan, Chunk::Jpeg)),
+        Item::JpegLength(len) => put_long(pending, writer, order, len),
+        Item::StripOffsets(strips) => {
+            put_strip_offsets(pending, writer, plan, order, strips.len() as u32)
+        }
+        Item::StripLengths(strips) => put_strip_lengths(pending, writer, order, strips),
+    }
+}
+
+// The last field of an entry: the value and filler behind it, or where the value is placed.
+#[tactic(auto, unfolding(crate::specs::Laid::last_bytes))]
+fn put_last<W: Sink>(
+    pending: &mut Pending,
+    writer: &mut W,
+    plan: &Plan,
+    order: Order,
+    filler: u8,
+    dir: Dir,
+    tag: u16,
+    item: Item,
+) -> Result<(), Failed>
+    requires few { W.failed writer.old + 1 < 2 ^ 64 }
+    requires counted { IsCounted (item_of item) }
+    ensures bytes { Puts result (W.bytes_taken writer.old) (W.bytes_taken writer.new) pending.old pending.new (last_bytes (plan_of plan.now) order filler dir (tag, item_of item.entry)) }
+    ensures count { Counts result (W.failed writer.old) (W.failed writer.new) }
+{
+    let size = item.size();
+    if size > 4 {
+        return put_long(
+            pending,
+            writer,
+            order,
+            place_of(plan, Chunk::Placed(dir, tag)),
+        );
+    }
+    put_item(pending, writer, plan, order, item)?;
+    put_filler(pending, writer, filler, 4 - size as usize)
+}
+
+// An entry of a directory.
+pub(crate) fn put_entry<W: Sink>(
+    pending: &mut Pending,
+    writer: &mut W,
+    plan: &Plan,
+    order: Order,
+    filler: u8,
+    dir: Dir,
+    tag: u16,
+    item: Item,
+) -> Result<(), Failed>
+    requires few { W.failed writer.old + 1 < 2 ^ 64 }
+    requires counted { IsCounted (item_of item) }
+    ensures bytes { Puts result (W.bytes_taken writer.old) (W.bytes_taken writer.new) pending.old pending.new (entry_bytes (plan_of plan.now) order filler dir (tag, item_of item.entry)) }
+    ensures count { Counts result (W.failed writer.old) (W.failed writer.new) }
+{
+    pending.put(writer, &entry_head(order, tag, item.form(), item.count()))?;
+    put_last(pending, writer, plan, order, filler, dir, tag, item)
+}

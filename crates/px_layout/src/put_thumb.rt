@@ -1,0 +1,93 @@
+// The thumbnail's bytes, behind all directories: the JPEG, then the strips, each padded to an even number. CIPA DC-008 4.5.5;
+// TIFF 6.0 section 8.
+ghost use Rattle.std.specs.Prelude.{◌≡◌, ◌<◌, ◌+◌, ◌^◌, Some, option_map, flat_map};
+ghost use Rattle.px_bytes.specs.Devices.{Counts};
+ghost use Rattle.px_bytes.specs.Waiting.{Puts};
+ghost use Rattle.px_tree.specs.Seen.{thumb_of};
+ghost use Rattle.px_layout.specs.Laid.{jpeg_contents, strip_contents, all_strip_contents, thumb_contents};
+ghost use Rattle.px_layout.specs.Normal.{padded};
+
+use crate::put::put_padding;
+use px_bytes::{Failed, Pending, Sink};
+use px_tree::{Strips, Thumb};
+
+fn put_padded<W: Sink>(pending: &mut Pending, writer: &mut W, bytes: &[u8]) -> Result<(), Failed>
+    requires { W.failed writer.old + 1 < 2 ^ 64 }
+    ensures bytes { Puts result (W.bytes_taken writer.old) (W.bytes_taken writer.new) pending.old pending.new (padded bytes.now) }
+    ensures count { Counts result (W.failed writer.old) (W.failed writer.new) }
+{
+    pending.put(writer, bytes)?;
+    put_padding(pending, writer, bytes.len() as u64)
+}
+
+fn put_strips<W: Sink>(pending: &mut Pending, writer: &mut W, strips: &Strips) -> Result<(), Failed>
+    requires { W.failed writer.old + 1 < 2 ^ 64 }
+    ensures bytes { Puts result (W.bytes_taken writer.old) (W.bytes_taken writer.new) pending.old pending.new (flat_map
+        (λ c. padded c.1) (strip_contents 0 strips.now)) }
+    ensures count { Counts result (W.failed writer.old) (W.failed writer.new) }
+{
+    for i in 0..strips.len() {
+        put_padded(pending, writer, strips.at(i))?;
+    }
+    Ok(())
+}
+
+fn put_all_strips<W: Sink>(
+    pending: &mut Pending,
+    writer: &mut W,
+    strips: &Option<Strips>,
+) -> Result<(), Failed>
+    requires { W.failed writer.old + 1 < 2 ^ 64 }
+    ensures bytes { Puts result (W.bytes_taken writer.old) (W.bytes_taken writer.new) pending.old pending.new (flat_map
+        (λ c. padded c.1) (all_strip_contents strips.now)) }
+    ensures count { Counts result (W.failed writer.old) (W.failed writer.new) }
+{
+    match strips {
+        Some(strips) => put_strips(pending, writer, strips),
+        None => Ok(()),
+    }
+}
+
+fn put_jpeg<W: Sink>(
+    pending: &mut Pending,
+    writer: &mut W,
+    jpeg: Option<&[u8]>,
+) -> Result<(), Failed>
+    requires { W.failed writer.old + 1 < 2 ^ 64 }
+    ensures bytes { Puts result (W.bytes_taken writer.old) (W.bytes_taken writer.new) pending.old pending.new (flat_map
+        (λ c. padded c.1) (jpeg_contents (option_map (λ x. x.now) jpeg.entry))) }
+    ensures count { Counts result (W.failed writer.old) (W.failed writer.new) }
+{
+    match jpeg {
+        Some(bytes) => put_padded(pending, writer, bytes),
+        None => Ok(()),
+    }
+}
+
+fn put_parts<W: Sink>(pending: &mut Pending, writer: &mut W, thumb: &Thumb) -> Result<(), Failed>
+    requires { W.failed writer.old + 1 < 2 ^ 64 }
+    ensures bytes { Puts result (W.bytes_taken writer.old) (W.bytes_taken writer.new) pending.old pending.new (flat_map
+        (λ c. padded c.1) (thumb_contents (Some (thumb_of thumb.now)))) }
+    ensures count { Counts result (W.failed writer.old) (W.failed writer.new) }
+{
+    put_jpeg(pending, writer, thumb.jpeg)?;
+    put_all_strips(pending, writer, &thumb.strips)
+}
+
+// The JPEG and the strips, where there is a thumbnail.
+#[tactic(auto, unfolding(crate::specs::Laid::thumb_contents))]
+pub(crate) fn put_thumb<W: Sink>(
+    pending: &mut Pending,
+    writer: &mut W,
+    thumb: &Option<Thumb>,
+) -> Result<(), Failed>
+    requires { W.failed writer.old + 1 < 2 ^ 64 }
+    ensures bytes { Puts result (W.bytes_taken writer.old) (W.bytes_taken writer.new) pending.old pending.new (flat_map
+        (λ c. padded c.1) (thumb_contents (option_map thumb_of thumb.now))) }
+    ensures count { Counts result (W.failed writer.old) (W.failed writer.new) }
+{
+    match thumb {
+        Some(thumb) => put_parts(pending, writer, thumb),
+        None => Ok(()),
+    }
+}

@@ -1,0 +1,39 @@
+// A block by a plan of the caller's.
+ghost use Rattle.std.specs.Prelude.{◌≡◌, IfOk};
+ghost use Rattle.px_tree.specs.Fits.{Fits};
+ghost use Rattle.px_tree.specs.Seen.{meaning_of};
+ghost use Rattle.px_layout.specs.Laid.{laid};
+ghost use Rattle.px_layout.specs.Planned.{plan_of};
+ghost use Rattle.px_layout.specs.Plans.{Legal};
+
+use crate::building::{Layout, lay_all};
+use crate::plan::Plan;
+use px_bytes::Order;
+use px_tree::Meaning;
+use std::alloc::{AllocError, Global};
+
+/// The block that a legal plan lays out: the header, and each chunk at its offset, in either byte order, with the byte
+/// `filler` wherever no chunk stands. It has as many bytes as the plan says, and says the meaning. TIFF 6.0 section 2.
+///
+/// The meaning can be written (`fits`) and the plan is legal for it (`is_legal`); both are the caller's conditions. An error
+/// comes for want of memory alone: it takes memory for the block, and besides for one chunk at a time.
+pub fn write_with(
+    alloc: Global,
+    m: &Meaning,
+    plan: &Plan,
+    order: Order,
+    filler: u8,
+) -> Result<Vec<u8>, AllocError>
+    requires fits { Fits (meaning_of m.now) }
+    requires legal { Legal (meaning_of m.now) (plan_of plan.now) }
+    ensures { IfOk result (λ block. block.items ≡ laid (meaning_of m.now) (plan_of plan.now) order filler) }
+{
+    let layout = Layout {
+        plan,
+        order,
+        filler,
+    };
+    let mut block = vec![in alloc; filler; plan.len() as usize]?;
+    lay_all(alloc, &mut block, &layout, m)?;
+    Ok(block)
+}

@@ -1,0 +1,41 @@
+// The normal form, written.
+ghost use Rattle.std.specs.Prelude.{◌≡◌, ◌≤◌, ◌<◌, ◌+◌, ◌^◌, ℕ, length};
+ghost use Rattle.px_tree.specs.Fits.{Fits};
+ghost use Rattle.px_tree.specs.Seen.{meaning_of};
+ghost use Rattle.px_layout.specs.Writing.{WritesExif};
+
+use crate::normal::plan_normal;
+use crate::put_normal::put_block;
+use px_bytes::{Pending, Sink, WriteRefusal};
+use px_tree::Meaning;
+use std::alloc::Global;
+
+/// Writes the normal form of a meaning that can be written (`fits`) and answers its length in bytes, at
+/// most `LIMIT`: the most significant byte first; behind the header the main directory, then the Exif,
+/// Interoperability, GPS and thumbnail directories, each table followed by its placed values by ascending
+/// tag; then the JPEG and the strips. Each part stands directly behind the one before, and is padded with
+/// a 0 to an even number of bytes. TIFF 6.0 section 2; CIPA DC-008 4.6.3 and 4.5.5. One flush follows the
+/// last byte.
+///
+/// NormalTooLong where the form is longer than `LIMIT`, and OutOfMemory where a growth was refused: both
+/// come before the first byte. WriteFailed comes at the first failed call of the writer, the flush too;
+/// the writer has then taken a prefix of the form.
+///
+/// It takes memory for the plan of the form, before the first byte, and none after that. Bytes go out in
+/// writes of up to 8,192, and longer values at once.
+pub fn write_normal<W: Sink>(
+    alloc: Global,
+    m: &Meaning,
+    writer: &mut W,
+) -> Result<u64, WriteRefusal>
+    requires few { W.failed writer.old + 1 < 2 ^ 64 }
+    requires fits { Fits (meaning_of m.now) }
+    ensures { WritesExif result (W.bytes_taken writer.old) (W.bytes_taken writer.new) (W.failed writer.old) (W.failed writer.new) (meaning_of m.now) }
+{
+    let plan = plan_normal(alloc, m)?;
+    let mut pending = Pending::new();
+    put_block(&mut pending, writer, m, &plan)?;
+    pending.send(writer)?;
+    writer.flush_all()?;
+    Ok(u64::from(plan.len()))
+}
