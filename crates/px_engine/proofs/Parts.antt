@@ -1,0 +1,66 @@
+-- Texts and lists that are made part by part.
+use Rattle.std.proofs.Common.{◌≡◌, ℕ, ◌+◌, ◌-◌, ◌<◌, ◌≤◌, ◌++◌, List, [], ◌∷◌, length, take, drop, map, slice_index, slice_get, get_or, Option, Some, option_map, ◌/◌, ◌%◌, refl, sym, ap, ◌∙◌, arith, append_assoc, append-nil, length-append}
+use Rattle.std.specs.List.{flat_map, filter_map}
+use Rattle.std.proofs.Math.Seq.{take-add}
+use Rattle.std.proofs.lemmas.List.{take_more, flat_map_more}
+use Rattle.std.proofs.lemmas.List.Elements.{filter_map-append}
+use Rattle.std.proofs.lemmas.Option.{slice_get_within, get_or_from_slice_get, slice_get-map, slice_get-get_or}
+use Rattle.hex.specs.Hex.{encode_with, encode_lower, lower_digits}
+use Rattle.px_iim.specs.Group.{Group, Record}
+use Rattle.px_engine.specs.Listing.{dataset_count}
+
+-- ---- bytes in hexadecimal
+
+encode_append : (t xs ys : List ℕ) → encode_with t (xs ++ ys) ≡ encode_with t xs ++ encode_with t ys
+unfolding encode_with
+encode_append t [] ys = refl
+encode_append t (x ∷ xs) ys = ap (λ (l : List ℕ). slice_index t (x / 16) ∷ slice_index t (x % 16) ∷ l) (encode_append t xs ys)
+
+-- the first byte, and the others
+pub encode_cons : (b : ℕ) (bs : List ℕ) → encode_lower (b ∷ bs) ≡ encode_lower (b ∷ []) ++ encode_lower bs
+encode_cons b bs = encode_append lower_digits (b ∷ []) bs
+
+pub encode_none : encode_lower [] ≡ []
+unfolding encode_with
+encode_none = refl
+
+pub hex_start : (old : List ℕ) → old ≡ old ++ encode_lower []
+hex_start old = sym (append-nil old) ∙ ap (λ (l : List ℕ). old ++ l) (sym encode_none)
+
+-- the piece from a to e follows the first a bytes
+pub hex_more : (old now new xs : List ℕ) (a e : ℕ) → a ≤ e → now ≡ old ++ encode_lower (take a xs) → new ≡ now ++ encode_lower (take (e - a) (drop a xs)) → new ≡ old ++ encode_lower (take e xs)
+hex_more old now new xs a e le p q =
+    let end : e ≡ a + (e - a) = omega (arith, le) in
+    let cut : take e xs ≡ take a xs ++ take (e - a) (drop a xs) = ap (λ n. take n xs) end ∙ take-add a (e - a) xs in
+    q ∙ ap (λ (l : List ℕ). l ++ encode_lower (take (e - a) (drop a xs))) p
+    ∙ append_assoc old (encode_lower (take a xs)) (encode_lower (take (e - a) (drop a xs)))
+    ∙ ap (λ (l : List ℕ). old ++ l) (sym (encode_append lower_digits (take a xs) (take (e - a) (drop a xs))) ∙ ap encode_lower (sym cut))
+
+-- ---- the parts of a list's elements
+
+-- the element that a loop over a list reads
+pub read_at : {X Y : Type 0} (v : X → Y) (xs : List X) (i : ℕ) (d : X) → i < length xs → slice_get (map v xs) i ≡ Some (v (get_or xs i d))
+read_at v xs i d h = slice_get-map v xs i ∙ ap (option_map v) (slice_get-get_or xs i d h)
+
+one_more : {X : Type 0} (xs : List X) (i : ℕ) (x : X) → slice_get xs i ≡ Some x → take (i + 1) xs ≡ take i xs ++ x ∷ []
+one_more xs i x read = take_more xs i x (slice_get_within xs i x read) ∙ ap (λ y. take i xs ++ y ∷ []) (get_or_from_slice_get xs i x x read)
+
+module _ {X A : Type 0} (xs : List X) (i : ℕ) (x : X) (read : slice_get xs i ≡ Some x) where
+  -- the part of the element at i follows those before it
+  pub parts_more : (f : X → List A) (old now new : List A) → now ≡ old ++ flat_map f (take i xs) → new ≡ now ++ f x → new ≡ old ++ flat_map f (take (i + 1) xs)
+  parts_more f old now new e h =
+      let more : flat_map f (take (i + 1) xs) ≡ flat_map f (take i xs) ++ f x = ap (flat_map f) (one_more xs i x read) ∙ sym (flat_map_more f [] (take i xs) x) in
+      h ∙ ap (λ (l : List A). l ++ f x) e ∙ append_assoc old (flat_map f (take i xs)) (f x) ∙ ap (λ (l : List A). old ++ l) (sym more)
+
+  -- what it gives, if anything, follows what those before it gave
+  pub given_more : (f : X → Option A) (old now new : List A) → now ≡ old ++ filter_map f (take i xs) → new ≡ now ++ filter_map f (x ∷ []) → new ≡ old ++ filter_map f (take (i + 1) xs)
+  given_more f old now new e h =
+      let more : filter_map f (take (i + 1) xs) ≡ filter_map f (take i xs) ++ filter_map f (x ∷ []) = ap (filter_map f) (one_more xs i x read) ∙ filter_map-append f (take i xs) (x ∷ []) in
+      h ∙ ap (λ (l : List A). l ++ filter_map f (x ∷ [])) e ∙ append_assoc old (filter_map f (take i xs)) (filter_map f (x ∷ [])) ∙ ap (λ (l : List A). old ++ l) (sym more)
+
+-- one group more
+pub count_more : (i : Record) (k : ℕ) (g : Group) (n c : ℕ) → slice_get i k ≡ Some g → c ≡ dataset_count (take k i) → n ≡ length g.items → c + n ≡ dataset_count (take (k + 1) i)
+count_more i k g n c read e h =
+    let f : Group → List (ℕ × List ℕ) = λ y. y.items in
+    let more : flat_map f (take k i) ++ f g ≡ flat_map f (take (k + 1) i) = parts_more i k g read f [] (flat_map f (take k i)) (flat_map f (take k i) ++ f g) refl refl in
+    omega (arith, e, h, ap length more, length-append (flat_map f (take k i)) (f g))

@@ -1,0 +1,42 @@
+-- The headline, from what normalising two files answers and the laws of files.
+use Rattle.std.proofs.Common.{◌≡◌, ◌≤◌, ◌<◌, ◌+◌, ◌*◌, ◌↔◌, ℕ, List, length, refl, sym, ◌∙◌, ap, subst, arith}
+use Rattle.px_bytes.specs.Parts.{limit}
+use Rattle.px_engine.specs.Files.{Said, Says, normal, block_of}
+use Rattle.px_engine.specs.Input.{IsSaid}
+use Rattle.px_engine.specs.Laws.{OneSaid, NormalSays}
+use Rattle.px_engine.specs.FileLaws.{own_block}
+use Rattle.px_engine.specs.Headline.{IsFormOf, IsItsOwn, Headline}
+
+module _ (one : OneSaid) (says : NormalSays) where
+  form_says : (s : Said) (n : List ℕ) (f : List ℕ) → IsFormOf f s n → Says n s
+  form_says s n f h = subst (λ z. Says z s) (sym h.1) (says s h.0.fits (subst (λ z. length z ≤ limit) h.1 h.2))
+
+  form_said : (s : Said) (n : List ℕ) (f : List ℕ) → IsFormOf f s n → IsSaid n s
+  form_said s n f h = record {
+    says = form_says s n f h;
+    fits = h.0.fits;
+    bounded = subst (λ z. length (normal s) ≤ 2 * length (block_of z)) (sym h.1) (let e = ap (λ z. length z) (own_block s h.0.fits) in omega arith);
+  }
+
+  its_own : (s : Said) (n : List ℕ) (f : List ℕ) → IsFormOf f s n → IsItsOwn n s
+  its_own s n f h = record {
+    says = form_said s n f h;
+    alone = λ t x. one n t s x (form_says s n f h);
+    again = λ t x. ap normal (one n t s x (form_says s n f h)) ∙ sym h.1;
+  }
+
+  pub told : (f g m n : List ℕ) (s t : Said) → IsFormOf f s m → IsFormOf g t n → Headline f g m n
+  told f g m n s t h k = record {
+    first = s;
+    second = t;
+    first_form = h;
+    second_form = k;
+    first_alone = λ u x. one f u s x h.0.says;
+    second_alone = λ u x. one g u t x k.0.says;
+    tells = (
+      λ e. one n s t (subst (λ z. Says z s) e (form_says s m f h)) (form_says t n g k),
+      λ e. h.1 ∙ ap normal e ∙ sym k.1,
+    );
+    first_again = its_own s m f h;
+    second_again = its_own t n g k;
+  }

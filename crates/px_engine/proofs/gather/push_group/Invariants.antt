@@ -1,0 +1,9 @@
+use Rattle.std.proofs.Common.{◌≡◌, ◌++◌, take, map}
+use Rattle.std.specs.Prelude.{filter_map}
+use Rattle.px_iim.specs.View.{item_view}
+use Rattle.px_engine.specs.Captions.{labelled}
+use Rattle.px_engine.specs.CaptionView.{caption_view}
+use Rattle.px_engine.proofs.gather.push_group.Given as goal
+
+abbrev pub invariant-loop-item : goal.invariant-loop-item
+invariant-loop-item l = map caption_view l.list.items ≡ map caption_view l.initial.list.items ++ filter_map labelled (take l.item-index (map item_view l.items))

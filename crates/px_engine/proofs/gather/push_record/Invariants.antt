@@ -1,0 +1,8 @@
+use Rattle.std.proofs.Common.{◌≡◌, ◌++◌, take, map}
+use Rattle.std.specs.List.{flat_map}
+use Rattle.px_engine.specs.Captions.{group_captions, caption_groups}
+use Rattle.px_engine.specs.CaptionView.{caption_view}
+use Rattle.px_engine.proofs.gather.push_record.Given as goal
+
+abbrev pub invariant-loop-i : goal.invariant-loop-i
+invariant-loop-i l = map caption_view l.list.items ≡ map caption_view l.initial.list.items ++ flat_map (group_captions l.iim) (take l.i caption_groups)

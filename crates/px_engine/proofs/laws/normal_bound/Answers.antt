@@ -1,0 +1,5 @@
+use Rattle.px_engine.specs.FileLaws as file
+use Rattle.px_engine.proofs.laws.normal_bound.Goals as goal
+
+pub returns : goal.returns
+returns c = file.normal_bound c.said_fits.ensures

@@ -1,0 +1,5 @@
+use Rattle.px_engine.specs.FileLaws as file
+use Rattle.px_engine.proofs.laws.taken_tells.Goals as goal
+
+pub returns : goal.returns
+returns c = file.taken_tells

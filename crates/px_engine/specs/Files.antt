@@ -1,0 +1,85 @@
+-- What a file says. It holds an Exif block, perhaps behind the six bytes that stand before one in the APP1 segment of a JPEG
+-- file (CIPA DC-008, "Exif Identifier Code"), or a block of DataSets (IIM 4.2, chapter 1). How the two are told apart is this
+-- project's profile.
+use Rattle.std.specs.Prelude.{◌≡◌, ℕ, nat_eq, Bool, if◌then◌else◌, List, [], ◌∷◌, drop}
+use Rattle.std.specs.List.{starts_with}
+use Rattle.px_bytes.specs.declared.Cause.{Cause}
+use Rattle.px_iim.specs.Group.{Record, IsRecord}
+use Rattle.px_iim.specs.Record.{SaysIim, normal_iim}
+use Rattle.px_iim.specs.Check.{First, Stands}
+use Rattle.px_tree.specs.Tree.{Meaning}
+use Rattle.px_tree.specs.Says.{SaysExif}
+use Rattle.px_tree.specs.Fits.{Fits}
+use Rattle.px_tree.specs.Checks.{FirstFault}
+use Rattle.px_tree.specs.Faults.{Fault}
+use Rattle.px_layout.specs.Normal.{normal_exif}
+use Rattle.px_engine.specs.declared.kinds.BlockKind.{BlockKind}
+use Rattle.px_engine.specs.declared.kinds.BlockKind.TheVariants as kind
+
+-- what is said: a tree of directories, or a record
+pub data Said : Type 0 where
+  Exif : Meaning → Said
+  Iim : Record → Said
+
+-- ---- the block in a file
+
+-- "Exif" and two zeros
+abbrev pub prefix : List ℕ
+prefix = 0x45 ∷ 0x78 ∷ 0x69 ∷ 0x66 ∷ 0 ∷ 0 ∷ []
+
+abbrev pub is_prefixed : List ℕ → Bool
+is_prefixed f = starts_with nat_eq f prefix
+
+-- the tag marker of a DataSet stands in front
+abbrev pub is_marked : List ℕ → Bool
+is_marked f = starts_with nat_eq f (0x1C ∷ [])
+
+unfoldable pub kind_of : List ℕ → BlockKind
+kind_of f = if is_prefixed f then kind.Exif else if is_marked f then kind.Iim else kind.Exif
+
+unfoldable pub block_of : List ℕ → List ℕ
+block_of f = if is_prefixed f then drop 6 f else f
+
+-- ---- what it says
+
+abbrev pub SaysBlock : BlockKind → List ℕ → Said → Type 0
+SaysBlock kind.Exif b (Exif m) = SaysExif b m
+SaysBlock kind.Iim b (Iim i) = SaysIim b i
+SaysBlock _ b s = ⊥
+
+-- the block in the file, as one of its kind, says it
+abbrev pub Says : List ℕ → Said → Type 0
+Says f s = SaysBlock (kind_of f) (block_of f) s
+
+-- the kind of block that says it
+abbrev pub kind_said : Said → BlockKind
+kind_said (Exif m) = kind.Exif
+kind_said (Iim i) = kind.Iim
+
+-- the tree fits, or the record is whole
+abbrev pub CanBeWritten : Said → Type 0
+CanBeWritten (Exif m) = Fits m
+CanBeWritten (Iim i) = IsRecord i
+
+-- the normal form
+abbrev pub normal : Said → List ℕ
+normal (Exif m) = normal_exif m
+normal (Iim i) = normal_iim i
+
+-- ---- its faults; places count from the block's first byte
+
+abbrev pub FirstIn : BlockKind → List ℕ → Cause → ℕ → Type 0
+FirstIn kind.Exif b c p = FirstFault b c p
+FirstIn kind.Iim b c p = First b c p
+
+-- the first fault of the block in the file, by the checks of its kind
+abbrev pub FirstFaultOf : List ℕ → Cause → ℕ → Type 0
+FirstFaultOf f c p = FirstIn (kind_of f) (block_of f) c p
+
+abbrev pub StandsIn : BlockKind → List ℕ → Cause → ℕ → Type 0
+StandsIn kind.Exif b c p = Fault b c p
+StandsIn kind.Iim b c p = Stands b c p
+
+-- a fault that stands in the block in the file
+abbrev pub FaultOf : List ℕ → Cause → ℕ → Type 0
+FaultOf f c p = StandsIn (kind_of f) (block_of f) c p

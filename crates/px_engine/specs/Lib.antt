@@ -1,0 +1,13 @@
+pub mod Faults
+pub mod Files
+pub mod Seen
+pub mod Input
+pub mod Runs
+pub mod Laws
+pub mod FileLaws
+pub mod Headline
+pub mod Words
+pub mod Listing
+pub mod Captions
+pub mod CaptionView
+pub mod Prints

@@ -1,0 +1,50 @@
+// The lines of DataSets: record number, number, length and data.
+ghost use Rattle.std.specs.Prelude.{◌≡◌, ◌++◌, map, flat_map, OnOk};
+ghost use Rattle.px_iim.specs.View.{item_view};
+ghost use Rattle.px_engine.specs.Listing.{dataset_line, dataset_lines, dataset_count};
+
+use crate::texts::{push_decimal, push_sized};
+use px_iim::{Iim, Item};
+use std::alloc::AllocError;
+
+#[tactic(auto, unfolding(crate::specs::Listing::dataset_line))]
+fn push_dataset(rec: u8, item: &Item, out: &mut Vec<u8>) -> Result<(), AllocError>
+    ensures { OnOk result (out.new.items ≡ out.old.items ++ dataset_line rec (item_view item.now)) }
+{
+    push_decimal(rec, out)?;
+    out.extend_from_slice(b":")?;
+    push_decimal(item.number, out)?;
+    push_sized(item.octets, out)
+}
+
+fn push_group(rec: u8, items: &[Item], out: &mut Vec<u8>) -> Result<(), AllocError>
+    ensures { OnOk result (out.new.items ≡ out.old.items ++ flat_map (dataset_line rec) (map item_view items.now)) }
+{
+    for item in items {
+        push_dataset(rec, item, out)?;
+    }
+    Ok(())
+}
+
+// Appends a line for each DataSet: the groups in ascending order, each list in its order.
+pub(crate) fn push_datasets(iim: &Iim, out: &mut Vec<u8>) -> Result<(), AllocError>
+    ensures { OnOk result (out.new.items ≡ out.old.items ++ dataset_lines iim.now) }
+{
+    for i in 0..iim.groups() {
+        let (rec, _, items) = iim.group_at(i);
+        push_group(rec, items, out)?;
+    }
+    Ok(())
+}
+
+// How many DataSets there are; the sum is wide, so that no number of groups and DataSets passes it.
+pub(crate) fn count_datasets(iim: &Iim) -> u128
+    ensures { result ≡ dataset_count iim.now }
+{
+    let mut count = 0;
+    for i in 0..iim.groups() {
+        let (_, _, items) = iim.group_at(i);
+        count += items.len() as u128;
+    }
+    count
+}

@@ -1,0 +1,114 @@
+// Why a run ends before its time.
+use px_bytes::{Cause, ReadFault, Refusal, WriteRefusal};
+use std::alloc::{AllocError, AllocFailed};
+use thiserror::Error;
+
+/// Why a file is not read, or what it says not written.
+#[derive(Clone, Copy, Debug, PartialEq, Eq, Error)]
+pub enum Fault {
+    /// The block says nothing: by the cause and the place of its first fault.
+    #[error("{cause:?} at {place}")]
+    Refused {
+        /// What is wrong.
+        cause: Cause,
+        /// Where, in bytes from the block's first, at most `LIMIT`. Bytes in front of the block aren't
+        /// counted.
+        place: u32,
+    },
+    /// The normal form is longer than `LIMIT`.
+    #[error("the normal form is too long")]
+    NormalTooLong,
+    /// A growth was refused.
+    #[error("out of memory")]
+    OutOfMemory,
+    /// A call of the reader failed.
+    #[error("a read failed")]
+    ReadFailed,
+    /// A call of the writer failed.
+    #[error("a write failed")]
+    WriteFailed,
+}
+
+/// One of two files that are compared.
+#[derive(Clone, Copy, Debug, PartialEq, Eq)]
+pub enum Side {
+    /// The first.
+    First,
+    /// The second.
+    Second,
+}
+
+/// Why two files are not compared.
+#[derive(Clone, Copy, Debug, PartialEq, Eq, Error)]
+#[error("{fault} in the {side:?} file")]
+pub struct CompareFault {
+    /// The file that the fault is of. Where it is the first, the second was not read.
+    pub side: Side,
+    /// `Refused`, `OutOfMemory` or `ReadFailed`.
+    pub fault: Fault,
+}
+
+impl From<AllocError> for Fault {
+    ghost use Rattle.std.specs.Prelude.{◌≡◌};
+    ghost use Rattle.px_engine.specs.declared.faults.Fault.TheVariants.{OutOfMemory};
+
+    ghost from_gives = { λ _ e. e ≡ OutOfMemory };
+
+    fn from(_: AllocError) -> Fault {
+        Fault::OutOfMemory
+    }
+}
+
+impl<T: Drop> From<AllocFailed<T>> for Fault {
+    ghost use Rattle.std.specs.Prelude.{◌≡◌};
+    ghost use Rattle.px_engine.specs.declared.faults.Fault.TheVariants.{OutOfMemory};
+
+    ghost from_gives = { λ _ e. e ≡ OutOfMemory };
+
+    fn from(_: AllocFailed<T>) -> Fault {
+        Fault::OutOfMemory
+    }
+}
+
+impl From<ReadFault> for Fault {
+    ghost use Rattle.std.specs.Prelude.{◌≡◌};
+    ghost use Rattle.px_engine.specs.Faults.{read_fault};
+
+    ghost from_gives = { λ r e. e ≡ read_fault r };
+
+    fn from(fault: ReadFault) -> Fault {
+        match fault {
+            ReadFault::ReadFailed => Fault::ReadFailed,
+            ReadFault::OutOfMemory => Fault::OutOfMemory,
+        }
+    }
+}
+
+impl From<Refusal> for Fault {
+    ghost use Rattle.std.specs.Prelude.{◌≡◌};
+    ghost use Rattle.px_engine.specs.Faults.{refused};
+
+    ghost from_gives = { λ r e. e ≡ refused r };
+
+    fn from(refusal: Refusal) -> Fault {
+        match refusal {
+            Refusal::Content { cause, place } => Fault::Refused { cause, place },
+            Refusal::OutOfMemory => Fault::OutOfMemory,
+        }
+    }
+}
+
+impl From<WriteRefusal> for Fault {
+    ghost use Rattle.std.specs.Prelude.{◌≡◌};
+    ghost use Rattle.px_engine.specs.Faults.{unwritten};
+
+    ghost from_gives = { λ r e. e ≡ unwritten r };
+
+    fn from(refusal: WriteRefusal) -> Fault {
+        match refusal {
+            WriteRefusal::NormalTooLong => Fault::NormalTooLong,
+            WriteRefusal::OutOfMemory => Fault::OutOfMemory,
+            WriteRefusal::WriteFailed => Fault::WriteFailed,
+        }
+    }
+}

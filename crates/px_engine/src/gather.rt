@@ -1,0 +1,174 @@
+// Which texts of a file are captions.
+ghost use Rattle.std.specs.Prelude.{◌≡◌, [], ◌∷◌, ◌++◌, map, filter_map, option_map, if◌then◌else◌, Some, None, bytes_eq, OnOk, IfOk};
+ghost use Rattle.px_bytes.specs.declared.Order.TheVariants.{Most};
+ghost use Rattle.px_field.specs.Values.{spelled};
+ghost use Rattle.px_iim.specs.View.{item_view};
+ghost use Rattle.px_tree.specs.Roles.{at_tag};
+ghost use Rattle.px_tree.specs.Seen.{meaning_of};
+ghost use Rattle.px_engine.specs.Files as files;
+ghost use Rattle.px_engine.specs.Captions.{labelled, iim_captions, utf8_designation, declares_utf8, is_text, text_captions, exif_captions, captions_in};
+ghost use Rattle.px_engine.specs.CaptionView.{caption_view};
+ghost use Rattle.px_engine.specs.Seen.{said_of};
+
+use crate::caption::{Caption, Captions};
+use crate::labels::{Label, label_of};
+use crate::meanings::Said;
+use px_field::{Form, Kind, Value};
+use px_iim::{Iim, Item};
+use px_tree::{Fields, Meaning};
+use std::alloc::{AllocError, Global};
+
+// The groups of record 2 in the order of their captions.
+const GROUPS: [u8; 9] = [5, 120, 105, 110, 115, 116, 80, 25, 103];
+
+// ESC % G.
+const UTF8: [u8; 3] = [0x1B, 0x25, 0x47];
+
+// Appends a DataSet, where it has a label.
+fn push_item<'a>(item: Item<'a>, list: &mut Vec<Caption<'a>>) -> Result<(), AllocError>
+    ensures { OnOk result (map caption_view list.new.items ≡ map caption_view list.old.items ++ filter_map labelled (item_view item.entry ∷ [])) }
+{
+    match label_of(item.number) {
+        Some(label) => {
+            list.push(Caption {
+                label,
+                text: item.octets,
+            })?;
+            Ok(())
+        }
+        None => Ok(()),
+    }
+}
+
+// Appends those DataSets of a group that have a label.
+fn push_group<'a>(items: &[Item<'a>], list: &mut Vec<Caption<'a>>) -> Result<(), AllocError>
+    ensures { OnOk result (map caption_view list.new.items ≡ map caption_view list.old.items ++ filter_map labelled (map item_view items.now)) }
+{
+    for item in items {
+        push_item(*item, list)?;
+    }
+    Ok(())
+}
+
+// Appends the captions of a record.
+#[tactic(auto, unfolding(crate::specs::Captions::iim_captions))]
+pub(crate) fn push_record<'a>(iim: &Iim<'a>, list: &mut Vec<Caption<'a>>) -> Result<(), AllocError>
+    ensures { OnOk result (map caption_view list.new.items ≡ map caption_view list.old.items ++ iim_captions iim.now) }
+{
+    for i in 0..GROUPS.len() {
+        push_group(iim.group(2, GROUPS[i]), list)?;
+    }
+    Ok(())
+}
+
+// Whether the data designate UTF-8.
+fn is_utf8(octets: &[u8]) -> bool
+    ensures { result ≡ bytes_eq octets.now utf8_designation }
+{
+    octets == UTF8.as_slice()
+}
+
+// Whether a record declares UTF-8: by exactly one DataSet 1:90.
+#[tactic(auto, unfolding(crate::specs::Captions::declares_utf8))]
+pub(crate) fn declares_utf8(iim: &Iim) -> bool
+    ensures { result ≡ declares_utf8 iim.now }
+{
+    match iim.group(1, 90) {
+        [item] => is_utf8(item.octets),
+        _ => false,
+    }
+}
+
+// Whether a value is a text.
+fn is_text(kind: Kind) -> bool
+    ensures { result ≡ is_text kind }
+{
+    match kind {
+        Kind::Of(Form::Ascii | Form::Utf8) => true,
+        _ => false,
+    }
+}
+
+// The bytes of a text.
+fn text_of<'a>(value: &Value<'a>) -> Option<&'a [u8]>
+    ensures { option_map (λ x. x.now) result ≡ (if is_text value.now.kind then Some (spelled Most value.now) else None) }
+{
+    if !is_text(value.kind()) {
+        return None;
+    }
+    value.bytes()
+}
+
+// Appends the field at a tag, where it is a text.
+fn push_text<'a>(
+    fields: &Fields<'a>,
+    tag: u16,
+    label: Label,
+    list: &mut Vec<Caption<'a>>,
+) -> Result<(), AllocError>
+    ensures { OnOk result (map caption_view list.new.items ≡ map caption_view list.old.items ++ text_captions label (at_tag tag fields.now)) }
+{
+    let Some(value) = fields.get(tag) else {
+        return Ok(());
+    };
+    let Some(text) = text_of(value) else {
+        return Ok(());
+    };
+    list.push(Caption { label, text })?;
+    Ok(())
+}
+
+// Appends the captions of a main directory.
+#[tactic(auto, unfolding(crate::specs::Captions::exif_captions))]
+pub(crate) fn push_fields<'a>(
+    fields: &Fields<'a>,
+    list: &mut Vec<Caption<'a>>,
+) -> Result<(), AllocError>
+    ensures { OnOk result (map caption_view list.new.items ≡ map caption_view list.old.items ++ exif_captions fields.now) }
+{
+    push_text(fields, 0x010E, Label::Description, list)?;
+    push_text(fields, 0x013B, Label::Artist, list)?;
+    push_text(fields, 0x8298, Label::Copyright, list)
+}
+
+fn exif_captions<'a>(alloc: Global, meaning: &Meaning<'a>) -> Result<Captions<'a>, AllocError>
+    ensures { IfOk result (λ c. c ≡ captions_in (files.Exif (meaning_of meaning.now))) }
+{
+    let mut list = Vec::new(alloc);
+    push_fields(&meaning.main, &mut list)?;
+    match &meaning.iptc {
+        Some(iim) => {
+            push_record(iim, &mut list)?;
+            Ok(Captions {
+                utf8: declares_utf8(iim),
+                list,
+            })
+        }
+        None => Ok(Captions { utf8: false, list }),
+    }
+}
+
+fn iim_captions<'a>(alloc: Global, iim: &Iim<'a>) -> Result<Captions<'a>, AllocError>
+    ensures { IfOk result (λ c. c ≡ captions_in (files.Iim iim.now)) }
+{
+    let mut list = Vec::new(alloc);
+    push_record(iim, &mut list)?;
+    Ok(Captions {
+        utf8: declares_utf8(iim),
+        list,
+    })
+}
+
+/// The captions of what a file says: of an Exif block the fields ImageDescription, Artist and Copyright of
+/// its main directory, where they are of type ASCII or UTF-8, and then those of a record in it; of a
+/// record its labelled DataSets, group by group, each in list order. The bytes are those that were read.
+///
+/// It takes memory for the list. The error is the only one: memory was refused.
+pub fn captions_of<'a>(alloc: Global, said: &Said<'a>) -> Result<Captions<'a>, AllocError>
+    ensures { IfOk result (λ c. c ≡ captions_in (said_of said.now)) }
+{
+    match said {
+        Said::Exif(meaning) => exif_captions(alloc, meaning),
+        Said::Iim(iim) => iim_captions(alloc, iim),
+    }
+}

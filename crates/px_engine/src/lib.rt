@@ -1,0 +1,52 @@
+//! What a file of metadata says, whichever kind of block it holds: an Exif block, perhaps behind the
+//! six bytes that stand before it in a JPEG segment, or a block of IPTC-NAA IIM DataSets. It reads a
+//! file, compares two, writes the one normal form of what is said, and prints it in two texts: a listing
+//! and its captions. It opens no file: bytes come from any `Source` and go to any `Sink`. It edits
+//! nothing, and repairs no block.
+//!
+//! ```
+//! let file = b"\x1c\x02\x78\x80\x04\x00\x00\x00\x03abc\x00"; // a caption, its count extended, a zero behind
+//! let mut reader = Watched::new(file.as_slice());
+//! let mut writer = Watched::new(Vec::new(rt.alloc()));
+//! let len = normalise(rt.alloc(), &mut reader, &mut writer)?; // 8: 1C 02 78 00 03 61 62 63
+//! let mut first = Watched::new(file.as_slice());
+//! let mut second = Watched::new(writer.into_inner().as_slice());
+//! compare(rt.alloc(), &mut first, &mut second)?; // true
+//! let mut lines = Watched::new(Vec::new(rt.alloc()));
+//! captions(rt.alloc(), &mut Watched::new(file.as_slice()), &mut lines)?; // iim, charset: not declared, caption: abc
+//! ```
+#![tactic(auto)]
+
+mod caption;
+mod caption_lines;
+#[cfg(test)]
+mod caption_tests;
+mod dataset_lines;
+mod faults;
+mod field_lines;
+mod gather;
+mod headline;
+mod input;
+mod kinds;
+mod labels;
+pub mod laws;
+mod listing;
+#[cfg(test)]
+mod listing_tests;
+mod meanings;
+mod printing;
+mod runs;
+#[cfg(test)]
+mod tests;
+mod texts;
+
+pub use caption::{Caption, Captions};
+pub use faults::{CompareFault, Fault, Side};
+pub use gather::captions_of;
+pub use headline::{NormalForms, normalise_both};
+pub use input::{read_all, read_any};
+pub use kinds::BlockKind;
+pub use labels::Label;
+pub use meanings::{Said, same};
+pub use printing::{captions, show};
+pub use runs::{check, compare, normalise};
