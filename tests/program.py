@@ -6,6 +6,8 @@ import tempfile
 import threading
 from dataclasses import dataclass, field
 
+CLOSED_PIPE = "a closed pipe"  # in place of a device: what stands behind standard output reads nothing any more
+
 
 @dataclass
 class Outcome:
@@ -32,7 +34,7 @@ def run(program, case, environment=None, seconds=120, keeps_open=()):
 
 def run_in(folder, program, case, environment, seconds, keeps_open):
     given = os.open(os.path.join(folder, case.input_from), os.O_RDONLY) if case.input_from else subprocess.PIPE
-    taken = open(case.output_to, "wb") if case.output_to else subprocess.PIPE
+    taken = sink(case.output_to) if case.output_to else subprocess.PIPE
     try:
         started = subprocess.Popen(
             [program, *case.words],
@@ -67,6 +69,15 @@ def run_in(folder, program, case, environment, seconds, keeps_open):
     for it in threads:
         it.join(20)
     return Outcome(status, said["stdout"], said["stderr"])
+
+
+def sink(name):
+    """What the program's standard output goes to, where the test doesn't read it."""
+    if name != CLOSED_PIPE:
+        return open(name, "wb")
+    reads, writes = os.pipe()
+    os.close(reads)
+    return os.fdopen(writes, "wb")
 
 
 def take(started, name, said):

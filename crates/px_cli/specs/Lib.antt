@@ -1,8 +1,3 @@
-pub mod Values
-pub mod Entries
-pub mod Checks
-pub mod Meanings
-pub mod Forms
-pub mod Tables
-pub mod Runs
+pub mod Words
 pub mod Lines
+pub mod Endings

@@ -1,11 +1,13 @@
 -- Lines and exit statuses.
-use Rattle.std.specs.Prelude.{◌≡◌, ◌⊎◌, ◌+◌, Option, ℕ, List, ◌++◌, codes, decimal, Result, Ok, Err}
+use Rattle.std.specs.Prelude.{◌≡◌, ◌⊎◌, ◌+◌, ℕ, List, Option, Some, None, ◌++◌, codes, decimal, Result, Ok, Err}
 use Rattle.std.specs.Io.KnownBytes.{Appends, Keeps}
 use Rattle.px_bytes.specs.Devices.{AppendsPrefix}
 use Rattle.px_bytes.specs.declared.Cause.{Cause}
 use Rattle.px_bytes.specs.declared.Cause.TheVariants as cause
-use Rattle.px_cli.specs.declared.faults.Fault.{Fault}
-use Rattle.px_cli.specs.declared.faults.Fault.TheVariants.{Refused, Unsupported, OutOfMemory, ReadFailed, WriteFailed}
+use Rattle.px_engine.specs.declared.Fault.{Fault}
+use Rattle.px_engine.specs.declared.Fault.TheVariants.{Refused, NormalTooLong, OutOfMemory, ReadFailed, WriteFailed}
+use Rattle.px_engine.specs.declared.Side.{Side}
+use Rattle.px_engine.specs.declared.Side.TheVariants.{First, Second}
 
 -- the name of a cause
 abbrev pub name_of : Cause → List ℕ
@@ -29,33 +31,71 @@ name_of cause.NoMarker = codes "NoMarker"
 name_of cause.LengthForm = codes "LengthForm"
 name_of cause.DataSetCut = codes "DataSetCut"
 
--- the line of a fault, with its line feed
-abbrev pub line_of : Fault → List ℕ
-line_of (Refused cause place) = codes "refused: " ++ (name_of cause ++ (codes " at " ++ (decimal place ++ codes "\n")))
-line_of Unsupported = codes "refused: Unsupported\n"
-line_of OutOfMemory = codes "failed: OutOfMemory\n"
-line_of ReadFailed = codes "failed: ReadFailed\n"
-line_of WriteFailed = codes "failed: WriteFailed\n"
+-- what ends a line: where two files are compared, which of them it is about
+abbrev pub end_of : Option Side → List ℕ
+end_of None = codes "\n"
+end_of (Some First) = codes " in file 1\n"
+end_of (Some Second) = codes " in file 2\n"
 
--- the line where there are words on the command line
-abbrev pub refused_words : List ℕ
-refused_words = codes "refused words\n"
+-- the line of a fault, with its line feed
+abbrev pub line_of : Fault → Option Side → List ℕ
+line_of (Refused cause place) file = codes "refused: " ++ (name_of cause ++ (codes " at " ++ (decimal place ++ end_of file)))
+line_of NormalTooLong file = codes "refused: NormalTooLong" ++ end_of file
+line_of OutOfMemory file = codes "failed: OutOfMemory" ++ end_of file
+line_of ReadFailed file = codes "failed: ReadFailed" ++ end_of file
+line_of WriteFailed file = codes "failed: WriteFailed" ++ end_of file
 
 -- the exit status of a fault
 abbrev pub status_of : Fault → ℕ
 status_of (Refused cause place) = 2
-status_of Unsupported = 2
+status_of NormalTooLong = 2
 status_of OutOfMemory = 4
 status_of ReadFailed = 4
 status_of WriteFailed = 4
 
--- the status and the line that are due; or, where the writer of lines fails, status 4 and a prefix of the line
-abbrev pub TellsLine : ℕ → List ℕ → ℕ → ℕ → ℕ → Option (List ℕ) → Option (List ℕ) → Type 0
-TellsLine due line status failed failed_now old new =
-    ((status ≡ due) × (failed_now ≡ failed) × Appends old new line)
-    ⊎ ((status ≡ 4) × (failed_now ≡ failed + 1) × AppendsPrefix old new line)
+-- a device over a call: its failures before and after, and its bytes
+pub record Device : Type 0 where
+  pub failed : ℕ
+  pub failed_now : ℕ
+  pub old : Option (List ℕ)
+  pub new : Option (List ℕ)
 
--- done: status 0, and no line; else the status and the line of the fault
-abbrev pub Tells : {A : Type 0} → Result A Fault → ℕ → ℕ → ℕ → Option (List ℕ) → Option (List ℕ) → Type 0
-Tells (Ok x) status failed failed_now old new = (status ≡ 0) × (failed_now ≡ failed) × Keeps old new
-Tells (Err e) status failed failed_now old new = TellsLine (status_of e) (line_of e) status failed failed_now old new
+abbrev pub device : ℕ → ℕ → Option (List ℕ) → Option (List ℕ) → Device
+device failed failed_now old new = record { failed = failed; failed_now = failed_now; old = old; new = new }
+
+-- no call of it failed
+abbrev pub IsWell : Device → Type 0
+IsWell d = d.failed_now ≡ d.failed
+
+-- one did, and no more was asked of it
+abbrev pub IsFailed : Device → Type 0
+IsFailed d = d.failed_now ≡ d.failed + 1
+
+abbrev pub Took : Device → List ℕ → Type 0
+Took d bytes = Appends d.old d.new bytes
+
+abbrev pub TookPrefix : Device → List ℕ → Type 0
+TookPrefix d bytes = AppendsPrefix d.old d.new bytes
+
+abbrev pub TookNothing : Device → Type 0
+TookNothing d = Keeps d.old d.new
+
+-- nothing but a flush: the status that is due, or 4 where it failed
+abbrev pub Flushes : ℕ → ℕ → Device → Type 0
+Flushes due status lines =
+    ((status ≡ due) × IsWell lines × TookNothing lines)
+    ⊎ ((status ≡ 4) × IsFailed lines × TookNothing lines)
+
+-- the status and the line that are due; or, where the writer of lines fails, status 4 and a prefix of the line
+abbrev pub Tells : ℕ → List ℕ → ℕ → Device → Type 0
+Tells due line status lines =
+    ((status ≡ due) × IsWell lines × Took lines line)
+    ⊎ ((status ≡ 4) × IsFailed lines × TookPrefix lines line)
+
+-- those of a fault
+abbrev pub TellsFault : Fault → Option Side → ℕ → Device → Type 0
+TellsFault e file status lines = Tells (status_of e) (line_of e file) status lines
+
+-- those of a text, which ends in a line feed or gets one
+abbrev pub TellsWords : ℕ → List ℕ → ℕ → Device → Type 0
+TellsWords due text status lines = Tells due text status lines ⊎ Tells due (text ++ end_of None) status lines

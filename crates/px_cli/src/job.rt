@@ -1,121 +1,171 @@
-// What the program does, its lines and its statuses.
-ghost use Rattle.std.specs.Prelude.{◌≡◌, ◌<◌, ◌+◌, ◌^◌, List, ℕ, ⊤, Result, Some, Err};
-ghost use Rattle.px_bytes.specs.Devices.{Counts, Writes};
-ghost use Rattle.px_cli.specs.declared.faults.Fault.{Fault};
-ghost use Rattle.px_cli.specs.Runs.{taken, Settles, CountsReads, CountsWrites};
-ghost use Rattle.px_cli.specs.Lines.{name_of, line_of, status_of, refused_words, TellsLine, Tells};
+// What the program does with readers and writers.
+ghost use Rattle.std.specs.Prelude.{◌≡◌, ◌≢◌, ◌<◌, ◌+◌, ◌^◌, Err};
+ghost use Rattle.px_engine.specs.declared.Fault.{Fault};
+ghost use Rattle.px_engine.specs.declared.Fault.TheVariants.{WriteFailed};
+ghost use Rattle.px_engine.specs.Captions.{caption_text};
+ghost use Rattle.px_engine.specs.Listing.{listing};
+ghost use Rattle.px_cli.specs.Endings.{accepted, compared, compared_status, Ends, EndsCheck, EndsCompare, EndsNormalise, EndsText, TellsBehind, TellsChecked, TellsCompared, TellsPrinted, TellsWritten};
+ghost use Rattle.px_cli.specs.Lines.{device};
 
-use crate::faults::Fault;
-use crate::run::normalise;
-use itoa::Buffer;
-use px_bytes::{Cause, Failed, Sink, Source, write_whole};
+use crate::lines::{say, tell};
+use px_bytes::{Sink, Source};
+use px_engine::{BlockKind, CompareFault, Fault, captions, check, compare, normalise, show};
 use std::alloc::Global;
 
-/// What the program does.
+/// What is done with one file.
 #[derive(Clone, Copy, Debug, PartialEq, Eq)]
 pub enum Job {
+    /// What the block says goes to the lines.
+    Show,
+    /// The block's kind goes to the lines.
+    Check,
+    /// The captions of the block go to the lines.
+    Captions,
+    /// The normal form of the block goes to the writer of bytes.
     Normalise,
 }
 
-// The name of a cause in a line.
-fn name(cause: Cause) -> &'static [u8]
-    ensures { result.now ≡ name_of cause }
+// Tells of a normal form, of which nothing is said where it was written.
+fn tell_written<L: Sink>(lines: &mut L, written: Result<u64, Fault>) -> u8
+    requires { L.failed lines.old + 1 < 2 ^ 64 }
+    ensures { TellsWritten written result (device (L.failed lines.old) (L.failed lines.new) (L.bytes_taken lines.old) (L.bytes_taken lines.new)) }
 {
-    match cause {
-        Cause::TooLong => b"TooLong",
-        Cause::UnknownKind => b"UnknownKind",
-        Cause::HeaderCut => b"HeaderCut",
-        Cause::Loop => b"Loop",
-        Cause::DirectoryOutside => b"DirectoryOutside",
-        Cause::EmptyDirectory => b"EmptyDirectory",
-        Cause::Overlap => b"Overlap",
-        Cause::Unsorted => b"Unsorted",
-        Cause::Doubled => b"Doubled",
-        Cause::UnknownType => b"UnknownType",
-        Cause::MisplacedOffset => b"MisplacedOffset",
-        Cause::PointerForm => b"PointerForm",
-        Cause::ValueOutside => b"ValueOutside",
-        Cause::ThumbnailPair => b"ThumbnailPair",
-        Cause::ExtraDirectory => b"ExtraDirectory",
-        Cause::ThumbnailOutside => b"ThumbnailOutside",
-        Cause::NoMarker => b"NoMarker",
-        Cause::LengthForm => b"LengthForm",
-        Cause::DataSetCut => b"DataSetCut",
+    match written {
+        Ok(_) => 0,
+        Err(fault) => tell(lines, fault, None),
     }
 }
 
-// Writes the line of a refusal.
-fn write_refusal<L: Sink>(lines: &mut L, cause: Cause, place: u32) -> Result<(), Failed>
-    requires { L.failed lines.old + 1 < 2 ^ 64 }
-    ensures bytes { Writes result (L.bytes_taken lines.old) (L.bytes_taken lines.new) (line_of (Fault.Refused cause place)) }
-    ensures count { Counts result (L.failed lines.old) (L.failed lines.new) }
+// The line of an accepted block.
+fn accepted(kind: BlockKind) -> &'static [u8]
+    ensures { result.now ≡ accepted kind }
 {
-    let mut digits = Buffer::new();
-    write_whole(lines, b"refused: ")?;
-    write_whole(lines, name(cause))?;
-    write_whole(lines, b" at ")?;
-    write_whole(lines, digits.format(place).as_bytes())?;
-    write_whole(lines, b"\n")
-}
-
-// Writes the line of a fault.
-fn write_line<L: Sink>(lines: &mut L, fault: Fault) -> Result<(), Failed>
-    requires { L.failed lines.old + 1 < 2 ^ 64 }
-    ensures bytes { Writes result (L.bytes_taken lines.old) (L.bytes_taken lines.new) (line_of fault) }
-    ensures count { Counts result (L.failed lines.old) (L.failed lines.new) }
-{
-    match fault {
-        Fault::Refused { cause, place } => write_refusal(lines, cause, place),
-        Fault::Unsupported => write_whole(lines, b"refused: Unsupported\n"),
-        Fault::OutOfMemory => write_whole(lines, b"failed: OutOfMemory\n"),
-        Fault::ReadFailed => write_whole(lines, b"failed: ReadFailed\n"),
-        Fault::WriteFailed => write_whole(lines, b"failed: WriteFailed\n"),
+    match kind {
+        BlockKind::Exif => b"ok exif\n",
+        BlockKind::Iim => b"ok iim\n",
     }
 }
 
-// The exit status of a fault whose line was written.
-fn status(fault: Fault) -> u8
-    ensures { result ≡ status_of fault }
+// Tells of which kind a block is.
+fn tell_checked<L: Sink>(lines: &mut L, checked: Result<BlockKind, Fault>) -> u8
+    requires { L.failed lines.old + 1 < 2 ^ 64 }
+    ensures { TellsChecked checked result (device (L.failed lines.old) (L.failed lines.new) (L.bytes_taken lines.old) (L.bytes_taken lines.new)) }
 {
-    match fault {
-        Fault::Refused { cause: _, place: _ } | Fault::Unsupported => 2,
-        Fault::OutOfMemory | Fault::ReadFailed | Fault::WriteFailed => 4,
+    match checked {
+        Ok(kind) => say(lines, accepted(kind), 0),
+        Err(fault) => tell(lines, fault, None),
     }
 }
 
-/// Writes the line of a fault and flushes, and answers the exit status: the fault's, or 4 where that
-/// fails.
-pub fn tell<L: Sink>(lines: &mut L, fault: Fault) -> u8
-    requires { L.failed lines.old + 1 < 2 ^ 64 }
-    ensures { (r : Result ⊤ Fault) → r ≡ Err fault → Tells r result (L.failed lines.old) (L.failed lines.new) (L.bytes_taken lines.old) (L.bytes_taken lines.new) }
+// Tells of the fault of a text. Where the lines failed, nothing more is asked of them.
+fn tell_behind<L: Sink>(lines: &mut L, fault: Fault) -> u8
+    requires { fault ≢ WriteFailed → L.failed lines.old + 1 < 2 ^ 64 }
+    ensures { TellsBehind fault result (device (L.failed lines.old) (L.failed lines.new) (L.bytes_taken lines.old) (L.bytes_taken lines.new)) }
 {
-    if write_line(lines, fault).is_err() {
+    if fault == Fault::WriteFailed {
         return 4;
     }
-    if lines.flush_all().is_err() {
-        return 4;
-    }
-    status(fault)
+    tell(lines, fault, None)
 }
 
-/// Writes the line where words are refused and flushes, and answers the exit status: 3, or 4 where
-/// that fails.
-pub fn refuse_words<L: Sink>(lines: &mut L) -> u8
-    requires { L.failed lines.old + 1 < 2 ^ 64 }
-    ensures { TellsLine 3 refused_words result (L.failed lines.old) (L.failed lines.new) (L.bytes_taken lines.old) (L.bytes_taken lines.new) }
+// Tells of a text, of which nothing more is said where it was written.
+fn tell_printed<L: Sink>(lines: &mut L, printed: Result<(), Fault>) -> u8
+    requires { (e : Fault) → printed ≡ Err e → e ≢ WriteFailed → L.failed lines.old + 1 < 2 ^ 64 }
+    ensures { TellsPrinted printed result (device (L.failed lines.old) (L.failed lines.new) (L.bytes_taken lines.old) (L.bytes_taken lines.new)) }
 {
-    if write_whole(lines, b"refused words\n").is_err() {
-        return 4;
+    match printed {
+        Ok(()) => 0,
+        Err(fault) => tell_behind(lines, fault),
     }
-    if lines.flush_all().is_err() {
-        return 4;
-    }
-    3
 }
 
-/// Does a job, and answers the exit status: 0 where it is done, 2 where the content is refused, 4
-/// where a device or memory fails. The normal form goes to `out`, and a line of what went wrong to
-/// `lines`.
+// The line of two accepted blocks.
+fn compared(same: bool) -> &'static [u8]
+    ensures { result.now ≡ compared same }
+{
+    match same {
+        true => b"same\n",
+        false => b"different\n",
+    }
+}
+
+// Its status.
+fn compared_status(same: bool) -> u8
+    ensures { result ≡ compared_status same }
+{
+    match same {
+        true => 0,
+        false => 1,
+    }
+}
+
+// Tells whether two blocks say the same.
+fn tell_compared<L: Sink>(lines: &mut L, same: Result<bool, CompareFault>) -> u8
+    requires { L.failed lines.old + 1 < 2 ^ 64 }
+    ensures { TellsCompared same result (device (L.failed lines.old) (L.failed lines.new) (L.bytes_taken lines.old) (L.bytes_taken lines.new)) }
+{
+    match same {
+        Ok(same) => say(lines, compared(same), compared_status(same)),
+        Err(e) => tell(lines, e.fault, Some(e.side)),
+    }
+}
+
+// Writes the normal form to `out`, and a line of what went wrong to `lines`.
+fn run_normalise<R: Source, O: Sink, L: Sink>(
+    alloc: Global,
+    reader: &mut R,
+    out: &mut O,
+    lines: &mut L,
+) -> u8
+    requires reading { R.failed reader.old + 1 < 2 ^ 64 }
+    requires writing { O.failed out.old + 1 < 2 ^ 64 }
+    requires telling { L.failed lines.old + 1 < 2 ^ 64 }
+    ensures { EndsNormalise (device (R.failed reader.old) (R.failed reader.new) (R.bytes_left reader.old) (R.bytes_left reader.new))
+        (device (O.failed out.old) (O.failed out.new) (O.bytes_taken out.old) (O.bytes_taken out.new))
+        (device (L.failed lines.old) (L.failed lines.new) (L.bytes_taken lines.old) (L.bytes_taken lines.new)) result }
+{
+    tell_written(lines, normalise(alloc, reader, out))
+}
+
+// Tells of which kind the block is.
+fn run_check<R: Source, L: Sink>(alloc: Global, reader: &mut R, lines: &mut L) -> u8
+    requires reading { R.failed reader.old + 1 < 2 ^ 64 }
+    requires telling { L.failed lines.old + 1 < 2 ^ 64 }
+    ensures { EndsCheck (device (R.failed reader.old) (R.failed reader.new) (R.bytes_left reader.old) (R.bytes_left reader.new))
+        (device (L.failed lines.old) (L.failed lines.new) (L.bytes_taken lines.old) (L.bytes_taken lines.new)) result }
+{
+    tell_checked(lines, check(alloc, reader))
+}
+
+// Writes what the block says.
+fn run_show<R: Source, L: Sink>(alloc: Global, reader: &mut R, lines: &mut L) -> u8
+    requires reading { R.failed reader.old + 1 < 2 ^ 64 }
+    requires telling { L.failed lines.old + 1 < 2 ^ 64 }
+    ensures { EndsText listing (device (R.failed reader.old) (R.failed reader.new) (R.bytes_left reader.old) (R.bytes_left reader.new))
+        (device (L.failed lines.old) (L.failed lines.new) (L.bytes_taken lines.old) (L.bytes_taken lines.new)) result }
+{
+    let printed = show(alloc, reader, lines);
+    tell_printed(lines, printed)
+}
+
+// Writes the captions of the block.
+fn run_captions<R: Source, L: Sink>(alloc: Global, reader: &mut R, lines: &mut L) -> u8
+    requires reading { R.failed reader.old + 1 < 2 ^ 64 }
+    requires telling { L.failed lines.old + 1 < 2 ^ 64 }
+    ensures { EndsText caption_text (device (R.failed reader.old) (R.failed reader.new) (R.bytes_left reader.old) (R.bytes_left reader.new))
+        (device (L.failed lines.old) (L.failed lines.new) (L.bytes_taken lines.old) (L.bytes_taken lines.new)) result }
+{
+    let printed = captions(alloc, reader, lines);
+    tell_printed(lines, printed)
+}
+
+/// Does a job on one file, and answers the exit status: 0 where it is done, 2 where the block is
+/// refused or its normal form is too long, 4 where a device or memory fails.
+///
+/// The normal form goes to `out`, and all text to `lines`: what `Show` and `Captions` print, the line
+/// of `Check`, and the line of a fault, `refused: CAUSE at PLACE`, `refused: NormalTooLong`, `failed:
+/// OutOfMemory`, `failed: ReadFailed` or `failed: WriteFailed`. A flush follows the line or the text.
+/// Where the lines fail the status is 4, and no more is asked of them. A line takes no memory.
 pub fn run_one<R: Source, O: Sink, L: Sink>(
     alloc: Global,
     job: Job,
@@ -126,14 +176,34 @@ pub fn run_one<R: Source, O: Sink, L: Sink>(
     requires reading { R.failed reader.old + 1 < 2 ^ 64 }
     requires writing { O.failed out.old + 1 < 2 ^ 64 }
     requires telling { L.failed lines.old + 1 < 2 ^ 64 }
-    ensures { (r : Result ⊤ Fault) × Tells r result (L.failed lines.old) (L.failed lines.new) (L.bytes_taken lines.old) (L.bytes_taken lines.new)
-        × CountsReads r (R.failed reader.old) (R.failed reader.new) × CountsWrites r (O.failed out.old) (O.failed out.new)
-        × ((f : List ℕ) → R.bytes_left reader.old ≡ Some f → Settles r (taken f) (O.bytes_taken out.old) (O.bytes_taken out.new)) }
+    ensures { Ends job (device (R.failed reader.old) (R.failed reader.new) (R.bytes_left reader.old) (R.bytes_left reader.new))
+        (device (O.failed out.old) (O.failed out.new) (O.bytes_taken out.old) (O.bytes_taken out.new))
+        (device (L.failed lines.old) (L.failed lines.new) (L.bytes_taken lines.old) (L.bytes_taken lines.new)) result }
 {
     match job {
-        Job::Normalise => match normalise(alloc, reader, out) {
-            Ok(()) => 0,
-            Err(fault) => tell(lines, fault),
-        },
+        Job::Show => run_show(alloc, reader, lines),
+        Job::Check => run_check(alloc, reader, lines),
+        Job::Captions => run_captions(alloc, reader, lines),
+        Job::Normalise => run_normalise(alloc, reader, out, lines),
     }
+}
+
+/// Tells whether two files say the same, and answers the exit status: 0 with the line `same`, 1 with
+/// the line `different`, 2 where a block is refused, 4 where a device or memory fails. The line of a
+/// fault ends in ` in file 1` or ` in file 2`. The first file is read and judged wholly before the
+/// second is read. A line takes no memory.
+pub fn run_compare<R: Source, S: Source, L: Sink>(
+    alloc: Global,
+    first: &mut R,
+    second: &mut S,
+    lines: &mut L,
+) -> u8
+    requires first { R.failed first.old + 1 < 2 ^ 64 }
+    requires second { S.failed second.old + 1 < 2 ^ 64 }
+    requires telling { L.failed lines.old + 1 < 2 ^ 64 }
+    ensures { EndsCompare (device (R.failed first.old) (R.failed first.new) (R.bytes_left first.old) (R.bytes_left first.new))
+        (device (S.failed second.old) (S.failed second.new) (S.bytes_left second.old) (S.bytes_left second.new))
+        (device (L.failed lines.old) (L.failed lines.new) (L.bytes_taken lines.old) (L.bytes_taken lines.new)) result }
+{
+    tell_compared(lines, compare(alloc, first, second))
 }

@@ -1,50 +1,52 @@
-//! The program: it reads an Exif block from standard input and writes its normal form to standard
-//! output. It is a first path, for a main directory of small plain fields alone; whatever else it
-//! can't judge yet it refuses as unsupported.
+//! The program `exifnorm`: it tells what a block of Exif or IPTC (IIM) metadata says, compares two
+//! blocks, and writes the one normal form of a block.
 #![tactic(auto)]
 
-mod entries;
-mod faults;
-mod forms;
 mod job;
+mod lines;
 mod run;
-mod tables;
 #[cfg(test)]
 mod tests;
-mod values;
+mod words;
 
-use crate::faults::Fault;
-use crate::job::{Job, refuse_words, run_one, tell};
+use crate::lines::{say_text, tell};
+use crate::run::run_words;
 use px_bytes::Watched;
+use px_engine::Fault;
+use std::alloc::{AllocError, Global};
 use std::io::ErrorKind;
 use std::process::ExitCode;
 use std::{env, io};
 
-// Standard input to standard output, where there are no words behind the program's name.
-fn run_words(rt: &HostRuntime) -> u8 {
-    let mut lines = Watched::new(io::writer(rt));
-    let mut words = match env::args(rt) {
-        Ok(words) => words,
-        Err(error) if error.kind() == ErrorKind::OutOfMemory => {
-            return tell(&mut lines, Fault::OutOfMemory);
-        }
-        Err(_) => return refuse_words(&mut lines),
-    };
-    let _program = words.next();
-    if words.next().is_some() {
-        return refuse_words(&mut lines);
+// The words behind the program's name.
+fn behind_name<'w>(alloc: Global, all: &'w [String]) -> Result<Vec<&'w str>, AllocError> {
+    let mut words = Vec::new(alloc);
+    for word in all.iter().skip(1) {
+        words.push(word.as_str())?;
     }
-    let mut reader = Watched::new(rt.reader());
-    let mut out = Watched::new(io::writer(rt));
-    run_one(
-        rt.alloc(),
-        Job::Normalise,
-        &mut reader,
-        &mut out,
-        &mut lines,
-    )
+    Ok(words)
+}
+
+// Runs on the words that the system gives.
+fn run_given(rt: &HostRuntime) -> u8 {
+    let alloc = rt.alloc();
+    let mut lines = Watched::new(io::writer(rt));
+    let all: Vec<String> = match env::args(rt) {
+        Ok(args) => match args.collect(alloc) {
+            Ok(all) => all,
+            Err(_) => return tell(&mut lines, Fault::OutOfMemory, None),
+        },
+        Err(error) if error.kind() == ErrorKind::OutOfMemory => {
+            return tell(&mut lines, Fault::OutOfMemory, None);
+        }
+        Err(_) => return say_text(&mut lines, "refused words: they are not text", 3),
+    };
+    match behind_name(alloc, &all) {
+        Ok(words) => run_words(rt, alloc, &words),
+        Err(_) => tell(&mut lines, Fault::OutOfMemory, None),
+    }
 }
 
 fn main(rt: HostRuntime) -> ExitCode {
-    ExitCode::from(run_words(&rt))
+    ExitCode::from(run_given(&rt))
 }

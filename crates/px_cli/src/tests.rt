@@ -1,56 +1,79 @@
 // Runs over memory, and over devices that are slow or fail.
-use crate::job::{Job, run_one};
-use px_bytes::{LIMIT, Watched};
+use crate::job::{Job, run_compare, run_one};
+use crate::run::run_words;
+use crate::words::{One, Words, parse};
+use px_bytes::Watched;
 use std::alloc::Global;
-use std::io;
 use std::io::{ErrorKind, Read, Write};
 use std::test::Fail;
+use std::{fs, io};
 
 // One field, tag 0112 of type SHORT, with the value 1.
 const ONE_SHORT: [u8; 26] =
     *b"MM\x00\x2A\x00\x00\x00\x08\x00\x01\x01\x12\x00\x03\x00\x00\x00\x01\x00\x01\x00\x00\x00\x00\x00\x00";
 
-// A reader of at most three bytes in a call, of which only some calls succeed.
+// The same, and a next offset that leads to the directory itself.
+const LOOP: [u8; 26] =
+    *b"MM\x00\x2A\x00\x00\x00\x08\x00\x01\x01\x12\x00\x03\x00\x00\x00\x01\x00\x01\x00\x00\x00\x00\x00\x08";
+
+// A reader of few bytes in a call, of which only some calls succeed.
 #[derive(Drop)]
 struct Slow<'a> {
     bytes: &'a [u8],
+    most: usize,
     calls: u32,
+    kind: ErrorKind,
 }
 
 impl Read for Slow<'_> {
     fn read(&mut self, buf: &mut [u8]) -> io::Result<usize> {
         if self.calls == 0 {
-            return Err(io::Error::from(ErrorKind::Other));
+            return Err(io::Error::from(self.kind));
         }
         self.calls -= 1;
-        let most = buf.len().min(3);
+        let most = buf.len().min(self.most);
         self.bytes.read(&mut buf[..most])
     }
 }
 
-// A writer that takes so many bytes, and then fails. A flush fails where all of them were taken.
+// How a writer ends.
+#[derive(Clone, Copy)]
+enum End {
+    // The write that it takes no more fails.
+    Fails,
+    // That write takes none of the bytes.
+    TakesNone,
+    // Each flush fails.
+    KeepsBack,
+}
+
+// A writer that takes one byte in a call, so often, and then ends.
 #[derive(Drop)]
 struct Narrow {
     held: Vec<u8>,
-    room: usize,
+    calls: u32,
+    end: End,
 }
 
 impl Write for Narrow {
     fn write(&mut self, buf: &[u8]) -> io::Result<usize> {
-        let most = buf.len().min(self.room);
-        if most == 0 {
-            return Err(io::Error::from(ErrorKind::Other));
+        if self.calls == 0 {
+            return match self.end {
+                End::TakesNone => Ok(0),
+                _ => Err(io::Error::from(ErrorKind::Other)),
+            };
         }
+        self.calls -= 1;
+        let most = buf.len().min(1);
         self.held.extend_from_slice(&buf[..most])?;
-        self.room -= most;
         Ok(most)
     }
 
     fn flush(&mut self) -> io::Result<()> {
-        if self.room == 0 {
-            return Err(io::Error::from(ErrorKind::Other));
+        match self.end {
+            End::KeepsBack => Err(io::Error::from(ErrorKind::Other)),
+            _ => Ok(()),
         }
-        Ok(())
     }
 }
 
@@ -61,12 +84,12 @@ struct Ran {
     lines: Vec<u8>,
 }
 
-// A run over memory.
-fn run(alloc: Global, input: &[u8]) -> Ran {
-    let mut reader = Watched::new(input);
+// A run over a reader and memory.
+fn run_from<R: Read + Drop>(alloc: Global, job: Job, reader: R) -> Ran {
+    let mut reader = Watched::new(reader);
     let mut out = Watched::new(Vec::new(alloc));
     let mut lines = Watched::new(Vec::new(alloc));
-    let status = run_one(alloc, Job::Normalise, &mut reader, &mut out, &mut lines);
+    let status = run_one(alloc, job, &mut reader, &mut out, &mut lines);
     Ran {
         status,
         out: out.into_inner(),
@@ -74,209 +97,356 @@ fn run(alloc: Global, input: &[u8]) -> Ran {
     }
 }
 
-#[test]
-fn writes_the_normal_form(rt: HostRuntime) -> Result<(), Fail> {
-    let behind =
-        b"MM\x00\x2A\x00\x00\x00\x08\x00\x01\x01\x12\x00\x03\x00\x00\x00\x01\x00\x01\x00\x00\x00\x00\x00\x00junk";
-    let least =
-        b"II\x2A\x00\x08\x00\x00\x00\x01\x00\x12\x01\x03\x00\x01\x00\x00\x00\x01\x00\xBE\xEF\x00\x00\x00\x00";
-    for input in [ONE_SHORT.as_slice(), behind.as_slice(), least.as_slice()] {
-        let ran = run(rt.alloc(), input);
-        assert_eq!(rt; ran.status, 0);
-        assert_eq!(rt; ran.out.as_slice(), ONE_SHORT.as_slice());
-        assert_eq!(rt; ran.lines.len(), 0);
+// A run of one SHORT over a narrow writer of its normal form.
+fn run_to(alloc: Global, calls: u32, end: End) -> Ran {
+    let mut reader = Watched::new(ONE_SHORT.as_slice());
+    let mut out = Watched::new(Narrow {
+        held: Vec::new(alloc),
+        calls,
+        end,
+    });
+    let mut lines = Watched::new(Vec::new(alloc));
+    let status = run_one(alloc, Job::Normalise, &mut reader, &mut out, &mut lines);
+    let Narrow {
+        held,
+        calls: _,
+        end: _,
+    } = out.into_inner();
+    Ran {
+        status,
+        out: held,
+        lines: lines.into_inner(),
     }
-    let none =
-        b"MM\x00\x2A\x00\x00\x00\x08\x00\x01\x01\x0E\x00\x02\x00\x00\x00\x00\xFF\xFF\xFF\xFF\x00\x00\x00\x00";
-    let form =
-        b"MM\x00\x2A\x00\x00\x00\x08\x00\x01\x01\x0E\x00\x02\x00\x00\x00\x00\x00\x00\x00\x00\x00\x00\x00\x00";
-    let ran = run(rt.alloc(), none.as_slice());
-    assert_eq!(rt; ran.status, 0);
-    assert_eq!(rt; ran.out.as_slice(), form.as_slice());
-    Ok(())
 }
 
-// Two shorts, a byte and a text, least significant byte first, at an odd place.
-#[test]
-fn turns_each_type(rt: HostRuntime) -> Result<(), Fail> {
-    let least =
-        b"II\x2A\x00\x09\x00\x00\x00\xFF\x04\x00\x00\x90\x01\x00\x03\x00\x00\x00\x01\x02\x03\xEE\x01\x90\x02\x00\x04\x00\x00\x00abc\x00\x02\x90\x03\x00\x02\x00\x00\x00\x01\x02\x03\x04\x03\x90\x04\x00\x01\x00\x00\x00\x01\x02\x03\x04\x00\x00\x00\x00";
-    let form =
-        b"MM\x00\x2A\x00\x00\x00\x08\x00\x04\x90\x00\x00\x01\x00\x00\x00\x03\x01\x02\x03\x00\x90\x01\x00\x02\x00\x00\x00\x04abc\x00\x90\x02\x00\x03\x00\x00\x00\x02\x02\x01\x04\x03\x90\x03\x00\x04\x00\x00\x00\x01\x04\x03\x02\x01\x00\x00\x00\x00";
-    let ran = run(rt.alloc(), least.as_slice());
-    assert_eq!(rt; ran.status, 0);
-    assert_eq!(rt; ran.out.as_slice(), form.as_slice());
-    let again = run(rt.alloc(), form.as_slice());
-    assert_eq!(rt; again.status, 0);
-    assert_eq!(rt; again.out.as_slice(), form.as_slice());
-    Ok(())
-}
-
-#[test]
-fn refuses_by_the_first_fault(rt: HostRuntime) -> Result<(), Fail> {
-    let cases: [(&[u8], &[u8]); 15] = [
-        (&ONE_SHORT[..25], b"refused: DirectoryOutside at 4\n"),
-        (&ONE_SHORT[..9], b"refused: DirectoryOutside at 4\n"),
-        (&ONE_SHORT[..8], b"refused: DirectoryOutside at 4\n"),
-        (&ONE_SHORT[..7], b"refused: HeaderCut at 7\n"),
-        (&ONE_SHORT[..1], b"refused: HeaderCut at 1\n"),
-        (b"", b"refused: UnknownKind at 0\n"),
-        (
-            b"MM\x00\x2B\x00\x00\x00\x08",
-            b"refused: UnknownKind at 0\n",
-        ),
-        (
-            b"MM\x00\x2A\x00\x00\x00\x08\x00\x01\x01\x12\x00\x0D\x00\x00\x00\x01\x00\x01\x00\x00\x00\x00\x00\x00",
-            b"refused: UnknownType at 10\n",
-        ),
-        (
-            b"MM\x00\x2A\x00\x00\x00\x08\x00\x01\x01\x12\x00\x00\x00\x00\x00\x01\x00\x01\x00\x00\x00\x00\x00\x00",
-            b"refused: UnknownType at 10\n",
-        ),
-        (
-            b"MM\x00\x2A\x00\x00\x00\x08\x00\x02\x01\x12\x00\x03\x00\x00\x00\x01\x00\x01\x00\x00\x01\x12\x00\x03\x00\x00\x00\x01\x00\x01\x00\x00\x00\x00\x00\x00",
-            b"refused: Doubled at 22\n",
-        ),
-        (
-            b"MM\x00\x2A\x00\x00\x00\x08\x00\x02\x01\x12\x00\x03\x00\x00\x00\x01\x00\x01\x00\x00\x01\x00\x00\x0D\x00\x00\x00\x01\x00\x01\x00\x00\x00\x00\x00\x00",
-            b"refused: Unsorted at 22\n",
-        ),
-        (
-            b"MM\x00\x2A\x00\x00\x00\x00\x00\x01\x01\x12\x00\x03\x00\x00\x00\x01\x00\x01\x00\x00\x00\x00\x00\x00",
-            b"refused: DirectoryOutside at 4\n",
-        ),
-        (
-            b"MM\x00\x2A\x00\x00\x00\x04\x00\x01\x01\x12\x00\x03\x00\x00\x00\x01\x00\x01\x00\x00\x00\x00\x00\x00",
-            b"refused: EmptyDirectory at 4\n",
-        ),
-        (
-            b"MM\x00\x2A\x00\x00\x00\x08\x00\x00\x00\x00\x00\x00",
-            b"refused: EmptyDirectory at 8\n",
-        ),
-        (
-            b"MM\x00\x2A\x00\x00\x00\x06\x00\x00\x00\x00\x00\x00\x00\x00\x00\x00\x00\x00\x00\x00\x00\x00\x00\x00\x00\x00\x00\x00\x00\x00\x00\x00\x00\x00\x00\x00\x00\x00\x00\x00\x00\x00\x00\x00\x00\x00\x00\x00\x00\x00\x00\x00\x00\x00\x00\x00\x00\x00\x00\x00\x00\x00\x00\x00\x00\x00\x00\x00\x00\x00\x00\x00\x00\x00\x00\x00\x00\x00\x00\x00\x00\x00",
-            b"refused: Overlap at 4\n",
-        ),
-    ];
-    for (input, line) in cases {
-        let ran = run(rt.alloc(), input);
-        assert_eq!(rt; ran.status, 2);
-        assert_eq!(rt; ran.lines.as_slice(), line);
-        assert_eq!(rt; ran.out.len(), 0);
+// A run over a narrow writer of lines; what it took stands in `out`.
+fn run_telling(alloc: Global, job: Job, input: &[u8], calls: u32, end: End) -> Ran {
+    let mut reader = Watched::new(input);
+    let mut out = Watched::new(Vec::new(alloc));
+    let mut lines = Watched::new(Narrow {
+        held: Vec::new(alloc),
+        calls,
+        end,
+    });
+    let status = run_one(alloc, job, &mut reader, &mut out, &mut lines);
+    let Narrow {
+        held,
+        calls: _,
+        end: _,
+    } = lines.into_inner();
+    Ran {
+        status,
+        out: out.into_inner(),
+        lines: held,
     }
-    Ok(())
 }
 
-#[test]
-fn leaves_what_it_cannot_judge_yet(rt: HostRuntime) -> Result<(), Fail> {
-    let cases: [&[u8]; 7] = [
-        b"Exif\x00\x00",
-        b"\x1C\x02\x78\x00\x00",
-        b"MM\x00\x2A\x00\x00\x00\x08\x00\x01\x01\x00\x00\x03\x00\x00\x00\x01\x00\x01\x00\x00\x00\x00\x00\x00",
-        b"MM\x00\x2A\x00\x00\x00\x08\x00\x01\x83\xBB\x00\x01\x00\x00\x00\x01\x1C\x00\x00\x00\x00\x00\x00\x00",
-        b"MM\x00\x2A\x00\x00\x00\x08\x00\x01\x01\x12\x00\x81\x00\x00\x00\x01\x00\x01\x00\x00\x00\x00\x00\x00",
-        b"MM\x00\x2A\x00\x00\x00\x08\x00\x01\x01\x12\x00\x03\x00\x00\x00\x03\x00\x01\x00\x00\x00\x00\x00\x00",
-        b"MM\x00\x2A\x00\x00\x00\x08\x00\x01\x01\x12\x00\x03\x00\x00\x00\x01\x00\x01\x00\x00\x00\x00\x00\x08",
-    ];
-    for input in cases {
-        let ran = run(rt.alloc(), input);
-        assert_eq!(rt; ran.status, 2);
-        assert_eq!(rt; ran.lines.as_slice(), b"refused: Unsupported\n".as_slice());
-        assert_eq!(rt; ran.out.len(), 0);
+// A comparison over readers.
+fn run_both<R: Read + Drop, S: Read + Drop>(alloc: Global, first: R, second: S) -> Ran {
+    let mut first = Watched::new(first);
+    let mut second = Watched::new(second);
+    let mut lines = Watched::new(Vec::new(alloc));
+    let status = run_compare(alloc, &mut first, &mut second, &mut lines);
+    Ran {
+        status,
+        out: Vec::new(alloc),
+        lines: lines.into_inner(),
     }
-    Ok(())
 }
 
+// ---- jobs
+
 #[test]
-fn reads_up_to_the_limit(rt: HostRuntime) -> Result<(), Fail> {
-    let mut block = Vec::from_slice(rt.alloc(), &ONE_SHORT)?;
-    block.resize(LIMIT as usize, 0)?;
-    let ran = run(rt.alloc(), &block);
+fn normalises_in_pieces(rt: HostRuntime) {
+    let slow = Slow {
+        bytes: &ONE_SHORT,
+        most: 3,
+        calls: 20,
+        kind: ErrorKind::Other,
+    };
+    let ran = run_from(rt.alloc(), Job::Normalise, slow);
     assert_eq!(rt; ran.status, 0);
     assert_eq!(rt; ran.out.as_slice(), ONE_SHORT.as_slice());
-    block.push(0)?;
-    let long = run(rt.alloc(), &block);
-    assert_eq!(rt; long.status, 2);
+    assert_eq!(rt; ran.lines.len(), 0);
+}
+
+#[test]
+fn checks(rt: HostRuntime) {
+    let ran = run_from(rt.alloc(), Job::Check, ONE_SHORT.as_slice());
+    assert_eq!(rt; ran.status, 0);
+    assert_eq!(rt; ran.out.len(), 0);
+    assert_eq!(rt; ran.lines.as_slice(), b"ok exif\n".as_slice());
+    let ran = run_from(rt.alloc(), Job::Check, b"\x1C\x02\x78\x00\x00".as_slice());
+    assert_eq!(rt; ran.status, 0);
+    assert_eq!(rt; ran.lines.as_slice(), b"ok iim\n".as_slice());
+}
+
+#[test]
+fn shows(rt: HostRuntime) {
+    let ran = run_from(rt.alloc(), Job::Show, ONE_SHORT.as_slice());
+    assert_eq!(rt; ran.status, 0);
+    assert_eq!(rt; ran.out.len(), 0);
     assert_eq!(rt;
-        long.lines.as_slice(),
-        b"refused: TooLong at 16777216\n".as_slice()
+        ran.lines.as_slice(),
+        b"exif\n[main]\n0112 SHORT 1: 1\n".as_slice()
     );
-    assert_eq!(rt; long.out.len(), 0);
-    Ok(())
 }
 
 #[test]
-fn tells_of_devices_that_fail(rt: HostRuntime) -> Result<(), Fail> {
-    for (calls, status, line) in [
-        (20, 0, b"".as_slice()),
-        (1, 4, b"failed: ReadFailed\n".as_slice()),
-    ] {
-        let mut reader = Watched::new(Slow {
+fn tells_captions(rt: HostRuntime) {
+    let ran = run_from(rt.alloc(), Job::Captions, ONE_SHORT.as_slice());
+    assert_eq!(rt; ran.status, 0);
+    assert_eq!(rt; ran.out.len(), 0);
+    assert_eq!(rt; ran.lines.as_slice(), b"exif\n".as_slice());
+}
+
+#[test]
+fn refuses_by_each_job(rt: HostRuntime) {
+    for job in [Job::Show, Job::Check, Job::Captions, Job::Normalise] {
+        let ran = run_from(rt.alloc(), job, LOOP.as_slice());
+        assert_eq!(rt; ran.status, 2);
+        assert_eq!(rt; ran.out.len(), 0);
+        assert_eq!(rt; ran.lines.as_slice(), b"refused: Loop at 22\n".as_slice());
+    }
+}
+
+// ---- comparisons
+
+#[test]
+fn compares(rt: HostRuntime) {
+    let ran = run_both(rt.alloc(), ONE_SHORT.as_slice(), ONE_SHORT.as_slice());
+    assert_eq!(rt; ran.status, 0);
+    assert_eq!(rt; ran.lines.as_slice(), b"same\n".as_slice());
+    let ran = run_both(
+        rt.alloc(),
+        ONE_SHORT.as_slice(),
+        b"\x1C\x02\x78\x00\x00".as_slice(),
+    );
+    assert_eq!(rt; ran.status, 1);
+    assert_eq!(rt; ran.lines.as_slice(), b"different\n".as_slice());
+}
+
+#[test]
+fn names_the_file_that_is_refused(rt: HostRuntime) {
+    let ran = run_both(rt.alloc(), ONE_SHORT.as_slice(), b"".as_slice());
+    assert_eq!(rt; ran.status, 2);
+    assert_eq!(rt;
+        ran.lines.as_slice(),
+        b"refused: UnknownKind at 0 in file 2\n".as_slice()
+    );
+    let failing = Slow {
+        bytes: &ONE_SHORT,
+        most: 1,
+        calls: 0,
+        kind: ErrorKind::Other,
+    };
+    let ran = run_both(rt.alloc(), b"".as_slice(), failing);
+    assert_eq!(rt; ran.status, 2);
+    assert_eq!(rt;
+        ran.lines.as_slice(),
+        b"refused: UnknownKind at 0 in file 1\n".as_slice()
+    );
+}
+
+// ---- readers that fail
+
+#[test]
+fn tells_of_each_failed_read(rt: HostRuntime) {
+    for calls in 0..27u32 {
+        for kind in [ErrorKind::Other, ErrorKind::Interrupted] {
+            let slow = Slow {
+                bytes: &ONE_SHORT,
+                most: 1,
+                calls,
+                kind,
+            };
+            let ran = run_from(rt.alloc(), Job::Normalise, slow);
+            assert_eq!(rt; ran.status, 4);
+            assert_eq!(rt; ran.out.len(), 0);
+            assert_eq!(rt; ran.lines.as_slice(), b"failed: ReadFailed\n".as_slice());
+        }
+    }
+}
+
+#[test]
+fn names_the_file_that_fails(rt: HostRuntime) {
+    for calls in 0..27u32 {
+        let first = Slow {
             bytes: &ONE_SHORT,
+            most: 1,
             calls,
-        });
-        let mut out = Watched::new(Vec::new(rt.alloc()));
-        let mut lines = Watched::new(Vec::new(rt.alloc()));
-        let ended = run_one(
-            rt.alloc(),
-            Job::Normalise,
-            &mut reader,
-            &mut out,
-            &mut lines,
+            kind: ErrorKind::Other,
+        };
+        let ran = run_both(rt.alloc(), first, ONE_SHORT.as_slice());
+        assert_eq!(rt; ran.status, 4);
+        assert_eq!(rt;
+            ran.lines.as_slice(),
+            b"failed: ReadFailed in file 1\n".as_slice()
         );
-        let written = out.into_inner();
-        let told = lines.into_inner();
-        assert_eq!(rt; ended, status);
-        assert_eq!(rt; written.len(), if status == 0 { 26 } else { 0 });
-        assert_eq!(rt; told.as_slice(), line);
-    }
-    // the last room is taken by the form, and only the flush fails
-    for room in [10, 26] {
-        let mut reader = Watched::new(ONE_SHORT.as_slice());
-        let mut out = Watched::new(Narrow {
-            held: Vec::new(rt.alloc()),
-            room,
-        });
-        let mut lines = Watched::new(Vec::new(rt.alloc()));
-        let ended = run_one(
-            rt.alloc(),
-            Job::Normalise,
-            &mut reader,
-            &mut out,
-            &mut lines,
+        let second = Slow {
+            bytes: &ONE_SHORT,
+            most: 1,
+            calls,
+            kind: ErrorKind::Interrupted,
+        };
+        let ran = run_both(rt.alloc(), ONE_SHORT.as_slice(), second);
+        assert_eq!(rt; ran.status, 4);
+        assert_eq!(rt;
+            ran.lines.as_slice(),
+            b"failed: ReadFailed in file 2\n".as_slice()
         );
-        let Narrow { held, room: _ } = out.into_inner();
-        let told = lines.into_inner();
-        assert_eq!(rt; ended, 4);
-        assert_eq!(rt; held.as_slice(), &ONE_SHORT[..room]);
-        assert_eq!(rt; told.as_slice(), b"failed: WriteFailed\n".as_slice());
     }
+}
+
+// ---- writers that fail
+
+#[test]
+fn stops_at_each_failed_write(rt: HostRuntime) {
+    for calls in 0..26u32 {
+        for end in [End::Fails, End::TakesNone] {
+            let ran = run_to(rt.alloc(), calls, end);
+            assert_eq!(rt; ran.status, 4);
+            assert_eq!(rt; ran.out.as_slice(), &ONE_SHORT[..calls as usize]);
+            assert_eq!(rt; ran.lines.as_slice(), b"failed: WriteFailed\n".as_slice());
+        }
+    }
+}
+
+#[test]
+fn takes_all_in_single_bytes(rt: HostRuntime) {
+    let ran = run_to(rt.alloc(), 26, End::Fails);
+    assert_eq!(rt; ran.status, 0);
+    assert_eq!(rt; ran.out.as_slice(), ONE_SHORT.as_slice());
+    assert_eq!(rt; ran.lines.len(), 0);
+}
+
+#[test]
+fn tells_of_a_failed_flush(rt: HostRuntime) {
+    let ran = run_to(rt.alloc(), 26, End::KeepsBack);
+    assert_eq!(rt; ran.status, 4);
+    assert_eq!(rt; ran.out.as_slice(), ONE_SHORT.as_slice());
+    assert_eq!(rt; ran.lines.as_slice(), b"failed: WriteFailed\n".as_slice());
+}
+
+#[test]
+fn stops_where_a_line_fails(rt: HostRuntime) {
+    let line = b"refused: Loop at 22\n";
+    for calls in 0..20u32 {
+        let ran = run_telling(rt.alloc(), Job::Check, &LOOP, calls, End::Fails);
+        assert_eq!(rt; ran.status, 4);
+        assert_eq!(rt; ran.lines.as_slice(), &line[..calls as usize]);
+    }
+    let ran = run_telling(rt.alloc(), Job::Normalise, &LOOP, 20, End::KeepsBack);
+    assert_eq!(rt; ran.status, 4);
+    assert_eq!(rt; ran.out.len(), 0);
+    assert_eq!(rt; ran.lines.as_slice(), line.as_slice());
+}
+
+#[test]
+fn stops_where_a_text_fails(rt: HostRuntime) {
+    let text = b"exif\n[main]\n0112 SHORT 1: 1\n";
+    for calls in 0..28u32 {
+        let ran = run_telling(rt.alloc(), Job::Show, &ONE_SHORT, calls, End::TakesNone);
+        assert_eq!(rt; ran.status, 4);
+        assert_eq!(rt; ran.lines.as_slice(), &text[..calls as usize]);
+    }
+    let ran = run_telling(rt.alloc(), Job::Captions, &ONE_SHORT, 5, End::KeepsBack);
+    assert_eq!(rt; ran.status, 4);
+    assert_eq!(rt; ran.lines.as_slice(), b"exif\n".as_slice());
+}
+
+// ---- words
+
+fn is_one(words: &Words, due: One, name: &str) -> bool {
+    match words {
+        Words::One { what, file } => *what == due && file.as_str() == name,
+        _ => false,
+    }
+}
+
+fn is_normalise(words: &Words, name: &str, other: &str) -> bool {
+    match words {
+        Words::Normalise { file, out } => file.as_str() == name && out.as_str() == other,
+        _ => false,
+    }
+}
+
+fn is_compare(words: &Words, name: &str, other: &str) -> bool {
+    match words {
+        Words::Compare { first, second } => first.as_str() == name && second.as_str() == other,
+        _ => false,
+    }
+}
+
+fn is_refused(words: &Words) -> bool {
+    matches!(words, Words::Refused(_))
+}
+
+fn is_refused_by(words: &Words, line: &str) -> bool {
+    match words {
+        Words::Refused(text) => text.as_str() == line,
+        _ => false,
+    }
+}
+
+#[test]
+fn parses_each_command(rt: HostRuntime) {
+    let alloc = rt.alloc();
+    assert!(rt; is_one(&parse(alloc, &["show", "a"]), One::Show, "a"));
+    assert!(rt; is_one(&parse(alloc, &["check", "a"]), One::Check, "a"));
+    assert!(rt; is_one(&parse(alloc, &["captions", "a"]), One::Captions, "a"));
+    assert!(rt; is_normalise(&parse(alloc, &["normalise", "a", "b"]), "a", "b"));
+    assert!(rt; is_compare(&parse(alloc, &["compare", "a", "a"]), "a", "a"));
+    assert!(rt; matches!(parse(alloc, &[]), Words::Filter));
+    assert!(rt; matches!(parse(alloc, &["--help"]), Words::Help(_)));
+}
+
+#[test]
+fn refuses_other_words(rt: HostRuntime) {
+    let alloc = rt.alloc();
+    let line = "refused words: OUT is FILE";
+    assert!(rt; is_refused_by(&parse(alloc, &["normalise", "a", "a"]), line));
+    assert!(rt; is_refused(&parse(alloc, &["check"])));
+    assert!(rt; is_refused(&parse(alloc, &["check", "a", "b"])));
+    assert!(rt; is_refused(&parse(alloc, &["chek", "a"])));
+    assert!(rt; is_refused(&parse(alloc, &["help"])));
+    assert!(rt; is_refused(&parse(alloc, &["a"])));
+    assert!(rt; is_refused(&parse(alloc, &[""])));
+}
+
+// ---- files
+
+#[test]
+fn works_on_files(rt: HostRuntime) -> Result<(), Fail> {
+    let alloc = rt.alloc();
+    fs::write(&rt, "px_cli_one", ONE_SHORT.as_slice())?;
+    assert_eq!(rt; run_words(&rt, alloc, &["check", "px_cli_one"]), 0);
+    assert_eq!(rt; run_words(&rt, alloc, &["show", "px_cli_one"]), 0);
+    assert_eq!(rt; run_words(&rt, alloc, &["captions", "px_cli_one"]), 0);
+    assert_eq!(rt;
+        run_words(&rt, alloc, &["compare", "px_cli_one", "px_cli_one"]),
+        0
+    );
+    assert_eq!(rt;
+        run_words(&rt, alloc, &["normalise", "px_cli_one", "px_cli_form"]),
+        0
+    );
+    let form = fs::read(&rt, "px_cli_form")?;
+    assert_eq!(rt; form.as_slice(), ONE_SHORT.as_slice());
     Ok(())
 }
 
 #[test]
-fn tells_of_lines_that_fail(rt: HostRuntime) -> Result<(), Fail> {
-    let line = b"refused: HeaderCut at 7\n";
-    // the last room is taken by the line, and only the flush fails
-    for room in [10, 24] {
-        let mut reader = Watched::new(&ONE_SHORT[..7]);
-        let mut out = Watched::new(Vec::new(rt.alloc()));
-        let mut lines = Watched::new(Narrow {
-            held: Vec::new(rt.alloc()),
-            room,
-        });
-        let ended = run_one(
-            rt.alloc(),
-            Job::Normalise,
-            &mut reader,
-            &mut out,
-            &mut lines,
-        );
-        let written = out.into_inner();
-        let Narrow { held, room: _ } = lines.into_inner();
-        assert_eq!(rt; ended, 4);
-        assert_eq!(rt; written.len(), 0);
-        assert_eq!(rt; held.as_slice(), &line[..room]);
-    }
+fn empties_the_output_of_a_refusal(rt: HostRuntime) -> Result<(), Fail> {
+    let alloc = rt.alloc();
+    fs::write(&rt, "px_cli_loop", LOOP.as_slice())?;
+    fs::write(&rt, "px_cli_left", b"old".as_slice())?;
+    assert_eq!(rt;
+        run_words(&rt, alloc, &["normalise", "px_cli_loop", "px_cli_left"]),
+        2
+    );
+    let left = fs::read(&rt, "px_cli_left")?;
+    assert_eq!(rt; left.len(), 0);
+    assert_eq!(rt; run_words(&rt, alloc, &["check", "px_cli_absent"]), 4);
     Ok(())
 }

@@ -1,0 +1,18 @@
+use Rattle.std.proofs.Common.{◌≡◌, ℕ, List, Bor, ap, ap₂, ◌∙◌, map, refl, true, rules, Option}
+use Rattle.clap.specs.Words.{App, Row, Text, app_of, is_simple, subcommand_of, subcommand_rows_of, takes}
+use Rattle.clap.proofs.OnLiterals.{clap_on_literals}
+use Rattle.px_cli.specs.declared.words.Words.{Words}
+use Rattle.px_cli.specs.declared.words.Words.TheVariants as words_of
+use Rattle.px_cli.specs.Words.{exifnorm, Asks, AsksFiles}
+use Rattle.px_cli.proofs.words.parse.Goals as goal
+
+is_simple_one : is_simple exifnorm ≡ true
+unfolding clap_on_literals
+is_simple_one = refl
+
+pub returns-in-Err-clause-taken : goal.returns-in-Err-clause-taken
+returns-in-Err-clause-taken c = λ taken.
+    let app : app_of c.in-Ok.command ≡ exifnorm = search rules in
+    let memory : c.read_error.result ≡ words_of.NoMemory = c.read_error.ensures.memory (c.in-Err.ensures.passes
+    (ap (λ (a : App). takes a (map (λ (w : Bor (List ℕ)). w.now) c.args.words.now)) app ∙ taken.0)) in
+    rw memory tt

@@ -1,0 +1,86 @@
+-- What the words of a command line ask for.
+use Rattle.std.specs.Prelude.{◌≡◌, ◌≢◌, ◌∷◌, ◌++◌, ℕ, List, [], Option, Some, codes, true, is_some, ⊤}
+use Rattle.clap.specs.Words.{App, Row, Rule, Shape, Text, first_of, new_app, new_rule, subcommand_of, takes, with_rule, with_subcommand}
+use Rattle.px_cli.specs.declared.words.One.{One}
+use Rattle.px_cli.specs.declared.words.One.TheVariants as one
+use Rattle.px_cli.specs.declared.words.Words.{Words}
+use Rattle.px_cli.specs.declared.words.Words.TheVariants as words
+
+-- ---- the command that clap is handed
+
+-- a word that has to be there
+abbrev pub required : Text → Rule
+required id = record (new_rule id) { required = true }
+
+-- a subcommand with one such word, and one with two
+abbrev pub of_one : Text → Shape
+of_one name = (with_rule (new_app name) (required (codes "FILE"))).top
+
+abbrev pub of_two : Text → Text → Text → Shape
+of_two name first second = (with_rule (with_rule (new_app name) (required first)) (required second)).top
+
+-- the command itself: one of its subcommands is required, and the program's name is not among the words
+abbrev pub bare : App
+bare = record (new_app (codes "exifnorm")) {
+  top = record (new_app (codes "exifnorm")).top {
+    no_binary_name = true;
+    disable_help_subcommand = true;
+    subcommand_required = true;
+  };
+}
+
+abbrev pub exifnorm : App
+exifnorm =
+    with_subcommand (with_subcommand (with_subcommand (with_subcommand (with_subcommand bare
+    (of_one (codes "show"))) (of_one (codes "check"))) (of_one (codes "captions")))
+    (of_two (codes "normalise") (codes "FILE") (codes "OUT"))) (of_two (codes "compare") (codes "FIRST") (codes "SECOND"))
+
+-- ---- what the match of the words asks for
+
+abbrev pub name_of : One → Text
+name_of one.Show = codes "show"
+name_of one.Check = codes "check"
+name_of one.Captions = codes "captions"
+
+-- the line where one word names both files of normalise
+abbrev pub out_is_file : Text
+out_is_file = codes "refused words: OUT is FILE"
+
+-- the match has this subcommand, with this word at an id
+abbrev pub Has : Option (Text × List Row) → Text → Text → Text → Type 0
+Has met name id word = (rows : List Row) × (met ≡ Some (name, rows)) × (first_of id rows ≡ Some word)
+
+-- and with these two
+abbrev pub HasBoth : Option (Text × List Row) → Text → Text → Text → Text → Text → Type 0
+HasBoth met name id word other_id other =
+    (rows : List Row) × (met ≡ Some (name, rows)) × (first_of id rows ≡ Some word) × (first_of other_id rows ≡ Some other)
+
+-- the files are those that the match names
+abbrev pub Asks : Option (Text × List Row) → Words → Type 0
+Asks met (words.One what file) = Has met (name_of what) (codes "FILE") file
+Asks met (words.Normalise file out) = HasBoth met (codes "normalise") (codes "FILE") file (codes "OUT") out × (file ≢ out)
+Asks met (words.Compare first second) = HasBoth met (codes "compare") (codes "FIRST") first (codes "SECOND") second
+Asks met _ = ⊤
+
+-- where the words are taken: files to work on, want of memory, or one word for both files of normalise
+abbrev pub AsksFiles : Option (Text × List Row) → Words → Type 0
+AsksFiles met words.Filter = ⊥
+AsksFiles met (words.Help text) = ⊥
+AsksFiles met (words.Refused text) =
+    (file : Text) × HasBoth met (codes "normalise") (codes "FILE") file (codes "OUT") file × (text ≡ out_is_file)
+AsksFiles met _ = ⊤
+
+-- the command takes the words, and they name a subcommand
+abbrev pub AreTaken : List Text → Type 0
+AreTaken ws = (takes exifnorm ws ≡ true) × (is_some (subcommand_of exifnorm ws) ≡ true)
+
+-- both of a match
+abbrev pub AsksIn : Option (Text × List Row) → Words → Type 0
+AsksIn met w = Asks met w × AsksFiles met w
+
+-- a text, or want of memory
+abbrev pub IsTold : Words → Type 0
+IsTold (words.Help text) = ⊤
+IsTold (words.Refused text) = ⊤
+IsTold words.NoMemory = ⊤
+IsTold _ = ⊥
