@@ -1,11 +1,14 @@
 pub mod Numbers
 pub mod Marks
+pub mod EachLaws
+pub mod ByteLaws
 pub mod NumberLaws
 pub mod Parts
 pub mod PartLaws
 pub mod Checks
 pub mod CheckLaws
 pub mod Devices
+pub mod Watching
 pub mod WriteLaws
 pub mod Waiting
 pub mod WaitingLaws

@@ -1,7 +1,7 @@
 //! What every part that reads or writes blocks of metadata stands on: numbers in either byte order,
-//! bytes of bounded length, ranges that share no byte, the causes of a refusal, and readers and
-//! writers that count their failures. It knows nothing of directories, types or DataSets, opens no
-//! file, and takes memory in `Ranges::add` and `read_up_to` alone.
+//! bytes of bounded length, ranges that share no byte, the causes of a refusal, readers and writers
+//! that count their failures, and bytes that wait for a writer. It knows nothing of directories,
+//! types or DataSets, opens no file, and takes memory in `Ranges::add` and `read_up_to` alone.
 //!
 //! ```
 //! let header = b"MM\x00\x2a\x00\x00\x00\x08";

@@ -1,6 +1,6 @@
 // Bytes on their way to a writer, which gets them in large writes.
-ghost use Rattle.std.specs.Prelude.{◌≡◌, ◌≤◌, ◌<◌, ◌+◌, ◌^◌, ◌++◌, [], ℕ, length, take, OnOk, OnErr};
-ghost use Rattle.px_bytes.specs.Devices.{Counts, Writes, AppendsPrefix};
+ghost use Rattle.std.specs.Prelude.{◌≡◌, ◌≤◌, ◌<◌, ◌+◌, ◌^◌, ◌++◌, [], ℕ, length, take, OnOk};
+ghost use Rattle.px_bytes.specs.Devices.{Counts, Writes};
 ghost use Rattle.px_bytes.specs.Waiting.{Puts};
 
 use crate::devices::{Failed, Sink};

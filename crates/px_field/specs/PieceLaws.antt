@@ -51,9 +51,3 @@ bytes_take n x h i = elim (cases_lt i n) [
 
 pub bytes_drop : (n : ℕ) (x : List ℕ) → AreBytes x → AreBytes (drop n x)
 bytes_drop n x h i = subst (λ k. k < 256) (sym (get_or-drop n x i 0)) (h (n + i))
-
--- what holds of all holds of the element at i
-pub all_at : {A : Type 0} (P : A → Type 0) (xs : List A) (i : ℕ) (x : A) → AllByRecursion P xs → slice_get xs i ≡ Some x → P x
-all_at P [] i x h e = absurd (cc)
-all_at P (y ∷ xs) zero x h e = let same : y ≡ x = cc in subst P same h.0
-all_at P (y ∷ xs) (suc i) x h e = all_at P xs i x h.1 e

@@ -1,8 +1,7 @@
 // A value: bytes in some order, seen as the elements that they spell.
-ghost use Rattle.std.specs.Prelude.{◌≡◌, ◌<◌, ◌≤◌, ◌+◌, ◌*◌, ◌/◌, ◌%◌, ℕ, List, length, drop, take, map, Some, slice_get, IsTrue, ◌↔◌, IsSome, IfSome};
+ghost use Rattle.std.specs.Prelude.{◌≡◌, ◌<◌, ◌≤◌, ◌+◌, ◌*◌, ◌/◌, ◌%◌, length, map, Some, slice_get, IsTrue, ◌↔◌, IsSome, IfSome};
 ghost use Rattle.px_bytes.specs.declared.Order.{Order};
 ghost use Rattle.px_bytes.specs.Parts.{limit};
-ghost use Rattle.px_bytes.specs.Numbers.{number};
 ghost use Rattle.px_field.specs.Forms.{size};
 ghost use Rattle.px_field.specs.Values.{count_in, element_of, elements, form_in, is_bytes, spelled, value_in, whole_in, widened, IsOf, IsValue, IsWhole};
 

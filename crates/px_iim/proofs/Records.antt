@@ -1,14 +1,14 @@
 -- The groups of all record numbers, one record number behind another.
 use Rattle.std.proofs.Common.{◌≡◌, ◌⊎◌, ℕ, ◌+◌, ◌<◌, ◌≤◌, zero, suc, Bool, true, false, List, [], ◌∷◌, ◌++◌, length, drop, get_or, slice_get, slice_index, if◌then◌else◌, Some, Vec, Global, Result, Ok, Err, OnOk, OnErr, map, set, refl, sym, ap, ◌∙◌, subst, inl, inr, arith, zero-add, add-one, option_map}
 use Rattle.std.specs.List.{AllByRecursion}
-use Rattle.std.proofs.lemmas.Bool.{cond-true, cond-false, both_ways}
+use Rattle.std.proofs.lemmas.Bool.{cond-true, cond-false}
 use Rattle.std.proofs.lemmas.Option.{slice_get-map, slice_get_read}
 use Rattle.std.proofs.lemmas.List.{length-map, drop_more}
 use Rattle.px_iim.specs.declared.group.Group.{Group as CodeGroup}
 use Rattle.px_iim.specs.DataSet.{DataSet}
 use Rattle.px_iim.specs.Group.{Record, named, put, items_at, is_at, is_before, IsAscending}
+use Rattle.px_iim.specs.KeyLaws.{at_true, at_false, before_true, before_false, before_parts}
 use Rattle.px_iim.specs.View.{item_view, group_view, groups_view, records_view, numbers, IsBelow, MissingIn, Holds}
-use Rattle.px_iim.proofs.Order.{not_at, at_test, before_less, not_before}
 
 -- no groups of one more record number
 pub records_push : (r : ℕ) (vs : List (Vec CodeGroup Global)) (v : Vec CodeGroup Global) → v.items ≡ [] → records_view r (vs ++ v ∷ []) ≡ records_view r vs
@@ -22,8 +22,8 @@ put_skip : (d : DataSet) (xs ys : Record) → AllByRecursion (λ g. g.rec < d.re
 unfolding put
 put_skip d [] ys a = refl
 put_skip d (x ∷ xs) ys a =
-    cond-false (is_at d.rec (named d.rec d.number) x) _ _ (not_at d.rec (named d.rec d.number) x (λ e f. omega (arith, a.0)))
-    ∙ cond-false (is_before d.rec (named d.rec d.number) x.rec x.number) _ _ (not_before d.rec (named d.rec d.number) x.rec x.number (omega (arith, a.0)) (λ e. omega (arith, a.0)))
+    cond-false (is_at d.rec (named d.rec d.number) x) _ _ (at_false d.rec (named d.rec d.number) x (λ e f. omega (arith, a.0)))
+    ∙ cond-false (is_before d.rec (named d.rec d.number) x.rec x.number) _ _ (before_false d.rec (named d.rec d.number) x.rec x.number (λ b. omega (arith, a.0, b)))
     ∙ ap (λ (l : Record). x ∷ l) (put_skip d xs ys a.1)
 
 -- before groups of greater ones
@@ -31,8 +31,8 @@ put_front : (d : DataSet) (ys : Record) → AllByRecursion (λ g. d.rec < g.rec)
 unfolding put
 put_front d [] a = refl
 put_front d (y ∷ ys) a =
-    cond-false (is_at d.rec (named d.rec d.number) y) _ _ (not_at d.rec (named d.rec d.number) y (λ e f. omega (arith, a.0)))
-    ∙ cond-true (is_before d.rec (named d.rec d.number) y.rec y.number) _ _ (before_less d.rec (named d.rec d.number) y.rec y.number a.0)
+    cond-false (is_at d.rec (named d.rec d.number) y) _ _ (at_false d.rec (named d.rec d.number) y (λ e f. omega (arith, a.0)))
+    ∙ cond-true (is_before d.rec (named d.rec d.number) y.rec y.number) _ _ (before_true d.rec (named d.rec d.number) y.rec y.number (inl a.0))
 
 put_within : (d : DataSet) (xs ys : Record) → AllByRecursion (λ g. d.rec < g.rec) ys → put d (xs ++ ys) ≡ put d xs ++ ys
 unfolding put
@@ -90,34 +90,34 @@ same_record r k (suc i) (x ∷ xs) v e q h = ap (λ (l : Record). groups_view r 
 
 items_skip : (k n : ℕ) (xs ys : Record) → AllByRecursion (λ g. g.rec < k) xs → items_at k n (xs ++ ys) ≡ items_at k n ys
 items_skip k n [] ys a = refl
-items_skip k n (x ∷ xs) ys a = cond-false (is_at k n x) _ _ (not_at k n x (λ e f. omega (arith, a.0))) ∙ items_skip k n xs ys a.1
+items_skip k n (x ∷ xs) ys a = cond-false (is_at k n x) _ _ (at_false k n x (λ e f. omega (arith, a.0))) ∙ items_skip k n xs ys a.1
 
 items_behind : (k n : ℕ) (ys : Record) → AllByRecursion (λ g. k < g.rec) ys → items_at k n ys ≡ []
 items_behind k n [] a = refl
-items_behind k n (y ∷ ys) a = cond-false (is_at k n y) _ _ (not_at k n y (λ e f. omega (arith, a.0))) ∙ items_behind k n ys a.1
+items_behind k n (y ∷ ys) a = cond-false (is_at k n y) _ _ (at_false k n y (λ e f. omega (arith, a.0))) ∙ items_behind k n ys a.1
 
 items_found : (k n : ℕ) (gs : List CodeGroup) (ys : Record) (i : ℕ) (items : List (ℕ × List ℕ)) → IsBelow n (numbers gs) i → i < length gs → slice_index (numbers gs) i ≡ n
     → ((g : CodeGroup) → items ≡ map item_view (get_or gs i g).items.items) → items_at k n (groups_view k gs ++ ys) ≡ items
 items_found k n [] ys i items b l e h = absurd (omega arith)
-items_found k n (x ∷ xs) ys zero items b l e h = cond-true (is_at k n (group_view k x)) _ _ (at_test k n (group_view k x) refl e) ∙ sym (h x)
+items_found k n (x ∷ xs) ys zero items b l e h = cond-true (is_at k n (group_view k x)) _ _ (at_true k n (group_view k x) refl e) ∙ sym (h x)
 items_found k n (x ∷ xs) ys (suc i) items b l e h =
-    cond-false (is_at k n (group_view k x)) _ _ (not_at k n (group_view k x) (λ q f. omega (arith, f, b 0)))
+    cond-false (is_at k n (group_view k x)) _ _ (at_false k n (group_view k x) (λ q f. omega (arith, f, b 0)))
     ∙ items_found k n xs ys i items (λ j m. b (suc j) (omega arith)) (omega arith) e h
 
 -- none where the first that isn't below is greater
 above : (k n : ℕ) (x : CodeGroup) (ys : Record) → n < x.number → AllByRecursion (λ h. is_before k x.number h.rec h.number ≡ true) ys → items_at k n ys ≡ []
 above k n x [] l a = refl
 above k n x (y ∷ ys) l a =
-    cond-false (is_at k n y) _ _ (not_at k n y (λ e f. both_ways (is_before k x.number y.rec y.number) (not_before k x.number y.rec y.number (omega (arith, e)) (λ q. omega (arith, f))) (a.0)))
+    cond-false (is_at k n y) _ _ (at_false k n y (λ e f. omega (arith, before_parts k x.number y.rec y.number a.0, e, f)))
     ∙ above k n x ys l a.1
 
 items_missing : (k n : ℕ) (gs : List CodeGroup) (ys : Record) (i : ℕ) → IsBelow n (numbers gs) i → i ≤ length gs → (i < length gs → n < slice_index (numbers gs) i)
     → AllByRecursion (λ g. k < g.rec) ys → IsAscending (groups_view k gs ++ ys) → items_at k n (groups_view k gs ++ ys) ≡ []
 items_missing k n [] ys i b l h a s = items_behind k n ys a
 items_missing k n (x ∷ xs) ys zero b l h a s =
-    cond-false (is_at k n (group_view k x)) _ _ (not_at k n (group_view k x) (λ q f. omega (arith, f, h (omega arith)))) ∙ above k n x (groups_view k xs ++ ys) (h (omega arith)) s.0
+    cond-false (is_at k n (group_view k x)) _ _ (at_false k n (group_view k x) (λ q f. omega (arith, f, h (omega arith)))) ∙ above k n x (groups_view k xs ++ ys) (h (omega arith)) s.0
 items_missing k n (x ∷ xs) ys (suc i) b l h a s =
-    cond-false (is_at k n (group_view k x)) _ _ (not_at k n (group_view k x) (λ q f. omega (arith, f, b 0)))
+    cond-false (is_at k n (group_view k x)) _ _ (at_false k n (group_view k x) (λ q f. omega (arith, f, b 0)))
     ∙ items_missing k n xs ys i (λ j m. b (suc j) (omega arith)) (omega arith) (λ m. h (omega arith)) a s.1
 
 ascending_behind : (xs ys : Record) → IsAscending (xs ++ ys) → IsAscending ys

@@ -9,7 +9,6 @@ pub mod GroupLaws
 pub mod GatherLaws
 pub mod SpellingLaws
 pub mod SequenceLaws
-pub mod OctetLaws
 pub mod RecordLaws
 pub mod Reading
 pub mod NormalLaws

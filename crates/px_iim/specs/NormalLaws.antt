@@ -7,6 +7,8 @@ use Rattle.px_bytes.specs.declared.Order.TheVariants.{Most}
 use Rattle.px_bytes.specs.Numbers.{AreBytes, number, spelling}
 use Rattle.px_bytes.specs.NumberLaws.{number-spelling, length-spelling}
 use Rattle.px_bytes.specs.Parts.{limit}
+use Rattle.px_bytes.specs.EachLaws.{each_map}
+use Rattle.px_bytes.specs.ByteLaws.{bytes_cons, bytes_append, bytes_spelling}
 use Rattle.px_iim.specs.DataSet.{DataSet, marker, top_bit, IsStandardCount, IsExtendedCount, IsSpelling, Spells}
 use Rattle.px_iim.specs.Group.{Group, Record, is_at, IsAscending, items_at, item_in, Gathers, IsItem, IsGroup, AreGroups}
 use Rattle.px_iim.specs.Record.{SaysIim, normal_count, normal_dataset, normal_group, normal_iim}
@@ -14,7 +16,6 @@ use Rattle.px_iim.specs.KeyLaws.{at_parts, at_true, at_false}
 use Rattle.px_iim.specs.GroupLaws.{Item, new_group, items_here, items_there, item_here, item_there}
 use Rattle.px_iim.specs.GatherLaws.{IsSome, no_more}
 use Rattle.px_iim.specs.SpellingLaws.{number-front}
-use Rattle.px_iim.specs.OctetLaws.{bytes_cons, bytes_append, most_bytes, each_map}
 use Rattle.px_iim.specs.RecordLaws.{one_record}
 use Rattle.px_iim.specs.Laws.{NormalSays, NormalTells}
 
@@ -54,8 +55,8 @@ normal_counts n l = elim (cases_Bool (nat_lt n top_bit)) [
 
 count_bytes : (n : ℕ) → AreBytes (normal_count n)
 count_bytes n = elim (cases_Bool (nat_lt n top_bit)) [
-  | inl t ↦ subst AreBytes (sym (normal_count-short n (ltb-true n top_bit t))) (most_bytes 2 n)
-  | inr f ↦ subst AreBytes (sym (normal_count-long n f)) (bytes_append (spelling Most 2 (top_bit + 4)) (spelling Most 4 n) (most_bytes 2 (top_bit + 4)) (most_bytes 4 n))
+  | inl t ↦ subst AreBytes (sym (normal_count-short n (ltb-true n top_bit t))) (bytes_spelling Most 2 n)
+  | inr f ↦ subst AreBytes (sym (normal_count-long n f)) (bytes_append (spelling Most 2 (top_bit + 4)) (spelling Most 4 n) (bytes_spelling Most 2 (top_bit + 4)) (bytes_spelling Most 4 n))
 ]
 
 -- ---- the DataSets of a record

@@ -4,6 +4,8 @@ use Rattle.std.specs.List.{AllByRecursion}
 use Rattle.std.proofs.lemmas.Bool.{cond-true, cond-false, cases_Bool}
 use Rattle.px_bytes.specs.Numbers.{AreBytes}
 use Rattle.px_bytes.specs.Parts.{limit}
+use Rattle.px_bytes.specs.EachLaws.{each_map, each_append}
+use Rattle.px_bytes.specs.ByteLaws.{bytes_left, bytes_right}
 use Rattle.px_iim.specs.DataSet.{DataSet, marker, IsSpelling, Spells}
 use Rattle.px_iim.specs.Group.{Group, Record, named, put, gather, IsItem, IsGroup}
 use Rattle.px_iim.specs.Record.{SaysIim, sequence_of, iim_of}
@@ -11,7 +13,6 @@ use Rattle.px_iim.specs.KeyLaws.{beside}
 use Rattle.px_iim.specs.GroupLaws.{new_group, longer, put_nil, put_at, put_under, put_over, put_all}
 use Rattle.px_iim.specs.GatherLaws.{gather_gathers}
 use Rattle.px_iim.specs.SequenceLaws.{Parsed, spells_read, spells_long, read_parsed}
-use Rattle.px_iim.specs.OctetLaws.{bytes_left, bytes_right, each_map, each_append}
 use Rattle.px_iim.specs.Laws.{Computes, OneRecord, SaidIsRecord}
 
 -- ---- computed
@@ -94,7 +95,8 @@ item_moves g h p q x k = record {
   bounded = k.bounded;
 }
 
-put_groups : (d : DataSet) (i : Record) → IsGood d → AllByRecursion IsGroup i → AllByRecursion IsGroup (put d i)
+-- groups stay whole
+pub put_groups : (d : DataSet) (i : Record) → IsGood d → AllByRecursion IsGroup i → AllByRecursion IsGroup (put d i)
 put_groups d i good h = put_all IsGroup d
     (record { byte = good.0; some = omega arith; items = (good.1, tt) })
     (λ g a k. let e = length-append g.items ((d.number, d.octets) ∷ []) in record {

@@ -3,7 +3,7 @@ ghost use Rattle.std.specs.Prelude.{◌≡◌, ◌+◌, ◌≤◌, ◌<◌, ℕ,
 ghost use Rattle.px_bytes.specs.declared.Order.TheVariants.{Most};
 ghost use Rattle.px_bytes.specs.Checks.{first_false};
 ghost use Rattle.px_bytes.specs.Numbers.{number};
-ghost use Rattle.px_iim.specs.Record.{form, extra, count, size, is_marked, has_form, is_dataset, is_end};
+ghost use Rattle.px_iim.specs.Record.{form, extra, count, size, is_marked, has_form, is_end};
 ghost use Rattle.px_iim.specs.Check.{dataset_checks};
 ghost use Rattle.px_iim.specs.Reading.{Reads};
 

@@ -1,5 +1,5 @@
 // The groups of one record number, in ascending order.
-ghost use Rattle.std.specs.Prelude.{◌≡◌, ◌+◌, ◌<◌, ◌≤◌, ◌∷◌, ◌++◌, [], ℕ, length, map, MatchResult, MatchOption, vec_len, OnOk, OnErr};
+ghost use Rattle.std.specs.Prelude.{◌≡◌, ◌<◌, ◌≤◌, ℕ, map, MatchResult, MatchOption, vec_len, OnOk, OnErr};
 ghost use Rattle.px_iim.specs.Group.{named, put};
 ghost use Rattle.px_iim.specs.View.{item_view, groups_view, numbers, Found, Missing, MissingIn, Holds, Appended, Inserted, octets_left};
 

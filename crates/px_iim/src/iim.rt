@@ -1,5 +1,5 @@
 // A record: its groups, and what they hold.
-ghost use Rattle.std.specs.Prelude.{◌≡◌, ◌==◌, ◌+◌, ◌<◌, ◌≤◌, ◌∷◌, [], ℕ, length, map, slice_get, Some, vec_len, OnOk, OnErr};
+ghost use Rattle.std.specs.Prelude.{◌≡◌, ◌==◌, ◌<◌, ◌≤◌, [], length, map, slice_get, Some, vec_len, OnOk, OnErr};
 ghost use Rattle.px_iim.specs.Group.{named, put, items_at, AreGroups};
 ghost use Rattle.px_iim.specs.View.{item_view, records_view, part_view, octets_left, octets_of};
 

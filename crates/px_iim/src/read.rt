@@ -1,5 +1,5 @@
 // A whole block, read DataSet by DataSet.
-ghost use Rattle.std.specs.Prelude.{◌≡◌, ◌≤◌, ℕ, length, Some, is_some, IfOk, IfErr, Option, None};
+ghost use Rattle.std.specs.Prelude.{◌≡◌, ◌≤◌, length, Some, is_some, IfOk, IfErr};
 ghost use Rattle.px_bytes.specs.Checks.{Judges};
 ghost use Rattle.px_iim.specs.Group.{IsRecord};
 ghost use Rattle.px_iim.specs.Record.{SaysIim, iim_of};

@@ -293,6 +293,17 @@ fn number(octets: &[u8]) -> usize {
     number
 }
 
+// The first check that doesn't hold.
+fn first_false(checks: &[(Cause, bool)]) -> Option<Cause> {
+    for (cause, holds) in checks {
+        if !*holds {
+            return Some(*cause);
+        }
+    }
+    None
+}
+
+// The record, or the first fault and its place, by a reader that lists the checks of each DataSet.
 fn slow_read<'a>(
     alloc: Global,
     bytes: &'a [u8],
@@ -319,7 +330,7 @@ fn slow_read<'a>(
             form
         };
         let size = start.saturating_add(count);
-        for (cause, holds) in [
+        let checks = [
             (Cause::NoMarker, part(head, 0, 1) == b"\x1c".as_slice()),
             (Cause::DataSetCut, left >= 5),
             (
@@ -328,10 +339,9 @@ fn slow_read<'a>(
             ),
             (Cause::DataSetCut, left >= start),
             (Cause::DataSetCut, left >= size),
-        ] {
-            if !holds {
-                return Ok(Err((cause, at)));
-            }
+        ];
+        if let Some(cause) = first_false(&checks) {
+            return Ok(Err((cause, at)));
         }
         let data = part(bytes, at.saturating_add(start), count);
         let (Some(rec), Some(name)) = (head.get(1), head.get(2)) else {

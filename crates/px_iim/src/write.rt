@@ -1,9 +1,9 @@
 // The normal form, written and measured.
-ghost use Rattle.std.specs.Prelude.{◌≡◌, ◌≤◌, ◌<◌, ◌+◌, ◌^◌, ◌++◌, [], ℕ, length, map, OnOk, OnErr};
+ghost use Rattle.std.specs.Prelude.{◌≡◌, ◌≤◌, ◌<◌, ◌+◌, ◌^◌, ◌++◌, length, map, OnOk, OnErr};
 ghost use Rattle.std.specs.List.{flat_map};
 ghost use Rattle.px_bytes.specs.Devices.{Counts};
 ghost use Rattle.px_bytes.specs.Waiting.{Puts};
-ghost use Rattle.px_iim.specs.Record.{normal_count, normal_dataset, normal_group, normal_iim};
+ghost use Rattle.px_iim.specs.Record.{normal_count, normal_dataset, normal_iim};
 ghost use Rattle.px_iim.specs.View.{item_view};
 ghost use Rattle.px_iim.specs.Writing.{AreShort, Grows, WritesIim, within};
 

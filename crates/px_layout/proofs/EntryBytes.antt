@@ -1,5 +1,5 @@
 -- The bytes of entries and of directories, part by part.
-use Rattle.std.proofs.Common.{◌≡◌, ℕ, suc, ◌+◌, ◌-◌, ◌*◌, ◌%◌, ◌<◌, ◌≤◌, nat_lt, inl, inr, Option, Some, None, List, [], ◌∷◌, ◌++◌, length, replicate, filter_map, flat_map, refl, sym, ◌∙◌, ap, ap₂, append_assoc, append-nil, arith, lt-ltb}
+use Rattle.std.proofs.Common.{◌≡◌, ℕ, ◌+◌, ◌-◌, ◌*◌, ◌%◌, ◌≤◌, nat_lt, inl, inr, Some, None, List, [], ◌∷◌, ◌++◌, length, replicate, filter_map, flat_map, refl, sym, ◌∙◌, ap, ap₂, append_assoc, append-nil, arith}
 use Rattle.std.specs.List.{cons_option}
 use Rattle.std.proofs.lemmas.Bool.{cond-true, cond-false, cases_Bool, le-ltb}
 use Rattle.std.proofs.lemmas.List.Concat.{flat_map-append}

@@ -1,5 +1,5 @@
 -- Entries that are put over a list of entries.
-use Rattle.std.proofs.Common.{◌≡◌, ℕ, zero, suc, ◌+◌, ◌-◌, ◌*◌, ◌^◌, ◌<◌, ◌≤◌, nat_lt, inl, inr, true, false, refl, sym, ◌∙◌, ap, subst, arith, Option, Some, None, option_map, option_and_then, List, [], ◌∷◌, map, length, slice_get, lt-ltb, le-leb, ltb-true}
+use Rattle.std.proofs.Common.{◌≡◌, ℕ, zero, suc, ◌+◌, ◌-◌, ◌*◌, ◌^◌, ◌<◌, ◌≤◌, nat_lt, inl, inr, true, false, refl, sym, ◌∙◌, ap, subst, arith, Option, Some, None, option_map, option_and_then, List, [], ◌∷◌, map, length, slice_get, lt-ltb, ltb-true}
 use Rattle.std.specs.Prelude.{IfSome}
 use Rattle.std.specs.List.{AllByRecursion}
 use Rattle.std.proofs.lemmas.Bool.{cond-true, cond-false, cases_Bool, cond_both}

@@ -1,12 +1,12 @@
 -- The pieces of a plan: inside the block, and put over it from the last to the first.
-use Rattle.std.proofs.Common.{◌≡◌, ℕ, zero, suc, ◌+◌, ◌<◌, ◌≤◌, ◌^◌, nat_lt, true, false, Option, Some, None, option_map, List, [], ◌∷◌, ◌++◌, map, filter_map, flat_map, length, drop, slice_get, replicate, refl, sym, ◌∙◌, ap, ap₂, subst, arith, lt-ltb, ltb-true, append-nil}
+use Rattle.std.proofs.Common.{◌≡◌, ℕ, zero, suc, ◌+◌, ◌<◌, ◌≤◌, ◌^◌, nat_lt, Option, Some, None, List, [], ◌∷◌, ◌++◌, filter_map, flat_map, length, drop, slice_get, replicate, refl, sym, ◌∙◌, ap, ap₂, subst, arith, lt-ltb, ltb-true, append-nil}
 use Rattle.std.specs.Prelude.{IfSome, Result, Ok, Err, OnOk}
 use Rattle.std.specs.List.{AllByRecursion, cons_option}
 use Rattle.std.proofs.lemmas.Bool.{cond-true, cond-false, false_from_ne_true}
 use Rattle.std.proofs.lemmas.List.{map-append, length-replicate}
 use Rattle.px_bytes.specs.declared.Order.{Order}
 use Rattle.px_bytes.specs.Parts.{limit}
-use Rattle.px_bytes.specs.Range.{range}
+use Rattle.px_bytes.specs.EachLaws.{each_in_map, each_left, each_right}
 use Rattle.px_tree.specs.declared.Dir.{Dir}
 use Rattle.px_tree.specs.declared.Dir.TheVariants.{Main, Exif, Interop, Gps, Thumb}
 use Rattle.px_tree.specs.Tree.{Thumbnail, Meaning}
@@ -18,7 +18,6 @@ use Rattle.px_layout.specs.declared.building.Layout.{Layout}
 use Rattle.px_layout.specs.Plans.{Plan, place, Legal}
 use Rattle.px_layout.specs.Laid.{item_bytes, table_bytes, placed_content, contents_of_dir, contents, jpeg_contents, strip_contents, all_strip_contents, thumb_contents, header, laid_pieces, laid}
 use Rattle.px_layout.specs.StandLaws.{piece_range}
-use Rattle.px_layout.specs.EachLaws.{each_in_map, each_left, each_right}
 use Rattle.px_layout.specs.EntryLaws.{Good, good_items, few_items}
 use Rattle.px_layout.specs.SizeLaws.{ranges_are}
 use Rattle.px_layout.specs.Building.{made, AreInside, PutsOver, said_plan, at_places, value_pieces, dir_pieces}

@@ -1,5 +1,5 @@
 -- Parts put one behind another, where the bytes are known by an equation.
-use Rattle.std.proofs.Common.{◌≡◌, ◌<◌, ◌+◌, ◌++◌, ◌∙◌, ℕ, List, length, take, slice_get, Option, Some, Result, subst, ap, append_assoc, arith}
+use Rattle.std.proofs.Common.{◌≡◌, ◌<◌, ◌+◌, ◌++◌, ◌∙◌, ℕ, List, take, slice_get, Option, Some, Result, subst, ap, append_assoc, arith}
 use Rattle.std.specs.List.{flat_map, range_with_len}
 use Rattle.std.proofs.lemmas.Option.{slice_get-get_or}
 use Rattle.px_bytes.specs.Devices.{AppendsPrefix}

@@ -1,5 +1,5 @@
 -- The thumbnail's bytes as they are put.
-use Rattle.std.proofs.Common.{◌≡◌, ℕ, ◌+◌, Option, Some, None, List, [], ◌∷◌, ◌++◌, flat_map, refl, sym, ◌∙◌, ap}
+use Rattle.std.proofs.Common.{◌≡◌, ℕ, ◌+◌, Some, None, List, [], ◌∷◌, ◌++◌, flat_map, refl, sym, ap}
 use Rattle.std.proofs.lemmas.List.Concat.{flat_map-append}
 use Rattle.px_tree.specs.Tree.{Thumbnail}
 use Rattle.px_layout.specs.declared.chunks.Chunk.{Chunk}

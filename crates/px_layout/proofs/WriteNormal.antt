@@ -1,5 +1,5 @@
 -- The answers of writing the normal form.
-use Rattle.std.proofs.Common.{◌≡◌, ℕ, ◌+◌, ◌≤◌, List, [], ◌++◌, flat_map, length, Option, Result, Ok, Err, refl, sym, ◌∙◌, ap, subst}
+use Rattle.std.proofs.Common.{◌≡◌, ℕ, ◌+◌, ◌≤◌, List, [], ◌++◌, flat_map, length, Option, Ok, Err, refl, sym, ◌∙◌, ap, subst}
 use Rattle.std.specs.Io.KnownBytes.{Appends, Keeps}
 use Rattle.px_bytes.specs.declared.Order.TheVariants.{Most}
 use Rattle.px_bytes.specs.declared.WriteRefusal.{WriteRefusal}
@@ -13,7 +13,7 @@ use Rattle.px_tree.specs.Tree.{Meaning}
 use Rattle.px_tree.specs.Fits.{Fits}
 use Rattle.px_layout.specs.Plans.{Plan}
 use Rattle.px_layout.specs.Laid.{contents, header, laid}
-use Rattle.px_layout.specs.Normal.{padded, normal_plan, normal_exif}
+use Rattle.px_layout.specs.Normal.{normal_plan, normal_exif}
 use Rattle.px_layout.specs.NormalLaws.{normal_is_laid}
 use Rattle.px_layout.specs.StandLaws.{length-laid}
 use Rattle.px_layout.specs.PlanningNormal.{AnswersPlan}

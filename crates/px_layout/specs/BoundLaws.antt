@@ -23,8 +23,8 @@ use Rattle.px_layout.specs.declared.chunks.Chunk.{Chunk}
 use Rattle.px_layout.specs.Chunks.{dir_chunks, chunks_of_dir, jpeg_chunks, strip_chunks, all_strip_chunks, thumb_chunks, chunks}
 use Rattle.px_layout.specs.Normal.{padded_size, normal_plan, normal_exif}
 use Rattle.px_layout.specs.Laws.{NormalBound}
-use Rattle.px_layout.specs.EachLaws.{each_append}
 use Rattle.px_bytes.specs.ApartLaws.{total, total_le}
+use Rattle.px_bytes.specs.EachLaws.{each_append}
 use Rattle.px_layout.specs.EntryLaws.{Good, good_items}
 use Rattle.px_layout.specs.LineLaws.{length_normal}
 use Rattle.px_layout.specs.CostLaws.{even_near, even_double, PayEach, pay_all, padded_placed, total_placed}

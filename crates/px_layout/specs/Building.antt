@@ -1,8 +1,8 @@
 -- A block that is built piece by piece: each piece that is put over it stands before those that it was made of.
-use Rattle.std.specs.Prelude.{◌≡◌, ℕ, ◌+◌, ◌≤◌, List, [], ◌∷◌, ◌++◌, length, map, filter_map}
+use Rattle.std.specs.Prelude.{◌≡◌, ℕ, ◌+◌, ◌≤◌, List, ◌++◌, length, map, filter_map}
 use Rattle.std.specs.List.{AllByRecursion, range_with_len}
 use Rattle.px_tree.specs.declared.Dir.{Dir}
-use Rattle.px_tree.specs.Tree.{Thumbnail, Meaning}
+use Rattle.px_tree.specs.Tree.{Meaning}
 use Rattle.px_tree.specs.Fits.{Item, items}
 use Rattle.px_layout.specs.declared.chunks.Chunk.{Chunk}
 use Rattle.px_layout.specs.declared.building.Layout.{Layout}

@@ -1,21 +1,21 @@
 -- A block that is laid out is made of bytes.
-use Rattle.std.proofs.Common.{◌<◌, ◌≤◌, ◌+◌, ◌-◌, ◌^◌, ◌/◌, ◌&&◌, ℕ, zero, suc, nat_lt, nat_le, Option, Some, None, List, [], ◌∷◌, ◌++◌, map, filter_map, flat_map, length, slice_index, replicate, arith}
+use Rattle.std.proofs.Common.{◌<◌, ◌≤◌, ◌+◌, ◌-◌, ◌&&◌, ℕ, zero, suc, nat_lt, nat_le, Option, Some, None, List, [], ◌∷◌, ◌++◌, map, filter_map, flat_map, length, slice_index, replicate, arith}
 use Rattle.std.specs.Prelude.{IfSome}
-use Rattle.std.specs.Int.{byte_at as digit_at, w16, w32, cast_unsigned, bytes_high_first, bytes_low_first}
+use Rattle.std.specs.Int.{w16, w32, cast_unsigned}
 use Rattle.std.specs.List.{AllByRecursion, cons_option, range_with_len}
-use Rattle.std.proofs.Math.Nat.{mod-lt}
 use Rattle.std.proofs.lemmas.Bool.{cond_both}
 use Rattle.px_bytes.specs.declared.Order.{Order}
 use Rattle.px_bytes.specs.declared.Order.TheVariants.{Least, Most}
 use Rattle.px_bytes.specs.Numbers.{AreBytes, spelling}
 use Rattle.px_bytes.specs.Parts.{limit}
+use Rattle.px_bytes.specs.EachLaws.{each_map, each_all, each_append, each_of_map}
+use Rattle.px_bytes.specs.ByteLaws.{bytes_none, bytes_cons, bytes_append, bytes_spelling}
 use Rattle.px_field.specs.declared.Form.{Form}
 use Rattle.px_field.specs.declared.Form.TheVariants as form
 use Rattle.px_field.specs.declared.Element.{Element}
 use Rattle.px_field.specs.declared.Element.TheVariants as element
 use Rattle.px_field.specs.Forms.{code}
 use Rattle.px_field.specs.Values.{spell, IsOf, Value, IsValue, form_in, spelled}
-use Rattle.px_iim.specs.OctetLaws.{bytes_cons, bytes_append}
 use Rattle.px_iim.specs.NormalLaws.{normal_says}
 use Rattle.px_tree.specs.declared.Dir.{Dir}
 use Rattle.px_tree.specs.declared.Dir.TheVariants.{Main, Thumb}
@@ -30,35 +30,10 @@ use Rattle.px_layout.specs.declared.chunks.Chunk.TheVariants.{Table, Placed, Jpe
 use Rattle.px_layout.specs.Plans.{Plan, place}
 use Rattle.px_layout.specs.Laid.{long_bytes, jpeg_contents, strip_contents, all_strip_contents, thumb_contents, item_bytes, last_bytes, entry_bytes, next_bytes, table_bytes, placed_content, contents_of_dir, contents, header, laid_pieces, byte_at, laid}
 use Rattle.px_layout.specs.Laws.{LaidIsBytes}
-use Rattle.px_layout.specs.EachLaws.{each_map, each_all, each_append, each_of_map}
 use Rattle.px_layout.specs.ItemLaws.{Suits}
 use Rattle.px_layout.specs.EntryLaws.{Good, good_items}
 
--- ---- numbers
-
-digit-lt : (k n : ℕ) → digit_at k n < 256
-digit-lt zero n = mod-lt n (omega arith)
-digit-lt (suc k) n = mod-lt (n / 256 ^ suc k) (omega arith)
-
-high_bytes : (width n : ℕ) → AreBytes (bytes_high_first width n)
-high_bytes zero n i = omega arith
-high_bytes (suc width) n zero = digit-lt width n
-high_bytes (suc width) n (suc i) = high_bytes width n i
-
-low_bytes : (width j n : ℕ) → AreBytes (bytes_low_first j width n)
-low_bytes zero j n i = omega arith
-low_bytes (suc width) j n zero = digit-lt j n
-low_bytes (suc width) j n (suc i) = low_bytes width (suc j) n i
-
--- a spelling is made of bytes
-pub bytes_spelling : (o : Order) (width n : ℕ) → AreBytes (spelling o width n)
-bytes_spelling Least width n = low_bytes width 0 n
-bytes_spelling Most width n = high_bytes width n
-
 -- ---- lists
-
-bytes_none : AreBytes []
-bytes_none i = omega arith
 
 bytes_flat : {X : Type 0} (f : X → List ℕ) (xs : List X) → AllByRecursion (λ x. AreBytes (f x)) xs → AreBytes (flat_map f xs)
 bytes_flat f [] h = bytes_none

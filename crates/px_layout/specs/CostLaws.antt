@@ -15,8 +15,8 @@ use Rattle.px_layout.specs.declared.chunks.Chunk.{Chunk}
 use Rattle.px_layout.specs.declared.chunks.Chunk.TheVariants.{Placed}
 use Rattle.px_layout.specs.Chunks.{placed_chunk}
 use Rattle.px_layout.specs.Normal.{even, padded_size}
-use Rattle.px_layout.specs.EachLaws.{each_map}
 use Rattle.px_bytes.specs.ApartLaws.{total}
+use Rattle.px_bytes.specs.EachLaws.{each_map}
 
 -- ---- padding
 

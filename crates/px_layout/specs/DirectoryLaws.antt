@@ -7,6 +7,7 @@ use Rattle.px_bytes.specs.declared.Order.{Order}
 use Rattle.px_bytes.specs.Numbers.{number, spelling}
 use Rattle.px_bytes.specs.Parts.{part, pieces}
 use Rattle.px_bytes.specs.NumberLaws.{length-spelling, number-spelling}
+use Rattle.px_bytes.specs.EachLaws.{each_map, map-each, map-map}
 use Rattle.px_field.specs.PieceLaws.{pieces_joined}
 use Rattle.px_tree.specs.declared.Dir.{Dir}
 use Rattle.px_tree.specs.Tree.{Meaning}
@@ -17,7 +18,6 @@ use Rattle.px_layout.specs.declared.chunks.Chunk.TheVariants.{Table}
 use Rattle.px_layout.specs.Plans.{Plan, place}
 use Rattle.px_layout.specs.Laid.{entry_bytes, next_bytes, table_bytes}
 use Rattle.px_layout.specs.StandLaws.{Stands}
-use Rattle.px_layout.specs.EachLaws.{each_map, map-each, map-map}
 use Rattle.px_layout.specs.SizeLaws.{length_table, length_entries, twelve}
 use Rattle.px_layout.specs.ItemLaws.{Suits, item_field, IsHere, entry_of, entry_is}
 use Rattle.px_layout.specs.ReadLaws.{field_is, entry_in_order}

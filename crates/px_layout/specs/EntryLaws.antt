@@ -4,6 +4,7 @@ use Rattle.std.specs.Prelude.{IfSome}
 use Rattle.std.specs.List.{AllByRecursion}
 use Rattle.std.proofs.lemmas.Bool.{cond_both, cases_lt, cases_eq}
 use Rattle.px_bytes.specs.Parts.{limit}
+use Rattle.px_bytes.specs.EachLaws.{each_map}
 use Rattle.px_field.specs.Values.{Value, IsValue}
 use Rattle.px_tree.specs.Iim.{Iim, IsRecord, normal_iim}
 use Rattle.px_tree.specs.declared.Dir.{Dir}
@@ -14,7 +15,6 @@ use Rattle.px_tree.specs.declared.Role.TheVariants.{Plain, Widened, Forbidden, R
 use Rattle.px_tree.specs.Roles.{exif_tag, gps_tag, record_tag, interop_tag, jpeg_offset_tag, jpeg_length_tag, strip_offsets_tag, strip_lengths_tag, free_offsets_tag, role}
 use Rattle.px_tree.specs.Entry.{Rising}
 use Rattle.px_tree.specs.Fits.{Item, Field, Iptc, Link, AtJpeg, JpegSize, AtStrips, StripSizes, put, put_some, link, field_items, main_items, exif_items, thumb_items, items, Allows, FitsField, FitsFields, Fits, FitsExif, FitsThumb}
-use Rattle.px_layout.specs.EachLaws.{each_map}
 use Rattle.px_layout.specs.ItemLaws.{Suits}
 
 -- a directory's entries, in order

@@ -1,5 +1,5 @@
 -- An entry that is laid out reads back as its item.
-use Rattle.std.proofs.Common.{◌≡◌, ℕ, ◌+◌, ◌-◌, ◌*◌, ◌^◌, ◌<◌, ◌≤◌, nat_lt, nat_le, true, false, Option, Some, None, option_map, List, [], ◌∷◌, ◌++◌, length, take, replicate, refl, sym, ◌∙◌, ap, ap₂, subst, arith, ltb-false, le-leb, inl, inr}
+use Rattle.std.proofs.Common.{◌≡◌, ℕ, ◌+◌, ◌-◌, ◌*◌, ◌^◌, ◌<◌, ◌≤◌, nat_lt, nat_le, true, false, Option, Some, None, option_map, List, [], ◌∷◌, ◌++◌, length, take, replicate, refl, sym, ◌∙◌, ap, ap₂, arith, ltb-false, le-leb, inl, inr}
 use Rattle.std.specs.List.{AllByRecursion, range_with_len}
 use Rattle.std.specs.Prelude.{⊤}
 use Rattle.std.proofs.lemmas.List.{take_at, take_all, length-append, length-replicate}
@@ -9,9 +9,8 @@ use Rattle.px_bytes.specs.declared.Order.TheVariants.{Least, Most}
 use Rattle.px_bytes.specs.Numbers.{number, spelling}
 use Rattle.px_bytes.specs.Parts.{limit, part}
 use Rattle.px_bytes.specs.NumberLaws.{length-spelling, number-spelling}
-use Rattle.px_field.specs.declared.Form.{Form}
-use Rattle.px_field.specs.declared.Form.TheVariants.{Byte, Ascii, Short, Long, Rational, SByte, Undefined, SShort, SLong, SRational, Float, Double, Utf8}
-use Rattle.px_field.specs.Forms.{code, form_of}
+use Rattle.px_bytes.specs.EachLaws.{each_all}
+use Rattle.px_field.specs.Forms.{code}
 use Rattle.px_field.specs.FormLaws.{form_of-code, code-lt}
 use Rattle.px_field.specs.Values.{Value, IsValue}
 use Rattle.px_field.specs.ValueLaws.{length-spelled}
@@ -30,7 +29,6 @@ use Rattle.px_layout.specs.declared.chunks.Chunk.TheVariants as chunk
 use Rattle.px_layout.specs.Plans.{Plan, place}
 use Rattle.px_layout.specs.Laid.{long_bytes, item_bytes, last_bytes, entry_bytes}
 use Rattle.px_layout.specs.StandLaws.{Stands, length-range}
-use Rattle.px_layout.specs.EachLaws.{each_all}
 
 -- a record's normal form reads back
 pub iim-normal : (i : Iim) → IsRecord i → length (normal_iim i) ≤ limit → iim_of (normal_iim i) ≡ Some i

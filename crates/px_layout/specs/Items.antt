@@ -1,5 +1,5 @@
 -- The entries of a directory, as the code holds them: its fields, with up to four further entries put between.
-use Rattle.std.specs.Prelude.{◌≡◌, ℕ, suc, ◌≤◌, ◌*◌, nat_lt, if◌then◌else◌, ⊤, Option, Some, None, List, [], ◌∷◌, length, map}
+use Rattle.std.specs.Prelude.{ℕ, suc, ◌≤◌, ◌*◌, nat_lt, if◌then◌else◌, ⊤, List, [], ◌∷◌, length, map}
 use Rattle.std.specs.List.{AllByRecursion}
 use Rattle.px_bytes.specs.Parts.{limit}
 use Rattle.px_tree.specs.Iim.{normal_iim}

@@ -8,6 +8,7 @@ use Rattle.px_bytes.specs.Parts.{limit}
 use Rattle.px_bytes.specs.declared.Order.{Order}
 use Rattle.px_bytes.specs.Range.{range, AllApart}
 use Rattle.px_bytes.specs.NumberLaws.{number-spelling}
+use Rattle.px_bytes.specs.EachLaws.{each_map, each_left, each_right}
 use Rattle.px_field.specs.Values.{form_in, Value}
 use Rattle.px_field.specs.Forms.{form_of}
 use Rattle.px_field.specs.FormLaws.{form_of-code}
@@ -30,7 +31,6 @@ use Rattle.px_layout.specs.Plans.{Plan, place, Legal, plan_ranges}
 use Rattle.px_layout.specs.Laws.{LegalSays}
 use Rattle.px_layout.specs.Laid.{item_bytes, jpeg_contents, strip_contents, all_strip_contents, thumb_contents}
 use Rattle.px_layout.specs.StandLaws.{Stands, length-range}
-use Rattle.px_layout.specs.EachLaws.{each_map, each_left, each_right}
 use Rattle.px_layout.specs.ItemLaws.{IsHere, entry_of, raw_is, iim-normal, size_is, placed_as, offset_is}
 use Rattle.px_layout.specs.ReadLaws.{record_turned}
 use Rattle.px_layout.specs.DirectoryLaws.{filter_map-each, directory_stands, count_is}

@@ -9,7 +9,6 @@ pub mod Counted
 pub mod Planned
 pub mod PlanningNormal
 pub mod Judging
-pub mod EachLaws
 pub mod StandLaws
 pub mod ItemLaws
 pub mod ReadLaws

@@ -7,6 +7,7 @@ use Rattle.std.proofs.lemmas.List.{length-append, length-replicate, get_or_appen
 use Rattle.px_bytes.specs.Parts.{limit}
 use Rattle.px_bytes.specs.declared.Order.TheVariants.{Most}
 use Rattle.px_bytes.specs.Range.{Range, range, IsIn, Apart, AllApart}
+use Rattle.px_bytes.specs.EachLaws.{map-each, map-map}
 use Rattle.px_tree.specs.declared.Dir.{Dir}
 use Rattle.px_tree.specs.declared.Dir.TheVariants.{Main, Exif, Interop, Gps, Thumb}
 use Rattle.px_tree.specs.Tree.{Meaning}
@@ -19,7 +20,6 @@ use Rattle.px_layout.specs.Chunks.{chunks, same_chunk}
 use Rattle.px_layout.specs.Plans.{Plan, place, Legal, plan_ranges}
 use Rattle.px_layout.specs.Laid.{contents, header, laid_pieces, byte_at, laid}
 use Rattle.px_layout.specs.Normal.{even, running, padded_size, normal_plan, padded, normal_exif}
-use Rattle.px_layout.specs.EachLaws.{map-each, map-map}
 use Rattle.px_layout.specs.StandLaws.{piece_range, length-laid, laid_at}
 use Rattle.px_layout.specs.SizeLaws.{contents_sized, length_header}
 use Rattle.px_layout.specs.RankLaws.{chunk_rank, rank, chunks_rise}

@@ -7,6 +7,7 @@ use Rattle.std.proofs.lemmas.List.{length-map}
 use Rattle.px_bytes.specs.declared.Order.{Order}
 use Rattle.px_bytes.specs.Parts.{part}
 use Rattle.px_bytes.specs.Range.{Range}
+use Rattle.px_bytes.specs.EachLaws.{each_all}
 use Rattle.px_field.specs.declared.Form.{Form}
 use Rattle.px_field.specs.declared.Form.TheVariants.{Byte, Short, Long, Undefined}
 use Rattle.px_field.specs.declared.Element.{Element}
@@ -27,7 +28,6 @@ use Rattle.px_tree.specs.Directory.{entries_at, entry_with, is_pointer, pointer,
 use Rattle.px_tree.specs.Thumbnail.{both, whole_number, numbers_in, numbers, bytes_of, jpeg_range, ranges_of, strip_ranges}
 use Rattle.px_tree.specs.Says.{record_at, exif_part, thumbnail, meaning}
 use Rattle.px_tree.specs.Fits.{Item, Field, Iptc, Link, AtJpeg, JpegSize, AtStrips, StripSizes, item_size, put_some, link, field_items, main_items, exif_items, thumb_items}
-use Rattle.px_layout.specs.EachLaws.{each_all}
 use Rattle.px_layout.specs.EntryLaws.{each_put}
 use Rattle.px_layout.specs.CostLaws.{weight, cost, widens, Pays, PayEach, pays_found, found_is, pay_fields}
 

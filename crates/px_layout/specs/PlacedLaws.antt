@@ -4,6 +4,7 @@ use Rattle.std.specs.Prelude.{IfSome}
 use Rattle.std.specs.List.{AllByRecursion, cons_option}
 use Rattle.std.proofs.lemmas.Bool.{cond-true, cases_Bool}
 use Rattle.px_bytes.specs.declared.Order.{Order}
+use Rattle.px_bytes.specs.EachLaws.{each_map₂, each_in_map, each_left, each_right}
 use Rattle.px_field.specs.declared.Form.{Form}
 use Rattle.px_field.specs.declared.Form.TheVariants.{Byte, Ascii, Short, Long, Rational, SByte, Undefined, SShort, SLong, SRational, Float, Double, Utf8}
 use Rattle.px_field.specs.Forms.{size}
@@ -18,7 +19,6 @@ use Rattle.px_layout.specs.declared.chunks.Chunk.TheVariants.{Table, Placed}
 use Rattle.px_layout.specs.Plans.{Plan, place, Legal}
 use Rattle.px_layout.specs.Laid.{item_bytes, table_bytes, placed_content, contents_of_dir, thumb_contents, contents, header, laid_pieces, laid}
 use Rattle.px_layout.specs.StandLaws.{Stands, length-laid}
-use Rattle.px_layout.specs.EachLaws.{each_map₂, each_in_map, each_left, each_right}
 use Rattle.px_layout.specs.ItemLaws.{Suits, IsHere, length_is}
 use Rattle.px_layout.specs.EntryLaws.{Good, good_items, few_items}
 use Rattle.px_layout.specs.SizeLaws.{pieces_stand}

@@ -10,6 +10,7 @@ use Rattle.px_bytes.specs.Numbers.{number, spelling}
 use Rattle.px_bytes.specs.Parts.{part}
 use Rattle.px_bytes.specs.Range.{Range, range, Apart}
 use Rattle.px_bytes.specs.NumberLaws.{number-spelling}
+use Rattle.px_bytes.specs.EachLaws.{each_in_map, each_left, each_right}
 use Rattle.px_tree.specs.declared.Dir.{Dir}
 use Rattle.px_tree.specs.declared.Dir.TheVariants.{Main, Exif, Interop, Gps, Thumb}
 use Rattle.px_tree.specs.Tree.{ExifPart, Thumbnail, Meaning}
@@ -22,7 +23,6 @@ use Rattle.px_layout.specs.declared.chunks.Chunk.{Chunk}
 use Rattle.px_layout.specs.declared.chunks.Chunk.TheVariants.{Table}
 use Rattle.px_layout.specs.Plans.{Plan, place, Legal, plan_ranges}
 use Rattle.px_layout.specs.Laid.{long_bytes, next_bytes, header}
-use Rattle.px_layout.specs.EachLaws.{each_in_map, each_left, each_right}
 use Rattle.px_layout.specs.ItemLaws.{item_field, entry_of}
 use Rattle.px_layout.specs.EntryLaws.{no_field, not_put}
 use Rattle.px_layout.specs.TagLaws.{at_some_same, at_some_other, pointer_found}

@@ -9,6 +9,7 @@ use Rattle.px_bytes.specs.declared.Order.TheVariants.{Least, Most}
 use Rattle.px_bytes.specs.Numbers.{spelling}
 use Rattle.px_bytes.specs.Range.{range, AllApart}
 use Rattle.px_bytes.specs.NumberLaws.{length-spelling}
+use Rattle.px_bytes.specs.EachLaws.{each_map, each_in_map, map-map}
 use Rattle.px_field.specs.PieceLaws.{length_joined}
 use Rattle.px_tree.specs.declared.Dir.{Dir}
 use Rattle.px_tree.specs.declared.Dir.TheVariants.{Main, Exif, Interop, Gps, Thumb}
@@ -23,7 +24,6 @@ use Rattle.px_layout.specs.Chunks.{placed_chunk, chunks_of_dir, jpeg_chunks, str
 use Rattle.px_layout.specs.Plans.{Plan, place, Legal, plan_ranges}
 use Rattle.px_layout.specs.Laid.{long_bytes, item_bytes, entry_bytes, next_bytes, table_bytes, placed_content, contents_of_dir, jpeg_contents, strip_contents, all_strip_contents, thumb_contents, contents, header, laid_pieces, laid}
 use Rattle.px_layout.specs.StandLaws.{Stands, piece_range, each_stands}
-use Rattle.px_layout.specs.EachLaws.{each_map, each_in_map, map-map}
 use Rattle.px_layout.specs.ItemLaws.{Suits, length_is, length_entry}
 use Rattle.px_layout.specs.EntryLaws.{Good, good_items}
 

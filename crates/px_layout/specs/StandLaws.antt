@@ -5,8 +5,8 @@ use Rattle.std.proofs.lemmas.Bool.{and_from, and_parts, cond-true, cond-false, l
 use Rattle.std.proofs.lemmas.List.{same_lists, get_or-map, length-map, length-take-le}
 use Rattle.px_bytes.specs.Parts.{part}
 use Rattle.px_bytes.specs.Range.{Range, range, IsIn, Apart, AllApart}
+use Rattle.px_bytes.specs.EachLaws.{each_map₂, each_in_map}
 use Rattle.px_layout.specs.Laid.{byte_at}
-use Rattle.px_layout.specs.EachLaws.{each_map₂, each_in_map}
 
 -- the range of a piece
 abbrev pub piece_range : ℕ × List ℕ → Range

@@ -1,5 +1,5 @@
 // The pieces of a block, put at their places: from the last to the first, so that a piece is put over those behind it.
-ghost use Rattle.std.specs.Prelude.{◌≡◌, ◌≤◌, ◌<◌, ◌+◌, ◌^◌, ◌++◌, ℕ, [], ◌∷◌, length, drop, replicate, Some, option_map, flat_map, IfSome, OnOk, IfOk};
+ghost use Rattle.std.specs.Prelude.{◌≡◌, ◌≤◌, ◌<◌, ◌+◌, ◌^◌, ◌++◌, [], ◌∷◌, length, replicate, Some, option_map, flat_map, IfSome, OnOk, IfOk};
 ghost use Rattle.px_bytes.specs.Parts.{limit};
 ghost use Rattle.px_tree.specs.Directory.{dirs};
 ghost use Rattle.px_tree.specs.Fits.{Fits, items};

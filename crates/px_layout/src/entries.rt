@@ -5,7 +5,7 @@ ghost use Rattle.std.specs.List.{AllByRecursion};
 ghost use Rattle.px_bytes.specs.Parts.{limit};
 ghost use Rattle.px_tree.specs.Iim.{normal_iim};
 ghost use Rattle.px_tree.specs.Fits as said;
-ghost use Rattle.px_tree.specs.Fits.{Fits, FitsThumb, IsBytes, AtJpeg, JpegSize, AtStrips, StripSizes, Iptc, items, link, put_some, main_items, exif_items, thumb_items, field_items, FitsExif};
+ghost use Rattle.px_tree.specs.Fits.{Fits, FitsThumb, IsBytes, AtJpeg, JpegSize, AtStrips, StripSizes, Iptc, items, link, put_some, main_items, exif_items, thumb_items, field_items};
 ghost use Rattle.px_tree.specs.Seen.{exif_of, thumb_of, meaning_of};
 ghost use Rattle.px_layout.specs.Items.{item_of, IsCounted, rank};
 ghost use Rattle.px_layout.specs.Layers.{Stands, Tells, over};

@@ -1,5 +1,5 @@
 // Where chunks stand, kept by directory and by strip.
-ghost use Rattle.std.specs.Prelude.{◌≡◌, ℕ, OnOk, OnErr, None, Some, [], if◌then◌else◌, ◌==◌};
+ghost use Rattle.std.specs.Prelude.{◌≡◌, ℕ, OnOk, OnErr, None, Some, if◌then◌else◌, ◌==◌};
 ghost use Rattle.px_layout.specs.declared.chunks.Chunk.{Chunk as AnyChunk};
 ghost use Rattle.px_layout.specs.declared.chunks.Chunk.TheVariants.{Table, Placed, Jpeg, Strip};
 ghost use Rattle.px_layout.specs.Chunks.{same_chunk};

@@ -91,6 +91,21 @@ fn strips_are_placed_in_any_order(rt: HostRuntime) -> Result<(), Fail> {
 }
 
 #[test]
+fn values_are_placed_in_any_order(rt: HostRuntime) -> Result<(), Fail> {
+    let mut plan = Plan::new(rt.alloc(), 100);
+    assert!(rt; plan.place(Chunk::Placed(Dir::Main, 0x010F), 20)?);
+    assert!(rt; plan.place(Chunk::Placed(Dir::Main, 0x010E), 10)?);
+    assert!(rt; plan.place(Chunk::Placed(Dir::Main, 0x0132), 30)?);
+    assert!(rt; !plan.place(Chunk::Placed(Dir::Main, 0x010F), 40)?);
+    assert!(rt; !plan.place(Chunk::Placed(Dir::Main, 0x010E), 40)?);
+    assert_eq!(rt; plan.offset(Chunk::Placed(Dir::Main, 0x010E)), Some(10));
+    assert_eq!(rt; plan.offset(Chunk::Placed(Dir::Main, 0x010F)), Some(20));
+    assert_eq!(rt; plan.offset(Chunk::Placed(Dir::Main, 0x0132)), Some(30));
+    assert_eq!(rt; plan.offset(Chunk::Placed(Dir::Main, 0x0131)), None);
+    Ok(())
+}
+
+#[test]
 fn the_plan_of_one_field(rt: HostRuntime) -> Result<(), Fail> {
     let plan = normal(rt.alloc(), ONE_FIELD)?;
     assert_eq!(rt; plan.len(), 26);

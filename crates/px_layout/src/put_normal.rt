@@ -1,6 +1,6 @@
 // The parts of a normal form, put behind the bytes that wait for a writer: each is padded to an even number of bytes. TIFF 6.0
 // section 2, "IFD Entry".
-ghost use Rattle.std.specs.Prelude.{◌≡◌, ◌<◌, ◌+◌, ◌^◌, ◌++◌, Some, flat_map};
+ghost use Rattle.std.specs.Prelude.{◌<◌, ◌+◌, ◌^◌, ◌++◌, Some, flat_map};
 ghost use Rattle.px_bytes.specs.Devices.{Counts};
 ghost use Rattle.px_bytes.specs.Waiting.{Puts};
 ghost use Rattle.px_tree.specs.Roles.{role};

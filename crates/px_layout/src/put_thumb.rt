@@ -1,6 +1,6 @@
 // The thumbnail's bytes, behind all directories: the JPEG, then the strips, each padded to an even number. CIPA DC-008 4.5.5;
 // TIFF 6.0 section 8.
-ghost use Rattle.std.specs.Prelude.{◌≡◌, ◌<◌, ◌+◌, ◌^◌, Some, option_map, flat_map};
+ghost use Rattle.std.specs.Prelude.{◌<◌, ◌+◌, ◌^◌, Some, option_map, flat_map};
 ghost use Rattle.px_bytes.specs.Devices.{Counts};
 ghost use Rattle.px_bytes.specs.Waiting.{Puts};
 ghost use Rattle.px_tree.specs.Seen.{thumb_of};

@@ -1,6 +1,5 @@
 // The chunks of a meaning, each with its size in bytes.
-ghost use Rattle.std.specs.Prelude.{◌≡◌, ◌++◌, ◌∷◌, [], ◌<◌, ◌≤◌, ◌^◌, IfOk, OnOk, IfSome, length, map, filter_map, option_map};
-ghost use Rattle.std.specs.List.{AllByRecursion};
+ghost use Rattle.std.specs.Prelude.{◌≡◌, ◌++◌, ◌<◌, ◌≤◌, ◌^◌, IfOk, OnOk, IfSome, length, filter_map, option_map};
 ghost use Rattle.std.specs.Option.{option_to_list};
 ghost use Rattle.px_bytes.specs.Parts.{limit};
 ghost use Rattle.px_tree.specs.Entry.{table_size};

@@ -1,5 +1,5 @@
 // The normal form, written.
-ghost use Rattle.std.specs.Prelude.{◌≡◌, ◌≤◌, ◌<◌, ◌+◌, ◌^◌, ℕ, length};
+ghost use Rattle.std.specs.Prelude.{◌<◌, ◌+◌, ◌^◌};
 ghost use Rattle.px_tree.specs.Fits.{Fits};
 ghost use Rattle.px_tree.specs.Seen.{meaning_of};
 ghost use Rattle.px_layout.specs.Writing.{WritesExif};

@@ -5,17 +5,12 @@ use Rattle.std.specs.List.{AllByRecursion}
 use Rattle.std.proofs.lemmas.Bool.{cond-true, cond-false}
 use Rattle.std.proofs.lemmas.Option.{slice_get_within, get_or_from_slice_get}
 use Rattle.px_bytes.specs.Range.{Range, Apart, AllApart}
+use Rattle.px_bytes.specs.EachLaws.{all_at}
 use Rattle.px_tree.specs.Entry.{Entry, Rising}
 use Rattle.px_tree.specs.Directory.{entry_with}
 use Rattle.px_tree.specs.Faults.{At}
 
 module _ {X : Type 0} where
-  -- what holds of each holds of one
-  pub at_each : (P : X → Type 0) (xs : List X) (i : ℕ) (x : X) → AllByRecursion P xs → At xs i x → P x
-  at_each P [] i x h e = cc
-  at_each P (y ∷ xs) zero x h e = let q : y ≡ x = cc in subst P q h.0
-  at_each P (y ∷ xs) (suc i) x h e = at_each P xs i x h.1 e
-
   -- what holds at each index holds of each
   pub each_from_at : (P : X → Type 0) (xs : List X) → ((i : ℕ) (x : X) → At xs i x → P x) → AllByRecursion P xs
   each_from_at P [] f = tt
@@ -57,7 +52,7 @@ module _ {X : Type 0} where
 pub at_apart : (rs : List Range) (i j : ℕ) (r s : Range) → AllApart rs → i < j → At rs i r → At rs j s → Apart r s
 at_apart [] i j r s h l e f = cc
 at_apart (y ∷ rs) i zero r s h l e f = absurd (omega arith)
-at_apart (y ∷ rs) zero (suc j) r s h l e f = let q : y ≡ r = cc in subst (λ r. Apart r s) q (at_each (Apart y) rs j s h.0 f)
+at_apart (y ∷ rs) zero (suc j) r s h l e f = let q : y ≡ r = cc in subst (λ r. Apart r s) q (all_at (Apart y) rs j s h.0 f)
 at_apart (y ∷ rs) (suc i) (suc j) r s h l e f = at_apart rs i j r s h.1 (omega arith) e f
 
 -- ---- entries with rising tags
@@ -70,7 +65,7 @@ at_rising es i e f r h k = let z : i + 1 ≡ suc i = omega arith in go es i r h 
   where
     go : (es : List Entry) (i : ℕ) → Rising (tags es) → At es i e → At es (suc i) f → e.tag < f.tag
     go [] i r h k = cc
-    go (x ∷ es) zero r h k = let q : x ≡ e = cc in subst (λ (x : Entry). x.tag < f.tag) q (at_each (λ t. x.tag < t) (tags es) 0 f.tag r.0 (at_map (λ e. e.tag) es 0 f k))
+    go (x ∷ es) zero r h k = let q : x ≡ e = cc in subst (λ (x : Entry). x.tag < f.tag) q (all_at (λ t. x.tag < t) (tags es) 0 f.tag r.0 (at_map (λ e. e.tag) es 0 f k))
     go (x ∷ es) (suc i) r h k = go es i r.1 h k
 
 -- an entry is the only one of its tag
@@ -78,7 +73,7 @@ pub at_found : (es : List Entry) (i : ℕ) (e : Entry) → Rising (tags es) → 
 at_found [] i e r h = cc
 at_found (x ∷ es) zero e r h = let q : x ≡ e = cc in cond-true (x.tag == e.tag) (Some x) (entry_with e.tag es) (eq-eqb x.tag e.tag (ap (λ (x : Entry). x.tag) q)) ∙ h
 at_found (x ∷ es) (suc i) e r h =
-    let l : x.tag < e.tag = at_each (λ t. x.tag < t) (tags es) i e.tag r.0 (at_map (λ e. e.tag) es i e h) in
+    let l : x.tag < e.tag = all_at (λ t. x.tag < t) (tags es) i e.tag r.0 (at_map (λ e. e.tag) es i e h) in
     cond-false (x.tag == e.tag) (Some x) (entry_with e.tag es) (ne_eqb x.tag e.tag (λ q. omega arith)) ∙ at_found es i e r.1 h
 
 -- ---- what a list contains

@@ -10,6 +10,7 @@ use Rattle.px_bytes.specs.declared.Cause.{Cause}
 use Rattle.px_bytes.specs.declared.Cause.TheVariants as cause
 use Rattle.px_bytes.specs.Parts.{limit, part}
 use Rattle.px_bytes.specs.Range.{Range, range}
+use Rattle.px_bytes.specs.EachLaws.{each_append, all_at}
 use Rattle.px_tree.specs.declared.roles.Dir.{Dir}
 use Rattle.px_tree.specs.declared.roles.Dir.TheVariants.{Main, Exif, Interop, Gps, Thumb}
 use Rattle.px_tree.specs.Roles.{exif_tag, gps_tag, interop_tag, jpeg_offset_tag, jpeg_length_tag, strip_offsets_tag, strip_lengths_tag}
@@ -20,8 +21,6 @@ use Rattle.px_tree.specs.Footprint.{listed, placed_range}
 use Rattle.px_tree.specs.Checks.{named_at, place_of, place_with, pointer_place}
 use Rattle.px_tree.specs.Faults.{Begins, EntryAt, value_owners, dir_owners, owners_at, thumb_owners, owners, Fault}
 use Rattle.px_tree.specs.Reading.{HasTable}
-use Rattle.px_tree.proofs.Each.{each_append}
-use Rattle.px_tree.proofs.At.{at_each}
 use Rattle.px_tree.proofs.Pointers.{length-is}
 
 none_entries : (o : Order) → entries o [] ≡ []
@@ -182,7 +181,7 @@ fault_bounded b cause.HeaderCut p l f = let e = f.0 in omega arith
 fault_bounded b cause.Loop p l f = let r = f.4 in let k = named_bound b f.0 r.0 f.1 f.3 r.1 in let e = f.7 in omega arith
 fault_bounded b cause.DirectoryOutside p l f = let r = f.3 in let k = named_bound b f.0 r.0 f.1 f.2 r.1 in let e = f.4 in omega arith
 fault_bounded b cause.EmptyDirectory p l f = let k = f.3 in omega arith
-fault_bounded b cause.Overlap p l f = let k : p ≤ length b = at_each (IsNear b f.0) (owners b f.0) f.2 (p, f.5) (near_owners b f.0 f.7) f.10 in omega arith
+fault_bounded b cause.Overlap p l f = let k : p ≤ length b = all_at (IsNear b f.0) (owners b f.0) f.2 (p, f.5) (near_owners b f.0 f.7) f.10 in omega arith
 fault_bounded b cause.Unsorted p l f = let k = entry_bound b f.0 f.1 (f.2 + 1) p f.5 f.7 in omega arith
 fault_bounded b cause.Doubled p l f = let k = entry_bound b f.0 f.1 (f.2 + 1) p f.5 f.7 in omega arith
 fault_bounded b cause.UnknownType p l f = let k = entry_bound b f.0 f.1 f.2 p f.3 f.4 in omega arith

@@ -4,6 +4,7 @@ use Rattle.std.specs.Prelude.{Contains, ◌↔◌}
 use Rattle.std.specs.List.{AllByRecursion}
 use Rattle.px_bytes.specs.declared.Order.{Order}
 use Rattle.px_bytes.specs.Numbers.{AreBytes}
+use Rattle.px_bytes.specs.EachLaws.{each_map₂}
 use Rattle.px_field.specs.declared.Form.{Form}
 use Rattle.px_field.specs.declared.Form.TheVariants.{Short, Long}
 use Rattle.px_field.specs.declared.Kind.{Kind}
@@ -20,7 +21,6 @@ use Rattle.px_tree.specs.Roles.{role}
 use Rattle.px_tree.specs.Entry.{Entry, raw, raw_size, sized, has_raw, IsEntry, IsDirectory, entry_elements, widened_value, record_in, unless_record, value_in, field, fields}
 use Rattle.px_tree.specs.Directory.{entries_at}
 use Rattle.px_tree.specs.Laws.{Spell, IsTyped, IsWhole, IsWidened, IsValueAt, Means}
-use Rattle.px_tree.proofs.Each.{each_map₂}
 use Rattle.px_tree.proofs.Members.{each_member, Made, made_from, made_into}
 use Rattle.px_tree.proofs.FitsBack.{Plausible, entries_plausible, bytes_raw, length_raw}
 

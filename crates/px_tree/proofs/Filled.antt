@@ -9,6 +9,7 @@ use Rattle.px_bytes.specs.declared.Order.{Order}
 use Rattle.px_bytes.specs.Numbers.{AreBytes}
 use Rattle.px_bytes.specs.Parts.{limit, part, pieces}
 use Rattle.px_bytes.specs.Range.{Range, range}
+use Rattle.px_bytes.specs.EachLaws.{each_map, each_map₂}
 use Rattle.px_field.specs.declared.Form.{Form}
 use Rattle.px_field.specs.declared.Form.TheVariants.{Byte, Ascii, Short, Long, Rational, SByte, Undefined, SShort, SLong, SRational, Float, Double, Utf8}
 use Rattle.px_field.specs.declared.Kind.TheVariants.{Of}
@@ -32,7 +33,6 @@ use Rattle.px_tree.specs.Directory.{entries_at, entry_with, pointer, main_at, di
 use Rattle.px_tree.specs.Thumbnail.{both, are_paired, whole_number, numbers_in, numbers, bytes_of, jpeg_range, ranges_of, strip_ranges, IsThumbnail}
 use Rattle.px_tree.specs.Says.{record_at, exif_part, thumbnail, meaning, IsExif, SaysExif}
 use Rattle.px_tree.specs.Fits.{Item, Iptc, AtJpeg, JpegSize, AtStrips, StripSizes, put, put_some, link, field_items, main_items, exif_items, thumb_items, items, FitsFields, FitsExif, FitsThumb, IsBytes, Fits}
-use Rattle.px_tree.proofs.Each.{each_map, each_map₂}
 use Rattle.px_tree.proofs.InRange.{bytes_part}
 use Rattle.px_tree.proofs.FitsBack.{whole, count_is, Plausible, entries_plausible, bytes_raw, length_raw, value_of, fields_fit}
 

@@ -7,6 +7,7 @@ use Rattle.px_bytes.specs.declared.Order.{Order}
 use Rattle.px_bytes.specs.declared.Order.TheVariants.{Least}
 use Rattle.px_bytes.specs.Numbers.{AreBytes, number}
 use Rattle.px_bytes.specs.Parts.{part, pieces}
+use Rattle.px_bytes.specs.EachLaws.{each_map₂}
 use Rattle.px_field.specs.declared.Form.{Form}
 use Rattle.px_field.specs.declared.Form.TheVariants.{Byte, Ascii, Short, Long, Rational, SByte, Undefined, SShort, SLong, SRational, Float, Double, Utf8}
 use Rattle.px_field.specs.declared.Kind.TheVariants.{Of}
@@ -24,7 +25,6 @@ use Rattle.px_tree.specs.Roles.{role}
 use Rattle.px_tree.specs.Entry.{short, Entry, entry, table_size, has_table, table, entries, sized, raw_size, is_placed, offset, raw, has_raw, IsEntry, Rising, IsDirectory, entry_elements, widened_value, record_in, unless_record, value_in, field, fields}
 use Rattle.px_tree.specs.Directory.{entries_at}
 use Rattle.px_tree.specs.Fits.{Allows, FitsField, FitsFields}
-use Rattle.px_tree.proofs.Each.{each_map₂}
 use Rattle.px_tree.proofs.InRange.{bytes_part, below-16, bytes_back, undefined_back}
 
 -- ---- entries

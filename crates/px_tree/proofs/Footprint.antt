@@ -8,6 +8,7 @@ use Rattle.px_bytes.specs.declared.Order.{Order}
 use Rattle.px_bytes.specs.Numbers.{number}
 use Rattle.px_bytes.specs.Parts.{limit, part}
 use Rattle.px_bytes.specs.Range.{Range, range, IsIn, AllApart}
+use Rattle.px_bytes.specs.EachLaws.{each_map, each_map₂, each_left, each_right}
 use Rattle.px_field.specs.declared.Form.{Form}
 use Rattle.px_field.specs.declared.Kind.TheVariants.{Of}
 use Rattle.px_field.specs.Forms.{form_of}
@@ -24,7 +25,6 @@ use Rattle.px_tree.specs.Thumbnail.{both, are_paired, whole_number, numbers, num
 use Rattle.px_tree.specs.Footprint.{listed, placed_range, dir_ranges, thumb_ranges, footprint}
 use Rattle.px_tree.specs.Says.{record_at, exif_part, thumbnail, meaning, IsExif, SaysExif}
 use Rattle.px_tree.proofs.EachDir.{each_dir}
-use Rattle.px_tree.proofs.Each.{each_map, each_map₂, each_left, each_right}
 
 -- two blocks that agree at each byte of a range
 abbrev pub AgreeIn : List ℕ → List ℕ → Range → Type 0

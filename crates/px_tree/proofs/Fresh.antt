@@ -2,7 +2,7 @@
 use Rattle.std.proofs.Common.{List, [], ◌∷◌, ◌++◌}
 use Rattle.std.specs.List.{AllByRecursion}
 use Rattle.px_bytes.specs.Range.{Range, Apart, AllApart}
-use Rattle.px_tree.proofs.Each.{each_map, each_map₂, each_left, each_right, each_append}
+use Rattle.px_bytes.specs.EachLaws.{each_map, each_map₂, each_left, each_right, each_append}
 
 pub apart_turned : (r s : Range) → Apart r s → Apart s r
 apart_turned r s a p i j = a p j i

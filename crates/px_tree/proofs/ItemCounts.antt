@@ -1,6 +1,5 @@
 -- How many entries a directory needs.
-use Rattle.std.proofs.Common.{◌≡◌, ◌≤◌, ◌<◌, ◌+◌, ◌*◌, ℕ, suc, Bool, true, false, if◌then◌else◌, List, [], ◌∷◌, length, map, nat_lt, Option, Some, None, option_map, refl, sym, ap, ◌∙◌, arith, IsTrue, ◌↔◌, is_some}
-use Rattle.px_field.specs.Values.{Value}
+use Rattle.std.proofs.Common.{◌≡◌, ◌+◌, ◌*◌, ℕ, suc, Bool, true, false, if◌then◌else◌, List, [], ◌∷◌, length, map, nat_lt, Option, Some, None, option_map, refl, ap, arith, is_some}
 use Rattle.px_tree.specs.declared.meanings.Meaning as declared_meaning
 use Rattle.px_tree.specs.declared.meanings.ExifPart as declared_exif
 use Rattle.px_tree.specs.declared.meanings.Thumb as declared_thumb
@@ -8,7 +7,7 @@ use Rattle.px_tree.specs.Seen.{exif_of, thumb_of, meaning_of}
 use Rattle.px_tree.specs.Tree.{Fields, ExifPart, Thumbnail, Meaning}
 use Rattle.px_tree.specs.declared.roles.Dir.TheVariants.{Exif, Interop, Gps}
 use Rattle.px_tree.specs.Roles.{exif_tag, gps_tag, interop_tag, record_tag, jpeg_offset_tag, jpeg_length_tag, strip_offsets_tag, strip_lengths_tag}
-use Rattle.px_tree.specs.Fits.{Item, Field, Iptc, Link, AtJpeg, JpegSize, AtStrips, StripSizes, put, put_some, link, field_items, main_items, exif_items, thumb_items}
+use Rattle.px_tree.specs.Fits.{Iptc, Link, AtJpeg, JpegSize, AtStrips, StripSizes, put, put_some, link, field_items, main_items, exif_items, thumb_items}
 
 pub length-put : {X : Type 0} (t : ℕ) (x : X) (xs : List (ℕ × X)) → length (put t x xs) ≡ suc (length xs)
 length-put t x [] = refl

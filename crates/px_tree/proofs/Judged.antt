@@ -1,5 +1,5 @@
 -- Where each check holds, a block says a meaning.
-use Rattle.std.proofs.Common.{◌≡◌, ℕ, ◌+◌, ◌<◌, ◌≤◌, ◌==◌, ◌⊎◌, nat_lt, nat_le, inl, inr, true, not, if◌then◌else◌, ◌||◌, Option, Some, None, option_map, List, [], ◌∷◌, ◌++◌, map, filter_map, flat_map, length, take, refl, sym, ◌∙◌, ap, ap₂, subst, arith, leb-true, eqb-true, eq-eqb}
+use Rattle.std.proofs.Common.{◌≡◌, ℕ, ◌+◌, ◌<◌, ◌≤◌, ◌==◌, ◌⊎◌, nat_lt, nat_le, inl, inr, true, if◌then◌else◌, ◌||◌, Option, Some, None, option_map, List, [], ◌∷◌, ◌++◌, map, filter_map, flat_map, length, take, refl, sym, ◌∙◌, ap, ap₂, subst, arith, leb-true, eqb-true, eq-eqb}
 use Rattle.std.specs.Prelude.{IfSome, option_to_list}
 use Rattle.std.specs.List.{AllByRecursion, cons_option}
 use Rattle.std.proofs.lemmas.Bool.{cases_Bool, cond-true, cond-false, and_parts, and_from, or_cases, not-true, eqb-false, cases_eq}
@@ -8,9 +8,10 @@ use Rattle.px_bytes.specs.declared.Order.{Order}
 use Rattle.px_bytes.specs.declared.Order.TheVariants.{Least, Most}
 use Rattle.px_bytes.specs.declared.Cause.{Cause}
 use Rattle.px_bytes.specs.Parts.{limit, part}
-use Rattle.px_bytes.specs.Range.{Range, range, Apart, AllApart, shares, is_free}
+use Rattle.px_bytes.specs.Range.{Range, range, Apart, AllApart}
 use Rattle.px_bytes.specs.ApartLaws.{apart_each}
 use Rattle.px_bytes.specs.Checks.{Check, first_false}
+use Rattle.px_bytes.specs.EachLaws.{each_map, each_left, each_right}
 use Rattle.px_tree.specs.declared.roles.Dir.{Dir}
 use Rattle.px_tree.specs.declared.roles.Dir.TheVariants.{Thumb}
 use Rattle.px_tree.specs.Roles.{strip_offsets_tag, strip_lengths_tag}
@@ -21,7 +22,6 @@ use Rattle.px_tree.specs.Thumbnail.{are_paired, jpeg_range, strip_ranges, IsInsi
 use Rattle.px_tree.specs.Footprint.{listed, placed_range, dir_ranges, thumb_ranges, footprint}
 use Rattle.px_tree.specs.Says.{meaning, SaysExif}
 use Rattle.px_tree.specs.Checks.{same_bytes, order_of, begins_header, is_not_below, differs, is_free_value, entry_checks, entries_checks, dir_checks, named_at, checks_at, dirs_checks, dirs_held, same_count, range_checks, thumb_checks, thumb_checks_at, tree_checks, checks_in, checks, FirstFault}
-use Rattle.px_tree.proofs.Each.{each_map, each_left, each_right}
 use Rattle.px_tree.proofs.Fresh.{Fresh, fresh_cons, fresh_append, fresh_left, fresh_right, fresh_nil, fresh_all}
 
 abbrev pub Holds : Check → Type 0

@@ -2,12 +2,12 @@
 use Rattle.std.proofs.Common.{◌≡◌, ◌<◌, ℕ, List, [], ◌∷◌, ◌++◌, Option, Some, None, option_map, option_to_list, refl, ap, subst, sym, arith}
 use Rattle.std.specs.List.{AllByRecursion}
 use Rattle.std.proofs.lemmas.List.{append-nil}
+use Rattle.px_bytes.specs.EachLaws.{each_map, each_append}
 use Rattle.px_field.specs.Values.{Value}
 use Rattle.px_tree.specs.Tree.{Fields}
 use Rattle.px_tree.specs.Entry.{Rising}
 use Rattle.px_tree.specs.Places.{tags}
 use Rattle.px_tree.specs.Reading.{Precede}
-use Rattle.px_tree.proofs.Each.{each_map, each_append}
 
 rising_more : (ts : List ℕ) (t : ℕ) → Rising ts → AllByRecursion (λ s. s < t) ts → Rising (ts ++ t ∷ [])
 rising_more [] t r h = (tt, tt)

@@ -1,4 +1,3 @@
-pub mod Each
 pub mod OneMeaning
 pub mod InRange
 pub mod FitsBack

@@ -9,10 +9,10 @@ use Rattle.px_bytes.specs.declared.Cause.TheVariants.{Overlap}
 use Rattle.px_bytes.specs.Range.{Range, shares, is_free}
 use Rattle.px_bytes.specs.ApartLaws.{byte_from_test}
 use Rattle.px_bytes.specs.Checks.{Check, first_false}
+use Rattle.px_bytes.specs.EachLaws.{each_map, each_append}
 use Rattle.px_tree.specs.Thumbnail.{IsInside}
 use Rattle.px_tree.specs.Checks.{is_free_value}
 use Rattle.px_tree.specs.Faults.{At, Begins, owners, Fault}
-use Rattle.px_tree.proofs.Each.{each_map, each_append}
 use Rattle.px_tree.proofs.Owned.{ranges}
 use Rattle.px_tree.proofs.At.{From, from_head, from_tail}
 use Rattle.px_tree.proofs.Judged.{AllHold}

@@ -7,6 +7,7 @@ use Rattle.px_bytes.specs.declared.Order.{Order}
 use Rattle.px_bytes.specs.declared.Cause.TheVariants as cause
 use Rattle.px_bytes.specs.Parts.{part}
 use Rattle.px_bytes.specs.Range.{Range, range}
+use Rattle.px_bytes.specs.EachLaws.{each_map}
 use Rattle.px_field.specs.Forms.{form_of}
 use Rattle.px_tree.specs.declared.roles.Dir.{Dir}
 use Rattle.px_tree.specs.declared.roles.Role.{Role}
@@ -18,7 +19,6 @@ use Rattle.px_tree.specs.Thumbnail.{IsInside}
 use Rattle.px_tree.specs.Footprint.{listed, placed_range, table_range, dir_ranges, ranges_at}
 use Rattle.px_tree.specs.Checks.{is_not_below, differs, entry_checks, entries_checks, is_earlier_at, opening_checks, dir_checks, named_at, checks_at, dirs_checks, dirs_held}
 use Rattle.px_tree.specs.Faults.{At, Begins, Reached, EntryAt, dir_number, value_owners, dir_owners, owners_at, owners, Fault}
-use Rattle.px_tree.proofs.Each.{each_map}
 use Rattle.px_tree.proofs.Owned.{ranges-owners_at}
 use Rattle.px_tree.proofs.At.{From, from_all, from_head, from_tail, from_left, from_right}
 use Rattle.px_tree.proofs.Judged.{AllHold, at_facts}

@@ -6,6 +6,7 @@ use Rattle.std.proofs.lemmas.Bool.{cases_Bool, cond-true, cond-false, both_ways,
 use Rattle.px_bytes.specs.declared.Order.{Order}
 use Rattle.px_bytes.specs.declared.Cause.TheVariants as cause
 use Rattle.px_bytes.specs.Range.{Range, range}
+use Rattle.px_bytes.specs.EachLaws.{all_at}
 use Rattle.px_tree.specs.declared.roles.Dir.TheVariants.{Thumb}
 use Rattle.px_tree.specs.Roles.{jpeg_offset_tag, jpeg_length_tag, strip_offsets_tag, strip_lengths_tag, at_tag}
 use Rattle.px_tree.specs.Entry.{Entry, next, table, offset, IsEntry}
@@ -15,7 +16,7 @@ use Rattle.px_tree.specs.Footprint.{listed}
 use Rattle.px_tree.specs.Checks.{place_with, pair_place, same_count, pair_checks, end_checks, range_checks, part_checks, thumb_checks}
 use Rattle.px_tree.specs.Faults.{At, Reached, EntryAt, thumb_owners, owners, partners, PartAt, Fault}
 use Rattle.px_tree.proofs.Owned.{ranges-placed}
-use Rattle.px_tree.proofs.At.{From, from_head, from_tail, from_left, from_right, at_each, each_from_at, contains_at}
+use Rattle.px_tree.proofs.At.{From, from_head, from_tail, from_left, from_right, each_from_at, contains_at}
 use Rattle.px_tree.proofs.Judged.{ranges_facts}
 use Rattle.px_tree.proofs.Told.{Tells, tells_append, Held, held_cons, held_append, overlap_told}
 
@@ -50,7 +51,7 @@ module _ (b : List ℕ) (o : Order) (a : ℕ) (reached : Reached b o Thumb a) (e
     entry_there = (a, reached, found.is, found.place)
 
     entry_fine : IsEntry b o Thumb e
-    entry_fine = at_each (IsEntry b o Thumb) es found.index e each found.is
+    entry_fine = all_at (IsEntry b o Thumb) es found.index e each found.is
 
   -- ---- pairs
 

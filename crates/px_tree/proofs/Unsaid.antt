@@ -8,6 +8,7 @@ use Rattle.px_bytes.specs.declared.Cause.{Cause}
 use Rattle.px_bytes.specs.declared.Cause.TheVariants as cause
 use Rattle.px_bytes.specs.Parts.{part}
 use Rattle.px_bytes.specs.Range.{Range, range, IsIn, Apart, AllApart}
+use Rattle.px_bytes.specs.EachLaws.{each_left, each_right, all_at}
 use Rattle.px_field.specs.Forms.{form_of}
 use Rattle.px_tree.specs.declared.roles.Dir.{Dir}
 use Rattle.px_tree.specs.declared.roles.Dir.TheVariants.{Main, Exif, Interop, Gps, Thumb}
@@ -21,14 +22,13 @@ use Rattle.px_tree.specs.Footprint.{listed, dir_ranges, ranges_at, thumb_ranges,
 use Rattle.px_tree.specs.Says.{IsExif, SaysExif}
 use Rattle.px_tree.specs.Faults.{At, Begins, EntryAt, dir_number, owners, partners, IsAlone, IsUneven, Names, PartAt, Fault}
 use Rattle.px_tree.proofs.EachDir.{each_dir}
-use Rattle.px_tree.proofs.Each.{each_left, each_right}
 use Rattle.px_tree.proofs.Fresh.{Clear, clear_across, apart_left, apart_right}
 use Rattle.px_tree.proofs.Owned.{ranges, owners_own}
 use Rattle.px_tree.proofs.OneMeaning.{magic_tells}
 use Rattle.px_tree.proofs.Filled.{each_at}
 use Rattle.px_tree.proofs.Judged.{all_magic}
 use Rattle.px_tree.proofs.Members.{each_member}
-use Rattle.px_tree.proofs.At.{at_each, at_map, at_apart, at_rising, at_found}
+use Rattle.px_tree.proofs.At.{at_map, at_apart, at_rising, at_found}
 
 -- ---- no directory stands twice
 
@@ -140,7 +140,7 @@ module _ (b : List ℕ) (o : Order) (x : IsExif b o) where
     found i e h = at_found es i e is.rising h
 
     entry_is : (i : ℕ) (e : Entry) → At es i e → IsEntry b o d e
-    entry_is i e h = at_each (IsEntry b o d) es i e is.each h
+    entry_is i e h = all_at (IsEntry b o d) es i e is.each h
 
   module _ (d : Dir) where
     -- the entries are those of one table

@@ -1,5 +1,5 @@
 -- What the program's meanings say: a reference in a field is not seen through by itself.
-use Rattle.std.specs.Prelude.{ℕ, Option, option_map, List}
+use Rattle.std.specs.Prelude.{option_map}
 use Rattle.px_tree.specs.Tree as said
 use Rattle.px_tree.specs.declared.meanings.Meaning.{Meaning}
 use Rattle.px_tree.specs.declared.meanings.ExifPart.{ExifPart}

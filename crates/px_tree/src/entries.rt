@@ -1,5 +1,5 @@
 // One entry of a table, judged. TIFF 6.0 section 2, "IFD Entry", "Sort Order", "Types" and "Value/Offset".
-ghost use Rattle.std.specs.Prelude.{◌≡◌, ◌≤◌, ◌<◌, ◌+◌, ◌*◌, ◌^◌, ℕ, List, [], ◌∷◌, ◌++◌, length, option_to_list, IfOk, Some};
+ghost use Rattle.std.specs.Prelude.{◌≡◌, ◌≤◌, ◌<◌, ◌+◌, ◌*◌, ◌^◌, List, [], ◌∷◌, ◌++◌, length, option_to_list, IfOk, Some};
 ghost use Rattle.px_bytes.specs.declared.Cause.TheVariants.{Overlap};
 ghost use Rattle.px_bytes.specs.Parts.{limit, part};
 ghost use Rattle.px_bytes.specs.Range.{Range, range, is_free, Agrees};

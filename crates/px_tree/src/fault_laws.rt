@@ -1,4 +1,4 @@
-// Laws over the definitions alone: what the footprint is for, and what a fault tells.
+//! Laws over the definitions alone: what the footprint is for, and what a fault tells.
 ghost use Rattle.px_tree.specs.Laws.{OwnersOwn, FootprintCounts, FaultsTell};
 
 /// The owners of bytes, each with the place of what names it, own the footprint.

@@ -1,4 +1,4 @@
-// Laws over the definitions alone: what each states stands in specs/Laws.antt.
+//! Laws over the definitions alone: what each states stands in specs/Laws.antt.
 ghost use Rattle.px_tree.specs.Laws.{OneMeaning, SaidFits, FieldsArePairs};
 
 /// A block says at most one meaning.

@@ -1,5 +1,5 @@
 // Where directories are named. TIFF 6.0 section 2, "Image File Directory"; CIPA DC-008 4.6.3 (pointers).
-ghost use Rattle.std.specs.Prelude.{◌≡◌, ◌≤◌, ◌<◌, ◌+◌, ◌*◌, ℕ, List, length, IfSome, option_map, MatchOption, None};
+ghost use Rattle.std.specs.Prelude.{◌≡◌, ◌≤◌, ◌+◌, ◌*◌, length, IfSome, option_map, MatchOption, None};
 ghost use Rattle.px_bytes.specs.Parts.{limit};
 ghost use Rattle.px_tree.specs.Entry.{next, table};
 ghost use Rattle.px_tree.specs.Directory.{entries_at, entry_with, is_pointer, pointer, unless_zero};

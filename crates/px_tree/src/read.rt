@@ -1,5 +1,5 @@
 // A whole block. TIFF 6.0 section 2, "Image File Header".
-ghost use Rattle.std.specs.Prelude.{◌≡◌, ◌≤◌, ◌++◌, List, [], ◌∷◌, length, take, true, Some, IfOk, IfErr, option_map, ⊤};
+ghost use Rattle.std.specs.Prelude.{◌≡◌, ◌≤◌, length, take, true, Some, IfOk, IfErr, option_map, ⊤};
 ghost use Rattle.px_bytes.specs.Parts.{limit};
 ghost use Rattle.px_bytes.specs.Numbers.{AreBytes};
 ghost use Rattle.px_bytes.specs.Checks.{Judges};
@@ -147,7 +147,7 @@ fn read_tree<'a>(alloc: Global, block: &'a [u8], order: Order) -> Result<Meaning
 ///
 /// It takes memory for the fields, the record, the list of strips and the ranges that are held while
 /// it reads. `OutOfMemory` comes where that was refused, and says nothing of the block. The cost
-/// grows with the block's length, but for the ranges, where it grows with n log n.
+/// grows with the block's length.
 pub fn read_block<'a>(alloc: Global, block: Block<'a>) -> Result<Meaning<'a>, Refusal>
     ensures says { IfOk result (λ m. SaysExif block.entry (meaning_of m)) }
     ensures fits { IfOk result (λ m. Fits (meaning_of m)) }

@@ -5,10 +5,15 @@ ghost use Rattle.px_tree.specs.Roles.{role};
 /// A directory: the main one of TIFF 6.0, and those that CIPA DC-008 names from it.
 #[derive(Clone, Copy, Debug, PartialEq, Eq)]
 pub enum Dir {
+    /// The main directory (0th IFD), which the header names.
     Main,
+    /// The Exif directory, which tag 0x8769 of the main directory names.
     Exif,
+    /// The Interoperability directory, which tag 0xA005 of the Exif directory names.
     Interop,
+    /// The GPS directory, which tag 0x8825 of the main directory names.
     Gps,
+    /// The thumbnail directory (1st IFD), which stands behind the main directory.
     Thumb,
 }
 

@@ -39,21 +39,21 @@ impl<'a> Strips<'a> {
         Ok(())
     }
 
-    /// How many strips there are.
+    /// How many strips there are. Takes no memory.
     pub fn len(&self) -> usize
         ensures { result ≡ length self.now }
     {
         self.list.len()
     }
 
-    /// Whether there are none.
+    /// Whether there are none. Takes no memory.
     pub fn is_empty(&self) -> bool
         ensures { IsTrue result ↔ (self.now ≡ []) }
     {
         self.list.is_empty()
     }
 
-    /// The bytes of the strip at `i`, counted from 0.
+    /// The bytes of the strip at `i`, counted from 0; `i` is below `len`. Takes no memory.
     pub fn at(&self, i: usize) -> &'a [u8]
         requires { i < length self.now }
         ensures { slice_get self.now i ≡ Some result.now }

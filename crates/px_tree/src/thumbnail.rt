@@ -1,6 +1,6 @@
 // The thumbnail's bytes: a JPEG, or strips. CIPA DC-008 4.5.5; TIFF 6.0 section 8, "StripOffsets" and
 // "StripByteCounts".
-ghost use Rattle.std.specs.Prelude.{◌≡◌, ◌≤◌, ◌<◌, ◌+◌, ◌++◌, ◌⊎◌, ℕ, List, [], ◌∷◌, length, map, nat_le, slice_get, Some, IfOk, IfSome, IfErr, option_map, option_to_list, ⊤};
+ghost use Rattle.std.specs.Prelude.{◌≡◌, ◌≤◌, ◌<◌, ◌+◌, ◌++◌, ◌⊎◌, List, [], ◌∷◌, length, map, nat_le, slice_get, Some, IfOk, IfSome, option_map, option_to_list, ⊤};
 ghost use Rattle.px_bytes.specs.declared.Cause.TheVariants.{Overlap, ThumbnailOutside};
 ghost use Rattle.px_bytes.specs.Parts.{limit, part};
 ghost use Rattle.px_bytes.specs.Range.{Range, range, is_free, Agrees};

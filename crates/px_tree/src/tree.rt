@@ -1,8 +1,8 @@
 // The directories of a block, in the order main, Exif, Interoperability, GPS, thumbnail. CIPA DC-008
 // 4.6.3 and 4.5.5.
-ghost use Rattle.std.specs.Prelude.{◌≡◌, ◌≤◌, ◌+◌, ◌++◌, ℕ, List, [], ◌∷◌, length, option_map, option_and_then, unwrap_or, IfSome, IfOk};
+ghost use Rattle.std.specs.Prelude.{◌≡◌, ◌≤◌, ◌++◌, List, [], length, option_map, option_and_then, unwrap_or, IfSome, IfOk};
 ghost use Rattle.px_bytes.specs.Parts.{limit};
-ghost use Rattle.px_bytes.specs.Range.{Range, range, Agrees};
+ghost use Rattle.px_bytes.specs.Range.{Range, Agrees};
 ghost use Rattle.px_bytes.specs.Checks.{Judges};
 ghost use Rattle.px_tree.specs.Entry.{next, table};
 ghost use Rattle.px_tree.specs.Directory.{dirs, dir_at, fields_at, pointer, entries_at, unless_zero};

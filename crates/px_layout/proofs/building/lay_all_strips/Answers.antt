@@ -1,4 +1,4 @@
-use Rattle.std.proofs.Common.{◌≡◌, ℕ, List, Option, subst, sym}
+use Rattle.std.proofs.Common.{ℕ, List, Option, subst, sym}
 use Rattle.px_layout.specs.Laid.{all_strip_contents}
 use Rattle.px_layout.specs.Building.{PutsOver, at_places}
 use Rattle.px_layout.proofs.building.lay_all_strips.Goals as goal

@@ -1,4 +1,4 @@
-use Rattle.std.proofs.Common.{◌≡◌, ℕ, subst, sym, arith}
+use Rattle.std.proofs.Common.{ℕ, subst, sym, arith}
 use Rattle.px_tree.specs.Seen.{meaning_of}
 use Rattle.px_layout.specs.Building.{AreInside, value_pieces}
 use Rattle.px_layout.proofs.Pieces.{on_ok, dir_over, values_inside, table_inside, few_entries}

@@ -1,4 +1,4 @@
-use Rattle.std.proofs.Common.{◌≡◌, ℕ, List, length, ◌∙◌, ap, refl, arith}
+use Rattle.std.proofs.Common.{ℕ, List, length, ◌∙◌, ap, refl, arith}
 use Rattle.px_layout.specs.Building.{said_plan}
 use Rattle.px_layout.specs.SizeLaws.{length_header}
 use Rattle.px_layout.proofs.Pieces.{one_as}

@@ -1,4 +1,4 @@
-use Rattle.std.proofs.Common.{◌≡◌, ℕ, List, Option, option_map, [], ◌∷◌, subst, sym, ap, refl}
+use Rattle.std.proofs.Common.{ℕ, List, Option, option_map, subst, sym, ap, refl}
 use Rattle.px_layout.specs.Laid.{jpeg_contents}
 use Rattle.px_layout.specs.Building.{PutsOver, at_places}
 use Rattle.px_layout.proofs.Pieces.{one_as}

@@ -1,4 +1,4 @@
-use Rattle.std.proofs.Common.{◌≡◌, ◌-◌, ℕ, length, drop, [], ◌∷◌, subst, refl, arith}
+use Rattle.std.proofs.Common.{◌≡◌, ◌-◌, ℕ, length, drop, subst, refl, arith}
 use Rattle.px_layout.specs.Laid.{strip_contents}
 use Rattle.px_layout.specs.Building.{PutsOver, at_places}
 use Rattle.px_layout.proofs.Pieces.{strip_inside, strips_more, one_as}

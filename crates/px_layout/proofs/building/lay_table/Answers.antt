@@ -1,4 +1,4 @@
-use Rattle.std.proofs.Common.{◌≡◌, ℕ, List, length, ◌∙◌, ap, arith}
+use Rattle.std.proofs.Common.{ℕ, List, length, ◌∙◌, ap, arith}
 use Rattle.px_layout.proofs.Pieces.{one_as}
 use Rattle.px_layout.proofs.building.lay_table.Goals as goal
 

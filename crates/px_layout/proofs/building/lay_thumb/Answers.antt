@@ -1,4 +1,4 @@
-use Rattle.std.proofs.Common.{◌≡◌, ℕ, List, Option, option_map, subst, sym, ap}
+use Rattle.std.proofs.Common.{ℕ, Option, option_map, subst, sym, ap}
 use Rattle.px_tree.specs.Tree.{Thumbnail}
 use Rattle.px_tree.specs.Seen.{thumb_of, meaning_of}
 use Rattle.px_layout.specs.Laid.{jpeg_contents, all_strip_contents, thumb_contents}

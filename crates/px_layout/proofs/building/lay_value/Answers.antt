@@ -1,4 +1,4 @@
-use Rattle.std.proofs.Common.{◌≡◌, ◌∙◌, arith}
+use Rattle.std.proofs.Common.{◌∙◌, arith}
 use Rattle.px_layout.specs.Items.{item_of}
 use Rattle.px_layout.proofs.Pieces.{value_none, value_over, value_room}
 use Rattle.px_layout.proofs.building.lay_value.Goals as goal

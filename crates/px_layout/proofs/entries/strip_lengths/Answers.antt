@@ -1,6 +1,3 @@
-use Rattle.std.proofs.Common.{◌≡◌, ◌≤◌, length, subst, sym}
-use Rattle.std.proofs.lemmas.List.{length-map}
-use Rattle.px_bytes.specs.Parts.{limit}
 use Rattle.px_layout.proofs.EntryLists.{strips_counted}
 use Rattle.px_layout.proofs.entries.strip_lengths.Goals as goal
 

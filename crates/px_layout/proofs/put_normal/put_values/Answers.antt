@@ -1,7 +1,7 @@
 use Rattle.std.proofs.Common.{◌∙◌}
 use Rattle.std.proofs.lemmas.Result.{err_from_is_err_and}
 use Rattle.px_bytes.specs.WaitingLaws.{loop_more, loop_stop}
-use Rattle.px_field.specs.PieceLaws.{all_at}
+use Rattle.px_bytes.specs.EachLaws.{all_at}
 use Rattle.px_tree.specs.Roles.{role}
 use Rattle.px_layout.specs.ItemLaws.{Suits}
 use Rattle.px_layout.specs.Planned.{plan_of}

@@ -1,4 +1,4 @@
-use Rattle.std.proofs.Common.{◌≡◌, ◌<◌, ◌-◌, ◌+◌, ◌/◌, ℕ, length, slice_index, get_or, arith}
+use Rattle.std.proofs.Common.{◌≡◌, ◌<◌, ◌-◌, ◌+◌, ◌/◌, length, slice_index, get_or, arith}
 use Rattle.px_tree.specs.Places.{tags}
 use Rattle.px_tree.proofs.FieldLemmas.{tag_at, below_middle, above_middle}
 use Rattle.px_tree.proofs.fields.place_of.Goals as goal

@@ -1,4 +1,4 @@
-use Rattle.std.proofs.Common.{◌≡◌, ◌<◌, true, refl, subst, sym, arith, ◌∙◌}
+use Rattle.std.proofs.Common.{refl, arith}
 use Rattle.px_tree.proofs.FitLemmas.{fits_one_more, fits_all}
 use Rattle.px_tree.proofs.fitting.fits_fields.Goals as goal
 

@@ -1,7 +1,6 @@
 use Rattle.std.proofs.Common.{◌≡◌, ◌<◌, ℕ, slice_get, Some}
 use Rattle.px_field.specs.Values.{Value}
-use Rattle.px_tree.specs.Roles.{role}
-use Rattle.px_tree.specs.Fits.{Allows, FitsField}
+use Rattle.px_tree.specs.Fits.{FitsField}
 use Rattle.px_tree.proofs.fitting.fits_fields.Given as goal
 
 -- the fields so far may stand there

@@ -29,7 +29,7 @@ invariant_of-self-2 c =
       omega (arith, c.reach.ensures.bounded),
       elim (ok_or_err c.add.result c.add.ensures.done c.add.ensures.failed) [
         | inl h ↦ subst AreGroups (sym (more c.args.rec c.args.number c.args.octets.now c.reach.new.records.items c.self.inside.records.items c.add.new.groups c.index_mut-groups.result.now (records_view 0 c.self.inside.records.items) c.reach.ensures.same refl there c.index_mut-groups.ensures.value h))
-            (whole_put (record { rec = c.args.rec; number = c.args.number; octets = c.args.octets.now }) c.ranges.rec.fits c.ranges.number.fits (λ i. (c.type_inv.octets i).fits) c.requires _ whole)
+            (whole_put (record { rec = c.args.rec; number = c.args.number; octets = c.args.octets.now }) (c.ranges.rec.fits, record { byte = c.ranges.number.fits; member = refl; bytes = λ i. (c.type_inv.octets i).fits; bounded = c.requires }) _ whole)
         | inr h ↦ subst AreGroups (sym (same c.args.rec c.reach.new.records.items c.self.inside.records.items c.add.new.groups c.index_mut-groups.result.now (records_view 0 c.self.inside.records.items) c.reach.ensures.same refl c.index_mut-groups.ensures.value h)) whole
       ],
     )

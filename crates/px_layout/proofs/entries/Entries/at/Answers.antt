@@ -1,4 +1,4 @@
-use Rattle.std.proofs.Common.{◌≡◌, ◌<◌, ℕ, List, length, slice_get, Some, ap, option_map, ◌∙◌, subst, sym}
+use Rattle.std.proofs.Common.{◌<◌, ℕ, List, length, slice_get, ap, option_map, ◌∙◌, subst, sym}
 use Rattle.px_field.specs.Values.{Value}
 use Rattle.px_tree.specs.Fits.{Item, Field}
 use Rattle.px_layout.proofs.EntryLists.{through}

@@ -1,4 +1,4 @@
-use Rattle.std.proofs.Common.{◌≡◌, arith}
+use Rattle.std.proofs.Common.{arith}
 use Rattle.px_layout.proofs.EntryLists.{rank_more, rank_found, rank_all}
 use Rattle.px_layout.specs.Items.{item_of}
 use Rattle.px_layout.proofs.entries.Entries.rank.Goals as goal

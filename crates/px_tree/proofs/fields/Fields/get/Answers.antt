@@ -1,4 +1,4 @@
-use Rattle.std.proofs.Common.{◌≡◌, sym}
+use Rattle.std.proofs.Common.{sym}
 use Rattle.px_tree.proofs.FieldLemmas.{at_tag-read, at_tag-gap}
 use Rattle.px_tree.proofs.fields.Fields.get.Goals as goal
 

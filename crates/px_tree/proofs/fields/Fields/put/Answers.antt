@@ -1,4 +1,4 @@
-use Rattle.std.proofs.Common.{◌≡◌, sym, ap, refl, ◌∙◌}
+use Rattle.std.proofs.Common.{sym, refl, ◌∙◌}
 use Rattle.px_tree.proofs.FieldLemmas.{at_tag-some, at_tag-gap, put-insert, in_order-insert}
 use Rattle.px_tree.proofs.fields.Fields.put.Goals as goal
 

@@ -1,5 +1,5 @@
 -- What holds of each element of a list, by recursion on it.
-use Rattle.std.proofs.Common.{◌≡◌, List, [], ◌∷◌, ◌++◌, map, refl, ap, ap₂}
+use Rattle.std.proofs.Common.{◌≡◌, ℕ, zero, suc, List, [], ◌∷◌, ◌++◌, map, slice_get, Some, refl, ap, ap₂, subst}
 use Rattle.std.specs.List.{AllByRecursion}
 
 module _ {X : Type 0} (P : X → Type 0) where
@@ -26,6 +26,12 @@ module _ {X : Type 0} (P : X → Type 0) where
   pub each_append : (xs ys : List X) → AllByRecursion P xs → AllByRecursion P ys → AllByRecursion P (xs ++ ys)
   each_append [] ys h k = k
   each_append (x ∷ xs) ys h k = (h.0, each_append xs ys h.1 k)
+
+  -- what holds of each holds of the one at a place
+  pub all_at : (xs : List X) (i : ℕ) (x : X) → AllByRecursion P xs → slice_get xs i ≡ Some x → P x
+  all_at [] i x h e = cc
+  all_at (y ∷ xs) zero x h e = let same : y ≡ x = cc in subst P same h.0
+  all_at (y ∷ xs) (suc i) x h e = all_at xs i x h.1 e
 
   module _ {Y : Type 0} (f : Y → X) where
     pub each_in_map : (ys : List Y) → AllByRecursion P (map f ys) → AllByRecursion (λ y. P (f y)) ys

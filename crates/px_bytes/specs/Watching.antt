@@ -1,0 +1,11 @@
+-- A device that is watched, and how often it failed.
+use Rattle.std.specs.Prelude.{ℕ}
+use Rattle.px_bytes.specs.declared.devices.Watched.{Watched}
+
+-- the reader or writer itself
+abbrev pub inner_of : {T : Type 0} → Watched T → T
+inner_of w = w.inner
+
+-- how many calls of it have failed so far
+abbrev pub failures_of : {T : Type 0} → Watched T → ℕ
+failures_of w = w.failures
