@@ -1,5 +1,5 @@
 -- What the words of a command line ask for.
-use Rattle.std.specs.Prelude.{◌≡◌, ◌≢◌, ◌∷◌, ◌++◌, ℕ, List, [], Option, Some, codes, true, is_some, ⊤}
+use Rattle.std.specs.Prelude.{◌≡◌, ◌≢◌, List, Option, Some, codes, true, is_some, ⊤}
 use Rattle.clap.specs.Words.{App, Row, Rule, Shape, Text, first_of, new_app, new_rule, subcommand_of, takes, with_rule, with_subcommand}
 use Rattle.px_cli.specs.declared.words.One.{One}
 use Rattle.px_cli.specs.declared.words.One.TheVariants as one

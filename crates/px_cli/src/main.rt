@@ -1,5 +1,15 @@
 //! The program `exifnorm`: it tells what a block of Exif or IPTC (IIM) metadata says, compares two
-//! blocks, and writes the one normal form of a block.
+//! blocks, and writes the one normal form of a block. It opens no picture file, edits no metadata,
+//! repairs nothing, and writes nothing to standard error.
+//!
+//! ```text
+//! exifnorm < block > normal           # the normal form of a block
+//! exifnorm show block                 # what a block says, a line for each field
+//! exifnorm check block                # its kind, or why it is refused
+//! exifnorm captions block             # its captions, names, keywords and rights
+//! exifnorm normalise block normal     # the normal form, from file to file
+//! exifnorm compare first second       # whether two blocks say the same
+//! ```
 #![tactic(auto)]
 
 mod job;

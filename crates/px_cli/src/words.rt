@@ -142,7 +142,7 @@ fn command<'a>(alloc: Global) -> Result<Command<'a>, AllocError>
     let captions = of_one(
         alloc,
         "captions",
-        "Print the captions, names and rights in the block",
+        "Print the captions, names, keywords and rights in the block",
     )?;
     let normalise = of_two(
         alloc,

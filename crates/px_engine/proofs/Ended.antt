@@ -1,7 +1,7 @@
 -- How a run that writes ends, from what its parts answer.
-use Rattle.std.proofs.Common.{◌≡◌, ◌<◌, ◌≤◌, ◌+◌, ◌*◌, ℕ, Bool, IsTrue, ◌↔◌, Option, Some, None, List, length, Result, Ok, Err, IfSome, refl, sym, subst, arith}
+use Rattle.std.proofs.Common.{◌<◌, ◌*◌, ℕ, Option, Some, None, List, length, Result, Ok, Err, IfSome, arith}
 use Rattle.px_bytes.specs.Parts.{limit}
-use Rattle.px_bytes.specs.Reading.{ReadsUpTo, ConsumesAtMost}
+use Rattle.px_bytes.specs.Reading.{ReadsUpTo}
 use Rattle.px_engine.specs.declared.faults.Fault.{Fault}
 use Rattle.px_engine.specs.declared.faults.Fault.TheVariants.{Refused, NormalTooLong, OutOfMemory, ReadFailed, WriteFailed}
 use Rattle.px_engine.specs.Files.{Said, normal, block_of}

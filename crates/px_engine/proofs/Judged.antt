@@ -1,5 +1,5 @@
 -- What blocks and files say, from what reading them answers.
-use Rattle.std.proofs.Common.{◌≡◌, ◌<◌, ◌≤◌, ◌+◌, ℕ, Option, Some, None, List, length, take, drop, Result, Ok, Err, IfSome, refl, sym, ap, subst, arith}
+use Rattle.std.proofs.Common.{◌≡◌, ◌<◌, ℕ, Option, Some, None, List, length, refl, sym, subst, arith}
 use Rattle.px_bytes.specs.declared.Cause.{Cause}
 use Rattle.px_bytes.specs.declared.Cause.TheVariants.{TooLong}
 use Rattle.px_bytes.specs.declared.Refusal.{Refusal}
@@ -26,7 +26,7 @@ use Rattle.px_engine.specs.declared.faults.Fault.{Fault}
 use Rattle.px_engine.specs.declared.faults.Fault.TheVariants.{Refused, NormalTooLong, OutOfMemory, ReadFailed, WriteFailed}
 use Rattle.px_engine.specs.Input.{IsSaidIn, IsFaultyIn, IsRefusedIn, IsSaid, IsFaulty, IsRefused, CountsReadFault}
 use Rattle.px_engine.specs.Runs.{KnownSaid, StopsRead, Stops}
-use Rattle.px_engine.specs.Faults.{refused, written}
+use Rattle.px_engine.specs.Faults.{refused}
 use Rattle.px_engine.specs.FileLaws as file
 use Rattle.px_engine.specs.Laws.{FaultsTell, taken}
 

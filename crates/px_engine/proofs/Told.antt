@@ -1,5 +1,5 @@
 -- The headline, from what normalising two files answers and the laws of files.
-use Rattle.std.proofs.Common.{◌≡◌, ◌≤◌, ◌<◌, ◌+◌, ◌*◌, ◌↔◌, ℕ, List, length, refl, sym, ◌∙◌, ap, subst, arith}
+use Rattle.std.proofs.Common.{◌≤◌, ◌*◌, ℕ, List, length, sym, ◌∙◌, ap, subst, arith}
 use Rattle.px_bytes.specs.Parts.{limit}
 use Rattle.px_engine.specs.Files.{Said, Says, normal, block_of}
 use Rattle.px_engine.specs.Input.{IsSaid}

@@ -1,6 +1,6 @@
 -- What a file says is one thing, has one normal form, and can be written; or the file has a fault. The laws of trees, which
 -- are functions of the crate of trees, are taken as premises.
-use Rattle.std.proofs.Common.{◌≡◌, ◌≤◌, ◌<◌, ◌+◌, ◌*◌, ◌⊎◌, inl, inr, ℕ, nat_eq, nat_le, true, false, if◌then◌else◌, Option, Some, None, List, [], ◌∷◌, ◌++◌, length, take, drop, refl, sym, ◌∙◌, ap, subst, ap₂, arith, leb-true, leb-false, length-drop}
+use Rattle.std.proofs.Common.{◌≡◌, ◌≤◌, ◌<◌, ◌+◌, ◌*◌, ◌⊎◌, inl, inr, ℕ, nat_eq, nat_le, if◌then◌else◌, Option, Some, List, [], ◌∷◌, ◌++◌, length, take, drop, refl, sym, ◌∙◌, ap, subst, ap₂, arith, leb-true, leb-false, length-drop}
 use Rattle.std.proofs.lemmas.Bool.{cond-true, cond-false, cases_Bool, lt-leb}
 use Rattle.std.proofs.lemmas.List.{take-take, take_all, length-take-le}
 use Rattle.std.specs.List.{starts_with, flat_map}
@@ -12,15 +12,13 @@ use Rattle.px_bytes.specs.Parts.{limit}
 use Rattle.px_bytes.specs.Checks.{first_false}
 use Rattle.px_field.specs.PieceLaws.{bytes_drop}
 use Rattle.px_iim.specs.Group.{Record, IsRecord}
-use Rattle.px_iim.specs.Record.{SaysIim, normal_dataset, normal_group, normal_iim}
+use Rattle.px_iim.specs.Record.{normal_dataset, normal_group, normal_iim}
 use Rattle.px_iim.specs.Check.{iim_checks}
-use Rattle.px_iim.specs.Laws as iim
 use Rattle.px_iim.specs.RecordLaws.{one_record, said_is_record}
 use Rattle.px_iim.specs.NormalLaws as iim_normal
 use Rattle.px_iim.specs.BoundLaws as iim_bound
 use Rattle.px_iim.specs.FaultLaws as iim_faults
 use Rattle.px_tree.specs.Tree.{Meaning}
-use Rattle.px_tree.specs.Says.{SaysExif}
 use Rattle.px_tree.specs.Checks.{checks}
 use Rattle.px_tree.specs.Laws as tree
 use Rattle.px_layout.specs.Laid.{header}
@@ -29,7 +27,7 @@ use Rattle.px_layout.specs.NormalLaws as exif_normal
 use Rattle.px_layout.specs.BoundLaws as exif_bound
 use Rattle.px_engine.specs.declared.kinds.BlockKind.{BlockKind}
 use Rattle.px_engine.specs.declared.kinds.BlockKind.TheVariants as kind
-use Rattle.px_engine.specs.Files.{Said, Exif, Iim, prefix, is_prefixed, is_marked, kind_of, block_of, SaysBlock, Says, CanBeWritten, normal, FirstIn, FirstFaultOf, StandsIn, FaultOf}
+use Rattle.px_engine.specs.Files.{Said, Exif, Iim, prefix, is_prefixed, is_marked, kind_of, block_of, SaysBlock, Says, CanBeWritten, normal, FirstIn, FirstFaultOf, StandsIn}
 use Rattle.px_engine.specs.Laws.{OneSaid, SaidCanBeWritten, NormalSays, NormalTells, NormalIsItsOwn, NormalBound, FaultsTell, taken, TakenTells}
 
 -- ---- a block of a kind

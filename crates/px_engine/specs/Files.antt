@@ -1,7 +1,7 @@
 -- What a file says. It holds an Exif block, perhaps behind the six bytes that stand before one in the APP1 segment of a JPEG
 -- file (CIPA DC-008, "Exif Identifier Code"), or a block of DataSets (IIM 4.2, chapter 1). How the two are told apart is this
 -- project's profile.
-use Rattle.std.specs.Prelude.{◌≡◌, ℕ, nat_eq, Bool, if◌then◌else◌, List, [], ◌∷◌, drop}
+use Rattle.std.specs.Prelude.{ℕ, nat_eq, Bool, if◌then◌else◌, List, [], ◌∷◌, drop}
 use Rattle.std.specs.List.{starts_with}
 use Rattle.px_bytes.specs.declared.Cause.{Cause}
 use Rattle.px_iim.specs.Group.{Record, IsRecord}

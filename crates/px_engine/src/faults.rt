@@ -38,13 +38,14 @@ pub enum Side {
     Second,
 }
 
-/// Why two files are not compared.
+/// Why two files are not compared, or not both normalised.
 #[derive(Clone, Copy, Debug, PartialEq, Eq, Error)]
 #[error("{fault} in the {side:?} file")]
 pub struct CompareFault {
     /// The file that the fault is of. Where it is the first, the second was not read.
     pub side: Side,
-    /// `Refused`, `OutOfMemory` or `ReadFailed`.
+    /// `Refused`, `OutOfMemory` or `ReadFailed`; of `normalise_both` also `NormalTooLong` or
+    /// `WriteFailed`.
     pub fault: Fault,
 }
 

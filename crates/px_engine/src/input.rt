@@ -1,5 +1,5 @@
 // A file, read whole and judged.
-ghost use Rattle.std.specs.Prelude.{◌≡◌, ◌≤◌, ◌<◌, ◌+◌, ◌^◌, ℕ, length, IfOk, IfErr, OnErr};
+ghost use Rattle.std.specs.Prelude.{◌<◌, ◌+◌, ◌^◌, IfOk, IfErr};
 ghost use Rattle.px_bytes.specs.Reading.{ReadsUpTo, ConsumesAtMost};
 ghost use Rattle.px_tree.specs.Seen.{meaning_of};
 ghost use Rattle.px_engine.specs.declared.kinds.BlockKind.TheVariants as kind;

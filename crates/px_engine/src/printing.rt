@@ -86,7 +86,7 @@ pub fn show<R: Source, W: Sink>(alloc: Global, reader: &mut R, writer: &mut W) -
 ///
 /// Faults are those of `show`, and what was written after each. It takes memory for the file, for what it
 /// says, for the list of captions, and for the text: at most three bytes for each byte of a caption, and
-/// less than 20 more a line.
+/// at most 22 more a line.
 pub fn captions<R: Source, W: Sink>(
     alloc: Global,
     reader: &mut R,

@@ -1,9 +1,8 @@
-use Rattle.std.proofs.Common.{◌≡◌, ℕ, List, Bor, ap, ap₂, ◌∙◌, map, refl, true, rules, Option}
-use Rattle.clap.specs.Words.{App, Row, Text, app_of, is_simple, subcommand_of, subcommand_rows_of, takes}
+use Rattle.std.proofs.Common.{◌≡◌, ℕ, List, Bor, ap, ◌∙◌, map, refl, true, rules}
+use Rattle.clap.specs.Words.{App, app_of, is_simple, takes}
 use Rattle.clap.proofs.OnLiterals.{clap_on_literals}
-use Rattle.px_cli.specs.declared.words.Words.{Words}
 use Rattle.px_cli.specs.declared.words.Words.TheVariants as words_of
-use Rattle.px_cli.specs.Words.{exifnorm, Asks, AsksFiles}
+use Rattle.px_cli.specs.Words.{exifnorm}
 use Rattle.px_cli.proofs.words.parse.Goals as goal
 
 is_simple_one : is_simple exifnorm ≡ true

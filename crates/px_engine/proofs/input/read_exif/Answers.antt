@@ -1,5 +1,4 @@
-use Rattle.std.proofs.Common.{◌≡◌, sym, subst}
-use Rattle.px_bytes.specs.declared.Cause.TheVariants.{TooLong}
+use Rattle.std.proofs.Common.{sym, subst}
 use Rattle.px_engine.specs.declared.kinds.BlockKind.TheVariants as kind
 use Rattle.px_engine.specs.Input.{IsFaultyIn}
 use Rattle.px_engine.proofs.Judged.{exif_long}
