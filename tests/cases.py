@@ -25,9 +25,17 @@ class Case:
     status: int = 0
     output: object = None  # the bytes that are due, where they are fixed
     lines: object = None  # the number of lines that are due, where that alone is fixed
+    has: list = field(default_factory=list)  # texts that must stand in the output
     left: dict = field(default_factory=dict)  # files and the bytes that they hold afterwards
     absent: list = field(default_factory=list)  # files that must not be there afterwards
     refuses_growths: bool = False
+    groups: int = 0  # of a caption record: how many groups its DataSets are of, and how many they are
+    datasets: int = 0
+
+    def is_judged(self):
+        """Whether something besides the status is due, or a status that says by itself what came."""
+        dues = (self.output, self.lines, self.has or None, self.left or None, self.absent or None)
+        return any(it is not None for it in dues) or self.status in (3, 4)
 
 
 @dataclass
@@ -93,10 +101,6 @@ def texts(blocks, entry, ways):
 
 def runs(blocks, entry, ways):
     """A run written out: its words, files and streams, and what is due."""
-    known = {"name", "words", "files", "folders", "input", "input from", "in pieces", "endless", "output to"}
-    known |= {"status", "output", "line", "text", "lines", "left", "absent"}
-    if set(entry) - known:
-        raise Misspelled(f"unknown words {sorted(set(entry) - known)} in {entry['name']!r}")
     output = None
     if "output" in entry:
         output = blocks.bytes_of(entry["output"])
@@ -115,6 +119,7 @@ def runs(blocks, entry, ways):
         status=entry.get("status", 0),
         output=output,
         lines=entry.get("lines"),
+        has=[it.encode() for it in entry.get("has", [])],
         left={name: blocks.bytes_of(it) for name, it in entry.get("left", {}).items()},
         absent=entry.get("absent", []),
     )
@@ -134,14 +139,32 @@ def sweeps(blocks, entry, ways):
     yield Sweep(entry["name"], made, normal)
 
 
+@dataclass
+class Table:
+    """How the entries of a table are read: the words that they must have, those that they may have, and what makes cases of one."""
+
+    cases_of: object
+    needs: set
+    takes: set = field(default_factory=set)
+    ways: set = field(default_factory=lambda: {"filter", "commands"})  # those of which one at least makes cases
+
+    def check(self, path, entry):
+        unknown = set(entry) - self.needs - self.takes - {"name"}
+        missing = (self.needs | {"name"}) - set(entry)
+        if unknown or missing:
+            raise Misspelled(f"{path}: in {entry.get('name', entry)!r} unknown words {sorted(unknown)}, missing words {sorted(missing)}")
+
+
+STREAMS = {"words", "files", "folders", "input", "input from", "in pieces", "endless", "output to"}
 TABLES = {
-    "normal forms": normal_forms,
-    "refusals": refusals,
-    "comparisons": comparisons,
-    "texts": texts,
-    "runs": runs,
-    "sweeps": sweeps,
+    "normal forms": Table(normal_forms, {"block"}, {"normal"}),
+    "refusals": Table(refusals, {"block", "refused"}),
+    "comparisons": Table(comparisons, {"first", "second", "same"}, ways={"commands"}),
+    "texts": Table(texts, {"block"}, {"check", "show", "captions"}, ways={"commands"}),
+    "runs": Table(runs, set(), STREAMS | {"status", "output", "line", "text", "lines", "has", "left", "absent"}),
+    "sweeps": Table(sweeps, {"block", "each"}, {"at", "width", "normal"}, ways={"filter"}),
 }
+WAYS = {"filter", "commands"}
 
 
 def read_file(path, ways, shared):
@@ -150,33 +173,58 @@ def read_file(path, ways, shared):
     blocks = Blocks({**shared, **tables.pop("blocks", {})})
     tables.pop("about", None)
     refuses_all = tables.pop("refuse growths", False)
-    for table, entries in tables.items():
-        if table not in TABLES:
-            raise Misspelled(f"{path}: no table is named {table!r}")
+    if not tables:
+        raise Misspelled(f"{path} has no table")
+    for name, entries in tables.items():
+        if name not in TABLES:
+            raise Misspelled(f"{path}: no table is named {name!r}")
+        if not entries:
+            raise Misspelled(f"{path}: the table {name!r} is empty")
         for entry in entries:
             refuses = entry.pop("refuse growths", refuses_all)
-            for case in TABLES[table](blocks, entry, ways):
-                if isinstance(case, Case):
-                    case.refuses_growths = refuses
-                yield case
+            TABLES[name].check(path, entry)
+            yield from cases_of(path, TABLES[name], entry, blocks, ways, refuses)
 
 
-def read_list(path):
-    """The files of cases that are run, each with its ways."""
+def cases_of(path, table, entry, blocks, ways, refuses):
+    """The cases of one entry, of which there must be one where a way of the file is one of the table's."""
+    made = list(table.cases_of(blocks, entry, ways))
+    if not made and table.ways & set(ways):
+        raise Misspelled(f"{path}: nothing is due in {entry['name']!r}")
+    for case in made:
+        if isinstance(case, Case):
+            case.refuses_growths = refuses
+            if not case.is_judged():
+                raise Misspelled(f"{path}: nothing but a status is due in {case.name!r}")
+        elif not case.blocks:
+            raise Misspelled(f"{path}: there is no block in {case.name!r}")
+        yield case
+
+
+def read_list(folder):
+    """The files of cases, each with its ways. Each file in cases/ but that of the blocks must be listed."""
+    listed, path = {}, os.path.join(folder, "cases.txt")
     with open(path, encoding="utf-8") as it:
         for line in it:
             name, colon, ways = line.partition("#")[0].partition(":")
             if colon:
-                yield name.strip(), ways.split()
+                listed[name.strip()] = ways.split()
             elif name.strip():
                 raise Misspelled(f"{path}: a line is NAME: WAY .., and not {line.strip()!r}")
+    for name, ways in listed.items():
+        if not ways or set(ways) - WAYS:
+            raise Misspelled(f"{path}: the ways of {name} are {ways}, and each must be one of {sorted(WAYS)}")
+    there = {it[: -len(".json")] for it in os.listdir(os.path.join(folder, "cases")) if it.endswith(".json")} - {"blocks"}
+    if not listed or there != set(listed):
+        raise Misspelled(f"{path} lists {sorted(listed)}, and there are {sorted(there)}")
+    return listed
 
 
 def read_all(folder):
     with open(os.path.join(folder, "cases", "blocks.json"), encoding="utf-8") as it:
         shared = json.load(it)["blocks"]
     found, names = [], set()
-    for name, ways in read_list(os.path.join(folder, "cases.txt")):
+    for name, ways in read_list(folder).items():
         for case in read_file(os.path.join(folder, "cases", f"{name}.json"), ways, shared):
             if case.name in names:
                 raise Misspelled(f"two cases are named {case.name!r}")

@@ -2,31 +2,11 @@
 so on until a run meets no refusal. Each run answers as the case says, or it says that memory was refused."""
 
 import os
-import shutil
-import subprocess
 
 from program import run
 
-HERE = os.path.dirname(os.path.abspath(__file__))
 MOST_GROWTHS = 20000
 SECONDS = 20
-
-
-class NoShim(Exception):
-    """The library that refuses growths can't be made."""
-
-
-def make_shim(folder):
-    """Compiles the library and returns its path."""
-    compiler = shutil.which("cc") or shutil.which("gcc")
-    if not compiler:
-        raise NoShim("there is no C compiler cc: refused growths can't be tested without one")
-    shim = os.path.join(folder, "refuse_growth.so")
-    words = [compiler, "-shared", "-fPIC", "-O1", "-o", shim, os.path.join(HERE, "refuse_growth.c"), "-ldl"]
-    ran = subprocess.run(words, stdin=subprocess.DEVNULL, capture_output=True, text=True)
-    if ran.returncode:
-        raise NoShim(f"{compiler} did not compile refuse_growth.c: {ran.stderr.strip()}")
-    return shim
 
 
 def run_refusing(program, shim, case, number):
@@ -62,18 +42,32 @@ def says_out_of_memory(case, outcome):
     )
 
 
-def complaints_under_refusals(program, shim, case, complaints_of):
-    """Returns what is wrong, and how many growths were refused."""
-    bad = []
-    for number in range(1, MOST_GROWTHS + 1):
+def every():
+    """Each growth."""
+    return range(1, MOST_GROWTHS + 1)
+
+
+def sample():
+    """A growth in so many: the first ones, then ever fewer."""
+    number = 1
+    while number <= MOST_GROWTHS * 100:
+        yield number
+        number += 1 + number // 4
+
+
+def complaints_under_refusals(program, shim, case, complaints_of, numbers):
+    """Returns what is wrong, and how many growths were refused: those with these numbers, until a run meets none."""
+    bad, refused = [], 0
+    for number in numbers:
         outcome, was_met = run_refusing(program, shim, case, number)
+        refused += was_met
         if was_met and says_out_of_memory(case, outcome):
             continue
         wrong = complaints_of(case, outcome)
         if wrong:
             bad.append(f"with growth {number} refused: {'; '.join(wrong)}")
         if not was_met:
-            return bad, number - 1
+            return bad, refused
         if len(bad) >= 3:
-            return [*bad, "no more growths were tried"], number
-    return [*bad, f"{MOST_GROWTHS} growths were refused and the program went on"], MOST_GROWTHS
+            return [*bad, "no more growths were tried"], refused
+    return [*bad, f"the program went on though {refused} growths were refused"], refused

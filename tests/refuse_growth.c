@@ -5,43 +5,25 @@
  * (posix_memalign: ENOMEM as its result). Every other call is the C library's own. REFUSE_GROWTH_TELLS=FD has one
  * byte written to that open file where a call was refused, so that a run that meets no refusal is known as such.
  *
- * Calls are counted from the program's main to its return, and not while the C library and the loader start: the
- * library stands in for __libc_start_main, which gets the program's main, and hands it a main that begins to count.
+ * Calls are counted from the program's main to its return.
  */
 #define _GNU_SOURCE
-#include <dlfcn.h>
+#include "main_only.h"
 #include <errno.h>
-#include <stddef.h>
-#include <stdlib.h>
 #include <unistd.h>
 
-typedef int Main(int, char **, char **);
-typedef int Start(Main *, int, char **, void (*)(void), void (*)(void), void (*)(void), void *);
-
-static Main *program_main;
 static int is_counting;
 static long until_refused;
 static int tells = -1;
 
-static long number_in(const char *name, long otherwise) {
-    const char *text = getenv(name);
-    return text ? strtol(text, NULL, 10) : otherwise;
-}
-
-static int counting_main(int count, char **words, char **environment) {
+static void begins(void) {
     until_refused = number_in("REFUSE_GROWTH", 0);
     tells = (int)number_in("REFUSE_GROWTH_TELLS", -1);
     is_counting = 1;
-    int status = program_main(count, words, environment);
-    is_counting = 0;
-    return status;
 }
 
-int __libc_start_main(Main *main, int count, char **words, void (*init)(void), void (*fini)(void),
-                      void (*loader_fini)(void), void *stack_end) {
-    Start *start = (Start *)dlsym(RTLD_NEXT, "__libc_start_main");
-    program_main = main;
-    return start(counting_main, count, words, init, fini, loader_fini, stack_end);
+static void ends(void) {
+    is_counting = 0;
 }
 
 /* Whether this call is the one to be refused. */
@@ -53,12 +35,6 @@ static int is_refused(void) {
     errno = ENOMEM;
     return 1;
 }
-
-/* The C library's own function of this name. */
-#define OWN(name, type) \
-    static type *own; \
-    if (!own) \
-        own = (type *)dlsym(RTLD_NEXT, name)
 
 typedef void *Malloc(size_t);
 typedef void *Pair(size_t, size_t);

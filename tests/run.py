@@ -1,26 +1,32 @@
 #!/usr/bin/env python3
-"""Runs the built program as a user does, and compares what it does with the files of cases.
+"""Runs the built program as a user does, and compares what it does with what is due: the files of cases, and blocks of every kind
+made from what they say.
 
-  tests/run.py PROGRAM [--only TEXT]
-
-cases.txt lists the files of cases; with --only the cases are run whose name has TEXT. Each case that fails has a line, with
-what was due and what came. The last line is 'N passed, M failed', and the status is 0 only where nothing failed.
+Each case that fails has a line, with what was due and what came. The last line is 'N passed, M failed', and the status is 0 only
+where something ran and nothing failed.
 """
 
+import argparse
 import os
 import resource
 import sys
 import tempfile
+import time
 from concurrent.futures import ThreadPoolExecutor
 
 sys.dont_write_bytecode = True
 
 from blocks import Misspelled
 from cases import Case, Sweep, read_all
-from growths import NoShim, complaints_under_refusals, make_shim
+from growths import complaints_under_refusals, every, sample
+from kinds import Kind, large_kinds, small_kinds
+from meanings import LIMIT, Record
 from program import run
+from shims import NoShim, make_shim
+from watching import complaints_of_cost, complaints_of_failures
 
 HERE = os.path.dirname(os.path.abspath(__file__))
+SECONDS = 60  # what the longest run of a large block may take
 
 
 def shown(octets):
@@ -37,6 +43,7 @@ def complaints_of(case, outcome):
         bad.append(f"the output {shown(case.output)} was due, and {shown(outcome.output)} came")
     if case.lines is not None and (outcome.output.count(b"\n"), outcome.output[-1:]) != (case.lines, b"\n"):
         bad.append(f"{case.lines} lines were due, and {outcome.output.count(bytes([10]))} came")
+    bad += [f"{shown(it)} was due in the output {shown(outcome.output)}" for it in case.has if it not in outcome.output]
     if outcome.complaints:
         bad.append(f"nothing was due on standard error, and {shown(outcome.complaints)} came")
     for name, octets in case.left.items():
@@ -49,7 +56,7 @@ def complaints_of(case, outcome):
 
 def judge_case(program, case):
     # a program that reads an input without end must not read it for long
-    return complaints_of(case, run(program, case, seconds=30 if case.endless else 120))
+    return complaints_of(case, run(program, case, seconds=30 if case.endless else SECONDS))
 
 
 def judge_sweep(program, sweep):
@@ -69,76 +76,136 @@ def judge_sweep(program, sweep):
     return bad if len(bad) < 4 else [*bad[:3], f"and {len(bad) - 3} more such blocks"]
 
 
-class Tests:
-    """The tests to be run, as pairs of a name and a call that returns what is wrong."""
+def cases_of_kind(kind):
+    """What is due of a kind of block from every command. Standard input is a file, so that reads are as many in every run."""
+    meaning, (first, *_, last) = kind.meaning, [*kind.blocks, kind.blocks[-1]]
+    normal, files = meaning.normal(), {"a": first, "b": last}
+    form = {"status": 2, "output": b"refused: NormalTooLong\n"} if len(normal) > LIMIT else {"output": normal}
+    yield Case("the filter", files={"a": first}, input_from="a", **form)
+    yield Case("the filter, another layout", files={"b": last}, input_from="b", **form)
+    yield Case("the filter, the normal form", files={"n": normal}, input_from="n", output=normal)
+    yield Case("normalise", words=["normalise", "a", "OUT"], files=files, output=b"", left={"OUT": normal, "a": first})
+    yield Case("check", words=["check", "a"], files=files, output=f"ok {meaning.kind}\n".encode())
+    yield Case("show", words=["show", "b"], files=files, output=meaning.listing().encode())
+    yield Case("captions", words=["captions", "b"], files=files, output=meaning.captions().encode())
+    yield Case("compare", words=["compare", "a", "b"], files=files, output=b"same\n")
+    yield Case("compare with another", words=["compare", "b", "c"], files={"b": last, "c": other(kind)}, status=1, output=b"different\n")
 
-    def __init__(self, program, cases):
-        self.program, self.cases, self.refused = program, cases, []
+
+def other(kind):
+    block = kind.other()
+    return block if block != kind.meaning.normal() else b"\x1c\x02\x05\0\0"
+
+
+def named(kind):
+    """The cases of a kind, with its name, and with how many groups a caption record has."""
+    record = kind.meaning if isinstance(kind.meaning, Record) else kind.meaning.record
+    groups, datasets = (len(record.groups()), len(record.datasets)) if record else (0, 0)
+    for case in cases_of_kind(kind):
+        case.name = f"{kind.name}: {case.name}"
+        case.groups, case.datasets = groups, datasets
+        yield case
+
+
+class Parts:
+    """The parts of the tests, each with its title and its tests as pairs of a name and a call that returns what is wrong."""
+
+    def __init__(self, program, cases, only, folder):
+        self.program, self.cases, self.only = program, cases, only
+        self.watch, self.refuse = make_shim(folder, "watch_calls"), make_shim(folder, "refuse_growth")
+        self.refused = []
+
+    def all(self):
+        yield "cases", self.plain()
+        yield "cases, with growths refused in turn", self.refusing([it for it in self.cases if isinstance(it, Case) and it.refuses_growths], every)
+        small = self.chosen(small_kinds())
+        yield "blocks of every kind, and what they cost", self.costing(small)
+        yield "blocks of every kind, with growths refused", self.refusing(small, sample)
+        yield "devices that fail once", self.failing([it for it in small if len(it.output or b"") < 20_000 and "type" not in it.name])
+        if not self.only or "large" in self.only:
+            yield "large blocks, and what they cost", (it for kind in large_kinds() for it in self.costing(named(kind)))
+            # a program that the library doesn't reach would pass in silence
+            seen = [] if sum(self.refused) else ["no run met a refused growth, so the library that refuses them is not in use"]
+            yield "the libraries that are preloaded", [("a growth is refused at all", lambda: seen)]
+
+    def chosen(self, kinds):
+        return [case for kind in kinds for case in named(kind) if self.only in case.name]
 
     def plain(self):
         for case in self.cases:
             judge = judge_sweep if isinstance(case, Sweep) else judge_case
             yield case.name, lambda judge=judge, case=case: judge(self.program, case)
 
-    def refusing(self, shim):
-        for case in self.cases:
-            if isinstance(case, Case) and case.refuses_growths:
-                yield f"{case.name}, with each growth refused", lambda case=case: self.under_refusals(shim, case)
+    def refusing(self, cases, numbers):
+        for case in cases:
+            yield f"{case.name}, with growths refused", lambda case=case: self.under_refusals(case, numbers())
 
-    def under_refusals(self, shim, case):
-        bad, refused = complaints_under_refusals(self.program, shim, case, complaints_of)
+    def under_refusals(self, case, numbers):
+        bad, refused = complaints_under_refusals(self.program, self.refuse, case, complaints_of, numbers)
         self.refused.append(refused)
         return bad
 
+    def costing(self, cases):
+        for case in cases:
+            yield case.name, lambda case=case: complaints_of_cost(self.program, self.watch, case, complaints_of)
+
+    def failing(self, cases):
+        for case in cases:
+            yield f"{case.name}, where a device fails once", lambda case=case: complaints_of_failures(self.program, self.watch, case)
+
 
 def all_of(tests, pool, failures):
-    """Runs these tests side by side, says in order which failed, and returns how many passed."""
-    passed = 0
-    started = [(name, pool.submit(call)) for name, call in tests]
-    for name, it in started:
+    """Runs these tests side by side, says in order which failed, and returns how many passed. Tests are made as they are run."""
+    passed, waiting = 0, []
+
+    def take_first():
+        name, it = waiting.pop(0)
         bad = it.result()
         if bad:
             failures.append(name)
             print(f"FAILED {name}: {'; '.join(bad)}", flush=True)
-        passed += not bad
+        return not bad
+
+    for name, call in tests:
+        waiting.append((name, pool.submit(call)))
+        if len(waiting) > 4 * (os.cpu_count() or 1):
+            passed += take_first()
+    while waiting:
+        passed += take_first()
     return passed
 
 
-def run_all(program, cases):
-    tests, failures = Tests(program, cases), []
+def run_all(program, cases, only):
+    failures, passed = [], 0
     with ThreadPoolExecutor(os.cpu_count()) as pool, tempfile.TemporaryDirectory() as folder:
-        passed = all_of(tests.plain(), pool, failures)
-        if any(isinstance(it, Case) and it.refuses_growths for it in cases):
-            try:
-                shim = make_shim(folder)
-                passed += all_of(tests.refusing(shim), pool, failures)
-                # a program that the library doesn't reach would pass in silence
-                seen = [] if sum(tests.refused) else ["no run met a refused growth, so the library that refuses them is not in use"]
-                passed += all_of([("a growth is refused at all", lambda: seen)], pool, failures)
-            except NoShim as why:
-                failures.append("refused growths")
-                print(f"FAILED refused growths: {why}")
+        for title, tests in Parts(program, cases, only, folder).all():
+            began = time.monotonic()
+            count = all_of(tests, pool, failures)
+            passed += count
+            print(f"{title}: {count} passed in {time.monotonic() - began:.0f} seconds", flush=True)
     return passed, len(failures)
 
 
-def main(words):
-    only = words[words.index("--only") + 1] if "--only" in words[:-1] else ""
-    if not words or words[0].startswith("-"):
-        sys.exit(__doc__)
-    program = os.path.abspath(words[0])
+def main():
+    words = argparse.ArgumentParser(description=__doc__, formatter_class=argparse.RawDescriptionHelpFormatter)
+    words.add_argument("program", help="the built program")
+    words.add_argument("--only", default="", metavar="TEXT", help="only the cases whose name has TEXT (and the large blocks, where it has the word large)")
+    words = words.parse_args()
+    program = os.path.abspath(words.program)
     resource.setrlimit(resource.RLIMIT_CORE, (0, 0))
+    passed, failed = 0, 1
     try:
-        cases = [it for it in read_all(HERE) if only in it.name]
-    except (Misspelled, OSError, ValueError, KeyError) as why:
-        print(f"FAILED to read the cases: {why!r}")
-        cases = None
-    if cases is not None and not os.access(program, os.X_OK):
-        print(f"FAILED: there is no program {words[0]}")
-        cases = None
-    passed, failed = run_all(program, cases) if cases is not None else (0, 1)
+        if not os.access(program, os.X_OK):
+            raise FileNotFoundError(f"there is no program {words.program}")
+        passed, failed = run_all(program, [it for it in read_all(HERE) if words.only in it.name], words.only)
+        if passed + failed == 0:
+            print("FAILED: nothing ran")
+            failed = 1
+    except (Misspelled, NoShim, OSError, ValueError, KeyError) as why:
+        print(f"FAILED before the end: {why!r}")
     print(f"{passed} passed, {failed} failed")
     return 1 if failed else 0
 
 
 if __name__ == "__main__":
-    sys.exit(main(sys.argv[1:]))
+    sys.exit(main())

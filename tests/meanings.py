@@ -1,0 +1,309 @@
+"""What blocks say, laid out in any way, and the normal form, the listing and the captions that are due of it.
+
+A telling of docs/FORMAT.md that has nothing in common with the program: it starts from what is said, lays that out, and reads no
+block. An Exif block's meaning is made as `Exif`, a caption record as `Record`.
+"""
+
+import struct
+from dataclasses import dataclass, field
+from random import Random
+
+MAIN, EXIF, INTEROP, GPS, THUMB = DIRECTORIES = ("main", "exif", "interop", "gps", "thumb")
+LIMIT = 16_777_216
+
+# number: (word in a listing, bytes of an element, letter of `struct`, how many numbers an element has)
+TYPES = {
+    1: ("BYTE", 1, "", 1),
+    2: ("ASCII", 1, "", 1),
+    3: ("SHORT", 2, "H", 1),
+    4: ("LONG", 4, "I", 1),
+    5: ("RATIONAL", 8, "I", 2),
+    6: ("SBYTE", 1, "", 1),
+    7: ("UNDEFINED", 1, "", 1),
+    8: ("SSHORT", 2, "h", 1),
+    9: ("SLONG", 4, "i", 1),
+    10: ("SRATIONAL", 8, "i", 2),
+    11: ("FLOAT", 4, "I", 1),
+    12: ("DOUBLE", 8, "Q", 1),
+    129: ("UTF8", 1, "", 1),
+}
+BYTE, ASCII, SHORT, LONG, RATIONAL, SBYTE, UNDEFINED, SSHORT, SLONG, SRATIONAL, FLOAT, DOUBLE, UTF8 = TYPES
+
+# where SHORT and LONG mean the same
+WIDENED = {
+    MAIN: {0x0100, 0x0101, 0x0116},
+    THUMB: {0x0100, 0x0101, 0x0116},
+    EXIF: {0xA002, 0xA003},
+}
+POINTERS = {EXIF: (MAIN, 0x8769), GPS: (MAIN, 0x8825), INTEROP: (EXIF, 0xA005)}
+RECORD_TAG = 0x83BB
+STRIP_OFFSETS, STRIP_LENGTHS, JPEG_OFFSET, JPEG_LENGTH = 0x0111, 0x0117, 0x0201, 0x0202
+NOT_PLAIN = {0x0111, 0x0117, 0x0201, 0x0202, 0x8769, 0x8825, 0xA005, 0x0120, 0x0144, 0x014A, 0x0207, 0x0208, 0x0209}
+
+
+@dataclass(frozen=True)
+class Value:
+    """A field's value: the number of its type, and its elements: bytes, numbers, or pairs of numbers."""
+
+    form: int
+    elements: object
+
+    @property
+    def count(self):
+        return len(self.elements)
+
+    def spelled(self, order):
+        """Its bytes in a byte order, '<' or '>'."""
+        _, _, letter, numbers = TYPES[self.form]
+        if not letter:
+            return bytes(self.elements)
+        flat = [n for pair in self.elements for n in pair] if numbers == 2 else list(self.elements)
+        return struct.pack(f"{order}{len(flat)}{letter}", *flat)
+
+
+def shown(form, elements):
+    """The elements of a value in a listing."""
+    _, size, letter, numbers = TYPES[form]
+    if not letter:
+        return bytes(elements).hex()
+    if form in (FLOAT, DOUBLE):
+        return " ".join(f"{n:0{2 * size}x}" for n in elements)
+    if numbers == 2:
+        return " ".join(f"{top}/{bottom}" for top, bottom in elements)
+    return " ".join(map(str, elements))
+
+
+def line_of(head, tail):
+    return f"{head}: {tail}\n" if tail else f"{head}:\n"
+
+
+# ---- caption records
+
+GROUP_OF = {(2, 27): (2, 26), (2, 47): (2, 45), (2, 50): (2, 45), (2, 85): (2, 80)}
+LABELS = [
+    ((2, 5), {5: "title"}),
+    ((2, 120), {120: "caption"}),
+    ((2, 105), {105: "headline"}),
+    ((2, 110), {110: "credit"}),
+    ((2, 115), {115: "source"}),
+    ((2, 116), {116: "copyright"}),
+    ((2, 80), {80: "byline", 85: "byline-title"}),
+    ((2, 25), {25: "keyword"}),
+    ((2, 103), {103: "inventory"}),
+]
+
+
+def escaped(octets):
+    return "".join(chr(it) if 0x20 <= it <= 0x7E and it != 0x5C else f"\\{it:02x}" for it in octets)
+
+
+@dataclass
+class Record:
+    """A caption record: its DataSets, each a record number, a number and its data, in an order of its own."""
+
+    datasets: list
+
+    def groups(self):
+        """The lists of the groups, by the names of the groups in ascending order."""
+        lists = {}
+        for record, number, octets in self.datasets:
+            lists.setdefault(GROUP_OF.get((record, number), (record, number)), []).append((record, number, octets))
+        return dict(sorted(lists.items()))
+
+    def spelled(self, extended=0, zeros=0):
+        """An IIM block that says it; `extended` is the octets of the counts of extended DataSets, 0 for standard ones."""
+        return b"".join(dataset(*it, extended) for it in self.datasets) + bytes(zeros)
+
+    def normal(self):
+        return b"".join(dataset(*it, 0) for them in self.groups().values() for it in them)
+
+    def lines(self):
+        for them in self.groups().values():
+            for record, number, octets in them:
+                yield line_of(f"{record}:{number} {len(octets)}", octets.hex())
+
+    def caption_lines(self):
+        groups = self.groups()
+        declared = [octets for _, _, octets in groups.get((1, 90), [])] == [b"\x1b\x25\x47"]
+        yield f"charset: {'UTF-8' if declared else 'not declared'}\n"
+        for group, labels in LABELS:
+            for _, number, octets in groups.get(group, []):
+                if number in labels:
+                    yield f"{labels[number]}: {escaped(octets)}\n"
+
+    kind = "iim"
+
+    def listing(self):
+        return "".join(["iim\n", *self.lines()])
+
+    def captions(self):
+        return "".join(["iim\n", *self.caption_lines()])
+
+
+def dataset(record, number, octets, extended):
+    head = bytes([0x1C, record, number])
+    if not extended and len(octets) <= 32767:
+        return head + len(octets).to_bytes(2, "big") + octets
+    count = extended or 4
+    return head + bytes([0x80, count]) + len(octets).to_bytes(count, "big") + octets
+
+
+# ---- Exif blocks
+
+
+@dataclass
+class Exif:
+    """What an Exif block says: the fields of each directory that is there, by their tags, and what stands beside them."""
+
+    main: dict
+    exif: dict = None
+    interop: dict = None
+    gps: dict = None
+    thumb: dict = None
+    jpeg: bytes = None
+    strips: list = None
+    record: Record = None
+
+    kind = "exif"
+
+    def directories(self):
+        return [(name, getattr(self, name)) for name in DIRECTORIES if getattr(self, name) is not None]
+
+    def normal(self):
+        return laid(self, Layout(">", normal=True))
+
+    def listing(self):
+        lines = ["exif\n"]
+        for name, fields in self.directories():
+            lines.append(f"[{name}]\n")
+            for tag, value in sorted(fields.items()):
+                word = TYPES[value.form][0]
+                if tag in WIDENED.get(name, ()) and value.form in (SHORT, LONG):
+                    word = "WHOLE"
+                lines.append(line_of(f"{tag:04x} {word} {value.count}", shown(value.form, value.elements)))
+            if name == MAIN and self.record:
+                lines += [f"record {len(self.record.datasets)}:\n", *self.record.lines()]
+            if name == THUMB and self.jpeg is not None:
+                lines.append(line_of(f"jpeg {len(self.jpeg)}", self.jpeg.hex()))
+            if name == THUMB and self.strips is not None:
+                lines.append(f"strips {len(self.strips)}:\n")
+                lines += [line_of(f"strip {len(it)}", it.hex()) for it in self.strips]
+        return "".join(lines)
+
+    def captions(self):
+        lines = ["exif\n"]
+        for tag, label in ((0x010E, "description"), (0x013B, "artist"), (0x8298, "copyright")):
+            value = self.main.get(tag)
+            if value and value.form in (ASCII, UTF8):
+                lines.append(f"{label}: {escaped(value.elements)}\n")
+        return "".join([*lines, *(self.record.caption_lines() if self.record else [])])
+
+
+@dataclass
+class Layout:
+    """How a block is laid out: its byte order; whether in the normal form; and else the source of the chance by which parts are
+    moved, gaps and spare bytes filled, and, where `shorts`, lists of strips spelled as SHORT."""
+
+    order: str
+    normal: bool = False
+    chance: Random = field(default_factory=lambda: Random(0))
+    shuffled: bool = False
+    gap: int = 0
+    shorts: bool = False
+
+    def spare(self, n):
+        return bytes(n) if self.normal else self.chance.randbytes(n)
+
+
+@dataclass
+class Entry:
+    tag: int
+    form: int
+    count: int
+    spelled: object  # a call: the bytes, once the places of the parts are known
+
+    @property
+    def size(self):
+        return self.count * TYPES[self.form][1]
+
+
+def entries_of(meaning, name, fields, layout):
+    """The entries of a directory, by ascending tag."""
+    order = layout.order
+
+    def given(tag, value):
+        if layout.normal and tag in WIDENED.get(name, ()) and value.form == SHORT:
+            value = Value(LONG, value.elements)
+        return Entry(tag, value.form, value.count, lambda places: value.spelled(order))
+
+    def told(tag, form, numbers, count):
+        return Entry(tag, form, count, lambda places: Value(form, list(numbers(places))).spelled(order))
+
+    found = [given(tag, value) for tag, value in fields.items()]
+    for target, (place, tag) in POINTERS.items():
+        if place == name and getattr(meaning, target) is not None:
+            found.append(told(tag, LONG, lambda places, target=target: [places["table", target]], 1))
+    if name == MAIN and meaning.record:
+        octets = meaning.record.normal() if layout.normal else meaning.record.spelled()
+        found.append(given(RECORD_TAG, Value(UNDEFINED, octets)))
+    if name == THUMB and meaning.jpeg is not None:
+        found.append(told(JPEG_OFFSET, LONG, lambda places: [places["jpeg",]], 1))
+        found.append(told(JPEG_LENGTH, LONG, lambda places: [len(meaning.jpeg)], 1))
+    if name == THUMB and meaning.strips is not None:
+        count, form = len(meaning.strips), SHORT if layout.shorts else LONG
+        found.append(told(STRIP_OFFSETS, form, lambda places: (places["strip", i] for i in range(count)), count))
+        found.append(told(STRIP_LENGTHS, form, lambda places: map(len, meaning.strips), count))
+    return sorted(found, key=lambda it: it.tag)
+
+
+def laid(meaning, layout):
+    """A block that says the meaning."""
+    entries = {name: entries_of(meaning, name, fields, layout) for name, fields in meaning.directories()}
+    parts = []  # the name and the size of each, in the order of the normal form
+    for name, them in entries.items():
+        parts.append((("table", name), 2 + 12 * len(them) + 4))
+        parts += [(("value", name, it.tag), it.size) for it in them if it.size > 4]
+    if meaning.jpeg is not None:
+        parts.append((("jpeg",), len(meaning.jpeg)))
+    parts += [(("strip", i), len(it)) for i, it in enumerate(meaning.strips or [])]
+    if layout.shuffled:
+        layout.chance.shuffle(parts)
+    places, end = {}, 8
+    for part, size in parts:
+        end += 0 if layout.normal else layout.chance.randint(0, layout.gap) if layout.gap else 0
+        places[part] = end
+        end += size
+        end += end % 2 if layout.normal else 0
+    block = bytearray(layout.spare(end))
+    order = layout.order
+    block[:8] = (b"MM" if order == ">" else b"II") + struct.pack(order + "HI", 42, places["table", MAIN])
+    for name, them in entries.items():
+        lay_directory(block, name, them, places, layout)
+    if meaning.jpeg is not None:
+        at = places["jpeg",]
+        block[at : at + len(meaning.jpeg)] = meaning.jpeg
+    for i, strip in enumerate(meaning.strips or []):
+        at = places["strip", i]
+        block[at : at + len(strip)] = strip
+    return bytes(block)
+
+
+def lay_directory(block, name, entries, places, layout):
+    order = layout.order
+    table = [struct.pack(order + "H", len(entries))]
+    for it in entries:
+        octets = it.spelled(places)
+        if it.size > 4:
+            at = places["value", name, it.tag]
+            block[at : at + it.size] = octets
+            last = struct.pack(order + "I", at)
+        else:
+            last = octets + layout.spare(4 - it.size)
+        table.append(struct.pack(order + "HHI", it.tag, it.form, it.count) + last)
+    if name == MAIN and ("table", THUMB) in places:
+        table.append(struct.pack(order + "I", places["table", THUMB]))
+    else:
+        table.append(bytes(4) if name in (MAIN, THUMB) else layout.spare(4))
+    at = places["table", name]
+    octets = b"".join(table)
+    block[at : at + len(octets)] = octets

@@ -1,0 +1,216 @@
+#!/usr/bin/env python3
+"""Tests the tests: broken tables are refused, a run that runs nothing fails, and what stands for the program can fail each check.
+
+The last line is 'N passed, M failed'."""
+
+import json
+import os
+import stat
+import subprocess
+import sys
+import tempfile
+import unittest
+
+sys.dont_write_bytecode = True
+
+from blocks import Misspelled
+from cases import Case, read_all
+from kinds import small_kinds
+from meanings import ASCII, SHORT, Exif, Layout, Record, Value, laid
+from program import Outcome
+from run import complaints_of
+from watching import Counts, complaints_of_cost, limits_of, says_failed
+
+HERE = os.path.dirname(os.path.abspath(__file__))
+GOOD = {"name": "a case", "block": "1C0205000141", "refused": "NoMarker at 0"}
+
+
+class Tables(unittest.TestCase):
+    """Files of cases as they must not be."""
+
+    def read(self, tables, listed="some: filter commands\n", files=None):
+        with tempfile.TemporaryDirectory() as folder:
+            os.mkdir(os.path.join(folder, "cases"))
+            for name, held in {"blocks": {"blocks": {"a block": "1C"}}, "some": tables, **(files or {})}.items():
+                with open(os.path.join(folder, "cases", f"{name}.json"), "w", encoding="utf-8") as it:
+                    json.dump(held, it)
+            with open(os.path.join(folder, "cases.txt"), "w", encoding="utf-8") as it:
+                it.write(listed)
+            return read_all(folder)
+
+    def refused(self, tables, **others):
+        with self.assertRaises((Misspelled, KeyError, ValueError)):
+            self.read(tables, **others)
+
+    def test_a_good_table_is_read(self):
+        self.assertEqual(len(self.read({"refusals": [GOOD]})), 2)
+
+    def test_an_empty_file(self):
+        self.refused({})
+
+    def test_an_empty_table(self):
+        self.refused({"refusals": []})
+
+    def test_an_unknown_table(self):
+        self.refused({"refusal": [GOOD]})
+
+    def test_an_unknown_word(self):
+        self.refused({"refusals": [{**GOOD, "refused too": "x"}]})
+
+    def test_a_misspelled_word_that_may_be_left_out(self):
+        self.refused({"normal forms": [{"name": "n", "block": "1C0205000141", "noraml": "1C"}]})
+
+    def test_a_misspelled_table_flag(self):
+        self.refused({"refuse growhts": True, "refusals": [GOOD]})
+
+    def test_a_missing_word(self):
+        self.refused({"refusals": [{"name": "n", "block": "1C"}]})
+
+    def test_a_text_of_which_nothing_is_due(self):
+        self.refused({"texts": [{"name": "n", "block": "1C"}]})
+
+    def test_a_run_of_which_nothing_but_a_status_is_due(self):
+        self.refused({"runs": [{"name": "n", "words": ["check", "a"]}]})
+
+    def test_a_sweep_over_no_block(self):
+        self.refused({"sweeps": [{"name": "n", "block": "", "each": "cut"}]})
+
+    def test_two_cases_of_one_name(self):
+        self.refused({"refusals": [GOOD, GOOD]})
+
+    def test_an_unknown_block(self):
+        self.refused({"refusals": [{**GOOD, "block": "no block"}]})
+
+    def test_an_unknown_way(self):
+        self.refused({"refusals": [GOOD]}, listed="some: filter comands\n")
+
+    def test_no_way(self):
+        self.refused({"refusals": [GOOD]}, listed="some:\n")
+
+    def test_no_file_listed(self):
+        self.refused({"refusals": [GOOD]}, listed="# none\n")
+
+    def test_a_file_that_is_not_listed(self):
+        self.refused({"refusals": [GOOD]}, files={"more": {"refusals": [GOOD]}})
+
+    def test_a_file_that_is_not_there(self):
+        self.refused({"refusals": [GOOD]}, listed="some: filter\nmore: filter\n")
+
+
+class Judging(unittest.TestCase):
+    """Outcomes that are not as they should be."""
+
+    due = Case("a case", output=b"same\n", left={"OUT": b"new"}, absent=["gone"], has=[b"am"])
+    good = Outcome(0, b"same\n", b"", {"OUT": b"new"})
+
+    def test_what_is_due_is_no_complaint(self):
+        self.assertEqual(complaints_of(self.due, self.good), [])
+
+    def test_each_part_that_differs_is_one(self):
+        for other in (
+            Outcome(1, b"same\n", b"", {"OUT": b"new"}),
+            Outcome("no end", b"same\n", b"", {"OUT": b"new"}),
+            Outcome(0, b"same", b"", {"OUT": b"new"}),
+            Outcome(0, b"same\n", b"note", {"OUT": b"new"}),
+            Outcome(0, b"same\n", b"", {"OUT": b""}),
+            Outcome(0, b"same\n", b"", {}),
+            Outcome(0, b"same\n", b"", {"OUT": b"new", "gone": b""}),
+        ):
+            self.assertEqual(len(complaints_of(self.due, other)), 1, other)
+        self.assertEqual(len(complaints_of(Case("", has=[b"x"]), self.good)), 1)
+        self.assertEqual(len(complaints_of(Case("", lines=2), self.good)), 1)
+
+    def test_a_failure_is_told_once_behind_a_prefix(self):
+        case, due = Case("", words=["show", "a"]), Outcome(0, b"exif\n[main]\n", b"")
+        line = b"failed: WriteFailed"
+        self.assertTrue(says_failed(case, Outcome(4, b"exif\nfailed: WriteFailed\n", b""), line, due))
+        self.assertTrue(says_failed(case, Outcome(4, b"", b""), line, due))
+        self.assertFalse(says_failed(case, Outcome(0, b"exif\n[main]\n", b""), line, due))
+        self.assertFalse(says_failed(case, Outcome(4, b"iim\nfailed: WriteFailed\n", b""), line, due))
+        self.assertFalse(says_failed(case, Outcome(4, b"failed: ReadFailed\n", b""), line, due))
+
+    def test_a_small_form_in_two_writes_costs_too_much(self):
+        case = Case("", input_from="a", files={"a": bytes(100)})
+        self.assertEqual(limits_of(case, Outcome(0, bytes(8192), b"")).writes, 1)
+        self.assertEqual(limits_of(case, Outcome(0, bytes(8193), b"")).writes, 4)
+
+    def test_a_run_that_tells_no_counts_is_a_complaint(self):
+        case = Case("", input_from="a", files={"a": b""}, output=b"")
+        bad = complaints_of_cost("/bin/true", "/no/such/library.so", case, lambda case, outcome: [])
+        self.assertEqual(bad, ["the run told no counts"])
+
+    def test_counts_are_compared_one_by_one(self):
+        self.assertEqual([name for name in vars(Counts(1, 2, 3, 4, 5, 6))], ["calls", "asked", "held", "reads", "writes", "failed"])
+
+
+class Meanings(unittest.TestCase):
+    """Worked blocks, spelled by hand, and what is made of their meanings."""
+
+    def test_one_short_in_both_byte_orders(self):
+        meaning = Exif({0x0112: Value(SHORT, [1])})
+        most = bytes.fromhex("4D4D002A00000008 0001 0112000300000001 00010000 00000000")
+        least = bytes.fromhex("49492A0008000000 0100 1201030001000000 01000000 00000000")
+        self.assertEqual(meaning.normal(), most)
+        self.assertEqual(laid(meaning, Layout("<", normal=True)), least)
+        self.assertEqual(meaning.listing(), "exif\n[main]\n0112 SHORT 1: 1\n")
+
+    def test_a_placed_text_of_odd_length(self):
+        meaning = Exif({0x010E: Value(ASCII, b"Urns\0")})
+        due = bytes.fromhex("4D4D002A00000008 0001 010E000200000005 0000001A 00000000 55726E730000")
+        self.assertEqual(meaning.normal(), due)
+        self.assertEqual(meaning.captions(), "exif\ndescription: Urns\\00\n")
+
+    def test_keywords_keep_their_order_and_groups_rise(self):
+        record = Record([(2, 120, b"c"), (2, 25, b"b"), (2, 25, b"a")])
+        self.assertEqual(record.normal(), bytes.fromhex("1C0219000162 1C0219000161 1C0278000163"))
+        self.assertEqual(record.captions(), "iim\ncharset: not declared\ncaption: c\nkeyword: b\nkeyword: a\n")
+
+    def test_no_two_parts_of_a_layout_share_a_byte(self):
+        for kind in small_kinds():
+            self.assertTrue(all(kind.blocks), kind.name)
+            self.assertTrue(isinstance(kind.meaning, Record) or kind.blocks[0] != kind.blocks[-1] or kind.name, kind.name)
+
+
+class Running(unittest.TestCase):
+    """run.py over programs that are none."""
+
+    def ran(self, program, *words):
+        ran = subprocess.run([sys.executable, os.path.join(HERE, "run.py"), program, *words], capture_output=True, text=True)
+        return ran.returncode, ran.stdout.splitlines()[-1:]
+
+    def test_nothing_that_runs_is_a_failure(self):
+        self.assertEqual(self.ran("/bin/true", "--only", "no case has this name"), (1, ["0 passed, 1 failed"]))
+
+    def test_no_program_is_a_failure(self):
+        self.assertEqual(self.ran("/no/such/program"), (1, ["0 passed, 1 failed"]))
+
+    def test_a_program_that_does_nothing_fails(self):
+        status, last = self.ran("/bin/true", "--only", "one width as SHORT")
+        self.assertEqual(status, 1)
+        self.assertRegex(last[0], r"^\d+ passed, [1-9]\d* failed$")
+
+
+class Gate(unittest.TestCase):
+    """./test over an rt that is none."""
+
+    def test_an_rt_that_runs_no_test_is_a_failure(self):
+        with tempfile.TemporaryDirectory() as folder:
+            fake = os.path.join(folder, "rt")
+            with open(fake, "w", encoding="utf-8") as it:
+                it.write("#!/bin/sh\necho '0 passed, 0 failed'\n")
+            os.chmod(fake, stat.S_IRWXU)
+            environment = {**os.environ, "PATH": f"{folder}:{os.environ['PATH']}", "TEST_PARTS": "rt"}
+            ran = subprocess.run([os.path.join(HERE, "..", "test")], env=environment, capture_output=True, text=True)
+            self.assertEqual(ran.returncode, 1)
+            self.assertEqual(ran.stdout.splitlines()[-1], "0 passed, 1 failed")
+
+
+def main():
+    ran = unittest.TextTestRunner(stream=sys.stdout, verbosity=0).run(unittest.defaultTestLoader.loadTestsFromModule(sys.modules[__name__]))
+    failed = len(ran.failures) + len(ran.errors)
+    print(f"{ran.testsRun - failed} passed, {failed} failed")
+    return 1 if failed or not ran.testsRun else 0
+
+
+if __name__ == "__main__":
+    sys.exit(main())

@@ -1,0 +1,120 @@
+/* Counts what a program asks of the system, and fails one of its reads or writes, so that a test sees what a run costs and what
+ * the program answers to a device that fails once and then goes on.
+ *
+ * Compiled as a shared library and preloaded; only what happens from the program's main to its return counts. WATCH_TELLS=FD has
+ * one line written to that open file at the end: the calls for memory, the bytes that they asked for, the most bytes held at
+ * once, the reads, the writes, and whether a call was failed. FAIL_READ=N or FAIL_WRITE=N fails the Nth read or write: with the
+ * error number FAIL_AS, or, where that is 0, with the answer 0. Every other call is the C library's own.
+ */
+#define _GNU_SOURCE
+#include "main_only.h"
+#include <errno.h>
+#include <malloc.h>
+#include <stdint.h>
+#include <stdio.h>
+#include <unistd.h>
+
+static int is_watching;
+static long calls, reads, writes, failed;
+static size_t asked, held, most;
+static long failed_read, failed_write, failed_as;
+
+typedef ssize_t Write(int, const void *, size_t);
+typedef ssize_t Read(int, void *, size_t);
+
+static ssize_t own_write(int to, const void *from, size_t size) {
+    OWN("write", Write);
+    return own(to, from, size);
+}
+
+static void begins(void) {
+    failed_read = number_in("FAIL_READ", 0);
+    failed_write = number_in("FAIL_WRITE", 0);
+    failed_as = number_in("FAIL_AS", EIO);
+    is_watching = 1;
+}
+
+static void ends(void) {
+    is_watching = 0;
+    int tells = (int)number_in("WATCH_TELLS", -1);
+    char line[200];
+    int size = snprintf(line, sizeof line, "%ld %zu %zu %ld %ld %ld\n", calls, asked, most, reads, writes, failed);
+    if (tells >= 0 && own_write(tells, line, (size_t)size) != size)
+        _exit(99);
+}
+
+/* A growth to `to` from what was `from`, which is freed. */
+static void *counted(size_t size, size_t was, void *made) {
+    if (!is_watching)
+        return made;
+    calls++;
+    asked += size;
+    if (made) {
+        held += malloc_usable_size(made);
+        held -= was < held ? was : held;
+        most = held > most ? held : most;
+    }
+    return made;
+}
+
+typedef void *Malloc(size_t);
+typedef void *Pair(size_t, size_t);
+typedef void *Realloc(void *, size_t);
+typedef int PosixMemalign(void **, size_t, size_t);
+typedef void Free(void *);
+
+void *malloc(size_t size) {
+    OWN("malloc", Malloc);
+    return counted(size, 0, own(size));
+}
+
+void *realloc(void *old, size_t size) {
+    OWN("realloc", Realloc);
+    size_t was = old ? malloc_usable_size(old) : 0;
+    return counted(size, was, own(old, size));
+}
+
+void *aligned_alloc(size_t alignment, size_t size) {
+    OWN("aligned_alloc", Pair);
+    return counted(size, 0, own(alignment, size));
+}
+
+int posix_memalign(void **made, size_t alignment, size_t size) {
+    OWN("posix_memalign", PosixMemalign);
+    int status = own(made, alignment, size);
+    counted(size, 0, status ? NULL : *made);
+    return status;
+}
+
+void free(void *old) {
+    OWN("free", Free);
+    if (is_watching && old) {
+        size_t was = malloc_usable_size(old);
+        held -= was < held ? was : held;
+    }
+    own(old);
+}
+
+/* Whether this call is the one that fails. */
+static int is_failed(long count, long due) {
+    if (!is_watching || count != due)
+        return 0;
+    failed = 1;
+    errno = (int)failed_as;
+    return 1;
+}
+
+ssize_t write(int to, const void *from, size_t size) {
+    writes += is_watching;
+    if (is_failed(writes, failed_write))
+        return failed_as ? -1 : 0;
+    return own_write(to, from, size);
+}
+
+ssize_t read(int from, void *to, size_t size) {
+    OWN("read", Read);
+    reads += is_watching;
+    if (is_failed(reads, failed_read))
+        return failed_as ? -1 : 0;
+    return own(from, to, size);
+}

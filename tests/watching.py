@@ -1,0 +1,111 @@
+"""Runs a case under watch_calls.c: what the run costs, in numbers that don't depend on the machine, and what the program answers
+where one read or write fails once and the device then goes on."""
+
+import errno
+import os
+from dataclasses import dataclass
+
+from program import run
+
+SECONDS = 60
+ROOM = 8192  # what waits for a writer at most
+CHUNK = 65536  # what is read at once at most
+
+
+@dataclass
+class Counts:
+    """What a run asked of the system: calls for memory, bytes asked for, the most bytes held at once, reads, writes."""
+
+    calls: int
+    asked: int
+    held: int
+    reads: int
+    writes: int
+    failed: int  # whether a read or a write was failed
+
+
+def watched(program, shim, case, **failing):
+    """The outcome of a run, and its counts; none where the program didn't come to its end."""
+    hears, tells = os.pipe()
+    try:
+        environment = {"LD_PRELOAD": shim, "WATCH_TELLS": str(tells), **{name: str(it) for name, it in failing.items()}}
+        outcome = run(program, case, environment, SECONDS, keeps_open=(tells,))
+    finally:
+        os.close(tells)
+    with os.fdopen(hears, "rb") as it:
+        told = it.read().split()
+    return outcome, Counts(*map(int, told)) if told else None
+
+
+def limits_of(case, outcome):
+    """The most that a run may cost. Memory is in proportion to what is read, beside one buffer a file and what the words take; a
+    group of DataSets has a list of its own, which grows by doubling. A file is read in whole buffers; a text goes out in one
+    write, and a normal form in one where it fits into what waits, else in writes of which any two make up more than that."""
+    blocks = [case.files[case.input_from]] if case.input_from else [case.files[name] for name in case.words[1:] if name in case.files]
+    if case.words[:1] == ["normalise"]:
+        blocks = blocks[:1]
+    size, files = sum(map(len, blocks)), len(blocks)
+    form = outcome.files.get("OUT", b"") if case.words[:1] == ["normalise"] else outcome.output if not case.words else b""
+    depth = 2 + (case.datasets // case.groups).bit_length() if case.groups else 0
+    return Counts(
+        calls=90 + 40 * files + files * case.groups * depth,
+        asked=18 * size + files * (3 * CHUNK + 400 * case.groups),
+        held=6 * size + files * (2 * CHUNK + 160 * case.groups),
+        reads=size // CHUNK + 3 * files,
+        writes=1 if len(form) <= ROOM else 2 * len(form) // ROOM + 2,
+        failed=0,
+    )
+
+
+def complaints_of_cost(program, shim, case, complaints_of):
+    outcome, counts = watched(program, shim, case)
+    bad = complaints_of(case, outcome)
+    if counts is None:
+        return [*bad, "the run told no counts"]
+    most = limits_of(case, outcome)
+    for name in ("calls", "asked", "held", "reads", "writes"):
+        came, due = getattr(counts, name), getattr(most, name)
+        if came > due:
+            bad.append(f"{name}: at most {due} were due, and {came} came")
+    return bad
+
+
+def failures_of(case):
+    """Each way in which a device fails once, with the line that tells it. A read that answers 0 is the end of what is read."""
+    for error in (errno.EIO, errno.EINTR):
+        yield "FAIL_READ", error, b"failed: ReadFailed"
+    for error in (errno.EIO, errno.EINTR, 0):
+        yield "FAIL_WRITE", error, b"failed: WriteFailed"
+
+
+def says_failed(case, outcome, line, due):
+    """Whether a run tells the failure, and left no more than a prefix of what was due: of the normal form in OUT and of what stands
+    on standard output. A line that could not be written is not told again there."""
+    out = due.files.get("OUT", b"")
+    lines = [b"", *(line + side + b"\n" for side in (b"", b" in file 1", b" in file 2"))]
+    starts = [outcome.output[: len(outcome.output) - len(it)] for it in lines if outcome.output.endswith(it)]
+    return (
+        outcome.status == 4
+        and outcome.complaints == b""
+        and out.startswith(outcome.files.get("OUT", b""))
+        and any(due.output.startswith(it) for it in starts)
+    )
+
+
+def complaints_of_failures(program, shim, case):
+    """What is wrong where each read and each write in turn fails once."""
+    due, _ = watched(program, shim, case)
+    bad = []
+    for call, error, line in failures_of(case):
+        for number in range(1, 100):
+            outcome, counts = watched(program, shim, case, **{call: number, "FAIL_AS": error})
+            if counts is None:
+                bad.append(f"{call} {number} as {error}: the run came to no end")
+                break
+            if not counts.failed:
+                break
+            if not says_failed(case, outcome, line, due):
+                bad.append(f"{call} {number} as {error}: status {outcome.status} with {outcome.output[:80]!r}")
+        else:
+            bad.append(f"{call}: more than 99 calls")
+    return bad
