@@ -1,0 +1,394 @@
+#!/usr/bin/env python3
+"""Tests ./exifnorm, the launcher, with a toolchain that proves nothing: each test has a folder of its own with a few crates.
+
+  tests/launcher.py
+
+Each test that fails has a line. The last line is 'N passed, M failed', and the status is 0 only where nothing failed.
+"""
+
+import os
+import shutil
+import signal
+import subprocess
+import sys
+import tempfile
+import time
+from concurrent.futures import ThreadPoolExecutor
+from pathlib import Path
+
+HERE = Path(__file__).resolve().parent
+LAUNCHER = HERE.parent / "exifnorm"
+
+# What stands for the toolchain's command. It writes a line when it begins and when it ends, and takes as long as `seconds`
+# says. The program that it makes tells the text of main.rt and its words.
+RT = r"""#!/bin/sh
+room=ROOM
+if [ "$1" = version ]; then cat "$room/version"; exit; fi
+name=${PWD##*/}
+echo "begin $1 $name $$" >>"$room/log"
+made=out/$name
+mkdir -p out
+if [ "$1" = run ]; then printf '#!/bin/sh\nexit 0\n' >"$made"; chmod +x "$made"; fi
+sleep "$(cat "$room/seconds")"
+if [ -e "$room/fails-$name" ]; then echo "this crate is not proved"; exit 1; fi
+if [ "$1" = run ]; then
+    text=$(cat src/main.rt)
+    printf '#!/bin/sh\necho "%s: $*"\n' "$text" >"$made"
+    echo "end $1 $name $$" >>"$room/log"
+    echo "refused: UnknownKind at 0"
+    exit 2
+fi
+echo "end $1 $name $$" >>"$room/log"
+"""
+
+CRATES = """# a comment
+px_bytes: byteorder
+px_field: px_bytes
+px_iim: px_bytes
+px_cli: px_bytes px_field px_iim clap
+px_other: px_bytes
+"""
+
+
+class Room:
+    """A folder with the launcher, crates and a toolchain.
+
+    >>> with tempfile.TemporaryDirectory() as folder:
+    ...     room = Room(Path(folder))
+    ...     room.call("check", "a").stdout
+    'one: check a\\n'
+    """
+
+    def __init__(self, folder: Path, crates: str = CRATES, name: str = "repository") -> None:
+        self.folder, self.top, self.bin = folder, folder / name, folder / "bin"
+        self.top.mkdir()
+        self.bin.mkdir()
+        shutil.copy(LAUNCHER, self.top / "exifnorm")
+        (self.top / "crates.txt").write_text(crates)
+        for line in crates.splitlines():
+            if ":" in line:
+                for sources in ("src", "specs", "proofs"):
+                    (self.top / "crates" / line.partition(":")[0] / sources).mkdir(parents=True)
+                    (self.top / "crates" / line.partition(":")[0] / sources / "main.rt").write_text("one")
+        self.rt = self.bin / "rt"
+        self.rt.write_text(RT.replace("ROOM", str(folder)))
+        self.rt.chmod(0o755)
+        (folder / "version").write_text("toolchain 1\n")
+        self.takes(0)
+
+    @property
+    def main(self) -> Path:
+        return self.top / "crates" / "px_cli" / "src" / "main.rt"
+
+    def takes(self, seconds: float) -> None:
+        """Says how long each crate takes from now on."""
+        (self.folder / "seconds").write_text(str(seconds))
+
+    def environment(self, has_rt: bool = True) -> dict:
+        return {"PATH": (f"{self.bin}:" if has_rt else "") + "/usr/bin:/bin", "LANG": "C"}
+
+    def start(self, *words: str, **how) -> subprocess.Popen:
+        streams = {"stdin": subprocess.DEVNULL, "stdout": subprocess.PIPE, "stderr": subprocess.PIPE, "text": True}
+        return subprocess.Popen([str(self.top / "exifnorm"), *words], env=self.environment(), **{**streams, **how})
+
+    def call(self, *words: str, program: str = "", has_rt: bool = True, **how) -> subprocess.CompletedProcess:
+        it = [program or str(self.top / "exifnorm"), *words]
+        return subprocess.run(
+            it, env=self.environment(has_rt), stdin=subprocess.DEVNULL, capture_output=True, text=True, timeout=60, **how
+        )
+
+    def log(self) -> list:
+        """What the toolchain was asked for, a line each: begin or end, the command, the crate, the process."""
+        log = self.folder / "log"
+        return [line.split() for line in log.read_text().splitlines()] if log.exists() else []
+
+    def built(self) -> list:
+        """The crates that were built, in the order in which they ended."""
+        return [name for what, _, name, _ in self.log() if what == "end"]
+
+    def builds(self) -> int:
+        return self.built().count("px_cli")
+
+    def until(self, what: str, name: str) -> str:
+        """Waits until the toolchain begins or ends a crate, and returns the number of its process."""
+        for _ in range(400):
+            found = [it[3] for it in self.log() if it[0] == what and it[2] == name]
+            if found:
+                return found[-1]
+            time.sleep(0.05)
+        raise AssertionError(f"no {what} of {name}")
+
+
+def due(is_so: bool, what: object) -> None:
+    if not is_so:
+        raise AssertionError(what)
+
+
+def most_at_once(log: list) -> int:
+    """How many crates were being built side by side at most.
+
+    >>> most_at_once([["begin", "lib", "a", "1"], ["begin", "lib", "b", "2"], ["end", "lib", "a", "1"]])
+    2
+    """
+    now = most = 0
+    for what, *_ in log:
+        now += 1 if what == "begin" else -1
+        most = max(most, now)
+    return most
+
+
+def the_first_call_builds_each_crate_once_and_runs(room: Room) -> None:
+    ran = room.call("check", "a b")
+    due((ran.returncode, ran.stdout) == (0, "one: check a b\n"), ran)
+    due(sorted(room.built()) == ["px_bytes", "px_cli", "px_field", "px_iim"], room.log())
+    due(room.built()[0] == "px_bytes" and room.built()[-1] == "px_cli", room.log())
+    due("proving px_cli (4 of 4, 0 left)" in ran.stderr, ran.stderr)
+
+
+def a_later_call_builds_nothing_and_says_nothing(room: Room) -> None:
+    room.call()
+    ran = room.call("show", "x")
+    due((ran.returncode, ran.stdout, ran.stderr) == (0, "one: show x\n", ""), ran)
+    due(room.builds() == 1, room.log())
+
+
+def a_changed_source_is_built(room: Room) -> None:
+    room.call()
+    room.main.write_text("two")
+    due(room.call().stdout == "two: \n", room.log())
+
+
+def an_older_source_in_its_place_is_built(room: Room) -> None:
+    room.main.write_text("old")
+    os.utime(room.main, (10**9, 10**9))
+    shutil.copy2(room.main, room.folder / "old.rt")
+    room.main.write_text("new")
+    due(room.call().stdout == "new: \n", room.log())
+    shutil.copy2(room.folder / "old.rt", room.main)  # the same name and size, an older time
+    due(room.call().stdout == "old: \n", room.log())
+
+
+def a_source_that_is_taken_away_or_added_is_noticed(room: Room) -> None:
+    other = room.main.parent / "other.rt"
+    other.write_text("more")
+    room.call()
+    other.unlink()
+    room.call()
+    due(room.builds() == 2, room.log())
+    (room.main.parent / "further").mkdir()
+    (room.main.parent / "further" / "file.rt").write_text("more")
+    room.call()
+    due(room.builds() == 3, room.log())
+
+
+def touched_and_copied_sources_are_not_built_again(room: Room) -> None:
+    room.call()
+    room.main.touch()
+    ran = room.call("a")
+    due((ran.stdout, ran.stderr, room.builds()) == ("one: a\n", "", 1), ran)
+    shutil.copytree(room.top, room.folder / "copy")
+    ran = room.call("a", program=str(room.folder / "copy" / "exifnorm"))
+    due((ran.stdout, ran.stderr, room.builds()) == ("one: a\n", "", 1), ran)
+
+
+def another_toolchain_builds_again_and_the_same_elsewhere_does_not(room: Room) -> None:
+    room.call()
+    room.rt.touch()
+    room.call()
+    due(room.builds() == 1, room.log())
+    (room.folder / "version").write_text("toolchain 2\n")
+    room.rt.touch()
+    room.call()
+    due(room.builds() == 2, room.log())
+
+
+def a_built_program_runs_without_the_toolchain(room: Room) -> None:
+    room.call()
+    ran = room.call("a", has_rt=False)
+    due((ran.returncode, ran.stdout, ran.stderr) == (0, "one: a\n", ""), ran)
+    room.main.write_text("two")
+    ran = room.call("a", has_rt=False)
+    due(ran.returncode == 70 and ran.stdout == "" and "no command rt" in ran.stderr, ran)
+
+
+def a_crate_that_fails_is_told_and_built_by_the_next_call(room: Room) -> None:
+    (room.folder / "fails-px_iim").touch()
+    ran = room.call("a")
+    due(ran.returncode == 70 and ran.stdout == "", ran)
+    due("this crate is not proved" in ran.stderr and "px_iim was not proved" in ran.stderr, ran.stderr)
+    (room.folder / "fails-px_iim").unlink()
+    due(room.call("a").stdout == "one: a\n", room.log())
+
+
+def a_last_crate_that_fails_leaves_nothing_that_is_taken_as_built(room: Room) -> None:
+    (room.folder / "fails-px_cli").touch()  # a program stands in its folder by then
+    due(room.call("a").returncode == 70, room.log())
+    (room.folder / "fails-px_cli").unlink()
+    due(room.call("a").stdout == "one: a\n", room.log())
+
+
+def stopped(room: Room, how: int) -> None:
+    """Stops a build in its last step, when half a program stands; the next call must build."""
+    room.call()
+    room.main.write_text("two")
+    room.takes(3)
+    (room.folder / "log").unlink()
+    started = room.start("a")
+    working = int(room.until("begin", "px_cli"))
+    time.sleep(0.3)
+    started.send_signal(how)
+    out, _ = started.communicate(timeout=20)
+    due(started.returncode != 0 and out == "", (started.returncode, out))
+    if how != signal.SIGKILL:
+        due(started.returncode == 70, started.returncode)
+        for _ in range(100):
+            if not Path(f"/proc/{working}").exists():
+                break
+            time.sleep(0.05)
+        due(not Path(f"/proc/{working}").exists(), "the toolchain's command still runs")
+        due(not os.path.lexists(room.top / "out" / "building"), "the lock stands")
+    room.takes(0)
+    ran = room.call("a")
+    due((ran.returncode, ran.stdout) == (0, "two: a\n"), ran)
+
+
+def a_build_that_is_stopped_is_not_taken_as_built(room: Room) -> None:
+    stopped(room, signal.SIGTERM)
+
+
+def a_build_that_is_killed_is_not_taken_as_built(room: Room) -> None:
+    stopped(room, signal.SIGKILL)
+
+
+def one_build_at_a_time_beside_a_dead_lock(room: Room) -> None:
+    gone = subprocess.Popen(["true"])
+    gone.wait()
+    (room.top / "out").mkdir()
+    os.symlink(str(gone.pid), room.top / "out" / "building")
+    room.takes(0.2)
+    started = [room.start(str(it)) for it in range(6)]
+    said = [it.communicate(timeout=60)[0] for it in started]
+    due(said == [f"one: {it}\n" for it in range(6)], said)
+    due(room.builds() == 1 and len(room.built()) == 4, room.log())
+    due([it.returncode for it in started] == [0] * 6, started)
+
+
+def a_lock_that_cannot_be_removed_ends_the_call(room: Room) -> None:
+    (room.top / "out" / "building").mkdir(parents=True)
+    before, began = os.times(), time.monotonic()
+    ran = room.call("a")
+    due(ran.returncode == 70 and ran.stdout == "" and "remove" in ran.stderr, ran)
+    due(3 < time.monotonic() - began < 30, "it waits a few seconds")
+    due(os.times().children_user - before.children_user < 2, "it spins")
+
+
+def a_broom_that_is_left_behind_ends_the_call(room: Room) -> None:
+    (room.top / "out").mkdir()
+    gone = subprocess.Popen(["true"])
+    gone.wait()
+    for name in ("building", "sweeping"):
+        os.symlink(str(gone.pid), room.top / "out" / name)
+    ran = room.call("a")
+    due(ran.returncode == 70 and "remove" in ran.stderr and "sweeping" in ran.stderr, ran)
+
+
+def crates_that_need_not_wait_are_proved_side_by_side(room: Room) -> None:
+    room.takes(0.5)
+    room.call()
+    due(most_at_once(room.log()) == 2, room.log())
+
+
+def at_most_three_are_proved_at_once(room: Room) -> None:
+    names = "abcde"
+    crates = "".join(f"px_{it}: clap\n" for it in names) + "px_cli: " + " ".join(f"px_{it}" for it in names) + "\n"
+    (room.folder / "many").mkdir()
+    many = Room(room.folder / "many", crates)
+    many.takes(0.3)
+    many.call()
+    due(most_at_once(many.log()) == 3 and len(many.built()) == 6, many.log())
+
+
+def it_says_where_the_built_program_stands(room: Room) -> None:
+    ran = room.call("--where", cwd="/")
+    due(ran.stdout == f"{(room.top / 'out' / 'exifnorm').resolve()}\n", ran)
+    due(room.call("a", program=ran.stdout.strip()).stdout == "one: a\n", ran)
+    due(room.call("--where", "a").stdout == "one: --where a\n", "beside other words it is the program's")
+
+
+def names_may_begin_with_a_hyphen(room: Room) -> None:
+    (room.folder / "other").mkdir()
+    other = Room(room.folder / "other", name="-repository")
+    ran = other.call("-a", program="-repository/exifnorm", cwd=other.folder)
+    due((ran.returncode, ran.stdout) == (0, "one: -a\n"), ran)
+    os.symlink("-repository/exifnorm", other.folder / "-link")
+    ran = other.call("b", program="./-link", cwd=other.folder)
+    due((ran.returncode, ran.stdout) == (0, "one: b\n"), ran)
+
+
+def it_is_called_from_any_folder_and_through_links(room: Room) -> None:
+    room.call()
+    ran = room.call("a", program="./exifnorm", cwd=room.top)
+    due((ran.stdout, ran.stderr) == ("one: a\n", ""), ran)
+    os.symlink(room.top / "exifnorm", room.folder / "first")
+    os.symlink("first", room.folder / "second")
+    for program, folder in ((str(room.folder / "second"), "/"), ("./second", room.folder)):
+        due(room.call("b", program=program, cwd=folder).stdout == "one: b\n", program)
+    where = {**room.environment(), "PATH": f"{room.top}:{room.environment()['PATH']}"}
+    ran = subprocess.run(["exifnorm", "c"], env=where, cwd="/", capture_output=True, text=True)
+    due((ran.stdout, room.builds()) == ("one: c\n", 1), ran)
+
+
+def a_folder_that_cannot_be_written_is_told(room: Room) -> None:
+    (room.top / "out").write_text("a file in place of the folder")
+    ran = room.call("a")
+    due(ran.returncode == 70 and ran.stdout == "" and "cannot" in ran.stderr, ran)
+
+
+TESTS = [
+    the_first_call_builds_each_crate_once_and_runs,
+    a_later_call_builds_nothing_and_says_nothing,
+    a_changed_source_is_built,
+    an_older_source_in_its_place_is_built,
+    a_source_that_is_taken_away_or_added_is_noticed,
+    touched_and_copied_sources_are_not_built_again,
+    another_toolchain_builds_again_and_the_same_elsewhere_does_not,
+    a_built_program_runs_without_the_toolchain,
+    a_crate_that_fails_is_told_and_built_by_the_next_call,
+    a_last_crate_that_fails_leaves_nothing_that_is_taken_as_built,
+    a_build_that_is_stopped_is_not_taken_as_built,
+    a_build_that_is_killed_is_not_taken_as_built,
+    one_build_at_a_time_beside_a_dead_lock,
+    a_lock_that_cannot_be_removed_ends_the_call,
+    a_broom_that_is_left_behind_ends_the_call,
+    crates_that_need_not_wait_are_proved_side_by_side,
+    at_most_three_are_proved_at_once,
+    it_says_where_the_built_program_stands,
+    names_may_begin_with_a_hyphen,
+    it_is_called_from_any_folder_and_through_links,
+    a_folder_that_cannot_be_written_is_told,
+]
+
+
+def fault_of(test) -> str:
+    """What is wrong; nothing where the test passes."""
+    with tempfile.TemporaryDirectory() as folder:
+        try:
+            test(Room(Path(folder)))
+        except (AssertionError, OSError, subprocess.SubprocessError) as why:
+            return str(why) or repr(why)
+    return ""
+
+
+def main() -> int:
+    with ThreadPoolExecutor(4) as pool:
+        faults = dict(zip(TESTS, pool.map(fault_of, TESTS)))
+    for test, fault in faults.items():
+        if fault:
+            print(f"FAILED {test.__name__}: {fault}")
+    failed = sum(map(bool, faults.values()))
+    print(f"{len(TESTS) - failed} passed, {failed} failed")
+    return 1 if failed else 0
+
+
+if __name__ == "__main__":
+    sys.exit(main())
