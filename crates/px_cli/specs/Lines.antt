@@ -1,5 +1,5 @@
 -- Lines and exit statuses.
-use Rattle.std.specs.Prelude.{◌≡◌, ◌⊎◌, ◌+◌, ℕ, List, Option, Some, None, ◌++◌, codes, decimal}
+use Rattle.std.specs.Prelude.{◌≡◌, ◌⊎◌, ◌+◌, ◌-◌, ◌==◌, ◌++◌, ℕ, Bool, false, if◌then◌else◌, List, length, slice_get, Option, Some, None, codes, decimal}
 use Rattle.std.specs.Io.KnownBytes.{Appends, Keeps}
 use Rattle.px_bytes.specs.Devices.{AppendsPrefix}
 use Rattle.px_bytes.specs.declared.Cause.{Cause}
@@ -96,6 +96,18 @@ Tells due line status lines =
 abbrev pub TellsFault : Fault → Option Side → ℕ → Device → Type 0
 TellsFault e file status lines = Tells (status_of e) (line_of e file) status lines
 
--- those of a text, which ends in a line feed or gets one
+-- whether a text ends in a line feed
+abbrev pub is_feed : Option ℕ → Bool
+is_feed None = false
+is_feed (Some b) = b == 10
+
+abbrev pub is_ended : List ℕ → Bool
+is_ended text = is_feed (slice_get text (length text - 1))
+
+-- the text, with a line feed behind it where it has none
+abbrev pub ended : List ℕ → List ℕ
+ended text = if is_ended text then text else text ++ end_of None
+
+-- those of a text
 abbrev pub TellsWords : ℕ → List ℕ → ℕ → Device → Type 0
-TellsWords due text status lines = Tells due text status lines ⊎ Tells due (text ++ end_of None) status lines
+TellsWords due text status lines = Tells due (ended text) status lines

@@ -1,5 +1,5 @@
 -- What the words of a command line ask for.
-use Rattle.std.specs.Prelude.{◌≡◌, ◌≢◌, List, Option, Some, codes, true, is_some, ⊤}
+use Rattle.std.specs.Prelude.{◌≡◌, ◌≢◌, List, [], ◌∷◌, Option, Some, codes, true, is_some, ⊤}
 use Rattle.clap.specs.Words.{App, Row, Rule, Shape, Text, first_of, new_app, new_rule, subcommand_of, takes, with_rule, with_subcommand}
 use Rattle.px_cli.specs.declared.words.One.{One}
 use Rattle.px_cli.specs.declared.words.One.TheVariants as one
@@ -24,6 +24,7 @@ abbrev pub bare : App
 bare = record (new_app (codes "exifnorm")) {
   top = record (new_app (codes "exifnorm")).top {
     no_binary_name = true;
+    has_version = true;
     disable_help_subcommand = true;
     subcommand_required = true;
   };
@@ -73,6 +74,12 @@ AsksFiles met _ = ⊤
 -- the command takes the words, and they name a subcommand
 abbrev pub AreTaken : List Text → Type 0
 AreTaken ws = (takes exifnorm ws ≡ true) × (is_some (subcommand_of exifnorm ws) ≡ true)
+
+-- so are the words that users write
+abbrev pub TakesCommands : Type 0
+TakesCommands = AreTaken (codes "show" ∷ codes "a" ∷ []) × AreTaken (codes "check" ∷ codes "a" ∷ [])
+    × AreTaken (codes "captions" ∷ codes "a" ∷ []) × AreTaken (codes "normalise" ∷ codes "a" ∷ codes "b" ∷ [])
+    × AreTaken (codes "compare" ∷ codes "a" ∷ codes "b" ∷ []) × AreTaken (codes "check" ∷ codes "--" ∷ codes "-a" ∷ [])
 
 -- both of a match
 abbrev pub AsksIn : Option (Text × List Row) → Words → Type 0

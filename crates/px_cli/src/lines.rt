@@ -2,7 +2,7 @@
 ghost use Rattle.std.specs.Prelude.{◌≡◌, ◌<◌, ◌+◌, ◌++◌, ◌^◌, None};
 ghost use Rattle.px_bytes.specs.Devices.{Counts, Writes};
 ghost use Rattle.px_engine.specs.declared.Fault.TheVariants.{Refused};
-ghost use Rattle.px_cli.specs.Lines.{name_of, end_of, line_of, status_of, device, Flushes, Tells, TellsFault, TellsWords};
+ghost use Rattle.px_cli.specs.Lines.{name_of, end_of, line_of, status_of, device, Flushes, Tells, TellsFault, TellsWords, is_ended};
 
 use itoa::Buffer;
 use px_bytes::{Cause, Failed, Sink, write_whole};
@@ -137,6 +137,16 @@ pub fn say<L: Sink>(lines: &mut L, line: &[u8], due: u8) -> u8
     }
 }
 
+// Whether a text ends in a line feed.
+fn is_ended(text: &[u8]) -> bool
+    ensures { result ≡ is_ended text.now }
+{
+    match text.last() {
+        Some(last) => *last == b'\n',
+        None => false,
+    }
+}
+
 // Writes a text and a line feed, and flushes, and answers the exit status.
 #[tactic(auto, using(crate::proofs::LineLaws::told))]
 fn say_ended<L: Sink>(lines: &mut L, text: &str, due: u8) -> u8
@@ -155,7 +165,7 @@ pub fn say_text<L: Sink>(lines: &mut L, text: &str, due: u8) -> u8
     requires { L.failed lines.old + 1 < 2 ^ 64 }
     ensures { TellsWords due text.now result (device (L.failed lines.old) (L.failed lines.new) (L.bytes_taken lines.old) (L.bytes_taken lines.new)) }
 {
-    if text.ends_with('\n') {
+    if is_ended(text.as_bytes()) {
         return say(lines, text.as_bytes(), due);
     }
     say_ended(lines, text, due)

@@ -12,6 +12,9 @@
 //! ```
 #![tactic(auto)]
 
+ghost use Rattle.std.specs.Prelude.{◌≡◌, drop};
+
+mod files;
 mod job;
 mod lines;
 mod run;
@@ -23,18 +26,18 @@ use crate::lines::{say_text, tell};
 use crate::run::run_words;
 use px_bytes::Watched;
 use px_engine::Fault;
-use std::alloc::{AllocError, Global};
 use std::io::ErrorKind;
 use std::process::ExitCode;
 use std::{env, io};
 
 // The words behind the program's name.
-fn behind_name<'w>(alloc: Global, all: &'w [String]) -> Result<Vec<&'w str>, AllocError> {
-    let mut words = Vec::new(alloc);
-    for word in all.iter().skip(1) {
-        words.push(word.as_str())?;
+fn behind_name(all: &[String]) -> &[String]
+    ensures { result.now ≡ drop 1 all.now }
+{
+    if all.is_empty() {
+        return all;
     }
-    Ok(words)
+    &all[1..]
 }
 
 // Runs on the words that the system gives.
@@ -51,10 +54,7 @@ fn run_given(rt: &HostRuntime) -> u8 {
         }
         Err(_) => return say_text(&mut lines, "refused words: they are not text", 3),
     };
-    match behind_name(alloc, &all) {
-        Ok(words) => run_words(rt, alloc, &words),
-        Err(_) => tell(&mut lines, Fault::OutOfMemory, None),
-    }
+    run_words(rt, alloc, behind_name(&all), &mut lines)
 }
 
 fn main(rt: HostRuntime) -> ExitCode {

@@ -1,106 +1,187 @@
 // What the program does with its words.
+ghost use Rattle.std.specs.Prelude.{◌≡◌, ◌<◌, ◌+◌, ◌^◌, IfOk, map, None, Some};
+ghost use Rattle.px_engine.specs.declared.Fault.TheVariants.{ReadFailed};
+ghost use Rattle.px_cli.specs.declared.job.Job.TheVariants.{Normalise};
+ghost use Rattle.px_cli.specs.Lines.{device};
+ghost use Rattle.px_cli.specs.Programs.{job_of, Answers, EndsFile, EndsFiles, EndsForm, EndsJob, EndsPair, EndsWords};
+
+use crate::files::{make_beside, open};
 use crate::job::{Job, run_compare, run_one};
 use crate::lines::{say_text, tell};
-use crate::words::{One, Words, parse};
-use px_bytes::Watched;
+use crate::words::{OUT_IS_FILE, One, Words, parse};
+use px_bytes::{Sink, Source, Watched};
 use px_engine::{Fault, Side};
 use std::alloc::Global;
-use std::fs::File;
+use std::convert::AsStr;
 use std::io;
-use std::io::ErrorKind;
 use std::rt::Files;
 
-/// Does what the words after the program's name ask for, and answers the exit status.
+/// Does what the words after the program's name ask for, and answers the exit status. All text goes to
+/// `lines`, and the normal form of standard input to standard output.
 ///
 /// It parses the words, opens the files that they name and runs: `FILE` is opened, then `OUT` is made
 /// or emptied, then `FILE` is read; where two files are compared, both are opened before either is
-/// read. A file that can't be opened is a failed read, one that can't be made a failed write. Without
-/// words standard input is normalised to standard output. All text goes to standard output.
-pub fn run_words<'a, R: Files + Input + Print>(rt: &R, alloc: Global, words: &'a [&'a str]) -> u8 {
-    let mut lines = Watched::new(io::writer(rt));
-    match parse(alloc, words) {
-        Words::Filter => run_filter(rt, alloc),
-        Words::One { what, file } => run_file(rt, alloc, what, file.as_str()),
-        Words::Normalise { file, out } => run_normalise(rt, alloc, file.as_str(), out.as_str()),
-        Words::Compare { first, second } => { run_two(rt, alloc, first.as_str(), second.as_str()) }
-        Words::Help(text) => say_text(&mut lines, text.as_str(), 0),
-        Words::Refused(text) => say_text(&mut lines, text.as_str(), 3),
-        Words::NoMemory => tell(&mut lines, Fault::OutOfMemory, None),
+/// read. A file that can't be opened is a failed read, one that can't be made a failed write. Where
+/// `OUT` is `FILE`, also by another name, the words are refused and the file is as it was. Without
+/// words standard input is normalised to standard output; else standard input is not read.
+pub fn run_words<'a, S: AsStr, R: Files + Input + Print, L: Sink>(
+    rt: &R,
+    alloc: Global,
+    words: &'a [S],
+    lines: &mut L,
+) -> u8
+    requires { L.failed lines.old + 1 < 2 ^ 64 }
+    ensures { Answers (map S.text words.entry.now) result (device (L.failed lines.old) (L.failed lines.new) (L.bytes_taken lines.old) (L.bytes_taken lines.new)) }
+{
+    run_asked(rt, alloc, parse(alloc, words), lines)
+}
+
+// Does what was asked for.
+fn run_asked<R: Files + Input + Print, L: Sink>(
+    rt: &R,
+    alloc: Global,
+    asked: Words,
+    lines: &mut L,
+) -> u8
+    requires { L.failed lines.old + 1 < 2 ^ 64 }
+    ensures { EndsWords asked result (device (L.failed lines.old) (L.failed lines.new) (L.bytes_taken lines.old) (L.bytes_taken lines.new)) }
+{
+    match asked {
+        Words::Filter => run_filter(rt, alloc, lines),
+        Words::One { what, file } => run_file(rt, alloc, what, file.as_str(), lines),
+        Words::Normalise { file, out } => {
+            run_form(rt, alloc, file.as_str(), out.as_str(), lines)
+        }
+        Words::Compare { first, second } => {
+            run_files(rt, alloc, first.as_str(), second.as_str(), lines)
+        }
+        Words::Help(text) => say_text(lines, text.as_str(), 0),
+        Words::Refused(text) => say_text(lines, text.as_str(), 3),
+        Words::NoMemory => tell(lines, Fault::OutOfMemory, None),
     }
 }
 
-// Why a file is not there: memory, or else the fault of the call.
-fn unopened(error: &io::Error, fault: Fault) -> Fault {
-    if error.kind() == ErrorKind::OutOfMemory {
-        return Fault::OutOfMemory;
-    }
-    fault
-}
-
-// Opens a file to be read.
-fn open<R: Files>(rt: &R, name: &str) -> Result<R::File, Fault> {
-    match File::open(rt, name) {
-        Ok(file) => Ok(file),
-        Err(error) => Err(unopened(&error, Fault::ReadFailed)),
-    }
-}
-
-// Makes or empties a file to be written.
-fn make<R: Files>(rt: &R, name: &str) -> Result<R::File, Fault> {
-    match File::create(rt, name) {
-        Ok(file) => Ok(file),
-        Err(error) => Err(unopened(&error, Fault::WriteFailed)),
-    }
-}
-
-// Standard input to standard output.
-fn run_filter<R: Input + Print>(rt: &R, alloc: Global) -> u8 {
-    let mut lines = Watched::new(io::writer(rt));
-    let mut reader = Watched::new(rt.reader());
-    let mut out = Watched::new(io::writer(rt));
-    run_one(alloc, Job::Normalise, &mut reader, &mut out, &mut lines)
-}
-
-// A file is told of on standard output.
-fn run_file<R: Files + Print>(rt: &R, alloc: Global, what: One, name: &str) -> u8 {
-    let mut lines = Watched::new(io::writer(rt));
-    let mut file = match open(rt, name) {
-        Ok(file) => Watched::new(file),
-        Err(fault) => return tell(&mut lines, fault, None),
-    };
-    let mut none = Watched::new(io::sink());
-    let job = match what {
+// The job that a command asks for.
+fn job_of(what: One) -> Job
+    ensures { result ≡ job_of what }
+{
+    match what {
         One::Show => Job::Show,
         One::Check => Job::Check,
         One::Captions => Job::Captions,
-    };
-    run_one(alloc, job, &mut file, &mut none, &mut lines)
+    }
+}
+
+// A job with a reader and a writer of its own.
+fn run_job<F: Source + Drop, O: Sink + Drop, L: Sink>(
+    alloc: Global,
+    job: Job,
+    mut reader: F,
+    mut out: O,
+    lines: &mut L,
+) -> u8
+    requires reading { F.failed reader + 1 < 2 ^ 64 }
+    requires writing { O.failed out + 1 < 2 ^ 64 }
+    requires telling { L.failed lines.old + 1 < 2 ^ 64 }
+    ensures { EndsJob job result (device (L.failed lines.old) (L.failed lines.new) (L.bytes_taken lines.old) (L.bytes_taken lines.new)) }
+{
+    run_one(alloc, job, &mut reader, &mut out, lines)
+}
+
+// A comparison of readers of its own.
+fn run_pair<F: Source + Drop, S: Source + Drop, L: Sink>(
+    alloc: Global,
+    mut first: F,
+    mut second: S,
+    lines: &mut L,
+) -> u8
+    requires first { F.failed first + 1 < 2 ^ 64 }
+    requires second { S.failed second + 1 < 2 ^ 64 }
+    requires telling { L.failed lines.old + 1 < 2 ^ 64 }
+    ensures { EndsPair result (device (L.failed lines.old) (L.failed lines.new) (L.bytes_taken lines.old) (L.bytes_taken lines.new)) }
+{
+    run_compare(alloc, &mut first, &mut second, lines)
+}
+
+// Standard input to standard output.
+fn run_filter<R: Input + Print, L: Sink>(rt: &R, alloc: Global, lines: &mut L) -> u8
+    requires { L.failed lines.old + 1 < 2 ^ 64 }
+    ensures { EndsJob Normalise result (device (L.failed lines.old) (L.failed lines.new) (L.bytes_taken lines.old) (L.bytes_taken lines.new)) }
+{
+    let reader = Watched::new(rt.reader());
+    let out = Watched::new(io::writer(rt));
+    run_job(alloc, Job::Normalise, reader, out, lines)
+}
+
+// What a command prints of a file.
+fn run_file<R: Files, L: Sink>(rt: &R, alloc: Global, what: One, name: &str, lines: &mut L) -> u8
+    requires { L.failed lines.old + 1 < 2 ^ 64 }
+    ensures { EndsFile (job_of what) result (device (L.failed lines.old) (L.failed lines.new) (L.bytes_taken lines.old) (L.bytes_taken lines.new)) }
+{
+    match open(rt, name) {
+        Ok(file) => {
+            let none = Watched::new(io::sink());
+            run_job(alloc, job_of(what), Watched::new(file), none, lines)
+        }
+        Err(fault) => tell(lines, fault, None),
+    }
+}
+
+// The normal form of an open file goes to another, unless that is the same.
+fn run_beside<R: Files, L: Sink>(
+    rt: &R,
+    alloc: Global,
+    file: R::File,
+    out_name: &str,
+    lines: &mut L,
+) -> u8
+    requires { L.failed lines.old + 1 < 2 ^ 64 }
+    ensures { EndsForm result (device (L.failed lines.old) (L.failed lines.new) (L.bytes_taken lines.old) (L.bytes_taken lines.new)) }
+{
+    match make_beside(rt, out_name, &file) {
+        Ok(Some(out)) => {
+            let out = Watched::new(out);
+            run_job(alloc, Job::Normalise, Watched::new(file), out, lines)
+        }
+        Ok(None) => say_text(lines, OUT_IS_FILE, 3),
+        Err(fault) => tell(lines, fault, None),
+    }
 }
 
 // The normal form of a file goes to another.
-fn run_normalise<R: Files + Print>(rt: &R, alloc: Global, name: &str, out_name: &str) -> u8 {
-    let mut lines = Watched::new(io::writer(rt));
-    let mut file = match open(rt, name) {
-        Ok(file) => Watched::new(file),
-        Err(fault) => return tell(&mut lines, fault, None),
-    };
-    let mut out = match make(rt, out_name) {
-        Ok(out) => Watched::new(out),
-        Err(fault) => return tell(&mut lines, fault, None),
-    };
-    run_one(alloc, Job::Normalise, &mut file, &mut out, &mut lines)
+fn run_form<R: Files, L: Sink>(
+    rt: &R,
+    alloc: Global,
+    name: &str,
+    out_name: &str,
+    lines: &mut L,
+) -> u8
+    requires { L.failed lines.old + 1 < 2 ^ 64 }
+    ensures { EndsForm result (device (L.failed lines.old) (L.failed lines.new) (L.bytes_taken lines.old) (L.bytes_taken lines.new)) }
+{
+    match open(rt, name) {
+        Ok(file) => run_beside(rt, alloc, file, out_name, lines),
+        Err(fault) => tell(lines, fault, None),
+    }
 }
 
 // Two files are compared.
-fn run_two<R: Files + Print>(rt: &R, alloc: Global, first: &str, second: &str) -> u8 {
-    let mut lines = Watched::new(io::writer(rt));
-    let mut first = match open(rt, first) {
+fn run_files<R: Files, L: Sink>(
+    rt: &R,
+    alloc: Global,
+    first: &str,
+    second: &str,
+    lines: &mut L,
+) -> u8
+    requires { L.failed lines.old + 1 < 2 ^ 64 }
+    ensures { EndsFiles result (device (L.failed lines.old) (L.failed lines.new) (L.bytes_taken lines.old) (L.bytes_taken lines.new)) }
+{
+    let first = match open(rt, first) {
         Ok(first) => Watched::new(first),
-        Err(fault) => return tell(&mut lines, fault, Some(Side::First)),
+        Err(fault) => return tell(lines, fault, Some(Side::First)),
     };
-    let mut second = match open(rt, second) {
-        Ok(second) => Watched::new(second),
-        Err(fault) => return tell(&mut lines, fault, Some(Side::Second)),
-    };
-    run_compare(alloc, &mut first, &mut second, &mut lines)
+    match open(rt, second) {
+        Ok(second) => run_pair(alloc, first, Watched::new(second), lines),
+        Err(fault) => tell(lines, fault, Some(Side::Second)),
+    }
 }

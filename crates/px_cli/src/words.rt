@@ -3,11 +3,12 @@ ghost use Rattle.std.specs.Prelude.{◌≡◌, ◌↔◌, ◌⊎◌, List, Some,
 ghost use Rattle.clap.specs.Words.{app_of, first_of, found_of, kind_of, rows_of, shape_of, subcommand_of, subcommand_rows_of};
 ghost use Rattle.clap.specs.declared.builder.Command.TheViews.{out-Command};
 ghost use Rattle.px_cli.specs.declared.words.Words.TheVariants as words_of;
-ghost use Rattle.px_cli.specs.Words.{bare, exifnorm, name_of, of_one, of_two, Asks, AsksFiles, AsksIn, AreTaken, IsTold};
+ghost use Rattle.px_cli.specs.Words.{bare, exifnorm, name_of, of_one, of_two, Asks, AsksFiles, AsksIn, AreTaken, IsTold, TakesCommands};
 
 use clap::error::ErrorKind;
 use clap::{Arg, ArgMatches, Command, Error};
 use std::alloc::{AllocError, Global};
+use std::convert::AsStr;
 use std::marker::Model;
 
 /// A text of its own, seen as its characters in UTF-8.
@@ -64,13 +65,20 @@ pub enum Words {
     Normalise { file: Text, out: Text },
     /// Two files are compared.
     Compare { first: Text, second: Text },
-    /// The words ask for this help.
+    /// The words ask for this text: help, or the version.
     Help(Text),
     /// The words are refused, for this reason.
     Refused(Text),
     /// Memory was refused.
     NoMemory,
 }
+
+const NAME: &str = "exifnorm";
+
+const VERSION: &str = "1.0.0";
+
+/// The text of a refusal where `normalise` has one file under both names.
+pub const OUT_IS_FILE: &str = "refused words: OUT is FILE";
 
 const ABOUT: &str =
     "Reads a block of Exif or IPTC (IIM) metadata, and writes its normal form. Without words it normalises standard input to standard output.";
@@ -112,17 +120,21 @@ fn of_two<'a>(
         .arg(second)
 }
 
-// The command, as yet without its subcommands.
-fn bare<'a>(alloc: Global) -> Command<'a>
-    ensures shape { app_of result ≡ bare }
-    ensures local { (out-Command result).has_globals ≡ false }
+// The command, as yet without its subcommands. Its name stands in usage lines whatever the program's file is called.
+fn bare<'a>(alloc: Global) -> Result<Command<'a>, AllocError>
+    ensures shape { IfOk result (λ c. app_of c ≡ bare) }
+    ensures local { IfOk result (λ c. (out-Command c).has_globals ≡ false) }
 {
-    Command::new(alloc, "exifnorm")
-        .about(ABOUT)
-        .after_help(STATUSES)
-        .no_binary_name(true)
-        .disable_help_subcommand(true)
-        .subcommand_required(true)
+    let named = Command::new(alloc, NAME).bin_name(NAME)?;
+    Ok(
+        named
+            .version(VERSION)
+            .about(ABOUT)
+            .after_help(STATUSES)
+            .no_binary_name(true)
+            .disable_help_subcommand(true)
+            .subcommand_required(true),
+    )
 }
 
 // The command, whose words are those after the program's name.
@@ -158,8 +170,8 @@ fn command<'a>(alloc: Global) -> Result<Command<'a>, AllocError>
         "FIRST",
         "SECOND",
     )?;
-    bare(alloc)
-        .subcommand(show)?
+    let bare = bare(alloc)?;
+    bare.subcommand(show)?
         .subcommand(check)?
         .subcommand(captions)?
         .subcommand(normalise)?
@@ -211,7 +223,7 @@ fn read_normalise(alloc: Global, inner: &ArgMatches<'_>) -> Words
         return Words::NoMemory;
     };
     if file.as_str() == out.as_str() {
-        return refuse(alloc, "refused words: OUT is FILE");
+        return refuse(alloc, OUT_IS_FILE);
     }
     Words::Normalise { file, out }
 }
@@ -275,18 +287,24 @@ fn read_error(alloc: Global, error: &Error) -> Words
     let Ok(text) = format!(in alloc; "{error}") else {
         return Words::NoMemory;
     };
-    if kind == ErrorKind::DisplayHelp {
+    if kind == ErrorKind::DisplayHelp || kind == ErrorKind::DisplayVersion {
         return Words::Help(Text { text });
     }
     Words::Refused(Text { text })
 }
 
+// What users write is taken by the command: each of its commands with its files.
+#[allow(dead_code)]
+fn commands_are_taken()
+    ensures { TakesCommands }
+{}
+
 /// What the words after the program's name ask for. No words are `Filter`, and are not handed to
 /// clap.
-pub fn parse<'a>(alloc: Global, words: &'a [&'a str]) -> Words
-    ensures filter { words.entry.now ≡ [] ↔ result ≡ words_of.Filter }
-    ensures asked { Asks (subcommand_of exifnorm (map (λ w. w.now) words.entry.now)) result }
-    ensures taken { AreTaken (map (λ w. w.now) words.entry.now) → AsksFiles (subcommand_of exifnorm (map (λ w. w.now) words.entry.now)) result }
+pub fn parse<'a, S: AsStr>(alloc: Global, words: &'a [S]) -> Words
+    ensures filter { map S.text words.entry.now ≡ [] ↔ result ≡ words_of.Filter }
+    ensures asked { Asks (subcommand_of exifnorm (map S.text words.entry.now)) result }
+    ensures taken { AreTaken (map S.text words.entry.now) → AsksFiles (subcommand_of exifnorm (map S.text words.entry.now)) result }
 {
     if words.is_empty() {
         return Words::Filter;

@@ -19,7 +19,7 @@ with_normalise = with_subcommand with_captions (of_two (codes "normalise") (code
 pub returns : goal.returns
 returns c =
     let show : app_of c.in_ok-subcommand.field-0 ≡ with_show = c.in_ok-subcommand.ensures.shape c.in_ok-show.ensures.local
-    ∙ ap₂ with_subcommand c.bare.ensures.shape c.in_ok-show.ensures.shape in
+    ∙ ap₂ with_subcommand c.in_ok-bare.ensures.shape c.in_ok-show.ensures.shape in
     let check : app_of c.in_ok-subcommand-2.field-0 ≡ with_check = c.in_ok-subcommand-2.ensures.shape c.in_ok-check.ensures.local
     ∙ ap₂ with_subcommand show c.in_ok-check.ensures.shape in
     let captions : app_of c.in_ok-subcommand-3.field-0 ≡ with_captions = c.in_ok-subcommand-3.ensures.shape c.in_ok-captions.ensures.local
