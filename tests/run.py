@@ -118,6 +118,7 @@ class Parts:
     def all(self):
         yield "cases", self.plain()
         yield "cases, with growths refused in turn", self.refusing([it for it in self.cases if isinstance(it, Case) and it.refuses_growths], every)
+        yield "what the cases cost", self.costing([it for it in self.cases if is_counted(it)])
         small = self.chosen(small_kinds())
         yield "blocks of every kind, and what they cost", self.costing(small)
         yield "blocks of every kind, with growths refused", self.refusing(small, sample)
@@ -147,11 +148,16 @@ class Parts:
 
     def costing(self, cases):
         for case in cases:
-            yield case.name, lambda case=case: complaints_of_cost(self.program, self.watch, case, complaints_of)
+            yield f"{case.name}, and its cost", lambda case=case: complaints_of_cost(self.program, self.watch, case, complaints_of)
 
     def failing(self, cases):
         for case in cases:
             yield f"{case.name}, where a device fails once", lambda case=case: complaints_of_failures(self.program, self.watch, case)
+
+
+def is_counted(case):
+    """Whether what a run costs can be told: it reads files or a whole input, and its standard output is read."""
+    return isinstance(case, Case) and not (case.endless or case.output_to or case.in_pieces or case.folders)
 
 
 def all_of(tests, pool, failures):

@@ -10,6 +10,7 @@ from program import run
 SECONDS = 60
 ROOM = 8192  # what waits for a writer at most
 CHUNK = 65536  # what is read at once at most
+WORDS = 48 * 1024  # what reading the command line takes at most
 
 
 @dataclass
@@ -37,22 +38,28 @@ def watched(program, shim, case, **failing):
     return outcome, Counts(*map(int, told)) if told else None
 
 
+def blocks_read(case):
+    """The blocks that a run reads."""
+    if not case.words:
+        return [case.files[case.input_from] if case.input_from else case.input]
+    named = [case.files[name] for name in case.words[1:] if name in case.files]
+    return named[:1] if case.words[0] == "normalise" else named
+
+
 def limits_of(case, outcome):
     """The most that a run may cost. Memory is in proportion to what is read, beside one buffer a file and what the words take; a
     group of DataSets has a list of its own, which grows by doubling. A file is read in whole buffers; a text goes out in one
     write, and a normal form in one where it fits into what waits, else in writes of which any two make up more than that."""
-    blocks = [case.files[case.input_from]] if case.input_from else [case.files[name] for name in case.words[1:] if name in case.files]
-    if case.words[:1] == ["normalise"]:
-        blocks = blocks[:1]
+    blocks = blocks_read(case)
     size, files = sum(map(len, blocks)), len(blocks)
-    form = outcome.files.get("OUT", b"") if case.words[:1] == ["normalise"] else outcome.output if not case.words else b""
+    form = outcome.files.get("OUT", b"") if case.words[:1] == ["normalise"] and not outcome.status else outcome.output if not case.words else b""
     depth = 2 + (case.datasets // case.groups).bit_length() if case.groups else 0
     return Counts(
-        calls=90 + 40 * files + files * case.groups * depth,
-        asked=18 * size + files * (3 * CHUNK + 400 * case.groups),
-        held=6 * size + files * (2 * CHUNK + 160 * case.groups),
-        reads=size // CHUNK + 3 * files,
-        writes=1 if len(form) <= ROOM else 2 * len(form) // ROOM + 2,
+        calls=110 + 40 * files + files * case.groups * depth,
+        asked=18 * size + files * (3 * CHUNK + 400 * case.groups) + WORDS,
+        held=6 * size + files * (2 * CHUNK + 160 * case.groups) + WORDS,
+        reads=size // CHUNK + 3 * files if not case.input else size + 2,  # a pipe gives as much as it likes
+        writes=(1 if len(form) <= ROOM else 2 * len(form) // ROOM + 2) + (outcome.status == 4),  # a failed one, and the line
         failed=0,
     )
 
