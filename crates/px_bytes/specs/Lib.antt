@@ -12,6 +12,9 @@ pub mod Watching
 pub mod WriteLaws
 pub mod Waiting
 pub mod WaitingLaws
+pub mod Grown
+pub mod Lacking
+pub mod Writing
 pub mod Reading
 pub mod Held
 pub mod Marked

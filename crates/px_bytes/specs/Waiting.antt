@@ -1,5 +1,5 @@
 -- Bytes that wait for a writer.
-use Rattle.std.specs.Prelude.{◌≡◌, ℕ, List, ◌++◌, Option, Result, Ok, Err}
+use Rattle.std.specs.Prelude.{◌≡◌, ◌≤◌, ◌+◌, ℕ, List, length, ◌++◌, Option, Result, Ok, Err}
 use Rattle.std.specs.Io.KnownBytes.{Appends}
 use Rattle.px_bytes.specs.Devices.{AppendsPrefix}
 
@@ -11,3 +11,7 @@ Owes old new held out = (w : List ℕ) × Appends old new w × (w ++ held ≡ ou
 abbrev pub Puts : {A E : Type 0} → Result A E → Option (List ℕ) → Option (List ℕ) → List ℕ → List ℕ → List ℕ → Type 0
 Puts (Ok x) old new held held_now bytes = Owes old new held_now (held ++ bytes)
 Puts (Err e) old new held held_now bytes = AppendsPrefix old new (held ++ bytes)
+
+-- the bytes can wait with those held
+abbrev pub Fits : List ℕ → List ℕ → Type 0
+Fits held bytes = length held + length bytes ≤ 8192

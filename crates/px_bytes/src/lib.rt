@@ -1,7 +1,8 @@
 //! What every part that reads or writes blocks of metadata stands on: numbers in either byte order,
 //! bytes of bounded length, ranges that share no byte, the causes of a refusal, readers and writers
-//! that count their failures, and bytes that wait for a writer. It knows nothing of directories,
-//! types or DataSets, opens no file, and takes memory in `Ranges::add` and `read_up_to` alone.
+//! that count their failures, bytes that wait for a writer, and memory that tells whether it has
+//! refused a growth. It knows nothing of directories, types or DataSets, opens no file, and takes
+//! memory by the calls of `Memory` alone.
 //!
 //! ```
 //! let header = b"MM\x00\x2a\x00\x00\x00\x08";
@@ -19,9 +20,15 @@
 
 mod blocks;
 mod causes;
+#[cfg(test)]
+mod device_tests;
 mod devices;
+mod growing;
 mod held;
 mod marks;
+mod memory;
+#[cfg(test)]
+mod memory_tests;
 mod numbers;
 mod pending;
 #[cfg(test)]
@@ -31,7 +38,9 @@ mod whole;
 pub use blocks::{Block, LIMIT};
 pub use causes::{Cause, Refusal, WriteRefusal};
 pub use devices::{Device, Failed, Sink, Source, Watched};
+pub use growing::Growing;
 pub use held::Ranges;
+pub use memory::{Memory, Refused};
 pub use numbers::{LeastFirst, MostFirst, Order, Spelling};
 pub use pending::Pending;
-pub use whole::{ReadFault, read_up_to, write_whole};
+pub use whole::{ReadFault, read_up_to, read_up_to_in, write_whole};

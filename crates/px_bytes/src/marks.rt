@@ -1,9 +1,10 @@
 // Sets of numbers as bits, which tell the greatest number below another.
-ghost use Rattle.std.specs.Prelude.{◌≡◌, ◌≢◌, ℕ, ◌+◌, ◌*◌, ◌/◌, ◌<◌, ◌≤◌, List, [], length, get_or, max, IfSome, IfNone, OnOk, OnErr};
+ghost use Rattle.std.specs.Prelude.{◌≡◌, ◌≢◌, ℕ, ◌+◌, ◌*◌, ◌/◌, ◌<◌, ◌≤◌, List, [], false, length, get_or, max, IfSome, IfNone, OnOk, OnErr};
 ghost use Rattle.std.specs.Int.{bit_at};
+ghost use Rattle.px_bytes.specs.Lacking.{Lacks, MayAsk};
 ghost use Rattle.px_bytes.specs.Marks.{Has, Sums, IsLast, HasNone, IsLastWord, HasNoWord, SameMarks, MarkedAt};
 
-use std::alloc::{AllocError, Global};
+use crate::memory::{Memory, Refused};
 use std::marker::Model;
 
 // How many marks a word has.
@@ -136,17 +137,19 @@ fn last_of_three(second: &[u64], third: &[u64], fourth: &[u64], n: usize) -> Opt
 }
 
 // Makes a row at least so long, with no further mark.
-fn grow(words: &mut Vec<u64>, len: usize) -> Result<(), AllocError>
+fn grow(memory: &mut Memory, words: &mut Vec<u64>, len: usize) -> Result<(), Refused>
+    requires { MayAsk len }
     ensures same { SameMarks words.old.items words.new.items }
     ensures longer { length words.old.items ≤ length words.new.items }
     ensures most { length words.new.items ≤ max (length words.old.items) len }
     ensures room { OnOk result (len ≤ length words.new.items) }
     ensures err { OnErr result (words.new.items ≡ words.old.items) }
+    ensures memory { Lacks result memory.old memory.new }
 {
     if len <= words.len() {
         return Ok(());
     }
-    words.resize(len, 0)
+    memory.resize(words, len, 0)
 }
 
 fn mark(words: &mut Vec<u64>, n: usize)
@@ -169,30 +172,44 @@ fn mark_once(words: &mut Vec<u64>, n: usize)
 
 impl Marks {
     /// No number. It takes no memory.
-    pub fn new(alloc: Global) -> Marks
+    pub fn new(memory: &Memory) -> Marks
         ensures { result ≡ [] }
     {
         Marks {
-            first: Vec::new(alloc),
-            second: Vec::new(alloc),
-            third: Vec::new(alloc),
-            fourth: Vec::new(alloc),
+            first: memory.list(),
+            second: memory.list(),
+            third: memory.list(),
+            fourth: memory.list(),
         }
     }
 
+    /// Memory of the allocator that the rows keep.
+    pub fn memory(&self) -> Memory
+        ensures { result ≡ false }
+    {
+        Memory::new(*self.first.allocator())
+    }
+
     /// Makes room for each number up to `n`: a bit for each, and a 63rd of that for the further rows.
-    pub fn reserve(&mut self, n: usize) -> Result<(), AllocError>
+    pub fn reserve(&mut self, memory: &mut Memory, n: usize) -> Result<(), Refused>
+        requires { MayAsk n }
         ensures same { SameMarks self.old self.new }
         ensures room { OnOk result (n / 64 < length self.new) }
+        ensures most { length self.new ≤ max (length self.old) (n / 64 + 1) }
         ensures err { OnErr result (self.new ≡ self.old) }
+        ensures memory { Lacks result memory.old memory.new }
     {
         if n / WIDTH < self.first.len() {
             return Ok(());
         }
-        grow(&mut self.fourth, n / WIDTH / WIDTH / WIDTH / WIDTH + 1)?;
-        grow(&mut self.third, n / WIDTH / WIDTH / WIDTH + 1)?;
-        grow(&mut self.second, n / WIDTH / WIDTH + 1)?;
-        grow(&mut self.first, n / WIDTH + 1)
+        grow(
+            memory,
+            &mut self.fourth,
+            n / WIDTH / WIDTH / WIDTH / WIDTH + 1,
+        )?;
+        grow(memory, &mut self.third, n / WIDTH / WIDTH / WIDTH + 1)?;
+        grow(memory, &mut self.second, n / WIDTH / WIDTH + 1)?;
+        grow(memory, &mut self.first, n / WIDTH + 1)
     }
 
     /// Puts `n` into the set.

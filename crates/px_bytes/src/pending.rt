@@ -1,7 +1,7 @@
 // Bytes on their way to a writer, which gets them in large writes.
-ghost use Rattle.std.specs.Prelude.{◌≡◌, ◌≤◌, ◌<◌, ◌+◌, ◌^◌, ◌++◌, [], ℕ, length, take, OnOk};
+ghost use Rattle.std.specs.Prelude.{◌≡◌, ◌≤◌, ◌<◌, ◌+◌, ◌^◌, ◌++◌, [], ℕ, length, take, OnOk, IsOk};
 ghost use Rattle.px_bytes.specs.Devices.{Counts, Writes};
-ghost use Rattle.px_bytes.specs.Waiting.{Puts};
+ghost use Rattle.px_bytes.specs.Waiting.{Fits, Puts};
 
 use crate::devices::{Failed, Sink};
 use crate::whole::write_whole;
@@ -50,7 +50,7 @@ impl Pending {
 
     // Holds the bytes behind those that wait.
     fn keep(&mut self, bytes: &[u8])
-        requires { length self.old + length bytes.now ≤ 8192 }
+        requires { Fits self.old bytes.now }
         ensures { self.new ≡ self.old ++ bytes.now }
     {
         let end = self.held + bytes.len();
@@ -58,26 +58,29 @@ impl Pending {
         self.held = end;
     }
 
-    /// Writes those that wait. It ends at the first call that fails: the writer has then taken a prefix of them, and nothing
-    /// is promised of what waits.
+    /// Writes those that wait; where none does, it calls nothing. It ends at the first call that fails: the writer has then
+    /// taken a prefix of them, and nothing is promised of what waits.
     pub fn send<W: Sink>(&mut self, writer: &mut W) -> Result<(), Failed>
         requires { W.failed writer.old + 1 < 2 ^ 64 }
         ensures bytes { Writes result (W.bytes_taken writer.old) (W.bytes_taken writer.new) self.old }
         ensures count { Counts result (W.failed writer.old) (W.failed writer.new) }
         ensures none { OnOk result (self.new ≡ []) }
+        ensures idle { self.old ≡ [] → IsOk result × (writer.new ≡ writer.old) }
     {
         write_whole(writer, &self.bytes[..self.held])?;
         self.held = 0;
         Ok(())
     }
 
-    /// Puts the bytes behind those that wait. Where there is no room for them, those that wait are written first, and more
-    /// than can wait are written at once. It ends at the first call that fails: the writer has then taken a prefix of those
-    /// that waited and of these behind them.
+    /// Puts the bytes behind those that wait: where these are 8,192 bytes together, or fewer, all of them wait, and the writer
+    /// isn't called. Where there is no room for them, those that wait are written first, and more than can wait are written
+    /// at once. It ends at the first call that fails: the writer has then taken a prefix of those that waited and of these
+    /// behind them.
     pub fn put<W: Sink>(&mut self, writer: &mut W, bytes: &[u8]) -> Result<(), Failed>
         requires { W.failed writer.old + 1 < 2 ^ 64 }
         ensures bytes { Puts result (W.bytes_taken writer.old) (W.bytes_taken writer.new) self.old self.new bytes.now }
         ensures count { Counts result (W.failed writer.old) (W.failed writer.new) }
+        ensures waits { Fits self.old bytes.now → IsOk result × (self.new ≡ self.old ++ bytes.now) × (writer.new ≡ writer.old) }
     {
         if bytes.len() > self.room() {
             self.send(writer)?;

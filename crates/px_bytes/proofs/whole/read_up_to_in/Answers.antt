@@ -2,7 +2,7 @@ use Rattle.std.proofs.Common.{ℕ, arith}
 use Rattle.std.proofs.lemmas.List.{length-take}
 use Rattle.std.proofs.lemmas.Result.{err_from_is_err_and}
 use Rattle.px_bytes.proofs.Lost.{lost_after}
-use Rattle.px_bytes.proofs.whole.read_up_to.Goals as goal
+use Rattle.px_bytes.proofs.whole.read_up_to_in.Goals as goal
 
 pub returns-in_err-append_some-clause-lost : goal.returns-in_err-append_some-clause-lost
 returns-in_err-append_some-clause-lost g c =

@@ -1,0 +1,100 @@
+// A writer that keeps what it takes.
+ghost use Rattle.std.specs.Prelude.{◌≡◌, ◌<◌, ◌≤◌, ◌+◌, [], IfOk, IsErr, IsTrue, ◌↔◌};
+ghost use Rattle.px_bytes.specs.Lacking.{Lacks, MayAsk};
+
+use crate::devices::{Device, Failed, Sink};
+use crate::memory::{Memory, Refused};
+use std::marker::Model;
+
+/// A writer that keeps the bytes it takes in a vector, in memory that tells whether a growth was refused:
+/// a call of it fails exactly where its vector was refused room. Contracts see the bytes taken, and how
+/// many of its calls have failed.
+#[derive(Drop)]
+pub struct Growing {
+    memory: Memory,
+    taken: Vec<u8>,
+    refusals: u64,
+}
+
+impl Model for Growing {
+    ghost use Rattle.std.specs.Prelude.{◌≡◌, nat_lt};
+    ghost use Rattle.px_bytes.specs.Grown.{Grown};
+
+    ghost Value = { Grown };
+
+    ghost view = { λ g. record { taken = g.taken.items; refusals = g.refusals } };
+
+    // Its memory has refused a growth exactly where a call has failed.
+    ghost invariant = { λ g. g.memory ≡ nat_lt 0 g.refusals };
+}
+
+impl Growing {
+    /// No byte, and no call that failed. It takes no memory.
+    pub fn new(memory: &Memory) -> Growing
+        ensures { result ≡ record { taken = []; refusals = 0 } }
+    {
+        Growing {
+            memory: memory.fresh(),
+            taken: memory.list(),
+            refusals: 0,
+        }
+    }
+
+    /// The same with room for so many bytes, at most 33,554,432: no call fails until they are taken.
+    pub fn with_room_in(memory: &mut Memory, room: usize) -> Result<Growing, Refused>
+        requires { MayAsk room }
+        ensures none { IfOk result (λ g. g ≡ record { taken = []; refusals = 0 }) }
+        ensures memory { Lacks result memory.old memory.new }
+    {
+        let mut taken = memory.list();
+        memory.reserve(&mut taken, room)?;
+        Ok(Growing {
+            memory: memory.fresh(),
+            taken,
+            refusals: 0,
+        })
+    }
+
+    /// The bytes that were taken; where a call has failed, that a growth was refused.
+    pub fn finish_in(self, memory: &mut Memory) -> Result<Vec<u8>, Refused>
+        ensures bytes { IfOk result (λ bytes. bytes.items ≡ self.taken) }
+        ensures which { IsErr result ↔ (0 < self.refusals) }
+        ensures memory { Lacks result memory.old memory.new }
+    {
+        let Growing {
+            memory: own,
+            taken,
+            refusals: _,
+        } = self;
+        memory.join(&own)?;
+        Ok(taken)
+    }
+}
+
+impl Device for Growing {
+    ghost failed = { λ g. g.refusals };
+
+    fn failures(&self) -> u64 {
+        self.refusals
+    }
+}
+
+impl Sink for Growing {
+    ghost use Rattle.std.specs.Prelude.{Some};
+
+    ghost bytes_taken = { λ g. Some g.taken };
+
+    fn write_some(&mut self, buf: &[u8]) -> Result<usize, Failed> {
+        match self.memory.extend_from_slice(&mut self.taken, buf) {
+            Ok(()) => Ok(buf.len()),
+            Err(_) => {
+                self.refusals += 1;
+                Err(Failed)
+            }
+        }
+    }
+
+    fn flush_all(&mut self) -> Result<(), Failed> {
+        Ok(())
+    }
+}

@@ -1,0 +1,245 @@
+// Memory, which tells whether it has refused a growth.
+ghost use Rattle.std.specs.Prelude.{◌≡◌, ◌≤◌, ◌<◌, ◌+◌, ◌-◌, ◌++◌, ◌∷◌, [], true, false, length, take, replicate, insert, max, vec_len, vec_capacity, string_bytes, string_len, string_capacity, is_ok, is_some, if◌then◌else◌, IfOk, OnOk, OnErr, IsOk, IsErr, ◌↔◌, None, Some};
+ghost use Rattle.std.specs.BTreeMap.{get, insert_entry, btree_map_len, IsUnchanged, Updates};
+ghost use Rattle.px_bytes.specs.Lacking.{Lacks, MayAsk};
+
+use std::alloc::{AllocError, Global};
+use std::collections::BTreeMap;
+use std::marker::Model;
+use thiserror::Error;
+
+/// A growth was refused. `Memory` alone makes one.
+#[derive(Debug, Drop, Error)]
+#[error("out of memory")]
+pub struct Refused {
+    _made: (),
+}
+
+impl From<Refused> for AllocError {
+    fn from(_: Refused) -> AllocError {
+        AllocError
+    }
+}
+
+/// The memory that a run may take. Contracts see whether it has refused a growth, as a truth value that
+/// starts false. Its calls are the only ones that let a vector, a map or a text grow: each one that fails
+/// has met a refused growth, and leaves what should grow as it was.
+///
+/// Room for many elements at once is asked for by `reserve` and `resize` alone, and at most for twice as
+/// many as a block has bytes: no request that memory could never meet can pass for a refusal.
+#[derive(Drop)]
+pub struct Memory {
+    alloc: Global,
+    refused: bool,
+}
+
+impl Model for Memory {
+    ghost use Rattle.std.specs.Prelude.{Bool};
+
+    ghost Value = { Bool };
+
+    ghost view = { λ m. m.refused };
+}
+
+impl Memory {
+    /// Memory that has refused nothing.
+    pub fn new(alloc: Global) -> Memory
+        ensures { result ≡ false }
+    {
+        Memory {
+            alloc,
+            refused: false,
+        }
+    }
+
+    /// Whether it has refused a growth.
+    pub fn has_refused(&self) -> bool
+        ensures { result ≡ self.now }
+    {
+        self.refused
+    }
+
+    /// Memory of the same allocator that has refused nothing.
+    pub fn fresh(&self) -> Memory
+        ensures { result ≡ false }
+    {
+        Memory::new(self.alloc)
+    }
+
+    /// Tells as its own what other memory has refused: `Err` exactly where that has refused a growth.
+    pub fn join(&mut self, other: &Memory) -> Result<(), Refused>
+        ensures which { IsErr result ↔ (other.now ≡ true) }
+        ensures memory { Lacks result self.old self.new }
+    {
+        if other.refused {
+            return Err(self.refuse());
+        }
+        Ok(())
+    }
+
+    // Tells that a growth was refused.
+    fn refuse(&mut self) -> Refused
+        ensures { self.new ≡ true }
+    {
+        self.refused = true;
+        Refused { _made: () }
+    }
+
+    /// An empty vector. It takes no memory.
+    pub fn list<T>(&self) -> Vec<T>
+        ensures items { result.items ≡ [] }
+        ensures len { vec_len result ≡ 0 }
+    {
+        Vec::new(self.alloc)
+    }
+
+    /// An empty map. It takes no memory.
+    pub fn map<K: Ord, V>(&self) -> BTreeMap<K, V>
+        ensures entries { result.entries ≡ [] }
+        ensures len { btree_map_len result ≡ 0 }
+    {
+        BTreeMap::new(self.alloc)
+    }
+
+    /// An empty text. It takes no memory.
+    pub fn text(&self) -> String
+        ensures bytes { string_bytes result ≡ [] }
+        ensures len { string_len result ≡ 0 }
+    {
+        String::new(self.alloc)
+    }
+
+    /// Puts an element behind the others. On `Err` the vector's elements are as they were, and there was
+    /// no room for one more.
+    pub fn push<T: Drop>(&mut self, list: &mut Vec<T>, x: T) -> Result<(), Refused>
+        ensures items { list.new.items ≡ (if is_ok result then list.old.items ++ x ∷ [] else list.old.items) }
+        ensures len { vec_len list.new ≡ (if is_ok result then vec_len list.old + 1 else vec_len list.old) }
+        ensures capacity { vec_capacity list.old ≤ vec_capacity list.new }
+        ensures full { OnErr result (vec_capacity list.old ≤ vec_len list.old) }
+        ensures memory { Lacks result self.old self.new }
+    {
+        match list.push(x) {
+            Ok(()) => Ok(()),
+            Err(_) => Err(self.refuse()),
+        }
+    }
+
+    /// Puts an element before the one at `index`, which is at most the number of elements. On `Err` the
+    /// vector's elements are as they were, and there was no room for one more.
+    pub fn insert<T: Drop>(&mut self, list: &mut Vec<T>, index: usize, x: T) -> Result<(), Refused>
+        requires { index ≤ vec_len list.old }
+        ensures items { list.new.items ≡ (if is_ok result then insert list.old.items index x else list.old.items) }
+        ensures len { vec_len list.new ≡ (if is_ok result then vec_len list.old + 1 else vec_len list.old) }
+        ensures full { OnErr result (vec_capacity list.old ≤ vec_len list.old) }
+        ensures memory { Lacks result self.old self.new }
+    {
+        match list.insert(index, x) {
+            Ok(()) => Ok(()),
+            Err(_) => Err(self.refuse()),
+        }
+    }
+
+    /// Makes room for so many more, at most 33,554,432. On `Err` that room was missing; the elements are as
+    /// they were in either case.
+    pub fn reserve<T>(&mut self, list: &mut Vec<T>, more: usize) -> Result<(), Refused>
+        requires { MayAsk more }
+        ensures items { list.new.items ≡ list.old.items }
+        ensures len { vec_len list.new ≡ vec_len list.old }
+        ensures room { OnOk result (vec_len list.new + more ≤ vec_capacity list.new) }
+        ensures capacity { vec_capacity list.old ≤ vec_capacity list.new }
+        ensures full { OnErr result (vec_capacity list.old < vec_len list.old + more) }
+        ensures memory { Lacks result self.old self.new }
+    {
+        match list.reserve(more) {
+            Ok(()) => Ok(()),
+            Err(_) => Err(self.refuse()),
+        }
+    }
+
+    /// Makes room for exactly so many more, at most 33,554,432; else as `reserve`.
+    pub fn reserve_exact<T>(&mut self, list: &mut Vec<T>, more: usize) -> Result<(), Refused>
+        requires { MayAsk more }
+        ensures items { list.new.items ≡ list.old.items }
+        ensures len { vec_len list.new ≡ vec_len list.old }
+        ensures room { OnOk result (vec_len list.new + more ≤ vec_capacity list.new) }
+        ensures exact { OnOk result (vec_capacity list.new ≡ max (vec_capacity list.old) (vec_len list.old + more)) }
+        ensures kept { OnErr result (vec_capacity list.new ≡ vec_capacity list.old) }
+        ensures full { OnErr result (vec_capacity list.old < vec_len list.old + more) }
+        ensures memory { Lacks result self.old self.new }
+    {
+        match list.reserve_exact(more) {
+            Ok(()) => Ok(()),
+            Err(_) => Err(self.refuse()),
+        }
+    }
+
+    /// Puts copies of the elements behind the others. On `Err` the vector's elements are as they were, and
+    /// there was no room for all of these.
+    pub fn extend_from_slice<T: Copy>(
+        &mut self,
+        list: &mut Vec<T>,
+        more: &[T],
+    ) -> Result<(), Refused>
+        ensures items { list.new.items ≡ (if is_ok result then list.old.items ++ more.now else list.old.items) }
+        ensures len { vec_len list.new ≡ (if is_ok result then vec_len list.old + length more.now else vec_len list.old) }
+        ensures capacity { vec_capacity list.old ≤ vec_capacity list.new }
+        ensures succeeds { vec_len list.old + length more.now ≤ vec_capacity list.old → IsOk result }
+        ensures full { OnErr result (vec_capacity list.old < vec_len list.old + length more.now) }
+        ensures memory { Lacks result self.old self.new }
+    {
+        match list.extend_from_slice(more) {
+            Ok(()) => Ok(()),
+            Err(_) => Err(self.refuse()),
+        }
+    }
+
+    /// Cuts it to `n` elements, at most 33,554,432, or fills it up with `x`. On `Err` the vector's elements
+    /// are as they were, and there was no room for `n`.
+    pub fn resize<T: Copy>(&mut self, list: &mut Vec<T>, n: usize, x: T) -> Result<(), Refused>
+        requires { MayAsk n }
+        ensures items { list.new.items ≡ (if is_ok result then take n list.old.items ++ replicate (n - vec_len list.old) x else list.old.items) }
+        ensures len { vec_len list.new ≡ (if is_ok result then n else vec_len list.old) }
+        ensures full { OnErr result (vec_capacity list.old < n) }
+        ensures memory { Lacks result self.old self.new }
+    {
+        match list.resize(n, x) {
+            Ok(()) => Ok(()),
+            Err(_) => Err(self.refuse()),
+        }
+    }
+
+    /// Puts a value at a key, and answers the value that stood there before. On `Err` the map is as it was,
+    /// and had nothing at that key.
+    pub fn put<K: Ord + Drop, V: Drop>(
+        &mut self,
+        map: &mut BTreeMap<K, V>,
+        key: K,
+        value: V,
+    ) -> Result<Option<V>, Refused>
+        ensures old { IfOk result (λ old. old ≡ get K.cmp map.old key) }
+        ensures updates { OnOk result (Updates K.cmp map.old map.new key (Some value)) }
+        ensures entries { OnOk result (map.new.entries ≡ insert_entry K.cmp map.old.entries key value) }
+        ensures len { IfOk result (λ old. btree_map_len map.new ≡ btree_map_len map.old + (if is_some old then 0 else 1)) }
+        ensures absent { OnErr result (get K.cmp map.old key ≡ None) }
+        ensures err { OnErr result (IsUnchanged map.old map.new) }
+        ensures memory { Lacks result self.old self.new }
+    {
+        match map.insert(key, value) {
+            Ok(old) => Ok(old),
+            Err(_) => Err(self.refuse()),
+        }
+    }
+
+    /// Puts a text behind another. On `Err` that is as it was, and had no room for all of it.
+    pub fn push_str(&mut self, text: &mut String, more: &str) -> Result<(), Refused>
+        ensures bytes { string_bytes text.new ≡ (if is_ok result then string_bytes text.old ++ more.now else string_bytes text.old) }
+        ensures len { string_len text.new ≡ (if is_ok result then string_len text.old + length more.now else string_len text.old) }
+        ensures full { OnErr result (string_capacity text.old < string_len text.old + length more.now) }
+        ensures memory { Lacks result self.old self.new }
+    {
+        match text.push_str(more) {
+            Ok(()) => Ok(()),
+            Err(_) => Err(self.refuse()),
+        }
+    }
+}
