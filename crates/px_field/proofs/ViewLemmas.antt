@@ -1,5 +1,5 @@
 -- What is seen of a value.
-use Rattle.std.proofs.Common.{◌≡◌, ◌<◌, ◌≤◌, ◌+◌, ◌*◌, ◌/◌, ◌%◌, ℕ, Bool, true, false, List, [], ◌∷◌, suc, length, map, slice_get, Some, ap, ap₂, ◌∙◌, refl, arith}
+use Rattle.std.proofs.Common.{◌≡◌, ◌<◌, ◌≤◌, ◌+◌, ◌*◌, ◌/◌, ◌%◌, ℕ, Bool, true, false, List, [], ◌∷◌, suc, length, map, flat_map, slice_get, Some, ap, ap₂, subst, sym, ◌∙◌, refl, arith}
 use Rattle.std.specs.Option.{option_map}
 use Rattle.std.proofs.Math.Nat.{div-mul-le_self, mul-le-mul_right}
 use Rattle.std.proofs.lemmas.List.{length-map}
@@ -14,8 +14,8 @@ use Rattle.px_field.specs.declared.forms.Kind.TheVariants as kind
 use Rattle.px_field.specs.declared.forms.Element.{Element}
 use Rattle.px_field.specs.declared.forms.Element.TheVariants as element
 use Rattle.px_field.specs.Forms.{size}
-use Rattle.px_field.specs.Values.{elements, widened, count_in, form_in, IsValue, IsWhole, IsOf, Value, is_bytes}
-use Rattle.px_field.specs.ValueLaws.{length-elements, IsValue-value_in, IsValue-whole_in, count_in-whole, elements-bytes}
+use Rattle.px_field.specs.Values.{elements, widened, count_in, form_in, IsValue, IsWhole, IsOf, Value, is_bytes, spell, spelled, value_in, whole_in}
+use Rattle.px_field.specs.ValueLaws.{length-elements, IsValue-value_in, IsValue-whole_in, count_in-whole, elements-bytes, spell-bytes, spelled-value_in, spelled-whole_in, value_in-spelled, whole_in-spelled}
 use Rattle.px_field.specs.Views.{shown}
 
 -- an element lies inside
@@ -85,3 +85,37 @@ pub IsOf-shown : (w : Bool) (o : Order) (f : Form) (raw : List ℕ) (v : Value) 
 IsOf-shown w o f raw v i e whole are seen here =
     let is : IsValue v = rw (← seen) (IsValue-shown w o f raw whole are) in
     all_at (IsOf (form_in v.kind)) v.elements i e is here
+
+-- ---- what is read of the bytes spells them
+
+-- in either order, where an element is one byte
+pub spelled-one : (w : Bool) (o p : Order) (f : Form) (raw : List ℕ) → (w ≡ true → IsWhole f) → size f ≡ 1 → spelled p (shown w o f raw) ≡ raw
+unfolding spelled
+spelled-one w o p f raw whole one =
+    ap (λ (es : List Element). flat_map (spell p) es) (bytes_shown w o f raw whole (bytes_from_size f one)) ∙ spell-bytes p raw
+  where
+    bytes_from_size : (f : Form) → size f ≡ 1 → is_bytes (kind.Of f) ≡ true
+    bytes_from_size form.Byte e = refl
+    bytes_from_size form.Ascii e = refl
+    bytes_from_size form.SByte e = refl
+    bytes_from_size form.Undefined e = refl
+    bytes_from_size form.Utf8 e = refl
+    bytes_from_size _ e = absurd (omega arith)
+
+-- in the order of the reading, where they aren't widened
+pub spelled-plain : (w : Bool) (o p : Order) (f : Form) (raw : List ℕ) → w ≡ false → o ≡ p → length raw % size f ≡ 0 → AreBytes raw → spelled p (shown w o f raw) ≡ raw
+spelled-plain true o p f raw plain same whole are = absurd (cc)
+spelled-plain false o p f raw plain same whole are = rw same (spelled-value_in p f raw whole are)
+
+-- and of LONGs, widened or not
+pub spelled-long : (w : Bool) (o p : Order) (f : Form) (raw : List ℕ) → f ≡ form.Long → o ≡ p → length raw % size f ≡ 0 → AreBytes raw → spelled p (shown w o f raw) ≡ raw
+spelled-long true o p f raw long same whole are = rw (same, long) (spelled-whole_in p raw (subst (λ (g : Form). length raw % size g ≡ 0) long whole) are)
+spelled-long false o p f raw long same whole are = spelled-plain false o p f raw refl same whole are
+
+-- values of one kind that are spelled by the same bytes are the same
+pub same_spelled : (o : Order) (a b : Value) → a.kind ≡ b.kind → IsValue a → IsValue b → spelled o a ≡ spelled o b → a ≡ b
+same_spelled o a b k h j e = go a.kind refl
+  where
+    go : (t : Kind) → a.kind ≡ t → a ≡ b
+    go (kind.Of f) s = sym (value_in-spelled o f a s h) ∙ ap (value_in o f) e ∙ value_in-spelled o f b (sym k ∙ s) j
+    go kind.Whole s = sym (whole_in-spelled o a s h) ∙ ap (whole_in o form.Long) e ∙ whole_in-spelled o b (sym k ∙ s) j

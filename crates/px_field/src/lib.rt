@@ -2,7 +2,8 @@
 //! raw bytes (TIFF 6.0 section 2, "Types", and UTF-8 of Exif 3.0).
 //!
 //! It knows no tags and no directories, reduces no fraction, checks no text, and takes FLOAT and DOUBLE
-//! as bit patterns. A value borrows its raw bytes; `append_value` alone takes memory.
+//! as bit patterns. A value borrows its raw bytes; `append_value` and `append_value_in` alone
+//! take memory.
 //!
 //! ```
 //! let raw = [0x48, 0, 0, 0, 1, 0, 0, 0]; // 72/1, the least significant byte first
@@ -23,8 +24,9 @@ pub mod laws;
 mod spelling;
 #[cfg(test)]
 mod tests;
+mod turning;
 mod values;
 
 pub use forms::{Element, Form, Kind};
-pub use spelling::append_value;
+pub use spelling::{append_value, append_value_in};
 pub use values::{Value, read_value, read_whole, same_value};

@@ -1,5 +1,6 @@
 // Values as bytes, in either order.
 ghost use Rattle.std.specs.Prelude.{◌≡◌, ◌<◌, ◌≤◌, ◌+◌, ◌++◌, ◌*◌, length, take, drop, Some, slice_get, OnOk, OnErr, IsOk, vec_len, vec_capacity};
+ghost use Rattle.px_bytes.specs.Lacking.{Lacks};
 ghost use Rattle.px_field.specs.declared.forms.Element.{Element};
 ghost use Rattle.px_bytes.specs.Numbers.{spelling};
 ghost use Rattle.px_field.specs.Forms.{size};
@@ -7,7 +8,7 @@ ghost use Rattle.px_field.specs.Values.{form_in, spell, spelled};
 
 use crate::forms::Element;
 use crate::values::Value;
-use px_bytes::Order;
+use px_bytes::{Memory, Order, Refused};
 use std::alloc::AllocError;
 
 impl<'a> Value<'a> {
@@ -30,23 +31,46 @@ pub fn append_value(order: Order, value: &Value, out: &mut Vec<u8>) -> Result<()
     ensures done { OnOk result (out.new.items ≡ out.old.items ++ spelled order value.now) }
     ensures failed { OnErr result (out.new.items ≡ out.old.items) }
 {
-    if let Some(bytes) = value.bytes() {
-        return out.extend_from_slice(bytes);
+    let mut memory = Memory::new(*out.allocator());
+    Ok(append_value_in(&mut memory, order, value, out)?)
+}
+
+/// As `append_value`, with memory that tells whether a growth was refused: where the error came, and there
+/// alone. Where the vector has the room there is none.
+pub fn append_value_in(
+    memory: &mut Memory,
+    order: Order,
+    value: &Value,
+    out: &mut Vec<u8>,
+) -> Result<(), Refused>
+    ensures done { OnOk result (out.new.items ≡ out.old.items ++ spelled order value.now) }
+    ensures failed { OnErr result (out.new.items ≡ out.old.items) }
+    ensures room { vec_len out.old + length (spelled order value.now) ≤ vec_capacity out.old → IsOk result }
+    ensures memory { Lacks result memory.old memory.new }
+{
+    if let Some(bytes) = value.in_order(order) {
+        return memory.extend_from_slice(out, bytes);
     }
-    out.reserve(value.size() as usize)?;
-    append_elements(order, value, out)
+    memory.reserve(out, value.size() as usize)?;
+    append_elements(memory, order, value, out)
 }
 
 // Appends the spelling of each element, where there is room for all.
-fn append_elements(order: Order, value: &Value, out: &mut Vec<u8>) -> Result<(), AllocError>
+fn append_elements(
+    memory: &mut Memory,
+    order: Order,
+    value: &Value,
+    out: &mut Vec<u8>,
+) -> Result<(), Refused>
     requires { vec_len out.old + length value.now.elements * size (form_in value.now.kind) ≤ vec_capacity out.old }
     ensures ok { IsOk result }
     ensures done { out.new.items ≡ out.old.items ++ spelled order value.now }
+    ensures memory { memory.new ≡ memory.old }
 {
     let mut piece = [0; 8];
     for i in 0..value.count() {
         let width = value.spell_at(order, i, &mut piece);
-        out.extend_from_slice(&piece[..width])?;
+        memory.extend_from_slice(out, &piece[..width])?;
     }
     Ok(())
 }

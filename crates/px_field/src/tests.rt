@@ -3,8 +3,10 @@ ghost use Rattle.std.specs.Prelude.{◌≡◌, ◌≤◌, ◌%◌, length};
 ghost use Rattle.px_bytes.specs.Parts.{limit};
 ghost use Rattle.px_field.specs.Forms.{size};
 
-use crate::{Element, Form, Kind, append_value, read_value, read_whole, same_value};
-use px_bytes::Order;
+use crate::{
+    Element, Form, Kind, append_value, append_value_in, read_value, read_whole, same_value,
+};
+use px_bytes::{LIMIT, Memory, Order};
 use std::test::Fail;
 
 // TIFF 6.0 section 2, "Types", and type 129 of Exif 3.0: number, type, bytes of an element.
@@ -255,4 +257,79 @@ fn spelled_in_front(rt: HostRuntime) {
     let mut piece = [0xAA; 8];
     assert_eq!(rt; value.spell_at(Order::Most, 1, &mut piece), 4);
     assert_eq!(rt; piece, [0xFF, 0xFF, 0xFF, 0xFE, 0xAA, 0xAA, 0xAA, 0xAA]);
+}
+
+#[test]
+fn bytes_stand_as_they_were_read_in_their_own_order(rt: HostRuntime) {
+    let raw = [1, 2, 3, 4, 5, 6, 7, 8];
+    for (_, form, size) in TYPES {
+        assert!(rt; 8 % form.size() == 0);
+        for (order, other) in [(Order::Least, Order::Most), (Order::Most, Order::Least)] {
+            let value = read_value(form, order, &raw);
+            assert_eq!(rt; value.in_order(order), Some(raw.as_slice()));
+            assert_eq!(rt; value.in_order(other).is_some(), size == 1);
+            assert_eq!(rt; value.width(), size);
+        }
+    }
+    let short = read_whole(Form::Short, Order::Most, &raw);
+    assert_eq!(rt; short.in_order(Order::Most), None);
+    assert_eq!(rt; short.in_order(Order::Least), None);
+    let long = read_whole(Form::Long, Order::Most, &raw);
+    assert_eq!(rt; long.in_order(Order::Most), Some(raw.as_slice()));
+    assert_eq!(rt; long.in_order(Order::Least), None);
+}
+
+#[test]
+fn many_elements_are_turned_at_once(rt: HostRuntime) {
+    let raw = [1, 2, 3, 4, 5, 6, 7, 8];
+    let mut into = [0xAA; 9];
+    let shorts = read_value(Form::Short, Order::Least, &raw);
+    assert_eq!(rt; shorts.count(), 4);
+    assert_eq!(rt; shorts.spell_many(Order::Most, 1, &mut into[..5]), 2);
+    assert_eq!(rt; into, [4, 3, 6, 5, 0xAA, 0xAA, 0xAA, 0xAA, 0xAA]);
+    assert_eq!(rt; shorts.spell_many(Order::Most, 3, &mut into), 1);
+    assert_eq!(rt; shorts.spell_many(Order::Most, 4, &mut into), 0);
+    assert_eq!(rt; shorts.spell_many(Order::Most, 0, &mut into[..1]), 0);
+    assert_eq!(rt; shorts.spell_many(Order::Least, 0, &mut into), 4);
+    assert_eq!(rt; into, [1, 2, 3, 4, 5, 6, 7, 8, 0xAA]);
+    let fraction = read_value(Form::Rational, Order::Most, &raw);
+    assert_eq!(rt; fraction.spell_many(Order::Least, 0, &mut into), 1);
+    assert_eq!(rt; into, [4, 3, 2, 1, 8, 7, 6, 5, 0xAA]);
+    let double = read_value(Form::Double, Order::Least, &raw);
+    assert_eq!(rt; double.spell_many(Order::Most, 0, &mut into), 1);
+    assert_eq!(rt; into, [8, 7, 6, 5, 4, 3, 2, 1, 0xAA]);
+    let longs = read_value(Form::SLong, Order::Least, &raw);
+    assert_eq!(rt; longs.spell_many(Order::Most, 0, &mut into), 2);
+    assert_eq!(rt; into, [4, 3, 2, 1, 8, 7, 6, 5, 0xAA]);
+    let whole = read_whole(Form::Short, Order::Least, &raw);
+    assert_eq!(rt; whole.spell_many(Order::Most, 0, &mut into), 2);
+    assert_eq!(rt; into, [0, 0, 2, 1, 0, 0, 4, 3, 0xAA]);
+}
+
+#[test]
+fn the_longest_value_is_appended(rt: HostRuntime) -> Result<(), Fail> {
+    let raw = vec![in rt.alloc(); 1u8; LIMIT as usize]?;
+    let mut memory = Memory::new(rt.alloc());
+    let mut out = memory.list();
+    let whole = read_whole(Form::Short, Order::Least, raw.as_slice());
+    append_value_in(&mut memory, Order::Most, &whole, &mut out)?;
+    assert_eq!(rt; out.len(), 2 * LIMIT as usize);
+    let mut out = memory.list();
+    let text = read_value(Form::Ascii, Order::Least, raw.as_slice());
+    append_value_in(&mut memory, Order::Most, &text, &mut out)?;
+    assert_eq!(rt; out.len(), LIMIT as usize);
+    assert!(rt; !memory.has_refused());
+    Ok(())
+}
+
+#[test]
+fn a_short_value_takes_little_memory(rt: HostRuntime) -> Result<(), Fail> {
+    let mut out = Vec::new(rt.alloc());
+    append_value(
+        Order::Most,
+        &read_value(Form::Short, Order::Least, &[1, 0]),
+        &mut out,
+    )?;
+    assert!(rt; out.capacity() <= 64);
+    Ok(())
 }

@@ -1,11 +1,12 @@
 // A value: bytes in some order, seen as the elements that they spell.
-ghost use Rattle.std.specs.Prelude.{◌≡◌, ◌<◌, ◌≤◌, ◌+◌, ◌*◌, ◌/◌, ◌%◌, length, map, Some, slice_get, IsTrue, ◌↔◌, IsSome, IfSome};
+ghost use Rattle.std.specs.Prelude.{◌≡◌, ◌<◌, ◌≤◌, ◌+◌, ◌-◌, ◌*◌, ◌/◌, ◌%◌, length, map, flat_map, take, drop, min, Some, slice_get, IsTrue, ◌↔◌, IsSome, IfSome};
 ghost use Rattle.px_bytes.specs.declared.Order.{Order};
 ghost use Rattle.px_bytes.specs.Parts.{limit};
 ghost use Rattle.px_field.specs.Forms.{size};
-ghost use Rattle.px_field.specs.Values.{count_in, element_of, elements, form_in, is_bytes, spelled, value_in, whole_in, widened, IsOf, IsValue, IsWhole};
+ghost use Rattle.px_field.specs.Values.{count_in, element_of, elements, form_in, is_bytes, spell, spelled, value_in, whole_in, widened, IsOf, IsValue, IsWhole};
 
 use crate::forms::{Element, Form, Kind};
+use crate::turning::{Way, Width, turn};
 use px_bytes::Order;
 use std::marker::Model;
 
@@ -98,6 +99,28 @@ impl<'a> Value<'a> {
         }
     }
 
+    /// The bytes that were read, where they spell the value in `order` as they stand: where the elements
+    /// are bytes, and where it was read in that order and is written by as many bytes as it was read from.
+    /// `None` for a value that was read in the other order, and for SHORTs that are whole numbers.
+    pub fn in_order(&self, order: Order) -> Option<&'a [u8]>
+        ensures spelled { IfSome result (λ s. s.now ≡ spelled order self.now) }
+        ensures bytes { IsTrue (is_bytes self.now.kind) → IsSome result }
+    {
+        if self.form.size() == 1 {
+            return Some(self.raw);
+        }
+        if self.order != order {
+            return None;
+        }
+        if !self.widened {
+            return Some(self.raw);
+        }
+        match self.form {
+            Form::Long => Some(self.raw),
+            _ => None,
+        }
+    }
+
     /// The number of elements, at most `LIMIT`.
     pub fn count(&self) -> u32
         ensures count { result ≡ length self.now.elements }
@@ -118,6 +141,40 @@ impl<'a> Value<'a> {
         } else {
             element
         }
+    }
+
+    /// The bytes of each element where the value is written: 1, 2, 4 or 8.
+    pub fn width(&self) -> u32
+        ensures { result ≡ size (form_in self.now.kind) }
+    {
+        if self.widened { 4 } else { self.form.size() }
+    }
+
+    /// Puts the bytes of the elements from `i` on in front of `into`, as many elements as there are and
+    /// as `into` has room for, and answers how many. Each of them takes `width` bytes. `i` is at most
+    /// `count`. They are turned round in one pass, which takes no memory.
+    pub fn spell_many(&self, order: Order, i: u32, into: &mut [u8]) -> u32
+        requires { i ≤ length self.now.elements }
+        ensures count { result ≡ min (length self.now.elements - i) (length into.old / size (form_in self.now.kind)) }
+        ensures front { take (result * size (form_in self.now.kind)) into.new
+            ≡ flat_map (spell order) (take result (drop i self.now.elements)) }
+    {
+        let rest = self.count() - i;
+        let width = self.width();
+        let count = how_many(rest, width, into.len());
+        let way = Way {
+            width: Width::of(self.form, self.widened),
+            read: self.order,
+            write: order,
+        };
+        let raw = behind(self.raw, self.form, i, count);
+        turn(
+            way,
+            count as usize,
+            raw,
+            &mut into[..count as usize * width as usize],
+        );
+        count
     }
 
     /// The number of bytes that spell the value in either order. A value of kind `Whole` takes four for
@@ -143,10 +200,25 @@ pub fn same_value(a: &Value, b: &Value) -> bool
     if a.kind() != b.kind() {
         return false;
     }
-    match (a.bytes(), b.bytes()) {
-        (Some(x), Some(y)) => x == y,
-        _ => same_elements(a, b),
+    if let Some(same) = same_bytes(Order::Most, a, b) {
+        return same;
     }
+    if let Some(same) = same_bytes(Order::Least, a, b) {
+        return same;
+    }
+    same_elements(a, b)
+}
+
+// Whether two values of one kind are spelled by the same bytes, where both were read in that order.
+fn same_bytes(order: Order, a: &Value, b: &Value) -> Option<bool>
+    requires kind { a.now.kind ≡ b.now.kind }
+    requires left { IsValue a.now }
+    requires right { IsValue b.now }
+    ensures { IfSome result (λ same. IsTrue same ↔ (a.now ≡ b.now)) }
+{
+    let x = a.in_order(order)?;
+    let y = b.in_order(order)?;
+    Some(x == y)
 }
 
 // Whether two values have the same elements.
@@ -163,6 +235,32 @@ fn same_elements(a: &Value, b: &Value) -> bool
         }
     }
     true
+}
+
+// How many elements of a width have room in so many bytes, of `rest` elements.
+#[tactic(auto, using(crate::proofs::TurnLaws::room_for))]
+fn how_many(rest: u32, width: u32, room: usize) -> u32
+    requires { 0 < width }
+    ensures count { result ≡ min rest (room / width) }
+    ensures fits { result * width ≤ room }
+{
+    let most = room / width as usize;
+    if most < rest as usize {
+        most as u32
+    } else {
+        rest
+    }
+}
+
+// The bytes from the element at `i` on, where so many more are behind it.
+#[tactic(auto, using(crate::proofs::TurnLaws::parts_fit))]
+fn behind(raw: &[u8], form: Form, i: u32, count: u32) -> &[u8]
+    requires bounded { length raw.now ≤ limit }
+    requires inside { i + count ≤ count_in form raw.now }
+    ensures value { result.now ≡ drop (i * size form) raw.now }
+    ensures room { count * size form ≤ length result.now }
+{
+    &raw[i as usize * form.size() as usize..]
 }
 
 // The element at `i` of a type, where the bytes have room for it.

@@ -24,6 +24,7 @@ loop-i-preserved c =
           ∙ ap (λ (l : List ℕ). c.args.out.now.items ++ l) (ap (λ (l : List ℕ). flat_map (spell o) (take i es) ++ l) (c.spell_at-width.ensures.front e here) ∙ sym (spell-take o es i (i + 1) e here (omega arith)));
       len = grind (arith, common_steps, c.spell_at-width.array_long, c.loop-i.invariant.len, c.spell_at-width.ensures.width, c.in_ok-extend_from_slice.ensures.len);
       room = omega (arith, c.loop-i.invariant.room, c.in_ok-extend_from_slice.ensures.capacity);
+      memory = c.in_ok-extend_from_slice.ensures.memory ∙ c.loop-i.invariant.memory;
     }
 
 pub returns-clause-done : goal.returns-clause-done

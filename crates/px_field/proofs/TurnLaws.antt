@@ -1,0 +1,183 @@
+-- Elements turned round one after another.
+use Rattle.std.proofs.Common.{◌≡◌, ℕ, zero, suc, ◌+◌, ◌*◌, ◌/◌, ◌-◌, ◌<◌, ◌≤◌, Bool, true, false, List, [], ◌∷◌, ◌++◌, map, flat_map, length, take, drop, refl, sym, ◌∙◌, ap, ap₂, subst, arith, append_assoc, append-nil, length-append, length-drop}
+use Rattle.std.specs.List.{AllByRecursion}
+use Rattle.std.specs.Int.{w16, w32, cast_signed}
+use Rattle.std.proofs.lemmas.Grind.{common_steps}
+use Rattle.std.proofs.lemmas.Int.{of_z-to_z}
+use Rattle.std.proofs.lemmas.List.{length-take-le}
+use Rattle.std.proofs.Math.Nat.{div-mul-le_self, mul-le-mul_right}
+use Rattle.std.proofs.Math.Seq.{drop-drop}
+use Rattle.std.proofs.lemmas.Slice.{take-put_mid}
+use borrow.Rule.Slice.PartMut.{put_mid}
+use Rattle.px_bytes.specs.declared.Order.{Order}
+use Rattle.px_bytes.specs.Numbers.{number, spelling, AreBytes}
+use Rattle.px_bytes.specs.NumberLaws.{number-lt, length-spelling}
+use Rattle.px_bytes.specs.Parts.{pieces}
+use Rattle.px_field.specs.declared.forms.Form.{Form}
+use Rattle.px_field.specs.declared.forms.Form.TheVariants as form
+use Rattle.px_field.specs.declared.forms.Element.{Element}
+use Rattle.px_field.specs.declared.turning.Width.{Width}
+use Rattle.px_field.specs.declared.turning.Width.TheVariants as width
+use Rattle.px_field.specs.Forms.{size}
+use Rattle.px_field.specs.Values.{spell, element_of, widened, IsWhole, elements, count_in, form_in}
+use Rattle.px_field.specs.Views.{shown}
+use Rattle.px_field.specs.Turning.{width_of, read_by, written_by, turned}
+use Rattle.px_field.specs.PieceLaws.{bytes_take, bytes_drop}
+use Rattle.px_field.specs.ElementLaws.{spell-element_of}
+
+-- ---- pieces
+
+-- the pieces from one on
+pub pieces_first : {A : Type 0} (n c k : ℕ) (x : List A) → n ≤ c → take n (pieces c k x) ≡ pieces n k x
+pieces_first zero c k x h = refl
+pieces_first (suc n) zero k x h = absurd (omega arith)
+pieces_first (suc n) (suc c) k x h = ap (λ ps. take k x ∷ ps) (pieces_first n c k (drop k x) (omega arith))
+
+pub pieces_part : {A : Type 0} (n i c k at : ℕ) (x : List A) → at ≡ i * k → i + n ≤ c → take n (drop i (pieces c k x)) ≡ pieces n k (drop at x)
+pieces_part n zero c k at x e h =
+    let none : at ≡ 0 = omega (arith, e) in
+    rw none (pieces_first n c k x (omega arith))
+pieces_part n (suc i) zero k at x e h = absurd (omega arith)
+pieces_part {A} n (suc i) (suc c) k at x e h =
+    let moved : drop (i * k) (drop k x) ≡ drop at x = grind (arith, common_steps, drop-drop {A = A}, e) in
+    pieces_part n i c k (i * k) (drop k x) refl (omega arith) ∙ ap (pieces n k) moved
+
+-- one piece more
+flat_more : {A B : Type 0} (f : List A → List B) (i k at : ℕ) (x : List A) → at ≡ i * k → flat_map f (pieces (suc i) k x) ≡ flat_map f (pieces i k x) ++ f (take k (drop at x))
+flat_more f zero k at x e =
+    let none : at ≡ 0 = omega (arith, e) in
+    rw none (append-nil (f (take k x)))
+flat_more {A} f (suc i) k at x e =
+    let moved : drop (i * k) (drop k x) ≡ drop at x = grind (arith, common_steps, drop-drop {A = A}, e) in
+    ap (λ l. f (take k x) ++ l) (flat_more f i k (i * k) (drop k x) refl ∙ ap (λ y. flat_map f (pieces i k (drop k x)) ++ f (take k y)) moved)
+    ∙ sym (append_assoc (f (take k x)) (flat_map f (pieces i k (drop k x))) (f (take k (drop at x))))
+
+-- ---- loops over pieces
+
+-- one piece more is written
+pub turn_more : (f : List ℕ → List ℕ) (k i at a m n j : ℕ) (from to ys : List ℕ) → at ≡ i * k → ys ≡ f (take k (drop at from)) → take a to ≡ flat_map f (pieces i k from)
+    → n ≡ a + length ys → a ≤ length to → j ≡ suc i → take n (put_mid a m to ys) ≡ flat_map f (pieces j k from)
+turn_more f k i at a m n j from to ys e y h p l s =
+    take-put_mid a m to ys n p l ∙ ap₂ (λ u v. u ++ v) h y ∙ sym (flat_more f i k at from e) ∙ ap (λ t. flat_map f (pieces t k from)) (sym s)
+
+pub length_pair : (o : Order) (n d : ℕ) → length (spelling o 4 n ++ spelling o 4 d) ≡ 8
+length_pair o n d = length-append (spelling o 4 n) (spelling o 4 d) ∙ ap₂ (λ x y. x + y) (length-spelling o 4 n) (length-spelling o 4 d)
+
+-- bytes are their own pieces
+pub ones : (r o : Order) (n : ℕ) (x : List ℕ) → n ≤ length x → flat_map (turned width.One r o) (pieces n 1 x) ≡ take n x
+ones r o zero x h = refl
+ones r o (suc n) [] h = absurd (omega arith)
+ones r o (suc n) (b ∷ x) h = ap (λ l. b ∷ l) (ones r o n x (omega arith))
+
+-- ---- elements by their bytes
+
+turned_piece : (r o : Order) (f : Form) (p : List ℕ) → length p ≡ size f → AreBytes p → spell o (element_of r f p) ≡ turned (width_of false f) r o p
+turned_piece r o form.Short p l h = refl
+turned_piece r o form.Long p l h = refl
+turned_piece r o form.Float p l h = refl
+turned_piece r o form.Rational p l h = refl
+turned_piece r o form.Double p l h = refl
+turned_piece r o form.SShort p l h = ap (spelling o 2) (of_z-to_z w16 (number r 2 p) (let b = number-lt r 2 p h in b))
+turned_piece r o form.SLong p l h = ap (spelling o 4) (of_z-to_z w32 (number r 4 p) (let b = number-lt r 4 p h in b))
+turned_piece r o form.SRational p l h =
+    ap₂ (λ a b. spelling o 4 a ++ spelling o 4 b)
+    (of_z-to_z w32 (number r 4 (take 4 p)) (let b = number-lt r 4 (take 4 p) (bytes_take 4 p h) in b))
+    (of_z-to_z w32 (number r 4 (drop 4 p)) (let b = number-lt r 4 (drop 4 p) (bytes_drop 4 p h) in b))
+turned_piece r o form.Byte p l h = spell-element_of r form.Byte p l h
+turned_piece r o form.Ascii p l h = spell-element_of r form.Ascii p l h
+turned_piece r o form.SByte p l h = spell-element_of r form.SByte p l h
+turned_piece r o form.Undefined p l h = spell-element_of r form.Undefined p l h
+turned_piece r o form.Utf8 p l h = spell-element_of r form.Utf8 p l h
+
+wide_piece : (r o : Order) (f : Form) (p : List ℕ) → IsWhole f → spell o (widened (element_of r f p)) ≡ turned (width_of true f) r o p
+wide_piece r o form.Short p h = refl
+wide_piece r o form.Long p h = refl
+wide_piece r o _ p h = absurd h
+
+turned_all : (r o : Order) (f : Form) (n : ℕ) (x : List ℕ) → n * size f ≤ length x → AreBytes x
+    → flat_map (spell o) (map (element_of r f) (pieces n (size f) x)) ≡ flat_map (turned (width_of false f) r o) (pieces n (size f) x)
+turned_all r o f zero x l h = refl
+turned_all r o f (suc n) x l h =
+    ap₂ (λ u v. u ++ v) (turned_piece r o f (take (size f) x) (length-take-le (size f) x (omega arith)) (bytes_take (size f) x h))
+    (turned_all r o f n (drop (size f) x) (let d = length-drop (size f) x in omega arith) (bytes_drop (size f) x h))
+
+wide_all : (r o : Order) (f : Form) (n : ℕ) (x : List ℕ) → IsWhole f
+    → flat_map (spell o) (map widened (map (element_of r f) (pieces n (size f) x))) ≡ flat_map (turned (width_of true f) r o) (pieces n (size f) x)
+wide_all r o f zero x h = refl
+wide_all r o f (suc n) x h = ap₂ (λ u v. u ++ v) (wide_piece r o f (take (size f) x) h) (wide_all r o f n (drop (size f) x) h)
+
+part_map : {A B : Type 0} (g : A → B) (n i : ℕ) (xs : List A) → take n (drop i (map g xs)) ≡ map g (take n (drop i xs))
+part_map g n i xs = ap (take n) (from g i xs) ∙ front g n (drop i xs)
+  where
+    from : {A B : Type 0} (g : A → B) (i : ℕ) (xs : List A) → drop i (map g xs) ≡ map g (drop i xs)
+    from g zero xs = refl
+    from g (suc i) [] = refl
+    from g (suc i) (x ∷ xs) = from g i xs
+
+    front : {A B : Type 0} (g : A → B) (n : ℕ) (xs : List A) → take n (map g xs) ≡ map g (take n xs)
+    front g zero xs = refl
+    front g (suc n) [] = refl
+    front g (suc n) (x ∷ xs) = ap (λ l. g x ∷ l) (front g n xs)
+
+-- n elements of what is shown, from i on
+pub part_shown : (w : Bool) (r o : Order) (f : Form) (raw : List ℕ) (n i at : ℕ) → (w ≡ true → IsWhole f) → AreBytes raw → at ≡ i * size f
+    → i + n ≤ count_in f raw → n * size f ≤ length (drop at raw)
+    → flat_map (spell o) (take n (drop i (shown w r f raw).elements)) ≡ flat_map (turned (width_of w f) r o) (pieces n (size f) (drop at raw))
+unfolding elements
+part_shown true r o f raw n i at whole are e inside fits =
+    ap (flat_map (spell o)) (part_map widened n i (map (element_of r f) (pieces (count_in f raw) (size f) raw))
+    ∙ ap (map widened) (part_map (element_of r f) n i (pieces (count_in f raw) (size f) raw)
+    ∙ ap (map (element_of r f)) (pieces_part n i (count_in f raw) (size f) at raw e inside)))
+    ∙ wide_all r o f n (drop at raw) (whole refl)
+part_shown false r o f raw n i at whole are e inside fits =
+    ap (flat_map (spell o)) (part_map (element_of r f) n i (pieces (count_in f raw) (size f) raw)
+    ∙ ap (map (element_of r f)) (pieces_part n i (count_in f raw) (size f) at raw e inside))
+    ∙ turned_all r o f n (drop at raw) fits (bytes_drop at raw are)
+
+-- widths are sizes
+pub read_size : (w : Bool) (f : Form) → (w ≡ true → IsWhole f) → read_by (width_of w f) ≡ size f
+read_size true form.Short h = refl
+read_size true form.Long h = refl
+read_size true _ h = absurd (h refl)
+read_size false form.Byte h = refl
+read_size false form.Ascii h = refl
+read_size false form.Short h = refl
+read_size false form.Long h = refl
+read_size false form.Rational h = refl
+read_size false form.SByte h = refl
+read_size false form.Undefined h = refl
+read_size false form.SShort h = refl
+read_size false form.SLong h = refl
+read_size false form.SRational h = refl
+read_size false form.Float h = refl
+read_size false form.Double h = refl
+read_size false form.Utf8 h = refl
+
+pub written_size : (w : Bool) (r : Order) (f : Form) (raw : List ℕ) → (w ≡ true → IsWhole f) → written_by (width_of w f) ≡ size (form_in (shown w r f raw).kind)
+written_size true r form.Short raw h = refl
+written_size true r form.Long raw h = refl
+written_size true r _ raw h = absurd (h refl)
+written_size false r form.Byte raw h = refl
+written_size false r form.Ascii raw h = refl
+written_size false r form.Short raw h = refl
+written_size false r form.Long raw h = refl
+written_size false r form.Rational raw h = refl
+written_size false r form.SByte raw h = refl
+written_size false r form.Undefined raw h = refl
+written_size false r form.SShort raw h = refl
+written_size false r form.SLong raw h = refl
+written_size false r form.SRational raw h = refl
+written_size false r form.Float raw h = refl
+written_size false r form.Double raw h = refl
+written_size false r form.Utf8 raw h = refl
+
+-- ---- what has room
+
+pub room_for : (n width room : ℕ) → n ≤ room / width → n * width ≤ room
+room_for n width room h = let whole = div-mul-le_self room width in let below = mul-le-mul_right width h in omega arith
+
+pub parts_fit : (i n len : ℕ) (f : Form) → i + n ≤ len / size f → i * size f + n * size f ≤ len
+parts_fit i n len f h =
+    let fits = room_for (i + n) (size f) len h in
+    let split : (i + n) * size f ≡ i * size f + n * size f = omega arith in
+    omega arith

@@ -1,0 +1,9 @@
+use Rattle.std.proofs.Common.{◌≡◌, ◌*◌, take, flat_map}
+use Rattle.px_bytes.specs.Parts.{pieces}
+use Rattle.px_field.specs.declared.turning.Width.TheVariants.{Eight}
+use Rattle.px_field.specs.Turning.{turned}
+use Rattle.px_field.proofs.turning.turn_eight.Given as goal
+
+-- the first elements are written
+abbrev pub invariant-loop-i : goal.invariant-loop-i
+invariant-loop-i l = take (l.i * 8) l.to ≡ flat_map (turned Eight l.read l.write) (pieces l.i 8 l.from)

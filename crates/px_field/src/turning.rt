@@ -1,0 +1,149 @@
+// Elements turned round many at a time: a loop for each width, which does nothing else.
+ghost use Rattle.std.specs.Prelude.{◌≡◌, ◌≤◌, ◌*◌, length, flat_map};
+ghost use Rattle.px_bytes.specs.Parts.{pieces};
+ghost use Rattle.px_bytes.specs.declared.Order.{Order as AnyOrder};
+ghost use Rattle.px_field.specs.declared.turning.Width.TheVariants.{One, Two, Four, Pair, Eight, Widened};
+ghost use Rattle.px_field.specs.Turning.{width_of, read_by, turned, written_by};
+
+use crate::forms::Form;
+use px_bytes::Order;
+
+/// How the bytes of an element are turned round.
+#[derive(Clone, Copy, Debug, PartialEq, Eq)]
+pub enum Width {
+    /// One byte, which stays as it is.
+    One,
+    /// A number of two bytes.
+    Two,
+    /// A number of four bytes.
+    Four,
+    /// Two numbers of four bytes.
+    Pair,
+    /// A number of eight bytes.
+    Eight,
+    /// A number of two bytes that is written in four.
+    Widened,
+}
+
+/// The orders in which elements are read and written, and how.
+#[derive(Clone, Copy, Debug)]
+pub struct Way {
+    /// How.
+    pub width: Width,
+    /// The order in which they are read.
+    pub read: Order,
+    /// The order in which they are written.
+    pub write: Order,
+}
+
+impl Width {
+    /// Of the elements of a type, widened or as they are.
+    pub fn of(form: Form, widened: bool) -> Width
+        ensures { result ≡ width_of widened form }
+    {
+        if widened {
+            return match form {
+                Form::Short => Width::Widened,
+                _ => Width::Four,
+            };
+        }
+        match form {
+            Form::Short | Form::SShort => Width::Two,
+            Form::Long | Form::SLong | Form::Float => Width::Four,
+            Form::Rational | Form::SRational => Width::Pair,
+            Form::Double => Width::Eight,
+            Form::Byte | Form::Ascii | Form::SByte | Form::Undefined | Form::Utf8 => Width::One,
+        }
+    }
+}
+
+/// Writes the first `count` elements of `from` into `to`, which has their length.
+pub fn turn(how: Way, count: usize, from: &[u8], to: &mut [u8])
+    requires from { count * read_by how.width ≤ length from.now }
+    requires to { length to.old ≡ count * written_by how.width }
+    ensures { to.new ≡ flat_map (turned how.width how.read how.write) (pieces count (read_by how.width) from.now) }
+{
+    let Way { width, read, write } = how;
+    match width {
+        Width::One => turn_one(count, from, to),
+        Width::Two => turn_two(read, write, count, from, to),
+        Width::Four => turn_four(read, write, count, from, to),
+        Width::Pair => turn_pairs(read, write, count, from, to),
+        Width::Eight => turn_eight(read, write, count, from, to),
+        Width::Widened => turn_wide(read, write, count, from, to),
+    }
+}
+
+// One byte is the same in either order.
+fn turn_one(count: usize, from: &[u8], to: &mut [u8])
+    requires from { count * 1 ≤ length from.now }
+    requires to { length to.old ≡ count * 1 }
+    ensures { (read write : AnyOrder) → to.new ≡ flat_map (turned One read write) (pieces count 1 from.now) }
+{
+    to.copy_from_slice(&from[..count]);
+}
+
+fn turn_two(read: Order, write: Order, count: usize, from: &[u8], to: &mut [u8])
+    requires from { count * 2 ≤ length from.now }
+    requires to { length to.old ≡ count * 2 }
+    ensures { to.new ≡ flat_map (turned Two read write) (pieces count 2 from.now) }
+{
+    for i in 0..count {
+        let at = i * 2;
+        write.put16(read.get16(&from[at..at + 2]), &mut to[at..at + 2]);
+    }
+}
+
+fn turn_four(read: Order, write: Order, count: usize, from: &[u8], to: &mut [u8])
+    requires from { count * 4 ≤ length from.now }
+    requires to { length to.old ≡ count * 4 }
+    ensures { to.new ≡ flat_map (turned Four read write) (pieces count 4 from.now) }
+{
+    for i in 0..count {
+        let at = i * 4;
+        write.put32(read.get32(&from[at..at + 4]), &mut to[at..at + 4]);
+    }
+}
+
+fn turn_pairs(read: Order, write: Order, count: usize, from: &[u8], to: &mut [u8])
+    requires from { count * 8 ≤ length from.now }
+    requires to { length to.old ≡ count * 8 }
+    ensures { to.new ≡ flat_map (turned Pair read write) (pieces count 8 from.now) }
+{
+    for i in 0..count {
+        let at = i * 8;
+        turn_pair(read, write, &from[at..at + 8], &mut to[at..at + 8]);
+    }
+}
+
+fn turn_pair(read: Order, write: Order, from: &[u8], to: &mut [u8])
+    requires from { length from.now ≡ 8 }
+    requires to { length to.old ≡ 8 }
+    ensures { to.new ≡ turned Pair read write from.now }
+{
+    write.put32(read.get32(&from[..4]), &mut to[..4]);
+    write.put32(read.get32(&from[4..]), &mut to[4..]);
+}
+
+fn turn_eight(read: Order, write: Order, count: usize, from: &[u8], to: &mut [u8])
+    requires from { count * 8 ≤ length from.now }
+    requires to { length to.old ≡ count * 8 }
+    ensures { to.new ≡ flat_map (turned Eight read write) (pieces count 8 from.now) }
+{
+    for i in 0..count {
+        let at = i * 8;
+        write.put64(read.get64(&from[at..at + 8]), &mut to[at..at + 8]);
+    }
+}
+
+fn turn_wide(read: Order, write: Order, count: usize, from: &[u8], to: &mut [u8])
+    requires from { count * 2 ≤ length from.now }
+    requires to { length to.old ≡ count * 4 }
+    ensures { to.new ≡ flat_map (turned Widened read write) (pieces count 2 from.now) }
+{
+    for i in 0..count {
+        let at = i * 2;
+        let wide = u32::from(read.get16(&from[at..at + 2]));
+        write.put32(wide, &mut to[i * 4..i * 4 + 4]);
+    }
+}
