@@ -6,3 +6,4 @@ pub mod Records
 pub mod Steps
 pub mod Writes
 pub mod Alike
+pub mod Rising

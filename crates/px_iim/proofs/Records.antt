@@ -1,14 +1,15 @@
 -- The groups of all record numbers, one record number behind another.
-use Rattle.std.proofs.Common.{◌≡◌, ◌⊎◌, ℕ, ◌+◌, ◌<◌, ◌≤◌, zero, suc, Bool, true, false, List, [], ◌∷◌, ◌++◌, length, drop, get_or, slice_get, slice_index, if◌then◌else◌, Some, Vec, Global, Result, Ok, Err, OnOk, OnErr, map, set, refl, sym, ap, ◌∙◌, subst, inl, inr, arith, zero-add, add-one, option_map}
+use Rattle.std.proofs.Common.{◌≡◌, ℕ, ◌+◌, ◌<◌, ◌≤◌, zero, suc, Bool, true, false, List, [], ◌∷◌, ◌++◌, length, drop, get_or, slice_get, slice_index, if◌then◌else◌, Some, Vec, Global, map, set, refl, sym, ap, ◌∙◌, subst, inl, arith, zero-add, add-one, option_map}
 use Rattle.std.specs.List.{AllByRecursion}
 use Rattle.std.proofs.lemmas.Bool.{cond-true, cond-false}
 use Rattle.std.proofs.lemmas.Option.{slice_get-map, slice_get_read}
-use Rattle.std.proofs.lemmas.List.{length-map, drop_more}
+use Rattle.std.proofs.lemmas.List.{length-map, drop_more, drop_all}
 use Rattle.px_iim.specs.declared.group.Group.{Group as CodeGroup}
 use Rattle.px_iim.specs.DataSet.{DataSet}
 use Rattle.px_iim.specs.Group.{Record, named, put, items_at, is_at, is_before, IsAscending}
 use Rattle.px_iim.specs.KeyLaws.{at_true, at_false, before_true, before_false, before_parts}
-use Rattle.px_iim.specs.View.{item_view, group_view, groups_view, records_view, numbers, IsBelow, MissingIn, Holds}
+use Rattle.px_iim.specs.View.{item_view, group_view, groups_view, records_view, left_view, numbers, IsBelow, MissingIn, Holds}
+use Rattle.px_iim.proofs.Rising.{ascending_behind}
 
 -- no groups of one more record number
 pub records_push : (r : ℕ) (vs : List (Vec CodeGroup Global)) (v : Vec CodeGroup Global) → v.items ≡ [] → records_view r (vs ++ v ∷ []) ≡ records_view r vs
@@ -120,10 +121,6 @@ items_missing k n (x ∷ xs) ys (suc i) b l h a s =
     cond-false (is_at k n (group_view k x)) _ _ (at_false k n (group_view k x) (λ q f. omega (arith, f, b 0)))
     ∙ items_missing k n xs ys i (λ j m. b (suc j) (omega arith)) (omega arith) (λ m. h (omega arith)) a s.1
 
-ascending_behind : (xs ys : Record) → IsAscending (xs ++ ys) → IsAscending ys
-ascending_behind [] ys a = a
-ascending_behind (x ∷ xs) ys a = ascending_behind xs ys a.1
-
 pub found_record : (r k i n : ℕ) (vs : List (Vec CodeGroup Global)) (e : Vec CodeGroup Global) (items : List (ℕ × List ℕ)) → k ≡ r + i → i < length vs
     → Holds n (get_or vs i e).items items → items_at k n (records_view r vs) ≡ items
 found_record r k i n [] e items q l h = absurd (omega arith)
@@ -173,8 +170,29 @@ get_right (x ∷ xs) ys (suc i) j e = get_right xs ys i j (omega arith)
 pub get_view : (k : ℕ) (gs : List CodeGroup) (i : ℕ) (g : CodeGroup) → i < length gs → g ≡ get_or gs i g → slice_get (groups_view k gs) i ≡ Some (group_view k g)
 get_view k gs i g l e = slice_get-map (group_view k) gs i ∙ ap (option_map (group_view k)) (slice_get_read gs (length gs) i g refl l e)
 
--- ---- a DataSet more
+-- ---- a walk
 
-pub ok_or_err : {A E P Q : Type 0} (r : Result A E) → OnOk r P → OnErr r Q → P ⊎ Q
-ok_or_err (Ok x) p q = inl p
-ok_or_err (Err e) p q = inr q
+-- a walk from a record number's start
+pub left_none : (r : ℕ) (vs : List (Vec CodeGroup Global)) → left_view r 0 vs ≡ records_view r vs
+left_none r [] = refl
+left_none r (v ∷ vs) = refl
+
+-- the group at a place is the next
+pub left_more : (r at : ℕ) (vs : List (Vec CodeGroup Global)) (v : Vec CodeGroup Global) (g : CodeGroup) → r < length vs → v ≡ get_or vs r v → at < length v.items → g ≡ get_or v.items at g
+    → left_view r at (drop r vs) ≡ group_view r g ∷ left_view r (at + 1) (drop r vs)
+left_more r at vs v g l e m f =
+    let here : drop r vs ≡ v ∷ drop (r + 1) vs = drop_more vs r v l ∙ ap (λ (x : Vec CodeGroup Global). x ∷ drop (r + 1) vs) (sym e) in
+    let next : drop at v.items ≡ g ∷ drop (at + 1) v.items = drop_more v.items at g m ∙ ap (λ (x : CodeGroup). x ∷ drop (at + 1) v.items) (sym f) in
+    ap (left_view r at) here ∙ ap (λ (gs : List CodeGroup). groups_view r gs ++ records_view (suc r) (drop (r + 1) vs)) next
+    ∙ ap (λ (xs : List (Vec CodeGroup Global)). group_view r g ∷ left_view r (at + 1) xs) (sym here)
+
+-- none of the record number is left
+pub left_behind : (r at : ℕ) (vs : List (Vec CodeGroup Global)) (v : Vec CodeGroup Global) → r < length vs → v ≡ get_or vs r v → length v.items ≤ at
+    → left_view r at (drop r vs) ≡ left_view (r + 1) 0 (drop (r + 1) vs)
+left_behind r at vs v l e m =
+    let here : drop r vs ≡ v ∷ drop (r + 1) vs = drop_more vs r v l ∙ ap (λ (x : Vec CodeGroup Global). x ∷ drop (r + 1) vs) (sym e) in
+    ap (left_view r at) here ∙ ap (λ (gs : List CodeGroup). groups_view r gs ++ records_view (suc r) (drop (r + 1) vs)) (drop_all at v.items m)
+    ∙ ap (λ (s : ℕ). records_view s (drop (r + 1) vs)) (sym (add-one r)) ∙ sym (left_none (r + 1) (drop (r + 1) vs))
+
+pub left_past : (r at : ℕ) (vs : List (Vec CodeGroup Global)) → length vs ≤ r → left_view r at (drop r vs) ≡ []
+left_past r at vs l = ap (left_view r at) (drop_all r vs l)

@@ -1,16 +1,18 @@
 -- Lengths and growths of parts put one behind another.
-use Rattle.std.proofs.Common.{◌≡◌, ℕ, zero, suc, ◌+◌, ◌<◌, ◌≤◌, ◌++◌, List, [], ◌∷◌, length, take, drop, get_or, slice_get, Option, Some, None, Result, Ok, Err, refl, sym, ap, ◌∙◌, subst, inl, inr, map, option_map, unwrap_or, is_ok, if◌then◌else◌, nat_le, le-leb, arith, append_assoc, length-append}
+use Rattle.std.proofs.Common.{◌≡◌, ℕ, zero, suc, ◌+◌, ◌<◌, ◌≤◌, ◌++◌, List, [], ◌∷◌, length, take, get_or, slice_get, Option, Some, None, IfSome, Result, Ok, Err, refl, sym, ap, ◌∙◌, subst, inl, inr, map, option_map, unwrap_or, is_ok, if◌then◌else◌, nat_le, le-leb, arith, append_assoc, append-nil, length-append}
 use Rattle.std.specs.List.{flat_map, AllByRecursion}
-use Rattle.std.proofs.lemmas.List.{drop_more, take-take, take_at}
-use Rattle.std.proofs.lemmas.Option.{slice_get_within, get_or_from_slice_get, slice_get-map, slice_get-get_or}
+use Rattle.std.proofs.lemmas.List.{take-take, take_at}
+use Rattle.std.proofs.lemmas.Option.{slice_get-map, slice_get-get_or}
 use Rattle.px_bytes.specs.Parts.{limit}
-use Rattle.px_bytes.specs.WaitingLaws.{parts_more}
+use Rattle.px_bytes.specs.Devices.{AppendsPrefix}
+use Rattle.px_bytes.specs.Waiting.{Owes}
+use Rattle.px_bytes.specs.WaitingLaws.{parts_more, owes_more, owes_stop}
+use Rattle.px_bytes.specs.WriteLaws.{prefix_first}
 use Rattle.px_iim.specs.Writing.{AreShort, Grows, normal_head, most, within as within_most}
-use Rattle.px_iim.specs.Group.{Group, IsGroup, IsItem}
-use Rattle.px_iim.specs.Record.{normal_dataset}
+use Rattle.px_iim.specs.Group.{Group, Record, IsGroup, IsItem}
+use Rattle.px_iim.specs.Record.{normal_dataset, normal_group, normal_iim}
 use Rattle.px_iim.specs.View.{item_view}
 use Rattle.px_iim.specs.declared.group.Item.{Item}
-use Rattle.px_iim.specs.BoundLaws.{length-normal_dataset}
 use Rattle.std.proofs.lemmas.Bool.{cond-true, cond-false, cases_lt, lt-leb}
 
 -- ---- the parts of a list's elements
@@ -28,26 +30,6 @@ module _ {X : Type 0} (f : X → List ℕ) (xs : List X) (i : ℕ) (x : X) (read
     go (y ∷ ys) (suc j) e b = go ys j e b.1
 
 -- ---- lengths
-
-pub parts_left : {X : Type 0} (f : X → List ℕ) (xs : List X) (i : ℕ) (x : X) → slice_get xs i ≡ Some x
-    → length (flat_map f (drop i xs)) ≡ length (f x) + length (flat_map f (drop (i + 1) xs))
-parts_left f xs i x read =
-    let here : flat_map f (drop i xs) ≡ f x ++ flat_map f (drop (i + 1) xs) =
-    ap (flat_map f) (drop_more xs i x (slice_get_within xs i x read)) ∙ ap (λ y. f y ++ flat_map f (drop (i + 1) xs)) (get_or_from_slice_get xs i x x read) in
-    ap length here ∙ length-append (f x) (flat_map f (drop (i + 1) xs))
-
--- a length counts no record number
-pub same_length : (r s : ℕ) (xs : List (ℕ × List ℕ)) → length (flat_map (normal_dataset r) xs) ≡ length (flat_map (normal_dataset s) xs)
-same_length r s [] = refl
-same_length r s (x ∷ xs) =
-    omega (
-      arith,
-      length-append (normal_dataset r x) (flat_map (normal_dataset r) xs),
-      length-append (normal_dataset s x) (flat_map (normal_dataset s) xs),
-      length-normal_dataset r x,
-      length-normal_dataset s x,
-      same_length r s xs,
-    )
 
 pub within_past : (n : ℕ) → most < n → None ≡ within_most n
 within_past n h = sym (cond-false (nat_le n most) (Some n) None (lt-leb n most h))
@@ -71,6 +53,10 @@ none_more m n e h = elim (cases_lt most m) [
 abbrev pub no_item : Item
 no_item = record { number = 0; octets = record { ref_ptr = (0, 0); now = [] } }
 
+pub within_counted : (o : Option ℕ) (n : ℕ) → o ≡ within_most n → IfSome o (λ t. t ≤ most)
+within_counted None n e = tt
+within_counted (Some t) n e = let s = some_within t n e in omega arith
+
 pub item_read : (items : List Item) (i : ℕ) (d : Item) → i < length items → slice_get (map item_view items) i ≡ Some (item_view (get_or items i d))
 item_read items i d h = slice_get-map item_view items i ∙ ap (option_map item_view) (slice_get-get_or items i d h)
 
@@ -79,6 +65,37 @@ group_short g h = go g.items h.items where
   go : (xs : List (ℕ × List ℕ)) → AllByRecursion (IsItem g.rec g.number) xs → AreShort xs
   go [] a = tt
   go (x ∷ xs) a = ((a.0).bounded, go xs a.1)
+
+-- ---- a walk over groups: those that are left make the rest of the form
+
+-- the groups that are left begin with x
+module _ (i left : Record) (x : Group) (step : i ≡ x ∷ left) (all : List ℕ) where
+  pub short_next : AllByRecursion IsGroup i → AreShort x.items
+  short_next a = group_short x (let both : AllByRecursion IsGroup (x ∷ left) = subst (AllByRecursion IsGroup) step a in both.0)
+
+  pub whole_next : AllByRecursion IsGroup i → AllByRecursion IsGroup left
+  whole_next a = let both : AllByRecursion IsGroup (x ∷ left) = subst (AllByRecursion IsGroup) step a in both.1
+
+  rest_next : (out : List ℕ) → out ++ normal_iim i ≡ all → out ++ normal_group x ++ normal_iim left ≡ all
+  rest_next out e = append_assoc out (normal_group x) (normal_iim left) ∙ ap (λ (k : Record). out ++ normal_iim k) (sym step) ∙ e
+
+  -- x was put
+  pub owes_next : (a b c : Option (List ℕ)) (k m out : List ℕ) → Owes a b k out → out ++ normal_iim i ≡ all → Owes b c m (k ++ normal_group x)
+      → (now : List ℕ) × Owes a c m now × (now ++ normal_iim left ≡ all)
+  owes_next a b c k m out p e q = (out ++ normal_group x, owes_more a b c k m out (normal_group x) p q, rest_next out e)
+
+  -- the put of x failed
+  pub owes_failed : (a b c : Option (List ℕ)) (k out : List ℕ) → Owes a b k out → out ++ normal_iim i ≡ all → AppendsPrefix b c (k ++ normal_group x) → AppendsPrefix a c all
+  owes_failed a b c k out p e q = subst (AppendsPrefix a c) (rest_next out e) (prefix_first a c (out ++ normal_group x) (normal_iim left) (owes_stop a b c k out (normal_group x) p q))
+
+  -- x was appended
+  pub grows_next : (old now new parts : List ℕ) → now ≡ old ++ parts → parts ++ normal_iim i ≡ all → new ≡ now ++ normal_group x
+      → (more : List ℕ) × (new ≡ old ++ more) × (more ++ normal_iim left ≡ all)
+  grows_next old now new parts e f h = (parts ++ normal_group x, h ∙ ap (λ (l : List ℕ). l ++ normal_group x) e ∙ append_assoc old parts (normal_group x), rest_next parts f)
+
+-- none is left
+pub rest_none : (i : Record) (out all : List ℕ) → i ≡ [] → out ++ normal_iim i ≡ all → out ≡ all
+rest_none i out all e f = sym (append-nil out) ∙ ap (λ (k : Record). out ++ normal_iim k) (sym e) ∙ f
 
 -- ---- growth
 

@@ -22,6 +22,10 @@ groups_view rec gs = map (group_view rec) gs
 abbrev pub numbers : List CodeGroup → List ℕ
 numbers gs = map (λ g. g.number) gs
 
+-- each is below those behind it
+abbrev pub Rises : List ℕ → Type 0
+Rises xs = (i j : ℕ) → i < j → j < length xs → slice_index xs i < slice_index xs j
+
 -- those before the place are below n
 abbrev pub IsBelow : ℕ → List ℕ → ℕ → Type 0
 IsBelow n xs at = (j : ℕ) → j < at → slice_index xs j < n
@@ -60,6 +64,11 @@ octets_left a = octets_of a.number (map item_view (drop a.at a.items.now))
 abbrev pub records_view : ℕ → List (Vec CodeGroup Global) → Record
 records_view r [] = []
 records_view r (v ∷ vs) = groups_view r v.items ++ records_view (suc r) vs
+
+-- the same, without the first groups of r
+abbrev pub left_view : ℕ → ℕ → List (Vec CodeGroup Global) → Record
+left_view r at [] = []
+left_view r at (v ∷ vs) = groups_view r (drop at v.items) ++ records_view (suc r) vs
 
 -- a group as it is handed out: its record, its number, its items
 abbrev pub part_view : ℕ × ℕ × Bor (List Item) → Group

@@ -1,9 +1,10 @@
 // The groups of one record number, in ascending order.
-ghost use Rattle.std.specs.Prelude.{◌≡◌, ◌<◌, ◌≤◌, ℕ, map, MatchResult, MatchOption, vec_len, OnOk, OnErr};
+ghost use Rattle.std.specs.Prelude.{◌≡◌, ◌+◌, ◌/◌, ◌<◌, ◌≤◌, ℕ, map, max, MatchResult, MatchOption, vec_len, vec_capacity, OnOk, OnErr};
+ghost use Rattle.px_bytes.specs.Lacking.{Lacks};
 ghost use Rattle.px_iim.specs.Group.{named, put};
-ghost use Rattle.px_iim.specs.View.{item_view, groups_view, numbers, Found, Missing, MissingIn, Holds, Appended, Inserted, octets_left};
+ghost use Rattle.px_iim.specs.View.{item_view, groups_view, numbers, Rises, Found, Missing, MissingIn, Holds, Appended, Inserted, octets_left};
 
-use std::alloc::{AllocError, Global};
+use px_bytes::{LIMIT, Memory, Refused};
 
 /// A DataSet as it stands in its group; the group tells its record number.
 #[derive(Clone, Copy, Debug)]
@@ -37,71 +38,94 @@ pub(crate) fn named(rec: u8, number: u8) -> u8
     }
 }
 
-// The place of the group of this number, or else the place where it belongs.
+// The place of the group of this number, or else the place where it belongs: found by halving, as the numbers rise.
 pub(crate) fn find(groups: &[Group], number: u8) -> Result<usize, usize>
+    requires { Rises (numbers groups.now) }
     ensures { MatchResult result (Found number (numbers groups.now)) (Missing number (numbers groups.now)) }
 {
-    for (at, group) in groups.iter().enumerate() {
-        if group.number == number {
-            return Ok(at);
-        }
-        if group.number > number {
-            return Err(at);
-        }
+    groups.binary_search_by_key(&number, |group| group.number)
+}
+
+// Makes room for one more in a full list: in an empty one for one, else for half as many as there are, and three at
+// least. Most groups have one DataSet, and a long list needs few growths and holds little more than it needs.
+fn make_room<T>(memory: &mut Memory, list: &mut Vec<T>) -> Result<(), Refused>
+    ensures items { list.new.items ≡ list.old.items }
+    ensures len { vec_len list.new ≡ vec_len list.old }
+    ensures room { OnOk result (vec_len list.new < vec_capacity list.new) }
+    ensures first { vec_len list.old ≡ 0 → vec_capacity list.new ≤ max (vec_capacity list.old) 1 }
+    ensures most { vec_capacity list.new ≤ max (vec_capacity list.old) (vec_len list.old + max 3 (vec_len list.old / 2)) }
+    ensures memory { Lacks result memory.old memory.new }
+{
+    if list.len() < list.capacity() {
+        return Ok(());
     }
-    Err(groups.len())
+    if list.is_empty() {
+        return memory.reserve_exact(list, 1);
+    }
+    let more = (list.len() / 2).max(3).min(LIMIT as usize);
+    memory.reserve_exact(list, more)
 }
 
 // Appends the item to the group at a place.
-fn append<'a>(groups: &mut Vec<Group<'a>>, at: usize, item: Item<'a>) -> Result<(), AllocError>
+fn append<'a>(
+    memory: &mut Memory,
+    groups: &mut Vec<Group<'a>>,
+    at: usize,
+    item: Item<'a>,
+) -> Result<(), Refused>
     requires { at < vec_len groups.old }
     ensures done { OnOk result (Appended at (item_view item.entry) groups.old.items groups.new.items) }
     ensures failed { OnErr result ((r : ℕ) → groups_view r groups.new.items ≡ groups_view r groups.old.items) }
+    ensures memory { Lacks result memory.old memory.new }
 {
     let group = &mut groups[at];
-    match group.items.push(item) {
-        Ok(()) => Ok(()),
-        Err(_) => Err(AllocError),
-    }
+    make_room(memory, &mut group.items)?;
+    group.items.push_reserved(item);
+    Ok(())
 }
 
 // Puts a new group with one item at a place.
 fn insert<'a>(
-    alloc: Global,
+    memory: &mut Memory,
     groups: &mut Vec<Group<'a>>,
     at: usize,
     number: u8,
     item: Item<'a>,
-) -> Result<(), AllocError>
+) -> Result<(), Refused>
     requires { at ≤ vec_len groups.old }
     ensures done { OnOk result (Inserted at number (item_view item.entry) groups.old.items groups.new.items) }
     ensures failed { OnErr result ((r : ℕ) → groups_view r groups.new.items ≡ groups_view r groups.old.items) }
+    ensures memory { Lacks result memory.old memory.new }
 {
-    let mut items = Vec::new(alloc);
-    items.push(item)?;
-    groups.insert(at, Group { number, items })?;
+    let mut items = memory.list();
+    make_room(memory, &mut items)?;
+    items.push_reserved(item);
+    memory.insert(groups, at, Group { number, items })?;
     Ok(())
 }
 
 // Puts the item at its group's end; a group that isn't there is put in its place.
 pub(crate) fn add<'a>(
-    alloc: Global,
+    memory: &mut Memory,
     groups: &mut Vec<Group<'a>>,
     rec: u8,
     item: Item<'a>,
-) -> Result<(), AllocError>
+) -> Result<(), Refused>
+    requires { Rises (numbers groups.old.items) }
     ensures done { OnOk result (groups_view rec groups.new.items ≡ put (record { rec = rec; number = item.entry.number; octets = item.entry.octets.now }) (groups_view rec groups.old.items)) }
     ensures failed { OnErr result ((r : ℕ) → groups_view r groups.new.items ≡ groups_view r groups.old.items) }
+    ensures memory { Lacks result memory.old memory.new }
 {
     let number = named(rec, item.number);
     match find(groups, number) {
-        Ok(at) => append(groups, at, item),
-        Err(at) => insert(alloc, groups, at, number, item),
+        Ok(at) => append(memory, groups, at, item),
+        Err(at) => insert(memory, groups, at, number, item),
     }
 }
 
 // The items of the group of this number.
 pub(crate) fn items_of<'b, 'a>(groups: &'b [Group<'a>], number: u8) -> Option<&'b [Item<'a>]>
+    requires { Rises (numbers groups.now) }
     ensures { MatchOption result (MissingIn number (numbers groups.now)) (λ items. Holds number groups.now (map item_view items.now)) }
 {
     match find(groups, number) {

@@ -1,45 +1,58 @@
 // A record: its groups, and what they hold.
 ghost use Rattle.std.specs.Prelude.{◌≡◌, ◌==◌, ◌<◌, ◌≤◌, [], length, map, slice_get, Some, vec_len, OnOk, OnErr};
+ghost use Rattle.px_bytes.specs.Lacking.{Lacks};
 ghost use Rattle.px_iim.specs.Group.{named, put, items_at, AreGroups};
+ghost use Rattle.px_iim.specs.Record.{normal_iim};
 ghost use Rattle.px_iim.specs.View.{item_view, records_view, part_view, octets_left, octets_of};
+ghost use Rattle.px_iim.specs.Writing.{within};
 
 use crate::group::{All, Group, Item, add, items_of, named};
+use crate::length::longer;
+use crate::walk::Groups;
+use px_bytes::{Memory, Refused};
 use std::alloc::{AllocError, Global};
 use std::marker::Model;
 
 /// What an IIM block says: a map from group to a list of DataSets, of which none is empty. Contracts
 /// see it as the list of its groups in ascending order of record, then number. The data are borrowed.
 ///
-/// The groups of one record number stand in a list of their own, so a DataSet looks through at most
-/// 256 groups and moves at most 256, whatever the order in which groups come.
+/// The groups of one record number stand in a list of their own, so a DataSet finds its group by halving
+/// at most 256 groups and moves at most 256, whatever the order in which groups come. The length of the normal form is kept.
 #[derive(Drop)]
 pub struct Iim<'a> {
-    alloc: Global,
+    // For `push`, whose refusals no one else is told.
+    own: Memory,
     records: Vec<Vec<Group<'a>>>,
     none: Vec<Item<'a>>,
+    // The length of the normal form, counted up to twice LIMIT.
+    form_len: Option<u32>,
 }
 
 impl<'a> Model for Iim<'a> {
-    ghost use Rattle.std.specs.Prelude.{◌≡◌, ◌≤◌, [], vec_len};
+    ghost use Rattle.std.specs.Prelude.{◌≡◌, ◌≤◌, [], length, vec_len};
     ghost use Rattle.px_iim.specs.Group.{Record, AreGroups};
+    ghost use Rattle.px_iim.specs.Record.{normal_iim};
     ghost use Rattle.px_iim.specs.View.{records_view};
+    ghost use Rattle.px_iim.specs.Writing.{within};
 
     ghost Value = { Record };
 
     ghost view = { λ i. records_view 0 i.records.items };
 
-    ghost invariant = { λ i. (i.none.items ≡ []) × (vec_len i.records ≤ 256) × AreGroups (records_view 0 i.records.items) };
+    ghost invariant = { λ i. (i.none.items ≡ []) × (vec_len i.records ≤ 256) × AreGroups (records_view 0 i.records.items) × (i.form_len ≡ within (length (normal_iim (records_view 0 i.records.items)))) };
 }
 
 // Makes room for the groups of a record number.
-fn reach<'a>(alloc: Global, records: &mut Vec<Vec<Group<'a>>>, rec: u8) -> Result<(), AllocError>
+fn reach<'a>(memory: &mut Memory, records: &mut Vec<Vec<Group<'a>>>, rec: u8) -> Result<(), Refused>
     requires { vec_len records.old ≤ 256 }
     ensures same { records_view 0 records.new.items ≡ records_view 0 records.old.items }
     ensures there { OnOk result (rec < vec_len records.new) }
     ensures bounded { vec_len records.new ≤ 256 }
+    ensures memory { Lacks result memory.old memory.new }
 {
     while records.len() <= rec as usize {
-        records.push(Vec::new(alloc))?;
+        let none = memory.list();
+        memory.push(records, none)?;
     }
     Ok(())
 }
@@ -49,10 +62,18 @@ impl<'a> Iim<'a> {
     pub fn new(alloc: Global) -> Iim<'a>
         ensures { result ≡ [] }
     {
+        Iim::new_in(&Memory::new(alloc))
+    }
+
+    /// A record without a DataSet, in the memory that is lent. It takes none.
+    pub fn new_in(memory: &Memory) -> Iim<'a>
+        ensures { result ≡ [] }
+    {
         Iim {
-            alloc,
-            records: Vec::new(alloc),
-            none: Vec::new(alloc),
+            own: memory.fresh(),
+            records: memory.list(),
+            none: memory.list(),
+            form_len: Some(0),
         }
     }
 
@@ -63,10 +84,31 @@ impl<'a> Iim<'a> {
         ensures done { OnOk result (self.new ≡ put (record { rec = rec; number = number; octets = octets.now }) self.old) }
         ensures failed { OnErr result (self.new ≡ self.old) }
     {
-        let alloc = self.alloc;
-        reach(alloc, &mut self.records, rec)?;
+        let mut memory = self.own.fresh();
+        self.push_in(&mut memory, rec, number, octets)?;
+        Ok(())
+    }
+
+    /// Puts a DataSet as `push` does, in the memory that is lent: an error tells that it refused a growth in
+    /// this call.
+    pub fn push_in(
+        &mut self,
+        memory: &mut Memory,
+        rec: u8,
+        number: u8,
+        octets: &'a [u8],
+    ) -> Result<(), Refused>
+        requires { length octets.now ≤ 16777216 }
+        ensures done { OnOk result (self.new ≡ put (record { rec = rec; number = number; octets = octets.now }) self.old) }
+        ensures failed { OnErr result (self.new ≡ self.old) }
+        ensures memory { Lacks result memory.old memory.new }
+    {
+        reach(memory, &mut self.records, rec)?;
         let groups = &mut self.records[rec as usize];
-        add(alloc, groups, rec, Item { number, octets })
+        let item = Item { number, octets };
+        add(memory, groups, rec, item)?;
+        self.form_len = longer(self.form_len, &item);
+        Ok(())
     }
 
     /// Whether it has no DataSet. It takes no memory.
@@ -86,6 +128,26 @@ impl<'a> Iim<'a> {
             count += groups.len() as u32;
         }
         count
+    }
+
+    /// The groups in ascending order, each as `group_at` gives it: for all of them, it is quicker than
+    /// `group_at` for each place. It takes no memory.
+    pub fn iter(&self) -> Groups<'_, 'a>
+        ensures all { result ≡ self.now }
+        ensures whole { AreGroups self.now }
+    {
+        Groups {
+            lists: self.records.as_slice(),
+            rec: 0,
+            at: 0,
+        }
+    }
+
+    // The length of the normal form in octets, where it is at most twice LIMIT.
+    pub(crate) fn form_len(&self) -> Option<u32>
+        ensures { result ≡ within (length (normal_iim self.now)) }
+    {
+        self.form_len
     }
 
     /// The group that holds this number, also where another number names it: its DataSets in order, none

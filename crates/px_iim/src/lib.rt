@@ -4,7 +4,8 @@
 //! A record is a map from group to a list of DataSets. The order of DataSets counts inside a group
 //! alone: in record 2 the numbers 26 and 27, 45, 47 and 50, 80 and 85 share a group; every other
 //! number of any record has one of its own. `Iim::push` and `read_iim` take memory, and so does
-//! `append_iim` for the vector; no other call does.
+//! `append_iim` for the vector; no other call does. Each has a sister with the memory that is lent, as
+//! `read_iim_in`: it tells whether a growth was refused.
 //!
 //! ```
 //! let block = b"\x1c\x02\x78\x80\x04\x00\x00\x00\x03abc\x00"; // an extended count, and a zero behind
@@ -23,14 +24,17 @@ mod group;
 mod head;
 mod iim;
 pub mod laws;
+mod length;
 mod read;
 mod same;
 #[cfg(test)]
 mod tests;
+mod walk;
 mod write;
 
 pub use group::{All, Item};
 pub use iim::Iim;
-pub use read::{accepts, read_iim};
+pub use read::{accepts, read_iim, read_iim_in};
 pub use same::same_iim;
-pub use write::{append_iim, normal_len, put_iim, write_iim, write_iim_part};
+pub use walk::Groups;
+pub use write::{append_iim, append_iim_in, normal_len, put_iim, write_iim, write_iim_part};

@@ -1,6 +1,6 @@
 // A whole block, read DataSet by DataSet.
-ghost use Rattle.std.specs.Prelude.{◌≡◌, ◌≤◌, length, Some, is_some, IfOk, IfErr};
-ghost use Rattle.px_bytes.specs.Checks.{Judges};
+ghost use Rattle.std.specs.Prelude.{◌≡◌, ◌≤◌, Bool, length, Some, is_some, IfOk, IfErr};
+ghost use Rattle.px_bytes.specs.Checks.{Judges, LacksBlock};
 ghost use Rattle.px_iim.specs.Group.{IsRecord};
 ghost use Rattle.px_iim.specs.Record.{SaysIim, iim_of};
 ghost use Rattle.px_iim.specs.Check.{iim_checks};
@@ -8,7 +8,7 @@ ghost use Rattle.px_iim.specs.Reading.{JudgesAt, RefusesIim};
 
 use crate::dataset::{Found, is_end, read_dataset, rest};
 use crate::iim::Iim;
-use px_bytes::{Cause, LIMIT, Refusal};
+use px_bytes::{Cause, LIMIT, Memory, Refusal};
 use std::alloc::Global;
 
 // The DataSet at a place, or the refusal of it.
@@ -27,15 +27,16 @@ fn dataset_at<'a>(bytes: &'a [u8], at: usize) -> Result<Found<'a>, Refusal>
 }
 
 // Reads the groups, judged by the checks.
-fn read_groups<'a>(alloc: Global, bytes: &'a [u8]) -> Result<Iim<'a>, Refusal>
+fn read_groups<'a>(memory: &mut Memory, bytes: &'a [u8]) -> Result<Iim<'a>, Refusal>
     requires { length bytes.now ≤ 16777216 }
-    ensures { Judges result (iim_checks bytes.now) (λ i. iim_of bytes.now ≡ Some i) }
+    ensures judged { Judges result (iim_checks bytes.now) (λ i. iim_of bytes.now ≡ Some i) }
+    ensures memory { LacksBlock result memory.old memory.new }
 {
-    let mut record = Iim::new(alloc);
+    let mut record = Iim::new_in(memory);
     let mut at = 0;
     loop {
         let found = dataset_at(bytes, at)?;
-        record.push(found.rec, found.number, found.octets)?;
+        record.push_in(memory, found.rec, found.number, found.octets)?;
         at += found.size;
         if is_end(rest(bytes, at)) {
             return Ok(record);
@@ -55,7 +56,19 @@ pub fn read_iim<'a>(alloc: Global, bytes: &'a [u8]) -> Result<Iim<'a>, Refusal>
     ensures judged { Judges result (iim_checks bytes.now) (SaysIim bytes.now) }
     ensures computed { IfOk result (λ i. iim_of bytes.now ≡ Some i) }
     ensures whole { IfOk result IsRecord }
-    ensures stands { IfErr result (RefusesIim bytes.now) }
+    ensures stands { IfErr result (λ e. (refused : Bool) × RefusesIim bytes.now refused e) }
+{
+    read_iim_in(&mut Memory::new(alloc), bytes)
+}
+
+/// The record that a block says, as `read_iim` tells it, in the memory that is lent: OutOfMemory tells that
+/// it refused a growth in this call, and no other answer comes where it did.
+pub fn read_iim_in<'a>(memory: &mut Memory, bytes: &'a [u8]) -> Result<Iim<'a>, Refusal>
+    ensures judged { Judges result (iim_checks bytes.now) (SaysIim bytes.now) }
+    ensures computed { IfOk result (λ i. iim_of bytes.now ≡ Some i) }
+    ensures whole { IfOk result IsRecord }
+    ensures stands { IfErr result (RefusesIim bytes.now memory.new) }
+    ensures memory { LacksBlock result memory.old memory.new }
 {
     if bytes.len() > LIMIT as usize {
         return Err(Refusal::Content {
@@ -63,7 +76,7 @@ pub fn read_iim<'a>(alloc: Global, bytes: &'a [u8]) -> Result<Iim<'a>, Refusal>
             place: LIMIT,
         });
     }
-    read_groups(alloc, bytes)
+    read_groups(memory, bytes)
 }
 
 /// Whether the octets say a record, as `read_iim` judges it. It takes no memory.

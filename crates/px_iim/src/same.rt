@@ -42,14 +42,14 @@ fn same_group(first: (u8, u8, &[Item]), second: (u8, u8, &[Item])) -> bool
 pub fn same_iim(first: &Iim, second: &Iim) -> bool
     ensures { MatchBool result (first.now ≡ second.now) (first.now ≡ second.now → ⊥) }
 {
-    let groups = first.groups();
-    if groups != second.groups() {
-        return false;
-    }
-    for i in 0..groups {
-        if !same_group(first.group_at(i), second.group_at(i)) {
+    let mut others = second.iter();
+    for group in first.iter() {
+        let Some(other) = others.next() else {
+            return false;
+        };
+        if !same_group(group, other) {
             return false;
         }
     }
-    true
+    others.next().is_none()
 }

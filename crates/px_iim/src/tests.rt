@@ -21,12 +21,13 @@ const CAPTION_PADDED: &[u8] = b"\x1c\x02\x78\x00\x03abc\x00\x00\x00";
 
 const CAPTION_EMPTY: &[u8] = b"\x1c\x02\x78\x00\x00";
 
-// A writer that takes `step` octets a write until `room` is used up, and counts its flushes.
+// A writer that takes `step` octets a write until `room` is used up, and counts its writes and flushes.
 #[derive(Drop)]
 struct SlowWriter {
     taken: Vec<u8>,
     step: usize,
     room: usize,
+    writes: u32,
     flushes: u32,
 }
 
@@ -36,6 +37,7 @@ impl SlowWriter {
             taken: Vec::new(alloc),
             step,
             room,
+            writes: 0,
             flushes: 0,
         }
     }
@@ -43,6 +45,7 @@ impl SlowWriter {
 
 impl io::Write for SlowWriter {
     fn write(&mut self, buf: &[u8]) -> io::Result<usize> {
+        self.writes = self.writes.wrapping_add(1);
         let n = buf.len().min(self.step).min(self.room);
         if n == 0 {
             return Err(io::Error::from(ErrorKind::Other));
@@ -476,12 +479,12 @@ fn a_block_can_be_too_long(rt: HostRuntime) -> Result<(), Fail> {
 }
 
 #[test]
-fn a_million_empty_datasets_are_read(rt: HostRuntime) -> Result<(), Fail> {
+fn as_many_datasets_as_a_block_may_have_are_read(rt: HostRuntime) -> Result<(), Fail> {
     let alloc = rt.alloc();
-    let block = repeated(alloc, 1_000_000, CAPTION_EMPTY, 0)?;
-    assert_eq!(rt; block.len(), 5_000_000);
+    let block = repeated(alloc, 3_355_443, CAPTION_EMPTY, 0)?;
+    assert_eq!(rt; block.len(), 16_777_215);
     let iim = read_iim(alloc, block.as_slice())?;
-    assert_eq!(rt; iim.group(2, 120).len(), 1_000_000);
+    assert_eq!(rt; iim.group(2, 120).len(), 3_355_443);
     Ok(())
 }
 
@@ -507,6 +510,70 @@ fn many_groups_and_many_keywords_are_read(rt: HostRuntime) -> Result<(), Fail> {
 }
 
 // ---- writers
+
+// How many writes and flushes a writer sees of what a block says, if it takes all that it is given.
+fn calls(rt: &impl Abort, alloc: Global, bytes: &[u8]) -> Result<(u32, u32), Fail> {
+    let iim = read_iim(alloc, bytes)?;
+    assert!(rt; !iim.is_empty());
+    let mut writer = Watched::new(SlowWriter::new(alloc, 100_000_000, 100_000_000));
+    let _len = write_iim(&iim, &mut writer)?;
+    let inner = writer.into_inner();
+    Ok((inner.writes, inner.flushes))
+}
+
+#[test]
+fn a_small_form_goes_out_in_one_write(rt: HostRuntime) -> Result<(), Fail> {
+    let alloc = rt.alloc();
+    assert_eq!(rt; calls(&rt, alloc, CAPTION)?, (1, 1));
+    assert_eq!(rt; calls(&rt, alloc, FIVE_GROUPS)?, (1, 1));
+    let most = repeated(alloc, 1024, b"\x1c\x02\x78\x00\x03", 3)?;
+    assert_eq!(rt; most.len(), 8192);
+    assert_eq!(rt; calls(&rt, alloc, most.as_slice())?, (1, 1));
+    Ok(())
+}
+
+#[test]
+fn a_large_form_goes_out_in_few_writes(rt: HostRuntime) -> Result<(), Fail> {
+    let alloc = rt.alloc();
+    // 8,190 octets of six each wait at most, and 600,000 octets take 74 writes
+    let keywords = repeated(alloc, 100_000, b"\x1c\x02\x19\x00\x01", 1)?;
+    let (writes, flushes) = calls(&rt, alloc, keywords.as_slice())?;
+    assert!(rt; writes <= 75);
+    assert_eq!(rt; flushes, 1);
+    // the nine octets before long data, then the data at once
+    let long = repeated(alloc, 1, b"\x1c\x02\x78\x80\x04\x00\x00\x80\x00", 32_768)?;
+    let (writes, flushes) = calls(&rt, alloc, long.as_slice())?;
+    assert!(rt; writes <= 3);
+    assert_eq!(rt; flushes, 1);
+    Ok(())
+}
+
+#[test]
+fn a_long_form_is_appended(rt: HostRuntime) -> Result<(), Fail> {
+    let alloc = rt.alloc();
+    let keywords = repeated(alloc, 100_000, b"\x1c\x02\x19\x00\x01", 1)?;
+    let iim = read_iim(alloc, keywords.as_slice())?;
+    let len = normal_len(&iim).ok_or("too long")?;
+    assert_eq!(rt; len, 600_000);
+    let mut out = Vec::new(alloc);
+    append_iim(&iim, &mut out)?;
+    assert!(rt; out.as_slice() == keywords.as_slice());
+    Ok(())
+}
+
+#[test]
+fn a_walk_gives_what_each_place_has(rt: HostRuntime) -> Result<(), Fail> {
+    let iim = read_iim(rt.alloc(), FIVE_GROUPS)?;
+    let mut names = Vec::new(rt.alloc());
+    for (rec, number, items) in iim.iter() {
+        names.push((rec, number, items.len()))?;
+    }
+    assert_eq!(rt; names.len(), 5);
+    assert_eq!(rt; names[0], (1, 90, 1));
+    assert_eq!(rt; names[2], (2, 80, 2));
+    assert_eq!(rt; names[4], (2, 120, 1));
+    Ok(())
+}
 
 #[test]
 fn a_slow_writer_gets_every_octet_once(rt: HostRuntime) -> Result<(), Fail> {

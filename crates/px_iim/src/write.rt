@@ -2,20 +2,17 @@
 ghost use Rattle.std.specs.Prelude.{◌≡◌, ◌≤◌, ◌<◌, ◌+◌, ◌^◌, ◌++◌, length, map, OnOk, OnErr};
 ghost use Rattle.std.specs.List.{flat_map};
 ghost use Rattle.px_bytes.specs.Devices.{Counts};
+ghost use Rattle.px_bytes.specs.Lacking.{Lacks};
 ghost use Rattle.px_bytes.specs.Waiting.{Puts};
-ghost use Rattle.px_iim.specs.Record.{normal_count, normal_dataset, normal_iim};
+ghost use Rattle.px_iim.specs.Record.{normal_dataset, normal_iim};
 ghost use Rattle.px_iim.specs.View.{item_view};
 ghost use Rattle.px_iim.specs.Writing.{AreShort, Grows, WritesIim, within};
 
-use crate::dataset::TOP_BIT;
 use crate::group::Item;
 use crate::head::head;
 use crate::iim::Iim;
-use px_bytes::{Failed, LIMIT, Pending, Sink, WriteRefusal};
+use px_bytes::{Failed, LIMIT, Memory, Pending, Refused, Sink, WriteRefusal};
 use std::alloc::AllocError;
-
-// A normal form is counted up to this length.
-const MOST: usize = 2 * LIMIT as usize;
 
 fn put_item<W: Sink>(
     pending: &mut Pending,
@@ -58,63 +55,18 @@ pub fn put_iim<W: Sink>(pending: &mut Pending, writer: &mut W, iim: &Iim) -> Res
     ensures bytes { Puts result (W.bytes_taken writer.old) (W.bytes_taken writer.new) pending.old pending.new (normal_iim iim.now) }
     ensures count { Counts result (W.failed writer.old) (W.failed writer.new) }
 {
-    for i in 0..iim.groups() {
-        let (rec, _, items) = iim.group_at(i);
+    for (rec, _, items) in iim.iter() {
         put_group(pending, writer, rec, items)?;
     }
     Ok(())
 }
 
-// How long a DataSet is up to its data.
-fn head_len(count: usize) -> usize
-    ensures value { result ≡ 3 + length (normal_count count) }
-    ensures bound { result ≤ 9 }
-{
-    if count < TOP_BIT as usize {
-        return 5;
-    }
-    9
-}
-
-// A length with one more DataSet, where it is at most MOST.
-fn with_item(total: usize, item: &Item) -> Option<usize>
-    requires { total ≤ 33554432 }
-    ensures { result ≡ within (total + length (normal_dataset 0 (item_view item.now))) }
-{
-    let len = item.octets.len();
-    if len > MOST - total {
-        return None;
-    }
-    let longer = total + head_len(len) + len;
-    if longer > MOST {
-        return None;
-    }
-    Some(longer)
-}
-
-// A length with the DataSets of a group.
-fn with_group(total: usize, items: &[Item]) -> Option<usize>
-    requires { total ≤ 33554432 }
-    ensures { result ≡ within (total + length (flat_map (normal_dataset 0) (map item_view items.now))) }
-{
-    let mut total = total;
-    for item in items {
-        total = with_item(total, item)?;
-    }
-    Some(total)
-}
-
-/// The length of the normal form in octets; None where it is more than twice `LIMIT`. It takes no
-/// memory.
+/// The length of the normal form in octets; None where it is more than twice `LIMIT`. The record keeps it,
+/// so it costs nothing to ask again. It takes no memory.
 pub fn normal_len(iim: &Iim) -> Option<u32>
     ensures { result ≡ within (length (normal_iim iim.now)) }
 {
-    let mut total = 0;
-    for i in 0..iim.groups() {
-        let (_, _, items) = iim.group_at(i);
-        total = with_group(total, items)?;
-    }
-    Some(total as u32)
+    iim.form_len()
 }
 
 /// Writes the normal form and answers its length, at most `LIMIT`: the groups in ascending order, each
@@ -151,31 +103,38 @@ pub fn write_iim<W: Sink>(iim: &Iim, writer: &mut W) -> Result<u64, WriteRefusal
     Ok(len)
 }
 
-fn append_item(rec: u8, item: &Item, out: &mut Vec<u8>) -> Result<(), AllocError>
+fn append_item(memory: &mut Memory, rec: u8, item: &Item, out: &mut Vec<u8>) -> Result<(), Refused>
     requires { length item.now.octets.now ≤ 16777216 }
-    ensures { Grows result out.old.items out.new.items (normal_dataset rec (item_view item.now)) }
+    ensures grown { Grows result out.old.items out.new.items (normal_dataset rec (item_view item.now)) }
+    ensures memory { Lacks result memory.old memory.new }
 {
     let (octets, len) = head(rec, item.number, item.octets.len() as u32);
-    out.extend_from_slice(&octets[..len])?;
-    out.extend_from_slice(item.octets)
+    memory.extend_from_slice(out, &octets[..len])?;
+    memory.extend_from_slice(out, item.octets)
 }
 
-fn append_group(rec: u8, items: &[Item], out: &mut Vec<u8>) -> Result<(), AllocError>
+fn append_group(
+    memory: &mut Memory,
+    rec: u8,
+    items: &[Item],
+    out: &mut Vec<u8>,
+) -> Result<(), Refused>
     requires { AreShort (map item_view items.now) }
-    ensures { Grows result out.old.items out.new.items (flat_map (normal_dataset rec) (map item_view items.now)) }
+    ensures grown { Grows result out.old.items out.new.items (flat_map (normal_dataset rec) (map item_view items.now)) }
+    ensures memory { Lacks result memory.old memory.new }
 {
     for item in items {
-        append_item(rec, item, out)?;
+        append_item(memory, rec, item, out)?;
     }
     Ok(())
 }
 
-fn append_record(iim: &Iim, out: &mut Vec<u8>) -> Result<(), AllocError>
-    ensures { Grows result out.old.items out.new.items (normal_iim iim.now) }
+fn append_record(memory: &mut Memory, iim: &Iim, out: &mut Vec<u8>) -> Result<(), Refused>
+    ensures grown { Grows result out.old.items out.new.items (normal_iim iim.now) }
+    ensures memory { Lacks result memory.old memory.new }
 {
-    for i in 0..iim.groups() {
-        let (rec, _, items) = iim.group_at(i);
-        append_group(rec, items, out)?;
+    for (rec, _, items) in iim.iter() {
+        append_group(memory, rec, items, out)?;
     }
     Ok(())
 }
@@ -187,8 +146,21 @@ pub fn append_iim(iim: &Iim, out: &mut Vec<u8>) -> Result<(), AllocError>
     ensures done { OnOk result (out.new.items ≡ out.old.items ++ normal_iim iim.now) }
     ensures failed { OnErr result (out.new.items ≡ out.old.items) }
 {
+    let mut memory = Memory::new(*out.allocator());
+    append_iim_in(&mut memory, iim, out)?;
+    Ok(())
+}
+
+/// Appends the normal form as `append_iim` does, in the memory that is lent: an error tells that it refused
+/// a growth in this call.
+pub fn append_iim_in(memory: &mut Memory, iim: &Iim, out: &mut Vec<u8>) -> Result<(), Refused>
+    requires { length (normal_iim iim.now) ≤ 33554432 }
+    ensures done { OnOk result (out.new.items ≡ out.old.items ++ normal_iim iim.now) }
+    ensures failed { OnErr result (out.new.items ≡ out.old.items) }
+    ensures memory { Lacks result memory.old memory.new }
+{
     let before = out.len();
-    let result = append_record(iim, out);
+    let result = append_record(memory, iim, out);
     if result.is_err() {
         out.truncate(before);
     }

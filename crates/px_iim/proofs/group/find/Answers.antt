@@ -1,18 +1,10 @@
-use Rattle.std.proofs.Common.{arith}
-use Rattle.px_iim.proofs.Places.{numbers_at, numbers_length, below_more}
+use Rattle.std.proofs.Common.{rules}
+use Rattle.std.proofs.lemmas.List.Sorted.{answers_always}
+use Rattle.px_iim.specs.declared.group.Group.{Group}
+use Rattle.px_iim.proofs.Rising.{searched}
 use Rattle.px_iim.proofs.group.find.Goals as goal
 
-pub returns-then-group-number : goal.returns-then-group-number
-returns-then-group-number c =
-    let e = numbers_at c.args.groups.now c.loop-at.at c.index-groups-at.result c.loop-at-test.true c.index-groups-at.is in
-    (c.loop-at.invariant, omega (arith, numbers_length c.args.groups.now), omega (arith, e))
-
-pub returns-then-group-number-2 : goal.returns-then-group-number-2
-returns-then-group-number-2 c =
-    let e = numbers_at c.args.groups.now c.loop-at.at c.index-groups-at.result c.loop-at-test.true c.index-groups-at.is in
-    (c.loop-at.invariant, omega (arith, numbers_length c.args.groups.now), λ h. omega (arith, e))
-
-pub loop-at-preserved : goal.loop-at-preserved
-loop-at-preserved c =
-    let e = numbers_at c.args.groups.now c.loop-at.at c.index-groups-at.result c.loop-at-test.true c.index-groups-at.is in
-    below_more c.args.groups.now c.args.number c.loop-at.at c.loop-at.invariant (omega (arith, e))
+pub returns : goal.returns
+returns c =
+    let found = c.binary_search_by_key.ensures in
+    searched c.args.groups.now c.args.number c.requires _ found.bound (found.position (λ (g : Group). g.number) (answers_always _ _ _ (λ f a r g called. search rules)))

@@ -1,4 +1,4 @@
-use Rattle.std.proofs.Common.{◌≡◌, ℕ, ◌+◌, true, false, Some, List, drop, option_map, ◌∙◌, ap, sym, arith}
+use Rattle.std.proofs.Common.{◌≡◌, refl, ℕ, ◌+◌, true, false, Some, List, drop, option_map, ◌∙◌, ap, sym, arith}
 use Rattle.std.proofs.lemmas.Result.{err_from_is_err_and}
 use Rattle.px_bytes.specs.declared.Refusal.{Refusal}
 use Rattle.px_bytes.specs.declared.Refusal.TheVariants.{Content, OutOfMemory}
@@ -15,21 +15,22 @@ use Rattle.px_iim.proofs.read.read_groups.Goals as goal
 pub loop-record-init : goal.loop-record-init
 loop-record-init c = record {
   inside = omega arith;
-  said = ap (λ (i : Record). option_map (gather i) (datasets c.args.bytes.now)) c.new-record.ensures ∙ sym (iim_of-within c.args.bytes.now c.requires);
+  said = ap (λ (i : Record). option_map (gather i) (datasets c.args.bytes.now)) c.new_in-record.ensures ∙ sym (iim_of-within c.args.bytes.now c.requires);
   faults = sym (iim_left c.args.bytes.now c.requires);
+  memory = refl;
 }
 
 refuses : (e : Refusal) (x : List ℕ) (at : ℕ) → JudgesAt (Err e) x at → first_false (checks_left at (drop at x)) ≡ first_false (iim_checks x) → Refuses e (iim_checks x)
 refuses (Content cause place) x at h f = sym f ∙ refused_fault at (drop at x) (cause, place) h
 refuses OutOfMemory x at h f = absurd h
 
-pub returns-in_err-found : goal.returns-in_err-found
-returns-in_err-found c =
+pub returns-in_err-found-clause-judged : goal.returns-in_err-found-clause-judged
+returns-in_err-found-clause-judged c =
     let p = err_from_is_err_and c.from_residual.result c.from_residual.ensures.1 in
     rw (p.1, p.2) (refuses c.in_err-found.field-0.0 c.args.bytes.now c.loop-record.at c.in_err-found.ensures c.loop-record.invariant.faults)
 
-pub push-requires : goal.push-requires
-push-requires c = octets_within c.args.bytes.now c.loop-record.at c.in_ok-found.found c.in_ok-found.ensures c.requires
+pub push_in-requires : goal.push_in-requires
+push_in-requires c = octets_within c.args.bytes.now c.loop-record.at c.in_ok-found.found c.in_ok-found.ensures c.requires
 
 pub overflow_add-at : goal.overflow_add-at
 overflow_add-at c =
@@ -39,15 +40,15 @@ overflow_add-at c =
 pub rest-requires : goal.rest-requires
 rest-requires c = inside c.args.bytes.now c.loop-record.at c.in_ok-found.found c.in_ok-found.ensures c.loop-record.invariant.inside
 
-pub returns-then-is_end : goal.returns-then-is_end
-returns-then-is_end c =
+pub returns-then-is_end-clause-judged : goal.returns-then-is_end-clause-judged
+returns-then-is_end-clause-judged c =
     let x = c.args.bytes.now in
     let f = c.in_ok-found.found in
     let r : Reads (drop c.loop-record.at x) f = c.in_ok-found.ensures in
     let e : is_end (drop (c.loop-record.at + f.size) x) ≡ true = sym (ap is_end c.rest.ensures) ∙ sym c.if-is_end.ensures in (
       sym c.loop-record.invariant.faults ∙ fault_last x c.loop-record.at f r e,
       sym c.loop-record.invariant.said ∙ ap (option_map (gather c.loop-record.record)) (said_last x c.loop-record.at f r e)
-          ∙ gather_last c.loop-record.record (found_view f) ∙ ap (λ (i : Record). Some i) (sym c.in_ok-push.ensures.done),
+          ∙ gather_last c.loop-record.record (found_view f) ∙ ap (λ (i : Record). Some i) (sym c.in_ok-push_in.ensures.done),
     )
 
 pub loop-record-preserved : goal.loop-record-preserved
@@ -58,10 +59,11 @@ loop-record-preserved c =
     let e : is_end (drop (c.loop-record.at + f.size) x) ≡ false = sym (ap is_end c.rest.ensures) ∙ sym c.if-is_end.ensures in
     record {
       inside = inside x c.loop-record.at f r c.loop-record.invariant.inside;
-      said = ap (λ (i : Record). option_map (gather i) (datasets (drop (c.loop-record.at + f.size) x))) c.in_ok-push.ensures.done
+      said = ap (λ (i : Record). option_map (gather i) (datasets (drop (c.loop-record.at + f.size) x))) c.in_ok-push_in.ensures.done
           ∙ sym (gather_more c.loop-record.record (found_view f) (datasets (drop (c.loop-record.at + f.size) x)))
           ∙ ap (option_map (gather c.loop-record.record)) (sym (said_more x c.loop-record.at f r e)) ∙ c.loop-record.invariant.said;
       faults = sym (fault_more x c.loop-record.at f r e) ∙ c.loop-record.invariant.faults;
+      memory = c.in_ok-push_in.ensures.memory ∙ c.loop-record.invariant.memory;
     }
 
 pub loop-record-smaller : goal.loop-record-smaller

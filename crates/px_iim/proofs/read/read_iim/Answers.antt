@@ -1,68 +1,11 @@
-use Rattle.std.proofs.Common.{◌≡◌, ℕ, ◌≤◌, Option, Some, None, List, length, Result, Ok, Err, IfOk, IfErr, ap, refl, arith, length-append}
+use Rattle.std.proofs.Common.{ℕ, Bool, List, Result, Ok, Err, IfErr}
 use Rattle.px_bytes.specs.declared.Refusal.{Refusal}
-use Rattle.px_bytes.specs.declared.Refusal.TheVariants.{Content, OutOfMemory}
-use Rattle.px_bytes.specs.declared.Cause.{Cause}
-use Rattle.px_bytes.specs.declared.Cause.TheVariants.{TooLong, NoMarker, LengthForm, DataSetCut}
-use Rattle.px_bytes.specs.Checks.{Judges}
-use Rattle.px_bytes.specs.CheckLaws.{Judges-good}
-use Rattle.px_bytes.specs.Numbers.{AreBytes}
-use Rattle.px_bytes.specs.Parts.{limit}
-use Rattle.px_iim.specs.DataSet.{DataSet}
-use Rattle.px_iim.specs.Group.{Record, IsRecord}
-use Rattle.px_iim.specs.Record.{SaysIim, iim_of}
-use Rattle.px_iim.specs.Check.{iim_checks, First, Stands, Behind}
-use Rattle.px_iim.specs.RecordLaws.{computes, said_is_record}
-use Rattle.px_iim.specs.FaultLaws.{first_stands, stands_unsaid}
 use Rattle.px_iim.specs.Reading.{RefusesIim}
-use Rattle.px_iim.proofs.Steps.{checks_past}
 use Rattle.px_iim.proofs.read.read_iim.Goals as goal
 
-nothing : (x : List ℕ) → ((i : Record) → SaysIim x i → ⊥) → iim_of x ≡ None
-nothing x h = go (iim_of x) refl where
-  go : (o : Option Record) → iim_of x ≡ o → iim_of x ≡ None
-  go None e = e
-  go (Some i) e = absurd (h i ((computes x i).1 e))
-
-behind_place : (x : List ℕ) (ds : List DataSet) (rest : List ℕ) (p : ℕ) → Behind x ds rest p → length x ≤ limit → p ≤ limit
-behind_place x ds rest p b l = omega (arith, b.place, ap length b.whole, length-append b.front rest)
-
-place : (x : List ℕ) (c : Cause) (p : ℕ) → Stands x c p → length x ≤ limit → p ≤ limit
-place x TooLong p s l = omega (arith, s.0)
-place x NoMarker p s l = behind_place x s.0 s.1 p s.2 l
-place x LengthForm p s l = behind_place x s.0 s.1 p s.2 l
-place x DataSetCut p s l = behind_place x s.0 s.1 p s.2 l
-place x _ p s l = absurd s
-
-refuses : (x : List ℕ) (c : Cause) (p : ℕ) → First x c p → p ≤ limit → RefusesIim x (Content c p)
-refuses x c p f l =
-    let s = first_stands x c p f in
-    let none = λ (i : Record) (t : SaysIim x i). stands_unsaid x c p i s t in
-    (s, l, nothing x none, none)
-
-stands : {X : Type 0} (r : Result X Refusal) (x : List ℕ) (good : X → Type 0) → length x ≤ limit → Judges r (iim_checks x) good → IfErr r (RefusesIim x)
-stands (Ok i) x good l j = tt
-stands (Err (Content c p)) x good l j = refuses x c p j (place x c p (first_stands x c p j) l)
-stands (Err OutOfMemory) x good l j = tt
-
-wholes : (r : Result Record Refusal) (x : List ℕ) → AreBytes x → Judges r (iim_checks x) (λ i. iim_of x ≡ Some i) → IfOk r IsRecord
-wholes (Ok i) x b j = said_is_record x i b ((computes x i).1 j.1)
-wholes (Err e) x b j = tt
-
-pub returns-then-bytes-clause-judged : goal.returns-then-bytes-clause-judged
-returns-then-bytes-clause-judged c = checks_past c.args.bytes.now c.if-bytes.true
-
-pub returns-then-bytes-clause-stands : goal.returns-then-bytes-clause-stands
-returns-then-bytes-clause-stands c = refuses c.args.bytes.now TooLong limit (checks_past c.args.bytes.now c.if-bytes.true) (omega arith)
-
-pub returns-clause-judged : goal.returns-clause-judged
-returns-clause-judged c =
-    let x = c.args.bytes.now in
-    Judges-good c.read_groups.result (iim_checks x) (λ i. iim_of x ≡ Some i) (SaysIim x) (λ i e. (computes x i).1 e) c.read_groups.ensures
+some_refused : {X : Type 0} (r : Result X Refusal) (x : List ℕ) (b : Bool) → IfErr r (RefusesIim x b) → IfErr r (λ e. (refused : Bool) × RefusesIim x refused e)
+some_refused (Ok i) x b h = tt
+some_refused (Err e) x b h = (b, h)
 
 pub returns-clause-stands : goal.returns-clause-stands
-returns-clause-stands c =
-    let x = c.args.bytes.now in
-    stands c.read_groups.result x (λ i. iim_of x ≡ Some i) c.if-bytes.false c.read_groups.ensures
-
-pub returns-clause-whole : goal.returns-clause-whole
-returns-clause-whole c = wholes c.read_groups.result c.args.bytes.now (λ k. (c.type_inv.bytes k).fits) c.read_groups.ensures
+returns-clause-stands c = some_refused c.read_iim_in.result c.args.bytes.now c.read_iim_in.new.memory c.read_iim_in.ensures.stands

@@ -1,6 +1,13 @@
-use Rattle.std.proofs.Common.{◌≡◌, ◌++◌, take}
+use Rattle.std.proofs.Common.{◌≡◌, ◌++◌, ℕ, List}
+use Rattle.std.specs.List.{AllByRecursion}
+use Rattle.px_iim.specs.Group.{IsGroup}
 use Rattle.px_iim.specs.Record.{normal_iim}
 use Rattle.px_iim.proofs.write.append_record.Given as goal
 
-abbrev pub invariant-loop-i : goal.invariant-loop-i
-invariant-loop-i l = l.out.items ≡ l.initial.out.items ++ normal_iim (take l.i l.iim)
+-- the groups so far were appended, and those that are left make the rest of the form
+abbrev pub invariant-loop-rec : goal.invariant-loop-rec
+invariant-loop-rec l = record {
+  whole : AllByRecursion IsGroup l.rec-iterator;
+  grown : (parts : List ℕ) × (l.out.items ≡ l.initial.out.items ++ parts) × (parts ++ normal_iim l.rec-iterator ≡ normal_iim l.iim);
+  memory : l.memory ≡ l.initial.memory;
+}

@@ -1,19 +1,43 @@
-use Rattle.std.proofs.Common.{◌∙◌}
+use Rattle.std.proofs.Common.{◌++◌, [], ◌∙◌, refl, sym, ap, subst}
+use Rattle.std.specs.List.{AllByRecursion}
 use Rattle.std.proofs.lemmas.Result.{err_from_is_err_and}
-use Rattle.px_iim.specs.Record.{normal_group}
+use Rattle.px_bytes.specs.Waiting.{Owes}
+use Rattle.std.proofs.KnownBytes.{Appends-nil}
+use Rattle.px_iim.specs.Group.{Record, IsGroup}
+use Rattle.px_iim.specs.Record.{normal_iim}
 use Rattle.px_iim.specs.View.{part_view}
-use Rattle.px_bytes.specs.WaitingLaws.{loop_more, loop_stop}
+use Rattle.px_iim.proofs.Writes.{short_next, whole_next, owes_next, owes_failed, rest_none}
 use Rattle.px_iim.proofs.write.put_iim.Goals as goal
+
+pub loop-rec-init : goal.loop-rec-init
+loop-rec-init g c =
+    let all = c.into_iter-rec-iterator.ensures.into_iter_gives ∙ c.iter-rec-items.ensures.all in
+    record {
+      whole = subst (AllByRecursion IsGroup) (sym all) c.iter-rec-items.ensures.whole.groups;
+      owes = (c.args.pending.now, ([], Appends-nil (g.W.Sink.bytes_taken c.args.writer.now), refl), ap (λ (i : Record). c.args.pending.now ++ normal_iim i) all);
+      count = refl;
+    }
+
+pub put_group-requires-clause-short : goal.put_group-requires-clause-short
+put_group-requires-clause-short g c = short_next c.loop-rec.rec-iterator c.next.new.self (part_view (c.in-Some.rec, c.in-Some.field-0-1, c.in-Some.items)) c.in-Some.ensures.steps [] c.loop-rec.invariant.whole
 
 pub returns-in_err-put_group-clause-bytes : goal.returns-in_err-put_group-clause-bytes
 returns-in_err-put_group-clause-bytes g c =
     let p = err_from_is_err_and c.from_residual.result c.from_residual.ensures.1 in
-    rw p.1 (loop_stop normal_group c.args.iim.now c.loop-i.i (part_view c.group_at-rec.result) c.group_at-rec.ensures
-    _ _ _ c.args.pending.now c.loop-i.pending c.loop-i.invariant.owes c.in_err-put_group.ensures.bytes)
+    let o = c.loop-rec.invariant.owes in
+    rw p.1 (owes_failed c.loop-rec.rec-iterator c.next.new.self (part_view (c.in-Some.rec, c.in-Some.field-0-1, c.in-Some.items)) c.in-Some.ensures.steps _ _ _ _ c.loop-rec.pending o.0 o.1 o.2 c.in_err-put_group.ensures.bytes)
 
-pub loop-i-preserved : goal.loop-i-preserved
-loop-i-preserved g c = record {
-  owes = loop_more normal_group c.args.iim.now c.loop-i.i (part_view c.group_at-rec.result) c.group_at-rec.ensures
-      _ _ _ c.args.pending.now c.loop-i.pending c.put_group.new.pending c.loop-i.invariant.owes c.in_ok-put_group.ensures.bytes;
-  count = c.in_ok-put_group.ensures.count ∙ c.loop-i.invariant.count;
-}
+pub loop-rec-preserved : goal.loop-rec-preserved
+loop-rec-preserved g c =
+    let x = part_view (c.in-Some.rec, c.in-Some.field-0-1, c.in-Some.items) in
+    let o = c.loop-rec.invariant.owes in
+    record {
+      whole = whole_next c.loop-rec.rec-iterator c.next.new.self x c.in-Some.ensures.steps [] c.loop-rec.invariant.whole;
+      owes = owes_next c.loop-rec.rec-iterator c.next.new.self x c.in-Some.ensures.steps _ _ _ _ c.loop-rec.pending c.put_group.new.pending o.0 o.1 o.2 c.in_ok-put_group.ensures.bytes;
+      count = c.in_ok-put_group.ensures.count ∙ c.loop-rec.invariant.count;
+    }
+
+pub returns-clause-bytes : goal.returns-clause-bytes
+returns-clause-bytes g c =
+    let o = c.loop-rec.invariant.owes in
+    subst (Owes (g.W.Sink.bytes_taken c.args.writer.now) (g.W.Sink.bytes_taken c.loop-rec.writer) c.loop-rec.pending) (rest_none c.loop-rec.rec-iterator o.0 _ c.in-None.ensures.steps.0 o.2) o.1

@@ -1,8 +1,9 @@
 use Rattle.std.proofs.Common.{◌≡◌, ◌∙◌, ◌<◌, ℕ, [], List, Vec, Global, ap, sym, subst, arith, get_or, map, length, zero-add}
 use Rattle.px_iim.specs.declared.group.Group.{Group}
 use Rattle.px_iim.specs.Group.{named, items_at, AreGroups}
-use Rattle.px_iim.specs.View.{item_view, records_view, numbers, Holds, MissingIn}
+use Rattle.px_iim.specs.View.{item_view, records_view, numbers, Rises, Holds, MissingIn}
 use Rattle.px_iim.proofs.Records.{found_record, missing_record, past_record}
+use Rattle.px_iim.proofs.Rising.{rises_record}
 use Rattle.px_iim.proofs.iim.Iim.group.Goals as goal
 
 found : (k n m : ℕ) (vs : List (Vec Group Global)) (v : Vec Group Global) (gs : List Group) (items : List (ℕ × List ℕ)) → k < length vs → v ≡ get_or vs k v → gs ≡ v.items → n ≡ m
@@ -22,6 +23,12 @@ returns-then-rec-len c =
     ap (map item_view) (c.as_slice.ensures.value ∙ c.self.invariant.0)
     ∙ sym (past_record 0 c.args.rec (named c.args.rec c.args.number) c.self.inside.records.items (omega (arith, c.self.inside.records.ok.0, c.len.ensures, c.if-rec-len.true)))
     ∙ ap (items_at c.args.rec (named c.args.rec c.args.number)) c.self.view_is
+
+pub items_of-requires : goal.items_of-requires
+items_of-requires c =
+    let vs = c.self.inside.records.items in
+    let l : c.args.rec < length vs = omega (arith, c.self.inside.records.ok.0, c.len.ensures, c.if-rec-len.false) in
+    subst (λ (gs : List Group). Rises (numbers gs)) (sym (c.deref.ensures.value ∙ ap (λ (v : Vec Group Global). v.items) c.index.ensures)) (rises_record 0 c.args.rec vs c.index.result.now l (c.self.invariant.2).ascending)
 
 pub returns-in-Some : goal.returns-in-Some
 returns-in-Some c =

@@ -2,10 +2,7 @@ use Rattle.std.proofs.Common.{arith}
 use Rattle.px_iim.specs.View.{item_view}
 use Rattle.px_iim.specs.BoundLaws.{length-normal_dataset}
 use Rattle.px_iim.proofs.Writes.{within_past, within_some}
-use Rattle.px_iim.proofs.write.with_item.Goals as goal
-
-pub returns-then-len-total : goal.returns-then-len-total
-returns-then-len-total c = within_past _ (let e = length-normal_dataset 0 (item_view c.args.item.now) in omega arith)
+use Rattle.px_iim.proofs.length.with_item.Goals as goal
 
 pub returns-then-longer-gt-MOST : goal.returns-then-longer-gt-MOST
 returns-then-longer-gt-MOST c = within_past _ (let e = length-normal_dataset 0 (item_view c.args.item.now) in omega (arith, c.head_len.ensures.value))

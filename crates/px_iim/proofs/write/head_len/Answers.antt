@@ -1,9 +1,0 @@
-use Rattle.std.proofs.Common.{arith}
-use Rattle.px_iim.specs.BoundLaws.{length-count_short, length-count_long}
-use Rattle.px_iim.proofs.write.head_len.Goals as goal
-
-pub returns-then-count-clause-value : goal.returns-then-count-clause-value
-returns-then-count-clause-value c = let e = length-count_short c.args.count c.if-count.true in omega arith
-
-pub returns-clause-value : goal.returns-clause-value
-returns-clause-value c = let e = length-count_long c.args.count c.if-count.false in omega arith

@@ -1,0 +1,49 @@
+// The length of a normal form, counted DataSet by DataSet.
+ghost use Rattle.std.specs.Prelude.{◌≡◌, ◌≤◌, ◌+◌, ℕ, length, IfSome};
+ghost use Rattle.px_iim.specs.Record.{normal_count, normal_dataset};
+ghost use Rattle.px_iim.specs.View.{item_view};
+ghost use Rattle.px_iim.specs.Writing.{within};
+
+use crate::dataset::TOP_BIT;
+use crate::group::Item;
+use px_bytes::LIMIT;
+
+// A normal form is counted up to this length.
+const MOST: u32 = 2 * LIMIT;
+
+// How long a DataSet is up to its data.
+fn head_len(count: u32) -> u32
+    ensures value { result ≡ 3 + length (normal_count count) }
+    ensures bound { result ≤ 9 }
+{
+    if count < TOP_BIT {
+        return 5;
+    }
+    9
+}
+
+// A length with one more DataSet, where it is at most MOST.
+fn with_item(total: u32, item: &Item) -> Option<u32>
+    requires counted { total ≤ 33554432 }
+    requires short { length item.now.octets.now ≤ 16777216 }
+    ensures { result ≡ within (total + length (normal_dataset 0 (item_view item.now))) }
+{
+    let len = item.octets.len() as u32;
+    let longer = total + head_len(len) + len;
+    if longer > MOST {
+        return None;
+    }
+    Some(longer)
+}
+
+// The length of a normal form, counted up to MOST, with one more DataSet.
+pub(crate) fn longer(len: Option<u32>, item: &Item) -> Option<u32>
+    requires counted { IfSome len (λ total. total ≤ 33554432) }
+    requires short { length item.now.octets.now ≤ 16777216 }
+    ensures { (n : ℕ) → len ≡ within n → result ≡ within (n + length (normal_dataset 0 (item_view item.now))) }
+{
+    match len {
+        Some(total) => with_item(total, item),
+        None => None,
+    }
+}
