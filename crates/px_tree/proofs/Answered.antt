@@ -1,5 +1,5 @@
 -- What the answer to a whole block tells.
-use Rattle.std.proofs.Common.{◌≡◌, ℕ, ◌≤◌, List, Option, Some, None, Result, Ok, Err, refl, length, sym, ap, ◌∙◌, subst}
+use Rattle.std.proofs.Common.{◌≡◌, ℕ, ◌≤◌, Bool, List, Option, Some, None, Result, Ok, Err, refl, length, sym, ap, ◌∙◌, subst}
 use Rattle.std.specs.Prelude.{IfOk, IfErr}
 use Rattle.px_bytes.specs.declared.Order.{Order}
 use Rattle.px_bytes.specs.declared.Cause.{Cause}
@@ -7,7 +7,7 @@ use Rattle.px_bytes.specs.declared.Refusal.{Refusal}
 use Rattle.px_bytes.specs.declared.Refusal.TheVariants.{Content, OutOfMemory}
 use Rattle.px_bytes.specs.Parts.{limit}
 use Rattle.px_bytes.specs.Numbers.{AreBytes}
-use Rattle.px_bytes.specs.Checks.{first_false, Refuses, Judges}
+use Rattle.px_bytes.specs.Checks.{first_false, Refuses, Judges, LacksBlock, ContentOnly}
 use Rattle.px_bytes.specs.CheckLaws.{all_true, Refuses-more, Refuses-behind}
 use Rattle.px_iim.specs.Check.{iim_checks}
 use Rattle.px_iim.specs.FaultLaws.{said_clean}
@@ -32,12 +32,19 @@ faulty_says_none x c p h = go (iim_of x) refl
     go None e = e
     go (Some i) e = let q : ◌≡◌ {A = Option (Cause × ℕ)} None (Some (c, p)) = sym (said_clean x i (computed_said x i e)) ∙ h in cc
 
--- a refusal
-pub refused_by : (b : List ℕ) (e : Refusal) → length b ≤ limit → Refuses e (checks b) → IsRefused b e
-refused_by b (Content c p) l h =
+-- a refusal, where want of memory met a refused growth
+pub refused_by : (X : Type 0) (b : List ℕ) (e : Refusal) (old new : Bool) → length b ≤ limit → Refuses e (checks b)
+    → LacksBlock {X = X} (Err e) old new → IsRefused b new e
+refused_by X b (Content c p) old new l h k =
     let f = first_stands b c p h in
     record { first = h; stands = f; bounded = fault_bounded b c p l f; unsaid = λ m s. stands_unsaid b c p m f s }
-refused_by b OutOfMemory l h = tt
+refused_by X b OutOfMemory old new l h k = k
+
+-- a refusal of content alone
+pub refused_only : (X : Type 0) (b : List ℕ) (e : Refusal) (refused : Bool) → length b ≤ limit → Refuses e (checks b)
+    → ContentOnly {X = X} (Err e) → IsRefused b refused e
+refused_only X b (Content c p) refused l h k = refused_by X b (Content c p) refused refused l h refl
+refused_only X b OutOfMemory refused l h k = absurd k
 
 pub header_refuses : (b : List ℕ) (e : Refusal) → Refuses e (header_checks b) → Refuses e (checks b)
 unfolding checks
@@ -63,9 +70,10 @@ module _ (b : List ℕ) (o : Order) (headed : first_false (header_checks b) ≡ 
     tree_said (Ok m) j = subst (SaysExif b) (sym j.1) (tree_says j.0)
     tree_said (Err e) j = tt
 
-    pub tree_refused : (r : Result M Refusal) → length b ≤ limit → Judges r (tree_checks b o) (λ m. see m ≡ meaning b o) → IfErr r (IsRefused b)
-    tree_refused (Ok m) l j = tt
-    tree_refused (Err e) l j = refused_by b e l (tree_refuses e j)
+    pub tree_refused : (r : Result M Refusal) (old new : Bool) → length b ≤ limit → Judges r (tree_checks b o) (λ m. see m ≡ meaning b o)
+        → LacksBlock r old new → IfErr r (IsRefused b new)
+    tree_refused (Ok m) old new l j k = tt
+    tree_refused (Err e) old new l j k = refused_by M b e old new l (tree_refuses e j) k
 
     pub tree_fits : (r : Result M Refusal) → AreBytes b → IfOk r (λ m. SaysExif b (see m)) → IfOk r (λ m. Fits (see m))
     tree_fits (Ok m) a s = said_fits b (see m) a s

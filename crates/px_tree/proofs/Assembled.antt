@@ -41,7 +41,7 @@ module _ (b : List ℕ) (o : Order) where
   thumb_read (Some t) r f i =
       let d = subst (λ (x : Option ℕ). IfSome x (IsDirectory b o Thumb)) (sym r.stands) i in
       let e : Some t.fields ≡ Some (fields b o Thumb t.at) = f ∙ ap (λ (x : Option ℕ). option_map (fields b o Thumb) x) (sym r.stands) in
-      record { table = r.table; each = d.each; fields_are = (let q : t.fields ≡ fields b o Thumb t.at = cc in q) }
+      record { table = r.table; each = d.each; uses = r.uses; fields_are = (let q : t.fields ≡ fields b o Thumb t.at = cc in q) }
 
   pub main_each : (a : ℕ) → a ≡ main_at b o → IfSome (dir_at b o Main) (IsDirectory b o Main) → AllByRecursion (IsEntry b o Main) (entries_at b o a)
   unfolding dir_at

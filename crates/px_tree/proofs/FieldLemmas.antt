@@ -1,8 +1,8 @@
 -- Fields in order of their tags.
-use Rattle.std.proofs.Common.{◌≡◌, ◌<◌, ◌≤◌, ◌+◌, ◌-◌, ℕ, zero, suc, true, List, [], ◌∷◌, length, slice_get, slice_index, get_or, Some, None, is_some, refl, sym, ap, subst, inl, inr, ◌∙◌, arith}
+use Rattle.std.proofs.Common.{◌≡◌, ◌<◌, ◌≤◌, ◌+◌, ◌-◌, ◌==◌, nat_lt, ne_eqb, ℕ, zero, suc, true, false, if◌then◌else◌, Option, List, [], ◌∷◌, length, slice_get, slice_index, get_or, Some, None, is_some, refl, sym, ap, subst, inl, inr, ◌∙◌, arith}
 use Rattle.std.proofs.lemmas.Bool.Decides.{nat_tests}
 use Rattle.std.specs.List.{insert, AllByRecursion}
-use Rattle.std.proofs.lemmas.Bool.{cases_lt}
+use Rattle.std.proofs.lemmas.Bool.{cases_lt, cases_Bool, cond-true, cond-false}
 use Rattle.std.proofs.lemmas.List.Edits.{length-insert, get_or-insert_below, get_or-insert_at, get_or-insert_above}
 use Rattle.px_field.specs.Values.{Value}
 use Rattle.px_tree.specs.Tree.{Fields}
@@ -128,3 +128,28 @@ order_from_rising (f ∷ fields) h zero zero lt inside = absurd (omega arith)
 order_from_rising (f ∷ fields) h zero (suc j) lt inside = let len = length-tags fields in above_all f.0 (tags fields) h.0 j (omega arith)
 order_from_rising (f ∷ fields) h (suc i) zero lt inside = absurd (omega arith)
 order_from_rising (f ∷ fields) h (suc i) (suc j) lt inside = order_from_rising fields h.1 i j (omega arith) (omega arith)
+
+-- ---- what is put is there
+
+pub get_after_put : (fields : Fields) (t u : ℕ) (v : Value) → at_tag t fields ≡ None
+    → at_tag u (put t v fields) ≡ (if t == u then Some v else at_tag u fields)
+get_after_put [] t u v h = refl
+get_after_put (f ∷ fields) t u v h = elim (cases_Bool (nat_lt t f.0)) [
+  | inl l ↦ ap (at_tag u) (cond-true (nat_lt t f.0) ((t, v) ∷ f ∷ fields) (f ∷ put t v fields) l)
+  | inr l ↦ ap (at_tag u) (cond-false (nat_lt t f.0) ((t, v) ∷ f ∷ fields) (f ∷ put t v fields) l) ∙ elim (cases_Bool (f.0 == u)) [
+    | inl e ↦
+        let q : (t == u) ≡ false = ne_eqb t u (λ p.
+        let s : Some f.1 ≡ None = sym (cond-true (f.0 == t) (Some f.1) (at_tag t fields) (subst (λ (x : ℕ). (f.0 == x) ≡ true) (sym p) e)) ∙ h in
+        cc) in
+        cond-true (f.0 == u) (Some f.1) (at_tag u (put t v fields)) e
+        ∙ sym (cond-true (f.0 == u) (Some f.1) (at_tag u fields) e)
+        ∙ sym (cond-false (t == u) (Some v) (at_tag u (f ∷ fields)) q)
+    | inr e ↦
+        cond-false (f.0 == u) (Some f.1) (at_tag u (put t v fields)) e
+        ∙ get_after_put fields t u v (elim (cases_Bool (f.0 == t)) [
+          | inl p ↦ let s : Some f.1 ≡ None = sym (cond-true (f.0 == t) (Some f.1) (at_tag t fields) p) ∙ h in cc
+          | inr p ↦ sym (cond-false (f.0 == t) (Some f.1) (at_tag t fields) p) ∙ h
+        ])
+        ∙ ap (λ (x : Option Value). if t == u then Some v else x) (sym (cond-false (f.0 == u) (Some f.1) (at_tag u fields) e))
+  ]
+]

@@ -28,6 +28,7 @@ pub mod Kept
 pub mod Loop
 pub mod Standing
 pub mod Pointers
+pub mod KeptUses
 pub mod Named
 pub mod Earlier
 pub mod Parted

@@ -1,5 +1,5 @@
 -- Directories where they are named.
-use Rattle.std.proofs.Common.{◌≡◌, ℕ, List, [], ◌∷◌, ◌++◌, Option, Some, None, option_map, option_to_list, refl, sym, ap, ◌∙◌, subst}
+use Rattle.std.proofs.Common.{◌≡◌, ℕ, ◌+◌, List, [], ◌∷◌, ◌++◌, Option, Some, None, option_map, option_to_list, refl, sym, ap, ◌∙◌, subst}
 use Rattle.std.specs.Prelude.{IfSome, option_and_then, unwrap_or}
 use Rattle.px_bytes.specs.declared.Order.{Order}
 use Rattle.px_bytes.specs.declared.Refusal.{Refusal}
@@ -9,12 +9,15 @@ use Rattle.px_bytes.specs.CheckLaws.{first_false-true, Refuses-more, Refuses-sam
 use Rattle.px_tree.specs.declared.roles.Dir.{Dir}
 use Rattle.px_tree.specs.declared.roles.Dir.TheVariants.{Main, Exif, Interop, Gps, Thumb}
 use Rattle.px_tree.specs.declared.links.Link.{Link}
+use Rattle.px_tree.specs.declared.links.Found.{Found}
+use Rattle.px_tree.specs.declared.tables.Directory.{Directory}
 use Rattle.px_tree.specs.Roles.{exif_tag, gps_tag, interop_tag}
-use Rattle.px_tree.specs.Entry.{fields, next, table}
-use Rattle.px_tree.specs.Directory.{dirs, dir_at, main_at, fields_at, pointer, entries_at, unless_zero}
+use Rattle.px_tree.specs.Entry.{Entry, fields, next, table, offset}
+use Rattle.px_tree.specs.Directory.{dirs, dir_at, main_at, fields_at, is_pointer, pointer, entries_at, unless_zero}
 use Rattle.px_tree.specs.Footprint.{dir_ranges, listed, ranges_at}
 use Rattle.px_tree.specs.Checks.{named_at, pointer_place, dir_checks, checks_at, dirs_checks, dirs_held}
-use Rattle.px_tree.specs.Linked.{Names, offsets_of, next_place}
+use Rattle.px_tree.specs.Uses.{Sees, link_as}
+use Rattle.px_tree.specs.Linked.{AreUsesAt, IsRead, Names, offsets_of, next_place}
 
 module _ (b : List ℕ) (o : Order) (d : Dir) where
   -- no such directory
@@ -90,19 +93,37 @@ module _ (b : List ℕ) (o : Order) where
   unfolding dir_at
   main_is k n = let e : Some k.at ≡ Some (main_at b o) = n.leads in cc
 
+  -- where the pointer of tag t in the table at a leads, and its place
   abbrev Follows : ℕ → Option Link → ℕ → Type 0
   Follows t link a = option_map (λ (l : Link). l.at) link ≡ pointer o t (entries_at b o a)
 
   abbrev Placed : ℕ → Option Link → ℕ → Type 0
   Placed t link a = IfSome link (λ l. l.place ≡ pointer_place b o a t)
 
-  pub names_exif : (link : Option Link) (a : ℕ) → a ≡ main_at b o → Follows exif_tag link a → Placed exif_tag link a → Names b o Exif link
-  unfolding dir_at named_at
-  names_exif link a e h p = record { leads = subst (Follows exif_tag link) e h; place = subst (Placed exif_tag link) e p }
+  module _ (t a : ℕ) where
+    seen_follows : (x : Option Found) → Sees b o (entries_at b o a) (a + 2) (is_pointer t) x → Follows t (option_map link_as x) a
+    unfolding pointer
+    seen_follows None h = sym (ap (λ (x : Option Entry). option_map (offset o) x) h)
+    seen_follows (Some f) h = ap (λ (n : ℕ). Some n) h.shown.offset_is ∙ sym (ap (λ (x : Option Entry). option_map (offset o) x) h.is)
 
-  pub names_gps : (link : Option Link) (a : ℕ) → a ≡ main_at b o → Follows gps_tag link a → Placed gps_tag link a → Names b o Gps link
-  unfolding dir_at named_at
-  names_gps link a e h p = record { leads = subst (Follows gps_tag link) e h; place = subst (Placed gps_tag link) e p }
+    seen_placed : (x : Option Found) → Sees b o (entries_at b o a) (a + 2) (is_pointer t) x → Placed t (option_map link_as x) a
+    seen_placed None h = tt
+    seen_placed (Some f) h = h.place
+
+  module _ (link : Option Link) (a : ℕ) (at : a ≡ main_at b o) (x : Option Found) (is : link ≡ option_map link_as x) where
+    pub names_exif : Sees b o (entries_at b o a) (a + 2) (is_pointer exif_tag) x → Names b o Exif link
+    unfolding dir_at named_at
+    names_exif s = record {
+      leads = subst (Follows exif_tag link) at (subst (λ (k : Option Link). Follows exif_tag k a) (sym is) (seen_follows exif_tag a x s));
+      place = subst (Placed exif_tag link) at (subst (λ (k : Option Link). Placed exif_tag k a) (sym is) (seen_placed exif_tag a x s));
+    }
+
+    pub names_gps : Sees b o (entries_at b o a) (a + 2) (is_pointer gps_tag) x → Names b o Gps link
+    unfolding dir_at named_at
+    names_gps s = record {
+      leads = subst (Follows gps_tag link) at (subst (λ (k : Option Link). Follows gps_tag k a) (sym is) (seen_follows gps_tag a x s));
+      place = subst (Placed gps_tag link) at (subst (λ (k : Option Link). Placed gps_tag k a) (sym is) (seen_placed gps_tag a x s));
+    }
 
   abbrev FollowsIn : ℕ → Option Link → Option ℕ → Type 0
   FollowsIn t link x = option_map (λ (l : Link). l.at) link ≡ option_and_then (λ a. pointer o t (entries_at b o a)) x
@@ -110,9 +131,27 @@ module _ (b : List ℕ) (o : Order) where
   abbrev PlacedIn : ℕ → Option Link → Option ℕ → Type 0
   PlacedIn t link x = IfSome link (λ l. l.place ≡ pointer_place b o (unwrap_or x 0) t)
 
-  pub names_interop : (link : Option Link) (exif : Option ℕ) → exif ≡ dir_at b o Exif → FollowsIn interop_tag link exif → PlacedIn interop_tag link exif → Names b o Interop link
+  -- the link to the Interoperability directory, by what was kept of the Exif directory
+  abbrev interop_of : Option Directory → Option Link
+  interop_of exif = option_and_then (λ (t : Directory). option_map link_as t.uses.interop) exif
+
+  abbrev at_of : Option Directory → Option ℕ
+  at_of exif = option_map (λ (t : Directory). t.at) exif
+
+  interop_follows : (exif : Option Directory) → IfSome exif (AreUsesAt b o) → FollowsIn interop_tag (interop_of exif) (at_of exif)
+  interop_follows None u = refl
+  interop_follows (Some t) u = seen_follows interop_tag t.at t.uses.interop u.interop
+
+  interop_placed : (exif : Option Directory) → IfSome exif (AreUsesAt b o) → PlacedIn interop_tag (interop_of exif) (at_of exif)
+  interop_placed None u = tt
+  interop_placed (Some t) u = seen_placed interop_tag t.at t.uses.interop u.interop
+
+  pub names_interop : (link : Option Link) (exif : Option Directory) → IsRead b o Exif exif → link ≡ interop_of exif → Names b o Interop link
   unfolding dir_at named_at
-  names_interop link exif e h p = record { leads = subst (FollowsIn interop_tag link) e h; place = subst (PlacedIn interop_tag link) e p }
+  names_interop link exif r is = record {
+    leads = subst (FollowsIn interop_tag link) r.stands (subst (λ (k : Option Link). FollowsIn interop_tag k (at_of exif)) (sym is) (interop_follows exif r.uses));
+    place = subst (PlacedIn interop_tag link) r.stands (subst (λ (k : Option Link). PlacedIn interop_tag k (at_of exif)) (sym is) (interop_placed exif r.uses));
+  }
 
   pub names_thumb : (link : Option Link) (a : ℕ) → a ≡ main_at b o
       → option_map (λ (l : Link). l.at) link ≡ unless_zero (next o (table b o a))

@@ -8,14 +8,15 @@ use Rattle.px_bytes.specs.Range.{Range, range}
 use Rattle.px_bytes.specs.Checks.{Check, check, first_false, Refuses}
 use Rattle.px_bytes.specs.CheckLaws.{Refuses-more, Refuses-behind, Refuses-same, all_true}
 use Rattle.px_tree.specs.declared.links.Found.{Found}
-use Rattle.px_tree.specs.declared.thumbnail.Parts.{Parts}
+use Rattle.px_tree.specs.declared.uses.Uses.{Uses}
 use Rattle.px_tree.specs.Roles.{jpeg_offset_tag, jpeg_length_tag, strip_offsets_tag, strip_lengths_tag}
 use Rattle.px_tree.specs.Entry.{Entry, offset}
 use Rattle.px_tree.specs.Directory.{entries_at, entry_with}
 use Rattle.px_tree.specs.Thumbnail.{both, are_paired, numbers, ranges_of, jpeg_range, strip_ranges}
 use Rattle.px_tree.specs.Footprint.{listed}
 use Rattle.px_tree.specs.Checks.{place_with, same_count, pair_checks, end_checks, range_checks, thumb_checks}
-use Rattle.px_tree.specs.Parts.{Finds, AreParts, AreEven, entry_here, place_in, pair_check, count_check, pairs_checks, jpeg_of, strips_of}
+use Rattle.px_tree.specs.Uses.{AreUses}
+use Rattle.px_tree.specs.Parts.{Finds, AreEven, entry_here, place_in, pair_check, count_check, pairs_checks, jpeg_of, strips_of}
 
 -- the first of two faults
 abbrev or_else : Option (Cause × ℕ) → Option (Cause × ℕ) → Option (Cause × ℕ)
@@ -69,7 +70,7 @@ module _ (b : List ℕ) (o : Order) (a : ℕ) where
   count-is : (t u : ℕ) (x y : Option Found) → Finds b o a t x → Finds b o a u y → first_false (count_check x y) ≡ first_false (count_at t (entry_with t es) (entry_with u es))
   count-is t u x y h k = count-same t u x y h k ∙ ap₂ (λ (v w : Option Entry). first_false (count_at t v w)) (sym (entry_of t x h)) (sym (entry_of u y k))
 
-  module _ (p : Parts) (found : AreParts b o a p) where
+  module _ (p : Uses) (found : AreUses b o es (a + 2) p) where
     pub pairs-is : first_false (pairs_checks p) ≡ first_false (pair_checks (a + 2) es)
     pairs-is = joined (pair_check p.jpeg_offset p.jpeg_length) (pair_check p.strip_offsets p.strip_lengths ++ count_check p.strip_offsets p.strip_lengths)
         (pair_at jpeg_offset_tag jpeg_length_tag (entry_with jpeg_offset_tag es) (entry_with jpeg_length_tag es))
@@ -191,7 +192,7 @@ or_none (Some f) y h = cc
 none_right : (xs ys : List Check) → first_false (xs ++ ys) ≡ None → first_false ys ≡ None
 none_right xs ys h = or_none (first_false xs) (first_false ys) (sym (first_append xs ys) ∙ h)
 
-pub even_parts : (p : Parts) → first_false (pairs_checks p) ≡ None → AreEven p.strip_offsets p.strip_lengths
+pub even_parts : (p : Uses) → first_false (pairs_checks p) ≡ None → AreEven p.strip_offsets p.strip_lengths
 even_parts p h = even_from p.strip_offsets p.strip_lengths
     (none_right (pair_check p.strip_offsets p.strip_lengths) (count_check p.strip_offsets p.strip_lengths)
     (none_right (pair_check p.jpeg_offset p.jpeg_length) (pair_check p.strip_offsets p.strip_lengths ++ count_check p.strip_offsets p.strip_lengths) h))

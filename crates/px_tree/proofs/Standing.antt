@@ -13,6 +13,8 @@ use Rattle.px_tree.specs.Directory.{entries_at}
 use Rattle.px_tree.specs.Footprint.{dir_ranges, placed_range, table_range}
 use Rattle.px_tree.specs.Checks.{opening_checks, entries_checks, dir_checks}
 use Rattle.px_tree.specs.Reading.{HasTable, entries_from}
+use Rattle.px_tree.specs.declared.uses.Uses.{Uses}
+use Rattle.px_tree.specs.Uses.{AreUses}
 use Rattle.px_tree.proofs.Pieces.{pieces_from}
 use Rattle.px_tree.proofs.Loop.{same_moved}
 
@@ -48,6 +50,10 @@ module _ (b : List ℕ) (o : Order) (a n : ℕ) (t : HasTable b o a n) where
       subst (λ (m : ℕ). Agrees (range a (table_size m) ∷ (filter_map (placed_range o) (entries_at b o a) ++ taken)) held) t.count
       (subst (λ (es : List Entry). Agrees (range a (table_size n) ∷ (filter_map (placed_range o) es ++ taken)) held) (sym entries_at-is)
       (agrees-same _ _ held (same_moved (Some (range a (table_size n))) (filter_map (placed_range o) (entries_from b o (a + 2) n)) taken) h))
+
+  -- what was kept of its entries
+  pub uses-is : (u : Uses) → AreUses b o (entries_from b o (a + 2) n) (a + 2) u → AreUses b o (entries_at b o a) (a + 2) u
+  uses-is u h = subst (λ (es : List Entry). AreUses b o es (a + 2) u) (sym entries_at-is) h
 
   -- the checks of its entries
   pub entries_checks-is : (d : Dir) (taken : List Range) → entries_checks b o d (table_range b o a ∷ taken) (a + 2) None (entries_at b o a) ≡ entries_checks b o d (range a (table_size n) ∷ taken) (a + 2) None (entries_from b o (a + 2) n)

@@ -1,5 +1,5 @@
 -- The laws over the definitions alone.
-use Rattle.std.specs.Prelude.{◌≡◌, ℕ, ◌≤◌, ◌⊎◌, ◌↔◌, List, length, map, slice_index, flat_map, None, Some, Contains}
+use Rattle.std.specs.Prelude.{◌≡◌, ℕ, ◌≤◌, ◌==◌, if◌then◌else◌, ◌⊎◌, ◌↔◌, List, length, map, slice_index, flat_map, None, Some, Contains}
 use Rattle.std.specs.List.{AllByRecursion}
 use Rattle.px_bytes.specs.declared.Order.{Order}
 use Rattle.px_bytes.specs.declared.Cause.{Cause}
@@ -15,13 +15,13 @@ use Rattle.px_field.specs.Values.{Value, IsOf, spell, widened}
 use Rattle.px_tree.specs.declared.roles.Dir.{Dir}
 use Rattle.px_tree.specs.declared.roles.Role.{Role}
 use Rattle.px_tree.specs.declared.roles.Role.TheVariants.{Plain, Widened, Record}
-use Rattle.px_tree.specs.Roles.{role}
-use Rattle.px_tree.specs.Tree.{Meaning}
+use Rattle.px_tree.specs.Roles.{role, at_tag}
+use Rattle.px_tree.specs.Tree.{Fields, Meaning}
 use Rattle.px_tree.specs.Entry.{Entry, raw, record_in, IsDirectory, fields}
 use Rattle.px_tree.specs.Directory.{entries_at}
 use Rattle.px_tree.specs.Footprint.{footprint}
 use Rattle.px_tree.specs.Says.{SaysExif}
-use Rattle.px_tree.specs.Fits.{Fits}
+use Rattle.px_tree.specs.Fits.{Fits, put}
 use Rattle.px_tree.specs.Checks.{FirstFault}
 use Rattle.px_tree.specs.Faults.{owners, Fault}
 
@@ -32,6 +32,11 @@ OneMeaning = (b : List ℕ) (s t : Meaning) → SaysExif b s → SaysExif b t �
 -- What a block of bytes says fits.
 abbrev pub SaidFits : Type 0
 SaidFits = (b : List ℕ) (m : Meaning) → AreBytes b → SaysExif b m → Fits m
+
+-- What is put at a tag is there, and nothing else has changed.
+abbrev pub GetAfterPut : Type 0
+GetAfterPut = (fields : Fields) (t u : ℕ) (v : Value) → at_tag t fields ≡ None →
+    at_tag u (put t v fields) ≡ (if t == u then Some v else at_tag u fields)
 
 -- Bytes outside the footprint have no meaning.
 abbrev pub FootprintCounts : Type 0

@@ -13,6 +13,7 @@ pub mod Laws
 pub mod Places
 pub mod Seen
 pub mod Reading
+pub mod Uses
 pub mod Linked
 pub mod ReadTree
 pub mod Parts

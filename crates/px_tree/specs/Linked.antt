@@ -1,22 +1,22 @@
 -- How what the reader keeps shows what the definitions say: what was found, and the directories.
-use Rattle.std.specs.Prelude.{◌≡◌, ◌≤◌, ℕ, ◌+◌, ◌*◌, Option, Some, option_map, option_to_list, List, length, flat_map, IfSome}
+use Rattle.std.specs.Prelude.{◌≡◌, ℕ, ◌+◌, ◌*◌, Option, option_map, option_to_list, List, length, flat_map, IfSome}
 use Rattle.px_bytes.specs.declared.Order.{Order}
-use Rattle.px_bytes.specs.Parts.{part}
 use Rattle.px_tree.specs.declared.roles.Dir.{Dir}
 use Rattle.px_tree.specs.declared.links.Link.{Link}
 use Rattle.px_tree.specs.declared.links.Found.{Found}
 use Rattle.px_tree.specs.declared.tables.Directory.{Directory}
-use Rattle.px_tree.specs.Entry.{entry}
-use Rattle.px_tree.specs.Directory.{entries_at, entry_with, dir_at}
-use Rattle.px_tree.specs.Checks.{named_at, place_with}
-use Rattle.px_tree.specs.Reading.{Shows, HasTable}
+use Rattle.px_tree.specs.Directory.{entries_at, dir_at}
+use Rattle.px_tree.specs.Checks.{named_at}
+use Rattle.px_tree.specs.Reading.{HasTable}
+use Rattle.px_tree.specs.Uses.{IsFirst, AreUses, has_tag}
+
+-- what was kept of the table at a
+abbrev pub AreUsesAt : List ℕ → Order → Directory → Type 0
+AreUsesAt b o t = AreUses b o (entries_at b o t.at) (t.at + 2) t.uses
 
 -- f is the entry of tag t in the table at a
-pub record IsFound (b : List ℕ) (o : Order) (a t : ℕ) (f : Found) : Type 0 where
-  pub is : entry_with t (entries_at b o a) ≡ Some (entry o (part b f.place 12))
-  pub place : f.place ≡ place_with t (a + 2) (entries_at b o a)
-  pub shown : Shows o f.head (entry o (part b f.place 12))
-  pub inside : f.place + 12 ≤ length b
+abbrev pub IsFound : List ℕ → Order → ℕ → ℕ → Found → Type 0
+IsFound b o a t f = IsFirst b o (entries_at b o a) (a + 2) (has_tag t) f
 
 -- where a link leads
 abbrev pub offset_of : Option Link → List ℕ
@@ -35,6 +35,7 @@ pub record Names (b : List ℕ) (o : Order) (d : Dir) (link : Option Link) : Typ
 pub record IsRead (b : List ℕ) (o : Order) (d : Dir) (t : Option Directory) : Type 0 where
   pub stands : option_map (λ t. t.at) t ≡ dir_at b o d
   pub table : IfSome t (λ t. HasTable b o t.at t.count)
+  pub uses : IfSome t (AreUsesAt b o)
 
 -- the place behind the entries of the directory at a
 abbrev pub next_place : List ℕ → Order → ℕ → ℕ

@@ -1,5 +1,5 @@
 -- The entries that name the thumbnail's bytes, as the reader keeps them.
-use Rattle.std.specs.Prelude.{◌≡◌, ◌≤◌, ℕ, ◌+◌, ◌==◌, true, false, Option, Some, None, option_map, unwrap_or, List, [], ◌∷◌, ◌++◌, length, IfSome, MatchOption, ⊤}
+use Rattle.std.specs.Prelude.{◌≡◌, ◌≤◌, ℕ, ◌+◌, ◌==◌, true, false, Option, Some, None, option_map, unwrap_or, List, [], ◌∷◌, ◌++◌, length, IfSome, ⊤}
 use Rattle.std.specs.List.{AllByRecursion}
 use Rattle.px_bytes.specs.declared.Order.{Order}
 use Rattle.px_bytes.specs.declared.Cause.TheVariants.{ThumbnailPair}
@@ -7,25 +7,19 @@ use Rattle.px_bytes.specs.Parts.{limit, part}
 use Rattle.px_bytes.specs.Range.{Range, range}
 use Rattle.px_bytes.specs.Checks.{Check, check}
 use Rattle.px_tree.specs.declared.links.Found.{Found}
-use Rattle.px_tree.specs.declared.thumbnail.Parts.{Parts}
+use Rattle.px_tree.specs.declared.uses.Uses.{Uses}
 use Rattle.px_tree.specs.declared.tables.Directory.{Directory}
 use Rattle.px_tree.specs.declared.roles.Dir.TheVariants.{Thumb}
-use Rattle.px_tree.specs.Roles.{jpeg_offset_tag, jpeg_length_tag, strip_offsets_tag, strip_lengths_tag}
 use Rattle.px_tree.specs.Entry.{Entry, entry, has_raw, is_short_or_long, IsEntry, fields}
-use Rattle.px_tree.specs.Directory.{entries_at, entry_with}
+use Rattle.px_tree.specs.Directory.{entries_at}
 use Rattle.px_tree.specs.Thumbnail.{both, numbers, ranges_of}
 use Rattle.px_tree.specs.Reading.{Shows, bare, HasTable}
-use Rattle.px_tree.specs.Linked.{IsFound}
+use Rattle.px_tree.specs.Uses.{Sees, has_tag}
+use Rattle.px_tree.specs.Linked.{AreUsesAt}
 
 -- what was found of a tag is its entry, or there is none
 abbrev pub Finds : List ℕ → Order → ℕ → ℕ → Option Found → Type 0
-Finds b o a t x = MatchOption x (entry_with t (entries_at b o a) ≡ None) (IsFound b o a t)
-
-pub record AreParts (b : List ℕ) (o : Order) (a : ℕ) (p : Parts) : Type 0 where
-  pub jpeg_offset : Finds b o a jpeg_offset_tag p.jpeg_offset
-  pub jpeg_length : Finds b o a jpeg_length_tag p.jpeg_length
-  pub strip_offsets : Finds b o a strip_offsets_tag p.strip_offsets
-  pub strip_lengths : Finds b o a strip_lengths_tag p.strip_lengths
+Finds b o a t x = Sees b o (entries_at b o a) (a + 2) (has_tag t) x
 
 -- the entry that was found
 abbrev pub entry_here : List ℕ → Order → Found → Entry
@@ -66,7 +60,7 @@ abbrev pub count_check : Option Found → Option Found → List Check
 count_check (Some f) (Some g) = check ThumbnailPair f.place (f.head.count == g.head.count) ∷ []
 count_check _ _ = []
 
-abbrev pub pairs_checks : Parts → List Check
+abbrev pub pairs_checks : Uses → List Check
 pairs_checks p = pair_check p.jpeg_offset p.jpeg_length ++ (pair_check p.strip_offsets p.strip_lengths ++ count_check p.strip_offsets p.strip_lengths)
 
 abbrev pub AreEven : Option Found → Option Found → Type 0
@@ -85,4 +79,5 @@ strips_of b o x n = both (λ f g. ranges_of (numbers b o (entry_here b o f)) (nu
 pub record IsReadThumb (b : List ℕ) (o : Order) (t : Directory) : Type 0 where
   pub table : HasTable b o t.at t.count
   pub each : AllByRecursion (IsEntry b o Thumb) (entries_at b o t.at)
+  pub uses : AreUsesAt b o t
   pub fields_are : t.fields ≡ fields b o Thumb t.at

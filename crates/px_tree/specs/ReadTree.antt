@@ -6,7 +6,7 @@ use Rattle.px_tree.specs.declared.tree.Directories.{Directories}
 use Rattle.px_tree.specs.Entry.{fields}
 use Rattle.px_tree.specs.Directory.{main_at, fields_at}
 use Rattle.px_tree.specs.Reading.{HasTable}
-use Rattle.px_tree.specs.Linked.{IsRead}
+use Rattle.px_tree.specs.Linked.{IsRead, AreUsesAt}
 
 -- each directory is seen as its fields; those of which more is read stand where they are named
 pub record SeenTree (b : List ℕ) (o : Order) (t : Directories) : Type 0 where
@@ -17,4 +17,5 @@ pub record SeenTree (b : List ℕ) (o : Order) (t : Directories) : Type 0 where
   pub thumb : option_map (λ t. t.fields) t.thumb ≡ fields_at b o Thumb
   pub main_stands : t.main.at ≡ main_at b o
   pub main_table : HasTable b o t.main.at t.main.count
+  pub main_uses : AreUsesAt b o t.main
   pub thumb_read : IsRead b o Thumb t.thumb

@@ -3,7 +3,7 @@ ghost use Rattle.std.specs.Prelude.{◌≡◌, ◌≤◌, ◌<◌, ◌+◌, ◌*
 ghost use Rattle.px_bytes.specs.declared.Cause.TheVariants.{Overlap};
 ghost use Rattle.px_bytes.specs.Parts.{limit, part};
 ghost use Rattle.px_bytes.specs.Range.{Range, range, is_free, Agrees};
-ghost use Rattle.px_bytes.specs.Checks.{Judges, check};
+ghost use Rattle.px_bytes.specs.Checks.{ContentOnly, LacksBlock, Judges, check};
 ghost use Rattle.px_field.specs.Forms.{form_of, size};
 ghost use Rattle.px_tree.specs.Roles.{role};
 ghost use Rattle.px_tree.specs.Entry.{entry, short, long, has_form};
@@ -12,7 +12,7 @@ ghost use Rattle.px_tree.specs.Checks.{shape_checks, entry_checks};
 ghost use Rattle.px_tree.specs.Reading.{Shows, bare, IsShape, Follows, span, span_checks};
 
 use crate::roles::{Dir, Role, role_of};
-use px_bytes::{Cause, Order, Ranges, Refusal};
+use px_bytes::{Cause, Memory, Order, Ranges, Refusal};
 use px_field::Form;
 
 // What the twelve bytes of an entry say.
@@ -80,6 +80,7 @@ fn shape_of(dir: Dir, at: u32, before: Option<u16>, head: Head) -> Result<Shape,
     ensures judged { Judges result (shape_checks dir at before (bare head))
         (λ s. (s.head ≡ head) × (form_of head.code ≡ Some s.form) × (s.role ≡ role dir head.tag)) }
     ensures follows { IfOk result (λ _. Follows before head.tag) }
+    ensures content { ContentOnly result }
 {
     if let Some(last) = before {
         if head.tag < last {
@@ -118,13 +119,20 @@ fn shape_of(dir: Dir, at: u32, before: Option<u16>, head: Head) -> Result<Shape,
 }
 
 // Holds a range that is named at a place.
-pub fn hold(held: &mut Ranges, at: u32, start: u32, len: u32) -> Result<(), Refusal>
+pub fn hold(
+    memory: &mut Memory,
+    held: &mut Ranges,
+    at: u32,
+    start: u32,
+    len: u32,
+) -> Result<(), Refusal>
     requires { start + len ≤ limit }
-    ensures { (taken : List Range) → Agrees taken held.old →
+    ensures judged { (taken : List Range) → Agrees taken held.old →
         Judges result (check Overlap at (is_free taken (range start len)) ∷ [])
         (λ _. Agrees (range start len ∷ taken) held.new) }
+    ensures memory { LacksBlock result memory.old memory.new }
 {
-    if !held.add(start, len)? {
+    if !held.add_in(memory, start, len)? {
         return Err(Refusal::Content {
             cause: Cause::Overlap,
             place: at,
@@ -134,13 +142,21 @@ pub fn hold(held: &mut Ranges, at: u32, start: u32, len: u32) -> Result<(), Refu
 }
 
 // Holds the bytes of a value of so many bytes, where it stands at an offset.
-fn hold_value(block: &[u8], held: &mut Ranges, at: u32, start: u32, len: u64) -> Result<(), Refusal>
+fn hold_value(
+    memory: &mut Memory,
+    block: &[u8],
+    held: &mut Ranges,
+    at: u32,
+    start: u32,
+    len: u64,
+) -> Result<(), Refusal>
     requires small { len < 2 ^ 36 }
     requires bounded { length block.now ≤ limit }
     ensures judged { (taken : List Range) → Agrees taken held.old →
         Judges result (span_checks block.now taken at start len)
         (λ _. Agrees (option_to_list (span start len) ++ taken) held.new) }
     ensures inside { IfOk result (λ _. 4 < len → start + len ≤ length block.now) }
+    ensures memory { LacksBlock result memory.old memory.new }
 {
     if len <= 4 {
         return Ok(());
@@ -151,11 +167,12 @@ fn hold_value(block: &[u8], held: &mut Ranges, at: u32, start: u32, len: u64) ->
             place: at,
         });
     }
-    hold(held, at, start, len as u32)
+    hold(memory, held, at, start, len as u32)
 }
 
 // Judges the entry at a place, behind a tag, and holds its value.
 pub fn judge_entry(
+    memory: &mut Memory,
     block: &[u8],
     order: Order,
     dir: Dir,
@@ -174,10 +191,11 @@ pub fn judge_entry(
         (λ s. 4 < s.head.count * size s.form
         → s.head.offset + s.head.count * size s.form ≤ length block.now) }
     ensures follows { IfOk result (λ s. Follows before s.head.tag) }
+    ensures memory { LacksBlock result memory.old memory.new }
 {
     let head = head_at(block, order, at);
     let shape = shape_of(dir, at, before, head)?;
     let len = u64::from(head.count) * u64::from(shape.form.size());
-    hold_value(block, held, at, head.offset, len)?;
+    hold_value(memory, block, held, at, head.offset, len)?;
     Ok(shape)
 }

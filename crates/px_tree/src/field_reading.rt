@@ -4,7 +4,7 @@ ghost use Rattle.std.specs.List.{AllByRecursion};
 ghost use Rattle.px_bytes.specs.declared.Refusal.TheVariants.{OutOfMemory};
 ghost use Rattle.px_bytes.specs.Parts.{limit, part};
 ghost use Rattle.px_bytes.specs.Range.{Range, Agrees};
-ghost use Rattle.px_bytes.specs.Checks.{Judges};
+ghost use Rattle.px_bytes.specs.Checks.{LacksBlock, Judges};
 ghost use Rattle.px_field.specs.declared.Kind.TheVariants.{Of};
 ghost use Rattle.px_field.specs.Forms.{size};
 ghost use Rattle.px_tree.specs.Entry.{entry, raw, entry_elements, widened_value, record_in, unless_record, value_in, field, Rising};
@@ -12,14 +12,15 @@ ghost use Rattle.px_tree.specs.Footprint.{placed_range};
 ghost use Rattle.px_tree.specs.Checks.{entries_checks};
 ghost use Rattle.px_tree.specs.Places.{tags};
 ghost use Rattle.px_tree.specs.Reading.{IsHeld, is_whole, entries_from};
+ghost use Rattle.px_tree.specs.Uses.{AreUses};
 
 use crate::entries::{Head, Shape, judge_entry};
 use crate::fields::Fields;
 use crate::roles::{Dir, Role};
-use px_bytes::{Order, Ranges, Refusal};
+use crate::uses::{Uses, keep_use, no_uses};
+use px_bytes::{Memory, Order, Ranges, Refusal};
 use px_field::{Form, Value, read_value, read_whole};
 use px_iim::accepts;
-use std::alloc::Global;
 
 // The bytes of a block from a place on.
 pub fn part_of<'a>(block: &'a [u8], at: u32, len: u32) -> &'a [u8]
@@ -122,6 +123,7 @@ fn field_of<'a>(block: &'a [u8], order: Order, at: u32, shape: Shape) -> Option<
 
 // Keeps the field of an entry, if it is one.
 fn keep_field<'a>(
+    memory: &mut Memory,
     fields: &mut Fields<'a>,
     block: &'a [u8],
     order: Order,
@@ -136,42 +138,55 @@ fn keep_field<'a>(
         ++ option_to_list (option_map (λ v. (shape.head.tag, v))
         (value_in block.now order e shape.role shape.form))) }
     ensures err { IfErr result (λ e. e ≡ OutOfMemory) }
+    ensures memory { LacksBlock result memory.old memory.new }
 {
     match field_of(block, order, at, shape) {
         Some(value) => {
-            fields.push(shape.head.tag, value)?;
+            fields.push(memory, shape.head.tag, value)?;
             Ok(())
         }
         None => Ok(()),
     }
 }
 
-// The fields of so many entries, each judged, and its value held.
+// The entries of a table that were read: the fields, and the entries with a use of their own.
+#[derive(Drop)]
+pub struct Entries<'a> {
+    pub fields: Fields<'a>,
+    pub uses: Uses,
+}
+
+// So many entries, each judged, and its value held.
 pub fn read_entries<'a>(
-    alloc: Global,
+    memory: &mut Memory,
     block: &'a [u8],
     order: Order,
     dir: Dir,
     held: &mut Ranges,
     start: u32,
     count: u16,
-) -> Result<Fields<'a>, Refusal>
+) -> Result<Entries<'a>, Refusal>
     requires inside { start + 12 * count ≤ length block.now }
     requires bounded { length block.now ≤ limit }
-    ensures { let es = entries_from block.now order start count in
+    ensures judged { let es = entries_from block.now order start count in
         (taken : List Range) → Agrees taken held.old →
         Judges result (entries_checks block.now order dir taken start None es)
-        (λ v. (v ≡ filter_map (field block.now order dir) es)
+        (λ v. (v.fields ≡ filter_map (field block.now order dir) es)
         × Agrees (filter_map (placed_range order) es ++ taken) held.new) }
+    ensures uses { let es = entries_from block.now order start count in
+        IfOk result (λ v. AreUses block.now order es start v.uses) }
+    ensures memory { LacksBlock result memory.old memory.new }
 {
-    let mut fields = Fields::new(alloc);
+    let mut fields = Fields::with_room(memory, count)?;
+    let mut uses = no_uses();
     let mut at = start;
     let mut before = None;
     for _ in 0..count {
-        let shape = judge_entry(block, order, dir, held, at, before)?;
-        keep_field(&mut fields, block, order, at, shape)?;
+        let shape = judge_entry(memory, block, order, dir, held, at, before)?;
+        keep_field(memory, &mut fields, block, order, at, shape)?;
+        keep_use(&mut uses, shape.head, at);
         before = Some(shape.head.tag);
         at += 12;
     }
-    Ok(fields)
+    Ok(Entries { fields, uses })
 }

@@ -1,10 +1,12 @@
 // The fields of a directory, by their tags.
 ghost use Rattle.std.specs.Prelude.{◌≡◌, ◌<◌, [], ◌∷◌, ◌++◌, OnOk, IfOk, IfErr, OnErr, Some, None, length, slice_get, option_copied, is_some, true, false, IsTrue, ◌↔◌};
+ghost use Rattle.px_bytes.specs.Lacking.{Lacks};
 ghost use Rattle.px_tree.specs.Roles.{at_tag};
 ghost use Rattle.px_tree.specs.Fits.{put};
 ghost use Rattle.px_tree.specs.Entry.{Rising};
 ghost use Rattle.px_tree.specs.Places.{tags, IsInOrder, IsAt, IsGapFor};
 
+use px_bytes::{Memory, Refused};
 use px_field::Value;
 use std::alloc::{AllocError, Global};
 use std::marker::Model;
@@ -36,8 +38,15 @@ impl<'a> Fields<'a> {
     pub fn new(alloc: Global) -> Fields<'a>
         ensures { result ≡ [] }
     {
+        Fields::new_in(&Memory::new(alloc))
+    }
+
+    /// No fields, and what is put later takes that memory. It takes none.
+    pub fn new_in(memory: &Memory) -> Fields<'a>
+        ensures { result ≡ [] }
+    {
         Fields {
-            list: Vec::new(alloc),
+            list: memory.list(),
         }
     }
 
@@ -81,12 +90,30 @@ impl<'a> Fields<'a> {
     pub fn put(&mut self, tag: u16, value: Value<'a>) -> Result<bool, AllocError>
         ensures fresh { IfOk result (λ fresh. fresh ≡ true → (at_tag tag self.old ≡ None) × (self.new ≡ put tag value.entry self.old)) }
         ensures there { IfOk result (λ fresh. fresh ≡ false → (is_some (at_tag tag self.old) ≡ true) × (self.new ≡ self.old)) }
+        ensures absent { OnErr result (at_tag tag self.old ≡ None) }
         ensures err { OnErr result (self.new ≡ self.old) }
+    {
+        let mut memory = Memory::new(*self.list.allocator());
+        Ok(self.put_in(&mut memory, tag, value)?)
+    }
+
+    /// As `put`, with memory that tells whether a growth was refused: where the error came, and there alone.
+    pub fn put_in(
+        &mut self,
+        memory: &mut Memory,
+        tag: u16,
+        value: Value<'a>,
+    ) -> Result<bool, Refused>
+        ensures fresh { IfOk result (λ fresh. fresh ≡ true → (at_tag tag self.old ≡ None) × (self.new ≡ put tag value.entry self.old)) }
+        ensures there { IfOk result (λ fresh. fresh ≡ false → (is_some (at_tag tag self.old) ≡ true) × (self.new ≡ self.old)) }
+        ensures absent { OnErr result (at_tag tag self.old ≡ None) }
+        ensures err { OnErr result (self.new ≡ self.old) }
+        ensures memory { Lacks result memory.old memory.new }
     {
         match place_of(self.list.as_slice(), tag) {
             Ok(_) => Ok(false),
             Err(i) => {
-                self.list.insert(i, (tag, value))?;
+                memory.insert(&mut self.list, i, (tag, value))?;
                 Ok(true)
             }
         }
@@ -94,13 +121,29 @@ impl<'a> Fields<'a> {
 }
 
 impl<'a> Fields<'a> {
+    // No fields, with room for so many.
+    pub(crate) fn with_room(memory: &mut Memory, count: u16) -> Result<Fields<'a>, Refused>
+        ensures none { IfOk result (λ f. f ≡ []) }
+        ensures memory { Lacks result memory.old memory.new }
+    {
+        let mut list = memory.list();
+        memory.reserve(&mut list, usize::from(count))?;
+        Ok(Fields { list })
+    }
+
     // Puts a field behind the others.
-    pub(crate) fn push(&mut self, tag: u16, value: Value<'a>) -> Result<(), AllocError>
+    pub(crate) fn push(
+        &mut self,
+        memory: &mut Memory,
+        tag: u16,
+        value: Value<'a>,
+    ) -> Result<(), Refused>
         requires { Rising (tags (self.old ++ (tag, value) ∷ [])) }
         ensures ok { OnOk result (self.new ≡ self.old ++ (tag, value.entry) ∷ []) }
         ensures err { OnErr result (self.new ≡ self.old) }
+        ensures memory { Lacks result memory.old memory.new }
     {
-        self.list.push((tag, value))?;
+        memory.push(&mut self.list, (tag, value))?;
         Ok(())
     }
 }

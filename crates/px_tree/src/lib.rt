@@ -27,9 +27,7 @@ pub mod laws;
 mod links;
 mod meanings;
 #[cfg(test)]
-mod plain;
-#[cfg(test)]
-mod plain_tests;
+mod oracle_tests;
 mod read;
 #[cfg(test)]
 mod read_tests;
@@ -37,16 +35,19 @@ mod records;
 mod roles;
 mod same;
 mod strips;
+#[cfg(test)]
+mod sweep_tests;
 mod tables;
 #[cfg(test)]
 mod tests;
 mod thumbnail;
 mod tree;
+mod uses;
 
 pub use fields::Fields;
 pub use fitting::fits;
 pub use meanings::{ExifPart, Meaning, Thumb};
-pub use read::read_block;
+pub use read::{read_block, read_block_in};
 pub use roles::{Dir, Role};
 pub use same::same_meaning;
 pub use strips::Strips;

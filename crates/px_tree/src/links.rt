@@ -1,13 +1,13 @@
 // Where directories are named. TIFF 6.0 section 2, "Image File Directory"; CIPA DC-008 4.6.3 (pointers).
-ghost use Rattle.std.specs.Prelude.{◌≡◌, ◌≤◌, ◌+◌, ◌*◌, length, IfSome, option_map, MatchOption, None};
+ghost use Rattle.std.specs.Prelude.{◌≡◌, ◌≤◌, ◌+◌, ◌*◌, length, IfSome, option_map};
 ghost use Rattle.px_bytes.specs.Parts.{limit};
 ghost use Rattle.px_tree.specs.Entry.{next, table};
-ghost use Rattle.px_tree.specs.Directory.{entries_at, entry_with, is_pointer, pointer, unless_zero};
-ghost use Rattle.px_tree.specs.Checks.{is_earlier_at, pointer_place};
-ghost use Rattle.px_tree.specs.Reading.{HasTable, bare};
-ghost use Rattle.px_tree.specs.Linked.{IsFound, offset_of, offsets_of};
+ghost use Rattle.px_tree.specs.Directory.{entries_at, unless_zero};
+ghost use Rattle.px_tree.specs.Checks.{is_earlier_at};
+ghost use Rattle.px_tree.specs.Reading.{HasTable};
+ghost use Rattle.px_tree.specs.Linked.{offset_of, offsets_of};
 
-use crate::entries::{Head, head_at, number32};
+use crate::entries::{Head, number32};
 use px_bytes::Order;
 
 // The offset of a directory, and the place of what names it.
@@ -22,53 +22,6 @@ pub struct Link {
 pub struct Found {
     pub head: Head,
     pub place: u32,
-}
-
-// Whether an entry is the pointer of a tag.
-fn is_link(head: Head, tag: u16) -> bool
-    ensures { result ≡ is_pointer tag (bare head) }
-{
-    head.tag == tag && head.code == 4 && head.count == 1
-}
-
-// The pointer of a tag in the table at a place.
-pub fn find_link(block: &[u8], order: Order, at: u32, count: u16, tag: u16) -> Option<Link>
-    requires bounded { length block.now ≤ limit }
-    requires stands { HasTable block.now order at count }
-    ensures leads { option_map
-        (λ l. l.at) result ≡ pointer order tag (entries_at block.now order at) }
-    ensures place { IfSome result (λ l. l.place ≡ pointer_place block.now order at tag) }
-{
-    let mut place = at + 2;
-    for _ in 0..count {
-        let head = head_at(block, order, place);
-        if is_link(head, tag) {
-            return Some(Link {
-                at: head.offset,
-                place,
-            });
-        }
-        place += 12;
-    }
-    None
-}
-
-// The entry of a tag in the table at a place.
-pub fn find_entry(block: &[u8], order: Order, at: u32, count: u16, tag: u16) -> Option<Found>
-    requires bounded { length block.now ≤ limit }
-    requires stands { HasTable block.now order at count }
-    ensures { MatchOption result (entry_with tag (entries_at block.now order at) ≡ None)
-        (λ f. IsFound block.now order at tag f) }
-{
-    let mut place = at + 2;
-    for _ in 0..count {
-        let head = head_at(block, order, place);
-        if head.tag == tag {
-            return Some(Found { head, place });
-        }
-        place += 12;
-    }
-    None
 }
 
 // The next directory behind the table at a place.

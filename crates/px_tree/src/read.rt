@@ -1,8 +1,8 @@
 // A whole block. TIFF 6.0 section 2, "Image File Header".
-ghost use Rattle.std.specs.Prelude.{◌≡◌, ◌≤◌, length, take, true, Some, IfOk, IfErr, option_map, ⊤};
+ghost use Rattle.std.specs.Prelude.{◌≡◌, ◌≤◌, Bool, length, take, true, Some, IfOk, IfErr, option_map, ⊤};
 ghost use Rattle.px_bytes.specs.Parts.{limit};
 ghost use Rattle.px_bytes.specs.Numbers.{AreBytes};
-ghost use Rattle.px_bytes.specs.Checks.{Judges};
+ghost use Rattle.px_bytes.specs.Checks.{ContentOnly, LacksBlock, Judges};
 ghost use Rattle.px_tree.specs.Directory.{magic};
 ghost use Rattle.px_tree.specs.Fits.{Fits};
 ghost use Rattle.px_tree.specs.Says.{meaning, SaysExif};
@@ -17,7 +17,7 @@ use crate::records::read_record;
 use crate::tables::Directory;
 use crate::thumbnail::read_thumb;
 use crate::tree::{Directories, read_dirs};
-use px_bytes::{Block, Cause, Order, Ranges, Refusal};
+use px_bytes::{Block, Cause, Memory, Order, Ranges, Refusal};
 use std::alloc::Global;
 
 // The first four bytes of a block in an order.
@@ -55,7 +55,8 @@ fn is_begun(block: &[u8]) -> bool
 // The block has a header.
 fn judge_header(block: &[u8]) -> Result<(), Refusal>
     requires { length block.now ≤ limit }
-    ensures { Judges result (header_checks block.now) (λ _. ⊤) }
+    ensures judged { Judges result (header_checks block.now) (λ _. ⊤) }
+    ensures content { ContentOnly result }
 {
     if !is_begun(block) {
         return Err(Refusal::Content {
@@ -107,15 +108,16 @@ fn exif_in<'a>(exif: Option<Fields<'a>>, interop: Option<Fields<'a>>) -> Option<
 }
 
 // The meaning of a block that has a header.
-fn read_tree<'a>(alloc: Global, block: &'a [u8], order: Order) -> Result<Meaning<'a>, Refusal>
+fn read_tree<'a>(memory: &mut Memory, block: &'a [u8], order: Order) -> Result<Meaning<'a>, Refusal>
     requires least { 8 ≤ length block.now }
     requires bounded { length block.now ≤ limit }
-    ensures { Judges result (tree_checks block.now order)
+    ensures judged { Judges result (tree_checks block.now order)
         (λ m. meaning_of m ≡ meaning block.now order) }
+    ensures memory { LacksBlock result memory.old memory.new }
 {
-    let mut held = Ranges::new(alloc);
-    hold(&mut held, 0, 0, 8)?;
-    let directories = read_dirs(alloc, block, order, &mut held)?;
+    let mut held = Ranges::with_room_in(memory, block.len() as u32)?;
+    hold(memory, &mut held, 0, 0, 8)?;
+    let directories = read_dirs(memory, block, order, &mut held)?;
     let Directories {
         main,
         exif,
@@ -123,8 +125,8 @@ fn read_tree<'a>(alloc: Global, block: &'a [u8], order: Order) -> Result<Meaning
         gps,
         thumb,
     } = directories;
-    let thumb = read_thumb(alloc, block, order, &mut held, thumb)?;
-    let iptc = read_record(alloc, block, order, &main)?;
+    let thumb = read_thumb(memory, block, order, &mut held, thumb)?;
+    let iptc = read_record(memory, block, order, &main)?;
     let Directory { fields, .. } = main;
     Ok(Meaning {
         main: fields,
@@ -151,10 +153,22 @@ fn read_tree<'a>(alloc: Global, block: &'a [u8], order: Order) -> Result<Meaning
 pub fn read_block<'a>(alloc: Global, block: Block<'a>) -> Result<Meaning<'a>, Refusal>
     ensures says { IfOk result (λ m. SaysExif block.entry (meaning_of m)) }
     ensures fits { IfOk result (λ m. Fits (meaning_of m)) }
-    ensures refused { IfErr result (IsRefused block.entry) }
+    ensures refused { IfErr result (λ e. (refused : Bool) × IsRefused block.entry refused e) }
+{
+    let mut memory = Memory::new(alloc);
+    read_block_in(&mut memory, block)
+}
+
+/// As `read_block`, with memory that tells whether a growth was refused: where the answer is
+/// `OutOfMemory`, and there alone.
+pub fn read_block_in<'a>(memory: &mut Memory, block: Block<'a>) -> Result<Meaning<'a>, Refusal>
+    ensures says { IfOk result (λ m. SaysExif block.entry (meaning_of m)) }
+    ensures fits { IfOk result (λ m. Fits (meaning_of m)) }
+    ensures refused { IfErr result (IsRefused block.entry memory.new) }
+    ensures memory { LacksBlock result memory.old memory.new }
 {
     let bytes = block.bytes();
     judge_header(bytes)?;
     let order = order_in(bytes);
-    read_tree(alloc, bytes, order)
+    read_tree(memory, bytes, order)
 }

@@ -1,6 +1,7 @@
 // The record in the main directory, at its tag: IPTC-NAA, 0x83BB.
 ghost use Rattle.std.specs.Prelude.{◌≡◌, ◌≤◌, length, IfOk, IfErr, option_and_then};
 ghost use Rattle.std.specs.List.{AllByRecursion};
+ghost use Rattle.px_bytes.specs.Checks.{LacksBlock};
 ghost use Rattle.px_bytes.specs.declared.Refusal.TheVariants.{OutOfMemory};
 ghost use Rattle.px_bytes.specs.Parts.{limit};
 ghost use Rattle.px_field.specs.Forms.{form_of};
@@ -8,24 +9,24 @@ ghost use Rattle.px_tree.specs.Iim.{iim_of};
 ghost use Rattle.px_tree.specs.Entry.{raw, record_in, IsEntry};
 ghost use Rattle.px_tree.specs.Directory.{entries_at};
 ghost use Rattle.px_tree.specs.Says.{record_at};
-ghost use Rattle.px_tree.specs.Reading.{HasTable};
+ghost use Rattle.px_tree.specs.Linked.{AreUsesAt};
 ghost use Rattle.px_tree.specs.Parts.{HasValue, entry_here};
 
 use crate::field_reading::raw_of;
-use crate::links::{Found, find_entry};
+use crate::links::Found;
 use crate::roles::Dir;
 use crate::tables::Directory;
-use px_bytes::{Order, Refusal};
+use px_bytes::{Memory, Order, Refusal};
 use px_field::Form;
-use px_iim::{Iim, read_iim};
-use std::alloc::Global;
+use px_iim::{Iim, read_iim_in};
 
 // The record that bytes say, if they say one.
-fn iim_in<'a>(alloc: Global, raw: &'a [u8]) -> Result<Option<Iim<'a>>, Refusal>
+fn iim_in<'a>(memory: &mut Memory, raw: &'a [u8]) -> Result<Option<Iim<'a>>, Refusal>
     ensures ok { IfOk result (λ r. r ≡ iim_of raw.now) }
     ensures err { IfErr result (λ e. e ≡ OutOfMemory) }
+    ensures memory { LacksBlock result memory.old memory.new }
 {
-    match read_iim(alloc, raw) {
+    match read_iim_in(memory, raw) {
         Ok(iim) => Ok(Some(iim)),
         Err(Refusal::OutOfMemory) => Err(Refusal::OutOfMemory),
         Err(Refusal::Content { .. }) => Ok(None),
@@ -33,19 +34,20 @@ fn iim_in<'a>(alloc: Global, raw: &'a [u8]) -> Result<Option<Iim<'a>>, Refusal>
 }
 
 // The record that bytes of a type say, if that type may hold one.
-fn record_of<'a>(alloc: Global, form: Form, raw: &'a [u8]) -> Result<Option<Iim<'a>>, Refusal>
+fn record_of<'a>(memory: &mut Memory, form: Form, raw: &'a [u8]) -> Result<Option<Iim<'a>>, Refusal>
     ensures ok { IfOk result (λ r. r ≡ record_in form raw.now) }
     ensures err { IfErr result (λ e. e ≡ OutOfMemory) }
+    ensures memory { LacksBlock result memory.old memory.new }
 {
     match form {
-        Form::Byte | Form::Undefined => iim_in(alloc, raw),
+        Form::Byte | Form::Undefined => iim_in(memory, raw),
         _ => Ok(None),
     }
 }
 
 // The record in the value of an entry.
 fn record_found<'a>(
-    alloc: Global,
+    memory: &mut Memory,
     block: &'a [u8],
     order: Order,
     found: Found,
@@ -55,11 +57,12 @@ fn record_found<'a>(
         IfOk result (λ r. r ≡ option_and_then
         (λ f. record_in f (raw block.now order e)) (form_of e.code)) }
     ensures err { IfErr result (λ e. e ≡ OutOfMemory) }
+    ensures memory { LacksBlock result memory.old memory.new }
 {
     match Form::of(found.head.code) {
         Some(form) => {
             let raw = raw_of(block, order, found.place, found.head, form);
-            record_of(alloc, form, raw)
+            record_of(memory, form, raw)
         }
         None => Ok(None),
     }
@@ -67,20 +70,21 @@ fn record_found<'a>(
 
 // The record in the main directory that was read.
 pub fn read_record<'a>(
-    alloc: Global,
+    memory: &mut Memory,
     block: &'a [u8],
     order: Order,
     directory: &Directory<'a>,
 ) -> Result<Option<Iim<'a>>, Refusal>
     requires bounded { length block.now ≤ limit }
-    requires stands { HasTable block.now order directory.now.at directory.now.count }
+    requires uses { AreUsesAt block.now order directory.now }
     requires each { AllByRecursion (IsEntry block.now order Dir.Main)
         (entries_at block.now order directory.now.at) }
     ensures ok { IfOk result (λ r. r ≡ record_at block.now order directory.now.at) }
     ensures err { IfErr result (λ e. e ≡ OutOfMemory) }
+    ensures memory { LacksBlock result memory.old memory.new }
 {
-    match find_entry(block, order, directory.at, directory.count, 0x83BB) {
-        Some(found) => record_found(alloc, block, order, found),
+    match directory.uses.iptc {
+        Some(found) => record_found(memory, block, order, found),
         None => Ok(None),
     }
 }

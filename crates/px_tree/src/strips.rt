@@ -1,6 +1,9 @@
 // The strips of a thumbnail.
-ghost use Rattle.std.specs.Prelude.{◌≡◌, ◌<◌, [], ◌∷◌, ◌++◌, length, slice_get, Some, OnOk, OnErr, IsTrue, ◌↔◌};
+ghost use Rattle.std.specs.Prelude.{◌≡◌, ◌<◌, ◌≤◌, [], ◌∷◌, ◌++◌, length, slice_get, Some, IfOk, OnOk, OnErr, IsTrue, ◌↔◌};
+ghost use Rattle.px_bytes.specs.Lacking.{Lacks};
+ghost use Rattle.px_bytes.specs.Parts.{limit};
 
+use px_bytes::{Memory, Refused};
 use std::alloc::{AllocError, Global};
 use std::marker::Model;
 
@@ -24,8 +27,15 @@ impl<'a> Strips<'a> {
     pub fn new(alloc: Global) -> Strips<'a>
         ensures { result ≡ [] }
     {
+        Strips::new_in(&Memory::new(alloc))
+    }
+
+    /// No strips, and what is put later takes that memory. It takes none.
+    pub fn new_in(memory: &Memory) -> Strips<'a>
+        ensures { result ≡ [] }
+    {
         Strips {
-            list: Vec::new(alloc),
+            list: memory.list(),
         }
     }
 
@@ -35,8 +45,29 @@ impl<'a> Strips<'a> {
         ensures ok { OnOk result (self.new ≡ self.old ++ strip.now ∷ []) }
         ensures err { OnErr result (self.new ≡ self.old) }
     {
-        self.list.push(strip)?;
+        let mut memory = Memory::new(*self.list.allocator());
+        Ok(self.push_in(&mut memory, strip)?)
+    }
+
+    /// As `push`, with memory that tells whether a growth was refused: where the error came, and there alone.
+    pub fn push_in(&mut self, memory: &mut Memory, strip: &'a [u8]) -> Result<(), Refused>
+        ensures ok { OnOk result (self.new ≡ self.old ++ strip.now ∷ []) }
+        ensures err { OnErr result (self.new ≡ self.old) }
+        ensures memory { Lacks result memory.old memory.new }
+    {
+        memory.push(&mut self.list, strip)?;
         Ok(())
+    }
+
+    // No strips, with room for so many.
+    pub(crate) fn with_room(memory: &mut Memory, count: u32) -> Result<Strips<'a>, Refused>
+        requires { count ≤ limit }
+        ensures none { IfOk result (λ s. s ≡ []) }
+        ensures memory { Lacks result memory.old memory.new }
+    {
+        let mut list = memory.list();
+        memory.reserve(&mut list, count as usize)?;
+        Ok(Strips { list })
     }
 
     /// How many strips there are. Takes no memory.

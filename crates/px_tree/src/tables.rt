@@ -2,31 +2,36 @@
 ghost use Rattle.std.specs.Prelude.{◌≡◌, ◌≤◌, ◌+◌, ◌*◌, ◌++◌, List, ◌∷◌, length, IfOk};
 ghost use Rattle.px_bytes.specs.Parts.{limit};
 ghost use Rattle.px_bytes.specs.Range.{Range, range, Agrees};
-ghost use Rattle.px_bytes.specs.Checks.{Judges};
+ghost use Rattle.px_bytes.specs.Checks.{LacksBlock, Judges};
 ghost use Rattle.px_tree.specs.Entry.{fields, table_size};
+ghost use Rattle.px_tree.specs.Directory.{entries_at};
 ghost use Rattle.px_tree.specs.Footprint.{dir_ranges};
 ghost use Rattle.px_tree.specs.Checks.{opening_checks, dir_checks};
 ghost use Rattle.px_tree.specs.Reading.{HasTable};
+ghost use Rattle.px_tree.specs.Uses.{AreUses};
 ghost use Rattle.px_tree.specs.Linked.{offsets_of};
 
 use crate::entries::{hold, number16};
-use crate::field_reading::read_entries;
+use crate::field_reading::{Entries, read_entries};
 use crate::fields::Fields;
 use crate::links::{Link, is_earlier};
 use crate::roles::Dir;
-use px_bytes::{Cause, Order, Ranges, Refusal};
-use std::alloc::Global;
+use crate::uses::Uses;
+use px_bytes::{Cause, Memory, Order, Ranges, Refusal};
 
-// A directory that was read: its fields, its offset and its number of entries.
+// A directory that was read: its fields, its entries with a use of their own, its offset and its number
+// of entries.
 #[derive(Drop)]
 pub struct Directory<'a> {
     pub fields: Fields<'a>,
+    pub uses: Uses,
     pub at: u32,
     pub count: u16,
 }
 
 // How many entries the table that a link leads to has, once it is held.
 fn open_table(
+    memory: &mut Memory,
     block: &[u8],
     order: Order,
     held: &mut Ranges,
@@ -39,6 +44,7 @@ fn open_table(
         (offsets_of earlier.now) taken link.place link.at)
         (λ n. Agrees (range link.at (table_size n) ∷ taken) held.new) }
     ensures there { IfOk result (λ n. HasTable block.now order link.at n) }
+    ensures memory { LacksBlock result memory.old memory.new }
 {
     let at = link.at;
     let place = link.place;
@@ -68,13 +74,13 @@ fn open_table(
             place,
         });
     }
-    hold(held, place, at, size)?;
+    hold(memory, held, place, at, size)?;
     Ok(count)
 }
 
 // The directory that a link leads to.
 pub fn read_directory<'a>(
-    alloc: Global,
+    memory: &mut Memory,
     block: &'a [u8],
     order: Order,
     dir: Dir,
@@ -89,11 +95,16 @@ pub fn read_directory<'a>(
         (λ t. (t.fields ≡ fields block.now order dir link.at)
         × Agrees (dir_ranges block.now order link.at ++ taken) held.new) }
     ensures there { IfOk result (λ t. (t.at ≡ link.at) × HasTable block.now order t.at t.count) }
+    ensures uses { IfOk result
+        (λ t. AreUses block.now order (entries_at block.now order t.at) (t.at + 2) t.uses) }
+    ensures memory { LacksBlock result memory.old memory.new }
 {
-    let count = open_table(block, order, held, earlier, link)?;
-    let fields = read_entries(alloc, block, order, dir, held, link.at + 2, count)?;
+    let count = open_table(memory, block, order, held, earlier, link)?;
+    let entries = read_entries(memory, block, order, dir, held, link.at + 2, count)?;
+    let Entries { fields, uses } = entries;
     Ok(Directory {
         fields,
+        uses,
         at: link.at,
         count,
     })

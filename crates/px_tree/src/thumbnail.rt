@@ -4,7 +4,7 @@ ghost use Rattle.std.specs.Prelude.{◌≡◌, ◌≤◌, ◌<◌, ◌+◌, ◌+
 ghost use Rattle.px_bytes.specs.declared.Cause.TheVariants.{Overlap, ThumbnailOutside};
 ghost use Rattle.px_bytes.specs.Parts.{limit, part};
 ghost use Rattle.px_bytes.specs.Range.{Range, range, is_free, Agrees};
-ghost use Rattle.px_bytes.specs.Checks.{Judges, check};
+ghost use Rattle.px_bytes.specs.Checks.{ContentOnly, LacksBlock, Judges, check};
 ghost use Rattle.px_field.specs.Forms.{form_of};
 ghost use Rattle.px_tree.specs.Thumbnail.{whole_number, numbers, ranges_of, bytes_of};
 ghost use Rattle.px_tree.specs.Footprint.{listed};
@@ -12,45 +12,22 @@ ghost use Rattle.px_tree.specs.Says.{thumbnail};
 ghost use Rattle.px_tree.specs.Seen.{thumb_of};
 ghost use Rattle.px_tree.specs.Checks.{end_checks, range_checks, thumb_checks, thumb_checks_at};
 ghost use Rattle.px_tree.specs.Reading.{HasTable};
-ghost use Rattle.px_tree.specs.Parts.{AreParts, HasNumbers, HaveNumbers, AreEven, entry_here, place_in, pair_check, count_check, pairs_checks, jpeg_of, strips_of, IsReadThumb};
+ghost use Rattle.px_tree.specs.Parts.{HasNumbers, HaveNumbers, AreEven, entry_here, place_in, pair_check, count_check, pairs_checks, jpeg_of, strips_of, IsReadThumb};
 
 use crate::entries::{hold, number32};
 use crate::field_reading::{part_of, value_at};
-use crate::fields::Fields;
-use crate::links::{Found, find_entry};
+use crate::links::Found;
 use crate::meanings::Thumb;
 use crate::strips::Strips;
 use crate::tables::Directory;
-use px_bytes::{Cause, Order, Ranges, Refusal};
+use crate::uses::Uses;
+use px_bytes::{Cause, Memory, Order, Ranges, Refusal};
 use px_field::{Element, Form, Value};
-use std::alloc::Global;
-
-// The entries that name the thumbnail's bytes.
-#[derive(Clone, Copy)]
-pub struct Parts {
-    pub jpeg_offset: Option<Found>,
-    pub jpeg_length: Option<Found>,
-    pub strip_offsets: Option<Found>,
-    pub strip_lengths: Option<Found>,
-}
-
-// The entries of the directory at a place that name its bytes.
-fn find_parts(block: &[u8], order: Order, at: u32, count: u16) -> Parts
-    requires bounded { length block.now ≤ limit }
-    requires stands { HasTable block.now order at count }
-    ensures { AreParts block.now order at result }
-{
-    Parts {
-        jpeg_offset: find_entry(block, order, at, count, 0x0201),
-        jpeg_length: find_entry(block, order, at, count, 0x0202),
-        strip_offsets: find_entry(block, order, at, count, 0x0111),
-        strip_lengths: find_entry(block, order, at, count, 0x0117),
-    }
-}
 
 // One of a pair is not there without the other.
 fn judge_pair(first: Option<Found>, second: Option<Found>) -> Result<(), Refusal>
-    ensures { Judges result (pair_check first second) (λ _. ⊤) }
+    ensures judged { Judges result (pair_check first second) (λ _. ⊤) }
+    ensures content { ContentOnly result }
 {
     match (first, second) {
         (Some(one), None) => Err(Refusal::Content {
@@ -67,7 +44,8 @@ fn judge_pair(first: Option<Found>, second: Option<Found>) -> Result<(), Refusal
 
 // There are as many offsets as lengths.
 fn judge_counts(offsets: Option<Found>, lengths: Option<Found>) -> Result<(), Refusal>
-    ensures { Judges result (count_check offsets lengths) (λ _. ⊤) }
+    ensures judged { Judges result (count_check offsets lengths) (λ _. ⊤) }
+    ensures content { ContentOnly result }
 {
     match (offsets, lengths) {
         (Some(offsets), Some(lengths)) => {
@@ -84,8 +62,9 @@ fn judge_counts(offsets: Option<Found>, lengths: Option<Found>) -> Result<(), Re
 }
 
 // Both pairs are whole.
-fn judge_pairs(parts: Parts) -> Result<(), Refusal>
-    ensures { Judges result (pairs_checks parts) (λ _. ⊤) }
+fn judge_pairs(parts: Uses) -> Result<(), Refusal>
+    ensures judged { Judges result (pairs_checks parts) (λ _. ⊤) }
+    ensures content { ContentOnly result }
 {
     judge_pair(parts.jpeg_offset, parts.jpeg_length)?;
     judge_pair(parts.strip_offsets, parts.strip_lengths)?;
@@ -96,7 +75,8 @@ fn judge_pairs(parts: Parts) -> Result<(), Refusal>
 fn judge_end(block: &[u8], order: Order, at: u32, count: u16) -> Result<(), Refusal>
     requires bounded { length block.now ≤ limit }
     requires stands { HasTable block.now order at count }
-    ensures { Judges result (end_checks block.now order at) (λ _. ⊤) }
+    ensures judged { Judges result (end_checks block.now order at) (λ _. ⊤) }
+    ensures content { ContentOnly result }
 {
     let place = at + 2 + 12 * u32::from(count);
     if number32(block, order, place) != 0 {
@@ -110,6 +90,7 @@ fn judge_end(block: &[u8], order: Order, at: u32, count: u16) -> Result<(), Refu
 
 // Holds a part of the block that is named at a place.
 fn hold_part<'a>(
+    memory: &mut Memory,
     block: &'a [u8],
     held: &mut Ranges,
     place: u32,
@@ -122,6 +103,7 @@ fn hold_part<'a>(
         ∷ check Overlap place (is_free taken (range start len)) ∷ [])
         (λ _. Agrees (range start len ∷ taken) held.new) }
     ensures part { IfOk result (λ s. s.now ≡ bytes_of block.now (range start len)) }
+    ensures memory { LacksBlock result memory.old memory.new }
 {
     if u64::from(start) + u64::from(len) > block.len() as u64 {
         return Err(Refusal::Content {
@@ -129,12 +111,13 @@ fn hold_part<'a>(
             place,
         });
     }
-    hold(held, place, start, len)?;
+    hold(memory, held, place, start, len)?;
     Ok(part_of(block, start, len))
 }
 
 // The JPEG, held, where both of its entries are there.
 fn hold_jpeg<'a>(
+    memory: &mut Memory,
     block: &'a [u8],
     held: &mut Ranges,
     offset: Option<Found>,
@@ -147,10 +130,12 @@ fn hold_jpeg<'a>(
         (λ _. Agrees (rs ++ taken) held.new) }
     ensures part { IfOk result (λ j. option_map
         (λ s. s.now) j ≡ option_map (bytes_of block.now) (jpeg_of offset size)) }
+    ensures memory { LacksBlock result memory.old memory.new }
 {
     match (offset, size) {
         (Some(offset), Some(size)) => {
             let jpeg = hold_part(
+                memory,
                 block,
                 held,
                 offset.place,
@@ -210,7 +195,7 @@ fn number_in(list: &Value, i: u32) -> u32
 
 // The strips of those starts and sizes, held.
 fn hold_each<'a>(
-    alloc: Global,
+    memory: &mut Memory,
     block: &'a [u8],
     held: &mut Ranges,
     place: u32,
@@ -219,28 +204,31 @@ fn hold_each<'a>(
 ) -> Result<Strips<'a>, Refusal>
     requires bounded { length block.now ≤ limit }
     requires same { length starts.now.elements ≡ length sizes.now.elements }
-    ensures { let rs = ranges_of (map whole_number starts.now.elements)
+    ensures judged { let rs = ranges_of (map whole_number starts.now.elements)
         (map whole_number sizes.now.elements) in
         (taken : List Range) → Agrees taken held.old →
         Judges result (range_checks block.now place taken rs) (λ s. s ≡ map (bytes_of block.now) rs) }
+    ensures memory { LacksBlock result memory.old memory.new }
 {
-    let mut strips = Strips::new(alloc);
-    for i in 0..starts.count() {
+    let count = starts.count();
+    let mut strips = Strips::with_room(memory, count)?;
+    for i in 0..count {
         let strip = hold_part(
+            memory,
             block,
             held,
             place,
             number_in(starts, i),
             number_in(sizes, i),
         )?;
-        strips.push(strip)?;
+        strips.push_in(memory, strip)?;
     }
     Ok(strips)
 }
 
 // The strips, held, where both of their lists are there.
 fn hold_strips<'a>(
-    alloc: Global,
+    memory: &mut Memory,
     block: &'a [u8],
     order: Order,
     held: &mut Ranges,
@@ -250,16 +238,17 @@ fn hold_strips<'a>(
     requires bounded { length block.now ≤ limit }
     requires numbers { HaveNumbers block.now order offsets × HaveNumbers block.now order lengths }
     requires even { AreEven offsets lengths }
-    ensures { let rs = strips_of block.now order offsets lengths in
+    ensures judged { let rs = strips_of block.now order offsets lengths in
         (taken : List Range) → Agrees taken held.old →
         Judges result (range_checks block.now (place_in offsets) taken (listed rs))
         (λ s. s ≡ option_map (map (bytes_of block.now)) rs) }
+    ensures memory { LacksBlock result memory.old memory.new }
 {
     match (offsets, lengths) {
         (Some(offsets), Some(lengths)) => {
             let starts = numbers_at(block, order, offsets);
             let sizes = numbers_at(block, order, lengths);
-            let strips = hold_each(alloc, block, held, offsets.place, &starts, &sizes)?;
+            let strips = hold_each(memory, block, held, offsets.place, &starts, &sizes)?;
             Ok(Some(strips))
         }
         _ => Ok(None),
@@ -268,27 +257,30 @@ fn hold_strips<'a>(
 
 // The thumbnail directory at a place, behind its entries, with its bytes.
 pub fn read_thumbnail<'a>(
-    alloc: Global,
+    memory: &mut Memory,
     block: &'a [u8],
     order: Order,
     held: &mut Ranges,
-    fields: Fields<'a>,
-    at: u32,
-    count: u16,
+    directory: Directory<'a>,
 ) -> Result<Thumb<'a>, Refusal>
     requires bounded { length block.now ≤ limit }
-    requires read { IsReadThumb block.now order
-        (record { fields = fields; at = at; count = count }) }
-    ensures { (taken : List Range) → Agrees taken held.old →
-        Judges result (thumb_checks block.now order taken at)
-        (λ t. thumb_of t ≡ thumbnail block.now order at) }
+    requires read { IsReadThumb block.now order directory }
+    ensures judged { (taken : List Range) → Agrees taken held.old →
+        Judges result (thumb_checks block.now order taken directory.entry.at)
+        (λ t. thumb_of t ≡ thumbnail block.now order directory.entry.at) }
+    ensures memory { LacksBlock result memory.old memory.new }
 {
-    let parts = find_parts(block, order, at, count);
+    let Directory {
+        fields,
+        uses: parts,
+        at,
+        count,
+    } = directory;
     judge_pairs(parts)?;
     judge_end(block, order, at, count)?;
-    let jpeg = hold_jpeg(block, held, parts.jpeg_offset, parts.jpeg_length)?;
+    let jpeg = hold_jpeg(memory, block, held, parts.jpeg_offset, parts.jpeg_length)?;
     let strips = hold_strips(
-        alloc,
+        memory,
         block,
         order,
         held,
@@ -304,7 +296,7 @@ pub fn read_thumbnail<'a>(
 
 // The thumbnail directory that was read, with its bytes, if it is there.
 pub fn read_thumb<'a>(
-    alloc: Global,
+    memory: &mut Memory,
     block: &'a [u8],
     order: Order,
     held: &mut Ranges,
@@ -312,16 +304,16 @@ pub fn read_thumb<'a>(
 ) -> Result<Option<Thumb<'a>>, Refusal>
     requires bounded { length block.now ≤ limit }
     requires read { IfSome directory (IsReadThumb block.now order) }
-    ensures { let a = option_map (λ t. t.at) directory.entry in
+    ensures judged { let a = option_map (λ t. t.at) directory.entry in
         (taken : List Range) → Agrees taken held.old →
         Judges result (thumb_checks_at block.now order taken a)
         (λ t. option_map thumb_of t ≡ option_map (thumbnail block.now order) a) }
+    ensures memory { LacksBlock result memory.old memory.new }
 {
     match directory {
         None => Ok(None),
         Some(directory) => {
-            let Directory { fields, at, count } = directory;
-            let thumb = read_thumbnail(alloc, block, order, held, fields, at, count)?;
+            let thumb = read_thumbnail(memory, block, order, held, directory)?;
             Ok(Some(thumb))
         }
     }

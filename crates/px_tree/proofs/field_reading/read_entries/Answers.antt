@@ -1,4 +1,4 @@
-use Rattle.std.proofs.Common.{◌≡◌, ◌<◌, ◌+◌, ◌-◌, ◌++◌, ℕ, suc, Option, None, filter_map, option_map, option_to_list, sym, ap, subst, ◌∙◌, arith, append-nil, append_assoc}
+use Rattle.std.proofs.Common.{refl, ◌≡◌, ◌<◌, ◌+◌, ◌-◌, ◌++◌, ℕ, suc, Option, None, filter_map, option_map, option_to_list, sym, ap, subst, ◌∙◌, arith, append-nil, append_assoc}
 use Rattle.std.proofs.lemmas.Result.{err_from_is_err_and}
 use Rattle.std.specs.List.{AllByRecursion}
 use Rattle.px_bytes.specs.Parts.{part}
@@ -9,6 +9,7 @@ use Rattle.px_tree.specs.Entry.{entry, field, value_in, Rising}
 use Rattle.px_tree.specs.Places.{tags}
 use Rattle.px_tree.specs.Reading.{entries_from}
 use Rattle.px_tree.proofs.Kept.{rising_kept, precede_kept}
+use Rattle.px_tree.proofs.KeptUses.{UsesSoFar, uses_start, uses_step, uses_end}
 use Rattle.px_tree.proofs.Loop.{SoFar, so_far_start, so_far_step, so_far_refuses, so_far_end, fields_step, field-is}
 use Rattle.px_tree.proofs.field_reading.read_entries.Goals as goal
 
@@ -21,16 +22,18 @@ loop-init c =
     let es = λ (k : ℕ). entries_from b o c.args.start k in
     record {
       place = omega arith;
-      rising = subst (λ (l : Fields). Rising (tags l)) (sym c.new-fields.ensures) tt;
-      precede = λ t _. subst (λ (l : Fields). AllByRecursion (λ s. s < t) (tags l)) (sym c.new-fields.ensures) tt;
-      fields = ap (λ (l : Fields). l ++ filter_map (field b o d) (es (c.args.count - 0))) c.new-fields.ensures ∙ ap (λ (k : ℕ). filter_map (field b o d) (es k)) n;
+      rising = subst (λ (l : Fields). Rising (tags l)) (sym c.in_ok-fields.ensures.none) tt;
+      precede = λ t _. subst (λ (l : Fields). AllByRecursion (λ s. s < t) (tags l)) (sym c.in_ok-fields.ensures.none) tt;
+      fields = ap (λ (l : Fields). l ++ filter_map (field b o d) (es (c.args.count - 0))) c.in_ok-fields.ensures.none ∙ ap (λ (k : ℕ). filter_map (field b o d) (es k)) n;
       judged = λ taken a. subst (λ (k : ℕ). SoFar b o d taken (es c.args.count) c.args.start c.args.held.now c.args.start None k) (sym n)
           (so_far_start b o d taken c.args.start c.args.count c.args.held.now a);
+      uses = subst (λ (k : ℕ). UsesSoFar b o c.args.start c.args.count c.no_uses-uses.result c.args.start None k) (sym n) (uses_start b o c.args.start c.args.count c.no_uses-uses.result c.no_uses-uses.ensures);
+      memory = refl;
     }
 
-pub returns-in_err-shape : goal.returns-in_err-shape
-returns-in_err-shape c = λ taken a.
-    let p = err_from_is_err_and c.from_residual.result c.from_residual.ensures.1 in
+pub returns-in_err-shape-clause-judged : goal.returns-in_err-shape-clause-judged
+returns-in_err-shape-clause-judged c = λ taken a.
+    let p = err_from_is_err_and c.from_residual-in_err-shape.result c.from_residual-in_err-shape.ensures.1 in
     let step : c.args.count - c.loop.counter ≡ suc (c.args.count - (c.loop.counter + 1)) = omega arith in
     let s = c.loop.invariant.judged taken a in
     rw (p.1, p.2) (so_far_refuses c.args.block.now c.args.order c.args.dir taken _ _ _ _ _ _ _ step s _ (c.in_err-shape.ensures.judged s.now s.agrees))
@@ -70,10 +73,12 @@ loop-preserved c =
           let w = c.loop.invariant.judged taken a in
           let k = c.in_ok-shape.ensures.judged w.now w.agrees in
           so_far_step b o d taken _ _ _ _ _ _ _ step w _ _ shape.head.tag k.0 k.1;
+      uses = uses_step b o c.args.start c.args.count c.loop.at _ _ c.loop.before step (omega arith) s.head shape.head c.in_ok-shape.ensures.follows c.loop.uses _ c.loop.invariant.uses c.keep_use.ensures;
+      memory = c.in_ok-keep_field.ensures.memory ∙ c.in_ok-shape.ensures.memory ∙ c.loop.invariant.memory;
     }
 
-pub returns : goal.returns
-returns c = λ taken a.
+pub returns-clause-judged : goal.returns-clause-judged
+returns-clause-judged c = λ taken a.
     let none : c.args.count - c.loop.counter ≡ 0 = omega arith in
     let b = c.args.block.now in
     let o = c.args.order in
@@ -85,3 +90,8 @@ returns c = λ taken a.
         end.1,
       ),
     )
+
+pub returns-clause-uses : goal.returns-clause-uses
+returns-clause-uses c =
+    let none : c.args.count - c.loop.counter ≡ 0 = omega arith in
+    uses_end c.args.block.now c.args.order c.args.start c.args.count c.loop.uses _ _ _ none c.loop.invariant.uses

@@ -3,6 +3,7 @@ use Rattle.px_bytes.specs.Range.{Range, Agrees}
 use Rattle.px_tree.specs.Entry.{field, Rising}
 use Rattle.px_tree.specs.Places.{tags}
 use Rattle.px_tree.specs.Reading.{Precede, entries_from}
+use Rattle.px_tree.proofs.KeptUses.{UsesSoFar}
 use Rattle.px_tree.proofs.Loop.{SoFar}
 use Rattle.px_tree.proofs.field_reading.read_entries.Given as goal
 
@@ -13,4 +14,6 @@ invariant-loop l = record {
   precede : Precede l.before l.fields;
   fields : l.fields ++ filter_map (field l.block l.order l.dir) (entries_from l.block l.order l.at (l.count - l.counter)) ≡ filter_map (field l.block l.order l.dir) (entries_from l.block l.order l.start l.count);
   judged : (taken : List Range) → Agrees taken l.initial.held → SoFar l.block l.order l.dir taken (entries_from l.block l.order l.start l.count) l.start l.held l.at l.before (l.count - l.counter);
+  uses : UsesSoFar l.block l.order l.start l.count l.uses l.at l.before (l.count - l.counter);
+  memory : l.memory ≡ l.initial.memory;
 }

@@ -12,57 +12,57 @@ use Rattle.px_tree.specs.Checks.{dirs_held}
 use Rattle.px_tree.proofs.Assembled.{thumb_read, main_each, dirs_refuse_tree, thumb_refuses_tree, tree_true, all_in_order, meaning-is}
 use Rattle.px_tree.proofs.read.read_tree.Goals as goal
 
-pub returns-in_err-hold : goal.returns-in_err-hold
-returns-in_err-hold c =
-    let p = err_from_is_err_and c.from_residual.result c.from_residual.ensures.1 in
-    let a = agrees-none _ c.new-held.ensures in
-    rw (p.1, p.2) (Refuses-none c.in_err-hold.field-0.0 (check Overlap 0 (is_free [] (range 0 8)) ∷ []) _ refl (c.in_err-hold.ensures [] a))
+pub returns-in_err-hold-clause-judged : goal.returns-in_err-hold-clause-judged
+returns-in_err-hold-clause-judged c =
+    let p = err_from_is_err_and c.from_residual-in_err-hold.result c.from_residual-in_err-hold.ensures.1 in
+    let a = agrees-none _ c.in_ok-held.ensures.none in
+    rw (p.1, p.2) (Refuses-none c.in_err-hold.field-0.0 (check Overlap 0 (is_free [] (range 0 8)) ∷ []) _ refl (c.in_err-hold.ensures.judged [] a))
 
-pub returns-in_err-directories : goal.returns-in_err-directories
-returns-in_err-directories c =
+pub returns-in_err-directories-clause-judged : goal.returns-in_err-directories-clause-judged
+returns-in_err-directories-clause-judged c =
     let p = err_from_is_err_and c.from_residual-in_err-directories.result c.from_residual-in_err-directories.ensures.1 in
-    let h = (c.in_ok-hold.ensures [] (agrees-none _ c.new-held.ensures)).1 in
-    rw (p.1, p.2) (dirs_refuse_tree c.args.block.now c.args.order c.in_err-directories.field-0.0 (c.in_err-directories.ensures (range 0 8 ∷ []) h))
+    let h = (c.in_ok-hold.ensures.judged [] (agrees-none _ c.in_ok-held.ensures.none)).1 in
+    rw (p.1, p.2) (dirs_refuse_tree c.args.block.now c.args.order c.in_err-directories.field-0.0 (c.in_err-directories.ensures.judged (range 0 8 ∷ []) h))
 
 pub read_thumb-requires-clause-read : goal.read_thumb-requires-clause-read
 read_thumb-requires-clause-read c =
     let b = c.args.block.now in
     let o = c.args.order in
-    let h = (c.in_ok-hold.ensures [] (agrees-none _ c.new-held.ensures)).1 in
-    let d = c.in_ok-directories.ensures (range 0 8 ∷ []) h in
+    let h = (c.in_ok-hold.ensures.judged [] (agrees-none _ c.in_ok-held.ensures.none)).1 in
+    let d = c.in_ok-directories.ensures.judged (range 0 8 ∷ []) h in
     thumb_read b o c.in_ok-directories.directories.thumb d.1.0.thumb_read d.1.0.thumb (all_in_order b o d.0).1.1.1.1.0
 
-pub returns-in_err-thumb : goal.returns-in_err-thumb
-returns-in_err-thumb c =
+pub returns-in_err-thumb-clause-judged : goal.returns-in_err-thumb-clause-judged
+returns-in_err-thumb-clause-judged c =
     let p = err_from_is_err_and c.from_residual-in_err-thumb.result c.from_residual-in_err-thumb.ensures.1 in
     let b = c.args.block.now in
     let o = c.args.order in
-    let h = (c.in_ok-hold.ensures [] (agrees-none _ c.new-held.ensures)).1 in
-    let d = c.in_ok-directories.ensures (range 0 8 ∷ []) h in
+    let h = (c.in_ok-hold.ensures.judged [] (agrees-none _ c.in_ok-held.ensures.none)).1 in
+    let d = c.in_ok-directories.ensures.judged (range 0 8 ∷ []) h in
     rw (p.1, p.2) (thumb_refuses_tree b o (option_map (λ (t : Directory). t.at) c.in_ok-directories.directories.thumb) d.1.0.thumb_read.stands d.0 c.in_err-thumb.field-0.0
-    (c.in_err-thumb.ensures (dirs_held b o (range 0 8 ∷ []) dirs) d.1.1))
+    (c.in_err-thumb.ensures.judged (dirs_held b o (range 0 8 ∷ []) dirs) d.1.1))
 
-pub read_record-requires-clause-stands : goal.read_record-requires-clause-stands
-read_record-requires-clause-stands c =
-    let h = (c.in_ok-hold.ensures [] (agrees-none _ c.new-held.ensures)).1 in
-    (c.in_ok-directories.ensures (range 0 8 ∷ []) h).1.0.main_table
+pub read_record-requires-clause-uses : goal.read_record-requires-clause-uses
+read_record-requires-clause-uses c =
+    let h = (c.in_ok-hold.ensures.judged [] (agrees-none _ c.in_ok-held.ensures.none)).1 in
+    (c.in_ok-directories.ensures.judged (range 0 8 ∷ []) h).1.0.main_uses
 
 pub read_record-requires-clause-each : goal.read_record-requires-clause-each
 read_record-requires-clause-each c =
     let b = c.args.block.now in
     let o = c.args.order in
-    let h = (c.in_ok-hold.ensures [] (agrees-none _ c.new-held.ensures)).1 in
-    let d = c.in_ok-directories.ensures (range 0 8 ∷ []) h in
+    let h = (c.in_ok-hold.ensures.judged [] (agrees-none _ c.in_ok-held.ensures.none)).1 in
+    let d = c.in_ok-directories.ensures.judged (range 0 8 ∷ []) h in
     main_each b o c.in_ok-directories.directories.main.at d.1.0.main_stands (all_in_order b o d.0).0
 
-pub returns : goal.returns
-returns c =
+pub returns-clause-judged : goal.returns-clause-judged
+returns-clause-judged c =
     let b = c.args.block.now in
     let o = c.args.order in
-    let h = (c.in_ok-hold.ensures [] (agrees-none _ c.new-held.ensures)).1 in
-    let d = c.in_ok-directories.ensures (range 0 8 ∷ []) h in
+    let h = (c.in_ok-hold.ensures.judged [] (agrees-none _ c.in_ok-held.ensures.none)).1 in
+    let d = c.in_ok-directories.ensures.judged (range 0 8 ∷ []) h in
     let seen = d.1.0 in
-    let t = c.in_ok-thumb.ensures (dirs_held b o (range 0 8 ∷ []) dirs) d.1.1 in
+    let t = c.in_ok-thumb.ensures.judged (dirs_held b o (range 0 8 ∷ []) dirs) d.1.1 in
     let a = option_map (λ (t : Directory). t.at) c.in_ok-directories.directories.thumb in (
       tree_true b o a seen.thumb_read.stands d.0 t.0,
       meaning-is b o _ _ _ _ _ c.fields_in.result c.fields_in-2.result a

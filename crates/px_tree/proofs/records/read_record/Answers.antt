@@ -1,22 +1,32 @@
-use Rattle.std.proofs.Common.{◌≡◌, Option, Some, None, sym, subst}
+use Rattle.std.proofs.Common.{◌≡◌, ◌+◌, Option, Some, None, sym, subst}
 use Rattle.std.specs.Prelude.{IfOk}
+use Rattle.px_tree.specs.declared.links.Found.{Found}
 use Rattle.px_tree.specs.declared.roles.Dir.TheVariants.{Main}
 use Rattle.px_tree.specs.Roles.{record_tag}
 use Rattle.px_tree.specs.Iim.{Iim}
-use Rattle.px_tree.specs.Parts.{entry_here}
+use Rattle.px_tree.specs.Parts.{Finds, entry_here}
 use Rattle.px_tree.proofs.Listed.{has_value}
 use Rattle.px_tree.proofs.Assembled.{record-is}
 use Rattle.px_tree.proofs.records.read_record.Goals as goal
 
 pub record_found-requires : goal.record_found-requires
 record_found-requires c =
-    has_value c.args.block.now c.args.order c.args.directory.now.at c.requires.bounded Main record_tag c.in-Some.found c.requires.each c.in-Some.ensures
+    let b = c.args.block.now in
+    let o = c.args.order in
+    let a = c.args.directory.now.at in
+    has_value b o a c.requires.bounded Main record_tag c.in-Some.found c.requires.each (subst (λ (x : Option Found). Finds b o a record_tag x) c.in-Some.is c.requires.uses.iptc)
 
 pub returns-in-Some-clause-ok : goal.returns-in-Some-clause-ok
 returns-in-Some-clause-ok c =
     let b = c.args.block.now in
     let o = c.args.order in
-    subst (λ (x : Option Iim). IfOk c.record_found.result (λ r. r ≡ x)) (sym (record-is b o c.args.directory.now.at (Some (entry_here b o c.in-Some.found)) c.in-Some.ensures.is)) c.record_found.ensures.ok
+    let a = c.args.directory.now.at in
+    let found = subst (λ (x : Option Found). Finds b o a record_tag x) c.in-Some.is c.requires.uses.iptc in
+    subst (λ (x : Option Iim). IfOk c.record_found.result (λ r. r ≡ x)) (sym (record-is b o a (Some (entry_here b o c.in-Some.found)) found.is)) c.record_found.ensures.ok
 
 pub returns-in-None-clause-ok : goal.returns-in-None-clause-ok
-returns-in-None-clause-ok c = sym (record-is c.args.block.now c.args.order c.args.directory.now.at None c.in-None.ensures)
+returns-in-None-clause-ok c =
+    let b = c.args.block.now in
+    let o = c.args.order in
+    let a = c.args.directory.now.at in
+    sym (record-is b o a None (subst (λ (x : Option Found). Finds b o a record_tag x) c.in-None.is c.requires.uses.iptc))

@@ -8,7 +8,7 @@ use Rattle.px_tree.specs.Directory.{entries_at}
 use Rattle.px_tree.specs.Footprint.{table_range}
 use Rattle.px_tree.specs.Checks.{opening_checks, entries_checks}
 use Rattle.px_tree.specs.Linked.{offsets_of}
-use Rattle.px_tree.proofs.Standing.{entries_checks-is, fields-is, ranges-is, dir_checks-parts}
+use Rattle.px_tree.proofs.Standing.{entries_checks-is, fields-is, ranges-is, uses-is, dir_checks-parts}
 use Rattle.px_tree.proofs.tables.read_directory.Goals as goal
 
 pub returns-in_err-count-clause-judged : goal.returns-in_err-count-clause-judged
@@ -21,9 +21,9 @@ returns-in_err-count-clause-judged c = λ taken a.
     let r = c.in_err-count.field-0.0 in
     rw (p.1, p.2) (subst (Refuses r) (sym (dir_checks-parts b o c.args.dir es taken l.place l.at)) (Refuses-more r (opening_checks b o es taken l.place l.at) _ (c.in_err-count.ensures.judged taken a)))
 
-pub returns-in_err-fields-clause-judged : goal.returns-in_err-fields-clause-judged
-returns-in_err-fields-clause-judged c = λ taken a.
-    let p = err_from_is_err_and c.from_residual-in_err-fields.result c.from_residual-in_err-fields.ensures.1 in
+pub returns-in_err-entries-clause-judged : goal.returns-in_err-entries-clause-judged
+returns-in_err-entries-clause-judged c = λ taken a.
+    let p = err_from_is_err_and c.from_residual-in_err-entries.result c.from_residual-in_err-entries.ensures.1 in
     let b = c.args.block.now in
     let o = c.args.order in
     let es = offsets_of c.args.earlier.now in
@@ -31,9 +31,9 @@ returns-in_err-fields-clause-judged c = λ taken a.
     let n = c.in_ok-count.count in
     let t = c.in_ok-count.ensures.there in
     let k = c.in_ok-count.ensures.judged taken a in
-    let r = c.in_err-fields.field-0.0 in
+    let r = c.in_err-entries.field-0.0 in
     rw (p.1, p.2) (subst (Refuses r) (sym (dir_checks-parts b o c.args.dir es taken l.place l.at)) (Refuses-behind r (opening_checks b o es taken l.place l.at) _ k.0
-    (subst (Refuses r) (sym (entries_checks-is b o l.at n t c.args.dir taken)) (c.in_err-fields.ensures (range l.at (table_size n) ∷ taken) k.1))))
+    (subst (Refuses r) (sym (entries_checks-is b o l.at n t c.args.dir taken)) (c.in_err-entries.ensures.judged (range l.at (table_size n) ∷ taken) k.1))))
 
 pub returns-clause-judged : goal.returns-clause-judged
 returns-clause-judged c = λ taken a.
@@ -44,7 +44,7 @@ returns-clause-judged c = λ taken a.
     let n = c.in_ok-count.count in
     let t = c.in_ok-count.ensures.there in
     let k = c.in_ok-count.ensures.judged taken a in
-    let j = c.in_ok-fields.ensures (range l.at (table_size n) ∷ taken) k.1 in (
+    let j = c.in_ok-entries.ensures.judged (range l.at (table_size n) ∷ taken) k.1 in (
       ap first_false (dir_checks-parts b o c.args.dir es taken l.place l.at)
           ∙ all_true (opening_checks b o es taken l.place l.at) (entries_checks b o c.args.dir (table_range b o l.at ∷ taken) (l.at + 2) None (entries_at b o l.at)) k.0 (ap first_false (entries_checks-is b o l.at n t c.args.dir taken) ∙ j.0),
       (
@@ -52,3 +52,8 @@ returns-clause-judged c = λ taken a.
         ranges-is b o l.at n t taken _ j.1.1,
       ),
     )
+
+pub returns-clause-uses : goal.returns-clause-uses
+returns-clause-uses c =
+    let l = c.args.link in
+    uses-is c.args.block.now c.args.order l.at c.in_ok-count.count c.in_ok-count.ensures.there _ c.in_ok-entries.ensures.uses

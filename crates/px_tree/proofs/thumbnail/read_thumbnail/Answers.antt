@@ -13,48 +13,48 @@ pub hold_strips-requires-clause-numbers : goal.hold_strips-requires-clause-numbe
 hold_strips-requires-clause-numbers c =
     let b = c.args.block.now in
     let o = c.args.order in
-    let found = c.find_parts-parts.ensures in
+    let found = c.requires.read.uses in
     let each = c.requires.read.each in (
-      have_numbers b o c.args.at c.requires.bounded each strip_offsets_tag offsets_form c.find_parts-parts.result.strip_offsets found.strip_offsets,
-      have_numbers b o c.args.at c.requires.bounded each strip_lengths_tag lengths_form c.find_parts-parts.result.strip_lengths found.strip_lengths,
+      have_numbers b o c.args.directory.at c.requires.bounded each strip_offsets_tag offsets_form c.args.directory.uses.strip_offsets found.strip_offsets,
+      have_numbers b o c.args.directory.at c.requires.bounded each strip_lengths_tag lengths_form c.args.directory.uses.strip_lengths found.strip_lengths,
     )
 
 pub hold_strips-requires-clause-even : goal.hold_strips-requires-clause-even
-hold_strips-requires-clause-even c = even_parts c.find_parts-parts.result c.in_ok-judge_pairs.ensures.0
+hold_strips-requires-clause-even c = even_parts c.args.directory.uses c.in_ok-judge_pairs.ensures.judged.0
 
-pub returns-in_err-judge_pairs : goal.returns-in_err-judge_pairs
-returns-in_err-judge_pairs c = λ taken a.
+pub returns-in_err-judge_pairs-clause-judged : goal.returns-in_err-judge_pairs-clause-judged
+returns-in_err-judge_pairs-clause-judged c = λ taken a.
     let p = err_from_is_err_and c.from_residual.result c.from_residual.ensures.1 in
-    rw (p.1, p.2) (pairs_refuse c.args.block.now c.args.order c.args.at c.find_parts-parts.result c.find_parts-parts.ensures taken _ c.in_err-judge_pairs.ensures)
+    rw (p.1, p.2) (pairs_refuse c.args.block.now c.args.order c.args.directory.at c.args.directory.uses c.requires.read.uses taken _ c.in_err-judge_pairs.ensures.judged)
 
-pub returns-in_err-judge_end : goal.returns-in_err-judge_end
-returns-in_err-judge_end c = λ taken a.
+pub returns-in_err-judge_end-clause-judged : goal.returns-in_err-judge_end-clause-judged
+returns-in_err-judge_end-clause-judged c = λ taken a.
     let p = err_from_is_err_and c.from_residual-in_err-judge_end.result c.from_residual-in_err-judge_end.ensures.1 in
-    rw (p.1, p.2) (end_refuses c.args.block.now c.args.order c.args.at c.find_parts-parts.result c.find_parts-parts.ensures taken c.in_ok-judge_pairs.ensures.0 _ c.in_err-judge_end.ensures)
+    rw (p.1, p.2) (end_refuses c.args.block.now c.args.order c.args.directory.at c.args.directory.uses c.requires.read.uses taken c.in_ok-judge_pairs.ensures.judged.0 _ c.in_err-judge_end.ensures.judged)
 
-pub returns-in_err-jpeg : goal.returns-in_err-jpeg
-returns-in_err-jpeg c = λ taken a.
+pub returns-in_err-jpeg-clause-judged : goal.returns-in_err-jpeg-clause-judged
+returns-in_err-jpeg-clause-judged c = λ taken a.
     let p = err_from_is_err_and c.from_residual-in_err-jpeg.result c.from_residual-in_err-jpeg.ensures.1 in
-    rw (p.1, p.2) (jpeg_refuses c.args.block.now c.args.order c.args.at c.find_parts-parts.result c.find_parts-parts.ensures taken c.in_ok-judge_pairs.ensures.0 c.in_ok-judge_end.ensures.0 _ (c.in_err-jpeg.ensures.judged taken a))
+    rw (p.1, p.2) (jpeg_refuses c.args.block.now c.args.order c.args.directory.at c.args.directory.uses c.requires.read.uses taken c.in_ok-judge_pairs.ensures.judged.0 c.in_ok-judge_end.ensures.judged.0 _ (c.in_err-jpeg.ensures.judged taken a))
 
-pub returns-in_err-strips : goal.returns-in_err-strips
-returns-in_err-strips c = λ taken a.
+pub returns-in_err-strips-clause-judged : goal.returns-in_err-strips-clause-judged
+returns-in_err-strips-clause-judged c = λ taken a.
     let p = err_from_is_err_and c.from_residual-in_err-strips.result c.from_residual-in_err-strips.ensures.1 in
     let j = c.in_ok-jpeg.ensures.judged taken a in
-    let x = c.find_parts-parts.result in
-    rw (p.1, p.2) (strips_refuse c.args.block.now c.args.order c.args.at x c.find_parts-parts.ensures taken c.in_ok-judge_pairs.ensures.0 c.in_ok-judge_end.ensures.0 j.0 _
-    (c.in_err-strips.ensures (option_to_list (jpeg_of x.jpeg_offset x.jpeg_length) ++ taken) j.1))
+    let x = c.args.directory.uses in
+    rw (p.1, p.2) (strips_refuse c.args.block.now c.args.order c.args.directory.at x c.requires.read.uses taken c.in_ok-judge_pairs.ensures.judged.0 c.in_ok-judge_end.ensures.judged.0 j.0 _
+    (c.in_err-strips.ensures.judged (option_to_list (jpeg_of x.jpeg_offset x.jpeg_length) ++ taken) j.1))
 
-pub returns : goal.returns
-returns c = λ taken a.
+pub returns-clause-judged : goal.returns-clause-judged
+returns-clause-judged c = λ taken a.
     let b = c.args.block.now in
     let o = c.args.order in
-    let x = c.find_parts-parts.result in
-    let found = c.find_parts-parts.ensures in
+    let x = c.args.directory.uses in
+    let found = c.requires.read.uses in
     let j = c.in_ok-jpeg.ensures.judged taken a in
-    let s = c.in_ok-strips.ensures (option_to_list (jpeg_of x.jpeg_offset x.jpeg_length) ++ taken) j.1 in (
-      thumb_true b o c.args.at x found taken c.in_ok-judge_pairs.ensures.0 c.in_ok-judge_end.ensures.0 j.0 s.0,
-      thumbnail-is b o c.args.at _ _ _ c.requires.read.fields_are
-          (c.in_ok-jpeg.ensures.part ∙ ap (λ (r : Option Range). option_map (bytes_of b) r) (jpeg-is b o c.args.at x found))
-          (s.1 ∙ ap (λ (r : Option (List Range)). option_map (map (bytes_of b)) r) (strips-is b o c.args.at x found)),
+    let s = c.in_ok-strips.ensures.judged (option_to_list (jpeg_of x.jpeg_offset x.jpeg_length) ++ taken) j.1 in (
+      thumb_true b o c.args.directory.at x found taken c.in_ok-judge_pairs.ensures.judged.0 c.in_ok-judge_end.ensures.judged.0 j.0 s.0,
+      thumbnail-is b o c.args.directory.at _ _ _ c.requires.read.fields_are
+          (c.in_ok-jpeg.ensures.part ∙ ap (λ (r : Option Range). option_map (bytes_of b) r) (jpeg-is b o c.args.directory.at x found))
+          (s.1 ∙ ap (λ (r : Option (List Range)). option_map (map (bytes_of b)) r) (strips-is b o c.args.directory.at x found)),
     )

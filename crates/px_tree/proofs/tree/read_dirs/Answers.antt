@@ -14,7 +14,7 @@ read_linked-requires-clause-named c =
     let lm = c.link_to_main-main_link.result in
     let nm = c.link_to_main-main_link.ensures in
     let me = c.in_ok-main.ensures.there.0 ∙ main_is b o lm nm in
-    names_exif b o c.link_from-exif_link.result _ me c.link_from-exif_link.ensures.leads c.link_from-exif_link.ensures.place
+    names_exif b o c.link_to_exif-exif_link.result _ me _ c.link_to_exif-exif_link.ensures c.in_ok-main.ensures.uses.exif
 
 pub read_linked-requires-2-clause-named : goal.read_linked-requires-2-clause-named
 read_linked-requires-2-clause-named c =
@@ -23,7 +23,7 @@ read_linked-requires-2-clause-named c =
     let lm = c.link_to_main-main_link.result in
     let nm = c.link_to_main-main_link.ensures in
     let me = c.in_ok-main.ensures.there.0 ∙ main_is b o lm nm in
-    names_interop b o c.link_in-interop_link.result _ c.in_ok-exif.ensures.there.stands c.link_in-interop_link.ensures.leads c.link_in-interop_link.ensures.place
+    names_interop b o c.link_to_interop-interop_link.result _ c.in_ok-exif.ensures.there c.link_to_interop-interop_link.ensures
 
 pub read_linked-requires-3-clause-named : goal.read_linked-requires-3-clause-named
 read_linked-requires-3-clause-named c =
@@ -32,7 +32,7 @@ read_linked-requires-3-clause-named c =
     let lm = c.link_to_main-main_link.result in
     let nm = c.link_to_main-main_link.ensures in
     let me = c.in_ok-main.ensures.there.0 ∙ main_is b o lm nm in
-    names_gps b o c.link_from-gps_link.result _ me c.link_from-gps_link.ensures.leads c.link_from-gps_link.ensures.place
+    names_gps b o c.link_to_gps-gps_link.result _ me _ c.link_to_gps-gps_link.ensures c.in_ok-main.ensures.uses.gps
 
 pub read_linked-requires-4-clause-named : goal.read_linked-requires-4-clause-named
 read_linked-requires-4-clause-named c =
@@ -43,8 +43,8 @@ read_linked-requires-4-clause-named c =
     let me = c.in_ok-main.ensures.there.0 ∙ main_is b o lm nm in
     names_thumb b o c.link_behind-thumb_link.result _ me c.link_behind-thumb_link.ensures.leads c.link_behind-thumb_link.ensures.place
 
-pub returns-in_err-main : goal.returns-in_err-main
-returns-in_err-main c = λ taken a.
+pub returns-in_err-main-clause-judged : goal.returns-in_err-main-clause-judged
+returns-in_err-main-clause-judged c = λ taken a.
     let p = err_from_is_err_and c.from_residual.result c.from_residual.ensures.1 in
     let b = c.args.block.now in
     let o = c.args.order in
@@ -54,8 +54,8 @@ returns-in_err-main c = λ taken a.
     let r = c.in_err-main.field-0.0 in
     rw (p.1, p.2) (dirs_refuse b o taken [] Main (Exif ∷ Interop ∷ Gps ∷ Thumb ∷ []) _ s0 r (subst (Refuses r) (sym (some_checks b o Main lm nm [] s0.now)) (c.in_err-main.ensures.judged s0.now s0.agrees)))
 
-pub returns-in_err-exif : goal.returns-in_err-exif
-returns-in_err-exif c = λ taken a.
+pub returns-in_err-exif-clause-judged : goal.returns-in_err-exif-clause-judged
+returns-in_err-exif-clause-judged c = λ taken a.
     let p = err_from_is_err_and c.from_residual-in_err-exif.result c.from_residual-in_err-exif.ensures.1 in
     let b = c.args.block.now in
     let o = c.args.order in
@@ -69,79 +69,79 @@ returns-in_err-exif c = λ taken a.
     (subst (λ (rs : List Range). Agrees (rs ++ s0.now) c.read_directory.new.held) (sym (some_ranges b o Main lm nm)) j0.1.1) in
     rw (p.1, p.2) (dirs_refuse b o taken (Some lm ∷ []) Exif (Interop ∷ Gps ∷ Thumb ∷ []) _ s1 c.in_err-exif.field-0.0 (c.in_err-exif.ensures.judged s1.now s1.agrees))
 
-pub returns-in_err-interop : goal.returns-in_err-interop
-returns-in_err-interop c = λ taken a.
+pub returns-in_err-interop-clause-judged : goal.returns-in_err-interop-clause-judged
+returns-in_err-interop-clause-judged c = λ taken a.
     let p = err_from_is_err_and c.from_residual-in_err-interop.result c.from_residual-in_err-interop.ensures.1 in
     let b = c.args.block.now in
     let o = c.args.order in
     let lm = c.link_to_main-main_link.result in
     let nm = c.link_to_main-main_link.ensures in
     let me = c.in_ok-main.ensures.there.0 ∙ main_is b o lm nm in
-    let ne = names_exif b o c.link_from-exif_link.result _ me c.link_from-exif_link.ensures.leads c.link_from-exif_link.ensures.place in
+    let ne = names_exif b o c.link_to_exif-exif_link.result _ me _ c.link_to_exif-exif_link.ensures c.in_ok-main.ensures.uses.exif in
     let s0 = dirs_start b o taken c.args.held.now a in
     let j0 = c.in_ok-main.ensures.judged s0.now s0.agrees in
     let s1 = dirs_step b o taken [] Main (Exif ∷ Interop ∷ Gps ∷ Thumb ∷ []) _ s0 (Some lm) _ nm
     (ap first_false (some_checks b o Main lm nm [] s0.now) ∙ j0.0)
     (subst (λ (rs : List Range). Agrees (rs ++ s0.now) c.read_directory.new.held) (sym (some_ranges b o Main lm nm)) j0.1.1) in
     let j1 = c.in_ok-exif.ensures.judged s1.now s1.agrees in
-    let s2 = dirs_step b o taken (Some lm ∷ []) Exif (Interop ∷ Gps ∷ Thumb ∷ []) _ s1 c.link_from-exif_link.result _ ne j1.0 j1.1.1 in
-    rw (p.1, p.2) (dirs_refuse b o taken (c.link_from-exif_link.result ∷ Some lm ∷ []) Interop (Gps ∷ Thumb ∷ []) _ s2 c.in_err-interop.field-0.0 (c.in_err-interop.ensures.judged s2.now s2.agrees))
+    let s2 = dirs_step b o taken (Some lm ∷ []) Exif (Interop ∷ Gps ∷ Thumb ∷ []) _ s1 c.link_to_exif-exif_link.result _ ne j1.0 j1.1.1 in
+    rw (p.1, p.2) (dirs_refuse b o taken (c.link_to_exif-exif_link.result ∷ Some lm ∷ []) Interop (Gps ∷ Thumb ∷ []) _ s2 c.in_err-interop.field-0.0 (c.in_err-interop.ensures.judged s2.now s2.agrees))
 
-pub returns-in_err-gps : goal.returns-in_err-gps
-returns-in_err-gps c = λ taken a.
+pub returns-in_err-gps-clause-judged : goal.returns-in_err-gps-clause-judged
+returns-in_err-gps-clause-judged c = λ taken a.
     let p = err_from_is_err_and c.from_residual-in_err-gps.result c.from_residual-in_err-gps.ensures.1 in
     let b = c.args.block.now in
     let o = c.args.order in
     let lm = c.link_to_main-main_link.result in
     let nm = c.link_to_main-main_link.ensures in
     let me = c.in_ok-main.ensures.there.0 ∙ main_is b o lm nm in
-    let ne = names_exif b o c.link_from-exif_link.result _ me c.link_from-exif_link.ensures.leads c.link_from-exif_link.ensures.place in
-    let ni = names_interop b o c.link_in-interop_link.result _ c.in_ok-exif.ensures.there.stands c.link_in-interop_link.ensures.leads c.link_in-interop_link.ensures.place in
+    let ne = names_exif b o c.link_to_exif-exif_link.result _ me _ c.link_to_exif-exif_link.ensures c.in_ok-main.ensures.uses.exif in
+    let ni = names_interop b o c.link_to_interop-interop_link.result _ c.in_ok-exif.ensures.there c.link_to_interop-interop_link.ensures in
     let s0 = dirs_start b o taken c.args.held.now a in
     let j0 = c.in_ok-main.ensures.judged s0.now s0.agrees in
     let s1 = dirs_step b o taken [] Main (Exif ∷ Interop ∷ Gps ∷ Thumb ∷ []) _ s0 (Some lm) _ nm
     (ap first_false (some_checks b o Main lm nm [] s0.now) ∙ j0.0)
     (subst (λ (rs : List Range). Agrees (rs ++ s0.now) c.read_directory.new.held) (sym (some_ranges b o Main lm nm)) j0.1.1) in
     let j1 = c.in_ok-exif.ensures.judged s1.now s1.agrees in
-    let s2 = dirs_step b o taken (Some lm ∷ []) Exif (Interop ∷ Gps ∷ Thumb ∷ []) _ s1 c.link_from-exif_link.result _ ne j1.0 j1.1.1 in
+    let s2 = dirs_step b o taken (Some lm ∷ []) Exif (Interop ∷ Gps ∷ Thumb ∷ []) _ s1 c.link_to_exif-exif_link.result _ ne j1.0 j1.1.1 in
     let j2 = c.in_ok-interop.ensures.judged s2.now s2.agrees in
-    let s3 = dirs_step b o taken (c.link_from-exif_link.result ∷ Some lm ∷ []) Interop (Gps ∷ Thumb ∷ []) _ s2 c.link_in-interop_link.result _ ni j2.0 j2.1.1 in
-    rw (p.1, p.2) (dirs_refuse b o taken (c.link_in-interop_link.result ∷ c.link_from-exif_link.result ∷ Some lm ∷ []) Gps (Thumb ∷ []) _ s3 c.in_err-gps.field-0.0 (c.in_err-gps.ensures.judged s3.now s3.agrees))
+    let s3 = dirs_step b o taken (c.link_to_exif-exif_link.result ∷ Some lm ∷ []) Interop (Gps ∷ Thumb ∷ []) _ s2 c.link_to_interop-interop_link.result _ ni j2.0 j2.1.1 in
+    rw (p.1, p.2) (dirs_refuse b o taken (c.link_to_interop-interop_link.result ∷ c.link_to_exif-exif_link.result ∷ Some lm ∷ []) Gps (Thumb ∷ []) _ s3 c.in_err-gps.field-0.0 (c.in_err-gps.ensures.judged s3.now s3.agrees))
 
-pub returns-in_err-thumb : goal.returns-in_err-thumb
-returns-in_err-thumb c = λ taken a.
+pub returns-in_err-thumb-clause-judged : goal.returns-in_err-thumb-clause-judged
+returns-in_err-thumb-clause-judged c = λ taken a.
     let p = err_from_is_err_and c.from_residual-in_err-thumb.result c.from_residual-in_err-thumb.ensures.1 in
     let b = c.args.block.now in
     let o = c.args.order in
     let lm = c.link_to_main-main_link.result in
     let nm = c.link_to_main-main_link.ensures in
     let me = c.in_ok-main.ensures.there.0 ∙ main_is b o lm nm in
-    let ne = names_exif b o c.link_from-exif_link.result _ me c.link_from-exif_link.ensures.leads c.link_from-exif_link.ensures.place in
-    let ni = names_interop b o c.link_in-interop_link.result _ c.in_ok-exif.ensures.there.stands c.link_in-interop_link.ensures.leads c.link_in-interop_link.ensures.place in
-    let ng = names_gps b o c.link_from-gps_link.result _ me c.link_from-gps_link.ensures.leads c.link_from-gps_link.ensures.place in
+    let ne = names_exif b o c.link_to_exif-exif_link.result _ me _ c.link_to_exif-exif_link.ensures c.in_ok-main.ensures.uses.exif in
+    let ni = names_interop b o c.link_to_interop-interop_link.result _ c.in_ok-exif.ensures.there c.link_to_interop-interop_link.ensures in
+    let ng = names_gps b o c.link_to_gps-gps_link.result _ me _ c.link_to_gps-gps_link.ensures c.in_ok-main.ensures.uses.gps in
     let s0 = dirs_start b o taken c.args.held.now a in
     let j0 = c.in_ok-main.ensures.judged s0.now s0.agrees in
     let s1 = dirs_step b o taken [] Main (Exif ∷ Interop ∷ Gps ∷ Thumb ∷ []) _ s0 (Some lm) _ nm
     (ap first_false (some_checks b o Main lm nm [] s0.now) ∙ j0.0)
     (subst (λ (rs : List Range). Agrees (rs ++ s0.now) c.read_directory.new.held) (sym (some_ranges b o Main lm nm)) j0.1.1) in
     let j1 = c.in_ok-exif.ensures.judged s1.now s1.agrees in
-    let s2 = dirs_step b o taken (Some lm ∷ []) Exif (Interop ∷ Gps ∷ Thumb ∷ []) _ s1 c.link_from-exif_link.result _ ne j1.0 j1.1.1 in
+    let s2 = dirs_step b o taken (Some lm ∷ []) Exif (Interop ∷ Gps ∷ Thumb ∷ []) _ s1 c.link_to_exif-exif_link.result _ ne j1.0 j1.1.1 in
     let j2 = c.in_ok-interop.ensures.judged s2.now s2.agrees in
-    let s3 = dirs_step b o taken (c.link_from-exif_link.result ∷ Some lm ∷ []) Interop (Gps ∷ Thumb ∷ []) _ s2 c.link_in-interop_link.result _ ni j2.0 j2.1.1 in
+    let s3 = dirs_step b o taken (c.link_to_exif-exif_link.result ∷ Some lm ∷ []) Interop (Gps ∷ Thumb ∷ []) _ s2 c.link_to_interop-interop_link.result _ ni j2.0 j2.1.1 in
     let j3 = c.in_ok-gps.ensures.judged s3.now s3.agrees in
-    let s4 = dirs_step b o taken (c.link_in-interop_link.result ∷ c.link_from-exif_link.result ∷ Some lm ∷ []) Gps (Thumb ∷ []) _ s3 c.link_from-gps_link.result _ ng j3.0 j3.1.1 in
-    rw (p.1, p.2) (dirs_refuse b o taken (c.link_from-gps_link.result ∷ c.link_in-interop_link.result ∷ c.link_from-exif_link.result ∷ Some lm ∷ []) Thumb [] _ s4 c.in_err-thumb.field-0.0 (c.in_err-thumb.ensures.judged s4.now s4.agrees))
+    let s4 = dirs_step b o taken (c.link_to_interop-interop_link.result ∷ c.link_to_exif-exif_link.result ∷ Some lm ∷ []) Gps (Thumb ∷ []) _ s3 c.link_to_gps-gps_link.result _ ng j3.0 j3.1.1 in
+    rw (p.1, p.2) (dirs_refuse b o taken (c.link_to_gps-gps_link.result ∷ c.link_to_interop-interop_link.result ∷ c.link_to_exif-exif_link.result ∷ Some lm ∷ []) Thumb [] _ s4 c.in_err-thumb.field-0.0 (c.in_err-thumb.ensures.judged s4.now s4.agrees))
 
-pub returns : goal.returns
-returns c = λ taken a.
+pub returns-clause-judged : goal.returns-clause-judged
+returns-clause-judged c = λ taken a.
     let b = c.args.block.now in
     let o = c.args.order in
     let lm = c.link_to_main-main_link.result in
     let nm = c.link_to_main-main_link.ensures in
     let me = c.in_ok-main.ensures.there.0 ∙ main_is b o lm nm in
-    let ne = names_exif b o c.link_from-exif_link.result _ me c.link_from-exif_link.ensures.leads c.link_from-exif_link.ensures.place in
-    let ni = names_interop b o c.link_in-interop_link.result _ c.in_ok-exif.ensures.there.stands c.link_in-interop_link.ensures.leads c.link_in-interop_link.ensures.place in
-    let ng = names_gps b o c.link_from-gps_link.result _ me c.link_from-gps_link.ensures.leads c.link_from-gps_link.ensures.place in
+    let ne = names_exif b o c.link_to_exif-exif_link.result _ me _ c.link_to_exif-exif_link.ensures c.in_ok-main.ensures.uses.exif in
+    let ni = names_interop b o c.link_to_interop-interop_link.result _ c.in_ok-exif.ensures.there c.link_to_interop-interop_link.ensures in
+    let ng = names_gps b o c.link_to_gps-gps_link.result _ me _ c.link_to_gps-gps_link.ensures c.in_ok-main.ensures.uses.gps in
     let nt = names_thumb b o c.link_behind-thumb_link.result _ me c.link_behind-thumb_link.ensures.leads c.link_behind-thumb_link.ensures.place in
     let s0 = dirs_start b o taken c.args.held.now a in
     let j0 = c.in_ok-main.ensures.judged s0.now s0.agrees in
@@ -149,13 +149,13 @@ returns c = λ taken a.
     (ap first_false (some_checks b o Main lm nm [] s0.now) ∙ j0.0)
     (subst (λ (rs : List Range). Agrees (rs ++ s0.now) c.read_directory.new.held) (sym (some_ranges b o Main lm nm)) j0.1.1) in
     let j1 = c.in_ok-exif.ensures.judged s1.now s1.agrees in
-    let s2 = dirs_step b o taken (Some lm ∷ []) Exif (Interop ∷ Gps ∷ Thumb ∷ []) _ s1 c.link_from-exif_link.result _ ne j1.0 j1.1.1 in
+    let s2 = dirs_step b o taken (Some lm ∷ []) Exif (Interop ∷ Gps ∷ Thumb ∷ []) _ s1 c.link_to_exif-exif_link.result _ ne j1.0 j1.1.1 in
     let j2 = c.in_ok-interop.ensures.judged s2.now s2.agrees in
-    let s3 = dirs_step b o taken (c.link_from-exif_link.result ∷ Some lm ∷ []) Interop (Gps ∷ Thumb ∷ []) _ s2 c.link_in-interop_link.result _ ni j2.0 j2.1.1 in
+    let s3 = dirs_step b o taken (c.link_to_exif-exif_link.result ∷ Some lm ∷ []) Interop (Gps ∷ Thumb ∷ []) _ s2 c.link_to_interop-interop_link.result _ ni j2.0 j2.1.1 in
     let j3 = c.in_ok-gps.ensures.judged s3.now s3.agrees in
-    let s4 = dirs_step b o taken (c.link_in-interop_link.result ∷ c.link_from-exif_link.result ∷ Some lm ∷ []) Gps (Thumb ∷ []) _ s3 c.link_from-gps_link.result _ ng j3.0 j3.1.1 in
+    let s4 = dirs_step b o taken (c.link_to_interop-interop_link.result ∷ c.link_to_exif-exif_link.result ∷ Some lm ∷ []) Gps (Thumb ∷ []) _ s3 c.link_to_gps-gps_link.result _ ng j3.0 j3.1.1 in
     let j4 = c.in_ok-thumb.ensures.judged s4.now s4.agrees in
-    let s5 = dirs_step b o taken (c.link_from-gps_link.result ∷ c.link_in-interop_link.result ∷ c.link_from-exif_link.result ∷ Some lm ∷ []) Thumb [] _ s4 c.link_behind-thumb_link.result _ nt j4.0 j4.1.1 in (
+    let s5 = dirs_step b o taken (c.link_to_gps-gps_link.result ∷ c.link_to_interop-interop_link.result ∷ c.link_to_exif-exif_link.result ∷ Some lm ∷ []) Thumb [] _ s4 c.link_behind-thumb_link.result _ nt j4.0 j4.1.1 in (
       dirs_clean b o taken _ _ s5,
       (
         record {
@@ -166,6 +166,7 @@ returns c = λ taken a.
           thumb = j4.1.0;
           main_stands = me;
           main_table = c.in_ok-main.ensures.there.1;
+          main_uses = c.in_ok-main.ensures.uses;
           thumb_read = c.in_ok-thumb.ensures.there;
         },
         dirs_end b o taken _ _ s5,

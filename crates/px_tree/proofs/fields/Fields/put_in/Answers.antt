@@ -1,6 +1,7 @@
 use Rattle.std.proofs.Common.{sym, refl, ◌∙◌}
+use Rattle.std.proofs.lemmas.Result.{err_from_is_err_and}
 use Rattle.px_tree.proofs.FieldLemmas.{at_tag-some, at_tag-gap, put-insert, in_order-insert}
-use Rattle.px_tree.proofs.fields.Fields.put.Goals as goal
+use Rattle.px_tree.proofs.fields.Fields.put_in.Goals as goal
 
 pub invariant_of-self-in-Err : goal.invariant_of-self-in-Err
 invariant_of-self-in-Err c =
@@ -16,3 +17,9 @@ returns-in_ok-insert-in-Err-clause-fresh c =
       rw (← c.self.view_is) (at_tag-gap _ _ _ gap),
       rw (← c.self.view_is) (c.in_ok-insert-in-Err.ensures.items ∙ sym (put-insert _ _ _ _ gap)),
     )
+
+pub returns-in_err-insert-in-Err-clause-absent : goal.returns-in_err-insert-in-Err-clause-absent
+returns-in_err-insert-in-Err-clause-absent c =
+    let p = err_from_is_err_and c.from_residual.result c.from_residual.ensures.1 in
+    let gap = rw c.as_slice.ensures.value at c.in-Err.ensures.absent in
+    rw p.1 (rw (← c.self.view_is) (at_tag-gap _ _ _ gap))

@@ -1,0 +1,87 @@
+// The entries of a table that have a use of their own, kept while the table is judged. CIPA DC-008 4.6.3
+// (pointers) and 4.5.5 (the thumbnail's bytes); TIFF 6.0 section 8, "StripOffsets" and "StripByteCounts".
+ghost use Rattle.std.specs.Prelude.{◌≡◌, ◌==◌, ◌&&◌, None, option_map};
+ghost use Rattle.px_tree.specs.Uses.{Keeps, NoUses, link_as, found_as};
+
+use crate::entries::Head;
+use crate::links::{Found, Link};
+
+// Of each tag with a use of its own the entry, if the table has one: the pointers, the record, and what
+// names the thumbnail's bytes.
+#[derive(Clone, Copy)]
+pub struct Uses {
+    pub exif: Option<Found>,
+    pub gps: Option<Found>,
+    pub interop: Option<Found>,
+    pub iptc: Option<Found>,
+    pub jpeg_offset: Option<Found>,
+    pub jpeg_length: Option<Found>,
+    pub strip_offsets: Option<Found>,
+    pub strip_lengths: Option<Found>,
+}
+
+// No entry.
+pub fn no_uses() -> Uses
+    ensures { NoUses result }
+{
+    Uses {
+        exif: None,
+        gps: None,
+        interop: None,
+        iptc: None,
+        jpeg_offset: None,
+        jpeg_length: None,
+        strip_offsets: None,
+        strip_lengths: None,
+    }
+}
+
+// Whether an entry has the form of a pointer.
+fn is_one_long(head: Head) -> bool
+    ensures { result ≡ ((head.code == 4) && (head.count == 1)) }
+{
+    head.code == 4 && head.count == 1
+}
+
+// Keeps the entry at a place, if its tag has a use.
+pub fn keep_use(uses: &mut Uses, head: Head, place: u32)
+    ensures { Keeps uses.old uses.new (found_as head place) }
+{
+    let found = Some(Found { head, place });
+    match head.tag {
+        0x8769 => {
+            if is_one_long(head) {
+                uses.exif = found;
+            }
+        }
+        0x8825 => {
+            if is_one_long(head) {
+                uses.gps = found;
+            }
+        }
+        0xA005 => {
+            if is_one_long(head) {
+                uses.interop = found;
+            }
+        }
+        0x83BB => uses.iptc = found,
+        0x0201 => uses.jpeg_offset = found,
+        0x0202 => uses.jpeg_length = found,
+        0x0111 => uses.strip_offsets = found,
+        0x0117 => uses.strip_lengths = found,
+        _ => {}
+    }
+}
+
+// Where a pointer leads.
+pub fn link_of(found: Option<Found>) -> Option<Link>
+    ensures { result ≡ option_map link_as found }
+{
+    match found {
+        Some(found) => Some(Link {
+            at: found.head.offset,
+            place: found.place,
+        }),
+        None => None,
+    }
+}
