@@ -1,6 +1,7 @@
 -- One more chunk, and how many there are.
 use Rattle.std.proofs.Common.{◌≡◌, ℕ, suc, ◌+◌, ◌≤◌, inl, inr, true, false, Option, Some, None, List, [], ◌∷◌, length, refl, sym, ◌∙◌, ap, subst, arith, ◌||◌}
-use Rattle.std.specs.Prelude.{IsSome, if◌then◌else◌}
+use Rattle.std.proofs.Math.Path.{fun_ext}
+use Rattle.std.specs.Prelude.{IsSome, Result, Ok, Err, OnOk, OnErr, if◌then◌else◌}
 use Rattle.std.specs.List.{AllByRecursion, IsDistinct, list_any}
 use Rattle.std.proofs.lemmas.Bool.{cond-true, cond-false, cases_Bool, both_ways, or_cases, false_from_ne_true}
 use Rattle.std.proofs.lemmas.Map.Keys.{IsDistinct-head, IsDistinct-tail, IsDistinct-cons}
@@ -112,3 +113,10 @@ count_more n f g k x is none more = record {
   where
     differs : (c : Chunk) → IsSome (f c) → same_chunk k c ≡ false
     differs c p = false_from_ne_true (same_chunk k c) (λ e. both_ways false refl (subst (λ (o : Option ℕ). IsSome o) (ap f (sym (same_chunk-true k c e)) ∙ none) p))
+
+-- one more, where there was room for it
+pub count_put : {A E : Type 0} (r : Result A E) (n m : ℕ) (f g : Chunk → Option ℕ) (k : Chunk) (x : ℕ) → IsCount n f → f k ≡ None → OnOk r ((c : Chunk) → g c ≡ (if same_chunk k c then Some x else f c)) →
+    OnErr r ((c : Chunk) → g c ≡ f c) → OnOk r (m ≡ n + 1) → OnErr r (m ≡ n) → IsCount m g
+count_put (Ok a) n m f g k x is none more same size kept = subst (λ (j : ℕ). IsCount j g) (sym size) (count_more n f g k x is none more)
+count_put (Err e) n m f g k x is none more same size kept =
+    subst (λ (j : ℕ). IsCount j g) (sym kept) (subst (λ (h : Chunk → Option ℕ). IsCount n h) (fun_ext (λ (c : Chunk). sym (same c))) is)

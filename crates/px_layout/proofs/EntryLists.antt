@@ -1,6 +1,6 @@
 -- Entries that are put over a list of entries.
-use Rattle.std.proofs.Common.{◌≡◌, ℕ, zero, suc, ◌+◌, ◌-◌, ◌*◌, ◌^◌, ◌<◌, ◌≤◌, nat_lt, inl, inr, true, false, refl, sym, ◌∙◌, ap, subst, arith, Option, Some, None, option_map, option_and_then, List, [], ◌∷◌, map, length, slice_get, lt-ltb, ltb-true}
-use Rattle.std.specs.Prelude.{IfSome}
+use Rattle.std.proofs.Common.{◌≡◌, ℕ, zero, suc, ◌+◌, ◌-◌, ◌*◌, ◌^◌, ◌<◌, ◌≤◌, nat_lt, inl, inr, true, false, refl, sym, ◌∙◌, ap, subst, arith, Option, Some, None, option_map, option_and_then, List, [], ◌∷◌, map, length, slice_get, lt-ltb, ltb-true, le-ltb, ltb-false}
+use Rattle.std.specs.Prelude.{IfSome, if◌then◌else◌}
 use Rattle.std.specs.List.{AllByRecursion}
 use Rattle.std.proofs.lemmas.Bool.{cond-true, cond-false, cases_Bool, cond_both}
 use Rattle.std.proofs.lemmas.List.{length-map}
@@ -10,6 +10,7 @@ use Rattle.px_field.specs.Values.{Value}
 use Rattle.px_tree.specs.Iim.{Iim, IsRecord, normal_iim}
 use Rattle.px_tree.specs.declared.Dir.{Dir}
 use Rattle.px_tree.specs.declared.Dir.TheVariants.{Main, Exif, Interop, Gps, Thumb}
+use Rattle.px_tree.specs.Entry.{Rising}
 use Rattle.px_tree.specs.Tree.{Fields, ExifPart, Thumbnail, Meaning}
 use Rattle.px_tree.specs.Fits.{Item, Field, StripSizes, items, put, main_items, exif_items, thumb_items, field_items, FitsFields, FitsExif, FitsThumb, IsBytes}
 use Rattle.px_layout.specs.Items.{item_of, IsCounted, rank}
@@ -77,29 +78,67 @@ module _ {X : Type 0} where
 
   -- ---- a place counted
 
-  pub rank_more : (t u : ℕ) (x : X) (xs : List (ℕ × X)) (i : ℕ) → i ≤ rank t xs → slice_get xs i ≡ Some (u, x) → u ≤ t → suc i ≤ rank t xs
-  rank_more t u x [] i l g h = cc
-  rank_more t u x (y ∷ ys) zero l g h = elim (cases_Bool (nat_lt t y.0)) [
-    | inl q ↦ absurd (let k : y ≡ (u, x) = cc in let z = ap (λ (p : ℕ × X). p.0) k in let w = ltb-true t y.0 q in omega arith)
-    | inr q ↦ let r = rank_later t y ys q in omega arith
-  ]
-  rank_more t u x (y ∷ ys) (suc i) l g h = elim (cases_Bool (nat_lt t y.0)) [
-    | inl q ↦ absurd (let r = rank_now t y ys q in omega arith)
-    | inr q ↦ let r = rank_later t y ys q in let s = rank_more t u x ys i (omega arith) g h in omega arith
-  ]
-
-  pub rank_found : (t u : ℕ) (x : X) (xs : List (ℕ × X)) (i : ℕ) → i ≤ rank t xs → slice_get xs i ≡ Some (u, x) → t < u → i ≡ rank t xs
-  rank_found t u x [] i l g h = cc
-  rank_found t u x (y ∷ ys) zero l g h =
-      let k : y ≡ (u, x) = cc in let z : y.0 ≡ u = ap (λ (p : ℕ × X). p.0) k in
-      sym (rank_now t y ys (lt-ltb t y.0 (omega arith)))
-  rank_found t u x (y ∷ ys) (suc i) l g h = elim (cases_Bool (nat_lt t y.0)) [
-    | inl q ↦ absurd (let r = rank_now t y ys q in omega arith)
-    | inr q ↦ let r = rank_later t y ys q in let s = rank_found t u x ys i (omega arith) g h in omega arith
+  -- what is put behind none of a greater tag, and what is put behind one
+  pub rank_put : (t u : ℕ) (x : X) (xs : List (ℕ × X)) → u ≤ t → rank t (put u x xs) ≡ rank t xs + 1
+  rank_put t u x [] l = rank_later t (u, x) [] (le-ltb t u l)
+  rank_put t u x (y ∷ ys) l = elim (cases_Bool (nat_lt u y.0)) [
+    | inl q ↦ ap (rank t) (put_now u x y ys q) ∙ rank_later t (u, x) (y ∷ ys) (le-ltb t u l) ∙ omega arith
+    | inr q ↦
+        let small : nat_lt t y.0 ≡ false = le-ltb t y.0 (let k = ltb-false u y.0 q in omega arith) in
+        let rest = rank_put t u x ys l in
+        let a = ap (rank t) (put_later u x y ys q) ∙ rank_later t y (put u x ys) small in
+        let b = rank_later t y ys small in omega arith
   ]
 
-  pub rank_all : (t : ℕ) (xs : List (ℕ × X)) (i : ℕ) → i ≤ rank t xs → i ≡ length xs → i ≡ rank t xs
-  rank_all t xs i l e = let r = rank_le t xs in omega arith
+  pub rank_kept : (t u : ℕ) (x : X) (xs : List (ℕ × X)) → t < u → rank t (put u x xs) ≡ rank t xs + 0
+  rank_kept t u x [] l = rank_now t (u, x) [] (lt-ltb t u l)
+  rank_kept t u x (y ∷ ys) l = elim (cases_Bool (nat_lt u y.0)) [
+    | inl q ↦
+        let a = ap (rank t) (put_now u x y ys q) ∙ rank_now t (u, x) (y ∷ ys) (lt-ltb t u l) in
+        let b = rank_now t y ys (lt-ltb t y.0 (let k = ltb-true u y.0 q in omega arith)) in omega arith
+    | inr q ↦
+        let a = ap (rank t) (put_later u x y ys q) in
+        elim (cases_Bool (nat_lt t y.0)) [
+          | inl r ↦ let b = rank_now t y (put u x ys) r in let d = rank_now t y ys r in omega arith
+          | inr r ↦ let rest = rank_kept t u x ys l in let b = rank_later t y (put u x ys) r in let d = rank_later t y ys r in omega arith
+        ]
+  ]
+
+  -- a tag that is read
+  tag_read : (P : ℕ → Type 0) (xs : List (ℕ × X)) (i : ℕ) (x : ℕ × X) → AllByRecursion P (map (λ y. y.0) xs) → slice_get xs i ≡ Some x → P x.0
+  tag_read P [] i x h e = cc
+  tag_read P (y ∷ ys) zero x h e = let q : y ≡ x = cc in subst (λ (z : ℕ × X). P z.0) q h.0
+  tag_read P (y ∷ ys) (suc i) x h e = tag_read P ys i x h.1 e
+
+  -- where tags rise, all up to one that isn't greater aren't, and none behind one that is greater counts
+  pub rank_behind : (t : ℕ) (xs : List (ℕ × X)) (i : ℕ) (x : ℕ × X) → Rising (map (λ y. y.0) xs) → slice_get xs i ≡ Some x → x.0 ≤ t → i + 1 ≤ rank t xs
+  rank_behind t [] i x r e l = cc
+  rank_behind t (y ∷ ys) zero x r e l =
+      let q : y ≡ x = cc in
+      let k = ap (λ (z : ℕ × X). z.0) q in
+      let n = rank_later t y ys (le-ltb t y.0 (omega arith)) in omega arith
+  rank_behind t (y ∷ ys) (suc i) x r e l =
+      let k = tag_read (λ u. y.0 < u) ys i x r.0 e in
+      let n = rank_later t y ys (le-ltb t y.0 (omega arith)) in
+      let rest = rank_behind t ys i x r.1 e l in omega arith
+
+  pub rank_before : (t : ℕ) (xs : List (ℕ × X)) (i : ℕ) (x : ℕ × X) → slice_get xs i ≡ Some x → t < x.0 → rank t xs ≤ i
+  rank_before t [] i x e l = cc
+  rank_before t (y ∷ ys) zero x e l =
+      let q : y ≡ x = cc in
+      let k = ap (λ (z : ℕ × X). z.0) q in
+      let n = rank_now t y ys (lt-ltb t y.0 (omega arith)) in omega arith
+  rank_before t (y ∷ ys) (suc i) x e l = elim (cases_Bool (nat_lt t y.0)) [
+    | inl q ↦ let n = rank_now t y ys q in omega arith
+    | inr q ↦ let n = rank_later t y ys q in let rest = rank_before t ys i x e l in omega arith
+  ]
+
+pub rank_fields : (t : ℕ) (fs : Fields) → rank t (field_items fs) ≡ rank t fs
+rank_fields t [] = refl
+rank_fields t (y ∷ ys) = elim (nat_lt t y.0) as (λ b. (if b then 0 else suc (rank t (field_items ys))) ≡ (if b then 0 else suc (rank t ys))) [
+  | true ↦ refl
+  | false ↦ ap suc (rank_fields t ys)
+]
 
 -- ---- one further entry
 

@@ -8,6 +8,7 @@ use Rattle.std.proofs.lemmas.Option.{slice_get-get_or}
 use Rattle.px_bytes.specs.declared.WriteRefusal.{WriteRefusal}
 use Rattle.px_bytes.specs.declared.WriteRefusal.TheVariants.{NormalTooLong, OutOfMemory, WriteFailed}
 use Rattle.px_bytes.specs.Parts.{limit}
+use Rattle.px_bytes.specs.Writing.{LacksWrite}
 use Rattle.px_tree.specs.Tree.{Meaning}
 use Rattle.px_tree.specs.Fits.{Fits}
 use Rattle.px_layout.specs.declared.chunks.Chunk.{Chunk}
@@ -59,13 +60,6 @@ effect old new c x false none some e d = ap (λ (p : Plan). p.offset d) e ∙ el
   | inr s ↦ sym (or_none (old.offset d)) ∙ ap (or_else (old.offset d)) (sym (cond-false (same_chunk c d) (Some x) None s))
 ]
 
--- where it ends
-pub end_is : (n end : ℕ) → Some end ≡ (if nat_le n limit then Some n else None) → (end ≡ n) × (end ≤ limit)
-end_is n end e = elim (cases_Bool (nat_le n limit)) [
-  | inl t ↦ let q : Some end ≡ Some n = e ∙ cond-true (nat_le n limit) (Some n) None t in let l = leb-true n limit t in let r : end ≡ n = cc in (r, omega arith)
-  | inr t ↦ let q : Some end ≡ None = e ∙ cond-false (nat_le n limit) (Some n) None t in absurd (cc)
-]
-
 -- one more chunk
 pub next_placed : (old new : Plan) (c : Chunk) (size x end : ℕ) (placed : Bool) → end ≡ x + even size → end ≤ limit → (placed ≡ true → old.offset c ≡ None) → (placed ≡ false → IsSome (old.offset c))
     → new ≡ (if placed then with_chunk old c x else old) → (cs : List (Chunk × ℕ)) → Placed old x cs → Placed new end (cs ++ (c, size) ∷ [])
@@ -115,3 +109,9 @@ refused m f NormalTooLong plan cs s h =
     let t = ap padded_size s in omega arith
 refused m f OutOfMemory plan cs s h = tt
 refused m f WriteFailed plan cs s h = h
+
+-- what a refusal tells of memory, where none was refused before
+pub write_lacks : (X Y : Type 0) (e : WriteRefusal) (a b c : Bool) → b ≡ a → LacksWrite {X = X} (Err e) b c → LacksWrite {X = Y} (Err e) a c
+write_lacks X Y NormalTooLong a b c e h = h ∙ e
+write_lacks X Y OutOfMemory a b c e h = h
+write_lacks X Y WriteFailed a b c e h = h ∙ e

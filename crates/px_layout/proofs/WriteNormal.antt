@@ -16,7 +16,6 @@ use Rattle.px_layout.specs.Laid.{contents, header, laid}
 use Rattle.px_layout.specs.Normal.{normal_plan, normal_exif}
 use Rattle.px_layout.specs.NormalLaws.{normal_is_laid}
 use Rattle.px_layout.specs.StandLaws.{length-laid}
-use Rattle.px_layout.specs.PlanningNormal.{AnswersPlan}
 use Rattle.px_layout.specs.Writing.{WritesExif}
 use Rattle.px_layout.proofs.Strips.{padded_content}
 
@@ -36,12 +35,6 @@ length_is_planned plan m f e l =
     ap (λ (p : Plan). p.length) e ∙ sym (ap (λ (x : List ℕ). length x) is ∙ length-laid _ (normal_plan m).length)
 
 module _ (m : Meaning) (a : Option (List ℕ)) (failed : ℕ) where
-  -- no plan
-  pub refused : (e : WriteRefusal) → AnswersPlan (Err e) m → WritesExif (Err e) a a failed failed m
-  refused NormalTooLong h = (h, refl, refl)
-  refused OutOfMemory h = (refl, refl)
-  refused WriteFailed h = absurd h
-
   module _ (plan : Plan) (h : List ℕ) (e : plan ≡ normal_plan m) (l : length (normal_exif m) ≤ limit) (none : h ≡ []) where
     -- a part could not be put
     pub not_put : (b : Option (List ℕ)) (n : ℕ) → AppendsPrefix a b (h ++ block_of plan m) → n ≡ failed + 1 → WritesExif (Err WriteFailed) a b failed n m

@@ -1,14 +1,18 @@
 -- A block that is built piece by piece: each piece that is put over it stands before those that it was made of.
-use Rattle.std.specs.Prelude.{◌≡◌, ℕ, ◌+◌, ◌≤◌, List, ◌++◌, length, map, filter_map}
+use Rattle.std.specs.Prelude.{◌≡◌, ℕ, ◌+◌, ◌≤◌, ◌<◌, ◌^◌, ⊤, List, ◌++◌, length, map, filter_map}
 use Rattle.std.specs.List.{AllByRecursion, range_with_len}
 use Rattle.px_tree.specs.declared.Dir.{Dir}
 use Rattle.px_tree.specs.Tree.{Meaning}
 use Rattle.px_tree.specs.Fits.{Item, items}
 use Rattle.px_layout.specs.declared.chunks.Chunk.{Chunk}
 use Rattle.px_layout.specs.declared.building.Layout.{Layout}
+use Rattle.px_layout.specs.declared.building.Piece.{Piece}
+use Rattle.px_layout.specs.declared.building.Piece.TheVariants.{Header, Table, Value}
+use Rattle.px_tree.specs.Seen.{meaning_of}
+use Rattle.px_layout.specs.Items.{item_of, IsCounted}
 use Rattle.px_layout.specs.Plans.{Plan, place}
 use Rattle.px_layout.specs.Planned.{plan_of}
-use Rattle.px_layout.specs.Laid.{placed_content, contents_of_dir, byte_at}
+use Rattle.px_layout.specs.Laid.{placed_content, contents_of_dir, byte_at, header, table_bytes, item_bytes}
 
 -- the block of n bytes that pieces make
 abbrev pub made : ℕ → ℕ → List (ℕ × List ℕ) → List ℕ
@@ -24,6 +28,21 @@ PutsOver old new xs = (filler : ℕ) (ys : List (ℕ × List ℕ)) → old ≡ m
 
 abbrev pub said_plan : Layout → Plan
 said_plan l = plan_of l.plan.now
+
+abbrev pub said_meaning : Layout → Meaning
+said_meaning l = meaning_of l.m.now
+
+-- the bytes of a piece
+abbrev pub piece_bytes : Layout → Piece → List ℕ
+piece_bytes l Header = header (said_plan l) l.order l.filler
+piece_bytes l (Table d xs) = table_bytes (said_plan l) l.order l.filler (said_meaning l) d xs.now
+piece_bytes l (Value x) = item_bytes (said_plan l) l.order l.filler (item_of x)
+
+-- a table has fewer than 65,536 entries, and an item's counts are of four bytes
+abbrev pub IsPiece : Piece → Type 0
+IsPiece Header = ⊤
+IsPiece (Table d xs) = length xs.now < 2 ^ 16
+IsPiece (Value x) = IsCounted (item_of x)
 
 -- chunks, each at its place
 abbrev pub at_places : Layout → List (Chunk × List ℕ) → List (ℕ × List ℕ)

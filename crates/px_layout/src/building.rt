@@ -1,10 +1,14 @@
 // The pieces of a block, put at their places: from the last to the first, so that a piece is put over those behind it.
 ghost use Rattle.std.specs.Prelude.{◌≡◌, ◌≤◌, ◌<◌, ◌+◌, ◌^◌, ◌++◌, [], ◌∷◌, length, replicate, Some, option_map, flat_map, IfSome, OnOk, IfOk};
+ghost use Rattle.px_bytes.specs.Devices.{Counts};
+ghost use Rattle.px_bytes.specs.Lacking.{Lacks};
 ghost use Rattle.px_bytes.specs.Parts.{limit};
+ghost use Rattle.px_bytes.specs.Waiting.{Puts};
+ghost use Rattle.std.specs.Io.KnownBytes.{Appends};
 ghost use Rattle.px_tree.specs.Directory.{dirs};
 ghost use Rattle.px_tree.specs.Fits.{Fits, items};
-ghost use Rattle.px_tree.specs.Seen.{meaning_of, thumb_of};
-ghost use Rattle.px_layout.specs.Building.{AreInside, PutsOver, said_plan, at_places, value_pieces, dir_pieces};
+ghost use Rattle.px_tree.specs.Seen.{thumb_of};
+ghost use Rattle.px_layout.specs.Building.{AreInside, PutsOver, said_plan, said_meaning, at_places, value_pieces, dir_pieces, piece_bytes, IsPiece};
 ghost use Rattle.px_layout.specs.Items.{item_of, IsCounted};
 ghost use Rattle.px_layout.specs.Laid.{all_strip_contents, item_bytes, jpeg_contents, strip_contents, table_bytes, thumb_contents, header, contents_of_dir, laid};
 ghost use Rattle.px_layout.specs.Plans.{Legal, place};
@@ -15,13 +19,13 @@ use crate::items::Item;
 use crate::plan::Plan;
 use crate::put_item::{place_of, put_item};
 use crate::put_table::{put_header, put_table};
-use px_bytes::{Order, Pending, Watched};
+use px_bytes::{Failed, Growing, Memory, Order, Pending, Refused, Sink};
 use px_tree::{Dir, Meaning, Strips, Thumb};
-use std::alloc::{AllocError, Global};
 
-// How a block is laid out.
+// What a block says, and how it is laid out.
 #[derive(Clone, Copy)]
-pub(crate) struct Layout<'p> {
+pub(crate) struct Layout<'p, 'a> {
+    pub(crate) m: &'p Meaning<'a>,
     pub(crate) plan: &'p Plan,
     pub(crate) order: Order,
     pub(crate) filler: u8,
@@ -39,74 +43,61 @@ fn put_at(block: &mut [u8], at: u32, bytes: &[u8])
 
 // ---- bytes of their own
 
-// What the writer has taken, and what waits behind it.
-fn all_of(pending: Pending, writer: Watched<Vec<u8>>) -> Result<Vec<u8>, AllocError>
-    requires { writer.failures + 1 < 2 ^ 64 }
-    ensures { IfOk result (λ v. v.items ≡ writer.inner.items ++ pending) }
-{
-    let mut pending = pending;
-    let mut writer = writer;
-    let Ok(()) = pending.send(&mut writer) else {
-        return Err(AllocError);
-    };
-    Ok(writer.into_inner())
+// A piece of a block that is put together: the header, the table of a directory, the value of an entry.
+#[derive(Clone, Copy)]
+pub(crate) enum Piece<'e, 'm, 'a> {
+    Header,
+    Table(Dir, &'e Entries<'m, 'a>),
+    Value(Item<'m, 'a>),
 }
 
-// The bytes of an item's value.
-fn bytes_of_item(alloc: Global, layout: &Layout, item: Item) -> Result<Vec<u8>, AllocError>
-    requires { IsCounted (item_of item) }
-    ensures { IfOk result (λ v. v.items ≡ item_bytes (said_plan layout.now) layout.now.order layout.now.filler (item_of item.entry)) }
-{
-    let mut writer = Watched::new(Vec::new(alloc));
-    let mut pending = Pending::new();
-    let Ok(()) = put_item(&mut pending, &mut writer, layout.plan, layout.order, item) else {
-        return Err(AllocError);
-    };
-    all_of(pending, writer)
-}
-
-// The bytes of a directory's table.
-fn bytes_of_table(
-    alloc: Global,
+fn put_piece<W: Sink>(
+    pending: &mut Pending,
+    writer: &mut W,
     layout: &Layout,
-    m: &Meaning,
-    dir: Dir,
-    entries: &Entries,
-) -> Result<Vec<u8>, AllocError>
-    requires { length entries.now < 2 ^ 16 }
-    ensures { IfOk result (λ v. v.items ≡ table_bytes (said_plan layout.now) layout.now.order layout.now.filler (meaning_of m.now) dir entries.now) }
+    piece: Piece,
+) -> Result<(), Failed>
+    requires few { W.failed writer.old + 1 < 2 ^ 64 }
+    requires piece { IsPiece piece }
+    ensures bytes { Puts result (W.bytes_taken writer.old) (W.bytes_taken writer.new) pending.old pending.new (piece_bytes layout.now piece.entry) }
+    ensures count { Counts result (W.failed writer.old) (W.failed writer.new) }
 {
-    let mut writer = Watched::new(Vec::new(alloc));
-    let mut pending = Pending::new();
     let Layout {
-        plan,
-        order,
-        filler,
-    } = *layout;
-    let Ok(()) = put_table(
-        &mut pending,
-        &mut writer,
         m,
         plan,
         order,
         filler,
-        dir,
-        entries,
-    ) else {
-        return Err(AllocError);
-    };
-    all_of(pending, writer)
+    } = *layout;
+    match piece {
+        Piece::Header => put_header(pending, writer, plan, order),
+        Piece::Table(dir, entries) => {
+            put_table(pending, writer, m, plan, order, filler, dir, entries)
+        }
+        Piece::Value(item) => put_item(pending, writer, plan, order, item),
+    }
 }
 
-fn bytes_of_header(alloc: Global, layout: &Layout) -> Result<Vec<u8>, AllocError>
-    ensures { IfOk result (λ v. v.items ≡ header (said_plan layout.now) layout.now.order layout.now.filler) }
+fn write_piece<W: Sink>(writer: &mut W, layout: &Layout, piece: Piece) -> Result<(), Failed>
+    requires few { W.failed writer.old + 1 < 2 ^ 64 }
+    requires piece { IsPiece piece }
+    ensures bytes { OnOk result (Appends (W.bytes_taken writer.old) (W.bytes_taken writer.new) (piece_bytes layout.now piece.entry)) }
+    ensures count { Counts result (W.failed writer.old) (W.failed writer.new) }
 {
-    let mut writer = Watched::new(Vec::new(alloc));
     let mut pending = Pending::new();
-    let Ok(()) = put_header(&mut pending, &mut writer, layout.plan, layout.order) else {
-        return Err(AllocError);
-    };
-    all_of(pending, writer)
+    put_piece(&mut pending, writer, layout, piece)?;
+    pending.send(writer)
+}
+
+// The bytes of a piece.
+fn bytes_of(memory: &mut Memory, layout: &Layout, piece: Piece) -> Result<Vec<u8>, Refused>
+    requires { IsPiece piece }
+    ensures bytes { IfOk result (λ v. v.items ≡ piece_bytes layout.now piece.entry) }
+    ensures memory { Lacks result memory.old memory.new }
+{
+    let mut writer = Growing::new(memory);
+    // It fails where a growth was refused, which the writer tells.
+    let _ = write_piece(&mut writer, layout, piece);
+    writer.finish_in(memory)
 }
 
 // ---- pieces at their places
@@ -157,14 +148,14 @@ fn lay_parts(block: &mut [u8], layout: &Layout, thumb: &Thumb)
 }
 
 // The thumbnail's bytes.
-fn lay_thumb(block: &mut [u8], layout: &Layout, m: &Meaning)
-    requires fits { Fits (meaning_of m.now) }
-    requires legal { Legal (meaning_of m.now) (said_plan layout.now) }
+fn lay_thumb(block: &mut [u8], layout: &Layout)
+    requires fits { Fits (said_meaning layout.now) }
+    requires legal { Legal (said_meaning layout.now) (said_plan layout.now) }
     requires len { length block.old ≡ (said_plan layout.now).length }
     ensures len { length block.new ≡ length block.old }
-    ensures bytes { PutsOver block.old block.new (at_places layout.now (thumb_contents (meaning_of m.now).thumb)) }
+    ensures bytes { PutsOver block.old block.new (at_places layout.now (thumb_contents (said_meaning layout.now).thumb)) }
 {
-    match &m.thumb {
+    match &layout.m.thumb {
         Some(thumb) => lay_parts(block, layout, thumb),
         None => {}
     }
@@ -172,22 +163,23 @@ fn lay_thumb(block: &mut [u8], layout: &Layout, m: &Meaning)
 
 // The value of an entry, where it has a place of its own.
 fn lay_value(
-    alloc: Global,
+    memory: &mut Memory,
     block: &mut [u8],
     layout: &Layout,
     dir: Dir,
     tag: u16,
     item: Item,
-) -> Result<(), AllocError>
+) -> Result<(), Refused>
     requires counted { IsCounted (item_of item) }
     requires inside { AreInside (length block.old) (value_pieces layout.now dir ((tag, item_of item) ∷ [])) }
+    ensures memory { Lacks result memory.old memory.new }
     ensures len { length block.new ≡ length block.old }
     ensures bytes { OnOk result (PutsOver block.old block.new (value_pieces layout.now dir ((tag, item_of item.entry) ∷ []))) }
 {
     if item.size() <= 4 {
         return Ok(());
     }
-    let bytes = bytes_of_item(alloc, layout, item)?;
+    let bytes = bytes_of(memory, layout, Piece::Value(item))?;
     put_at(
         block,
         place_of(layout.plan, Chunk::Placed(dir, tag)),
@@ -198,102 +190,96 @@ fn lay_value(
 
 // The placed values of a directory, the last first.
 fn lay_values(
-    alloc: Global,
+    memory: &mut Memory,
     block: &mut [u8],
     layout: &Layout,
     dir: Dir,
     entries: &Entries,
-) -> Result<(), AllocError>
+) -> Result<(), Refused>
     requires { AreInside (length block.old) (value_pieces layout.now dir entries.now) }
+    ensures memory { Lacks result memory.old memory.new }
     ensures len { length block.new ≡ length block.old }
     ensures bytes { OnOk result (PutsOver block.old block.new (value_pieces layout.now dir entries.now)) }
 {
     for i in (0..entries.len()).rev() {
         let (tag, item) = entries.at(i);
-        lay_value(alloc, block, layout, dir, tag, item)?;
+        lay_value(memory, block, layout, dir, tag, item)?;
     }
     Ok(())
 }
 
 fn lay_table(
-    alloc: Global,
+    memory: &mut Memory,
     block: &mut [u8],
     layout: &Layout,
-    m: &Meaning,
     dir: Dir,
     entries: &Entries,
-) -> Result<(), AllocError>
+) -> Result<(), Refused>
     requires few { length entries.now < 2 ^ 16 }
-    requires inside { place (said_plan layout.now) (Chunk.Table dir) + length (table_bytes (said_plan layout.now) layout.now.order layout.now.filler (meaning_of m.now) dir entries.now) ≤ length block.old }
+    requires inside { place (said_plan layout.now) (Chunk.Table dir) + length (table_bytes (said_plan layout.now) layout.now.order layout.now.filler (said_meaning layout.now) dir entries.now) ≤ length block.old }
+    ensures memory { Lacks result memory.old memory.new }
     ensures len { length block.new ≡ length block.old }
-    ensures bytes { OnOk result (PutsOver block.old block.new ((place (said_plan layout.now) (Chunk.Table dir), table_bytes (said_plan layout.now) layout.now.order layout.now.filler (meaning_of m.now) dir entries.now) ∷ [])) }
+    ensures bytes { OnOk result (PutsOver block.old block.new ((place (said_plan layout.now) (Chunk.Table dir), table_bytes (said_plan layout.now) layout.now.order layout.now.filler (said_meaning layout.now) dir entries.now) ∷ [])) }
 {
-    let bytes = bytes_of_table(alloc, layout, m, dir, entries)?;
+    let bytes = bytes_of(memory, layout, Piece::Table(dir, entries))?;
     put_at(block, place_of(layout.plan, Chunk::Table(dir)), &bytes);
     Ok(())
 }
 
 // A directory's table and its placed values, where it is there.
-fn lay_dir(
-    alloc: Global,
-    block: &mut [u8],
-    layout: &Layout,
-    m: &Meaning,
-    dir: Dir,
-) -> Result<(), AllocError>
-    requires fits { Fits (meaning_of m.now) }
-    requires legal { Legal (meaning_of m.now) (said_plan layout.now) }
+fn lay_dir(memory: &mut Memory, block: &mut [u8], layout: &Layout, dir: Dir) -> Result<(), Refused>
+    requires fits { Fits (said_meaning layout.now) }
+    requires legal { Legal (said_meaning layout.now) (said_plan layout.now) }
     requires len { length block.old ≡ (said_plan layout.now).length }
+    ensures memory { Lacks result memory.old memory.new }
     ensures len { length block.new ≡ length block.old }
-    ensures bytes { OnOk result (PutsOver block.old block.new (dir_pieces layout.now (meaning_of m.now) dir)) }
+    ensures bytes { OnOk result (PutsOver block.old block.new (dir_pieces layout.now (said_meaning layout.now) dir)) }
 {
-    let Some(entries) = entries_in(m, dir) else {
+    let Some(entries) = entries_in(layout.m, dir) else {
         return Ok(());
     };
-    lay_values(alloc, block, layout, dir, &entries)?;
-    lay_table(alloc, block, layout, m, dir, &entries)
+    lay_values(memory, block, layout, dir, &entries)?;
+    lay_table(memory, block, layout, dir, &entries)
 }
 
 // All directories, the last first.
-fn lay_dirs(alloc: Global, block: &mut [u8], layout: &Layout, m: &Meaning) -> Result<(), AllocError>
-    requires fits { Fits (meaning_of m.now) }
-    requires legal { Legal (meaning_of m.now) (said_plan layout.now) }
+fn lay_dirs(memory: &mut Memory, block: &mut [u8], layout: &Layout) -> Result<(), Refused>
+    requires fits { Fits (said_meaning layout.now) }
+    requires legal { Legal (said_meaning layout.now) (said_plan layout.now) }
     requires len { length block.old ≡ (said_plan layout.now).length }
+    ensures memory { Lacks result memory.old memory.new }
     ensures len { length block.new ≡ length block.old }
-    ensures bytes { OnOk result (PutsOver block.old block.new (at_places layout.now (flat_map (λ d. contents_of_dir (said_plan layout.now) layout.now.order layout.now.filler (meaning_of m.now) d (items (meaning_of m.now) d)) dirs))) }
+    ensures bytes { OnOk result (PutsOver block.old block.new (at_places layout.now (flat_map (λ d. contents_of_dir (said_plan layout.now) layout.now.order layout.now.filler (said_meaning layout.now) d (items (said_meaning layout.now) d)) dirs))) }
 {
-    lay_dir(alloc, block, layout, m, Dir::Thumb)?;
-    lay_dir(alloc, block, layout, m, Dir::Gps)?;
-    lay_dir(alloc, block, layout, m, Dir::Interop)?;
-    lay_dir(alloc, block, layout, m, Dir::Exif)?;
-    lay_dir(alloc, block, layout, m, Dir::Main)
+    lay_dir(memory, block, layout, Dir::Thumb)?;
+    lay_dir(memory, block, layout, Dir::Gps)?;
+    lay_dir(memory, block, layout, Dir::Interop)?;
+    lay_dir(memory, block, layout, Dir::Exif)?;
+    lay_dir(memory, block, layout, Dir::Main)
 }
 
-fn lay_header(alloc: Global, block: &mut [u8], layout: &Layout) -> Result<(), AllocError>
+fn lay_header(memory: &mut Memory, block: &mut [u8], layout: &Layout) -> Result<(), Refused>
     requires { 8 ≤ length block.old }
+    ensures memory { Lacks result memory.old memory.new }
     ensures len { length block.new ≡ length block.old }
     ensures bytes { OnOk result (PutsOver block.old block.new ((0, header (said_plan layout.now) layout.now.order layout.now.filler) ∷ [])) }
 {
-    let bytes = bytes_of_header(alloc, layout)?;
+    let bytes = bytes_of(memory, layout, Piece::Header)?;
     put_at(block, 0, &bytes);
     Ok(())
 }
 
 // Lays all of a block out, over filler.
-pub(crate) fn lay_all(
-    alloc: Global,
-    block: &mut [u8],
-    layout: &Layout,
-    m: &Meaning,
-) -> Result<(), AllocError>
-    requires fits { Fits (meaning_of m.now) }
-    requires legal { Legal (meaning_of m.now) (said_plan layout.now) }
+pub(crate) fn lay_all(memory: &mut Memory, block: &mut [u8], layout: &Layout) -> Result<(), Refused>
+    requires fits { Fits (said_meaning layout.now) }
+    requires legal { Legal (said_meaning layout.now) (said_plan layout.now) }
     requires len { length block.old ≡ (said_plan layout.now).length }
     requires bare { block.old ≡ replicate (said_plan layout.now).length layout.now.filler }
+    ensures memory { Lacks result memory.old memory.new }
     ensures len { length block.new ≡ length block.old }
-    ensures bytes { OnOk result (block.new ≡ laid (meaning_of m.now) (said_plan layout.now) layout.now.order layout.now.filler) }
+    ensures bytes { OnOk result (block.new ≡ laid (said_meaning layout.now) (said_plan layout.now) layout.now.order layout.now.filler) }
 {
-    lay_thumb(block, layout, m);
-    lay_dirs(alloc, block, layout, m)?;
-    lay_header(alloc, block, layout)
+    lay_thumb(block, layout);
+    lay_dirs(memory, block, layout)?;
+    lay_header(memory, block, layout)
 }

@@ -11,6 +11,7 @@ ghost use Rattle.px_layout.specs.Items.{item_of, IsCounted, rank};
 ghost use Rattle.px_layout.specs.Layers.{Stands, Tells, over};
 
 use crate::items::Item;
+use crate::records::Record;
 use px_iim::Iim;
 use px_tree::{Dir, ExifPart, Fields, Meaning, Strips, Thumb};
 use std::marker::Model;
@@ -80,6 +81,39 @@ fn number(extra: &Option<Extra>) -> usize
     }
 }
 
+// How many of the entries that stand before the first of a greater tag it adds.
+fn adds(extra: &Option<Extra>, tag: u16) -> usize
+    ensures added { (xs : List (ℕ × said.Item)) → rank tag (over extra.now xs) ≡ rank tag xs + result }
+    ensures bound { result ≤ 1 }
+{
+    let Some(extra) = extra else {
+        return 0;
+    };
+    if extra.tag <= tag {
+        return 1;
+    }
+    0
+}
+
+// How many fields stand before the first of a greater tag. It is found by halving.
+fn fields_before(fields: &Fields, tag: u16) -> usize
+    ensures rank { result ≡ rank tag (field_items fields.now) }
+    ensures bound { result ≤ length fields.now }
+{
+    let mut low = 0;
+    let mut high = fields.len();
+    while low < high {
+        let middle = low + (high - low) / 2;
+        let (here, _) = fields.at(middle);
+        if here <= tag {
+            low = middle + 1;
+        } else {
+            high = middle;
+        }
+    }
+    low
+}
+
 impl<'m, 'a> Entries<'m, 'a> {
     // The fields, with each further entry put over those before it.
     fn layered(
@@ -146,12 +180,11 @@ impl<'m, 'a> Entries<'m, 'a> {
     fn rank(&self, tag: u16) -> usize
         ensures { result ≡ rank tag self.now }
     {
-        for i in 0..self.len() {
-            if self.at(i).0 > tag {
-                return i;
-            }
-        }
-        self.len()
+        fields_before(self.fields, tag)
+            + adds(&self.first, tag)
+            + adds(&self.second, tag)
+            + adds(&self.third, tag)
+            + adds(&self.fourth, tag)
     }
 
     // An entry that is put over these, where there is one.
@@ -171,14 +204,14 @@ impl<'m, 'a> Entries<'m, 'a> {
     }
 }
 
-// The record, where there is one.
-fn record_item<'m, 'a>(record: &'m Option<Iim<'a>>) -> Option<Item<'m, 'a>>
-    requires { IfSome record.now (λ i. length (normal_iim i) ≤ 2 * limit) }
-    ensures item { option_map item_of result ≡ option_map Iptc record.now }
+// The record, where there is one, with the length of its normal form.
+fn record_item<'m, 'a>(iim: &'m Option<Iim<'a>>) -> Option<Item<'m, 'a>>
+    requires { IfSome iim.now (λ i. length (normal_iim i) ≤ 2 * limit) }
+    ensures item { option_map item_of result ≡ option_map Iptc iim.now }
     ensures counted { IfSome (option_map item_of result) IsCounted }
 {
-    match record {
-        Some(record) => Some(Item::Record(record)),
+    match iim {
+        Some(iim) => Some(Item::Record(Record::new(iim))),
         None => None,
     }
 }
@@ -252,12 +285,12 @@ fn main_entries<'m, 'a>(m: &'m Meaning<'a>) -> Entries<'m, 'a>
 {
     let fields = &m.main;
     let alone = Entries::layered(fields, None, None, None, None);
-    let record = alone.extra(0x83BB, record_item(&m.iptc));
-    let under = Entries::layered(fields, record, None, None, None);
+    let iptc = alone.extra(0x83BB, record_item(&m.iptc));
+    let under = Entries::layered(fields, iptc, None, None, None);
     let gps = under.extra(0x8825, fields_link(Dir::Gps, &m.gps));
-    let under = Entries::layered(fields, record, gps, None, None);
+    let under = Entries::layered(fields, iptc, gps, None, None);
     let exif = under.extra(0x8769, exif_link(&m.exif));
-    Entries::layered(fields, record, gps, exif, None)
+    Entries::layered(fields, iptc, gps, exif, None)
 }
 
 fn exif_part_entries<'m, 'a>(part: &'m ExifPart<'a>) -> Entries<'m, 'a>

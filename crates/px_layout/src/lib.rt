@@ -30,8 +30,11 @@ mod plan_tests;
 mod put;
 mod put_item;
 mod put_normal;
+mod put_running;
 mod put_table;
 mod put_thumb;
+mod records;
+mod starts;
 mod walk;
 mod with_plan;
 #[cfg(test)]
@@ -41,9 +44,9 @@ mod write;
 mod write_tests;
 
 pub use chunks::Chunk;
-pub use legal::is_legal;
-pub use normal::plan_normal;
+pub use legal::{is_legal, is_legal_in};
+pub use normal::{plan_normal, plan_normal_in};
 pub use plan::Plan;
 pub use px_bytes::WriteRefusal;
-pub use with_plan::write_with;
-pub use write::write_normal;
+pub use with_plan::{write_with, write_with_in};
+pub use write::{write_normal, write_normal_in};

@@ -1,13 +1,14 @@
 // Where chunks stand, kept by directory and by strip.
-ghost use Rattle.std.specs.Prelude.{◌≡◌, ℕ, OnOk, OnErr, None, Some, if◌then◌else◌, ◌==◌};
+ghost use Rattle.std.specs.Prelude.{◌≡◌, ◌+◌, ◌<◌, ◌≤◌, ◌^◌, ℕ, OnOk, OnErr, None, Some, if◌then◌else◌, ◌==◌};
+ghost use Rattle.px_bytes.specs.Lacking.{Lacks};
 ghost use Rattle.px_layout.specs.declared.chunks.Chunk.{Chunk as AnyChunk};
 ghost use Rattle.px_layout.specs.declared.chunks.Chunk.TheVariants.{Table, Placed, Jpeg, Strip};
 ghost use Rattle.px_layout.specs.Chunks.{same_chunk};
-ghost use Rattle.px_layout.specs.Kept.{value_in, strip_in, dir_in, offset_in};
+ghost use Rattle.px_layout.specs.Kept.{value_in, strip_in, dir_in, offset_in, dir_size, strips_size, size_in};
 
 use crate::chunks::Chunk;
+use px_bytes::{Memory, Refused};
 use px_tree::Dir;
-use std::alloc::{AllocError, Global};
 use std::collections::BTreeMap;
 
 // The offsets of a directory: its table's, and those of its placed values by tag.
@@ -18,14 +19,22 @@ pub(crate) struct DirOffsets {
 }
 
 impl DirOffsets {
-    fn new(alloc: Global) -> DirOffsets
+    fn new(memory: &Memory) -> DirOffsets
         ensures table { result.table ≡ None }
+        ensures size { dir_size result ≡ 0 }
         ensures values { (t : ℕ) → value_in result t ≡ None }
     {
         DirOffsets {
             table: None,
-            values: BTreeMap::new(alloc),
+            values: memory.map(),
         }
+    }
+
+    fn size(&self) -> u128
+        ensures value { result ≡ dir_size self.now }
+        ensures bound { result ≤ 2 ^ 64 }
+    {
+        u128::from(self.table.is_some()) + self.values.len() as u128
     }
 
     fn value(&self, tag: u16) -> Option<u32>
@@ -34,12 +43,17 @@ impl DirOffsets {
         self.values.get(&tag).copied()
     }
 
-    fn put_value(&mut self, tag: u16, offset: u32) -> Result<(), AllocError>
+    // Puts a value that isn't there.
+    fn put_value(&mut self, memory: &mut Memory, tag: u16, offset: u32) -> Result<(), Refused>
+        requires { value_in self.old tag ≡ None }
         ensures table { self.new.table ≡ self.old.table }
         ensures ok { OnOk result ((t : ℕ) → value_in self.new t ≡ (if tag == t then Some offset else value_in self.old t)) }
         ensures err { OnErr result ((t : ℕ) → value_in self.new t ≡ value_in self.old t) }
+        ensures size { OnOk result (dir_size self.new ≡ dir_size self.old + 1) }
+        ensures kept { OnErr result (dir_size self.new ≡ dir_size self.old) }
+        ensures memory { Lacks result memory.old memory.new }
     {
-        self.values.insert(tag, offset)?;
+        memory.put(&mut self.values, tag, offset)?;
         Ok(())
     }
 }
@@ -53,13 +67,21 @@ pub(crate) struct StripOffsets {
 }
 
 impl StripOffsets {
-    fn new(alloc: Global) -> StripOffsets
-        ensures { (i : ℕ) → strip_in result i ≡ None }
+    fn new(memory: &Memory) -> StripOffsets
+        ensures none { (i : ℕ) → strip_in result i ≡ None }
+        ensures size { strips_size result ≡ 0 }
     {
         StripOffsets {
-            line: Vec::new(alloc),
-            others: BTreeMap::new(alloc),
+            line: memory.list(),
+            others: memory.map(),
         }
+    }
+
+    fn size(&self) -> u128
+        ensures value { result ≡ strips_size self.now }
+        ensures bound { result < 2 ^ 65 }
+    {
+        self.line.len() as u128 + self.others.len() as u128
     }
 
     fn offset(&self, i: u32) -> Option<u32>
@@ -72,16 +94,19 @@ impl StripOffsets {
     }
 
     // Puts a strip that isn't there.
-    fn put(&mut self, i: u32, offset: u32) -> Result<(), AllocError>
+    fn put(&mut self, memory: &mut Memory, i: u32, offset: u32) -> Result<(), Refused>
         requires { strip_in self.old i ≡ None }
         ensures ok { OnOk result ((j : ℕ) → strip_in self.new j ≡ (if i == j then Some offset else strip_in self.old j)) }
         ensures err { OnErr result ((j : ℕ) → strip_in self.new j ≡ strip_in self.old j) }
+        ensures size { OnOk result (strips_size self.new ≡ strips_size self.old + 1) }
+        ensures kept { OnErr result (strips_size self.new ≡ strips_size self.old) }
+        ensures memory { Lacks result memory.old memory.new }
     {
         if i as usize == self.line.len() {
-            self.line.push(offset)?;
+            memory.push(&mut self.line, offset)?;
             return Ok(());
         }
-        self.others.insert(i, offset)?;
+        memory.put(&mut self.others, i, offset)?;
         Ok(())
     }
 }
@@ -100,18 +125,32 @@ pub(crate) struct Offsets {
 
 impl Offsets {
     // No offset. Takes no memory.
-    pub(crate) fn new(alloc: Global) -> Offsets
-        ensures { (c : AnyChunk) → offset_in result c ≡ None }
+    pub(crate) fn new(memory: &Memory) -> Offsets
+        ensures none { (c : AnyChunk) → offset_in result c ≡ None }
+        ensures size { size_in result ≡ 0 }
     {
         Offsets {
-            main: DirOffsets::new(alloc),
-            exif: DirOffsets::new(alloc),
-            interop: DirOffsets::new(alloc),
-            gps: DirOffsets::new(alloc),
-            thumb: DirOffsets::new(alloc),
+            main: DirOffsets::new(memory),
+            exif: DirOffsets::new(memory),
+            interop: DirOffsets::new(memory),
+            gps: DirOffsets::new(memory),
+            thumb: DirOffsets::new(memory),
             jpeg: None,
-            strips: StripOffsets::new(alloc),
+            strips: StripOffsets::new(memory),
         }
+    }
+
+    // How many chunks have an offset.
+    pub(crate) fn size(&self) -> u128
+        ensures { result ≡ size_in self.now }
+    {
+        self.main.size()
+            + self.exif.size()
+            + self.interop.size()
+            + self.gps.size()
+            + self.thumb.size()
+            + u128::from(self.jpeg.is_some())
+            + self.strips.size()
     }
 
     fn dir(&self, dir: Dir) -> &DirOffsets
@@ -139,7 +178,9 @@ impl Offsets {
     }
 
     fn put_table(&mut self, dir: Dir, offset: u32)
-        ensures { (c : AnyChunk) → offset_in self.new c ≡ (if same_chunk (Table dir) c then Some offset else offset_in self.old c) }
+        requires { offset_in self.old (Table dir) ≡ None }
+        ensures size { size_in self.new ≡ size_in self.old + 1 }
+        ensures put { (c : AnyChunk) → offset_in self.new c ≡ (if same_chunk (Table dir) c then Some offset else offset_in self.old c) }
     {
         let table = Some(offset);
         match dir {
@@ -151,50 +192,73 @@ impl Offsets {
         }
     }
 
-    fn put_value(&mut self, dir: Dir, tag: u16, offset: u32) -> Result<(), AllocError>
+    fn put_value(
+        &mut self,
+        memory: &mut Memory,
+        dir: Dir,
+        tag: u16,
+        offset: u32,
+    ) -> Result<(), Refused>
+        requires { offset_in self.old (Placed dir tag) ≡ None }
         ensures ok { OnOk result ((c : AnyChunk) → offset_in self.new c ≡ (if same_chunk (Placed dir tag) c then Some offset else offset_in self.old c)) }
         ensures err { OnErr result ((c : AnyChunk) → offset_in self.new c ≡ offset_in self.old c) }
+        ensures size { OnOk result (size_in self.new ≡ size_in self.old + 1) }
+        ensures kept { OnErr result (size_in self.new ≡ size_in self.old) }
+        ensures memory { Lacks result memory.old memory.new }
     {
         match dir {
-            Dir::Main => self.main.put_value(tag, offset),
-            Dir::Exif => self.exif.put_value(tag, offset),
-            Dir::Interop => self.interop.put_value(tag, offset),
-            Dir::Gps => self.gps.put_value(tag, offset),
-            Dir::Thumb => self.thumb.put_value(tag, offset),
+            Dir::Main => self.main.put_value(memory, tag, offset),
+            Dir::Exif => self.exif.put_value(memory, tag, offset),
+            Dir::Interop => self.interop.put_value(memory, tag, offset),
+            Dir::Gps => self.gps.put_value(memory, tag, offset),
+            Dir::Thumb => self.thumb.put_value(memory, tag, offset),
         }
     }
 
     fn put_jpeg(&mut self, offset: u32)
-        ensures { (c : AnyChunk) → offset_in self.new c ≡ (if same_chunk Jpeg c then Some offset else offset_in self.old c) }
+        requires { offset_in self.old Jpeg ≡ None }
+        ensures size { size_in self.new ≡ size_in self.old + 1 }
+        ensures put { (c : AnyChunk) → offset_in self.new c ≡ (if same_chunk Jpeg c then Some offset else offset_in self.old c) }
     {
         self.jpeg = Some(offset);
     }
 
-    fn put_strip(&mut self, i: u32, offset: u32) -> Result<(), AllocError>
+    fn put_strip(&mut self, memory: &mut Memory, i: u32, offset: u32) -> Result<(), Refused>
         requires { offset_in self.old (Strip i) ≡ None }
         ensures ok { OnOk result ((c : AnyChunk) → offset_in self.new c ≡ (if same_chunk (Strip i) c then Some offset else offset_in self.old c)) }
         ensures err { OnErr result ((c : AnyChunk) → offset_in self.new c ≡ offset_in self.old c) }
+        ensures size { OnOk result (size_in self.new ≡ size_in self.old + 1) }
+        ensures kept { OnErr result (size_in self.new ≡ size_in self.old) }
+        ensures memory { Lacks result memory.old memory.new }
     {
-        self.strips.put(i, offset)
+        self.strips.put(memory, i, offset)
     }
 
-    // Puts a chunk that isn't there. An error comes for want of memory alone.
-    pub(crate) fn put(&mut self, chunk: Chunk, offset: u32) -> Result<(), AllocError>
+    // Puts a chunk that isn't there.
+    pub(crate) fn put(
+        &mut self,
+        memory: &mut Memory,
+        chunk: Chunk,
+        offset: u32,
+    ) -> Result<(), Refused>
         requires { offset_in self.old chunk ≡ None }
         ensures ok { OnOk result ((c : AnyChunk) → offset_in self.new c ≡ (if same_chunk chunk c then Some offset else offset_in self.old c)) }
         ensures err { OnErr result ((c : AnyChunk) → offset_in self.new c ≡ offset_in self.old c) }
+        ensures size { OnOk result (size_in self.new ≡ size_in self.old + 1) }
+        ensures kept { OnErr result (size_in self.new ≡ size_in self.old) }
+        ensures memory { Lacks result memory.old memory.new }
     {
         match chunk {
             Chunk::Table(dir) => {
                 self.put_table(dir, offset);
                 Ok(())
             }
-            Chunk::Placed(dir, tag) => self.put_value(dir, tag, offset),
+            Chunk::Placed(dir, tag) => self.put_value(memory, dir, tag, offset),
             Chunk::Jpeg => {
                 self.put_jpeg(offset);
                 Ok(())
             }
-            Chunk::Strip(i) => self.put_strip(i, offset),
+            Chunk::Strip(i) => self.put_strip(memory, i, offset),
         }
     }
 }

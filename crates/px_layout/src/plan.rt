@@ -1,10 +1,12 @@
 // Plans: where each chunk of a block stands.
 ghost use Rattle.std.specs.Prelude.{◌≡◌, None, IsSome, IfOk, OnErr, true, false, if◌then◌else◌};
-ghost use Rattle.px_layout.specs.Kept.{offset_in};
+ghost use Rattle.px_bytes.specs.Lacking.{Lacks};
+ghost use Rattle.px_layout.specs.Kept.{offset_in, size_in};
 ghost use Rattle.px_layout.specs.Counted.{IsCount};
 
 use crate::chunks::Chunk;
 use crate::offsets::Offsets;
+use px_bytes::{Memory, Refused};
 use std::alloc::{AllocError, Global};
 
 /// A layout: the length of a block in bytes, and where each of its chunks stands. TIFF 6.0 section 2
@@ -16,9 +18,9 @@ use std::alloc::{AllocError, Global};
 #[derive(Drop)]
 pub struct Plan {
     len: u32,
-    count: usize,
+    memory: Memory,
     offsets: Offsets,
-    ghost counted: { IsCount count (offset_in offsets) },
+    ghost counted: { IsCount (size_in offsets) (offset_in offsets) },
 }
 
 impl Plan {
@@ -26,14 +28,21 @@ impl Plan {
 
     /// A plan of a block of `len` bytes, in which no chunk is placed. It takes no memory; `alloc`
     /// serves the chunks that are placed later.
-    #[tactic(auto, unfolding(crate::specs::Planned::plan_of))]
     pub fn new(alloc: Global, len: u32) -> Plan
+        ensures { plan_of result ≡ bare len }
+    {
+        Plan::new_in(&Memory::new(alloc), len)
+    }
+
+    /// As `new`, with memory that serves the chunks that are placed later.
+    #[tactic(auto, unfolding(crate::specs::Planned::plan_of))]
+    pub fn new_in(memory: &Memory, len: u32) -> Plan
         ensures { plan_of result ≡ bare len }
     {
         Plan {
             len,
-            count: 0,
-            offsets: Offsets::new(alloc),
+            memory: memory.fresh(),
+            offsets: Offsets::new(memory),
         }
     }
 
@@ -54,31 +63,47 @@ impl Plan {
     }
 
     /// Places a chunk at an offset, and answers true; where it is placed already, it answers false and
-    /// nothing changes. Any offset is taken: `is_legal` judges a plan. An error comes for want of
-    /// memory alone, and changes nothing.
-    #[tactic(auto, unfolding(crate::specs::Planned::plan_of))]
+    /// nothing changes. Any offset is taken: `is_legal` judges a plan. An error comes where a growth was
+    /// refused, for a chunk that isn't placed, and changes nothing.
     pub fn place(&mut self, chunk: Chunk, offset: u32) -> Result<bool, AllocError>
         ensures placed { IfOk result (λ placed. placed ≡ true → (plan_of self.old).offset chunk ≡ None) }
         ensures there { IfOk result (λ placed. placed ≡ false → IsSome ((plan_of self.old).offset chunk)) }
         ensures after { IfOk result (λ placed. plan_of self.new ≡ (if placed then with_chunk (plan_of self.old) chunk offset else plan_of self.old)) }
         ensures err { OnErr result (plan_of self.new ≡ plan_of self.old) }
+        ensures unplaced { OnErr result ((plan_of self.old).offset chunk ≡ None) }
+    {
+        let mut memory = self.memory.fresh();
+        Ok(self.place_in(&mut memory, chunk, offset)?)
+    }
+
+    /// As `place`, with memory that tells whether a growth was refused: where the error came, and there alone.
+    #[tactic(auto, unfolding(crate::specs::Planned::plan_of))]
+    pub fn place_in(
+        &mut self,
+        memory: &mut Memory,
+        chunk: Chunk,
+        offset: u32,
+    ) -> Result<bool, Refused>
+        ensures placed { IfOk result (λ placed. placed ≡ true → (plan_of self.old).offset chunk ≡ None) }
+        ensures there { IfOk result (λ placed. placed ≡ false → IsSome ((plan_of self.old).offset chunk)) }
+        ensures after { IfOk result (λ placed. plan_of self.new ≡ (if placed then with_chunk (plan_of self.old) chunk offset else plan_of self.old)) }
+        ensures err { OnErr result (plan_of self.new ≡ plan_of self.old) }
+        ensures unplaced { OnErr result ((plan_of self.old).offset chunk ≡ None) }
+        ensures memory { Lacks result memory.old memory.new }
     {
         if self.offsets.offset(chunk).is_some() {
             return Ok(false);
         }
-        // Memory ends long before the count does.
-        let count = self.count.checked_add(1).ok_or(AllocError)?;
-        self.offsets.put(chunk, offset)?;
-        self.count = count;
+        self.offsets.put(memory, chunk, offset)?;
         Ok(true)
     }
 
     // How many chunks are placed.
     #[tactic(auto, unfolding(crate::specs::Planned::plan_of))]
-    pub(crate) fn count(&self) -> usize
+    pub(crate) fn count(&self) -> u128
         ensures { IsCount result (plan_of self.now).offset }
     {
-        self.count
+        self.offsets.size()
     }
 
     // Sets the length of the block.

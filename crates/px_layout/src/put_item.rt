@@ -43,7 +43,7 @@ fn put_strip_offsets<W: Sink>(
     Ok(())
 }
 
-fn put_strip_lengths<W: Sink>(
+pub(crate) fn put_strip_lengths<W: Sink>(
     pending: &mut Pending,
     writer: &mut W,
     order: Order,
@@ -77,7 +77,7 @@ pub(crate) fn put_item<W: Sink>(
 {
     match item {
         Item::Field(value) => put_value(pending, writer, order, value),
-        Item::Record(iim) => put_iim(pending, writer, iim),
+        Item::Record(record) => put_iim(pending, writer, record.iim),
         Item::Link(dir) => put_long(pending, writer, order, place_of(plan, Chunk::Table(dir))),
         Item::JpegOffset => put_long(pending, writer, order, place_of(plan, Chunk::Jpeg)),
         Item::JpegLength(len) => put_long(pending, writer, order, len),

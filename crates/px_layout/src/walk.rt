@@ -1,6 +1,7 @@
 // The chunks of a meaning, each with its size in bytes.
 ghost use Rattle.std.specs.Prelude.{◌≡◌, ◌++◌, ◌<◌, ◌≤◌, ◌^◌, IfOk, OnOk, IfSome, length, filter_map, option_map};
 ghost use Rattle.std.specs.Option.{option_to_list};
+ghost use Rattle.px_bytes.specs.Lacking.{Lacks};
 ghost use Rattle.px_bytes.specs.Parts.{limit};
 ghost use Rattle.px_tree.specs.Entry.{table_size};
 ghost use Rattle.px_tree.specs.Fits.{Fits, items};
@@ -11,112 +12,149 @@ ghost use Rattle.px_layout.specs.Chunks.{placed_chunk, chunks_of_dir, jpeg_chunk
 use crate::chunks::Chunk;
 use crate::entries::{Entries, entries_in};
 use crate::items::Item;
+use px_bytes::{Memory, Refused};
 use px_tree::{Dir, Meaning, Strips, Thumb};
-use std::alloc::{AllocError, Global};
 
 // Appends the chunk of an entry's value, where the value has a place of its own.
 #[tactic(auto, unfolding(crate::specs::Chunks::placed_chunk))]
-fn push_value(out: &mut Vec<(Chunk, u64)>, dir: Dir, tag: u16, item: Item) -> Result<(), AllocError>
+fn push_value(
+    memory: &mut Memory,
+    out: &mut Vec<(Chunk, u64)>,
+    dir: Dir,
+    tag: u16,
+    item: Item,
+) -> Result<(), Refused>
     requires { IsCounted (item_of item) }
-    ensures { OnOk result (out.new.items ≡ out.old.items ++ option_to_list (placed_chunk dir (tag, item_of item.entry))) }
+    ensures chunks { OnOk result (out.new.items ≡ out.old.items ++ option_to_list (placed_chunk dir (tag, item_of item.entry))) }
+    ensures memory { Lacks result memory.old memory.new }
 {
     let size = item.size();
     if size <= 4 {
         return Ok(());
     }
-    out.push((Chunk::Placed(dir, tag), size))?;
+    memory.push(out, (Chunk::Placed(dir, tag), size))?;
     Ok(())
 }
 
 #[tactic(auto, using(crate::proofs::Walks::values_more, crate::proofs::Walks::values_done))]
-fn push_values(out: &mut Vec<(Chunk, u64)>, dir: Dir, entries: &Entries) -> Result<(), AllocError>
-    ensures { OnOk result (out.new.items ≡ out.old.items ++ filter_map (placed_chunk dir) entries.now) }
+fn push_values(
+    memory: &mut Memory,
+    out: &mut Vec<(Chunk, u64)>,
+    dir: Dir,
+    entries: &Entries,
+) -> Result<(), Refused>
+    ensures chunks { OnOk result (out.new.items ≡ out.old.items ++ filter_map (placed_chunk dir) entries.now) }
+    ensures memory { Lacks result memory.old memory.new }
 {
     for i in 0..entries.len() {
         let (tag, item) = entries.at(i);
-        push_value(out, dir, tag, item)?;
+        push_value(memory, out, dir, tag, item)?;
     }
     Ok(())
 }
 
 // The bytes of a table of so many entries.
-fn table_len(entries: usize) -> u64
+pub(crate) fn table_len(entries: usize) -> u64
     requires { entries < 2 ^ 16 }
     ensures { result ≡ table_size entries }
 {
     2 + 12 * entries as u64 + 4
 }
 
-fn push_dir(out: &mut Vec<(Chunk, u64)>, m: &Meaning, dir: Dir) -> Result<(), AllocError>
+fn push_dir(
+    memory: &mut Memory,
+    out: &mut Vec<(Chunk, u64)>,
+    m: &Meaning,
+    dir: Dir,
+) -> Result<(), Refused>
     requires { Fits (meaning_of m.now) }
-    ensures { OnOk result (out.new.items ≡ out.old.items ++ chunks_of_dir dir (items (meaning_of m.now) dir)) }
+    ensures chunks { OnOk result (out.new.items ≡ out.old.items ++ chunks_of_dir dir (items (meaning_of m.now) dir)) }
+    ensures memory { Lacks result memory.old memory.new }
 {
     let Some(entries) = entries_in(m, dir) else {
         return Ok(());
     };
-    out.push((Chunk::Table(dir), table_len(entries.len())))?;
-    push_values(out, dir, &entries)
+    memory.push(out, (Chunk::Table(dir), table_len(entries.len())))?;
+    push_values(memory, out, dir, &entries)
 }
 
-fn push_jpeg(out: &mut Vec<(Chunk, u64)>, jpeg: Option<&[u8]>) -> Result<(), AllocError>
-    ensures { OnOk result (out.new.items ≡ out.old.items ++ jpeg_chunks (option_map (λ x. x.now) jpeg.entry)) }
+fn push_jpeg(
+    memory: &mut Memory,
+    out: &mut Vec<(Chunk, u64)>,
+    jpeg: Option<&[u8]>,
+) -> Result<(), Refused>
+    ensures chunks { OnOk result (out.new.items ≡ out.old.items ++ jpeg_chunks (option_map (λ x. x.now) jpeg.entry)) }
+    ensures memory { Lacks result memory.old memory.new }
 {
     let Some(jpeg) = jpeg else {
         return Ok(());
     };
-    out.push((Chunk::Jpeg, jpeg.len() as u64))?;
+    memory.push(out, (Chunk::Jpeg, jpeg.len() as u64))?;
     Ok(())
 }
 
 #[tactic(auto, using(crate::proofs::Walks::strips_done))]
-fn push_strips(out: &mut Vec<(Chunk, u64)>, strips: &Strips) -> Result<(), AllocError>
+fn push_strips(
+    memory: &mut Memory,
+    out: &mut Vec<(Chunk, u64)>,
+    strips: &Strips,
+) -> Result<(), Refused>
     requires { length strips.now ≤ limit }
-    ensures { OnOk result (out.new.items ≡ out.old.items ++ strip_chunks 0 strips.now) }
+    ensures chunks { OnOk result (out.new.items ≡ out.old.items ++ strip_chunks 0 strips.now) }
+    ensures memory { Lacks result memory.old memory.new }
 {
     for i in 0..strips.len() {
-        out.push((Chunk::Strip(i as u32), strips.at(i).len() as u64))?;
+        memory.push(out, (Chunk::Strip(i as u32), strips.at(i).len() as u64))?;
     }
     Ok(())
 }
 
 fn push_optional_strips(
+    memory: &mut Memory,
     out: &mut Vec<(Chunk, u64)>,
     strips: &Option<Strips>,
-) -> Result<(), AllocError>
+) -> Result<(), Refused>
     requires { IfSome strips.now (λ s. length s ≤ limit) }
-    ensures { OnOk result (out.new.items ≡ out.old.items ++ all_strip_chunks strips.now) }
+    ensures chunks { OnOk result (out.new.items ≡ out.old.items ++ all_strip_chunks strips.now) }
+    ensures memory { Lacks result memory.old memory.new }
 {
     match strips {
-        Some(strips) => push_strips(out, strips),
+        Some(strips) => push_strips(memory, out, strips),
         None => Ok(()),
     }
 }
 
 #[tactic(auto, unfolding(crate::specs::Chunks::thumb_chunks))]
-fn push_thumb(out: &mut Vec<(Chunk, u64)>, thumb: &Option<Thumb>) -> Result<(), AllocError>
+fn push_thumb(
+    memory: &mut Memory,
+    out: &mut Vec<(Chunk, u64)>,
+    thumb: &Option<Thumb>,
+) -> Result<(), Refused>
     requires { IfSome (option_map thumb_of thumb.now) (λ t. IfSome t.strips (λ s. length s ≤ limit)) }
-    ensures { OnOk result (out.new.items ≡ out.old.items ++ thumb_chunks (option_map thumb_of thumb.now)) }
+    ensures chunks { OnOk result (out.new.items ≡ out.old.items ++ thumb_chunks (option_map thumb_of thumb.now)) }
+    ensures memory { Lacks result memory.old memory.new }
 {
     let Some(thumb) = thumb else {
         return Ok(());
     };
-    push_jpeg(out, thumb.jpeg)?;
-    push_optional_strips(out, &thumb.strips)
+    push_jpeg(memory, out, thumb.jpeg)?;
+    push_optional_strips(memory, out, &thumb.strips)
 }
 
 /// The chunks of a meaning in the order of the normal form, each with its size in bytes. It takes
 /// memory for the list.
 #[tactic(auto, using(crate::proofs::Walks::gathered))]
-pub(crate) fn chunk_sizes(alloc: Global, m: &Meaning) -> Result<Vec<(Chunk, u64)>, AllocError>
+pub(crate) fn chunk_sizes(memory: &mut Memory, m: &Meaning) -> Result<Vec<(Chunk, u64)>, Refused>
     requires { Fits (meaning_of m.now) }
-    ensures { IfOk result (λ v. v.items ≡ chunks (meaning_of m.now)) }
+    ensures chunks { IfOk result (λ v. v.items ≡ chunks (meaning_of m.now)) }
+    ensures memory { Lacks result memory.old memory.new }
 {
-    let mut out = Vec::new(alloc);
-    push_dir(&mut out, m, Dir::Main)?;
-    push_dir(&mut out, m, Dir::Exif)?;
-    push_dir(&mut out, m, Dir::Interop)?;
-    push_dir(&mut out, m, Dir::Gps)?;
-    push_dir(&mut out, m, Dir::Thumb)?;
-    push_thumb(&mut out, &m.thumb)?;
+    let mut out = memory.list();
+    push_dir(memory, &mut out, m, Dir::Main)?;
+    push_dir(memory, &mut out, m, Dir::Exif)?;
+    push_dir(memory, &mut out, m, Dir::Interop)?;
+    push_dir(memory, &mut out, m, Dir::Gps)?;
+    push_dir(memory, &mut out, m, Dir::Thumb)?;
+    push_thumb(memory, &mut out, &m.thumb)?;
     Ok(out)
 }

@@ -1,11 +1,12 @@
 // The normal form, written.
-ghost use Rattle.std.specs.Prelude.{◌<◌, ◌+◌, ◌^◌};
+ghost use Rattle.std.specs.Prelude.{◌≡◌, ◌<◌, ◌+◌, ◌^◌, IfErr};
+ghost use Rattle.px_bytes.specs.declared.causes.WriteRefusal.TheVariants.{NormalTooLong};
 ghost use Rattle.px_tree.specs.Fits.{Fits};
 ghost use Rattle.px_tree.specs.Seen.{meaning_of};
 ghost use Rattle.px_layout.specs.Writing.{WritesExif};
 
-use crate::normal::plan_normal;
 use crate::put_normal::put_block;
+use crate::starts::starts_of;
 use px_bytes::{Pending, Sink, WriteRefusal};
 use px_tree::Meaning;
 use std::alloc::Global;
@@ -17,25 +18,36 @@ use std::alloc::Global;
 /// a 0 to an even number of bytes. TIFF 6.0 section 2; CIPA DC-008 4.6.3 and 4.5.5. One flush follows the
 /// last byte.
 ///
-/// NormalTooLong where the form is longer than `LIMIT`, and OutOfMemory where a growth was refused: both
-/// come before the first byte. WriteFailed comes at the first failed call of the writer, the flush too;
-/// the writer has then taken a prefix of the form.
+/// NormalTooLong where the form is longer than `LIMIT`, before the first byte. WriteFailed comes at the first
+/// failed call of the writer, the flush too; the writer has then taken a prefix of the form. OutOfMemory never
+/// comes: it takes no memory, and leaves `alloc` alone.
 ///
-/// It takes memory for the plan of the form, before the first byte, and none after that. Bytes go out in
-/// writes of up to 8,192, and longer values at once.
+/// Where each part stands is summed up first, and offsets run along with the parts. Bytes go out in writes of
+/// up to 8,192, and longer values at once.
 pub fn write_normal<W: Sink>(
-    alloc: Global,
+    _alloc: Global,
     m: &Meaning,
     writer: &mut W,
 ) -> Result<u64, WriteRefusal>
     requires few { W.failed writer.old + 1 < 2 ^ 64 }
     requires fits { Fits (meaning_of m.now) }
-    ensures { WritesExif result (W.bytes_taken writer.old) (W.bytes_taken writer.new) (W.failed writer.old) (W.failed writer.new) (meaning_of m.now) }
+    ensures form { WritesExif result (W.bytes_taken writer.old) (W.bytes_taken writer.new) (W.failed writer.old) (W.failed writer.new) (meaning_of m.now) }
+    ensures untouched { IfErr result (λ e. e ≡ NormalTooLong → writer.new ≡ writer.old) }
 {
-    let plan = plan_normal(alloc, m)?;
+    write_normal_in(m, writer)
+}
+
+/// As `write_normal`, which takes no memory either.
+pub fn write_normal_in<W: Sink>(m: &Meaning, writer: &mut W) -> Result<u64, WriteRefusal>
+    requires few { W.failed writer.old + 1 < 2 ^ 64 }
+    requires fits { Fits (meaning_of m.now) }
+    ensures form { WritesExif result (W.bytes_taken writer.old) (W.bytes_taken writer.new) (W.failed writer.old) (W.failed writer.new) (meaning_of m.now) }
+    ensures untouched { IfErr result (λ e. e ≡ NormalTooLong → writer.new ≡ writer.old) }
+{
+    let starts = starts_of(m)?;
     let mut pending = Pending::new();
-    put_block(&mut pending, writer, m, &plan)?;
+    put_block(&mut pending, writer, m, &starts)?;
     pending.send(writer)?;
     writer.flush_all()?;
-    Ok(u64::from(plan.len()))
+    Ok(u64::from(starts.end))
 }

@@ -294,6 +294,17 @@ fn a_form_goes_out_in_one_write(rt: HostRuntime) -> Result<(), Fail> {
 }
 
 #[test]
+fn strips_go_out_in_one_write(rt: HostRuntime) -> Result<(), Fail> {
+    let alloc = rt.alloc();
+    let inner = SmallWriter::new(alloc, 10_000, 10_000);
+    let (result, inner) = write_to(&rt, alloc, STRIPS, inner)?;
+    assert_eq!(rt; result, Ok(86));
+    assert_eq!(rt; inner.taken.as_slice(), STRIPS_IN_ORDER);
+    assert_eq!(rt; (inner.writes, inner.flushes), (1, 1));
+    Ok(())
+}
+
+#[test]
 fn a_writer_of_one_byte_gets_each_once(rt: HostRuntime) -> Result<(), Fail> {
     let alloc = rt.alloc();
     let inner = SmallWriter::new(alloc, 1, 10_000);

@@ -10,9 +10,9 @@ returns-then-size-le4-clause-bytes c =
 pub put_at-requires : goal.put_at-requires
 put_at-requires c =
     value_room c.args.layout.now c.args.block.now c.args.block.now c.args.dir (c.args.tag, item_of c.args.item) (let s = c.size.ensures in let t = c.if-size-le4.false in omega arith)
-    c.place_of.result c.deref.result.now c.place_of.ensures (c.deref.ensures.value ∙ c.in_ok-bytes.ensures) c.requires.inside
+    c.place_of.result c.deref.result.now c.place_of.ensures (c.deref.ensures.value ∙ c.in_ok-bytes.ensures.bytes) c.requires.inside
 
 pub returns-clause-bytes : goal.returns-clause-bytes
 returns-clause-bytes c =
     value_over c.args.layout.now c.args.block.now c.put_at.new.block c.args.dir (c.args.tag, item_of c.args.item) (let s = c.size.ensures in let t = c.if-size-le4.false in omega arith)
-    c.place_of.result c.deref.result.now c.place_of.ensures (c.deref.ensures.value ∙ c.in_ok-bytes.ensures) c.put_at.ensures.bytes
+    c.place_of.result c.deref.result.now c.place_of.ensures (c.deref.ensures.value ∙ c.in_ok-bytes.ensures.bytes) c.put_at.ensures.bytes

@@ -1,4 +1,4 @@
-use Rattle.std.proofs.Common.{◌≡◌, ◌-◌, ℕ, [], ◌∷◌, length, drop, subst, sym, arith}
+use Rattle.std.proofs.Common.{◌≡◌, ◌∙◌, ◌-◌, ℕ, [], ◌∷◌, length, drop, subst, sym, arith}
 use Rattle.px_layout.specs.Items.{item_of}
 use Rattle.px_layout.specs.Building.{AreInside, PutsOver, value_pieces}
 use Rattle.px_layout.proofs.Pieces.{value_inside, values_more}
@@ -10,11 +10,13 @@ lay_value-requires-clause-inside c =
     (value_inside c.args.layout.now c.args.dir (length c.args.block.now) (c.loop-i.i - 1) c.args.entries.now (c.at-tag.result.0, item_of c.at-tag.result.1) c.at-tag.ensures.entry c.requires)
 
 pub loop-i-preserved : goal.loop-i-preserved
-loop-i-preserved c =
-    values_more c.args.layout.now c.args.dir c.args.block.now c.loop-i.block c.lay_value.new.block c.args.entries.now (c.loop-i.i - 1) c.loop-i.i
-    (c.at-tag.result.0, item_of c.at-tag.result.1) (let t = c.loop-i-test.true in omega arith) c.at-tag.ensures.entry c.loop-i.auto.block c.loop-i.invariant c.in_ok-lay_value.ensures.bytes
+loop-i-preserved c = record {
+  bytes = values_more c.args.layout.now c.args.dir c.args.block.now c.loop-i.block c.lay_value.new.block c.args.entries.now (c.loop-i.i - 1) c.loop-i.i
+      (c.at-tag.result.0, item_of c.at-tag.result.1) (let t = c.loop-i-test.true in omega arith) c.at-tag.ensures.entry c.loop-i.auto.block c.loop-i.invariant.bytes c.in_ok-lay_value.ensures.bytes;
+  memory = c.in_ok-lay_value.ensures.memory ∙ c.loop-i.invariant.memory;
+}
 
 pub returns-clause-bytes : goal.returns-clause-bytes
 returns-clause-bytes c =
     let z : c.loop-i.i ≡ 0 = let t = c.loop-i-test.false in omega arith in
-    subst (λ (i : ℕ). PutsOver c.args.block.now c.loop-i.block (value_pieces c.args.layout.now c.args.dir (drop i c.args.entries.now))) z c.loop-i.invariant
+    subst (λ (i : ℕ). PutsOver c.args.block.now c.loop-i.block (value_pieces c.args.layout.now c.args.dir (drop i c.args.entries.now))) z c.loop-i.invariant.bytes

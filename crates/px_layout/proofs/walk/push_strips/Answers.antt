@@ -3,5 +3,7 @@ use Rattle.px_layout.proofs.Walks.{strips_more}
 use Rattle.px_layout.proofs.walk.push_strips.Goals as goal
 
 pub loop-i-preserved : goal.loop-i-preserved
-loop-i-preserved c =
-    strips_more c.args.strips.now c.loop-i.i c.at.result.now c.loop-i.out.items c.push.new.self.items c.at.ensures c.in_ok-push.ensures.items ∙ c.loop-i.invariant
+loop-i-preserved c = record {
+  chunks = strips_more c.args.strips.now c.loop-i.i c.at.result.now c.loop-i.out.items c.push.new.list.items c.at.ensures c.in_ok-push.ensures.items ∙ c.loop-i.invariant.chunks;
+  memory = c.in_ok-push.ensures.memory ∙ c.loop-i.invariant.memory;
+}

@@ -1,15 +1,16 @@
-use Rattle.std.proofs.Common.{arith}
-use Rattle.px_layout.proofs.EntryLists.{rank_more, rank_found, rank_all}
-use Rattle.px_layout.specs.Items.{item_of}
+use Rattle.std.proofs.Common.{ap, arith}
+use Rattle.px_layout.specs.Items.{rank}
+use Rattle.px_layout.specs.Layers.{under_second, under_third, under_fourth}
+use Rattle.px_tree.specs.Fits.{field_items}
 use Rattle.px_layout.proofs.entries.Entries.rank.Goals as goal
 
-pub returns-then-at-tag : goal.returns-then-at-tag
-returns-then-at-tag c = rank_found c.args.tag c.at.result.0 (item_of c.at.result.1) c.args.self.now c.loop-i.i c.loop-i.invariant c.at.ensures.entry c.if-at-tag.true
-
-pub loop-i-preserved : goal.loop-i-preserved
-loop-i-preserved c =
-    let m = rank_more c.args.tag c.at.result.0 (item_of c.at.result.1) c.args.self.now c.loop-i.i c.loop-i.invariant c.at.ensures.entry (let f = c.if-at-tag.false in omega arith) in
-    omega arith
-
 pub returns : goal.returns
-returns c = rank_all c.args.tag c.args.self.now c.len.result (let i = c.loop-i.invariant in let f = c.loop-i-test.false in let l = c.len.ensures in let k = c.len-i-end.ensures in omega arith) c.len.ensures
+returns c =
+    let e = c.self.inside in
+    let v = ap (rank c.args.tag) c.self.view_is in
+    let f = c.fields_before.ensures.rank in
+    let a = c.adds.ensures.added (field_items e.fields.now) in
+    let b = c.adds-2.ensures.added (under_second e) in
+    let d = c.adds-3.ensures.added (under_third e) in
+    let g = c.adds-4.ensures.added (under_fourth e) in
+    omega arith

@@ -1,0 +1,17 @@
+use Rattle.std.proofs.Common.{◌≡◌, ◌+◌, ◌++◌, take, drop, flat_map, length}
+use Rattle.px_bytes.specs.Waiting.{Owes}
+use Rattle.px_bytes.specs.declared.Order.TheVariants.{Most}
+use Rattle.px_tree.specs.Seen.{meaning_of}
+use Rattle.px_tree.specs.Entry.{table_size}
+use Rattle.px_layout.specs.Laid.{entry_bytes}
+use Rattle.px_layout.specs.Normal.{even, normal_plan}
+use Rattle.px_layout.specs.RunLaws.{start, values_size}
+use Rattle.px_layout.proofs.put_running.put_running_entries.Given as goal
+
+-- the entries so far were put, no call failed, and the next value stands behind those of these entries
+abbrev pub invariant-loop-i : goal.invariant-loop-i
+invariant-loop-i g l = record {
+  owes : Owes (g.W.Sink.bytes_taken l.initial.writer) (g.W.Sink.bytes_taken l.writer) l.pending (l.initial.pending ++ flat_map (entry_bytes (normal_plan (meaning_of l.m)) Most 0 l.fn.dir) (take l.i l.entries));
+  count : g.W.Device.failed l.writer ≡ g.W.Device.failed l.initial.writer;
+  left : l.at + values_size (drop l.i l.entries) ≡ start (meaning_of l.m) l.fn.dir + even (table_size (length l.entries)) + values_size l.entries;
+}
