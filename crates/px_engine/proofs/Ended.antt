@@ -1,13 +1,19 @@
 -- How a run that writes ends, from what its parts answer.
-use Rattle.std.proofs.Common.{◌<◌, ◌*◌, ℕ, Option, Some, None, List, length, Result, Ok, Err, IfSome, arith}
+use Rattle.std.proofs.Common.{◌≡◌, ◌<◌, ◌≤◌, ◌*◌, ℕ, Bool, Option, Some, None, List, length, Result, Ok, Err, IfOk, IfErr, IfSome, refl, sym, subst, arith}
 use Rattle.px_bytes.specs.Parts.{limit}
 use Rattle.px_bytes.specs.Reading.{ReadsUpTo}
 use Rattle.px_engine.specs.declared.faults.Fault.{Fault}
 use Rattle.px_engine.specs.declared.faults.Fault.TheVariants.{Refused, NormalTooLong, OutOfMemory, ReadFailed, WriteFailed}
+use Rattle.px_engine.specs.declared.faults.Side.TheVariants.{First, Second}
+use Rattle.px_engine.specs.declared.faults.CompareFault.{CompareFault}
+use Rattle.px_engine.specs.declared.kinds.BlockKind.{BlockKind}
 use Rattle.px_engine.specs.Files.{Said, normal, block_of}
-use Rattle.px_engine.specs.Input.{IsSaid}
-use Rattle.px_engine.specs.Runs.{KnownSaid, Normalises, WritesSaid}
-use Rattle.px_engine.proofs.Judged.{known_said}
+use Rattle.px_engine.specs.Hand.{IsKindOf, IsUnformed}
+use Rattle.px_engine.specs.Headline.{IsFormOf, IsUnwritten}
+use Rattle.px_engine.specs.Lacking.{LacksFault, LacksRun}
+use Rattle.px_engine.specs.Input.{IsSaid, IsUnsaid}
+use Rattle.px_engine.specs.Runs.{KnownSaid, Stops, Checks, Normalises, WritesSaid, StopsAt, Compares}
+use Rattle.px_engine.proofs.Judged.{known_said, known_stops}
 
 half : (file : Option (List ℕ)) (s : Said) → KnownSaid file s → limit < length (normal s) → IfSome file (λ f. limit < 2 * length (block_of f))
 half None s h l = tt
@@ -19,6 +25,59 @@ normalised (Ok n) left left_now bytes s old new a b x h w = (s, known_said left 
 normalised (Err NormalTooLong) left left_now bytes s old new a b x h w =
     let k = known_said left left_now bytes s x h in (s, k, w.0, half left s k w.0, w.1)
 normalised (Err WriteFailed) left left_now bytes s old new a b x h w = (s, known_said left left_now bytes s x h, w.0, w.1)
-normalised (Err OutOfMemory) left left_now bytes s old new a b x h w = (tt, w.0)
+normalised (Err OutOfMemory) left left_now bytes s old new a b x h w = absurd w
 normalised (Err ReadFailed) left left_now bytes s old new a b x h w = absurd w
 normalised (Err (Refused cause place)) left left_now bytes s old new a b x h w = absurd w
+
+-- a writer takes no memory
+pub lacks_nothing : (r : Result ℕ Fault) (old new : Option (List ℕ)) (a b : ℕ) (s : Said) (first last : Bool) → last ≡ first → WritesSaid r old new a b s → LacksRun r first last
+lacks_nothing (Ok n) old new a b s first last q w = q
+lacks_nothing (Err NormalTooLong) old new a b s first last q w = q
+lacks_nothing (Err WriteFailed) old new a b s first last q w = q
+lacks_nothing (Err OutOfMemory) old new a b s first last q w = absurd w
+lacks_nothing (Err ReadFailed) old new a b s first last q w = absurd w
+lacks_nothing (Err (Refused cause place)) old new a b s first last q w = absurd w
+
+-- what lacked memory lacked it from the first call on, where none before it did
+pub lacks_later : (fault : Fault) (first mid last : Bool) → mid ≡ first → LacksFault fault mid last → LacksFault fault first last
+lacks_later fault first mid last q h = subst (λ z. LacksFault fault z last) q h
+
+-- the bytes that were read say nothing
+pub not_normalised : (fault : Fault) (left left_now : Option (List ℕ)) (bytes : List ℕ) (lacking : Bool) (old : Option (List ℕ)) →
+    ReadsUpTo left left_now 16777223 bytes → IsUnsaid bytes lacking fault → Normalises (Err fault) left old old
+not_normalised (Refused cause place) left left_now bytes lacking old x h = (known_stops left left_now bytes lacking (Refused cause place) x h, refl)
+not_normalised OutOfMemory left left_now bytes lacking old x h = (tt, refl)
+not_normalised ReadFailed left left_now bytes lacking old x h = absurd h
+not_normalised NormalTooLong left left_now bytes lacking old x h = absurd h
+not_normalised WriteFailed left left_now bytes lacking old x h = absurd h
+
+pub checked : (r : Result BlockKind Fault) (left left_now : Option (List ℕ)) (bytes : List ℕ) (lacking : Bool) → ReadsUpTo left left_now 16777223 bytes
+    → IfOk r (IsKindOf bytes) → IfErr r (IsUnsaid bytes lacking) → Checks r left
+checked (Ok kind) left left_now bytes lacking x h k = (h.0, known_said left left_now bytes h.0 x h.1, h.2)
+checked (Err fault) left left_now bytes lacking x h k = known_stops left left_now bytes lacking fault x k
+
+-- a form in hand
+pub form_formed : {V : Type 0} (items : V → List ℕ) (r : Result V Fault) (f : List ℕ) (s : Said) → IsSaid f s
+    → IfOk r (λ v. (items v ≡ normal s) × (length (items v) ≤ limit)) → IfOk r (λ v. (t : Said) × IsFormOf f t (items v))
+form_formed items (Ok v) f s h k = (s, (h, k.0, k.1))
+form_formed items (Err e) f s h k = tt
+
+pub form_unwritten : {V : Type 0} (r : Result V Fault) (f : List ℕ) (s : Said) (lacking : Bool) → IsSaid f s → IfErr r (IsUnformed s lacking) → IfErr r (IsUnwritten f lacking)
+form_unwritten (Ok v) f s lacking h k = tt
+form_unwritten (Err NormalTooLong) f s lacking h k = (s, h, k, half (Some f) s h k)
+form_unwritten (Err OutOfMemory) f s lacking h k = k
+form_unwritten (Err (Refused cause place)) f s lacking h k = absurd k
+form_unwritten (Err ReadFailed) f s lacking h k = absurd k
+form_unwritten (Err WriteFailed) f s lacking h k = absurd k
+
+-- a call with memory of its own
+pub own_memory : {A E : Type 0} (P : Bool → E → Type 0) (r : Result A E) (lacking : Bool) → IfErr r (P lacking) → IfErr r (λ e. (refused : Bool) × P refused e)
+own_memory P (Ok x) lacking h = tt
+own_memory P (Err e) lacking h = (lacking, h)
+
+-- the fault of one of two files
+pub first_stops : (e : CompareFault) (first second : Option (List ℕ)) → e.side ≡ First → Stops e.fault first → Compares (Err e) first second
+first_stops e first second q h = subst (λ z. StopsAt z e.fault first second) (sym q) h
+
+pub second_stops : (e : CompareFault) (first second : Option (List ℕ)) (s : Said) → e.side ≡ Second → KnownSaid first s → Stops e.fault second → Compares (Err e) first second
+second_stops e first second s q k h = subst (λ z. StopsAt z e.fault first second) (sym q) ((s, k), h)

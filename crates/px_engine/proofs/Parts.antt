@@ -4,10 +4,12 @@ use Rattle.std.specs.List.{flat_map, filter_map}
 use Rattle.std.proofs.Math.Seq.{take-add}
 use Rattle.std.proofs.lemmas.List.{take_more, flat_map_more}
 use Rattle.std.proofs.lemmas.List.Elements.{filter_map-append}
+use Rattle.std.proofs.lemmas.Grind.{flat_map-append}
 use Rattle.std.proofs.lemmas.Option.{slice_get_within, get_or_from_slice_get, slice_get-map, slice_get-get_or}
 use Rattle.hex.specs.Hex.{encode_with, encode_lower, lower_digits}
 use Rattle.px_iim.specs.Group.{Group, Record}
 use Rattle.px_engine.specs.Listing.{dataset_count}
+use Rattle.px_engine.specs.Captions.{Labelled, labelled, group_captions, caption_groups, iim_captions, caption_line, caption_lines}
 
 -- ---- bytes in hexadecimal
 
@@ -64,3 +66,34 @@ count_more i k g n c read e h =
     let f : Group → List (ℕ × List ℕ) = λ y. y.items in
     let more : flat_map f (take k i) ++ f g ≡ flat_map f (take (k + 1) i) = parts_more i k g read f [] (flat_map f (take k i)) (flat_map f (take k i) ++ f g) refl refl in
     omega (arith, e, h, ap length more, length-append (flat_map f (take k i)) (f g))
+
+-- ---- the lines of captions
+
+lines_append : (xs ys : List Labelled) → caption_lines (xs ++ ys) ≡ caption_lines xs ++ caption_lines ys
+lines_append xs ys = flat_map-append caption_line xs ys
+
+-- the lines of what the element at i gives, if anything, follow those of what is given before it
+pub lines_more : (xs : List (ℕ × List ℕ)) (i : ℕ) (x : ℕ × List ℕ) → slice_get xs i ≡ Some x → (old now new : List ℕ)
+    → now ≡ old ++ caption_lines (filter_map labelled (take i xs)) → new ≡ now ++ caption_lines (filter_map labelled (x ∷ [])) → new ≡ old ++ caption_lines (filter_map labelled (take (i + 1) xs))
+lines_more xs i x read old now new e h =
+    let more : filter_map labelled (take (i + 1) xs) ≡ filter_map labelled (take i xs) ++ filter_map labelled (x ∷ []) =
+    ap (filter_map labelled) (one_more xs i x read) ∙ filter_map-append labelled (take i xs) (x ∷ []) in
+    h ∙ ap (λ (l : List ℕ). l ++ caption_lines (filter_map labelled (x ∷ []))) e
+    ∙ append_assoc old (caption_lines (filter_map labelled (take i xs))) (caption_lines (filter_map labelled (x ∷ [])))
+    ∙ ap (λ (l : List ℕ). old ++ l) (sym (ap caption_lines more ∙ lines_append (filter_map labelled (take i xs)) (filter_map labelled (x ∷ []))))
+
+-- group by group, or all at once
+lines_each : (i : Record) (ns : List ℕ) → flat_map (λ (n : ℕ). caption_lines (group_captions i n)) ns ≡ caption_lines (flat_map (group_captions i) ns)
+lines_each i [] = refl
+lines_each i (n ∷ ns) = ap (λ (l : List ℕ). caption_lines (group_captions i n) ++ l) (lines_each i ns) ∙ sym (lines_append (group_captions i n) (flat_map (group_captions i) ns))
+
+pub record_lines_whole : (i : Record) (old new : List ℕ) → new ≡ old ++ flat_map (λ (n : ℕ). caption_lines (group_captions i n)) caption_groups → new ≡ old ++ caption_lines (iim_captions i)
+unfolding iim_captions
+record_lines_whole i old new h = h ∙ ap (λ (l : List ℕ). old ++ l) (lines_each i caption_groups)
+
+pub three_lines : (x y z : List Labelled) (old a b new : List ℕ) → a ≡ old ++ caption_lines x → b ≡ a ++ caption_lines y → new ≡ b ++ caption_lines z → new ≡ old ++ caption_lines (x ++ y ++ z)
+three_lines x y z old a b new p q r =
+    r ∙ ap (λ (l : List ℕ). l ++ caption_lines z) (q ∙ ap (λ (l : List ℕ). l ++ caption_lines y) p)
+    ∙ ap (λ (l : List ℕ). l ++ caption_lines z) (append_assoc old (caption_lines x) (caption_lines y) ∙ ap (λ (l : List ℕ). old ++ l) (sym (lines_append x y)))
+    ∙ append_assoc old (caption_lines (x ++ y)) (caption_lines z)
+    ∙ ap (λ (l : List ℕ). old ++ l) (sym (lines_append (x ++ y) z))

@@ -27,7 +27,7 @@ use Rattle.px_layout.specs.NormalLaws as exif_normal
 use Rattle.px_layout.specs.BoundLaws as exif_bound
 use Rattle.px_engine.specs.declared.kinds.BlockKind.{BlockKind}
 use Rattle.px_engine.specs.declared.kinds.BlockKind.TheVariants as kind
-use Rattle.px_engine.specs.Files.{Said, Exif, Iim, prefix, is_prefixed, is_marked, kind_of, block_of, SaysBlock, Says, CanBeWritten, normal, FirstIn, FirstFaultOf, StandsIn}
+use Rattle.px_engine.specs.Files.{Said, Exif, Iim, prefix, is_prefixed, is_marked, kind_of, block_of, SaysBlock, Says, CanBeWritten, normal, FirstIn, FirstFaultOf, StandsIn, FaultOf}
 use Rattle.px_engine.specs.Laws.{OneSaid, SaidCanBeWritten, NormalSays, NormalTells, NormalIsItsOwn, NormalBound, FaultsTell, taken, TakenTells}
 
 -- ---- a block of a kind
@@ -221,6 +221,19 @@ taken_tells = (
     | inr l ↦ (λ h. moved (taken f) f c p (first_long (taken f) l.1) (first_long f l.0) h, λ h. moved f (taken f) c p (first_long f l.0) (first_long (taken f) l.1) h)
   ],
 )
+
+too_long_stands : (k : BlockKind) (b : List ℕ) → limit < length b → StandsIn k b TooLong limit
+too_long_stands kind.Exif b l = (refl, l)
+too_long_stands kind.Iim b l = (refl, l)
+
+-- the first fault of the bytes that are read stands in the whole file
+pub stands_whole : (f : List ℕ) (c : Cause) (p : ℕ) → FirstFaultOf (taken f) c p → FaultOf (taken f) c p → FaultOf f c p
+stands_whole f c p h s = elim (whole_or_long f) [
+  | inl e ↦ subst (λ z. FaultOf z c p) e s
+  | inr l ↦
+      let e = one_first_in (block_of (taken f)) (kind_of (taken f)) TooLong c limit p (first_long (taken f) l.1) h in
+      subst (λ z. FaultOf f z p) e.0 (subst (λ z. FaultOf f TooLong z) e.1 (too_long_stands (kind_of f) (block_of f) l.0))
+]
 
 -- nothing stands in front of the block in a normal form
 pub own_block : (s : Said) → CanBeWritten s → block_of (normal s) ≡ normal s

@@ -1,8 +1,9 @@
 -- The headline: two files, and the normal forms that are written of them.
-use Rattle.std.specs.Prelude.{◌≡◌, ◌<◌, ◌≤◌, ◌*◌, ◌↔◌, ℕ, List, length, ⊤}
+use Rattle.std.specs.Prelude.{◌≡◌, ◌<◌, ◌≤◌, ◌*◌, ◌↔◌, ℕ, Bool, true, List, length}
 use Rattle.px_bytes.specs.Parts.{limit}
 use Rattle.px_engine.specs.declared.faults.Fault.{Fault}
 use Rattle.px_engine.specs.declared.faults.Fault.TheVariants.{Refused, NormalTooLong, OutOfMemory, ReadFailed, WriteFailed}
+use Rattle.px_engine.specs.declared.faults.CompareFault.{CompareFault}
 use Rattle.px_engine.specs.declared.faults.Side.{Side}
 use Rattle.px_engine.specs.declared.faults.Side.TheVariants.{First, Second}
 use Rattle.px_engine.specs.Files.{Said, Says, normal, block_of}
@@ -34,14 +35,18 @@ pub record Headline (f g m n : List ℕ) : Type 0 where
   pub second_again : IsItsOwn n second
 
 -- Why nothing was written of f: it says nothing, for its content's first fault; or the form of what it says is too long; or
--- memory was refused, or a device failed.
-abbrev pub IsUnwritten : Fault → List ℕ → Type 0
-IsUnwritten (Refused cause place) f = IsFaulty f cause place
-IsUnwritten NormalTooLong f = (s : Said) × IsSaid f s × (limit < length (normal s)) × (limit < 2 * length (block_of f))
-IsUnwritten OutOfMemory f = ⊤
-IsUnwritten ReadFailed f = ⊤
-IsUnwritten WriteFailed f = ⊤
+-- memory has refused a growth. No device is asked, so none fails.
+abbrev pub IsUnwritten : List ℕ → Bool → Fault → Type 0
+IsUnwritten f refused (Refused cause place) = IsFaulty f cause place
+IsUnwritten f refused NormalTooLong = (s : Said) × IsSaid f s × (limit < length (normal s)) × (limit < 2 * length (block_of f))
+IsUnwritten f refused OutOfMemory = refused ≡ true
+IsUnwritten f refused ReadFailed = ⊥
+IsUnwritten f refused WriteFailed = ⊥
 
-abbrev pub IsUnwrittenAt : Side → Fault → List ℕ → List ℕ → Type 0
-IsUnwrittenAt First fault f g = IsUnwritten fault f
-IsUnwrittenAt Second fault f g = IsUnwritten fault g
+-- the fault of the first file; or of the second, where the first has a form
+abbrev pub IsUnwrittenOn : Side → List ℕ → List ℕ → Bool → Fault → Type 0
+IsUnwrittenOn First f g refused fault = IsUnwritten f refused fault
+IsUnwrittenOn Second f g refused fault = ((s : Said) × (n : List ℕ) × IsFormOf f s n) × IsUnwritten g refused fault
+
+abbrev pub IsUnwrittenAt : List ℕ → List ℕ → Bool → CompareFault → Type 0
+IsUnwrittenAt f g refused e = IsUnwrittenOn e.side f g refused e.fault

@@ -1,9 +1,10 @@
 -- What reading a file answers.
-use Rattle.std.specs.Prelude.{◌≡◌, ◌≤◌, ◌+◌, ◌*◌, ℕ, List, length, Result, Ok, Err, ⊤}
+use Rattle.std.specs.Prelude.{◌≡◌, ◌≤◌, ◌+◌, ◌*◌, ℕ, Bool, true, List, length, Result, Ok, Err}
 use Rattle.px_bytes.specs.declared.Cause.{Cause}
 use Rattle.px_bytes.specs.declared.Refusal.{Refusal}
 use Rattle.px_bytes.specs.declared.Refusal.TheVariants as refusal
 use Rattle.px_bytes.specs.Parts.{limit}
+use Rattle.px_engine.specs.declared.faults.CompareFault.{CompareFault}
 use Rattle.px_engine.specs.declared.faults.Fault.{Fault}
 use Rattle.px_engine.specs.declared.faults.Fault.TheVariants.{Refused, NormalTooLong, OutOfMemory, ReadFailed, WriteFailed}
 use Rattle.px_engine.specs.declared.kinds.BlockKind.{BlockKind}
@@ -22,10 +23,10 @@ pub record IsFaultyIn (k : BlockKind) (b : List ℕ) (cause : Cause) (place : �
   pub bounded : place ≤ limit
   pub unsaid : (s : Said) → SaysBlock k b s → ⊥
 
--- a refusal of content names such a fault; want of memory says nothing of the block
-abbrev pub IsRefusedIn : BlockKind → List ℕ → Refusal → Type 0
-IsRefusedIn k b (refusal.Content cause place) = IsFaultyIn k b cause place
-IsRefusedIn k b refusal.OutOfMemory = ⊤
+-- a refusal of content names such a fault; want of memory comes where memory has refused a growth
+abbrev pub IsRefusedIn : BlockKind → List ℕ → Bool → Refusal → Type 0
+IsRefusedIn k b refused (refusal.Content cause place) = IsFaultyIn k b cause place
+IsRefusedIn k b refused refusal.OutOfMemory = refused ≡ true
 
 -- the same of the block in a file
 abbrev pub IsSaid : List ℕ → Said → Type 0
@@ -34,8 +35,16 @@ IsSaid f s = IsSaidIn (kind_of f) (block_of f) s
 abbrev pub IsFaulty : List ℕ → Cause → ℕ → Type 0
 IsFaulty f cause place = IsFaultyIn (kind_of f) (block_of f) cause place
 
-abbrev pub IsRefused : List ℕ → Refusal → Type 0
-IsRefused f r = IsRefusedIn (kind_of f) (block_of f) r
+abbrev pub IsRefused : List ℕ → Bool → Refusal → Type 0
+IsRefused f refused r = IsRefusedIn (kind_of f) (block_of f) refused r
+
+-- the same as the fault of a run
+abbrev pub IsUnsaid : List ℕ → Bool → Fault → Type 0
+IsUnsaid f refused (Refused cause place) = IsFaulty f cause place
+IsUnsaid f refused OutOfMemory = refused ≡ true
+IsUnsaid f refused ReadFailed = ⊥
+IsUnsaid f refused NormalTooLong = ⊥
+IsUnsaid f refused WriteFailed = ⊥
 
 -- a whole read fails for want of memory, or where a call of the reader failed, as its count of failures tells
 abbrev pub CountsReadFault : Fault → ℕ → ℕ → Type 0
@@ -44,6 +53,11 @@ CountsReadFault ReadFailed failed failed_now = failed_now ≡ failed + 1
 CountsReadFault (Refused cause place) failed failed_now = ⊥
 CountsReadFault NormalTooLong failed failed_now = ⊥
 CountsReadFault WriteFailed failed failed_now = ⊥
+
+-- the same, of one of two files
+abbrev pub CountsReadOf : {A : Type 0} → Result A CompareFault → ℕ → ℕ → Type 0
+CountsReadOf (Ok x) failed failed_now = failed_now ≡ failed
+CountsReadOf (Err e) failed failed_now = CountsReadFault e.fault failed failed_now
 
 abbrev pub CountsRead : {A : Type 0} → Result A Fault → ℕ → ℕ → Type 0
 CountsRead (Ok x) failed failed_now = failed_now ≡ failed

@@ -11,7 +11,6 @@ use Rattle.px_engine.specs.declared.faults.CompareFault.{CompareFault}
 use Rattle.px_engine.specs.declared.kinds.BlockKind.{BlockKind}
 use Rattle.px_engine.specs.Files.{Said, kind_said, block_of, normal}
 use Rattle.px_engine.specs.Input.{IsSaid, IsFaulty}
-use Rattle.px_engine.specs.Laws.{taken}
 
 -- ---- what is known of a file. `file` is what a reader had to give, where it tells its bytes
 
@@ -19,21 +18,14 @@ use Rattle.px_engine.specs.Laws.{taken}
 abbrev pub KnownSaid : Option (List ℕ) → Said → Type 0
 KnownSaid file s = IfSome file (λ f. IsSaid f s)
 
--- a fault of reading and judging it: its first fault, a failed read, or want of memory
+-- a fault of reading and judging it: its first fault; or a failed read or want of memory, which say nothing of it: when they
+-- come is what `CountsFault` and `LacksFault` say
 abbrev pub Stops : Fault → Option (List ℕ) → Type 0
 Stops (Refused cause place) file = (place ≤ limit) × IfSome file (λ f. IsFaulty f cause place)
 Stops OutOfMemory file = ⊤
 Stops ReadFailed file = ⊤
 Stops NormalTooLong file = ⊥
 Stops WriteFailed file = ⊥
-
--- a fault of judging the bytes that were read: it is the first fault of every file that they were read of
-abbrev pub StopsRead : List ℕ → Fault → Type 0
-StopsRead bytes (Refused cause place) = (place ≤ limit) × ((f : List ℕ) → bytes ≡ taken f → IsFaulty f cause place)
-StopsRead bytes OutOfMemory = ⊤
-StopsRead bytes ReadFailed = ⊥
-StopsRead bytes NormalTooLong = ⊥
-StopsRead bytes WriteFailed = ⊥
 
 -- such a fault is a failed read exactly where the reader's count of failures rose
 abbrev pub CountsFault : Fault → ℕ → ℕ → Type 0
@@ -64,7 +56,7 @@ Normalises (Err fault) file old new = Stops fault file × (new ≡ old)
 abbrev pub WritesSaid : Result ℕ Fault → Option (List ℕ) → Option (List ℕ) → ℕ → ℕ → Said → Type 0
 WritesSaid (Ok n) old new failed failed_now s = Appends old new (normal s) × (n ≡ length (normal s)) × (n ≤ limit) × (failed_now ≡ failed)
 WritesSaid (Err NormalTooLong) old new failed failed_now s = (limit < length (normal s)) × (new ≡ old) × (failed_now ≡ failed)
-WritesSaid (Err OutOfMemory) old new failed failed_now s = (new ≡ old) × (failed_now ≡ failed)
+WritesSaid (Err OutOfMemory) old new failed failed_now s = ⊥
 WritesSaid (Err WriteFailed) old new failed failed_now s = AppendsPrefix old new (normal s) × (length (normal s) ≤ limit) × (failed_now ≡ failed + 1)
 WritesSaid (Err (Refused cause place)) old new failed failed_now s = ⊥
 WritesSaid (Err ReadFailed) old new failed failed_now s = ⊥

@@ -1,38 +1,51 @@
 // The lines of DataSets: record number, number, length and data.
 ghost use Rattle.std.specs.Prelude.{◌≡◌, ◌++◌, map, flat_map, OnOk};
+ghost use Rattle.px_bytes.specs.Lacking.{Lacks};
 ghost use Rattle.px_iim.specs.View.{item_view};
 ghost use Rattle.px_engine.specs.Listing.{dataset_line, dataset_lines, dataset_count};
 
 use crate::texts::{push_decimal, push_sized};
+use px_bytes::{Memory, Refused};
 use px_iim::{Iim, Item};
-use std::alloc::AllocError;
 
 #[tactic(auto, unfolding(crate::specs::Listing::dataset_line))]
-fn push_dataset(rec: u8, item: &Item, out: &mut Vec<u8>) -> Result<(), AllocError>
-    ensures { OnOk result (out.new.items ≡ out.old.items ++ dataset_line rec (item_view item.now)) }
+fn push_dataset(memory: &mut Memory, rec: u8, item: &Item, out: &mut Vec<u8>) -> Result<(), Refused>
+    ensures text { OnOk result (out.new.items ≡ out.old.items ++ dataset_line rec (item_view item.now)) }
+    ensures memory { Lacks result memory.old memory.new }
 {
-    push_decimal(rec, out)?;
-    out.extend_from_slice(b":")?;
-    push_decimal(item.number, out)?;
-    push_sized(item.octets, out)
+    push_decimal(memory, rec, out)?;
+    memory.extend_from_slice(out, b":")?;
+    push_decimal(memory, item.number, out)?;
+    push_sized(memory, item.octets, out)
 }
 
-fn push_group(rec: u8, items: &[Item], out: &mut Vec<u8>) -> Result<(), AllocError>
-    ensures { OnOk result (out.new.items ≡ out.old.items ++ flat_map (dataset_line rec) (map item_view items.now)) }
+fn push_group(
+    memory: &mut Memory,
+    rec: u8,
+    items: &[Item],
+    out: &mut Vec<u8>,
+) -> Result<(), Refused>
+    ensures text { OnOk result (out.new.items ≡ out.old.items ++ flat_map (dataset_line rec) (map item_view items.now)) }
+    ensures memory { Lacks result memory.old memory.new }
 {
     for item in items {
-        push_dataset(rec, item, out)?;
+        push_dataset(memory, rec, item, out)?;
     }
     Ok(())
 }
 
 // Appends a line for each DataSet: the groups in ascending order, each list in its order.
-pub(crate) fn push_datasets(iim: &Iim, out: &mut Vec<u8>) -> Result<(), AllocError>
-    ensures { OnOk result (out.new.items ≡ out.old.items ++ dataset_lines iim.now) }
+pub(crate) fn push_datasets(
+    memory: &mut Memory,
+    iim: &Iim,
+    out: &mut Vec<u8>,
+) -> Result<(), Refused>
+    ensures text { OnOk result (out.new.items ≡ out.old.items ++ dataset_lines iim.now) }
+    ensures memory { Lacks result memory.old memory.new }
 {
     for i in 0..iim.groups() {
         let (rec, _, items) = iim.group_at(i);
-        push_group(rec, items, out)?;
+        push_group(memory, rec, items, out)?;
     }
     Ok(())
 }

@@ -1,6 +1,5 @@
 // Why a run ends before its time.
-use px_bytes::{Cause, ReadFault, Refusal, WriteRefusal};
-use std::alloc::{AllocError, AllocFailed};
+use px_bytes::{Cause, ReadFault, Refusal, Refused, WriteRefusal};
 use thiserror::Error;
 
 /// Why a file is not read, or what it says not written.
@@ -49,24 +48,13 @@ pub struct CompareFault {
     pub fault: Fault,
 }
 
-impl From<AllocError> for Fault {
+impl From<Refused> for Fault {
     ghost use Rattle.std.specs.Prelude.{◌≡◌};
     ghost use Rattle.px_engine.specs.declared.faults.Fault.TheVariants.{OutOfMemory};
 
     ghost from_gives = { λ _ e. e ≡ OutOfMemory };
 
-    fn from(_: AllocError) -> Fault {
-        Fault::OutOfMemory
-    }
-}
-
-impl<T: Drop> From<AllocFailed<T>> for Fault {
-    ghost use Rattle.std.specs.Prelude.{◌≡◌};
-    ghost use Rattle.px_engine.specs.declared.faults.Fault.TheVariants.{OutOfMemory};
-
-    ghost from_gives = { λ _ e. e ≡ OutOfMemory };
-
-    fn from(_: AllocFailed<T>) -> Fault {
+    fn from(_: Refused) -> Fault {
         Fault::OutOfMemory
     }
 }

@@ -1,6 +1,7 @@
 // The lines of fields: tag, type, count and elements.
 ghost use Rattle.std.specs.Prelude.{◌≡◌, ◌++◌, codes, flat_map, OnOk};
 ghost use Rattle.hex.specs.Hex.{encode_lower};
+ghost use Rattle.px_bytes.specs.Lacking.{Lacks};
 ghost use Rattle.px_bytes.specs.declared.Order.TheVariants.{Most};
 ghost use Rattle.px_bytes.specs.Numbers.{spelling};
 ghost use Rattle.px_field.specs.declared.Kind.{Kind};
@@ -8,10 +9,9 @@ ghost use Rattle.px_engine.specs.Listing.{type_word, element_text, shown_element
 
 use crate::texts::{push_decimal, push_hex, push_shown};
 use itoa::Integer;
-use px_bytes::Order;
+use px_bytes::{Memory, Order, Refused};
 use px_field::{Element, Form, Kind, Value};
 use px_tree::Fields;
-use std::alloc::AllocError;
 
 fn form_word(form: Form) -> &'static [u8]
     ensures { result.now ≡ type_word (Kind.Of form) }
@@ -44,102 +44,121 @@ fn type_word(kind: Kind) -> &'static [u8]
 }
 
 // Appends the bytes of a number of two bytes in hexadecimal, the most significant first.
-fn push_digits16(n: u16, out: &mut Vec<u8>) -> Result<(), AllocError>
-    ensures { OnOk result (out.new.items ≡ out.old.items ++ encode_lower (spelling Most 2 n)) }
+fn push_digits16(memory: &mut Memory, n: u16, out: &mut Vec<u8>) -> Result<(), Refused>
+    ensures text { OnOk result (out.new.items ≡ out.old.items ++ encode_lower (spelling Most 2 n)) }
+    ensures memory { Lacks result memory.old memory.new }
 {
     let mut bytes = [0; 2];
     Order::Most.put16(n, &mut bytes);
-    push_hex(&bytes, out)
+    push_hex(memory, &bytes, out)
 }
 
-// The same of four bytes.
-fn push_digits32(n: u32, out: &mut Vec<u8>) -> Result<(), AllocError>
-    ensures { OnOk result (out.new.items ≡ out.old.items ++ encode_lower (spelling Most 4 n)) }
+// Appends the bytes of a number of four bytes so.
+fn push_digits32(memory: &mut Memory, n: u32, out: &mut Vec<u8>) -> Result<(), Refused>
+    ensures text { OnOk result (out.new.items ≡ out.old.items ++ encode_lower (spelling Most 4 n)) }
+    ensures memory { Lacks result memory.old memory.new }
 {
     let mut bytes = [0; 4];
     Order::Most.put32(n, &mut bytes);
-    push_hex(&bytes, out)
+    push_hex(memory, &bytes, out)
 }
 
-// The same of eight bytes.
-fn push_digits64(n: u64, out: &mut Vec<u8>) -> Result<(), AllocError>
-    ensures { OnOk result (out.new.items ≡ out.old.items ++ encode_lower (spelling Most 8 n)) }
+// Appends the bytes of a number of eight bytes so.
+fn push_digits64(memory: &mut Memory, n: u64, out: &mut Vec<u8>) -> Result<(), Refused>
+    ensures text { OnOk result (out.new.items ≡ out.old.items ++ encode_lower (spelling Most 8 n)) }
+    ensures memory { Lacks result memory.old memory.new }
 {
     let mut bytes = [0; 8];
     Order::Most.put64(n, &mut bytes);
-    push_hex(&bytes, out)
+    push_hex(memory, &bytes, out)
 }
 
 fn push_fraction<I: Integer>(
+    memory: &mut Memory,
     numerator: I,
     denominator: I,
     out: &mut Vec<u8>,
-) -> Result<(), AllocError>
-    ensures { OnOk result (out.new.items ≡ out.old.items ++ (I.text numerator ++ codes "/" ++ I.text denominator)) }
+) -> Result<(), Refused>
+    ensures text { OnOk result (out.new.items ≡ out.old.items ++ (I.text numerator ++ codes "/" ++ I.text denominator)) }
+    ensures memory { Lacks result memory.old memory.new }
 {
-    push_decimal(numerator, out)?;
-    out.extend_from_slice(b"/")?;
-    push_decimal(denominator, out)
+    push_decimal(memory, numerator, out)?;
+    memory.extend_from_slice(out, b"/")?;
+    push_decimal(memory, denominator, out)
 }
 
-fn push_element(element: Element, out: &mut Vec<u8>) -> Result<(), AllocError>
-    ensures { OnOk result (out.new.items ≡ out.old.items ++ element_text element) }
+fn push_element(memory: &mut Memory, element: Element, out: &mut Vec<u8>) -> Result<(), Refused>
+    ensures text { OnOk result (out.new.items ≡ out.old.items ++ element_text element) }
+    ensures memory { Lacks result memory.old memory.new }
 {
     match element {
-        Element::Byte(n) => push_hex(&[n], out),
-        Element::Short(n) => push_decimal(n, out),
-        Element::Long(n) => push_decimal(n, out),
-        Element::Rational(n, d) => push_fraction(n, d, out),
-        Element::SShort(n) => push_decimal(n, out),
-        Element::SLong(n) => push_decimal(n, out),
-        Element::SRational(n, d) => push_fraction(n, d, out),
-        Element::Float(n) => push_digits32(n, out),
-        Element::Double(n) => push_digits64(n, out),
+        Element::Byte(n) => push_hex(memory, &[n], out),
+        Element::Short(n) => push_decimal(memory, n, out),
+        Element::Long(n) => push_decimal(memory, n, out),
+        Element::Rational(n, d) => push_fraction(memory, n, d, out),
+        Element::SShort(n) => push_decimal(memory, n, out),
+        Element::SLong(n) => push_decimal(memory, n, out),
+        Element::SRational(n, d) => push_fraction(memory, n, d, out),
+        Element::Float(n) => push_digits32(memory, n, out),
+        Element::Double(n) => push_digits64(memory, n, out),
     }
 }
 
 // Appends each element behind one space.
-fn push_elements(value: &Value, out: &mut Vec<u8>) -> Result<(), AllocError>
-    ensures { OnOk result (out.new.items ≡ out.old.items ++ flat_map (λ e. codes " " ++ element_text e) value.now.elements) }
+fn push_elements(memory: &mut Memory, value: &Value, out: &mut Vec<u8>) -> Result<(), Refused>
+    ensures text { OnOk result (out.new.items ≡ out.old.items ++ flat_map (λ e. codes " " ++ element_text e) value.now.elements) }
+    ensures memory { Lacks result memory.old memory.new }
 {
     for i in 0..value.count() {
-        out.extend_from_slice(b" ")?;
-        push_element(value.element(i), out)?;
+        memory.extend_from_slice(out, b" ")?;
+        push_element(memory, value.element(i), out)?;
     }
     Ok(())
 }
 
 // Appends the elements behind one space, where there are any.
-fn push_value(value: &Value, out: &mut Vec<u8>) -> Result<(), AllocError>
-    ensures { OnOk result (out.new.items ≡ out.old.items ++ shown_elements value.now.kind value.now.elements) }
+fn push_value(memory: &mut Memory, value: &Value, out: &mut Vec<u8>) -> Result<(), Refused>
+    ensures text { OnOk result (out.new.items ≡ out.old.items ++ shown_elements value.now.kind value.now.elements) }
+    ensures memory { Lacks result memory.old memory.new }
 {
     match value.bytes() {
-        Some(bytes) => push_shown(bytes, out),
-        None => push_elements(value, out),
+        Some(bytes) => push_shown(memory, bytes, out),
+        None => push_elements(memory, value, out),
     }
 }
 
 #[tactic(auto, unfolding(crate::specs::Listing::field_line))]
-fn push_field(tag: u16, value: &Value, out: &mut Vec<u8>) -> Result<(), AllocError>
-    ensures { OnOk result (out.new.items ≡ out.old.items ++ field_line (tag, value.now)) }
+fn push_field(
+    memory: &mut Memory,
+    tag: u16,
+    value: &Value,
+    out: &mut Vec<u8>,
+) -> Result<(), Refused>
+    ensures text { OnOk result (out.new.items ≡ out.old.items ++ field_line (tag, value.now)) }
+    ensures memory { Lacks result memory.old memory.new }
 {
-    push_digits16(tag, out)?;
-    out.extend_from_slice(b" ")?;
-    out.extend_from_slice(type_word(value.kind()))?;
-    out.extend_from_slice(b" ")?;
-    push_decimal(value.count(), out)?;
-    out.extend_from_slice(b":")?;
-    push_value(value, out)?;
-    out.extend_from_slice(b"\n")
+    push_digits16(memory, tag, out)?;
+    memory.extend_from_slice(out, b" ")?;
+    memory.extend_from_slice(out, type_word(value.kind()))?;
+    memory.extend_from_slice(out, b" ")?;
+    push_decimal(memory, value.count(), out)?;
+    memory.extend_from_slice(out, b":")?;
+    push_value(memory, value, out)?;
+    memory.extend_from_slice(out, b"\n")
 }
 
 // Appends a line for each field, by ascending tag.
-pub(crate) fn push_fields(fields: &Fields, out: &mut Vec<u8>) -> Result<(), AllocError>
-    ensures { OnOk result (out.new.items ≡ out.old.items ++ field_lines fields.now) }
+pub(crate) fn push_fields(
+    memory: &mut Memory,
+    fields: &Fields,
+    out: &mut Vec<u8>,
+) -> Result<(), Refused>
+    ensures text { OnOk result (out.new.items ≡ out.old.items ++ field_lines fields.now) }
+    ensures memory { Lacks result memory.old memory.new }
 {
     for i in 0..fields.len() {
         let (tag, value) = fields.at(i);
-        push_field(tag, value, out)?;
+        push_field(memory, tag, value, out)?;
     }
     Ok(())
 }

@@ -1,5 +1,6 @@
 // Which texts of a file are captions.
 ghost use Rattle.std.specs.Prelude.{◌≡◌, [], ◌∷◌, ◌++◌, map, filter_map, option_map, if◌then◌else◌, Some, None, bytes_eq, OnOk, IfOk};
+ghost use Rattle.px_bytes.specs.Lacking.{Lacks};
 ghost use Rattle.px_bytes.specs.declared.Order.TheVariants.{Most};
 ghost use Rattle.px_field.specs.Values.{spelled};
 ghost use Rattle.px_iim.specs.View.{item_view};
@@ -13,50 +14,68 @@ ghost use Rattle.px_engine.specs.Seen.{said_of};
 use crate::caption::{Caption, Captions};
 use crate::labels::{Label, label_of};
 use crate::meanings::Said;
+use px_bytes::{Memory, Refused};
 use px_field::{Form, Kind, Value};
 use px_iim::{Iim, Item};
 use px_tree::{Fields, Meaning};
 use std::alloc::{AllocError, Global};
 
 // The groups of record 2 in the order of their captions.
-const GROUPS: [u8; 9] = [5, 120, 105, 110, 115, 116, 80, 25, 103];
+pub(crate) const GROUPS: [u8; 9] = [5, 120, 105, 110, 115, 116, 80, 25, 103];
 
 // ESC % G.
 const UTF8: [u8; 3] = [0x1B, 0x25, 0x47];
 
 // Appends a DataSet, where it has a label.
-fn push_item<'a>(item: Item<'a>, list: &mut Vec<Caption<'a>>) -> Result<(), AllocError>
-    ensures { OnOk result (map caption_view list.new.items ≡ map caption_view list.old.items ++ filter_map labelled (item_view item.entry ∷ [])) }
+fn push_item<'a>(
+    memory: &mut Memory,
+    item: Item<'a>,
+    list: &mut Vec<Caption<'a>>,
+) -> Result<(), Refused>
+    ensures list { OnOk result (map caption_view list.new.items ≡ map caption_view list.old.items ++ filter_map labelled (item_view item.entry ∷ [])) }
+    ensures memory { Lacks result memory.old memory.new }
 {
     match label_of(item.number) {
         Some(label) => {
-            list.push(Caption {
-                label,
-                text: item.octets,
-            })?;
-            Ok(())
+            memory.push(
+                list,
+                Caption {
+                    label,
+                    text: item.octets,
+                },
+            )
         }
         None => Ok(()),
     }
 }
 
 // Appends those DataSets of a group that have a label.
-fn push_group<'a>(items: &[Item<'a>], list: &mut Vec<Caption<'a>>) -> Result<(), AllocError>
-    ensures { OnOk result (map caption_view list.new.items ≡ map caption_view list.old.items ++ filter_map labelled (map item_view items.now)) }
+fn push_group<'a>(
+    memory: &mut Memory,
+    items: &[Item<'a>],
+    list: &mut Vec<Caption<'a>>,
+) -> Result<(), Refused>
+    ensures list { OnOk result (map caption_view list.new.items ≡ map caption_view list.old.items ++ filter_map labelled (map item_view items.now)) }
+    ensures memory { Lacks result memory.old memory.new }
 {
     for item in items {
-        push_item(*item, list)?;
+        push_item(memory, *item, list)?;
     }
     Ok(())
 }
 
 // Appends the captions of a record.
 #[tactic(auto, unfolding(crate::specs::Captions::iim_captions))]
-pub(crate) fn push_record<'a>(iim: &Iim<'a>, list: &mut Vec<Caption<'a>>) -> Result<(), AllocError>
-    ensures { OnOk result (map caption_view list.new.items ≡ map caption_view list.old.items ++ iim_captions iim.now) }
+fn push_record<'a>(
+    memory: &mut Memory,
+    iim: &Iim<'a>,
+    list: &mut Vec<Caption<'a>>,
+) -> Result<(), Refused>
+    ensures list { OnOk result (map caption_view list.new.items ≡ map caption_view list.old.items ++ iim_captions iim.now) }
+    ensures memory { Lacks result memory.old memory.new }
 {
     for i in 0..GROUPS.len() {
-        push_group(iim.group(2, GROUPS[i]), list)?;
+        push_group(memory, iim.group(2, GROUPS[i]), list)?;
     }
     Ok(())
 }
@@ -90,7 +109,7 @@ fn is_text(kind: Kind) -> bool
 }
 
 // The bytes of a text.
-fn text_of<'a>(value: &Value<'a>) -> Option<&'a [u8]>
+pub(crate) fn text_of<'a>(value: &Value<'a>) -> Option<&'a [u8]>
     ensures { option_map (λ x. x.now) result ≡ (if is_text value.now.kind then Some (spelled Most value.now) else None) }
 {
     if !is_text(value.kind()) {
@@ -101,12 +120,14 @@ fn text_of<'a>(value: &Value<'a>) -> Option<&'a [u8]>
 
 // Appends the field at a tag, where it is a text.
 fn push_text<'a>(
+    memory: &mut Memory,
     fields: &Fields<'a>,
     tag: u16,
     label: Label,
     list: &mut Vec<Caption<'a>>,
-) -> Result<(), AllocError>
-    ensures { OnOk result (map caption_view list.new.items ≡ map caption_view list.old.items ++ text_captions label (at_tag tag fields.now)) }
+) -> Result<(), Refused>
+    ensures list { OnOk result (map caption_view list.new.items ≡ map caption_view list.old.items ++ text_captions label (at_tag tag fields.now)) }
+    ensures memory { Lacks result memory.old memory.new }
 {
     let Some(value) = fields.get(tag) else {
         return Ok(());
@@ -114,31 +135,33 @@ fn push_text<'a>(
     let Some(text) = text_of(value) else {
         return Ok(());
     };
-    list.push(Caption { label, text })?;
-    Ok(())
+    memory.push(list, Caption { label, text })
 }
 
 // Appends the captions of a main directory.
 #[tactic(auto, unfolding(crate::specs::Captions::exif_captions))]
-pub(crate) fn push_fields<'a>(
+fn push_fields<'a>(
+    memory: &mut Memory,
     fields: &Fields<'a>,
     list: &mut Vec<Caption<'a>>,
-) -> Result<(), AllocError>
-    ensures { OnOk result (map caption_view list.new.items ≡ map caption_view list.old.items ++ exif_captions fields.now) }
+) -> Result<(), Refused>
+    ensures list { OnOk result (map caption_view list.new.items ≡ map caption_view list.old.items ++ exif_captions fields.now) }
+    ensures memory { Lacks result memory.old memory.new }
 {
-    push_text(fields, 0x010E, Label::Description, list)?;
-    push_text(fields, 0x013B, Label::Artist, list)?;
-    push_text(fields, 0x8298, Label::Copyright, list)
+    push_text(memory, fields, 0x010E, Label::Description, list)?;
+    push_text(memory, fields, 0x013B, Label::Artist, list)?;
+    push_text(memory, fields, 0x8298, Label::Copyright, list)
 }
 
-fn exif_captions<'a>(alloc: Global, meaning: &Meaning<'a>) -> Result<Captions<'a>, AllocError>
-    ensures { IfOk result (λ c. c ≡ captions_in (files.Exif (meaning_of meaning.now))) }
+fn exif_captions<'a>(memory: &mut Memory, meaning: &Meaning<'a>) -> Result<Captions<'a>, Refused>
+    ensures memory { Lacks result memory.old memory.new }
+    ensures captions { IfOk result (λ c. c ≡ captions_in (files.Exif (meaning_of meaning.now))) }
 {
-    let mut list = Vec::new(alloc);
-    push_fields(&meaning.main, &mut list)?;
+    let mut list = memory.list();
+    push_fields(memory, &meaning.main, &mut list)?;
     match &meaning.iptc {
         Some(iim) => {
-            push_record(iim, &mut list)?;
+            push_record(memory, iim, &mut list)?;
             Ok(Captions {
                 utf8: declares_utf8(iim),
                 list,
@@ -148,11 +171,12 @@ fn exif_captions<'a>(alloc: Global, meaning: &Meaning<'a>) -> Result<Captions<'a
     }
 }
 
-fn iim_captions<'a>(alloc: Global, iim: &Iim<'a>) -> Result<Captions<'a>, AllocError>
-    ensures { IfOk result (λ c. c ≡ captions_in (files.Iim iim.now)) }
+fn iim_captions<'a>(memory: &mut Memory, iim: &Iim<'a>) -> Result<Captions<'a>, Refused>
+    ensures memory { Lacks result memory.old memory.new }
+    ensures captions { IfOk result (λ c. c ≡ captions_in (files.Iim iim.now)) }
 {
-    let mut list = Vec::new(alloc);
-    push_record(iim, &mut list)?;
+    let mut list = memory.list();
+    push_record(memory, iim, &mut list)?;
     Ok(Captions {
         utf8: declares_utf8(iim),
         list,
@@ -163,12 +187,20 @@ fn iim_captions<'a>(alloc: Global, iim: &Iim<'a>) -> Result<Captions<'a>, AllocE
 /// its main directory, where they are of type ASCII or UTF-8, and then those of a record in it; of a
 /// record its labelled DataSets, group by group, each in list order. The bytes are those that were read.
 ///
-/// It takes memory for the list. The error is the only one: memory was refused.
+/// It takes memory for the list, and fails only where a growth of it was refused.
+pub fn captions_of_in<'a>(memory: &mut Memory, said: &Said<'a>) -> Result<Captions<'a>, Refused>
+    ensures captions { IfOk result (λ c. c ≡ captions_in (said_of said.now)) }
+    ensures memory { Lacks result memory.old memory.new }
+{
+    match said {
+        Said::Exif(meaning) => exif_captions(memory, meaning),
+        Said::Iim(iim) => iim_captions(memory, iim),
+    }
+}
+
+/// The captions of what a file says, as `captions_of_in` gives them, in memory of its own.
 pub fn captions_of<'a>(alloc: Global, said: &Said<'a>) -> Result<Captions<'a>, AllocError>
     ensures { IfOk result (λ c. c ≡ captions_in (said_of said.now)) }
 {
-    match said {
-        Said::Exif(meaning) => exif_captions(alloc, meaning),
-        Said::Iim(iim) => iim_captions(alloc, iim),
-    }
+    Ok(captions_of_in(&mut Memory::new(alloc), said)?)
 }

@@ -1,12 +1,13 @@
 // The headline, for two files in hand.
-ghost use Rattle.std.specs.Prelude.{IfOk, IfErr};
+ghost use Rattle.std.specs.Prelude.{◌≡◌, Bool, IfOk, IfErr};
 ghost use Rattle.px_engine.specs.Files.{Said};
+ghost use Rattle.px_engine.specs.Lacking.{LacksPair};
 ghost use Rattle.px_engine.specs.Headline.{IsFormOf, IsUnwritten, Headline, IsUnwrittenAt};
 
-use crate::faults::{CompareFault, Fault, Side};
+use crate::faults::{CompareFault, Side};
+use crate::hand::normal_form_in;
 use crate::laws;
-use crate::runs::normalise;
-use px_bytes::Watched;
+use px_bytes::Memory;
 use std::alloc::Global;
 
 /// The normal forms of two files.
@@ -18,15 +19,17 @@ pub struct NormalForms {
     pub second: Vec<u8>,
 }
 
-// The normal form of what a file says.
-fn normal_form(alloc: Global, file: &[u8]) -> Result<Vec<u8>, Fault>
+// The normal form of what one of two files says.
+fn form_side(memory: &mut Memory, file: &[u8], side: Side) -> Result<Vec<u8>, CompareFault>
     ensures formed { IfOk result (λ v. (s : Said) × IsFormOf file.now s v.items) }
-    ensures unwritten { IfErr result (λ e. IsUnwritten e file.now) }
+    ensures side { IfErr result (λ e. e.side ≡ side) }
+    ensures unwritten { IfErr result (λ e. IsUnwritten file.now memory.new e.fault) }
+    ensures memory { LacksPair result memory.old memory.new }
 {
-    let mut reader = Watched::new(file);
-    let mut writer = Watched::new(Vec::new(alloc));
-    normalise(alloc, &mut reader, &mut writer)?;
-    Ok(writer.into_inner())
+    match normal_form_in(memory, file) {
+        Ok(form) => Ok(form),
+        Err(fault) => Err(CompareFault { side, fault }),
+    }
 }
 
 /// Normalises two files in hand, and says with what is written all that normal forms are for: each file
@@ -34,35 +37,36 @@ fn normal_form(alloc: Global, file: &[u8]) -> Result<Vec<u8>, Fault>
 /// written of them are equal; and what was written of a file says what the file says, and is itself the
 /// normal form of that. A file is refused for its content only where it says nothing.
 ///
-/// The fault is of the file that it names: `Refused` by the first fault of its block, `NormalTooLong`
-/// where the form is longer than `LIMIT`, `OutOfMemory`, or a failed read or write of the memory that
-/// stands in for devices here. It takes memory as `normalise` does, and for both forms.
+/// The fault is of the file that it names, and where that is the second the first has a form: `Refused` by
+/// the first fault of its block, `NormalTooLong` where the form is longer than `LIMIT`, or `OutOfMemory`,
+/// exactly where a growth was refused. It takes memory as `normal_form_in` does, and for both forms.
+pub fn normalise_both_in(
+    memory: &mut Memory,
+    first: &[u8],
+    second: &[u8],
+) -> Result<NormalForms, CompareFault>
+    ensures done { IfOk result (λ forms. Headline first.now second.now forms.first.items forms.second.items) }
+    ensures failed { IfErr result (IsUnwrittenAt first.now second.now memory.new) }
+    ensures memory { LacksPair result memory.old memory.new }
+{
+    laws::one_said();
+    laws::normal_says();
+    let form = form_side(memory, first, Side::First)?;
+    let other = form_side(memory, second, Side::Second)?;
+    Ok(NormalForms {
+        first: form,
+        second: other,
+    })
+}
+
+/// The same with memory of its own.
 pub fn normalise_both(
     alloc: Global,
     first: &[u8],
     second: &[u8],
 ) -> Result<NormalForms, CompareFault>
     ensures done { IfOk result (λ forms. Headline first.now second.now forms.first.items forms.second.items) }
-    ensures failed { IfErr result (λ e. IsUnwrittenAt e.side e.fault first.now second.now) }
+    ensures failed { IfErr result (λ e. (refused : Bool) × IsUnwrittenAt first.now second.now refused e) }
 {
-    laws::one_said();
-    laws::normal_says();
-    let form = match normal_form(alloc, first) {
-        Ok(form) => form,
-        Err(fault) => return Err(CompareFault {
-            side: Side::First,
-            fault,
-        }),
-    };
-    let other = match normal_form(alloc, second) {
-        Ok(form) => form,
-        Err(fault) => return Err(CompareFault {
-            side: Side::Second,
-            fault,
-        }),
-    };
-    Ok(NormalForms {
-        first: form,
-        second: other,
-    })
+    normalise_both_in(&mut Memory::new(alloc), first, second)
 }

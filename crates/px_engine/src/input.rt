@@ -1,41 +1,75 @@
 // A file, read whole and judged.
-ghost use Rattle.std.specs.Prelude.{◌<◌, ◌+◌, ◌^◌, IfOk, IfErr};
+ghost use Rattle.std.specs.Prelude.{◌≡◌, ◌<◌, ◌+◌, ◌^◌, Bool, IfOk, IfErr};
+ghost use Rattle.px_bytes.specs.Checks.{LacksBlock};
 ghost use Rattle.px_bytes.specs.Reading.{ReadsUpTo, ConsumesAtMost};
 ghost use Rattle.px_tree.specs.Seen.{meaning_of};
 ghost use Rattle.px_engine.specs.declared.kinds.BlockKind.TheVariants as kind;
 ghost use Rattle.px_engine.specs.Files as said;
-ghost use Rattle.px_engine.specs.Input.{IsSaidIn, IsRefusedIn, IsSaid, IsRefused, CountsRead};
+ghost use Rattle.px_engine.specs.Input.{IsSaidIn, IsRefusedIn, IsSaid, IsRefused, CountsRead, CountsReadOf};
+ghost use Rattle.px_engine.specs.Lacking.{LacksRun, LacksPair};
 ghost use Rattle.px_engine.specs.Seen.{said_of};
 
-use crate::faults::Fault;
+use crate::faults::{CompareFault, Fault, Side};
 use crate::kinds::{BlockKind, block_of, kind_of};
 use crate::meanings::Said;
-use px_bytes::{Block, LIMIT, Refusal, Source, read_up_to};
-use px_iim::{Iim, read_iim};
-use px_tree::{Meaning, read_block};
+use px_bytes::{Block, LIMIT, Memory, Refusal, Source, read_up_to_in};
+use px_iim::{Iim, read_iim_in};
+use px_tree::{Meaning, read_block_in};
 use std::alloc::Global;
 
 /// Reads to the reader's end, or the first `LIMIT` + 7 bytes, which are more than any block with the
 /// six bytes in front of it. It ends at the first call that fails, of whatever kind; a read of no
-/// bytes is the end. It takes memory for the bytes and for one buffer.
+/// bytes is the end. It takes memory for the bytes and for one buffer; OutOfMemory comes exactly where
+/// a growth was refused.
+pub fn read_all_in<R: Source>(memory: &mut Memory, reader: &mut R) -> Result<Vec<u8>, Fault>
+    requires { R.failed reader.old + 1 < 2 ^ 64 }
+    ensures found { IfOk result (λ v. ReadsUpTo (R.bytes_left reader.old) (R.bytes_left reader.new) 16777223 v.items) }
+    ensures lost { ConsumesAtMost (R.bytes_left reader.old) (R.bytes_left reader.new) 16777223 }
+    ensures count { CountsRead result (R.failed reader.old) (R.failed reader.new) }
+    ensures memory { LacksRun result memory.old memory.new }
+{
+    Ok(read_up_to_in(memory, reader, LIMIT as usize + 7)?)
+}
+
+/// The same with memory of its own.
 pub fn read_all<R: Source>(alloc: Global, reader: &mut R) -> Result<Vec<u8>, Fault>
     requires { R.failed reader.old + 1 < 2 ^ 64 }
     ensures found { IfOk result (λ v. ReadsUpTo (R.bytes_left reader.old) (R.bytes_left reader.new) 16777223 v.items) }
     ensures lost { ConsumesAtMost (R.bytes_left reader.old) (R.bytes_left reader.new) 16777223 }
     ensures count { CountsRead result (R.failed reader.old) (R.failed reader.new) }
 {
-    Ok(read_up_to(alloc, reader, LIMIT as usize + 7)?)
+    read_all_in(&mut Memory::new(alloc), reader)
+}
+
+// Reads one of two files.
+pub(crate) fn read_side<R: Source>(
+    memory: &mut Memory,
+    reader: &mut R,
+    side: Side,
+) -> Result<Vec<u8>, CompareFault>
+    requires { R.failed reader.old + 1 < 2 ^ 64 }
+    ensures found { IfOk result (λ v. ReadsUpTo (R.bytes_left reader.old) (R.bytes_left reader.new) 16777223 v.items) }
+    ensures side { IfErr result (λ e. e.side ≡ side) }
+    ensures lost { ConsumesAtMost (R.bytes_left reader.old) (R.bytes_left reader.new) 16777223 }
+    ensures count { CountsReadOf result (R.failed reader.old) (R.failed reader.new) }
+    ensures memory { LacksPair result memory.old memory.new }
+{
+    match read_all_in(memory, reader) {
+        Ok(file) => Ok(file),
+        Err(fault) => Err(CompareFault { side, fault }),
+    }
 }
 
 // What a block says as an Exif block.
-fn read_exif<'a>(alloc: Global, bytes: &'a [u8]) -> Result<Meaning<'a>, Refusal>
+fn read_exif<'a>(memory: &mut Memory, bytes: &'a [u8]) -> Result<Meaning<'a>, Refusal>
     ensures said { IfOk result (λ m. IsSaidIn kind.Exif bytes.now (said.Exif (meaning_of m))) }
-    ensures refused { IfErr result (IsRefusedIn kind.Exif bytes.now) }
+    ensures refused { IfErr result (IsRefusedIn kind.Exif bytes.now memory.new) }
+    ensures memory { LacksBlock result memory.old memory.new }
 {
     px_layout::laws::normal_bound();
     px_tree::fault_laws::faults_tell();
     match Block::new(bytes) {
-        Ok(block) => read_block(alloc, block),
+        Ok(block) => read_block_in(memory, block),
         Err(cause) => Err(Refusal::Content {
             cause,
             place: LIMIT,
@@ -44,27 +78,37 @@ fn read_exif<'a>(alloc: Global, bytes: &'a [u8]) -> Result<Meaning<'a>, Refusal>
 }
 
 // What a block says as a block of DataSets.
-fn read_record<'a>(alloc: Global, bytes: &'a [u8]) -> Result<Iim<'a>, Refusal>
+fn read_record<'a>(memory: &mut Memory, bytes: &'a [u8]) -> Result<Iim<'a>, Refusal>
     ensures said { IfOk result (λ i. IsSaidIn kind.Iim bytes.now (said.Iim i)) }
-    ensures refused { IfErr result (IsRefusedIn kind.Iim bytes.now) }
+    ensures refused { IfErr result (IsRefusedIn kind.Iim bytes.now memory.new) }
+    ensures memory { LacksBlock result memory.old memory.new }
 {
-    read_iim(alloc, bytes)
+    read_iim_in(memory, bytes)
 }
 
 /// What a file says: an Exif block behind the six bytes `45 78 69 66 00 00`, or, where its first octet
 /// is `1C`, a block of DataSets, or else an Exif block.
 ///
-/// A refusal of content names the first fault of the block, judged as one of its kind; `read_block`
-/// and `read_iim` say in which order the checks are made. Places count from the block's first byte.
-/// What is read borrows the file's bytes. It takes memory as these two do; OutOfMemory is answered
-/// where that was refused, and says nothing of the file.
-pub fn read_any<'a>(alloc: Global, file: &'a [u8]) -> Result<Said<'a>, Refusal>
+/// A refusal of content names the first fault of the block, judged as one of its kind; `read_block_in`
+/// and `read_iim_in` say in which order the checks are made. Places count from the block's first byte.
+/// What is read borrows the file's bytes. It takes memory as these two do; OutOfMemory comes exactly
+/// where a growth was refused, and says nothing of the file.
+pub fn read_any_in<'a>(memory: &mut Memory, file: &'a [u8]) -> Result<Said<'a>, Refusal>
     ensures said { IfOk result (λ s. IsSaid file.now (said_of s)) }
-    ensures refused { IfErr result (IsRefused file.now) }
+    ensures refused { IfErr result (IsRefused file.now memory.new) }
+    ensures memory { LacksBlock result memory.old memory.new }
 {
     let bytes = block_of(file);
     match kind_of(file) {
-        BlockKind::Exif => Ok(Said::Exif(read_exif(alloc, bytes)?)),
-        BlockKind::Iim => Ok(Said::Iim(read_record(alloc, bytes)?)),
+        BlockKind::Exif => Ok(Said::Exif(read_exif(memory, bytes)?)),
+        BlockKind::Iim => Ok(Said::Iim(read_record(memory, bytes)?)),
     }
+}
+
+/// The same with memory of its own.
+pub fn read_any<'a>(alloc: Global, file: &'a [u8]) -> Result<Said<'a>, Refusal>
+    ensures said { IfOk result (λ s. IsSaid file.now (said_of s)) }
+    ensures refused { IfErr result (λ r. (refused : Bool) × IsRefused file.now refused r) }
+{
+    read_any_in(&mut Memory::new(alloc), file)
 }

@@ -1,8 +1,11 @@
 //! What a file of metadata says, whichever kind of block it holds: an Exif block, perhaps behind the
 //! six bytes that stand before it in a JPEG segment, or a block of IPTC-NAA IIM DataSets. It reads a
 //! file, compares two, writes the one normal form of what is said, and prints it in two texts: a listing
-//! and its captions. It opens no file: bytes come from any `Source` and go to any `Sink`. It edits
-//! nothing, and repairs no block.
+//! and its captions. It opens no file: bytes come from any `Source` and go to any `Sink`, or are in hand.
+//! It edits nothing, and repairs no block.
+//!
+//! Each call that takes memory stands here twice: over an allocator, and, with a name that ends in `_in`,
+//! over `Memory`, where it is proved that `OutOfMemory` comes exactly where a growth was refused.
 //!
 //! ```
 //! let file = b"\x1c\x02\x78\x80\x04\x00\x00\x00\x03abc\x00"; // a caption, its count extended, a zero behind
@@ -25,8 +28,10 @@ mod dataset_lines;
 mod faults;
 mod field_lines;
 mod gather;
+mod hand;
 mod headline;
 mod input;
+mod judging;
 mod kinds;
 mod labels;
 pub mod laws;
@@ -39,14 +44,21 @@ mod runs;
 #[cfg(test)]
 mod tests;
 mod texts;
+mod version;
+mod writing;
 
 pub use caption::{Caption, Captions};
 pub use faults::{CompareFault, Fault, Side};
-pub use gather::captions_of;
-pub use headline::{NormalForms, normalise_both};
-pub use input::{read_all, read_any};
+pub use gather::{captions_of, captions_of_in};
+pub use hand::{
+    captions_text, captions_text_in, check_of, check_of_in, normal_form, normal_form_in, same_of,
+    same_of_in, show_of, show_of_in,
+};
+pub use headline::{NormalForms, normalise_both, normalise_both_in};
+pub use input::{read_all, read_all_in, read_any, read_any_in};
 pub use kinds::BlockKind;
 pub use labels::Label;
 pub use meanings::{Said, same};
-pub use printing::{captions, show};
-pub use runs::{check, compare, normalise};
+pub use printing::{captions, captions_in, show, show_in};
+pub use runs::{check, check_in, compare, compare_in, normalise, normalise_in};
+pub use version::VERSION;

@@ -1,5 +1,6 @@
 // The listing of what a file says.
 ghost use Rattle.std.specs.Prelude.{◌≡◌, ◌++◌, flat_map, option_map, OnOk, IfOk};
+ghost use Rattle.px_bytes.specs.Lacking.{Lacks};
 ghost use Rattle.px_tree.specs.Seen.{exif_of, thumb_of, meaning_of};
 ghost use Rattle.px_engine.specs.Listing.{jpeg_lines, strip_line, strips_lines, record_lines, directory_lines, exif_lines, thumb_lines, exif_listing, iim_listing, listing};
 ghost use Rattle.px_engine.specs.Seen.{said_of};
@@ -8,135 +9,157 @@ use crate::dataset_lines::{count_datasets, push_datasets};
 use crate::field_lines::push_fields;
 use crate::meanings::Said;
 use crate::texts::{push_decimal, push_sized};
+use px_bytes::{Memory, Refused};
 use px_iim::Iim;
 use px_tree::{ExifPart, Fields, Meaning, Strips, Thumb};
-use std::alloc::{AllocError, Global};
 
 // Appends the record in the main directory.
-fn push_record(iim: &Option<Iim>, out: &mut Vec<u8>) -> Result<(), AllocError>
-    ensures { OnOk result (out.new.items ≡ out.old.items ++ record_lines iim.now) }
+fn push_record(memory: &mut Memory, iim: &Option<Iim>, out: &mut Vec<u8>) -> Result<(), Refused>
+    ensures text { OnOk result (out.new.items ≡ out.old.items ++ record_lines iim.now) }
+    ensures memory { Lacks result memory.old memory.new }
 {
     match iim {
         Some(iim) => {
-            out.extend_from_slice(b"record ")?;
-            push_decimal(count_datasets(iim), out)?;
-            out.extend_from_slice(b":\n")?;
-            push_datasets(iim, out)
+            memory.extend_from_slice(out, b"record ")?;
+            push_decimal(memory, count_datasets(iim), out)?;
+            memory.extend_from_slice(out, b":\n")?;
+            push_datasets(memory, iim, out)
         }
         None => Ok(()),
     }
 }
 
 // Appends a directory without parts of its own.
-fn push_directory(name: &[u8], fields: &Option<Fields>, out: &mut Vec<u8>) -> Result<(), AllocError>
-    ensures { OnOk result (out.new.items ≡ out.old.items ++ directory_lines name.now fields.now) }
+fn push_directory(
+    memory: &mut Memory,
+    name: &[u8],
+    fields: &Option<Fields>,
+    out: &mut Vec<u8>,
+) -> Result<(), Refused>
+    ensures text { OnOk result (out.new.items ≡ out.old.items ++ directory_lines name.now fields.now) }
+    ensures memory { Lacks result memory.old memory.new }
 {
     match fields {
         Some(fields) => {
-            out.extend_from_slice(name)?;
-            push_fields(fields, out)
+            memory.extend_from_slice(out, name)?;
+            push_fields(memory, fields, out)
         }
         None => Ok(()),
     }
 }
 
-fn push_exif(exif: &Option<ExifPart>, out: &mut Vec<u8>) -> Result<(), AllocError>
-    ensures { OnOk result (out.new.items ≡ out.old.items ++ exif_lines (option_map exif_of exif.now)) }
+fn push_exif(memory: &mut Memory, exif: &Option<ExifPart>, out: &mut Vec<u8>) -> Result<(), Refused>
+    ensures text { OnOk result (out.new.items ≡ out.old.items ++ exif_lines (option_map exif_of exif.now)) }
+    ensures memory { Lacks result memory.old memory.new }
 {
     match exif {
         Some(exif) => {
-            out.extend_from_slice(b"[exif]\n")?;
-            push_fields(&exif.fields, out)?;
-            push_directory(b"[interop]\n", &exif.interop, out)
+            memory.extend_from_slice(out, b"[exif]\n")?;
+            push_fields(memory, &exif.fields, out)?;
+            push_directory(memory, b"[interop]\n", &exif.interop, out)
         }
         None => Ok(()),
     }
 }
 
-fn push_jpeg(jpeg: Option<&[u8]>, out: &mut Vec<u8>) -> Result<(), AllocError>
-    ensures { OnOk result (out.new.items ≡ out.old.items ++ jpeg_lines (option_map (λ x. x.now) jpeg.entry)) }
+fn push_jpeg(memory: &mut Memory, jpeg: Option<&[u8]>, out: &mut Vec<u8>) -> Result<(), Refused>
+    ensures text { OnOk result (out.new.items ≡ out.old.items ++ jpeg_lines (option_map (λ x. x.now) jpeg.entry)) }
+    ensures memory { Lacks result memory.old memory.new }
 {
     match jpeg {
         Some(bytes) => {
-            out.extend_from_slice(b"jpeg")?;
-            push_sized(bytes, out)
+            memory.extend_from_slice(out, b"jpeg")?;
+            push_sized(memory, bytes, out)
         }
         None => Ok(()),
     }
 }
 
-fn push_strip(strip: &[u8], out: &mut Vec<u8>) -> Result<(), AllocError>
-    ensures { OnOk result (out.new.items ≡ out.old.items ++ strip_line strip.now) }
+fn push_strip(memory: &mut Memory, strip: &[u8], out: &mut Vec<u8>) -> Result<(), Refused>
+    ensures text { OnOk result (out.new.items ≡ out.old.items ++ strip_line strip.now) }
+    ensures memory { Lacks result memory.old memory.new }
 {
-    out.extend_from_slice(b"strip")?;
-    push_sized(strip, out)
+    memory.extend_from_slice(out, b"strip")?;
+    push_sized(memory, strip, out)
 }
 
-fn push_each_strip(strips: &Strips, out: &mut Vec<u8>) -> Result<(), AllocError>
-    ensures { OnOk result (out.new.items ≡ out.old.items ++ flat_map strip_line strips.now) }
+fn push_each_strip(memory: &mut Memory, strips: &Strips, out: &mut Vec<u8>) -> Result<(), Refused>
+    ensures text { OnOk result (out.new.items ≡ out.old.items ++ flat_map strip_line strips.now) }
+    ensures memory { Lacks result memory.old memory.new }
 {
     for i in 0..strips.len() {
-        push_strip(strips.at(i), out)?;
+        push_strip(memory, strips.at(i), out)?;
     }
     Ok(())
 }
 
-fn push_strips(strips: &Option<Strips>, out: &mut Vec<u8>) -> Result<(), AllocError>
-    ensures { OnOk result (out.new.items ≡ out.old.items ++ strips_lines strips.now) }
+fn push_strips(
+    memory: &mut Memory,
+    strips: &Option<Strips>,
+    out: &mut Vec<u8>,
+) -> Result<(), Refused>
+    ensures text { OnOk result (out.new.items ≡ out.old.items ++ strips_lines strips.now) }
+    ensures memory { Lacks result memory.old memory.new }
 {
     match strips {
         Some(strips) => {
-            out.extend_from_slice(b"strips ")?;
-            push_decimal(strips.len(), out)?;
-            out.extend_from_slice(b":\n")?;
-            push_each_strip(strips, out)
+            memory.extend_from_slice(out, b"strips ")?;
+            push_decimal(memory, strips.len(), out)?;
+            memory.extend_from_slice(out, b":\n")?;
+            push_each_strip(memory, strips, out)
         }
         None => Ok(()),
     }
 }
 
-fn push_thumb(thumb: &Option<Thumb>, out: &mut Vec<u8>) -> Result<(), AllocError>
-    ensures { OnOk result (out.new.items ≡ out.old.items ++ thumb_lines (option_map thumb_of thumb.now)) }
+fn push_thumb(memory: &mut Memory, thumb: &Option<Thumb>, out: &mut Vec<u8>) -> Result<(), Refused>
+    ensures text { OnOk result (out.new.items ≡ out.old.items ++ thumb_lines (option_map thumb_of thumb.now)) }
+    ensures memory { Lacks result memory.old memory.new }
 {
     match thumb {
         Some(thumb) => {
-            out.extend_from_slice(b"[thumb]\n")?;
-            push_fields(&thumb.fields, out)?;
-            push_jpeg(thumb.jpeg, out)?;
-            push_strips(&thumb.strips, out)
+            memory.extend_from_slice(out, b"[thumb]\n")?;
+            push_fields(memory, &thumb.fields, out)?;
+            push_jpeg(memory, thumb.jpeg, out)?;
+            push_strips(memory, &thumb.strips, out)
         }
         None => Ok(()),
     }
 }
 
 #[tactic(auto, unfolding(crate::specs::Listing::exif_listing))]
-fn exif_listing(alloc: Global, meaning: &Meaning) -> Result<Vec<u8>, AllocError>
-    ensures { IfOk result (λ text. text.items ≡ exif_listing (meaning_of meaning.now)) }
+fn exif_listing(memory: &mut Memory, meaning: &Meaning) -> Result<Vec<u8>, Refused>
+    ensures text { IfOk result (λ text. text.items ≡ exif_listing (meaning_of meaning.now)) }
+    ensures memory { Lacks result memory.old memory.new }
 {
-    let mut out = Vec::from_slice(alloc, b"exif\n[main]\n")?;
-    push_fields(&meaning.main, &mut out)?;
-    push_record(&meaning.iptc, &mut out)?;
-    push_exif(&meaning.exif, &mut out)?;
-    push_directory(b"[gps]\n", &meaning.gps, &mut out)?;
-    push_thumb(&meaning.thumb, &mut out)?;
+    let mut out = memory.list();
+    memory.extend_from_slice(&mut out, b"exif\n[main]\n")?;
+    push_fields(memory, &meaning.main, &mut out)?;
+    push_record(memory, &meaning.iptc, &mut out)?;
+    push_exif(memory, &meaning.exif, &mut out)?;
+    push_directory(memory, b"[gps]\n", &meaning.gps, &mut out)?;
+    push_thumb(memory, &meaning.thumb, &mut out)?;
     Ok(out)
 }
 
 #[tactic(auto, unfolding(crate::specs::Listing::iim_listing))]
-fn iim_listing(alloc: Global, iim: &Iim) -> Result<Vec<u8>, AllocError>
-    ensures { IfOk result (λ text. text.items ≡ iim_listing iim.now) }
+fn iim_listing(memory: &mut Memory, iim: &Iim) -> Result<Vec<u8>, Refused>
+    ensures text { IfOk result (λ text. text.items ≡ iim_listing iim.now) }
+    ensures memory { Lacks result memory.old memory.new }
 {
-    let mut out = Vec::from_slice(alloc, b"iim\n")?;
-    push_datasets(iim, &mut out)?;
+    let mut out = memory.list();
+    memory.extend_from_slice(&mut out, b"iim\n")?;
+    push_datasets(memory, iim, &mut out)?;
     Ok(out)
 }
 
 // The whole text of what a file says.
-pub(crate) fn listing(alloc: Global, said: &Said) -> Result<Vec<u8>, AllocError>
-    ensures { IfOk result (λ text. text.items ≡ listing (said_of said.now)) }
+pub(crate) fn listing(memory: &mut Memory, said: &Said) -> Result<Vec<u8>, Refused>
+    ensures text { IfOk result (λ text. text.items ≡ listing (said_of said.now)) }
+    ensures memory { Lacks result memory.old memory.new }
 {
     match said {
-        Said::Exif(meaning) => exif_listing(alloc, meaning),
-        Said::Iim(iim) => iim_listing(alloc, iim),
+        Said::Exif(meaning) => exif_listing(memory, meaning),
+        Said::Iim(iim) => iim_listing(memory, iim),
     }
 }

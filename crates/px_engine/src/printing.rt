@@ -1,43 +1,18 @@
 // Texts of a file, printed.
-ghost use Rattle.std.specs.Prelude.{◌<◌, ◌+◌, ◌^◌, IfOk, IfErr};
+ghost use Rattle.std.specs.Prelude.{◌<◌, ◌+◌, ◌^◌};
 ghost use Rattle.px_bytes.specs.Devices.{Counts, Writes};
 ghost use Rattle.px_bytes.specs.Reading.{ConsumesAtMost};
 ghost use Rattle.px_engine.specs.Listing.{listing};
 ghost use Rattle.px_engine.specs.Captions.{caption_text};
-ghost use Rattle.px_engine.specs.Runs.{StopsRead, CountsReads, CountsWrites};
-ghost use Rattle.px_engine.specs.Prints.{IsTextOf, WritesText, Prints};
+ghost use Rattle.px_engine.specs.Lacking.{LacksRun};
+ghost use Rattle.px_engine.specs.Runs.{CountsReads, CountsWrites};
+ghost use Rattle.px_engine.specs.Prints.{WritesText, Prints};
 
-use crate::caption_lines::caption_text;
 use crate::faults::Fault;
-use crate::input::read_all;
-use crate::listing::listing;
-use crate::runs::judge;
-use px_bytes::{Failed, Sink, Source, write_whole};
+use crate::hand::{captions_text_in, show_of_in};
+use crate::input::read_all_in;
+use px_bytes::{Failed, Memory, Sink, Source, write_whole};
 use std::alloc::Global;
-
-// The listing of what a file says.
-fn listing_in(alloc: Global, file: &[u8]) -> Result<Vec<u8>, Fault>
-    ensures text { IfOk result (λ text. IsTextOf listing file.now text.items) }
-    ensures stops { IfErr result (StopsRead file.now) }
-{
-    let said = judge(alloc, file)?;
-    match listing(alloc, &said) {
-        Ok(text) => Ok(text),
-        Err(_) => Err(Fault::OutOfMemory),
-    }
-}
-
-// The text of its captions.
-fn captions_in(alloc: Global, file: &[u8]) -> Result<Vec<u8>, Fault>
-    ensures text { IfOk result (λ text. IsTextOf caption_text file.now text.items) }
-    ensures stops { IfErr result (StopsRead file.now) }
-{
-    let said = judge(alloc, file)?;
-    match caption_text(alloc, &said) {
-        Ok(text) => Ok(text),
-        Err(_) => Err(Fault::OutOfMemory),
-    }
-}
 
 // Writes a text, and flushes once.
 fn write_and_flush<W: Sink>(writer: &mut W, text: &[u8]) -> Result<(), Failed>
@@ -65,8 +40,27 @@ fn write_text<W: Sink>(writer: &mut W, text: &[u8]) -> Result<(), Fault>
 /// Nothing is written before the file is read and judged and the whole text is made: after every fault
 /// but `WriteFailed` the writer has taken nothing, after that a prefix of the text. `Refused` names the
 /// block's first fault; `ReadFailed` and `WriteFailed` come where a call of that device failed, which
-/// ends the run. `NormalTooLong` never comes. It takes memory for the file, for what it says, and for the
+/// ends the run, and `OutOfMemory` exactly where a growth was refused. `NormalTooLong` never comes. It takes memory for the file, for what it says, and for the
 /// text: less than four bytes for each byte of a value or of data, and less than 30 more a line.
+pub fn show_in<R: Source, W: Sink>(
+    memory: &mut Memory,
+    reader: &mut R,
+    writer: &mut W,
+) -> Result<(), Fault>
+    requires reading { R.failed reader.old + 1 < 2 ^ 64 }
+    requires writing { W.failed writer.old + 1 < 2 ^ 64 }
+    ensures done { Prints listing result (R.bytes_left reader.old) (W.bytes_taken writer.old) (W.bytes_taken writer.new) }
+    ensures lost { ConsumesAtMost (R.bytes_left reader.old) (R.bytes_left reader.new) 16777223 }
+    ensures reads { CountsReads result (R.failed reader.old) (R.failed reader.new) }
+    ensures writes { CountsWrites result (W.failed writer.old) (W.failed writer.new) }
+    ensures memory { LacksRun result memory.old memory.new }
+{
+    let file = read_all_in(memory, reader)?;
+    let text = show_of_in(memory, &file)?;
+    write_text(writer, &text)
+}
+
+/// The same with memory of its own.
 pub fn show<R: Source, W: Sink>(alloc: Global, reader: &mut R, writer: &mut W) -> Result<(), Fault>
     requires reading { R.failed reader.old + 1 < 2 ^ 64 }
     requires writing { W.failed writer.old + 1 < 2 ^ 64 }
@@ -75,9 +69,7 @@ pub fn show<R: Source, W: Sink>(alloc: Global, reader: &mut R, writer: &mut W) -
     ensures reads { CountsReads result (R.failed reader.old) (R.failed reader.new) }
     ensures writes { CountsWrites result (W.failed writer.old) (W.failed writer.new) }
 {
-    let file = read_all(alloc, reader)?;
-    let text = listing_in(alloc, &file)?;
-    write_text(writer, &text)
+    show_in(&mut Memory::new(alloc), reader, writer)
 }
 
 /// Reads a file and writes its captions, one a line, in one write where the writer takes it, and then
@@ -85,8 +77,27 @@ pub fn show<R: Source, W: Sink>(alloc: Global, reader: &mut R, writer: &mut W) -
 /// and two hexadecimal digits.
 ///
 /// Faults are those of `show`, and what was written after each. It takes memory for the file, for what it
-/// says, for the list of captions, and for the text: at most three bytes for each byte of a caption, and
+/// says, and for the text, made group by group: at most three bytes for each byte of a caption, and
 /// at most 22 more a line.
+pub fn captions_in<R: Source, W: Sink>(
+    memory: &mut Memory,
+    reader: &mut R,
+    writer: &mut W,
+) -> Result<(), Fault>
+    requires reading { R.failed reader.old + 1 < 2 ^ 64 }
+    requires writing { W.failed writer.old + 1 < 2 ^ 64 }
+    ensures done { Prints caption_text result (R.bytes_left reader.old) (W.bytes_taken writer.old) (W.bytes_taken writer.new) }
+    ensures lost { ConsumesAtMost (R.bytes_left reader.old) (R.bytes_left reader.new) 16777223 }
+    ensures reads { CountsReads result (R.failed reader.old) (R.failed reader.new) }
+    ensures writes { CountsWrites result (W.failed writer.old) (W.failed writer.new) }
+    ensures memory { LacksRun result memory.old memory.new }
+{
+    let file = read_all_in(memory, reader)?;
+    let text = captions_text_in(memory, &file)?;
+    write_text(writer, &text)
+}
+
+/// The same with memory of its own.
 pub fn captions<R: Source, W: Sink>(
     alloc: Global,
     reader: &mut R,
@@ -99,7 +110,5 @@ pub fn captions<R: Source, W: Sink>(
     ensures reads { CountsReads result (R.failed reader.old) (R.failed reader.new) }
     ensures writes { CountsWrites result (W.failed writer.old) (W.failed writer.new) }
 {
-    let file = read_all(alloc, reader)?;
-    let text = captions_in(alloc, &file)?;
-    write_text(writer, &text)
+    captions_in(&mut Memory::new(alloc), reader, writer)
 }

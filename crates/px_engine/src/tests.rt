@@ -1,7 +1,7 @@
 // Worked files, the same over slow readers and writers, devices that fail, and files that never end.
 use crate::{
-    BlockKind, CompareFault, Fault, Side, check, compare, normalise, normalise_both, read_all,
-    read_any, same,
+    BlockKind, CompareFault, Fault, Side, captions_text, check, check_of, compare, normal_form,
+    normalise, normalise_both, read_all, read_any, same, same_of, show_of,
 };
 use px_bytes::{Cause, LIMIT, Refusal, Watched};
 use std::alloc::{AllocError, Global};
@@ -90,13 +90,15 @@ impl Write for Narrow {
     }
 }
 
-// What a run writes of a file in hand, and what it answers.
+// What is written of a file, in hand and by a run, and what the run answers.
 fn check_form(rt: &impl Abort, alloc: Global, file: &[u8], form: &[u8]) {
     let mut reader = Watched::new(file);
     let mut writer = Watched::new(Vec::new(alloc));
     let len = normalise(alloc, &mut reader, &mut writer).ok();
     assert_eq!(rt; len, Some(form.len() as u64));
     assert_eq!(rt; writer.into_inner().as_slice(), form);
+    let held = normal_form(alloc, file);
+    assert_eq!(rt; held.ok().as_deref(), Some(form));
 }
 
 fn kind(alloc: Global, file: &[u8]) -> Result<BlockKind, Fault> {
@@ -112,15 +114,21 @@ fn is_same(alloc: Global, first: &[u8], second: &[u8]) -> Result<bool, CompareFa
 
 fn check_same(rt: &impl Abort, alloc: Global, first: &[u8], second: &[u8], due: bool) {
     assert_eq!(rt; is_same(alloc, first, second).ok(), Some(due));
+    assert_eq!(rt; same_of(alloc, first, second).ok(), Some(due));
 }
 
 fn check_kind(rt: &impl Abort, alloc: Global, file: &[u8], due: BlockKind) {
     assert_eq!(rt; kind(alloc, file).ok(), Some(due));
+    assert_eq!(rt; check_of(alloc, file).ok(), Some(due));
 }
 
 fn check_refused(rt: &impl Abort, alloc: Global, file: &[u8], cause: Cause, place: u32) {
     let fault = Fault::Refused { cause, place };
     assert_eq!(rt; kind(alloc, file).err(), Some(fault));
+    assert_eq!(rt; check_of(alloc, file).err(), Some(fault));
+    assert_eq!(rt; normal_form(alloc, file).err(), Some(fault));
+    assert_eq!(rt; show_of(alloc, file).err(), Some(fault));
+    assert_eq!(rt; captions_text(alloc, file).err(), Some(fault));
     let mut reader = Watched::new(file);
     let mut writer = Watched::new(Vec::new(alloc));
     assert_eq!(rt;
@@ -194,6 +202,40 @@ fn is_read_the_same(alloc: Global, first: &[u8], second: &[u8]) -> Result<bool, 
     let first = read_any(alloc, first)?;
     let second = read_any(alloc, second)?;
     Ok(same(&first, &second))
+}
+
+// Texts of files in hand.
+#[test]
+fn texts_are_made_in_hand(rt: HostRuntime) -> Result<(), Fail> {
+    let shown = show_of(rt.alloc(), ONE_LEAST)?;
+    assert_eq!(rt;
+        shown.as_slice(),
+        b"exif\n[main]\n0112 SHORT 1: 1\n".as_slice()
+    );
+    let captions = captions_text(rt.alloc(), CAPTION_EXTENDED)?;
+    assert_eq!(rt;
+        captions.as_slice(),
+        b"iim\ncharset: not declared\ncaption: abc\n".as_slice()
+    );
+    Ok(())
+}
+
+// The fault is of the side that it names; the second is judged where the first says something.
+#[test]
+fn a_file_in_hand_is_told_by_its_side(rt: HostRuntime) {
+    let alloc = rt.alloc();
+    let first = CompareFault {
+        side: Side::First,
+        fault: UNKNOWN,
+    };
+    let second = CompareFault {
+        side: Side::Second,
+        fault: UNKNOWN,
+    };
+    assert_eq!(rt; same_of(alloc, b"", b"").err(), Some(first));
+    assert_eq!(rt; same_of(alloc, ONE, b"").err(), Some(second));
+    assert_eq!(rt; normalise_both(alloc, b"", b"").err(), Some(first));
+    assert_eq!(rt; normalise_both(alloc, ONE, b"").err(), Some(second));
 }
 
 #[test]

@@ -1,68 +1,86 @@
-// What texts are made of: each call puts a part behind a text.
+// What texts are made of: each call puts a part behind a text, in memory that tells where it lacks room.
 ghost use Rattle.std.specs.Prelude.{◌≡◌, ◌≤◌, ◌*◌, ◌++◌, length, OnOk};
 ghost use Rattle.hex.specs.Hex.{encode_lower};
+ghost use Rattle.px_bytes.specs.Lacking.{Lacks};
 ghost use Rattle.px_engine.specs.Words.{shown_bytes, sized_bytes};
 
 use hex::encode_to_slice;
 use itoa::{Buffer, Integer};
-use std::alloc::AllocError;
+use px_bytes::{Memory, Refused};
 
 // How many bytes are turned into hexadecimal digits at a time.
 const PIECE: usize = 64;
 
 // Appends a number in decimal.
-pub(crate) fn push_decimal<I: Integer>(n: I, out: &mut Vec<u8>) -> Result<(), AllocError>
-    ensures { OnOk result (out.new.items ≡ out.old.items ++ I.text n) }
+pub(crate) fn push_decimal<I: Integer>(
+    memory: &mut Memory,
+    n: I,
+    out: &mut Vec<u8>,
+) -> Result<(), Refused>
+    ensures text { OnOk result (out.new.items ≡ out.old.items ++ I.text n) }
+    ensures memory { Lacks result memory.old memory.new }
 {
     let mut digits = Buffer::new();
-    out.extend_from_slice(digits.format(n).as_bytes())
+    memory.extend_from_slice(out, digits.format(n).as_bytes())
 }
 
 // Appends a few bytes in hexadecimal.
-fn push_piece(piece: &[u8], out: &mut Vec<u8>) -> Result<(), AllocError>
+fn push_piece(memory: &mut Memory, piece: &[u8], out: &mut Vec<u8>) -> Result<(), Refused>
     requires { length piece.now ≤ 64 }
-    ensures { OnOk result (out.new.items ≡ out.old.items ++ encode_lower piece.now) }
+    ensures text { OnOk result (out.new.items ≡ out.old.items ++ encode_lower piece.now) }
+    ensures memory { Lacks result memory.old memory.new }
 {
     let mut digits = [0; 2 * PIECE];
     let width = 2 * piece.len();
-    if encode_to_slice(piece, &mut digits[..width]).is_err() {
-        return Err(AllocError);
-    }
-    out.extend_from_slice(&digits[..width])
+    let Ok(()) = encode_to_slice(piece, &mut digits[..width]) else {
+        unreachable!()
+    };
+    memory.extend_from_slice(out, &digits[..width])
 }
 
 // Appends bytes in hexadecimal.
-pub(crate) fn push_hex(bytes: &[u8], out: &mut Vec<u8>) -> Result<(), AllocError>
-    ensures { OnOk result (out.new.items ≡ out.old.items ++ encode_lower bytes.now) }
+pub(crate) fn push_hex(memory: &mut Memory, bytes: &[u8], out: &mut Vec<u8>) -> Result<(), Refused>
+    ensures text { OnOk result (out.new.items ≡ out.old.items ++ encode_lower bytes.now) }
+    ensures memory { Lacks result memory.old memory.new }
 {
     let mut at = 0;
     while at < bytes.len() {
         let end = at + PIECE.min(bytes.len() - at);
-        push_piece(&bytes[at..end], out)?;
+        push_piece(memory, &bytes[at..end], out)?;
         at = end;
     }
     Ok(())
 }
 
 // Appends bytes in hexadecimal behind one space, where there are any.
-pub(crate) fn push_shown(bytes: &[u8], out: &mut Vec<u8>) -> Result<(), AllocError>
-    ensures { OnOk result (out.new.items ≡ out.old.items ++ shown_bytes bytes.now) }
+pub(crate) fn push_shown(
+    memory: &mut Memory,
+    bytes: &[u8],
+    out: &mut Vec<u8>,
+) -> Result<(), Refused>
+    ensures text { OnOk result (out.new.items ≡ out.old.items ++ shown_bytes bytes.now) }
+    ensures memory { Lacks result memory.old memory.new }
 {
     if bytes.is_empty() {
         return Ok(());
     }
-    out.extend_from_slice(b" ")?;
-    push_hex(bytes, out)
+    memory.extend_from_slice(out, b" ")?;
+    push_hex(memory, bytes, out)
 }
 
 // Appends how many bytes there are, and the bytes, up to the end of the line.
 #[tactic(auto, unfolding(crate::specs::Words::sized_bytes))]
-pub(crate) fn push_sized(bytes: &[u8], out: &mut Vec<u8>) -> Result<(), AllocError>
-    ensures { OnOk result (out.new.items ≡ out.old.items ++ sized_bytes bytes.now) }
+pub(crate) fn push_sized(
+    memory: &mut Memory,
+    bytes: &[u8],
+    out: &mut Vec<u8>,
+) -> Result<(), Refused>
+    ensures text { OnOk result (out.new.items ≡ out.old.items ++ sized_bytes bytes.now) }
+    ensures memory { Lacks result memory.old memory.new }
 {
-    out.extend_from_slice(b" ")?;
-    push_decimal(bytes.len(), out)?;
-    out.extend_from_slice(b":")?;
-    push_shown(bytes, out)?;
-    out.extend_from_slice(b"\n")
+    memory.extend_from_slice(out, b" ")?;
+    push_decimal(memory, bytes.len(), out)?;
+    memory.extend_from_slice(out, b":")?;
+    push_shown(memory, bytes, out)?;
+    memory.extend_from_slice(out, b"\n")
 }

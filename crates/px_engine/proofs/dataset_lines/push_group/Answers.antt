@@ -1,10 +1,13 @@
-use Rattle.std.proofs.Common.{map}
+use Rattle.std.proofs.Common.{map, ◌∙◌}
 use Rattle.px_iim.specs.View.{item_view}
 use Rattle.px_engine.specs.Listing.{dataset_line}
 use Rattle.px_engine.proofs.Parts.{read_at, parts_more}
 use Rattle.px_engine.proofs.dataset_lines.push_group.Goals as goal
 
 pub loop-item-preserved : goal.loop-item-preserved
-loop-item-preserved c =
-    parts_more (map item_view c.args.items.now) c.loop-item.item-index _ (read_at item_view c.args.items.now c.loop-item.item-index _ c.loop-item-test.true) (dataset_line c.args.rec)
-    c.args.out.now.items c.loop-item.out.items c.push_dataset.new.out.items c.loop-item.invariant c.in_ok-push_dataset.ensures
+loop-item-preserved c = record {
+  text =
+      parts_more (map item_view c.args.items.now) c.loop-item.item-index _ (read_at item_view c.args.items.now c.loop-item.item-index _ c.loop-item-test.true) (dataset_line c.args.rec)
+      c.args.out.now.items c.loop-item.out.items c.push_dataset.new.out.items c.loop-item.invariant.text c.in_ok-push_dataset.ensures.text;
+  memory = c.in_ok-push_dataset.ensures.memory ∙ c.loop-item.invariant.memory;
+}

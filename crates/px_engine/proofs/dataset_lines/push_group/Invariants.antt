@@ -5,4 +5,7 @@ use Rattle.px_engine.specs.Listing.{dataset_line}
 use Rattle.px_engine.proofs.dataset_lines.push_group.Given as goal
 
 abbrev pub invariant-loop-item : goal.invariant-loop-item
-invariant-loop-item l = l.out.items ≡ l.initial.out.items ++ flat_map (dataset_line l.rec) (take l.item-index (map item_view l.items))
+invariant-loop-item l = record {
+  text : l.out.items ≡ l.initial.out.items ++ flat_map (dataset_line l.rec) (take l.item-index (map item_view l.items));
+  memory : l.memory ≡ l.initial.memory;
+}

@@ -5,4 +5,7 @@ use Rattle.px_engine.specs.CaptionView.{caption_view}
 use Rattle.px_engine.proofs.gather.push_record.Given as goal
 
 abbrev pub invariant-loop-i : goal.invariant-loop-i
-invariant-loop-i l = map caption_view l.list.items ≡ map caption_view l.initial.list.items ++ flat_map (group_captions l.iim) (take l.i caption_groups)
+invariant-loop-i l = record {
+  list : map caption_view l.list.items ≡ map caption_view l.initial.list.items ++ flat_map (group_captions l.iim) (take l.i caption_groups);
+  memory : l.memory ≡ l.initial.memory;
+}

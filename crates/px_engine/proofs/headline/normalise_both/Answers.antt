@@ -1,5 +1,6 @@
-use Rattle.px_engine.proofs.Told.{told}
+use Rattle.px_engine.specs.Headline.{IsUnwrittenAt}
+use Rattle.px_engine.proofs.Ended.{own_memory}
 use Rattle.px_engine.proofs.headline.normalise_both.Goals as goal
 
-pub returns-clause-done : goal.returns-clause-done
-returns-clause-done c = told c.one_said.ensures c.normal_says.ensures _ _ _ _ _ _ c.in-Ok.ensures.formed.1 c.in-Ok-normal_form.ensures.formed.1
+pub returns-clause-failed : goal.returns-clause-failed
+returns-clause-failed c = own_memory (IsUnwrittenAt c.args.first.now c.args.second.now) c.normalise_both_in.result _ c.normalise_both_in.ensures.failed

@@ -15,4 +15,4 @@ read b (Ok i) j w = iim_said b i j.1 w
 read b (Err e) j w = tt
 
 pub returns-clause-said : goal.returns-clause-said
-returns-clause-said c = read c.args.bytes.now c.read_iim.result c.read_iim.ensures.judged c.read_iim.ensures.whole
+returns-clause-said c = read c.args.bytes.now c.read_iim_in.result c.read_iim_in.ensures.judged c.read_iim_in.ensures.whole

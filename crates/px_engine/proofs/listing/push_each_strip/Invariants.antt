@@ -4,4 +4,7 @@ use Rattle.px_engine.specs.Listing.{strip_line}
 use Rattle.px_engine.proofs.listing.push_each_strip.Given as goal
 
 abbrev pub invariant-loop-i : goal.invariant-loop-i
-invariant-loop-i l = l.out.items ≡ l.initial.out.items ++ flat_map strip_line (take l.i l.strips)
+invariant-loop-i l = record {
+  text : l.out.items ≡ l.initial.out.items ++ flat_map strip_line (take l.i l.strips);
+  memory : l.memory ≡ l.initial.memory;
+}

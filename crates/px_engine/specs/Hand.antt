@@ -1,0 +1,35 @@
+-- What calls over files in hand answer.
+use Rattle.std.specs.Prelude.{◌≡◌, ◌↔◌, ◌<◌, ℕ, Bool, true, IsTrue, List, length}
+use Rattle.px_bytes.specs.Parts.{limit}
+use Rattle.px_engine.specs.declared.faults.Fault.{Fault}
+use Rattle.px_engine.specs.declared.faults.Side.{Side}
+use Rattle.px_engine.specs.declared.faults.Side.TheVariants.{First, Second}
+use Rattle.px_engine.specs.declared.faults.CompareFault.{CompareFault}
+use Rattle.px_engine.specs.declared.kinds.BlockKind.{BlockKind}
+use Rattle.px_engine.specs.declared.faults.Fault.TheVariants.{Refused, NormalTooLong, OutOfMemory, ReadFailed, WriteFailed}
+use Rattle.px_engine.specs.Files.{Said, kind_said, normal}
+use Rattle.px_engine.specs.Input.{IsSaid, IsUnsaid}
+
+-- the kind of what the file says
+abbrev pub IsKindOf : List ℕ → BlockKind → Type 0
+IsKindOf f kind = (s : Said) × IsSaid f s × (kind ≡ kind_said s)
+
+-- whether what the two files say is the same
+abbrev pub SaysSame : List ℕ → List ℕ → Bool → Type 0
+SaysSame f g same = (s t : Said) × IsSaid f s × IsSaid g t × (IsTrue same ↔ (s ≡ t))
+
+-- a fault of the first file; or one of the second, where the first says something
+abbrev pub IsUnsaidOn : Side → List ℕ → List ℕ → Bool → Fault → Type 0
+IsUnsaidOn First f g refused fault = IsUnsaid f refused fault
+IsUnsaidOn Second f g refused fault = ((s : Said) × IsSaid f s) × IsUnsaid g refused fault
+
+abbrev pub IsUnsaidAt : List ℕ → List ℕ → Bool → CompareFault → Type 0
+IsUnsaidAt f g refused e = IsUnsaidOn e.side f g refused e.fault
+
+-- why what is said has no form
+abbrev pub IsUnformed : Said → Bool → Fault → Type 0
+IsUnformed s refused NormalTooLong = limit < length (normal s)
+IsUnformed s refused OutOfMemory = refused ≡ true
+IsUnformed s refused (Refused cause place) = ⊥
+IsUnformed s refused ReadFailed = ⊥
+IsUnformed s refused WriteFailed = ⊥

@@ -1,0 +1,145 @@
+// Files in hand: judged, normalised, compared and printed without a copy of their bytes.
+ghost use Rattle.std.specs.Prelude.{◌≡◌, ◌≤◌, Bool, length, IfOk, IfErr};
+ghost use Rattle.px_bytes.specs.Parts.{limit};
+ghost use Rattle.px_engine.specs.Captions.{caption_text};
+ghost use Rattle.px_engine.specs.Files.{Said as AnySaid, CanBeWritten, normal};
+ghost use Rattle.px_engine.specs.Hand.{IsKindOf, SaysSame, IsUnsaidAt, IsUnformed};
+ghost use Rattle.px_engine.specs.Headline.{IsFormOf, IsUnwritten};
+ghost use Rattle.px_engine.specs.Input.{IsUnsaid};
+ghost use Rattle.px_engine.specs.Lacking.{LacksRun, LacksPair};
+ghost use Rattle.px_engine.specs.Listing.{listing};
+ghost use Rattle.px_engine.specs.Prints.{IsTextOf};
+ghost use Rattle.px_engine.specs.Seen.{said_of};
+
+use crate::caption_lines::caption_text;
+use crate::faults::{CompareFault, Fault, Side};
+use crate::judging::{judge, judge_side, kind_in};
+use crate::kinds::BlockKind;
+use crate::listing::listing;
+use crate::meanings::{Said, same};
+use crate::writing::write_said;
+use px_bytes::{Growing, Memory};
+use std::alloc::Global;
+
+/// Which kind of block a file holds, where that says something. The fault is `Refused`, by the first
+/// fault of the block, or `OutOfMemory`, exactly where a growth was refused. It takes memory for what the
+/// file says, and makes no copy of it.
+pub fn check_of_in(memory: &mut Memory, file: &[u8]) -> Result<BlockKind, Fault>
+    ensures kind { IfOk result (IsKindOf file.now) }
+    ensures unsaid { IfErr result (IsUnsaid file.now memory.new) }
+    ensures memory { LacksRun result memory.old memory.new }
+{
+    let said = judge(memory, file)?;
+    Ok(kind_in(&said))
+}
+
+/// The same with memory of its own.
+pub fn check_of(alloc: Global, file: &[u8]) -> Result<BlockKind, Fault>
+    ensures kind { IfOk result (IsKindOf file.now) }
+    ensures unsaid { IfErr result (λ e. (refused : Bool) × IsUnsaid file.now refused e) }
+{
+    check_of_in(&mut Memory::new(alloc), file)
+}
+
+// The normal form of what is said.
+fn form_of(memory: &mut Memory, said: &Said) -> Result<Vec<u8>, Fault>
+    requires { CanBeWritten (said_of said.now) }
+    ensures formed { IfOk result (λ v. (v.items ≡ normal (said_of said.now)) × (length v.items ≤ limit)) }
+    ensures unformed { IfErr result (IsUnformed (said_of said.now) memory.new) }
+    ensures memory { LacksRun result memory.old memory.new }
+{
+    let mut writer = Growing::new(memory);
+    match write_said(said, &mut writer) {
+        Err(Fault::NormalTooLong) => Err(Fault::NormalTooLong),
+        _ => Ok(writer.finish_in(memory)?),
+    }
+}
+
+/// The normal form of what a file says, at most `LIMIT` bytes. The fault is `Refused`, by the first fault
+/// of the block; `NormalTooLong`, where the form is longer than `LIMIT`; or `OutOfMemory`, exactly where a
+/// growth was refused. It takes memory for what the file says and for the form, and makes no copy of the
+/// file.
+pub fn normal_form_in(memory: &mut Memory, file: &[u8]) -> Result<Vec<u8>, Fault>
+    ensures formed { IfOk result (λ v. (s : AnySaid) × IsFormOf file.now s v.items) }
+    ensures unwritten { IfErr result (IsUnwritten file.now memory.new) }
+    ensures memory { LacksRun result memory.old memory.new }
+{
+    let said = judge(memory, file)?;
+    form_of(memory, &said)
+}
+
+/// The same with memory of its own.
+pub fn normal_form(alloc: Global, file: &[u8]) -> Result<Vec<u8>, Fault>
+    ensures formed { IfOk result (λ v. (s : AnySaid) × IsFormOf file.now s v.items) }
+    ensures unwritten { IfErr result (λ e. (refused : Bool) × IsUnwritten file.now refused e) }
+{
+    normal_form_in(&mut Memory::new(alloc), file)
+}
+
+/// The text that `show` prints of a file. The fault is `Refused`, by the first fault of the block, or
+/// `OutOfMemory`, exactly where a growth was refused. It takes memory for what the file says and for the
+/// text: less than four bytes for each byte of a value or of data, and less than 30 more a line.
+pub fn show_of_in(memory: &mut Memory, file: &[u8]) -> Result<Vec<u8>, Fault>
+    ensures text { IfOk result (λ text. IsTextOf listing file.now text.items) }
+    ensures unsaid { IfErr result (IsUnsaid file.now memory.new) }
+    ensures memory { LacksRun result memory.old memory.new }
+{
+    let said = judge(memory, file)?;
+    match listing(memory, &said) {
+        Ok(text) => Ok(text),
+        Err(_) => Err(Fault::OutOfMemory),
+    }
+}
+
+/// The same with memory of its own.
+pub fn show_of(alloc: Global, file: &[u8]) -> Result<Vec<u8>, Fault>
+    ensures text { IfOk result (λ text. IsTextOf listing file.now text.items) }
+    ensures unsaid { IfErr result (λ e. (refused : Bool) × IsUnsaid file.now refused e) }
+{
+    show_of_in(&mut Memory::new(alloc), file)
+}
+
+/// The text that `captions` prints of a file. Faults are those of `show_of_in`. It takes memory for what
+/// the file says and for the text: at most three bytes for each byte of a caption, and at most 22 more a
+/// line.
+pub fn captions_text_in(memory: &mut Memory, file: &[u8]) -> Result<Vec<u8>, Fault>
+    ensures text { IfOk result (λ text. IsTextOf caption_text file.now text.items) }
+    ensures unsaid { IfErr result (IsUnsaid file.now memory.new) }
+    ensures memory { LacksRun result memory.old memory.new }
+{
+    let said = judge(memory, file)?;
+    match caption_text(memory, &said) {
+        Ok(text) => Ok(text),
+        Err(_) => Err(Fault::OutOfMemory),
+    }
+}
+
+/// The same with memory of its own.
+pub fn captions_text(alloc: Global, file: &[u8]) -> Result<Vec<u8>, Fault>
+    ensures text { IfOk result (λ text. IsTextOf caption_text file.now text.items) }
+    ensures unsaid { IfErr result (λ e. (refused : Bool) × IsUnsaid file.now refused e) }
+{
+    captions_text_in(&mut Memory::new(alloc), file)
+}
+
+/// Whether two files say the same: the same tree of directories, or the same record. Their normal forms
+/// don't matter, nor whether these can be written. The first is judged wholly before the second; a fault is
+/// `Refused`, by the first fault of that side's block, or `OutOfMemory`, exactly where a growth was refused.
+/// It takes memory for what both say, and makes no copy of either.
+pub fn same_of_in(memory: &mut Memory, first: &[u8], second: &[u8]) -> Result<bool, CompareFault>
+    ensures same { IfOk result (SaysSame first.now second.now) }
+    ensures unsaid { IfErr result (IsUnsaidAt first.now second.now memory.new) }
+    ensures memory { LacksPair result memory.old memory.new }
+{
+    let said = judge_side(memory, first, Side::First)?;
+    let other = judge_side(memory, second, Side::Second)?;
+    Ok(same(&said, &other))
+}
+
+/// The same with memory of its own.
+pub fn same_of(alloc: Global, first: &[u8], second: &[u8]) -> Result<bool, CompareFault>
+    ensures same { IfOk result (SaysSame first.now second.now) }
+    ensures unsaid { IfErr result (λ e. (refused : Bool) × IsUnsaidAt first.now second.now refused e) }
+{
+    same_of_in(&mut Memory::new(alloc), first, second)
+}
