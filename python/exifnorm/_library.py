@@ -1,0 +1,91 @@
+"""Finds and loads the library libexifnorm, and declares its calls (exifnorm.h)."""
+
+from __future__ import annotations
+
+import ctypes
+import enum
+import functools
+import os
+from typing import Iterator
+
+from ._errors import LibraryMissing
+
+NAME = "libexifnorm.so.1"
+LIMIT = 16_777_216  # the most bytes of a block, and of a normal form
+NAME_ROOM = 32
+
+
+class Status(enum.IntEnum):
+    """What the library's calls answer. Here each one but DONE is an exception.
+
+    >>> Status(5).name
+    'TOO_LITTLE_ROOM'
+    """
+
+    DONE = 0
+    REFUSED = 2
+    TOO_LONG = 3
+    NO_MEMORY = 4
+    TOO_LITTLE_ROOM = 5
+    SECOND_REFUSED = 6
+
+
+class Fault(ctypes.Structure):
+    """Why a block is refused: the number of the cause, and the place."""
+
+    _fields_ = [("cause", ctypes.c_uint32), ("place", ctypes.c_uint32)]
+
+
+_BLOCK = [ctypes.c_void_p, ctypes.c_size_t]
+_OUT = [ctypes.c_void_p, ctypes.c_size_t, ctypes.POINTER(ctypes.c_size_t)]
+_NUMBER = [ctypes.POINTER(ctypes.c_uint32)]
+_FAULT = [ctypes.POINTER(Fault)]
+CALLS = {
+    "exifnorm_check": _BLOCK + _NUMBER + _FAULT,
+    "exifnorm_normalise": _BLOCK + _OUT + _FAULT,
+    "exifnorm_compare": _BLOCK + _BLOCK + _NUMBER + _FAULT,
+    "exifnorm_show": _BLOCK + _OUT + _FAULT,
+    "exifnorm_captions": _BLOCK + _OUT + _FAULT,
+    "exifnorm_cause_name": [ctypes.c_uint32, *_OUT],
+    "exifnorm_version": _OUT,
+}
+
+
+def places() -> Iterator[str]:
+    """Where the library is looked for: the file that EXIFNORM_LIBRARY names, and nowhere else where that is set; or else
+    beside these modules, and then wherever the system's loader looks."""
+    named = os.environ.get("EXIFNORM_LIBRARY")
+    if named:
+        yield named
+        return
+    yield os.path.join(os.path.dirname(os.path.abspath(__file__)), NAME)
+    yield NAME
+
+
+def open_library(place: str) -> ctypes.CDLL:
+    """Loads the library from there and declares its calls, or raises an OSError that says what is wrong."""
+    if os.sep in place and not os.path.exists(place):
+        raise OSError("there is no such file")
+    library = ctypes.CDLL(place)
+    for name, arguments in CALLS.items():
+        try:
+            call = getattr(library, name)
+        except AttributeError:
+            raise OSError(f"it has no {name}") from None
+        call.argtypes, call.restype = arguments, ctypes.c_uint32
+    return library
+
+
+@functools.lru_cache(maxsize=None)
+def library() -> ctypes.CDLL:
+    """The library, loaded at the first call."""
+    tried = []
+    for place in places():
+        try:
+            return open_library(place)
+        except OSError as why:
+            tried.append(f"{place} ({why})")
+    raise LibraryMissing(
+        f"the library {NAME} can't be loaded; tried: {'; '.join(tried)}. Build and install it with `make install` in exifnorm's "
+        f"sources, or name it by the environment's EXIFNORM_LIBRARY"
+    )
