@@ -1,0 +1,163 @@
+"""`explain`: a refusal in words, with the entry by its name, both owners of shared bytes, and the bytes around the place."""
+
+from __future__ import annotations
+
+from dataclasses import dataclass, field
+from typing import List, Optional
+
+from .causes import CAUSES, Cause
+from .engine import ACCEPTED, REFUSED, Judgement, judge
+from .layout import EntryAt, Layout, Part, hexadecimal
+from .texts import Members
+
+_OTHER_FILES = (
+    (b"\xff\xd8\xff", "This is a whole JPEG; cut the block out: exiftool -b -Exif PICTURE"),
+    (b"\x89PNG", "This is a whole PNG; cut the block out: exiftool -b -Exif PICTURE"),
+    (b"8BIM", "These are Photoshop resources; the IPTC record inside: exiftool -b -IPTC PICTURE"),
+    (b"Photoshop 3.0", "These are Photoshop resources; the IPTC record inside: exiftool -b -IPTC PICTURE"),
+    (b"<", "This is XML, perhaps XMP, which exifnorm doesn't read."),
+)
+
+
+@dataclass
+class Explanation:
+    """What is said of one block."""
+
+    kind: str
+    judgement: Judgement
+    cause: Optional[Cause] = None
+    here: List[str] = field(default_factory=list)  # what stands at the place
+    octets: List[str] = field(default_factory=list)
+
+    def lines(self) -> List[str]:
+        """The explanation as text."""
+        if self.cause is None:
+            return [f"{self.kind}: {self.judgement.line}"]
+        found = [f"{self.kind}: {self.judgement.line}", f"  {self.cause.sentence} {self.cause.meaning}"]
+        found += [f"  {it}" for it in self.here]
+        found += [f"    {it}" for it in self.octets]
+        if self.cause.writers:
+            found.append("  Written by: " + "; ".join(f"{who} ({count})" for who, count in self.cause.writers) + ".")
+        found += [f"  Other readers: {self.cause.readers}", f"  Remedy: {self.cause.remedy}", f"  Cost: {self.cause.cost}"]
+        return found
+
+    def members(self) -> Members:
+        """The explanation as a JSON object."""
+        known: Members = {"kind": self.kind, "status": self.judgement.status, "cause": self.judgement.cause, "place": self.judgement.place}
+        if self.cause is not None:
+            known.update(sentence=self.cause.sentence, meaning=self.cause.meaning, here=self.here, bytes=self.octets)
+            known.update(writers=[list(it) for it in self.cause.writers], remedy=self.cause.remedy, cost=self.cause.cost)
+        return known
+
+
+def explain(kind: str, block: bytes) -> Explanation:
+    """Explains one block that was taken as one of `kind`; of an accepted one there is nothing to say."""
+    judgement = judge(kind, block)
+    cause = CAUSES.get(judgement.cause or "") if judgement.status == REFUSED else None
+    if cause is None or judgement.place is None:
+        if judgement.status != ACCEPTED:
+            return Explanation(kind, judgement, cause)
+        return Explanation(kind, judgement)
+    layout = Layout(block)
+    here = _said_of(layout, judgement.cause or "", judgement.place)
+    return Explanation(kind, judgement, cause, here, hexadecimal(layout.block, judgement.place))
+
+
+def _said_of(layout: Layout, cause: str, place: int) -> List[str]:
+    if cause == "UnknownKind":
+        return _unknown(layout.block)
+    if cause in ("TooLong", "HeaderCut"):
+        return [f"The block has {len(layout.block):,} bytes."]
+    if cause in ("NoMarker", "LengthForm", "DataSetCut"):
+        return _data_set(layout.block, place)
+    if cause == "Overlap":
+        return _shared(layout, place)
+    if cause in ("Loop", "DirectoryOutside", "EmptyDirectory"):
+        return _directory(layout, cause, place)
+    if cause == "ExtraDirectory":
+        return [f"The thumbnail directory names a further one at {layout.number(place, 4)}."]
+    return _entry(layout, cause, place)
+
+
+def _unknown(block: bytes) -> List[str]:
+    if not block:
+        return ["The block is empty: the picture has no such metadata."]
+    for beginning, words in _OTHER_FILES:
+        if block.startswith(beginning):
+            return [words]
+    return [f"It begins with {block[:8].hex(' ')}."]
+
+
+def _data_set(block: bytes, place: int) -> List[str]:
+    before = block.rfind(b"\x1c", 0, place)
+    found = [f"The record has {len(block):,} bytes; at {place} stands {block[place : place + 8].hex(' ') or 'nothing'}."]
+    if block[place : place + 1] == b"\x1c" and place + 3 <= len(block):
+        found.append(f"The DataSet is {block[place + 1]}:{block[place + 2]}.")
+    elif before >= 0 and before + 3 <= len(block):
+        found.append(f"The last 1C before it, at {before}, begins with {block[before : before + 5].hex(' ')}.")
+    return found
+
+
+def _range(part: Part) -> str:
+    return f"{part.what} (bytes {part.start} to {part.end - 1})"
+
+
+def _shared(layout: Layout, place: int) -> List[str]:
+    owners = layout.owners(place)
+    found = _entry_line(layout, place)
+    if owners:
+        mine, other = owners
+        start, end = max(mine.start, other.start), min(mine.end, other.end)
+        found.append(f"Both own bytes {start} to {end - 1}: {_range(mine)} and {_range(other)}.")
+    return found
+
+
+def _directory(layout: Layout, cause: str, place: int) -> List[str]:
+    found = _entry_line(layout, place) if cause != "EmptyDirectory" else []
+    at = place if cause == "EmptyDirectory" else _named(layout, place)
+    if at is None:
+        return found
+    count = layout.number(at, 2)
+    if count is None:
+        return found + [f"The directory would begin at {at}; the block has {len(layout.block)} bytes."]
+    end = at + 2 + 12 * count + 4
+    words = f"The directory at {at} has {count} entries and would end at {end}; the block has {len(layout.block)} bytes."
+    if cause == "DirectoryOutside" and 0 < end - len(layout.block) <= 4:
+        words += f" Only the offset behind the last entry is missing ({end - len(layout.block)} bytes of 4)."
+    return found + [words]
+
+
+def _named(layout: Layout, place: int) -> Optional[int]:
+    """The offset of the directory that is named at a place."""
+    it = layout.entries.get(place)
+    return it.last if it else layout.number(place, 4)
+
+
+def _entry_line(layout: Layout, place: int) -> List[str]:
+    it = layout.entries.get(place)
+    if it is None:
+        words = {4: "the header's offset of the main directory"}.get(place, "the offset of the next directory")
+        return [f"At {place} stands {words}."]
+    return [f"At {place} stands entry {it.number}: {it.label}, {it.form}, last field {it.last}."]
+
+
+def _entry(layout: Layout, cause: str, place: int) -> List[str]:
+    found = _entry_line(layout, place)
+    it = layout.entries.get(place)
+    if it is None:
+        return found
+    before = layout.entries.get(place - 12)
+    if cause in ("Unsorted", "Doubled") and before is not None:
+        found.append(f"Before it stands {before.label}, {before.form}, last field {before.last}.")
+    if cause == "ValueOutside":
+        found.append(f"Its value would end at {it.last + it.size}; the block has {len(layout.block)} bytes.")
+    if cause == "ThumbnailOutside":
+        found += _thumbnail(layout, it)
+    return found
+
+
+def _thumbnail(layout: Layout, it: EntryAt) -> List[str]:
+    for part in layout.parts:
+        if part.named_at == it.place and part.what == "the thumbnail JPEG":
+            return [f"The thumbnail would end at {part.end}; the block has {len(layout.block)} bytes."]
+    return []

@@ -1,0 +1,233 @@
+"""A listing of `exifnorm show` as fields that people can read, that a catalogue can keep, and that can be compared."""
+
+from __future__ import annotations
+
+import hashlib
+import json
+import re
+import zlib
+from typing import Dict, Iterator, List, NamedTuple, Optional, Tuple
+
+from .names import full_name
+from .texts import escaped
+
+LONGEST_TEXT = 400  # characters of a text that is shown whole
+LONGEST_BYTES = 32  # bytes that are shown in hexadecimal
+LONGEST_NUMBERS = 160  # characters of a list of numbers that is shown whole
+DIGITS = 32  # hexadecimal digits of SHA-256 that tell a value that is not shown whole
+
+_OCTETS = {"BYTE", "ASCII", "SBYTE", "UNDEFINED", "UTF8", "octets"}
+_WIDE_TEXTS = {"9c9b", "9c9c", "9c9d", "9c9e", "9c9f"}  # UTF-16, least significant byte first
+_COMMENTS = {"9286", "001b", "001c"}  # eight bytes that name a character set, and the text (CIPA DC-008 4.6.6)
+
+
+class Field(NamedTuple):
+    """One field: the directory, its tag or DataSet, its type word, how many elements, and its value as it is shown.
+
+    Two fields say the same exactly where they are equal, as far as SHA-256 tells the values apart that are too long to show.
+    """
+
+    where: str
+    key: str
+    type: str
+    elements: int
+    shown: str
+
+    @property
+    def name(self) -> str:
+        return full_name(self.where, self.key)
+
+
+_DIRECTORY = re.compile(r"\[(\w+)\]")
+_ENTRY = re.compile(r"([0-9a-f]{4}) (\w+) (\d+):(?: (.*))?")
+_DATASET = re.compile(r"(\d+:\d+) (\d+):(?: (.*))?")
+_PICTURE = re.compile(r"(jpeg|strip) (\d+):(?: (.*))?")
+
+
+def fields(listing: str) -> List[Field]:
+    """The fields of a listing, in its order.
+
+    >>> fields("exif\\n[main]\\n010f ASCII 4: 61626300\\n")
+    [Field(where='main', key='010f', type='ASCII', elements=4, shown='"abc"')]
+    """
+    return list(_fields(listing))
+
+
+def _fields(listing: str) -> Iterator[Field]:
+    where = "iptc"
+    for line in listing.splitlines():
+        if found := _DIRECTORY.fullmatch(line):
+            where = found[1]
+        elif found := _ENTRY.fullmatch(line):
+            key, kind, count, value = found[1], found[2], int(found[3]), found[4] or ""
+            yield Field(where, key, kind, count, _shown(where, key, kind, value))
+        elif found := _DATASET.fullmatch(line):
+            yield Field("iptc", found[1], "octets", int(found[2]), shown_octets(bytes.fromhex(found[3] or "")))
+        elif found := _PICTURE.fullmatch(line):
+            value = found[3] or ""
+            digest = hashlib.sha256(bytes.fromhex(value)).hexdigest()[:DIGITS]
+            yield Field("thumb", found[1], "octets", int(found[2]), f"sha256:{digest}")
+
+
+def _shown(where: str, key: str, kind: str, value: str) -> str:
+    if kind in _OCTETS:
+        octets = bytes.fromhex(value)
+        if where == "main" and key in _WIDE_TEXTS and (text := _wide_text(octets)) is not None:
+            return text
+        if key in _COMMENTS and (where == "gps" or key == "9286") and (text := _comment(octets)) is not None:
+            return text
+        return shown_octets(octets)
+    if len(value) <= LONGEST_NUMBERS:
+        return value
+    return f"{value[:60]}.. sha256:{hashlib.sha256(value.encode()).hexdigest()[:DIGITS]}"
+
+
+def shown_octets(octets: bytes) -> str:
+    """Octets as a text in quotes where they are one, else in hexadecimal; where they are many, their beginning and a digest."""
+    text = _plain_text(octets[:-1] if octets.endswith(b"\0") else octets)
+    if text is not None:
+        return f'"{text}"'
+    if len(octets) <= LONGEST_BYTES:
+        return f"0x{octets.hex()}"
+    return f"0x{octets[:8].hex()}.. sha256:{hashlib.sha256(octets).hexdigest()[:DIGITS]}"
+
+
+def _plain_text(octets: bytes) -> Optional[str]:
+    """The octets as an escaped text: UTF-8, all of it printable or the end of a line, and not too long."""
+    if not octets or len(octets) > 4 * LONGEST_TEXT:
+        return "" if not octets else None
+    try:
+        text = octets.decode("utf-8")
+    except UnicodeDecodeError:
+        return None
+    if len(text) > LONGEST_TEXT or not all(it.isprintable() or it in "\n\r\t" for it in text):
+        return None
+    return escaped(text).replace('"', '\\"')
+
+
+def _wide_text(octets: bytes) -> Optional[str]:
+    """A text of UTF-16 that gives its octets back, in quotes with a mark."""
+    try:
+        text = octets.decode("utf-16-le")
+    except UnicodeDecodeError:
+        return None
+    bare = text[:-1] if text.endswith("\0") else text
+    if not bare or len(bare) > LONGEST_TEXT or not all(it.isprintable() or it in "\n\r\t" for it in bare):
+        return None
+    return 'utf-16 "' + escaped(bare).replace('"', '\\"') + '"'
+
+
+def _comment(octets: bytes) -> Optional[str]:
+    """A text behind the eight bytes `ASCII\\0\\0\\0`."""
+    if octets[:8] != b"ASCII\0\0\0":
+        return None
+    text = _plain_text(octets[8:])
+    return None if text is None else f'ascii "{text}"'
+
+
+def thumbnail(listing: str) -> Optional[bytes]:
+    """The JPEG thumbnail that a listing holds."""
+    found = re.search(r"^jpeg \d+: ([0-9a-f]+)$", listing, re.MULTILINE)
+    return bytes.fromhex(found[1]) if found else None
+
+
+def shortened(shown: str) -> str:
+    """A shown value with the first twelve digits of its digest: short enough for a line, long enough to tell two apart."""
+    return re.sub(r"sha256:([0-9a-f]{12})[0-9a-f]+$", r"sha256:\1", shown)
+
+
+def readable(found: List[Field], kind: str) -> Iterator[str]:
+    """The lines of a readable listing: a line for each directory, and one for each field below it."""
+    yield f"{kind}:"
+    where = None
+    for it in found:
+        if it.where != where:
+            where = it.where
+            yield f"  [{where}]"
+        name = it.name.partition(":")[2]
+        count = f"{it.type.lower()}[{it.elements}]"
+        yield f"    {it.key:<6} {name:<28} {count:<14} {shortened(it.shown)}".rstrip()
+
+
+def packed(found: List[Field]) -> bytes:
+    """The fields as few bytes, for a catalogue."""
+    return zlib.compress(json.dumps(found, separators=(",", ":")).encode("ascii"), 6)
+
+
+def unpacked(octets: bytes) -> List[Field]:
+    """The fields that `packed` kept.
+
+    >>> some = [Field("main", "010f", "ASCII", 4, '"abc"')]
+    >>> unpacked(packed(some)) == some
+    True
+    """
+    return [Field(*it) for it in json.loads(zlib.decompress(octets))]
+
+
+class Change(NamedTuple):
+    """A field that two blocks say differently; `before` or `after` is missing where the field is."""
+
+    name: str
+    before: Optional[str]
+    after: Optional[str]
+
+    @property
+    def sign(self) -> str:
+        return "+" if self.before is None else "-" if self.after is None else "~"
+
+
+MAKER_NOTE = ("exif", "927c")
+
+
+def changes(before: List[Field], after: List[Field]) -> List[Change]:
+    """The fields that differ, by directory and tag; values of a DataSet that is repeated are compared as one list.
+
+    >>> old, new = [Field("main", "010f", "ASCII", 4, '"abc"')], [Field("main", "010f", "ASCII", 4, '"xyz"')]
+    >>> changes(old, new)
+    [Change(name='main:Make', before='"abc"', after='"xyz"')]
+    """
+    first, second = _by_name(before), _by_name(after)
+    found = []
+    for key in sorted(set(first) | set(second), key=_order):
+        one, other = first.get(key), second.get(key)
+        if one != other:
+            found.append(Change(full_name(*key), _one_line(one), _one_line(other)))
+    return found
+
+
+def only_maker_note(before: List[Field], after: List[Field]) -> bool:
+    """Whether two listings differ in the MakerNote alone."""
+    return [it for it in before if it[:2] != MAKER_NOTE] == [it for it in after if it[:2] != MAKER_NOTE] and before != after
+
+
+_PLACES = ["main", "exif", "interop", "gps", "thumb", "iptc"]
+
+
+def _order(key: Tuple[str, str]) -> Tuple[int, Tuple[int, ...]]:
+    where, tag = key
+    number: Tuple[int, ...]
+    if ":" in tag:
+        number = tuple(int(it) for it in tag.split(":"))
+    else:
+        number = (int(tag, 16),) if re.fullmatch("[0-9a-f]{4}", tag) else (1 << 16,)  # a thumbnail, behind all tags
+    return (_PLACES.index(where) if where in _PLACES else len(_PLACES), number)
+
+
+_Value = Tuple[str, int, str]  # type, elements, as it is shown
+
+
+def _by_name(found: List[Field]) -> Dict[Tuple[str, str], List[_Value]]:
+    result: Dict[Tuple[str, str], List[_Value]] = {}
+    for it in found:
+        result.setdefault((it.where, it.key), []).append((it.type, it.elements, it.shown))
+    return result
+
+
+def _one_line(values: Optional[List[_Value]]) -> Optional[str]:
+    if values is None:
+        return None
+    return ", ".join(_with_type(*it) for it in values)
+
+
+def _with_type(kind: str, count: int, shown: str) -> str:
+    return shortened(shown) if kind in ("ASCII", "octets") else f"{kind.lower()}[{count}] {shortened(shown)}"

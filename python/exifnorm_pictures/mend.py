@@ -1,0 +1,156 @@
+"""`mend`: a copy of a picture whose blocks are accepted, by the gentlest remedy that works. The picture is never touched."""
+
+from __future__ import annotations
+
+import os
+import re
+import shutil
+import tempfile
+from collections import Counter
+from dataclasses import dataclass, field
+from typing import Callable, Dict, List, Optional, Tuple
+
+from . import tools
+from .engine import ACCEPTED, judge
+from .extraction import Taken, take_one
+
+COPY, NONE = "copy", "none"
+STEPS = ("touch", "exiv2", "rebuild")
+STEP_WORDS = {
+    COPY: "nothing was to be mended: a plain copy",
+    "touch": "ExifTool added a field and took it away",
+    "exiv2": "exiv2 added a field and took it away",
+    "rebuild": "ExifTool wrote all tags that it knows into a new block",
+    NONE: "no remedy helped",
+}
+
+
+class NotWritten(Exception):
+    """The copy can't be written: it is there already, or the file system refused."""
+
+
+@dataclass
+class Mended:
+    """What was done: the refusals before, the step that helped, and the printed values that were lost or changed."""
+
+    step: str
+    before: Dict[str, str]
+    lost: List[str] = field(default_factory=list)
+    gained: List[str] = field(default_factory=list)
+    problem: str = ""
+
+
+def mend(picture: bytes, out: bytes) -> Mended:
+    """Writes a copy with accepted blocks to `out`, which must not be there; raises `NotWritten`, `tools.Missing`.
+
+    The steps are tried in the order of `STEPS`. The first that changes no printed value is taken, otherwise the one that loses
+    fewest, and of these the one that adds fewest. What ExifTool prints is compared, without offsets.
+    """
+    tools.needed("exiftool")
+    if os.path.lexists(out):
+        raise NotWritten("the copy is there already")
+    taken = take_one(picture)
+    if taken.problem:
+        return Mended(NONE, {}, problem=f"{taken.problem}: {taken.detail}")
+    before = _refusals(taken)
+    with tempfile.TemporaryDirectory(prefix="exifnorm-") as room:
+        if not before:
+            _copy(picture, out)
+            return Mended(COPY, {})
+        best = _best(picture, room)
+        if best is None:
+            return Mended(NONE, before)
+        step, made, lost, gained = best
+        _copy(os.fsencode(made), out)
+        return Mended(step, before, lost, gained)
+
+
+def _refusals(taken: Taken) -> Dict[str, str]:
+    judged = [judge(kind, block) for kind, block in taken.blocks()]
+    return {it.kind: it.line for it in judged if it.status != ACCEPTED}
+
+
+Result = Tuple[str, str, List[str], List[str]]
+
+
+def _best(picture: bytes, room: str) -> Optional[Result]:
+    extension = re.search(rb"\.[A-Za-z0-9]{1,8}\Z", picture)
+    suffix = extension[0].decode("ascii") if extension else ""
+    first = os.path.join(room, "first" + suffix)
+    _copy(picture, os.fsencode(first))
+    said = _printed(first)
+    best: Optional[Result] = None
+    for step in STEPS:
+        made = os.path.join(room, step + suffix)
+        shutil.copyfile(first, made)
+        if not _REMEDIES[step](made):
+            continue
+        taken = take_one(os.fsencode(made))
+        if taken.problem or _refusals(taken):
+            continue
+        after = _printed(made)
+        lost, gained = sorted((said - after).elements()), sorted((after - said).elements())
+        if best is None or (len(lost), len(gained)) < (len(best[2]), len(best[3])):
+            best = (step, made, lost, gained)
+        if not lost and not gained:
+            break
+    return best
+
+
+def _copy(source: bytes, target: bytes) -> None:
+    try:
+        with open(source, "rb") as given, open(target, "xb") as made:
+            shutil.copyfileobj(given, made)
+    except OSError as error:
+        raise NotWritten(error.strerror or str(error)) from error
+
+
+_FREE = ("PageName", "DocumentName", "HostComputer")
+
+
+def _free_field(name: str) -> Optional[str]:
+    """A field of the main directory that the picture doesn't have, so that adding and taking it away changes none."""
+    said = tools.run([tools.needed("exiftool"), "-q", "-q", "-m", "-s", *(f"-IFD0:{it}" for it in _FREE), name]).stdout
+    there = {line.split(b":")[0].strip().decode("ascii", "replace") for line in said.split(b"\n")}
+    return next((it for it in _FREE if it not in there), None)
+
+
+def _touch(name: str) -> bool:
+    """A field of each kind added and taken away, so that both blocks are written anew."""
+    free = _free_field(name)
+    if free is None:
+        return False
+    adding, taking = [f"-IFD0:{free}=zz"], [f"-IFD0:{free}="]
+    if tools.run([tools.needed("exiftool"), "-q", "-q", "-m", "-b", "-IPTC", name]).stdout:
+        adding.append("-IPTC:SubjectReference+=exifnorm:01000000:mend")
+        taking.append("-IPTC:SubjectReference-=exifnorm:01000000:mend")
+    call = [tools.needed("exiftool"), "-q", "-q", "-m", "-overwrite_original"]
+    return tools.run([*call, *adding, name]).returncode == 0 and tools.run([*call, *taking, name]).returncode == 0
+
+
+def _by_exiv2(name: str) -> bool:
+    free = _free_field(name)
+    if free is None or not tools.is_there("exiv2"):
+        return False
+    call = [tools.needed("exiv2"), "-q", "-Q", "m"]
+    added = tools.run([*call, "-M", f"set Exif.Image.{free} Ascii zz", name])
+    return added.returncode == 0 and tools.run([*call, "-M", f"del Exif.Image.{free}", name]).returncode == 0
+
+
+def _rebuild(name: str) -> bool:
+    words = ["-q", "-q", "-m", "-overwrite_original", "-all=", "-tagsfromfile", "@", "-all:all", "-unsafe", name]
+    return tools.run([tools.needed("exiftool"), *words]).returncode == 0
+
+
+_REMEDIES: Dict[str, Callable[[str], bool]] = {"touch": _touch, "exiv2": _by_exiv2, "rebuild": _rebuild}
+
+_OFFSETS = re.compile(rb"Offset|Start |Padding|IPTCDigest")
+
+
+def _printed(name: str) -> "Counter[str]":
+    """All values that ExifTool prints, without those that say where something stands."""
+    words = ["-q", "-q", "-m", "-a", "-u", "-s", "-G1", "-x", "System:all", "-x", "File:all", "-x", "Composite:all"]
+    said = tools.run([tools.needed("exiftool"), *words, "-x", "ExifTool:all", "-x", "JFIF:all", name]).stdout
+    lines = [it for it in said.split(b"\n") if it and not _OFFSETS.search(it)]
+    cleaned = (re.sub(rb", use -b.*", b"", it).decode("utf-8", "backslashreplace") for it in lines)
+    return Counter(re.sub(r"\s+", " ", it) for it in cleaned)

@@ -1,0 +1,48 @@
+"""Names of files and texts of pictures as one safe line: nothing in them can steer a terminal or end a line."""
+
+from __future__ import annotations
+
+import os
+from typing import Any, Dict, Union
+
+Members = Dict[str, Any]  # of a JSON object
+
+
+def escaped(text: str) -> str:
+    r"""The text with the backslash, control characters, undecodable bytes and what isn't printable escaped.
+
+    >>> escaped("a\nb\\c"), escaped(os.fsdecode(b"x\xff"))
+    ('a\\nb\\\\c', 'x\\xff')
+    """
+    if text.isascii() and text.isprintable() and "\\" not in text:
+        return text
+    return "".join(_escaped_character(it) for it in text)
+
+
+_SHORT = {"\n": "\\n", "\r": "\\r", "\t": "\\t", "\\": "\\\\"}
+
+
+def _escaped_character(character: str) -> str:
+    if character in _SHORT:
+        return _SHORT[character]
+    number = ord(character)
+    if 0xDC80 <= number <= 0xDCFF:  # a byte that is no UTF-8, as Python keeps it in a file name
+        return f"\\x{number - 0xDC00:02x}"
+    if character.isprintable():
+        return character
+    if number < 0x100:
+        return f"\\x{number:02x}"
+    return f"\\u{number:04x}" if number < 0x10000 else f"\\U{number:08x}"
+
+
+def shown_path(path: Union[bytes, str]) -> str:
+    """The name of a file in one line; two names never look alike."""
+    return escaped(os.fsdecode(path))
+
+
+def path_members(path: bytes) -> Members:
+    """The members of a JSON object for a path: `path`, and `path_hex` where the name is no UTF-8."""
+    try:
+        return {"path": path.decode("utf-8")}
+    except UnicodeDecodeError:
+        return {"path": shown_path(path), "path_hex": path.hex()}

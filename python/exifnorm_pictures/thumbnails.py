@@ -1,0 +1,55 @@
+"""Small pictures for the report: embedded thumbnails, or pictures that are small by themselves, as data URIs of bounded size."""
+
+from __future__ import annotations
+
+import base64
+import os
+from typing import Dict, Optional, Sequence
+
+import exifnorm
+
+from . import engine, extraction, tools
+from .listing import thumbnail
+
+LARGEST = 32_768  # bytes of one small picture
+MOST = 2_000_000  # bytes of all small pictures of a page
+
+_BEGINNINGS = ((b"\xff\xd8\xff", "image/jpeg"), (b"\x89PNG\r\n\x1a\n", "image/png"), (b"GIF8", "image/gif"))
+
+
+def small_pictures(paths: Sequence[bytes]) -> Dict[bytes, str]:
+    """A data URI for each of these pictures that has a small picture, up to the bound; the pictures are read anew."""
+    found: Dict[bytes, str] = {}
+    if not paths or not tools.is_there("exiftool"):
+        return found
+    left = MOST
+    for taken in extraction.take(paths):
+        octets = _embedded(taken.exif) or _by_itself(taken.path)
+        kind = _kind(octets) if octets else None
+        if octets and kind and len(octets) <= min(LARGEST, left):
+            left -= len(octets)
+            found[taken.path] = f"data:{kind};base64,{base64.b64encode(octets).decode('ascii')}"
+    return found
+
+
+def _kind(octets: bytes) -> Optional[str]:
+    return next((kind for beginning, kind in _BEGINNINGS if octets.startswith(beginning)), None)
+
+
+def _embedded(block: Optional[bytes]) -> Optional[bytes]:
+    if not block:
+        return None
+    try:
+        return thumbnail(engine.listing(block))
+    except (exifnorm.Refused, MemoryError):
+        return None
+
+
+def _by_itself(path: bytes) -> Optional[bytes]:
+    try:
+        if os.path.getsize(path) > LARGEST:
+            return None
+        with open(path, "rb") as file:
+            return file.read(LARGEST)
+    except OSError:
+        return None

@@ -1,0 +1,221 @@
+"""Makes pictures as users have them, by the tools that they use, and runs commands on them."""
+
+import base64
+import os
+import shutil
+import struct
+import subprocess
+import sys
+import tempfile
+import threading
+import unittest
+
+from made_blocks import BLOCKS, with_exif, with_iptc
+
+HERE = os.path.dirname(os.path.abspath(__file__))
+TOP = os.path.dirname(os.path.dirname(HERE))
+
+# 24 x 16 points, where ImageMagick isn't installed
+SMALL_JPEG = base64.b64decode(
+    "/9j/4AAQSkZJRgABAQAAAQABAAD/2wBDAA0JCgsKCA0LCgsODg0PEyAVExISEyccHhcgLikxMC4pLSwzOko+MzZGNywtQFdBRkxOUlNSMj5aYV"
+    "pQYEpRUk//2wBDAQ4ODhMREyYVFSZPNS01T09PT09PT09PT09PT09PT09PT09PT09PT09PT09PT09PT09PT09PT09PT09PT09PT0//wAARCAAQ"
+    "ABgDASIAAhEBAxEB/8QAFgABAQEAAAAAAAAAAAAAAAAAAAQG/8QAFhABAQEAAAAAAAAAAAAAAAAAABNh/8QAFQEBAQAAAAAAAAAAAAAAAAAAAA"
+    "X/xAAWEQADAAAAAAAAAAAAAAAAAAAAFWH/2gAMAwEAAhEDEQA/AMxbS2oLFlhDC+6pfbRBYEMDqn//2Q=="
+)
+
+IIM_CAUSES = ("NoMarker", "LengthForm", "DataSetCut")
+PROGRAMS = {"exiftool": "libimage-exiftool-perl", "exiv2": "exiv2", "convert": "imagemagick", "chromium": "chromium",
+            "parallel": "parallel", "sqlite3": "sqlite3", "perl": "perl"}  # fmt: skip
+MODULES = {"piexif": "python3-piexif", "distributed": "python3-distributed", "PIL": "python3-pil"}
+
+
+def interpreter_with(module):
+    """A Python that can import a module: this one, or Debian's."""
+    for python in (sys.executable, "/usr/bin/python3"):
+        if os.path.exists(python) and not subprocess.run([python, "-c", f"import {module}"], capture_output=True).returncode:
+            return python
+    return None
+
+
+class Studio:
+    """The folder with the commands that the documents name, and how they are run."""
+
+    program = os.path.join(TOP, "crates", "px_cli", "out", "px_cli")
+    room = ""
+    _lock = threading.Lock()
+    _made = {}
+
+    @classmethod
+    def open(cls, program):
+        cls.program = os.path.abspath(program or cls.program)
+        cls.room = tempfile.mkdtemp(prefix="exifnorm-pictures-")
+        built = os.path.join(TOP, "out", "lib", "libexifnorm.so.1")
+        if os.path.exists(built):
+            os.environ.setdefault("EXIFNORM_LIBRARY", built)
+        os.mkdir(os.path.join(cls.room, "bin"))
+        cls.wrapper("exifnorm", f'exec "{cls.program}" "$@"')
+        cls.wrapper("exifnorm-pictures", f'exec "{sys.executable}" -m exifnorm_pictures "$@"')
+        cls.wrapper("python3", f'exec "{interpreter_with("distributed") or sys.executable}" "$@"')
+
+    @classmethod
+    def close(cls):
+        shutil.rmtree(cls.room, ignore_errors=True)
+
+    @classmethod
+    def wrapper(cls, name, line):
+        path = os.path.join(cls.room, "bin", name)
+        with open(path, "w") as file:
+            file.write(f"#!/bin/sh\n{line}\n")
+        os.chmod(path, 0o755)
+
+    @classmethod
+    def environment(cls, **more):
+        path = os.path.join(cls.room, "bin") + os.pathsep + os.environ.get("PATH", "")
+        python = os.path.join(TOP, "python") + os.pathsep + os.environ.get("PYTHONPATH", "")
+        own = {"PATH": path, "PYTHONPATH": python, "PYTHONDONTWRITEBYTECODE": "1", "TMPDIR": cls.room}
+        return {**os.environ, **own, **more}
+
+    @classmethod
+    def once(cls, name, make):
+        """A folder that is made by the first test that needs it; tests leave it as it is."""
+        with cls._lock:
+            if name not in cls._made:
+                folder = os.path.join(cls.room, name)
+                os.mkdir(folder)
+                make(folder)
+                cls._made[name] = folder
+        return cls._made[name]
+
+
+def run(words, folder, given=None, seconds=120, **more):
+    """Runs a command; words and folder may be bytes."""
+    environment = Studio.environment(**more)
+    found = shutil.which(os.fsdecode(words[0]), path=environment["PATH"]) or words[0]
+    return subprocess.run([found, *words[1:]], cwd=folder, input=given, capture_output=True, timeout=seconds, env=environment,
+                          stdin=subprocess.DEVNULL if given is None else None)  # fmt: skip
+
+
+def write(path, octets):
+    with open(path, "wb") as file:
+        file.write(octets)
+
+
+def read(path):
+    with open(path, "rb") as file:
+        return file.read()
+
+
+def tool(folder, *words):
+    """Runs a tool that has to do its work."""
+    done = run(list(words), folder)
+    if done.returncode:
+        raise AssertionError(f"{words}: {done.returncode} {done.stderr.decode(errors='replace')}")
+    return done.stdout
+
+
+def jpeg(folder, name, size="96x72"):
+    path = os.path.join(folder, name)
+    if shutil.which("convert"):
+        tool(folder, "convert", "-size", size, "plasma:tomato-steelblue", "-strip", "-quality", "60", path)
+    else:
+        write(path, SMALL_JPEG)
+    return path
+
+
+def make_collection(folder):
+    """What the documents' commands run on, and most tests."""
+    pictures = os.path.join(folder, "pictures")
+    os.makedirs(os.path.join(pictures, "sub"))
+    first = jpeg(pictures, "first.jpg")
+    small = jpeg(folder, "small.jpg", "40x30")
+    fields = ["-ExifByteOrder=II", "-Make=Leica", "-Artist=Zürich", "-UserComment=a comment", "-IPTC:Keywords=one", "-IPTC:Keywords=two"]
+    tool(folder, "exiftool", "-q", "-overwrite_original", *fields, "-IPTC:CodedCharacterSet=UTF8",
+         "-IPTC:Caption-Abstract=Zürich", f"-ThumbnailImage<={small}", first)  # fmt: skip
+    shutil.copy(first, os.path.join(pictures, "sub", "copy.jpg"))
+    turned = os.path.join(pictures, "turned.jpg")  # says the same in other bytes
+    shutil.copy(first, turned)
+    write(os.path.join(folder, "normal"), run(["exifnorm"], folder, tool(folder, "exiftool", "-b", "-Exif", first)).stdout)
+    tool(folder, "exiftool", "-q", "-overwrite_original", f"-Exif<={os.path.join(folder, 'normal')}", turned)
+    os.remove(os.path.join(folder, "normal"))
+    write(os.path.join(pictures, "refused.jpg"), with_exif(read(small), BLOCKS["Overlap"]()))
+    write(os.path.join(pictures, "notes.txt"), b"no picture\n")
+    write(os.path.join(pictures, "bare.jpg"), read(small))
+    if shutil.which("convert"):
+        tool(folder, "convert", small, os.path.join(pictures, "scan.tif"))
+    else:
+        write(os.path.join(pictures, "scan.tif"), small_tiff())
+    tool(folder, "exiftool", "-q", "-overwrite_original", "-Artist=Someone", os.path.join(pictures, "scan.tif"))
+    for name, source in (("picture.jpg", "first.jpg"), ("picture.tif", "scan.tif"), ("refused.jpg", "refused.jpg")):
+        shutil.copy(os.path.join(pictures, source), os.path.join(folder, name))
+
+
+def small_tiff():
+    """One grey point."""
+    values = [(0x100, 4, 1), (0x101, 4, 1), (0x102, 3, 8 << 16), (0x103, 3, 1 << 16), (0x106, 3, 1 << 16), (0x111, 4, 8),
+              (0x115, 3, 1 << 16), (0x116, 4, 1), (0x117, 4, 1)]  # fmt: skip
+    table = struct.pack(">H", len(values)) + b"".join(struct.pack(">HHII", tag, kind, 1, value) for tag, kind, value in values)
+    return b"MM\0*\0\0\0\x0a\x80\0" + table + bytes(4)
+
+
+def make_refused(folder):
+    """A picture for each cause that fits into a JPEG."""
+    base = SMALL_JPEG
+    for cause, block in BLOCKS.items():
+        octets = block()
+        write(os.path.join(folder, cause + ".block"), octets)
+        if len(octets) < 60000:
+            write(os.path.join(folder, cause + ".jpg"), (with_iptc if cause in IIM_CAUSES else with_exif)(base, octets))
+
+
+def make_many(folder):
+    """2,000 pictures, edited by one ExifTool."""
+    first = jpeg(folder, "p0000.jpg", "32x24")
+    for number in range(1, 2000):
+        shutil.copyfile(first, os.path.join(folder, f"p{number:04d}.jpg"))
+    words = ["-Make=Leica", "-IPTC:Keywords=many", "-ImageDescription<${FileName;s/.\\.jpg//}", "-UserComment=comment"]
+    tool(folder, "exiftool", "-q", "-overwrite_original", *words, folder)
+
+
+def collection():
+    return Studio.once("collection", make_collection)
+
+
+def refused():
+    return Studio.once("refused", make_refused)
+
+
+def many():
+    return Studio.once("many", make_many)
+
+
+def needs(*names):
+    """Skips a test, by name, where a program or module isn't installed."""
+    lacking = [f"{it} (package {PROGRAMS[it]})" for it in names if it in PROGRAMS and not shutil.which(it)]
+    lacking += [f"{it} (package {MODULES[it]})" for it in names if it in MODULES and not interpreter_with(it)]
+    return unittest.skipIf(lacking, "not installed: " + ", ".join(lacking))
+
+
+class WithPictures(unittest.TestCase):
+    """A test with a folder of its own."""
+
+    def setUp(self):
+        self.folder = tempfile.mkdtemp(dir=Studio.room)
+
+    def tearDown(self):
+        shutil.rmtree(self.folder, ignore_errors=True)
+
+    def copied(self, source):
+        """The folder's own copy of a made one."""
+        shutil.copytree(source, self.folder, dirs_exist_ok=True, symlinks=True)
+        return self.folder
+
+    def path(self, *names):
+        return os.path.join(self.folder, *names)
+
+    def asked(self, *words, status=0, given=None, folder=None, **more):
+        """Runs exifnorm-pictures, which must end with this status; its lines."""
+        done = run(["exifnorm-pictures", *words], folder or self.folder, given, **more)
+        said = done.stdout.decode("utf-8", "surrogateescape"), done.stderr.decode("utf-8", "replace")
+        self.assertEqual(done.returncode, status, f"{words}\n{said[0]}\n{said[1]}")
+        self.complaint = said[1]
+        return said[0].splitlines()

@@ -1,0 +1,318 @@
+"""Each command, as a user calls it."""
+
+import json
+import os
+import shutil
+import sqlite3
+
+from made_blocks import BLOCKS, LONG, MAKE, UNDEFINED, block, entry, table, with_exif, with_iptc
+from studio import SMALL_JPEG, WithPictures, collection, needs, read, refused, run, tool, write
+
+
+def with_maker_note(note):
+    """A JPEG whose Exif directory holds a MakerNote of these octets."""
+    octets = block([MAKE, entry(0x8769, LONG, 1, 38)]) + table([entry(0x927C, UNDEFINED, len(note), 56)]) + note
+    return with_exif(SMALL_JPEG, octets)
+
+
+@needs("exiftool")
+class Index(WithPictures):
+    @needs("exiv2")
+    def test_every_picture_is_kept_with_its_status(self):
+        self.copied(collection())
+        lines = self.asked("index", "pictures", "--catalogue", "c")
+        self.assertEqual(lines[-1], "4 accepted, 1 NoPicture, 1 no block, 1 refused")
+        self.assertIn(": Exif: refused: Overlap at 34", lines[0])
+        self.assertIn("7 of 7 pictures, 0 left", self.complaint)
+        self.assertEqual([it for it in os.listdir(self.folder) if it.startswith("c")], ["c"])
+        base = sqlite3.connect(self.path("c"))
+        rows = base.execute("SELECT path, problem, type, cause, place, digest FROM pictures LEFT JOIN blocks ON picture = id").fetchall()
+        by_name = {}
+        for path, *row in rows:
+            by_name.setdefault(os.path.basename(bytes(path)).decode(), []).append(row)
+        self.assertEqual(by_name["refused.jpg"], [[None, "JPEG", "Overlap", 34, None]])
+        self.assertEqual(by_name["notes.txt"][0][:2], ["NoPicture", "TXT"])
+        self.assertEqual(by_name["bare.jpg"], [[None, "JPEG", None, None, None]])
+        self.assertEqual([it[1] for it in by_name["first.jpg"]], ["JPEG", "JPEG"])
+        self.assertTrue(by_name["scan.tif"][0][4], "the block of a TIFF is taken through exiv2")
+
+    def test_digest_is_that_of_the_normal_form(self):
+        self.copied(collection())
+        self.asked("index", "pictures", "--catalogue", "c", "--quiet")
+        write(self.path("block"), tool(self.folder, "exiftool", "-b", "-Exif", "pictures/first.jpg"))
+        self.assertEqual(run(["exifnorm", "normalise", "block", "normal"], self.folder).returncode, 0)
+        due = tool(self.folder, "sha256sum", "normal").split()[0].decode()
+        query = "SELECT digest FROM blocks JOIN pictures ON id = picture WHERE kind = 'exif' AND CAST(path AS TEXT) LIKE '%first.jpg'"
+        self.assertEqual(sqlite3.connect(self.path("c")).execute(query).fetchone()[0], due)
+
+    def test_second_run_looks_at_changes_alone(self):
+        self.copied(collection())
+        self.asked("index", "pictures", "--catalogue", "c", "--quiet")
+        lines = self.asked("index", "pictures", "--catalogue", "c")
+        self.assertEqual(lines, ["7 unchanged"] if shutil.which("exiv2") else lines)
+        tool(self.folder, "exiftool", "-q", "-overwrite_original", "-Artist=Other", "pictures/first.jpg")
+        os.remove(self.path("pictures", "bare.jpg"))
+        shutil.copy(self.path("picture.jpg"), self.path("pictures", "new.jpg"))
+        lines = self.asked("index", "pictures", "--catalogue", "c", "--keep-old", "old", "--json", "--quiet")
+        told = [json.loads(it) for it in lines]
+        names = sorted(os.path.basename(it["path"]) for it in told if "path" in it and it.get("problem") != "NeedsExiv2")
+        self.assertEqual(names, ["bare.jpg", "first.jpg", "new.jpg"])
+        self.assertEqual(told[-1]["counts"]["Vanished"], 1)
+        changed = self.asked("changed", "old", "c", status=1)
+        self.assertEqual(changed[0], "bare.jpg: missing after")
+        self.assertEqual(changed[1:3], ["first.jpg: different", '  ~ main:Artist: "Zürich" -> "Other"'])
+        self.assertEqual(changed[3], "new.jpg: missing before")
+
+    def test_again_looks_at_all(self):
+        self.copied(collection())
+        self.asked("index", "pictures/first.jpg", "--catalogue", "c", "--quiet")
+        self.assertEqual(self.asked("index", "pictures/first.jpg", "--catalogue", "c", "--quiet", "--again"), ["1 accepted"])
+
+    def test_names_from_standard_input(self):
+        self.copied(collection())
+        write(self.path("pictures", "new\nline.jpg"), read(self.path("picture.jpg")))
+        names = b"pictures/first.jpg\0pictures/new\nline.jpg\0"
+        self.assertEqual(self.asked("index", "--catalogue", "c", "--files-from", "-", "-0", "--quiet", given=names), ["2 accepted"])
+        by_line = self.asked("index", "--catalogue", "d", "--files-from", "-", "--quiet", given=b"pictures/first.jpg\n")
+        self.assertEqual(by_line, ["1 accepted"])
+
+    def test_what_is_no_catalogue_is_told(self):
+        self.copied(collection())
+        self.asked("index", "pictures", "--catalogue", "picture.jpg", status=4)
+        self.assertIn("is no catalogue", self.complaint)
+        self.asked("same", "--catalogue", "nothing", status=4)
+        self.assertIn("there is no catalogue", self.complaint)
+        sqlite3.connect(self.path("other")).executescript("CREATE TABLE x (y);")
+        self.asked("index", "pictures", "--catalogue", "other", status=4)
+
+
+@needs("exiftool")
+class SameAndChanged(WithPictures):
+    def test_groups_also_where_bytes_differ(self):
+        self.copied(collection())
+        self.asked("index", "pictures", "--catalogue", "c", "--quiet")
+        found = [json.loads(it) for it in self.asked("same", "--catalogue", "c", "--json")]
+        self.assertEqual(len(found), 1)
+        names = [os.path.basename(it["path"]) for it in found[0]["pictures"]]
+        self.assertEqual((sorted(names), found[0]["same_bytes"]), (["copy.jpg", "first.jpg", "turned.jpg"], False))
+        lines = self.asked("same", "--catalogue", "c", "--kind", "iim")
+        self.assertEqual(len(lines), 4)
+        named = os.fsencode(self.path("pictures", "first.jpg"))
+        self.assertEqual(self.asked("same", "--catalogue", "c", "--files-from", "-", given=named), [])
+
+    def test_only_maker_note(self):
+        for side, note in (("before", b"Maker one"), ("after", b"Maker two")):
+            os.mkdir(self.path(side))
+            write(self.path(side, "a.jpg"), with_maker_note(note))
+            write(self.path(side, "b.jpg"), with_maker_note(b"the same"))
+        lines = self.asked("changed", "before", "after", status=1)
+        self.assertEqual(lines[0], "a.jpg: only MakerNote differs")
+        self.assertEqual(lines[-1], "1 same, 1 only MakerNote differs")
+
+    def test_refused_in_the_same_bytes_is_no_change(self):
+        for side in ("before", "after"):
+            os.mkdir(self.path(side))
+            write(self.path(side, "a.jpg"), with_exif(SMALL_JPEG, BLOCKS["Overlap"]()))
+        self.assertEqual(self.asked("changed", "before", "after"), ["1 refused, the same bytes"])
+        write(self.path("after", "a.jpg"), with_exif(SMALL_JPEG, BLOCKS["Doubled"]()))
+        lines = self.asked("changed", "before", "after", status=1)
+        self.assertEqual(lines[0], "a.jpg: refused (Exif: before Overlap at 34, after Doubled at 34)")
+
+    def test_a_block_that_came(self):
+        for side in ("before", "after"):
+            os.mkdir(self.path(side))
+            write(self.path(side, "a.jpg"), SMALL_JPEG)
+        tool(self.folder, "exiftool", "-q", "-overwrite_original", "-IPTC:Keywords=one", "after/a.jpg")
+        found = [json.loads(it) for it in self.asked("changed", "before", "after", "--json", status=1)]
+        self.assertEqual((found[0]["result"], found[0]["note"]), ("different", "no IPTC block before"))
+        self.assertIn({"name": "iptc:Keywords", "before": None, "after": '"one"'}, found[0]["fields"])
+
+    def test_the_same_folder_twice(self):
+        self.copied(collection())
+        lines = self.asked("changed", "pictures", "pictures", "--all", status=0 if shutil.which("exiv2") else 1)
+        self.assertEqual(len(lines), 8)
+
+
+@needs("exiftool")
+class ShowAndCaptions(WithPictures):
+    def test_listing_is_readable(self):
+        self.copied(collection())
+        lines = [it.split(None, 2) for it in self.asked("show", "picture.jpg")]
+        self.assertIn(["013b", "Artist", 'ascii[8]       "Zürich"'], lines)
+        self.assertIn(["2:25", "Keywords", 'octets[3]      "one"'], lines)
+        self.assertIn("ascii \"a comment\"", "\n".join(self.asked("show", "picture.jpg")))
+        thumbnail = [it for it in lines if it[0] == "jpeg"]
+        self.assertRegex(thumbnail[0][2], r"thumbnail +octets\[\d+\] +sha256:[0-9a-f]{12}$")
+
+    def test_captions_are_texts(self):
+        self.copied(collection())
+        lines = self.asked("captions", "picture.jpg")
+        self.assertIn("caption: Zürich", lines)
+        self.assertIn("artist: Zürich   (guessed: UTF-8)", lines)
+        self.assertIn("keyword: one", lines)
+        found = [json.loads(it) for it in self.asked("captions", "--json", "picture.jpg")]
+        self.assertIn({"label": "caption", "text": "Zürich"}, found[1]["captions"])
+
+    def test_control_characters_stay_escaped(self):
+        octets = b"\x1c\x02\x78\x00\x07a\x1b[2Jb\n"
+        write(self.path("a.jpg"), with_iptc(SMALL_JPEG, octets))
+        self.assertEqual(self.asked("captions", "a.jpg"), ["caption: a\\x1b[2Jb\\n"])
+        self.assertIn("0x611b5b324a620a", self.asked("show", "a.jpg")[-1])
+
+    def test_several_pictures_and_worst_status(self):
+        self.copied(collection())
+        lines = self.asked("show", "picture.jpg", "refused.jpg", status=2)
+        self.assertIn("== picture.jpg", lines)
+        self.assertEqual(lines[-1], "exif: refused: Overlap at 34")
+        lines = self.asked("show", "nothing.jpg", "picture.jpg", status=4)
+        self.assertIn("Vanished: there is no such file any more", lines)
+        self.assertEqual(self.asked("captions", "small.jpg"), ["no Exif or IPTC block"])
+
+    @needs("exiv2")
+    def test_tiff(self):
+        self.copied(collection())
+        self.assertTrue(any(it.split()[1:2] == ["Artist"] for it in self.asked("show", "picture.tif")))
+
+
+class Explain(WithPictures):
+    def test_each_cause(self):
+        folder = refused()
+        for cause in BLOCKS:
+            with self.subTest(cause):
+                found = [json.loads(it) for it in self.asked("explain", "--block", "--json", cause + ".block", folder=folder, status=2)]
+                self.assertEqual(found[0]["cause"], cause)
+                self.assertTrue(all(found[0][it] for it in ("sentence", "meaning", "here", "remedy", "cost")), found[0])
+                lines = self.asked("explain", "--block", cause + ".block", folder=folder, status=2)
+                self.assertTrue(any("^^ " in it for it in lines) or cause in ("TooLong", "UnknownKind"), lines)
+
+    def test_both_owners_of_shared_bytes(self):
+        lines = "\n".join(self.asked("explain", "--block", "Overlap.block", folder=refused(), status=2))
+        self.assertIn("entry 3: Software (0131) of the main directory (0th IFD), ASCII, count 8, last field 66", lines)
+        self.assertIn("Both own bytes 66 to 69", lines)
+        self.assertIn("the value of Model (0110)", lines)
+
+    def test_what_else_the_file_is(self):
+        write(self.path("whole"), SMALL_JPEG)
+        write(self.path("empty"), b"")
+        self.assertIn("whole JPEG", "\n".join(self.asked("explain", "--block", "whole", status=2)))
+        self.assertIn("The block is empty", "\n".join(self.asked("explain", "--block", "empty", status=2)))
+
+    @needs("exiftool")
+    def test_of_a_picture(self):
+        self.copied(collection())
+        self.assertEqual(self.asked("explain", "refused.jpg", status=2)[0], "exif: refused: Overlap at 34")
+        self.assertEqual(self.asked("explain", "picture.jpg"), ["exif: ok exif", "iim: ok iim"])
+
+    def test_damaged_blocks_never_fail(self):
+        good = BLOCKS["Overlap"]()
+        for at in range(0, len(good), 3):
+            write(self.path(f"{at:03}"), good[:at] + bytes([255 - good[at]]) + good[at + 1 :])
+            write(self.path(f"{at:03}-cut"), good[:at])
+        done = run(["exifnorm-pictures", "explain", "--block", *sorted(os.listdir(self.folder))], self.folder)
+        self.assertEqual((done.returncode, done.stderr), (2, b""))
+
+
+@needs("exiftool")
+class Mend(WithPictures):
+    def mended(self, name, *, step, status=0):
+        before = read(os.path.join(refused(), name))
+        found = json.loads(self.asked("mend", "--json", os.path.join(refused(), name), "out.jpg", status=status)[0])
+        self.assertEqual(found["step"], step)
+        self.assertEqual(read(os.path.join(refused(), name)), before)
+        self.asked("explain", "out.jpg")
+        return found
+
+    def test_touch(self):
+        self.assertEqual(self.mended("Overlap.jpg", step="touch")["lost"], [])
+
+    @needs("exiv2")
+    def test_exiv2(self):
+        self.assertEqual(self.mended("DataSetCut.jpg", step="exiv2")["lost"], [])
+
+    def test_rebuild_tells_what_is_lost(self):
+        found = self.mended("Doubled.jpg", step="rebuild", status=1)
+        self.assertEqual(found["lost"], ["[IFD0] Orientation : Rotate 90 CW"])
+
+    def test_each_cause_that_a_jpeg_can_have(self):
+        for name in sorted(it for it in os.listdir(refused()) if it.endswith(".jpg")):
+            with self.subTest(name):
+                done = run(["exifnorm-pictures", "mend", os.path.join(refused(), name), name], self.folder)
+                self.assertIn(done.returncode, (0, 1), done.stdout)
+                self.asked("explain", name)
+
+    @needs("piexif")
+    def test_what_piexif_writes(self):
+        from studio import interpreter_with
+
+        self.copied(collection())
+        call = "import piexif; piexif.insert(piexif.dump(piexif.load('picture.jpg')), 'picture.jpg', 'piexif.jpg')"
+        tool(self.folder, interpreter_with("piexif"), "-c", call)
+        self.assertIn("refused", self.asked("explain", "piexif.jpg", status=2)[0])
+        found = json.loads(self.asked("mend", "--json", "piexif.jpg", "out.jpg")[0])
+        self.assertEqual((found["step"], found["lost"]), ("touch", []))
+        self.asked("explain", "out.jpg")
+
+    def test_nothing_is_overwritten(self):
+        self.copied(collection())
+        self.asked("mend", "refused.jpg", "refused.jpg", status=4)
+        self.asked("mend", "refused.jpg", "picture.jpg", status=4)
+        self.assertEqual(read(self.path("picture.jpg")), read(os.path.join(collection(), "picture.jpg")))
+        self.asked("mend", "nothing.jpg", "out.jpg", status=4)
+        self.assertFalse(os.path.exists(self.path("out.jpg")))
+
+    def test_an_accepted_picture_is_copied(self):
+        self.copied(collection())
+        self.asked("mend", "picture.jpg", "out.jpg")
+        self.assertEqual(read(self.path("out.jpg")), read(self.path("picture.jpg")))
+
+    def test_many_into_a_folder(self):
+        self.copied(collection())
+        os.mkdir(self.path("out"))
+        self.asked("mend", "--files-from", "-", "out", given=b"refused.jpg\npicture.jpg\n")
+        self.assertEqual(sorted(os.listdir(self.path("out"))), ["picture.jpg", "refused.jpg"])
+
+
+class Words(WithPictures):
+    def test_refused_words(self):
+        for words in ((), ("nothing",), ("index",), ("show",), ("report", "--catalogue", "c"), ("mend", "a")):
+            with self.subTest(words):
+                self.asked(*words, status=3)
+                self.assertIn("usage:", self.complaint)
+
+    def test_help_tells_the_statuses(self):
+        for words in (("--help",), ("index", "--help"), ("mend", "--help")):
+            text = "\n".join(self.asked(*words))
+            self.assertIn("Statuses:", text)
+            self.assertIn("130", text)
+
+    def test_without_exiftool(self):
+        write(self.path("a.jpg"), SMALL_JPEG)
+        os.mkdir(self.path("bin"))
+        import sys
+
+        words = [sys.executable, "-m", "exifnorm_pictures"]
+        for more in (["index", ".", "--catalogue", "c"], ["show", "a.jpg"], ["mend", "a.jpg", "b.jpg"]):
+            from studio import Studio
+            import subprocess
+
+            environment = {**Studio.environment(), "PATH": self.path("bin")}
+            done = subprocess.run([*words, *more], cwd=self.folder, capture_output=True, env=environment)
+            self.assertEqual(done.returncode, 4)
+            self.assertIn(b"apt-get install libimage-exiftool-perl", done.stderr)
+
+    @needs("exiftool")
+    def test_without_exiv2_a_tiff_is_told(self):
+        self.copied(collection())
+        import subprocess
+        import sys
+
+        from studio import Studio
+
+        os.mkdir(self.path("bin"))
+        for name in ("exiftool", "perl"):
+            os.symlink(shutil.which(name), self.path("bin", name))
+        words = [sys.executable, "-m", "exifnorm_pictures", "index", "pictures", "--catalogue", "c", "--quiet"]
+        environment = {**Studio.environment(), "PATH": self.path("bin")}
+        done = subprocess.run(words, cwd=self.folder, capture_output=True, env=environment)
+        self.assertEqual(done.returncode, 0, done.stderr)
+        self.assertIn(b"scan.tif: NeedsExiv2: ", done.stdout)

@@ -1,0 +1,84 @@
+"""Every command in docs/RECIPES.md and docs/REFUSALS.md is run; the page of refusals is that of the program's own texts."""
+
+import doctest
+import importlib
+import os
+import re
+import shutil
+import subprocess
+import sys
+
+from made_blocks import BLOCKS
+from studio import MODULES, PROGRAMS, TOP, Studio, WithPictures, collection, interpreter_with, needs, read
+
+# What a section needs besides ExifTool and the folder of pictures.
+WORDS = {"exiv2": "exiv2", "parallel": "parallel", "sqlite3": "sqlite3", "perl": "perl", "dask.distributed": "distributed"}
+
+
+def sections(name):
+    """The fenced blocks of commands of each section."""
+    text = read(os.path.join(TOP, "docs", name)).decode()
+    for part in re.split(r"(?m)^## ", text)[1:]:
+        blocks = re.findall(r"(?ms)^```sh\n(.*?)^```$", part)
+        if blocks:
+            yield part.split("\n", 1)[0], blocks
+
+
+class Documents(WithPictures):
+    def run_page(self, name):
+        lacking = []
+        for title, blocks in sections(name):
+            text = "\n".join(blocks)
+            needed = [it for word, it in WORDS.items() if re.search(rf"\b{re.escape(word)}\b", text)]
+            missing = [it for it in needed if not (interpreter_with(it) if it in MODULES else shutil.which(it))]
+            if missing:
+                packages = ", ".join({**PROGRAMS, **MODULES}[it] for it in missing)
+                lacking.append(f"section '{title}' (packages {packages})")
+                continue
+            with self.subTest(title):
+                self.run_section(blocks)
+        if lacking:
+            self.skipTest("not installed: " + "; ".join(lacking))
+
+    def run_section(self, blocks):
+        folder = os.path.join(self.folder, "section")
+        shutil.copytree(collection(), folder)
+        try:
+            for text in blocks:
+                words = ["bash", "-e", "-u", "-o", "pipefail", "-c", text]
+                done = subprocess.run(words, cwd=folder, capture_output=True, env=Studio.environment(HOME=self.folder), timeout=120)
+                self.assertEqual(done.returncode, 0, f"{text}\n{done.stdout.decode()}\n{done.stderr.decode()}")
+        finally:
+            shutil.rmtree(folder)
+
+    @needs("exiftool")
+    def test_recipes(self):
+        self.run_page("RECIPES.md")
+
+    @needs("exiftool")
+    def test_refusals(self):
+        self.run_page("REFUSALS.md")
+
+    def test_refusals_are_the_programs_own_texts(self):
+        sys.path.insert(0, os.path.join(TOP, "python"))
+        causes = importlib.import_module("exifnorm_pictures.causes")
+        self.assertEqual(read(os.path.join(TOP, "docs", "REFUSALS.md")).decode(), causes.page())
+        self.assertEqual(list(causes.CAUSES), list(BLOCKS))
+        table = read(os.path.join(TOP, "docs", "FORMAT.md")).decode().split("## 5.")[1]
+        self.assertEqual(re.findall(r"(?m)^\| ([A-Z]\w+) \|", table)[1:20], list(BLOCKS))
+
+    def test_examples_in_the_modules(self):
+        sys.path.insert(0, os.path.join(TOP, "python"))
+        folder = os.path.join(TOP, "python", "exifnorm_pictures")
+        for file in sorted(it for it in os.listdir(folder) if it.endswith(".py") and it != "__main__.py"):
+            with self.subTest(file):
+                module = importlib.import_module("exifnorm_pictures." + file[:-3]) if file != "__init__.py" else None
+                if module:
+                    failed, _ = doctest.testmod(module, verbose=False)
+                    self.assertEqual(failed, 0)
+
+    def test_manual_page(self):
+        text = read(os.path.join(TOP, "docs", "exifnorm-pictures.1")).decode()
+        help_ = subprocess.run([sys.executable, "-m", "exifnorm_pictures", "--help"], capture_output=True, env=Studio.environment())
+        for word in re.findall(r"(?m)^    (\w+)  ", help_.stdout.decode()):
+            self.assertRegex(text, rf'(?m)^\.B[IR]* "?{word}')
