@@ -1,4 +1,6 @@
 // Devices that fail once and then go on, and what each call of a device costs in calls.
+ghost use Rattle.std.specs.Prelude.{◌≡◌, IfOk};
+
 use crate::{
     Cause, Device, LIMIT, Memory, Pending, Ranges, ReadFault, Refusal, Sink, Source, Watched,
     WriteRefusal, read_up_to_in, write_whole,
@@ -18,7 +20,9 @@ enum Fault {
 
 const FAULTS: [Fault; 3] = [Fault::Error, Fault::Interrupted, Fault::NoByte];
 
-fn answer(fault: Fault) -> io::Result<usize> {
+fn answer(fault: Fault) -> io::Result<usize>
+    ensures { IfOk result (λ n. n ≡ 0) }
+{
     match fault {
         Fault::Error => Err(io::Error::from(ErrorKind::Other)),
         Fault::Interrupted => Err(io::Error::from(ErrorKind::Interrupted)),
@@ -162,6 +166,7 @@ fn small_parts_go_out_in_one_write(rt: HostRuntime) -> Result<(), Fail> {
         assert!(rt; writer.failures() == 0);
         assert!(rt; pending.put(&mut writer, b"II").is_ok());
     }
+    assert!(rt; writer.failures() == 0);
     assert!(rt; pending.put(&mut writer, &[]).is_ok());
     assert!(rt; writer.failures() == 0);
     let inner = writer.into_inner();
