@@ -1,0 +1,205 @@
+#!/usr/bin/env python3
+"""Tests the documents: what they show is run, what they list is compared with the sources.
+
+  tests/documents.py PROGRAM LIBRARY
+
+LIBRARY is the folder with libexifnorm.so and exifnorm.h. In a block ```console of a document a line `$ COMMAND` is run in a folder
+with the blocks that FILES names, and what stands below it, up to the next such line, is what must come. Blocks ```c and ```python
+are compiled and run in the same folder, and must end with status 0. The last line is 'N passed, M failed'.
+"""
+
+import json
+import os
+import re
+import subprocess
+import sys
+import tempfile
+import unittest
+
+sys.dont_write_bytecode = True
+
+from blocks import Blocks
+
+HERE = os.path.dirname(os.path.abspath(__file__))
+TOP = os.path.dirname(HERE)
+PROGRAM, LIBRARY = "", ""
+
+# the files that documents speak of, and the blocks of cases/blocks.json, or digits, that they hold
+FILES = {
+    "one.exif": "ASCII before its directory",
+    "other.exif": "ASCII at an even place, least first",
+    "caption.iim": "five labelled DataSets",
+    "broken.exif": "one SHORT that leads on to itself",
+}
+DOCUMENTS = [name for name in ("README.md", "CONTRIBUTING.md", "SECURITY.md", "CHANGELOG.md") if os.path.exists(os.path.join(TOP, name))]
+DOCUMENTS += [f"docs/{name}" for name in sorted(os.listdir(os.path.join(TOP, "docs"))) if name.endswith(".md")]
+
+
+def text_of(name):
+    with open(os.path.join(TOP, name), encoding="utf-8") as it:
+        return it.read()
+
+
+def fenced(name, kind):
+    """The blocks of a kind in a document."""
+    return re.findall(rf"^```{kind}\n(.*?)^```$", text_of(name), re.M | re.S)
+
+
+def commands(block):
+    """Each command of a console block with what must come of it."""
+    for part in re.split(r"^\$ ", block, flags=re.M)[1:]:
+        command, _, output = part.partition("\n")
+        yield command, output
+
+
+class Folder(unittest.TestCase):
+    """Tests that run in a folder with the files that documents speak of, and with the program on the path."""
+
+    def setUp(self):
+        self.room = tempfile.TemporaryDirectory()
+        self.folder = self.room.name
+        blocks = Blocks(json.loads(text_of("tests/cases/blocks.json"))["blocks"])
+        for name, block in FILES.items():
+            with open(os.path.join(self.folder, name), "wb") as it:
+                it.write(blocks.named(block))
+        os.mkdir(os.path.join(self.folder, "bin"))
+        os.symlink(PROGRAM, os.path.join(self.folder, "bin", "exifnorm"))
+        self.environment = {
+            **os.environ,
+            "PATH": f"{self.folder}/bin:{os.environ['PATH']}",
+            "LD_LIBRARY_PATH": LIBRARY,
+            "EXIFNORM_LIBRARY": os.path.join(LIBRARY, "libexifnorm.so"),
+            "PYTHONPATH": os.path.join(TOP, "python"),
+            "PYTHONDONTWRITEBYTECODE": "1",
+        }
+
+    def tearDown(self):
+        self.room.cleanup()
+
+    def ran(self, words, **options):
+        return subprocess.run(words, cwd=self.folder, env=self.environment, capture_output=True, text=True, timeout=60, **options)
+
+
+class Shown(Folder):
+    def test_each_command_of_a_console_block_prints_what_stands_below_it(self):
+        count = 0
+        for name in DOCUMENTS:
+            for block in fenced(name, "console"):
+                for command, due in commands(block):
+                    with self.subTest(name, command=command):
+                        self.assertEqual(self.ran(["bash", "-c", command]).stdout, due)
+                        count += 1
+        self.assertGreaterEqual(count, 4)
+
+    def test_each_python_block_of_the_readme_runs(self):
+        blocks = fenced("README.md", "python")
+        self.assertTrue(blocks)
+        for block in blocks:
+            ran = self.ran([sys.executable, "-c", block])
+            self.assertEqual((ran.returncode, ran.stderr), (0, ""), block)
+
+    def test_each_c_block_of_the_readme_runs(self):
+        blocks = fenced("README.md", "c")
+        self.assertTrue(blocks)
+        for block in blocks:
+            with open(os.path.join(self.folder, "a.c"), "w", encoding="utf-8") as it:
+                it.write(block)
+            words = ["cc", "-std=c99", "-Wall", "-Wextra", "-pedantic", "-Werror", "-I", LIBRARY, "a.c", "-L", LIBRARY, "-lexifnorm", "-o", "a.out"]
+            made = self.ran(words)
+            self.assertEqual((made.returncode, made.stderr), (0, ""), block)
+            self.assertEqual(self.ran(["./a.out"]).returncode, 0, block)
+
+
+class Listed(unittest.TestCase):
+    """Lists in documents and sources that must agree."""
+
+    def causes(self):
+        body = re.search(r"pub enum Cause \{(.*?)\n\}", text_of("crates/px_bytes/src/causes.rt"), re.S).group(1)
+        return re.findall(r"^    (\w+),$", body, re.M)
+
+    def test_causes_stand_in_the_format(self):
+        told = re.findall(r"^\| (\w+) \| .* \| .* \|$", text_of("docs/FORMAT.md").split("## 5.")[1].split("## 6.")[0], re.M)
+        self.assertEqual([it for it in told if it != "Cause"], self.causes())
+
+    def test_causes_have_a_section_on_what_to_do(self):
+        told = re.findall(r"^## (\w+)", text_of("docs/REFUSALS.md"), re.M)
+        self.assertEqual([it for it in told if it in self.causes()], self.causes())
+
+    def test_causes_stand_in_the_header_in_their_order(self):
+        told = re.findall(r"EXIFNORM_CAUSE_(\w+) = (\d+)", text_of("crates/px_c/include/exifnorm.h"))
+        self.assertEqual([int(number) for _, number in told], list(range(1, len(self.causes()) + 1)))
+        self.assertEqual([name.replace("_", "") for name, _ in told], [it.upper() for it in self.causes()])
+
+    def test_commands_stand_wherever_they_are_listed(self):
+        helped = subprocess.run([PROGRAM, "--help"], capture_output=True, text=True).stdout
+        names = re.findall(r"^  (\w+)  +\w", helped.split("Commands:")[1].split("Options:")[0], re.M)
+        self.assertEqual(len(names), 5)
+        for name in ("README.md", "docs/FORMAT.md", "docs/exifnorm.1"):
+            for command in names:
+                self.assertRegex(text_of(name), rf"\b{command}\b", name)
+
+    def test_statuses_are_the_same_wherever_they_are_listed(self):
+        helped = subprocess.run([PROGRAM, "--help"], capture_output=True, text=True).stdout
+        statuses = set(re.findall(r"^  (\d)  ", helped.split("Statuses:")[1], re.M))
+        self.assertEqual(statuses, set("01234"))
+        for name, row in (("README.md", r"^\| (\d) \|"), ("docs/FORMAT.md", r"^\| (\d) \| .* \| .* \|$"), ("docs/exifnorm.1", r"^\.B (\d)$")):
+            self.assertLessEqual(statuses, set(re.findall(row, text_of(name), re.M)), name)
+
+    def test_what_must_be_read_has_so_many_lines(self):
+        rows = re.findall(r"^\| (px_\w+) \| (`[^|]*) \| (\d+) \|$", text_of("docs/PROOFS.md"), re.M)
+        self.assertEqual(len(rows), len(os.listdir(os.path.join(TOP, "crates"))) + 1)
+        for crate, files, lines in rows:
+            names = [it if "." in it else f"specs/{it}.antt" for it in re.findall(r"`([\w/.]+)`", files)]
+            self.assertEqual(sum(text_of(f"crates/{crate}/{it}").count("\n") for it in names), int(lines), crate)
+
+    def test_the_version_is_stated_once(self):
+        stated = re.search(r'VERSION: &str = "([^"]+)"', text_of("crates/px_engine/src/version.rt")).group(1)
+        self.assertEqual(re.search(r"^## (\S+)", text_of("CHANGELOG.md"), re.M).group(1), stated)
+        self.assertEqual(re.search(r'^version = "(.*)"', text_of("python/pyproject.toml"), re.M).group(1), stated)
+        printed = subprocess.run([PROGRAM, "--version"], capture_output=True, text=True).stdout
+        self.assertEqual(printed, f"exifnorm {stated}\n")
+
+
+class Written(unittest.TestCase):
+    """How documents and sources are written."""
+
+    def test_the_readme_is_short(self):
+        self.assertLessEqual(len(text_of("README.md").split()), 1000)
+
+    def test_links_lead_to_files(self):
+        for name in DOCUMENTS:
+            for target in re.findall(r"\]\(([^)#]+)[^)]*\)", text_of(name)):
+                if "://" not in target:
+                    self.assertTrue(os.path.exists(os.path.join(TOP, os.path.dirname(name), target)), f"{name}: {target}")
+
+    def test_the_picture_is_drawn_of_the_cases(self):
+        self.assertEqual(subprocess.run([sys.executable, os.path.join(TOP, "docs", "draw.py"), "--check"]).returncode, 0)
+
+    def test_man_pages_have_no_mistake_that_man_tells(self):
+        if not any(os.access(os.path.join(it, "groff"), os.X_OK) for it in os.environ["PATH"].split(os.pathsep)):
+            self.skipTest("groff is not installed")
+        for name in sorted(os.listdir(os.path.join(TOP, "docs"))):
+            if re.search(r"\.[1-9]$", name):
+                words = ["groff", "-man", "-Tutf8", "-ww", "-z", os.path.join(TOP, "docs", name)]
+                self.assertEqual(subprocess.run(words, capture_output=True, text=True).stderr, "", name)
+
+    def test_each_tool_of_docs_says_what_it_is_by_its_first_line(self):
+        for name in DOCUMENTS:
+            self.assertTrue(text_of(name).startswith("# "), name)
+
+
+def main(words):
+    if len(words) != 2:
+        sys.exit(__doc__)
+    global PROGRAM, LIBRARY
+    PROGRAM, LIBRARY = map(os.path.abspath, words)
+    ran = unittest.TextTestRunner(stream=sys.stdout, verbosity=0).run(unittest.defaultTestLoader.loadTestsFromModule(sys.modules[__name__]))
+    for test, why in ran.skipped:
+        print(f"skipped: {test.id().split('.')[-1]}: {why}")
+    failed = len(ran.failures) + len(ran.errors)
+    print(f"{ran.testsRun - len(ran.skipped) - failed} passed, {failed} failed")
+    return 1 if failed or not ran.testsRun else 0
+
+
+if __name__ == "__main__":
+    sys.exit(main(sys.argv[1:]))
