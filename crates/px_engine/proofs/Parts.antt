@@ -60,12 +60,22 @@ module _ {X A : Type 0} (xs : List X) (i : ℕ) (x : X) (read : slice_get xs i �
       let more : filter_map f (take (i + 1) xs) ≡ filter_map f (take i xs) ++ filter_map f (x ∷ []) = ap (filter_map f) (one_more xs i x read) ∙ filter_map-append f (take i xs) (x ∷ []) in
       h ∙ ap (λ (l : List A). l ++ filter_map f (x ∷ [])) e ∙ append_assoc old (filter_map f (take i xs)) (filter_map f (x ∷ [])) ∙ ap (λ (l : List A). old ++ l) (sym more)
 
--- one group more
-pub count_more : (i : Record) (k : ℕ) (g : Group) (n c : ℕ) → slice_get i k ≡ Some g → c ≡ dataset_count (take k i) → n ≡ length g.items → c + n ≡ dataset_count (take (k + 1) i)
-count_more i k g n c read e h =
+-- ---- a walk: the parts of the elements that are left make the rest
+
+-- the elements that are left begin with x
+module _ {X A : Type 0} (f : X → List A) (xs left : List X) (x : X) (step : xs ≡ x ∷ left) where
+  pub parts_next : (now new all : List A) → now ++ flat_map f xs ≡ all → new ≡ now ++ f x → new ++ flat_map f left ≡ all
+  parts_next now new all e h =
+      ap (λ (l : List A). l ++ flat_map f left) h ∙ append_assoc now (f x) (flat_map f left) ∙ ap (λ (ys : List X). now ++ flat_map f ys) (sym step) ∙ e
+
+pub parts_none : {X A : Type 0} (f : X → List A) (xs : List X) → xs ≡ [] → (now all : List A) → now ++ flat_map f xs ≡ all → now ≡ all
+parts_none {X} {A} f xs none now all e = sym (append-nil now) ∙ ap (λ (ys : List X). now ++ flat_map f ys) (sym none) ∙ e
+
+-- the DataSets of the next group
+pub count_next : (i left : Record) (g : Group) → i ≡ g ∷ left → (n count all : ℕ) → count + dataset_count i ≡ all → n ≡ length g.items → count + n + dataset_count left ≡ all
+count_next i left g step n count all e h =
     let f : Group → List (ℕ × List ℕ) = λ y. y.items in
-    let more : flat_map f (take k i) ++ f g ≡ flat_map f (take (k + 1) i) = parts_more i k g read f [] (flat_map f (take k i)) (flat_map f (take k i) ++ f g) refl refl in
-    omega (arith, e, h, ap length more, length-append (flat_map f (take k i)) (f g))
+    omega (arith, e, h, ap dataset_count step, length-append g.items (flat_map f left))
 
 -- ---- the lines of captions
 

@@ -1,5 +1,5 @@
 // The lines of DataSets: record number, number, length and data.
-ghost use Rattle.std.specs.Prelude.{◌≡◌, ◌++◌, map, flat_map, OnOk};
+ghost use Rattle.std.specs.Prelude.{◌≡◌, ◌++◌, map, length, flat_map, OnOk};
 ghost use Rattle.px_bytes.specs.Lacking.{Lacks};
 ghost use Rattle.px_iim.specs.View.{item_view};
 ghost use Rattle.px_engine.specs.Listing.{dataset_line, dataset_lines, dataset_count};
@@ -43,21 +43,28 @@ pub(crate) fn push_datasets(
     ensures text { OnOk result (out.new.items ≡ out.old.items ++ dataset_lines iim.now) }
     ensures memory { Lacks result memory.old memory.new }
 {
-    for i in 0..iim.groups() {
-        let (rec, _, items) = iim.group_at(i);
+    for (rec, _, items) in iim.iter() {
         push_group(memory, rec, items, out)?;
     }
     Ok(())
+}
+
+// How many DataSets a group has.
+fn count_group(items: &[Item]) -> u64
+    ensures { result ≡ length items.now }
+{
+    items.len() as u64
 }
 
 // How many DataSets there are; the sum is wide, so that no number of groups and DataSets passes it.
 pub(crate) fn count_datasets(iim: &Iim) -> u128
     ensures { result ≡ dataset_count iim.now }
 {
+    // A u32 counts the groups, and a u64 the DataSets of each.
+    let _ = iim.groups();
     let mut count = 0;
-    for i in 0..iim.groups() {
-        let (_, _, items) = iim.group_at(i);
-        count += items.len() as u128;
+    for (_, _, items) in iim.iter() {
+        count += count_group(items) as u128;
     }
     count
 }

@@ -1,9 +1,10 @@
-use Rattle.std.proofs.Common.{◌≡◌, ◌≤◌, ◌*◌, ◌^◌, take}
+use Rattle.std.proofs.Common.{◌≡◌, ◌≤◌, ◌+◌, ◌*◌, ◌^◌, length}
 use Rattle.px_engine.specs.Listing.{dataset_count}
 use Rattle.px_engine.proofs.dataset_lines.count_datasets.Given as goal
 
-abbrev pub invariant-loop-i : goal.invariant-loop-i
-invariant-loop-i l = record {
-  count : l.count ≡ dataset_count (take l.i l.iim);
-  bound : l.count ≤ l.i * 2 ^ 64;
+-- the DataSets of the groups that are left make the rest of the count
+abbrev pub invariant-loop-items : goal.invariant-loop-items
+invariant-loop-items l = record {
+  count : l.count + dataset_count l.items-iterator ≡ dataset_count l.iim;
+  bound : l.count + length l.items-iterator * 2 ^ 64 ≤ length l.iim * 2 ^ 64;
 }
