@@ -1,10 +1,12 @@
 -- Parts put one behind another, where the bytes are known by an equation.
-use Rattle.std.proofs.Common.{◌≡◌, ◌<◌, ◌+◌, ◌++◌, ◌∙◌, ℕ, List, take, slice_get, Option, Some, Result, subst, ap, append_assoc, arith}
+use Rattle.std.proofs.Common.{◌≡◌, ◌<◌, ◌+◌, ◌++◌, ◌∙◌, ℕ, List, take, drop, slice_get, Option, Some, Result, subst, ap, sym, append_assoc, arith, take-append-drop}
 use Rattle.std.specs.List.{flat_map, range_with_len}
+use Rattle.std.proofs.lemmas.Grind.{flat_map-append}
 use Rattle.std.proofs.lemmas.Option.{slice_get-get_or}
+use Rattle.std.proofs.Math.Seq.{take-add}
 use Rattle.px_bytes.specs.Devices.{AppendsPrefix}
 use Rattle.px_bytes.specs.Waiting.{Owes, Puts}
-use Rattle.px_bytes.specs.WaitingLaws.{loop_more, loop_stop, owes_stop, puts_both, puts_first}
+use Rattle.px_bytes.specs.WaitingLaws.{loop_more, loop_stop, owes_more, owes_stop, puts_both, puts_first}
 use Rattle.px_layout.specs.StandLaws.{length-range, get_or-range}
 
 -- the numbers from 0 on
@@ -40,3 +42,20 @@ first_as a b h xs ys zs e p = prefix_as a b h (xs ++ ys) zs e (puts_first a b h 
 -- the second of three parts failed
 pub second_of : (a b c : Option (List ℕ)) (h k xs ys zs : List ℕ) → Owes a b k (h ++ xs) → AppendsPrefix b c (k ++ ys) → AppendsPrefix a c (h ++ (xs ++ (ys ++ zs)))
 second_of a b c h k xs ys zs p q = prefix_as a c h _ _ (append_assoc xs ys zs) (puts_first a c h (xs ++ ys) zs (subst (AppendsPrefix a c) (append_assoc h xs ys) (owes_stop a b c k (h ++ xs) ys p q)))
+
+-- n more elements of a list, and n at which a call failed
+module _ {X : Type 0} (f : X → List ℕ) (xs : List X) (i n : ℕ) (y : List ℕ) (e : y ≡ flat_map f (take n (drop i xs))) where
+  pub more_many : (a b c : Option (List ℕ)) (h k m : List ℕ) → Owes a b k (h ++ flat_map f (take i xs)) → Owes b c m (k ++ y) → Owes a c m (h ++ flat_map f (take (i + n) xs))
+  more_many a b c h k m p q =
+      let both : flat_map f (take i xs) ++ y ≡ flat_map f (take (i + n) xs) =
+      ap (λ (l : List ℕ). flat_map f (take i xs) ++ l) e ∙ sym (flat_map-append f (take i xs) (take n (drop i xs))) ∙ ap (flat_map f) (sym (take-add i n xs)) in
+      subst (Owes a c m) (append_assoc h (flat_map f (take i xs)) y ∙ ap (λ (l : List ℕ). h ++ l) both) (owes_more a b c k m (h ++ flat_map f (take i xs)) y p q)
+
+  pub stop_many : (a b c : Option (List ℕ)) (h k : List ℕ) → Owes a b k (h ++ flat_map f (take i xs)) → AppendsPrefix b c (k ++ y) → AppendsPrefix a c (h ++ flat_map f xs)
+  stop_many a b c h k p q =
+      let rest = flat_map f (drop n (drop i xs)) in
+      let behind : y ++ rest ≡ flat_map f (drop i xs) =
+      ap (λ (l : List ℕ). l ++ rest) e ∙ sym (flat_map-append f (take n (drop i xs)) (drop n (drop i xs))) ∙ ap (flat_map f) (take-append-drop n (drop i xs)) in
+      let all : flat_map f (take i xs) ++ (y ++ rest) ≡ flat_map f xs =
+      ap (λ (l : List ℕ). flat_map f (take i xs) ++ l) behind ∙ sym (flat_map-append f (take i xs) (drop i xs)) ∙ ap (flat_map f) (take-append-drop i xs) in
+      prefix_as a c h (flat_map f (take i xs) ++ (y ++ rest)) (flat_map f xs) all (second_of a b c h k (flat_map f (take i xs)) y rest p q)

@@ -70,7 +70,10 @@ pub(crate) fn put_padding<W: Sink>(
     put_filler(pending, writer, 0, (len % 2) as usize)
 }
 
-// The elements of a value, one by one.
+// The bytes in which elements are turned round, some at a time.
+const PIECE: usize = 4096;
+
+// The elements of a value, as many at a time as a piece has room for.
 fn put_elements<W: Sink>(
     pending: &mut Pending,
     writer: &mut W,
@@ -81,15 +84,18 @@ fn put_elements<W: Sink>(
     ensures bytes { Puts result (W.bytes_taken writer.old) (W.bytes_taken writer.new) pending.old pending.new (flat_map (spell order) value.now.elements) }
     ensures count { Counts result (W.failed writer.old) (W.failed writer.new) }
 {
-    let mut piece = [0; 8];
-    for i in 0..value.count() {
-        let width = value.spell_at(order, i, &mut piece);
-        pending.put(writer, &piece[..width])?;
+    let width = value.width();
+    let mut piece = [0; PIECE];
+    let mut i = 0;
+    while i < value.count() {
+        let count = value.spell_many(order, i, &mut piece);
+        pending.put(writer, &piece[..count as usize * width as usize])?;
+        i += count;
     }
     Ok(())
 }
 
-// A value. Where its elements are bytes, they go as the slice that was read.
+// A value. Where its bytes stand in that order as they were read, they go as they are.
 pub(crate) fn put_value<W: Sink>(
     pending: &mut Pending,
     writer: &mut W,
@@ -100,7 +106,7 @@ pub(crate) fn put_value<W: Sink>(
     ensures bytes { Puts result (W.bytes_taken writer.old) (W.bytes_taken writer.new) pending.old pending.new (spelled order value.now) }
     ensures count { Counts result (W.failed writer.old) (W.failed writer.new) }
 {
-    if let Some(bytes) = value.bytes() {
+    if let Some(bytes) = value.in_order(order) {
         return pending.put(writer, bytes);
     }
     put_elements(pending, writer, order, value)

@@ -1,30 +1,23 @@
-use Rattle.std.proofs.Common.{◌≡◌, ◌∙◌, take, get_or, slice_get, Some, arith}
-use Rattle.std.proofs.lemmas.Option.{slice_get-get_or}
+use Rattle.std.proofs.Common.{◌≡◌, ◌∙◌, ◌*◌, ℕ, List, take, ap, arith}
 use Rattle.std.proofs.lemmas.Result.{err_from_is_err_and}
-use Rattle.px_field.specs.declared.Element.{Element}
-use Rattle.px_field.specs.declared.Element.TheVariants as element
 use Rattle.px_field.specs.Values.{spell}
-use Rattle.px_layout.proofs.Puts.{more_as, stop_as}
+use Rattle.px_layout.proofs.Puts.{more_many, stop_many}
 use Rattle.px_layout.proofs.put.put_elements.Goals as goal
+
+-- the bytes of n elements, by their width
+by_width : (n w s : ℕ) (piece ys : List ℕ) → w ≡ s → take (n * s) piece ≡ ys → take (n * w) piece ≡ ys
+by_width n w s piece ys e h = ap (λ (k : ℕ). take (n * k) piece) e ∙ h
 
 pub returns-in_err-put-clause-bytes : goal.returns-in_err-put-clause-bytes
 returns-in_err-put-clause-bytes g c =
     let p = err_from_is_err_and c.from_residual.result c.from_residual.ensures.1 in
-    let es = c.args.value.now.elements in
-    let i = c.loop-i.i in
-    let e : Element = get_or es i (element.Byte 0) in
-    let here : slice_get es i ≡ Some e = slice_get-get_or es i (element.Byte 0) (omega arith) in
-    rw p.1 (stop_as (spell c.args.order) es i e here (take c.spell_at-width.result c.spell_at-width.new.into) (c.spell_at-width.ensures.front e here)
+    rw p.1 (stop_many (spell c.args.order) c.args.value.now.elements c.loop-i.i c.spell_many-count.result _ (by_width _ _ _ _ _ c.width-width.ensures c.spell_many-count.ensures.front)
     _ _ _ c.args.pending.now c.loop-i.pending c.loop-i.invariant.owes c.in_err-put.ensures.bytes)
 
 pub loop-i-preserved : goal.loop-i-preserved
-loop-i-preserved g c =
-    let es = c.args.value.now.elements in
-    let i = c.loop-i.i in
-    let e : Element = get_or es i (element.Byte 0) in
-    let here : slice_get es i ≡ Some e = slice_get-get_or es i (element.Byte 0) (omega arith) in
-    record {
-      owes = more_as (spell c.args.order) es i e here (take c.spell_at-width.result c.spell_at-width.new.into) (c.spell_at-width.ensures.front e here)
-          _ _ _ c.args.pending.now c.loop-i.pending c.put.new.self c.loop-i.invariant.owes c.in_ok-put.ensures.bytes;
-      count = c.in_ok-put.ensures.count ∙ c.loop-i.invariant.count;
-    }
+loop-i-preserved g c = record {
+  inside = omega (arith, c.spell_many-count.ensures.count, c.loop-i.invariant.inside);
+  owes = more_many (spell c.args.order) c.args.value.now.elements c.loop-i.i c.spell_many-count.result _ (by_width _ _ _ _ _ c.width-width.ensures c.spell_many-count.ensures.front)
+      _ _ _ c.args.pending.now c.loop-i.pending c.put.new.self c.loop-i.invariant.owes c.in_ok-put.ensures.bytes;
+  count = c.in_ok-put.ensures.count ∙ c.loop-i.invariant.count;
+}

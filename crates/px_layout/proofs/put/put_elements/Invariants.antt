@@ -1,4 +1,4 @@
-use Rattle.std.proofs.Common.{◌≡◌, ◌++◌, take, flat_map}
+use Rattle.std.proofs.Common.{◌≡◌, ◌≤◌, ◌-◌, ◌++◌, length, take, flat_map}
 use Rattle.px_bytes.specs.Waiting.{Owes}
 use Rattle.px_field.specs.Values.{spell}
 use Rattle.px_layout.proofs.put.put_elements.Given as goal
@@ -6,6 +6,10 @@ use Rattle.px_layout.proofs.put.put_elements.Given as goal
 -- the elements so far were put, and no call failed
 abbrev pub invariant-loop-i : goal.invariant-loop-i
 invariant-loop-i g l = record {
+  inside : l.i ≤ length l.value.elements;
   owes : Owes (g.W.Sink.bytes_taken l.initial.writer) (g.W.Sink.bytes_taken l.writer) l.pending (l.initial.pending ++ flat_map (spell l.order) (take l.i l.value.elements));
   count : g.W.Device.failed l.writer ≡ g.W.Device.failed l.initial.writer;
 }
+
+abbrev pub decreases-loop-i : goal.decreases-loop-i
+decreases-loop-i g l = length l.value.elements - l.i
