@@ -7,6 +7,7 @@ ghost use Rattle.px_cli.specs.Words.{bare, exifnorm, name_of, of_one, of_two, As
 
 use clap::error::ErrorKind;
 use clap::{Arg, ArgMatches, Command, Error};
+use px_engine::VERSION;
 use std::alloc::{AllocError, Global};
 use std::convert::AsStr;
 use std::marker::Model;
@@ -74,8 +75,6 @@ pub enum Words {
 }
 
 const NAME: &str = "exifnorm";
-
-const VERSION: &str = "1.0.0";
 
 /// The text of a refusal where `normalise` has one file under both names.
 pub const OUT_IS_FILE: &str = "refused words: OUT is FILE";
