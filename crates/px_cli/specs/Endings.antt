@@ -8,6 +8,7 @@ use Rattle.px_engine.specs.declared.Fault.TheVariants.{Refused, NormalTooLong, O
 use Rattle.px_engine.specs.Files.{Said}
 use Rattle.px_engine.specs.Listing.{listing}
 use Rattle.px_engine.specs.Captions.{caption_text}
+use Rattle.px_engine.specs.Lacking.{LacksRun, LacksPair}
 use Rattle.px_engine.specs.Runs.{KnownSaid, Stops, Checks, Compares, Normalises, CountsReads, CountsWrites, CountsSides}
 use Rattle.px_cli.specs.declared.job.Job.{Job}
 use Rattle.px_cli.specs.declared.job.Job.TheVariants.{Show, Check, Captions, Normalise}
@@ -65,28 +66,32 @@ TellsText text (Err OutOfMemory) file status lines = TellsFault OutOfMemory None
 TellsText text (Err ReadFailed) file status lines = TellsFault ReadFailed None status lines
 TellsText text (Err NormalTooLong) file status lines = ⊥
 
--- ---- whole runs: there is an outcome that the engine allows of the files, and it is told
+-- ---- whole runs: there is an outcome that the engine allows of the files, and it is told. `refused`
+-- and `refused_now` say whether memory had refused a growth before the run, and whether it has behind it: an outcome that is
+-- want of memory met a refused growth, and behind every other memory is as it was
 
-abbrev pub EndsNormalise : Device → Device → Device → ℕ → Type 0
-EndsNormalise reader out lines status = (r : Result ℕ Fault) × Normalises r reader.old out.old out.new
-    × CountsReads r reader.failed reader.failed_now × CountsWrites r out.failed out.failed_now × TellsWritten r status lines
+abbrev pub EndsNormalise : Device → Device → Device → Bool → Bool → ℕ → Type 0
+EndsNormalise reader out lines refused refused_now status = (r : Result ℕ Fault) × Normalises r reader.old out.old out.new
+    × CountsReads r reader.failed reader.failed_now × CountsWrites r out.failed out.failed_now
+    × LacksRun r refused refused_now × TellsWritten r status lines
 
-abbrev pub EndsCheck : Device → Device → ℕ → Type 0
-EndsCheck reader lines status = (r : Result BlockKind Fault) × Checks r reader.old
-    × CountsReads r reader.failed reader.failed_now × TellsChecked r status lines
+abbrev pub EndsCheck : Device → Device → Bool → Bool → ℕ → Type 0
+EndsCheck reader lines refused refused_now status = (r : Result BlockKind Fault) × Checks r reader.old
+    × CountsReads r reader.failed reader.failed_now × LacksRun r refused refused_now × TellsChecked r status lines
 
 -- the text of what the file says
-abbrev pub EndsText : (Said → List ℕ) → Device → Device → ℕ → Type 0
-EndsText text reader lines status = (r : Result ⊤ Fault) × CountsReads r reader.failed reader.failed_now
-    × TellsText text r reader.old status lines
+abbrev pub EndsText : (Said → List ℕ) → Device → Device → Bool → Bool → ℕ → Type 0
+EndsText text reader lines refused refused_now status = (r : Result ⊤ Fault) × CountsReads r reader.failed reader.failed_now
+    × LacksRun r refused refused_now × TellsText text r reader.old status lines
 
 -- of the reader, the writer of normal bytes and the writer of lines
-abbrev pub Ends : Job → Device → Device → Device → ℕ → Type 0
-Ends Normalise reader out lines status = EndsNormalise reader out lines status
-Ends Check reader out lines status = IsIdle out × EndsCheck reader lines status
-Ends Show reader out lines status = IsIdle out × EndsText listing reader lines status
-Ends Captions reader out lines status = IsIdle out × EndsText caption_text reader lines status
+abbrev pub Ends : Job → Device → Device → Device → Bool → Bool → ℕ → Type 0
+Ends Normalise reader out lines refused refused_now status = EndsNormalise reader out lines refused refused_now status
+Ends Check reader out lines refused refused_now status = IsIdle out × EndsCheck reader lines refused refused_now status
+Ends Show reader out lines refused refused_now status = IsIdle out × EndsText listing reader lines refused refused_now status
+Ends Captions reader out lines refused refused_now status = IsIdle out × EndsText caption_text reader lines refused refused_now status
 
-abbrev pub EndsCompare : Device → Device → Device → ℕ → Type 0
-EndsCompare first second lines status = (r : Result Bool CompareFault) × Compares r first.old second.old
-    × CountsSides r first.failed first.failed_now second.failed second.failed_now × TellsCompared r status lines
+abbrev pub EndsCompare : Device → Device → Device → Bool → Bool → ℕ → Type 0
+EndsCompare first second lines refused refused_now status = (r : Result Bool CompareFault) × Compares r first.old second.old
+    × CountsSides r first.failed first.failed_now second.failed second.failed_now
+    × LacksPair r refused refused_now × TellsCompared r status lines

@@ -1,5 +1,5 @@
 // What the program does with readers and writers.
-ghost use Rattle.std.specs.Prelude.{◌≡◌, ◌≢◌, ◌<◌, ◌+◌, ◌^◌, Err};
+ghost use Rattle.std.specs.Prelude.{◌≡◌, ◌≢◌, ◌<◌, ◌+◌, ◌^◌, Bool, false, Err};
 ghost use Rattle.px_engine.specs.declared.Fault.{Fault};
 ghost use Rattle.px_engine.specs.declared.Fault.TheVariants.{WriteFailed};
 ghost use Rattle.px_engine.specs.Captions.{caption_text};
@@ -8,8 +8,10 @@ ghost use Rattle.px_cli.specs.Endings.{accepted, compared, compared_status, Ends
 ghost use Rattle.px_cli.specs.Lines.{device};
 
 use crate::lines::{say, tell};
-use px_bytes::{Sink, Source};
-use px_engine::{BlockKind, CompareFault, Fault, captions, check, compare, normalise, show};
+use px_bytes::{Memory, Sink, Source};
+use px_engine::{
+    BlockKind, CompareFault, Fault, captions_in, check_in, compare_in, normalise_in, show_in,
+};
 use std::alloc::Global;
 
 /// What is done with one file.
@@ -112,7 +114,7 @@ fn tell_compared<L: Sink>(lines: &mut L, same: Result<bool, CompareFault>) -> u8
 
 // Writes the normal form to `out`, and a line of what went wrong to `lines`.
 fn run_normalise<R: Source, O: Sink, L: Sink>(
-    alloc: Global,
+    memory: &mut Memory,
     reader: &mut R,
     out: &mut O,
     lines: &mut L,
@@ -122,40 +124,40 @@ fn run_normalise<R: Source, O: Sink, L: Sink>(
     requires telling { L.failed lines.old + 1 < 2 ^ 64 }
     ensures { EndsNormalise (device (R.failed reader.old) (R.failed reader.new) (R.bytes_left reader.old) (R.bytes_left reader.new))
         (device (O.failed out.old) (O.failed out.new) (O.bytes_taken out.old) (O.bytes_taken out.new))
-        (device (L.failed lines.old) (L.failed lines.new) (L.bytes_taken lines.old) (L.bytes_taken lines.new)) result }
+        (device (L.failed lines.old) (L.failed lines.new) (L.bytes_taken lines.old) (L.bytes_taken lines.new)) memory.old memory.new result }
 {
-    tell_written(lines, normalise(alloc, reader, out))
+    tell_written(lines, normalise_in(memory, reader, out))
 }
 
 // Tells of which kind the block is.
-fn run_check<R: Source, L: Sink>(alloc: Global, reader: &mut R, lines: &mut L) -> u8
+fn run_check<R: Source, L: Sink>(memory: &mut Memory, reader: &mut R, lines: &mut L) -> u8
     requires reading { R.failed reader.old + 1 < 2 ^ 64 }
     requires telling { L.failed lines.old + 1 < 2 ^ 64 }
     ensures { EndsCheck (device (R.failed reader.old) (R.failed reader.new) (R.bytes_left reader.old) (R.bytes_left reader.new))
-        (device (L.failed lines.old) (L.failed lines.new) (L.bytes_taken lines.old) (L.bytes_taken lines.new)) result }
+        (device (L.failed lines.old) (L.failed lines.new) (L.bytes_taken lines.old) (L.bytes_taken lines.new)) memory.old memory.new result }
 {
-    tell_checked(lines, check(alloc, reader))
+    tell_checked(lines, check_in(memory, reader))
 }
 
 // Writes what the block says.
-fn run_show<R: Source, L: Sink>(alloc: Global, reader: &mut R, lines: &mut L) -> u8
+fn run_show<R: Source, L: Sink>(memory: &mut Memory, reader: &mut R, lines: &mut L) -> u8
     requires reading { R.failed reader.old + 1 < 2 ^ 64 }
     requires telling { L.failed lines.old + 1 < 2 ^ 64 }
     ensures { EndsText listing (device (R.failed reader.old) (R.failed reader.new) (R.bytes_left reader.old) (R.bytes_left reader.new))
-        (device (L.failed lines.old) (L.failed lines.new) (L.bytes_taken lines.old) (L.bytes_taken lines.new)) result }
+        (device (L.failed lines.old) (L.failed lines.new) (L.bytes_taken lines.old) (L.bytes_taken lines.new)) memory.old memory.new result }
 {
-    let printed = show(alloc, reader, lines);
+    let printed = show_in(memory, reader, lines);
     tell_printed(lines, printed)
 }
 
 // Writes the captions of the block.
-fn run_captions<R: Source, L: Sink>(alloc: Global, reader: &mut R, lines: &mut L) -> u8
+fn run_captions<R: Source, L: Sink>(memory: &mut Memory, reader: &mut R, lines: &mut L) -> u8
     requires reading { R.failed reader.old + 1 < 2 ^ 64 }
     requires telling { L.failed lines.old + 1 < 2 ^ 64 }
     ensures { EndsText caption_text (device (R.failed reader.old) (R.failed reader.new) (R.bytes_left reader.old) (R.bytes_left reader.new))
-        (device (L.failed lines.old) (L.failed lines.new) (L.bytes_taken lines.old) (L.bytes_taken lines.new)) result }
+        (device (L.failed lines.old) (L.failed lines.new) (L.bytes_taken lines.old) (L.bytes_taken lines.new)) memory.old memory.new result }
 {
-    let printed = captions(alloc, reader, lines);
+    let printed = captions_in(memory, reader, lines);
     tell_printed(lines, printed)
 }
 
@@ -166,8 +168,9 @@ fn run_captions<R: Source, L: Sink>(alloc: Global, reader: &mut R, lines: &mut L
 /// of `Check`, and the line of a fault, `refused: CAUSE at PLACE`, `refused: NormalTooLong`, `failed:
 /// OutOfMemory`, `failed: ReadFailed` or `failed: WriteFailed`. A flush follows the line or the text.
 /// Where the lines fail the status is 4, and no more is asked of them. A line takes no memory.
-pub fn run_one<R: Source, O: Sink, L: Sink>(
-    alloc: Global,
+/// `failed: OutOfMemory` comes exactly where memory refused a growth in this run.
+pub fn run_one_in<R: Source, O: Sink, L: Sink>(
+    memory: &mut Memory,
     job: Job,
     reader: &mut R,
     out: &mut O,
@@ -178,22 +181,41 @@ pub fn run_one<R: Source, O: Sink, L: Sink>(
     requires telling { L.failed lines.old + 1 < 2 ^ 64 }
     ensures { Ends job (device (R.failed reader.old) (R.failed reader.new) (R.bytes_left reader.old) (R.bytes_left reader.new))
         (device (O.failed out.old) (O.failed out.new) (O.bytes_taken out.old) (O.bytes_taken out.new))
-        (device (L.failed lines.old) (L.failed lines.new) (L.bytes_taken lines.old) (L.bytes_taken lines.new)) result }
+        (device (L.failed lines.old) (L.failed lines.new) (L.bytes_taken lines.old) (L.bytes_taken lines.new)) memory.old memory.new result }
 {
     match job {
-        Job::Show => run_show(alloc, reader, lines),
-        Job::Check => run_check(alloc, reader, lines),
-        Job::Captions => run_captions(alloc, reader, lines),
-        Job::Normalise => run_normalise(alloc, reader, out, lines),
+        Job::Show => run_show(memory, reader, lines),
+        Job::Check => run_check(memory, reader, lines),
+        Job::Captions => run_captions(memory, reader, lines),
+        Job::Normalise => run_normalise(memory, reader, out, lines),
     }
+}
+
+/// The same with memory of its own.
+pub fn run_one<R: Source, O: Sink, L: Sink>(
+    alloc: Global,
+    job: Job,
+    reader: &mut R,
+    out: &mut O,
+    lines: &mut L,
+) -> u8
+    requires reading { R.failed reader.old + 1 < 2 ^ 64 }
+    requires writing { O.failed out.old + 1 < 2 ^ 64 }
+    requires telling { L.failed lines.old + 1 < 2 ^ 64 }
+    ensures { (refused : Bool) × Ends job (device (R.failed reader.old) (R.failed reader.new) (R.bytes_left reader.old) (R.bytes_left reader.new))
+        (device (O.failed out.old) (O.failed out.new) (O.bytes_taken out.old) (O.bytes_taken out.new))
+        (device (L.failed lines.old) (L.failed lines.new) (L.bytes_taken lines.old) (L.bytes_taken lines.new)) false refused result }
+{
+    run_one_in(&mut Memory::new(alloc), job, reader, out, lines)
 }
 
 /// Tells whether two files say the same, and answers the exit status: 0 with the line `same`, 1 with
 /// the line `different`, 2 where a block is refused, 4 where a device or memory fails. The line of a
 /// fault ends in ` in file 1` or ` in file 2`. The first file is read and judged wholly before the
-/// second is read. A line takes no memory.
-pub fn run_compare<R: Source, S: Source, L: Sink>(
-    alloc: Global,
+/// second is read. A line takes no memory. `failed: OutOfMemory` comes exactly where memory refused a
+/// growth in this run.
+pub fn run_compare_in<R: Source, S: Source, L: Sink>(
+    memory: &mut Memory,
     first: &mut R,
     second: &mut S,
     lines: &mut L,
@@ -203,7 +225,24 @@ pub fn run_compare<R: Source, S: Source, L: Sink>(
     requires telling { L.failed lines.old + 1 < 2 ^ 64 }
     ensures { EndsCompare (device (R.failed first.old) (R.failed first.new) (R.bytes_left first.old) (R.bytes_left first.new))
         (device (S.failed second.old) (S.failed second.new) (S.bytes_left second.old) (S.bytes_left second.new))
-        (device (L.failed lines.old) (L.failed lines.new) (L.bytes_taken lines.old) (L.bytes_taken lines.new)) result }
+        (device (L.failed lines.old) (L.failed lines.new) (L.bytes_taken lines.old) (L.bytes_taken lines.new)) memory.old memory.new result }
 {
-    tell_compared(lines, compare(alloc, first, second))
+    tell_compared(lines, compare_in(memory, first, second))
+}
+
+/// The same with memory of its own.
+pub fn run_compare<R: Source, S: Source, L: Sink>(
+    alloc: Global,
+    first: &mut R,
+    second: &mut S,
+    lines: &mut L,
+) -> u8
+    requires first { R.failed first.old + 1 < 2 ^ 64 }
+    requires second { S.failed second.old + 1 < 2 ^ 64 }
+    requires telling { L.failed lines.old + 1 < 2 ^ 64 }
+    ensures { (refused : Bool) × EndsCompare (device (R.failed first.old) (R.failed first.new) (R.bytes_left first.old) (R.bytes_left first.new))
+        (device (S.failed second.old) (S.failed second.new) (S.bytes_left second.old) (S.bytes_left second.new))
+        (device (L.failed lines.old) (L.failed lines.new) (L.bytes_taken lines.old) (L.bytes_taken lines.new)) false refused result }
+{
+    run_compare_in(&mut Memory::new(alloc), first, second, lines)
 }

@@ -6,10 +6,10 @@ ghost use Rattle.px_cli.specs.Lines.{device};
 ghost use Rattle.px_cli.specs.Programs.{job_of, Answers, EndsFile, EndsFiles, EndsForm, EndsJob, EndsPair, EndsWords};
 
 use crate::files::{make_beside, open};
-use crate::job::{Job, run_compare, run_one};
+use crate::job::{Job, run_compare_in, run_one_in};
 use crate::lines::{say_text, tell};
 use crate::words::{OUT_IS_FILE, One, Words, parse};
-use px_bytes::{Sink, Source, Watched};
+use px_bytes::{Memory, Sink, Source, Watched};
 use px_engine::{Fault, Side};
 use std::alloc::Global;
 use std::convert::AsStr;
@@ -33,27 +33,27 @@ pub fn run_words<'a, S: AsStr, R: Files + Input + Print, L: Sink>(
     requires { L.failed lines.old + 1 < 2 ^ 64 }
     ensures { Answers (map S.text words.entry.now) result (device (L.failed lines.old) (L.failed lines.new) (L.bytes_taken lines.old) (L.bytes_taken lines.new)) }
 {
-    run_asked(rt, alloc, parse(alloc, words), lines)
+    run_asked(rt, &mut Memory::new(alloc), parse(alloc, words), lines)
 }
 
 // Does what was asked for.
 fn run_asked<R: Files + Input + Print, L: Sink>(
     rt: &R,
-    alloc: Global,
+    memory: &mut Memory,
     asked: Words,
     lines: &mut L,
 ) -> u8
     requires { L.failed lines.old + 1 < 2 ^ 64 }
-    ensures { EndsWords asked result (device (L.failed lines.old) (L.failed lines.new) (L.bytes_taken lines.old) (L.bytes_taken lines.new)) }
+    ensures { EndsWords asked memory.old memory.new result (device (L.failed lines.old) (L.failed lines.new) (L.bytes_taken lines.old) (L.bytes_taken lines.new)) }
 {
     match asked {
-        Words::Filter => run_filter(rt, alloc, lines),
-        Words::One { what, file } => run_file(rt, alloc, what, file.as_str(), lines),
+        Words::Filter => run_filter(rt, memory, lines),
+        Words::One { what, file } => run_file(rt, memory, what, file.as_str(), lines),
         Words::Normalise { file, out } => {
-            run_form(rt, alloc, file.as_str(), out.as_str(), lines)
+            run_form(rt, memory, file.as_str(), out.as_str(), lines)
         }
         Words::Compare { first, second } => {
-            run_files(rt, alloc, first.as_str(), second.as_str(), lines)
+            run_files(rt, memory, first.as_str(), second.as_str(), lines)
         }
         Words::Help(text) => say_text(lines, text.as_str(), 0),
         Words::Refused(text) => say_text(lines, text.as_str(), 3),
@@ -74,7 +74,7 @@ fn job_of(what: One) -> Job
 
 // A job with a reader and a writer of its own.
 fn run_job<F: Source + Drop, O: Sink + Drop, L: Sink>(
-    alloc: Global,
+    memory: &mut Memory,
     job: Job,
     mut reader: F,
     mut out: O,
@@ -83,14 +83,14 @@ fn run_job<F: Source + Drop, O: Sink + Drop, L: Sink>(
     requires reading { F.failed reader + 1 < 2 ^ 64 }
     requires writing { O.failed out + 1 < 2 ^ 64 }
     requires telling { L.failed lines.old + 1 < 2 ^ 64 }
-    ensures { EndsJob job result (device (L.failed lines.old) (L.failed lines.new) (L.bytes_taken lines.old) (L.bytes_taken lines.new)) }
+    ensures { EndsJob job memory.old memory.new result (device (L.failed lines.old) (L.failed lines.new) (L.bytes_taken lines.old) (L.bytes_taken lines.new)) }
 {
-    run_one(alloc, job, &mut reader, &mut out, lines)
+    run_one_in(memory, job, &mut reader, &mut out, lines)
 }
 
 // A comparison of readers of its own.
 fn run_pair<F: Source + Drop, S: Source + Drop, L: Sink>(
-    alloc: Global,
+    memory: &mut Memory,
     mut first: F,
     mut second: S,
     lines: &mut L,
@@ -98,30 +98,36 @@ fn run_pair<F: Source + Drop, S: Source + Drop, L: Sink>(
     requires first { F.failed first + 1 < 2 ^ 64 }
     requires second { S.failed second + 1 < 2 ^ 64 }
     requires telling { L.failed lines.old + 1 < 2 ^ 64 }
-    ensures { EndsPair result (device (L.failed lines.old) (L.failed lines.new) (L.bytes_taken lines.old) (L.bytes_taken lines.new)) }
+    ensures { EndsPair memory.old memory.new result (device (L.failed lines.old) (L.failed lines.new) (L.bytes_taken lines.old) (L.bytes_taken lines.new)) }
 {
-    run_compare(alloc, &mut first, &mut second, lines)
+    run_compare_in(memory, &mut first, &mut second, lines)
 }
 
 // Standard input to standard output.
-fn run_filter<R: Input + Print, L: Sink>(rt: &R, alloc: Global, lines: &mut L) -> u8
+fn run_filter<R: Input + Print, L: Sink>(rt: &R, memory: &mut Memory, lines: &mut L) -> u8
     requires { L.failed lines.old + 1 < 2 ^ 64 }
-    ensures { EndsJob Normalise result (device (L.failed lines.old) (L.failed lines.new) (L.bytes_taken lines.old) (L.bytes_taken lines.new)) }
+    ensures { EndsJob Normalise memory.old memory.new result (device (L.failed lines.old) (L.failed lines.new) (L.bytes_taken lines.old) (L.bytes_taken lines.new)) }
 {
     let reader = Watched::new(rt.reader());
     let out = Watched::new(io::writer(rt));
-    run_job(alloc, Job::Normalise, reader, out, lines)
+    run_job(memory, Job::Normalise, reader, out, lines)
 }
 
 // What a command prints of a file.
-fn run_file<R: Files, L: Sink>(rt: &R, alloc: Global, what: One, name: &str, lines: &mut L) -> u8
+fn run_file<R: Files, L: Sink>(
+    rt: &R,
+    memory: &mut Memory,
+    what: One,
+    name: &str,
+    lines: &mut L,
+) -> u8
     requires { L.failed lines.old + 1 < 2 ^ 64 }
-    ensures { EndsFile (job_of what) result (device (L.failed lines.old) (L.failed lines.new) (L.bytes_taken lines.old) (L.bytes_taken lines.new)) }
+    ensures { EndsFile (job_of what) memory.old memory.new result (device (L.failed lines.old) (L.failed lines.new) (L.bytes_taken lines.old) (L.bytes_taken lines.new)) }
 {
     match open(rt, name) {
         Ok(file) => {
             let none = Watched::new(io::sink());
-            run_job(alloc, job_of(what), Watched::new(file), none, lines)
+            run_job(memory, job_of(what), Watched::new(file), none, lines)
         }
         Err(fault) => tell(lines, fault, None),
     }
@@ -130,18 +136,18 @@ fn run_file<R: Files, L: Sink>(rt: &R, alloc: Global, what: One, name: &str, lin
 // The normal form of an open file goes to another, unless that is the same.
 fn run_beside<R: Files, L: Sink>(
     rt: &R,
-    alloc: Global,
+    memory: &mut Memory,
     file: R::File,
     out_name: &str,
     lines: &mut L,
 ) -> u8
     requires { L.failed lines.old + 1 < 2 ^ 64 }
-    ensures { EndsForm result (device (L.failed lines.old) (L.failed lines.new) (L.bytes_taken lines.old) (L.bytes_taken lines.new)) }
+    ensures { EndsForm memory.old memory.new result (device (L.failed lines.old) (L.failed lines.new) (L.bytes_taken lines.old) (L.bytes_taken lines.new)) }
 {
     match make_beside(rt, out_name, &file) {
         Ok(Some(out)) => {
             let out = Watched::new(out);
-            run_job(alloc, Job::Normalise, Watched::new(file), out, lines)
+            run_job(memory, Job::Normalise, Watched::new(file), out, lines)
         }
         Ok(None) => say_text(lines, OUT_IS_FILE, 3),
         Err(fault) => tell(lines, fault, None),
@@ -151,16 +157,16 @@ fn run_beside<R: Files, L: Sink>(
 // The normal form of a file goes to another.
 fn run_form<R: Files, L: Sink>(
     rt: &R,
-    alloc: Global,
+    memory: &mut Memory,
     name: &str,
     out_name: &str,
     lines: &mut L,
 ) -> u8
     requires { L.failed lines.old + 1 < 2 ^ 64 }
-    ensures { EndsForm result (device (L.failed lines.old) (L.failed lines.new) (L.bytes_taken lines.old) (L.bytes_taken lines.new)) }
+    ensures { EndsForm memory.old memory.new result (device (L.failed lines.old) (L.failed lines.new) (L.bytes_taken lines.old) (L.bytes_taken lines.new)) }
 {
     match open(rt, name) {
-        Ok(file) => run_beside(rt, alloc, file, out_name, lines),
+        Ok(file) => run_beside(rt, memory, file, out_name, lines),
         Err(fault) => tell(lines, fault, None),
     }
 }
@@ -168,20 +174,20 @@ fn run_form<R: Files, L: Sink>(
 // Two files are compared.
 fn run_files<R: Files, L: Sink>(
     rt: &R,
-    alloc: Global,
+    memory: &mut Memory,
     first: &str,
     second: &str,
     lines: &mut L,
 ) -> u8
     requires { L.failed lines.old + 1 < 2 ^ 64 }
-    ensures { EndsFiles result (device (L.failed lines.old) (L.failed lines.new) (L.bytes_taken lines.old) (L.bytes_taken lines.new)) }
+    ensures { EndsFiles memory.old memory.new result (device (L.failed lines.old) (L.failed lines.new) (L.bytes_taken lines.old) (L.bytes_taken lines.new)) }
 {
     let first = match open(rt, first) {
         Ok(first) => Watched::new(first),
         Err(fault) => return tell(lines, fault, Some(Side::First)),
     };
     match open(rt, second) {
-        Ok(second) => run_pair(alloc, first, Watched::new(second), lines),
+        Ok(second) => run_pair(memory, first, Watched::new(second), lines),
         Err(fault) => tell(lines, fault, Some(Side::Second)),
     }
 }

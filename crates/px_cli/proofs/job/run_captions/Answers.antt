@@ -4,14 +4,15 @@ use Rattle.px_cli.proofs.job.run_captions.Goals as goal
 
 pub returns : goal.returns
 returns g c = (
-  c.captions-printed.result,
-  c.captions-printed.ensures.reads,
-  text_told caption_text c.captions-printed.result (g.R.Source.bytes_left c.args.reader.now) c.tell_printed.result
-      (g.L.Device.failed c.args.lines.now) (g.L.Device.failed c.captions-printed.new.writer) (g.L.Device.failed c.tell_printed.new.lines)
-      (g.L.Sink.bytes_taken c.args.lines.now) (g.L.Sink.bytes_taken c.captions-printed.new.writer) (g.L.Sink.bytes_taken c.tell_printed.new.lines)
-      c.captions-printed.ensures.done c.captions-printed.ensures.writes c.tell_printed.ensures,
+  c.captions_in-printed.result,
+  c.captions_in-printed.ensures.reads,
+  c.captions_in-printed.ensures.memory,
+  text_told caption_text c.captions_in-printed.result (g.R.Source.bytes_left c.args.reader.now) c.tell_printed.result
+      (g.L.Device.failed c.args.lines.now) (g.L.Device.failed c.captions_in-printed.new.writer) (g.L.Device.failed c.tell_printed.new.lines)
+      (g.L.Sink.bytes_taken c.args.lines.now) (g.L.Sink.bytes_taken c.captions_in-printed.new.writer) (g.L.Sink.bytes_taken c.tell_printed.new.lines)
+      c.captions_in-printed.ensures.done c.captions_in-printed.ensures.writes c.tell_printed.ensures,
 )
 
 pub tell_printed-requires : goal.tell_printed-requires
-tell_printed-requires g c = room c.captions-printed.result (g.L.Device.failed c.args.lines.now) (g.L.Device.failed c.captions-printed.new.writer)
-    c.captions-printed.ensures.writes c.requires.telling
+tell_printed-requires g c = room c.captions_in-printed.result (g.L.Device.failed c.args.lines.now) (g.L.Device.failed c.captions_in-printed.new.writer)
+    c.captions_in-printed.ensures.writes c.requires.telling

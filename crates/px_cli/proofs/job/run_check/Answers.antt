@@ -1,4 +1,4 @@
 use Rattle.px_cli.proofs.job.run_check.Goals as goal
 
 pub returns : goal.returns
-returns g c = (c.check.result, c.check.ensures.done, c.check.ensures.reads, c.tell_checked.ensures)
+returns g c = (c.check_in.result, c.check_in.ensures.done, c.check_in.ensures.reads, c.check_in.ensures.memory, c.tell_checked.ensures)

@@ -1,5 +1,5 @@
 use Rattle.std.proofs.Common.{refl}
-use Rattle.px_cli.proofs.job.run_one.Goals as goal
+use Rattle.px_cli.proofs.job.run_one_in.Goals as goal
 
 pub returns-in-Show : goal.returns-in-Show
 returns-in-Show g c = rw c.in-Show.is ((refl, refl), c.run_show.ensures)
