@@ -157,7 +157,8 @@ class Parts:
 
 def is_counted(case):
     """Whether what a run costs can be told: it reads files or a whole input, and its standard output is read."""
-    return isinstance(case, Case) and not (case.endless or case.output_to or case.in_pieces or case.folders)
+    fed = case.endless or case.in_pieces or case.input_from if isinstance(case, Case) else True
+    return not (fed or case.output_to or case.folders)
 
 
 def all_of(tests, pool, failures):

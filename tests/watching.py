@@ -48,16 +48,17 @@ def blocks_read(case):
 
 def limits_of(case, outcome):
     """The most that a run may cost. Memory is in proportion to what is read, beside one buffer a file and what the words take; a
-    group of DataSets has a list of its own, which grows by doubling. A file is read in whole buffers; a text goes out in one
-    write, and a normal form in one where it fits into what waits, else in writes of which any two make up more than that."""
+    group of DataSets has a list of its own, which grows by halves, and a text is made whole. A file is read in whole buffers; a text
+    goes out in one write, and a normal form in one where it fits into what waits, else in writes of which any two make up more than that."""
     blocks = blocks_read(case)
     size, files = sum(map(len, blocks)), len(blocks)
     form = outcome.files.get("OUT", b"") if case.words[:1] == ["normalise"] and not outcome.status else outcome.output if not case.words else b""
+    text = len(outcome.output) if case.words[:1] in (["show"], ["captions"]) else 0  # made whole, in a list that doubles
     depth = 2 + (case.datasets // case.groups).bit_length() if case.groups else 0
     return Counts(
-        calls=110 + 40 * files + files * case.groups * depth,
-        asked=18 * size + files * (3 * CHUNK + 400 * case.groups) + WORDS,
-        held=6 * size + files * (2 * CHUNK + 160 * case.groups) + WORDS,
+        calls=130 + 40 * files + files * case.groups * depth,
+        asked=18 * size + files * (3 * CHUNK + 400 * case.groups) + WORDS + 4 * text,
+        held=6 * size + files * (2 * CHUNK + 160 * case.groups) + WORDS + 2 * text,
         reads=size // CHUNK + 3 * files if not case.input else size + 2,  # a pipe gives as much as it likes
         writes=(1 if len(form) <= ROOM else 2 * len(form) // ROOM + 2) + (outcome.status == 4),  # a failed one, and the line
         failed=0,
