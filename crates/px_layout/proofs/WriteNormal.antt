@@ -1,9 +1,8 @@
 -- The answers of writing the normal form.
-use Rattle.std.proofs.Common.{◌≡◌, ℕ, ◌+◌, ◌≤◌, List, [], ◌++◌, flat_map, length, Option, Ok, Err, refl, sym, ◌∙◌, ap, subst}
+use Rattle.std.proofs.Common.{◌≡◌, ℕ, ◌+◌, ◌≤◌, List, [], ◌++◌, flat_map, length, Option, Ok, Err, sym, ◌∙◌, ap, subst}
 use Rattle.std.specs.Io.KnownBytes.{Appends, Keeps}
 use Rattle.px_bytes.specs.declared.Order.TheVariants.{Most}
-use Rattle.px_bytes.specs.declared.WriteRefusal.{WriteRefusal}
-use Rattle.px_bytes.specs.declared.WriteRefusal.TheVariants.{NormalTooLong, OutOfMemory, WriteFailed}
+use Rattle.px_bytes.specs.declared.WriteRefusal.TheVariants.{WriteFailed}
 use Rattle.px_bytes.specs.Devices.{AppendsPrefix}
 use Rattle.px_bytes.specs.Parts.{limit}
 use Rattle.px_bytes.specs.Waiting.{Owes}
