@@ -1,30 +1,43 @@
--- A line written in five parts, and a flush behind what was written.
-use Rattle.std.proofs.Common.{◌≡◌, ◌+◌, ◌++◌, ◌∙◌, ap, inl, inr, ℕ, List, Option, Result}
+-- A line of five parts that wait, the parts sent, and a flush behind what was written.
+use Rattle.std.proofs.Common.{◌≡◌, ◌+◌, ◌++◌, ◌∙◌, ap, inl, inr, ℕ, List, [], Option, Result, Ok, Err}
+use Rattle.std.specs.Prelude.{⊤}
 use Rattle.std.specs.Io.KnownBytes.{Appends}
 use Rattle.px_bytes.specs.Devices.{AppendsPrefix, Writes}
-use Rattle.px_bytes.specs.WriteLaws.{appends_kept, prefix_all, prefix_first, prefix_second, writes_both}
+use Rattle.px_bytes.specs.Waiting.{Owes, Puts}
+use Rattle.px_bytes.specs.WaitingLaws.{from_none, owed_all, owed_prefix, puts_both, puts_first}
+use Rattle.px_bytes.specs.WriteLaws.{appends_kept, prefix_all}
 use Rattle.px_cli.specs.Lines.{device, Flushes, Tells}
 
-module _ (v w x y z : List ℕ) (a b c d e : Option (List ℕ)) where
-  pub stops_first : AppendsPrefix a b v → AppendsPrefix a b (v ++ (w ++ (x ++ (y ++ z))))
-  stops_first h = prefix_first a b v (w ++ (x ++ (y ++ z))) h
+-- the first of two parts was put, and a call failed behind it
+stops_behind : (a b c : Option (List ℕ)) (h i xs ys : List ℕ) → Owes a b i (h ++ xs) → AppendsPrefix b c (i ++ ys) → AppendsPrefix a c (h ++ (xs ++ ys))
+stops_behind a b c h i xs ys p q = puts_both {A = ⊤} {E = ⊤} (Err tt) a b c h i [] xs ys p q
 
-  module _ (one : Appends a b v) where
-    pub stops_second : AppendsPrefix b c w → AppendsPrefix a c (v ++ (w ++ (x ++ (y ++ z))))
-    stops_second h = prefix_second a b c v (w ++ (x ++ (y ++ z))) one (prefix_first b c w (x ++ (y ++ z)) h)
+module _ (v w x y z : List ℕ) (a b c d e : Option (List ℕ)) (h i j k l : List ℕ) where
+  pub stops_first : AppendsPrefix a b (h ++ v) → AppendsPrefix a b (h ++ (v ++ (w ++ (x ++ (y ++ z)))))
+  stops_first p = puts_first a b h v (w ++ (x ++ (y ++ z))) p
 
-    module _ (two : Appends b c w) where
-      pub stops_third : AppendsPrefix c d x → AppendsPrefix a d (v ++ (w ++ (x ++ (y ++ z))))
-      stops_third h = prefix_second a b d v (w ++ (x ++ (y ++ z))) one (prefix_second b c d w (x ++ (y ++ z)) two (prefix_first c d x (y ++ z) h))
+  module _ (one : Owes a b i (h ++ v)) where
+    pub stops_second : AppendsPrefix b c (i ++ w) → AppendsPrefix a c (h ++ (v ++ (w ++ (x ++ (y ++ z)))))
+    stops_second p = stops_behind a b c h i v (w ++ (x ++ (y ++ z))) one (puts_first b c i w (x ++ (y ++ z)) p)
 
-      module _ (three : Appends c d x) where
-        pub stops_fourth : AppendsPrefix d e y → AppendsPrefix a e (v ++ (w ++ (x ++ (y ++ z))))
-        stops_fourth h = prefix_second a b e v (w ++ (x ++ (y ++ z))) one
-            (prefix_second b c e w (x ++ (y ++ z)) two (prefix_second c d e x (y ++ z) three (prefix_first d e y z h)))
+    module _ (two : Owes b c j (i ++ w)) where
+      pub stops_third : AppendsPrefix c d (j ++ x) → AppendsPrefix a d (h ++ (v ++ (w ++ (x ++ (y ++ z)))))
+      stops_third p = stops_behind a b d h i v (w ++ (x ++ (y ++ z))) one
+          (stops_behind b c d i j w (x ++ (y ++ z)) two (puts_first c d j x (y ++ z) p))
 
-        pub writes_all : {A E : Type 0} (r : Result A E) (f : Option (List ℕ)) → Appends d e y → Writes r e f z → Writes r a f (v ++ (w ++ (x ++ (y ++ z))))
-        writes_all r f four h = writes_both r a b f v (w ++ (x ++ (y ++ z))) one
-            (writes_both r b c f w (x ++ (y ++ z)) two (writes_both r c d f x (y ++ z) three (writes_both r d e f y z four h)))
+      module _ (three : Owes c d k (j ++ x)) where
+        pub stops_fourth : AppendsPrefix d e (k ++ y) → AppendsPrefix a e (h ++ (v ++ (w ++ (x ++ (y ++ z)))))
+        stops_fourth p = stops_behind a b e h i v (w ++ (x ++ (y ++ z))) one
+            (stops_behind b c e i j w (x ++ (y ++ z)) two (stops_behind c d e j k x (y ++ z) three (puts_first d e k y z p)))
+
+        pub puts_all : {A E : Type 0} (r : Result A E) (f : Option (List ℕ)) (m : List ℕ) → Owes d e l (k ++ y) → Puts r e f l m z → Puts r a f h m (v ++ (w ++ (x ++ (y ++ z))))
+        puts_all r f m four p = puts_both r a b f h i m v (w ++ (x ++ (y ++ z))) one
+            (puts_both r b c f i j m w (x ++ (y ++ z)) two (puts_both r c d f j k m x (y ++ z) three (puts_both r d e f k l m y z four p)))
+
+-- nothing waited at first; the bytes were put, and what waits then was sent
+pub sent : {A E : Type 0} (r : Result A E) (a b c : Option (List ℕ)) (h k out : List ℕ) → h ≡ [] → Owes a b k (h ++ out) → Writes r b c k → Writes r a c out
+sent (Ok x) a b c h k out none p w = from_none (Appends a c) h out none (owed_all a b c k (h ++ out) p w)
+sent (Err x) a b c h k out none p w = from_none (AppendsPrefix a c) h out none (owed_prefix a b c k (h ++ out) p w)
 
 -- a line that was written, and then a flush
 pub told : (due : ℕ) (line : List ℕ) (status failed mid now : ℕ) (old written new : Option (List ℕ)) → mid ≡ failed → Appends old written line

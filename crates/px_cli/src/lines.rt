@@ -1,11 +1,12 @@
 // Lines and exit statuses.
 ghost use Rattle.std.specs.Prelude.{◌≡◌, ◌<◌, ◌+◌, ◌++◌, ◌^◌, None};
 ghost use Rattle.px_bytes.specs.Devices.{Counts, Writes};
+ghost use Rattle.px_bytes.specs.Waiting.{Puts};
 ghost use Rattle.px_engine.specs.declared.Fault.TheVariants.{Refused};
 ghost use Rattle.px_cli.specs.Lines.{name_of, end_of, line_of, status_of, device, Flushes, Tells, TellsFault, TellsWords, is_ended};
 
 use itoa::Buffer;
-use px_bytes::{Cause, Failed, Sink, write_whole};
+use px_bytes::{Cause, Failed, Pending, Sink, write_whole};
 use px_engine::{Fault, Side};
 
 // The name of a cause in a line.
@@ -46,48 +47,81 @@ fn ending(file: Option<Side>) -> &'static [u8]
     }
 }
 
-// Writes the line of a refusal.
-fn write_refusal<L: Sink>(
+// Puts the line of a refusal.
+fn put_refusal<L: Sink>(
+    pending: &mut Pending,
     lines: &mut L,
     cause: Cause,
     place: u32,
     file: Option<Side>,
 ) -> Result<(), Failed>
     requires { L.failed lines.old + 1 < 2 ^ 64 }
-    ensures bytes { Writes result (L.bytes_taken lines.old) (L.bytes_taken lines.new) (line_of (Refused cause place) file) }
+    ensures bytes { Puts result (L.bytes_taken lines.old) (L.bytes_taken lines.new) pending.old pending.new (line_of (Refused cause place) file) }
     ensures count { Counts result (L.failed lines.old) (L.failed lines.new) }
 {
     let mut digits = Buffer::new();
-    write_whole(lines, b"refused: ")?;
-    write_whole(lines, name(cause))?;
-    write_whole(lines, b" at ")?;
-    write_whole(lines, digits.format(place).as_bytes())?;
-    write_whole(lines, ending(file))
+    pending.put(lines, b"refused: ")?;
+    pending.put(lines, name(cause))?;
+    pending.put(lines, b" at ")?;
+    pending.put(lines, digits.format(place).as_bytes())?;
+    pending.put(lines, ending(file))
 }
 
-// Writes a text, and the end of its line.
-fn write_ended<L: Sink>(lines: &mut L, text: &[u8], file: Option<Side>) -> Result<(), Failed>
+// Puts a text, and the end of its line.
+fn put_ended<L: Sink>(
+    pending: &mut Pending,
+    lines: &mut L,
+    text: &[u8],
+    file: Option<Side>,
+) -> Result<(), Failed>
     requires { L.failed lines.old + 1 < 2 ^ 64 }
-    ensures bytes { Writes result (L.bytes_taken lines.old) (L.bytes_taken lines.new) (text.now ++ end_of file) }
+    ensures bytes { Puts result (L.bytes_taken lines.old) (L.bytes_taken lines.new) pending.old pending.new (text.now ++ end_of file) }
     ensures count { Counts result (L.failed lines.old) (L.failed lines.new) }
 {
-    write_whole(lines, text)?;
-    write_whole(lines, ending(file))
+    pending.put(lines, text)?;
+    pending.put(lines, ending(file))
 }
 
-// Writes the line of a fault.
+// Puts the line of a fault.
+fn put_line<L: Sink>(
+    pending: &mut Pending,
+    lines: &mut L,
+    fault: Fault,
+    file: Option<Side>,
+) -> Result<(), Failed>
+    requires { L.failed lines.old + 1 < 2 ^ 64 }
+    ensures bytes { Puts result (L.bytes_taken lines.old) (L.bytes_taken lines.new) pending.old pending.new (line_of fault file) }
+    ensures count { Counts result (L.failed lines.old) (L.failed lines.new) }
+{
+    match fault {
+        Fault::Refused { cause, place } => put_refusal(pending, lines, cause, place, file),
+        Fault::NormalTooLong => put_ended(pending, lines, b"refused: NormalTooLong", file),
+        Fault::OutOfMemory => put_ended(pending, lines, b"failed: OutOfMemory", file),
+        Fault::ReadFailed => put_ended(pending, lines, b"failed: ReadFailed", file),
+        Fault::WriteFailed => put_ended(pending, lines, b"failed: WriteFailed", file),
+    }
+}
+
+// Writes the line of a fault, in one write where the writer takes it.
 fn write_line<L: Sink>(lines: &mut L, fault: Fault, file: Option<Side>) -> Result<(), Failed>
     requires { L.failed lines.old + 1 < 2 ^ 64 }
     ensures bytes { Writes result (L.bytes_taken lines.old) (L.bytes_taken lines.new) (line_of fault file) }
     ensures count { Counts result (L.failed lines.old) (L.failed lines.new) }
 {
-    match fault {
-        Fault::Refused { cause, place } => write_refusal(lines, cause, place, file),
-        Fault::NormalTooLong => write_ended(lines, b"refused: NormalTooLong", file),
-        Fault::OutOfMemory => write_ended(lines, b"failed: OutOfMemory", file),
-        Fault::ReadFailed => write_ended(lines, b"failed: ReadFailed", file),
-        Fault::WriteFailed => write_ended(lines, b"failed: WriteFailed", file),
-    }
+    let mut pending = Pending::new();
+    put_line(&mut pending, lines, fault, file)?;
+    pending.send(lines)
+}
+
+// Writes a text and the end of its line, in one write where the writer takes it and both are short.
+fn write_ended<L: Sink>(lines: &mut L, text: &[u8], file: Option<Side>) -> Result<(), Failed>
+    requires { L.failed lines.old + 1 < 2 ^ 64 }
+    ensures bytes { Writes result (L.bytes_taken lines.old) (L.bytes_taken lines.new) (text.now ++ end_of file) }
+    ensures count { Counts result (L.failed lines.old) (L.failed lines.new) }
+{
+    let mut pending = Pending::new();
+    put_ended(&mut pending, lines, text, file)?;
+    pending.send(lines)
 }
 
 // The exit status of a fault whose line was written.

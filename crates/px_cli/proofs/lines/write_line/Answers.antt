@@ -1,13 +1,15 @@
+use Rattle.std.proofs.lemmas.Result.{err_from_is_err_and}
+use Rattle.px_bytes.specs.Devices.{AppendsPrefix}
+use Rattle.px_bytes.specs.WaitingLaws.{from_none}
+use Rattle.px_cli.specs.Lines.{line_of}
+use Rattle.px_cli.proofs.LineLaws.{sent}
 use Rattle.px_cli.proofs.lines.write_line.Goals as goal
 
-pub returns-in-NormalTooLong-clause-bytes : goal.returns-in-NormalTooLong-clause-bytes
-returns-in-NormalTooLong-clause-bytes g c = rw c.in-NormalTooLong.is c.write_ended.ensures.bytes
+pub returns-in_err-put_line-clause-bytes : goal.returns-in_err-put_line-clause-bytes
+returns-in_err-put_line-clause-bytes g c =
+    let p = err_from_is_err_and c.from_residual.result c.from_residual.ensures.1 in
+    rw p.1 (from_none (AppendsPrefix (g.L.Sink.bytes_taken c.args.lines.now) _) _ (line_of c.args.fault c.args.file) c.new-pending.ensures c.in_err-put_line.ensures.bytes)
 
-pub returns-in-OutOfMemory-clause-bytes : goal.returns-in-OutOfMemory-clause-bytes
-returns-in-OutOfMemory-clause-bytes g c = rw c.in-OutOfMemory.is c.write_ended-in-OutOfMemory.ensures.bytes
-
-pub returns-in-ReadFailed-clause-bytes : goal.returns-in-ReadFailed-clause-bytes
-returns-in-ReadFailed-clause-bytes g c = rw c.in-ReadFailed.is c.write_ended-in-ReadFailed.ensures.bytes
-
-pub returns-in-WriteFailed-clause-bytes : goal.returns-in-WriteFailed-clause-bytes
-returns-in-WriteFailed-clause-bytes g c = rw c.in-WriteFailed.is c.write_ended-in-WriteFailed.ensures.bytes
+pub returns-clause-bytes : goal.returns-clause-bytes
+returns-clause-bytes g c =
+    sent c.send.result _ _ _ c.new-pending.result _ (line_of c.args.fault c.args.file) c.new-pending.ensures c.in_ok-put_line.ensures.bytes c.send.ensures.bytes
