@@ -1,6 +1,9 @@
 -- What the words of a command line ask for.
-use Rattle.std.specs.Prelude.{◌≡◌, ◌≢◌, List, [], ◌∷◌, Option, Some, codes, true, is_some, ⊤}
+use Rattle.std.specs.Prelude.{◌≡◌, ◌≢◌, ◌⊎◌, List, [], ◌∷◌, Option, Some, codes, true, is_some, ⊤}
 use Rattle.clap.specs.Words.{App, Row, Rule, Shape, Text, first_of, new_app, new_rule, subcommand_of, takes, with_rule, with_subcommand}
+use Rattle.clap.specs.Kinds.{IsAmong, Kinds}
+use Rattle.clap.specs.declared.error.ErrorKind.{ErrorKind}
+use Rattle.clap.specs.declared.error.ErrorKind.TheVariants as kind
 use Rattle.px_cli.specs.declared.words.One.{One}
 use Rattle.px_cli.specs.declared.words.One.TheVariants as one
 use Rattle.px_cli.specs.declared.words.Words.{Words}
@@ -91,3 +94,19 @@ IsTold (words.Help text) = ⊤
 IsTold (words.Refused text) = ⊤
 IsTold words.NoMemory = ⊤
 IsTold _ = ⊥
+
+-- clap answers with what was asked of it, and not for a mistake in the words
+abbrev pub IsShown : ErrorKind → Type 0
+IsShown k = (k ≡ kind.DisplayHelp) ⊎ (k ≡ kind.DisplayVersion)
+
+-- help or the version where clap's error is of that kind, and a refusal where it is of another
+abbrev pub TellsKind : ErrorKind → Words → Type 0
+TellsKind k (words.Help text) = IsShown k
+TellsKind k (words.Refused text) = IsShown k → ⊥
+TellsKind k _ = ⊤
+
+-- the same of the kinds that clap's error may have: a refusal is for a mistake, or for one word for both files of normalise
+abbrev pub IsFor : Kinds → Words → Type 0
+IsFor kinds (words.Help text) = (k : ErrorKind) × IsAmong k kinds × IsShown k
+IsFor kinds (words.Refused text) = (text ≡ out_is_file) ⊎ ((k : ErrorKind) × IsAmong k kinds × (IsShown k → ⊥))
+IsFor kinds _ = ⊤

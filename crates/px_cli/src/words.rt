@@ -1,9 +1,9 @@
 // What the words of a command line ask for.
 ghost use Rattle.std.specs.Prelude.{◌≡◌, ◌↔◌, ◌⊎◌, List, Some, [], false, map, codes, IfOk, IfSome};
-ghost use Rattle.clap.specs.Words.{app_of, first_of, found_of, kind_of, rows_of, shape_of, subcommand_of, subcommand_rows_of};
+ghost use Rattle.clap.specs.Words.{app_of, fault_of, first_of, found_of, kind_of, rows_of, shape_of, subcommand_of, subcommand_rows_of};
 ghost use Rattle.clap.specs.declared.builder.Command.TheViews.{out-Command};
 ghost use Rattle.px_cli.specs.declared.words.Words.TheVariants as words_of;
-ghost use Rattle.px_cli.specs.Words.{bare, exifnorm, name_of, of_one, of_two, Asks, AsksFiles, AsksIn, AreTaken, IsTold, TakesCommands};
+ghost use Rattle.px_cli.specs.Words.{bare, exifnorm, name_of, of_one, of_two, Asks, AsksFiles, AsksIn, AreTaken, IsFor, IsTold, TakesCommands, TellsKind};
 
 use clap::error::ErrorKind;
 use clap::{Arg, ArgMatches, Command, Error};
@@ -277,6 +277,7 @@ fn read_match(alloc: Global, matches: &ArgMatches<'_>) -> Words
 // What clap says where there is no match.
 fn read_error(alloc: Global, error: &Error) -> Words
     ensures asked { IsTold result }
+    ensures kind { TellsKind (kind_of error.now) result }
     ensures memory { kind_of error.now ≡ ErrorKind.OutOfMemory → result ≡ words_of.NoMemory }
 {
     let kind = error.kind();
@@ -303,6 +304,7 @@ fn commands_are_taken()
 pub fn parse<'a, S: AsStr>(alloc: Global, words: &'a [S]) -> Words
     ensures filter { map S.text words.entry.now ≡ [] ↔ result ≡ words_of.Filter }
     ensures asked { Asks (subcommand_of exifnorm (map S.text words.entry.now)) result }
+    ensures told { IsFor (fault_of exifnorm (map S.text words.entry.now)) result }
     ensures taken { AreTaken (map S.text words.entry.now) → AsksFiles (subcommand_of exifnorm (map S.text words.entry.now)) result }
 {
     if words.is_empty() {
