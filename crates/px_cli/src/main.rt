@@ -16,6 +16,8 @@ ghost use Rattle.std.specs.Prelude.{◌≡◌, drop};
 
 mod files;
 mod job;
+#[cfg(test)]
+mod line_tests;
 mod lines;
 mod run;
 #[cfg(test)]
