@@ -27,6 +27,8 @@ mod caption_tests;
 mod dataset_lines;
 mod faults;
 mod field_lines;
+#[cfg(test)]
+mod flush_tests;
 mod gather;
 mod hand;
 mod headline;
