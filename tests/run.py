@@ -125,6 +125,7 @@ class Parts:
         yield "devices that fail once", self.failing([it for it in small if len(it.output or b"") < 20_000 and "type" not in it.name])
         if not self.only or "large" in self.only:
             yield "large blocks, and what they cost", (it for kind in large_kinds() for it in self.costing(named(kind)))
+        if not self.only:
             # a program that the library doesn't reach would pass in silence
             seen = [] if sum(self.refused) else ["no run met a refused growth, so the library that refuses them is not in use"]
             yield "the libraries that are preloaded", [("a growth is refused at all", lambda: seen)]

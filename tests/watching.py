@@ -11,6 +11,7 @@ SECONDS = 60
 ROOM = 8192  # what waits for a writer at most
 CHUNK = 65536  # what is read at once at most
 WORDS = 48 * 1024  # what reading the command line takes at most
+ITEM = 24  # bytes of a DataSet that is held; a list of them has room for half as many more
 
 
 @dataclass
@@ -54,13 +55,13 @@ def limits_of(case, outcome):
     size, files = sum(map(len, blocks)), len(blocks)
     form = outcome.files.get("OUT", b"") if case.words[:1] == ["normalise"] and not outcome.status else outcome.output if not case.words else b""
     text = len(outcome.output) if case.words[:1] in (["show"], ["captions"]) else 0  # made whole, in a list that doubles
-    depth = 2 + (case.datasets // case.groups).bit_length() if case.groups else 0
+    depth = 4 + 2 * (case.datasets // case.groups).bit_length() if case.groups else 0
     return Counts(
         calls=130 + 40 * files + files * case.groups * depth,
-        asked=18 * size + files * (3 * CHUNK + 400 * case.groups) + WORDS + 4 * text,
-        held=6 * size + files * (2 * CHUNK + 160 * case.groups) + WORDS + 2 * text,
+        asked=18 * size + files * (3 * CHUNK + 400 * case.groups + 2 * ITEM * case.datasets) + WORDS + 4 * text,
+        held=6 * size + files * (2 * CHUNK + 160 * case.groups + ITEM // 2 * case.datasets) + WORDS + 2 * text,
         reads=size // CHUNK + 3 * files if not case.input else size + 2,  # a pipe gives as much as it likes
-        writes=(1 if len(form) <= ROOM else 2 * len(form) // ROOM + 2) + (outcome.status == 4),  # a failed one, and the line
+        writes=(1 if len(form) <= ROOM else 2 * len(form) // ROOM + 2) + (outcome.status == 4),  # one that failed, and the line
         failed=0,
     )
 
