@@ -168,6 +168,26 @@ def an_older_source_in_its_place_is_built(room: Room) -> None:
     due(room.call().stdout == "old: \n", room.log())
 
 
+def what_changes_behind_a_quick_look_is_noticed(room: Room) -> None:
+    old = room.folder / "old.rt"
+    old.write_text("old")
+    os.utime(old, (10**9, 10**9))
+    room.call()
+    time.sleep(1.1)
+    room.call()  # notes that all was as it was
+    due((room.top / "out" / "looked").exists(), "no look is noted")
+    time.sleep(1.1)
+    due((room.call().stdout, room.builds()) == ("one: \n", 1), room.log())
+    os.rename(old, room.main)  # another file in its place, with an older time
+    due(room.call().stdout == "old: \n", room.log())
+    room.call()
+    time.sleep(1.1)
+    room.call()
+    (room.main.parent / "further.rt").write_text("more")
+    room.call()
+    due(room.builds() == 3, room.log())
+
+
 def a_source_that_is_taken_away_or_added_is_noticed(room: Room) -> None:
     other = room.main.parent / "other.rt"
     other.write_text("more")
@@ -349,6 +369,7 @@ TESTS = [
     a_later_call_builds_nothing_and_says_nothing,
     a_changed_source_is_built,
     an_older_source_in_its_place_is_built,
+    what_changes_behind_a_quick_look_is_noticed,
     a_source_that_is_taken_away_or_added_is_noticed,
     touched_and_copied_sources_are_not_built_again,
     another_toolchain_builds_again_and_the_same_elsewhere_does_not,
