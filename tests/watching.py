@@ -5,6 +5,7 @@ import errno
 import os
 from dataclasses import dataclass
 
+from meanings import LIMIT
 from program import run
 
 SECONDS = 60
@@ -39,11 +40,12 @@ def watched(program, shim, case, **failing):
     return outcome, Counts(*map(int, told)) if told else None
 
 
-def blocks_read(case):
-    """The blocks that a run reads."""
+def sizes_read(case):
+    """How many bytes of each of its inputs a run reads: of a device without end the limit, a prefix and one byte more."""
     if not case.words:
-        return [case.files[case.input_from] if case.input_from else case.input]
-    named = [case.files[name] for name in case.words[1:] if name in case.files]
+        return [len(case.files[case.input_from] if case.input_from else case.input)]
+    sizes = {**{name: len(block) for name, block in case.files.items()}, "/dev/zero": LIMIT + 7}
+    named = [sizes[name] for name in case.words[1:] if name in sizes]
     return named[:1] if case.words[0] == "normalise" else named
 
 
@@ -51,8 +53,8 @@ def limits_of(case, outcome):
     """The most that a run may cost. Memory is in proportion to what is read, beside one buffer a file and what the words take; a
     group of DataSets has a list of its own, which grows by halves, and a text is made whole. A file is read in whole buffers; a text
     goes out in one write, and a normal form in one where it fits into what waits, else in writes of which any two make up more than that."""
-    blocks = blocks_read(case)
-    size, files = sum(map(len, blocks)), len(blocks)
+    sizes = sizes_read(case)
+    size, files = sum(sizes), len(sizes)
     form = outcome.files.get("OUT", b"") if case.words[:1] == ["normalise"] and not outcome.status else outcome.output if not case.words else b""
     text = len(outcome.output) if case.words[:1] in (["show"], ["captions"]) else 0  # made whole, in a list that doubles
     depth = 4 + 2 * (case.datasets // case.groups).bit_length() if case.groups else 0
