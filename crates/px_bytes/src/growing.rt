@@ -18,7 +18,7 @@ pub struct Growing {
 
 impl Model for Growing {
     ghost use Rattle.std.specs.Prelude.{◌≡◌, nat_lt};
-    ghost use Rattle.px_bytes.specs.Grown.{Grown};
+    ghost use Rattle.px_bytes.specs.calls.Grown.{Grown};
 
     ghost Value = { Grown };
 

@@ -2,7 +2,7 @@
 ghost use Rattle.std.specs.Prelude.{◌≡◌, ◌≢◌, ℕ, ◌+◌, ◌*◌, ◌/◌, ◌<◌, ◌≤◌, List, [], false, length, get_or, max, IfSome, IfNone, OnOk, OnErr};
 ghost use Rattle.std.specs.Int.{bit_at};
 ghost use Rattle.px_bytes.specs.Lacking.{Lacks, MayAsk};
-ghost use Rattle.px_bytes.specs.Marks.{Has, Sums, IsLast, HasNone, IsLastWord, HasNoWord, SameMarks, MarkedAt};
+ghost use Rattle.px_bytes.specs.calls.Marks.{Has, Sums, IsLast, HasNone, IsLastWord, HasNoWord, SameMarks, MarkedAt};
 
 use crate::memory::{Memory, Refused};
 use std::marker::Model;
@@ -23,7 +23,7 @@ pub struct Marks {
 
 impl Model for Marks {
     ghost use Rattle.std.specs.Prelude.{List, ℕ};
-    ghost use Rattle.px_bytes.specs.Marks.{Sums};
+    ghost use Rattle.px_bytes.specs.calls.Marks.{Sums};
 
     ghost Value = { List ℕ };
 

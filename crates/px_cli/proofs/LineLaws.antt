@@ -4,8 +4,8 @@ use Rattle.std.specs.Prelude.{⊤}
 use Rattle.std.specs.Io.KnownBytes.{Appends}
 use Rattle.px_bytes.specs.Devices.{AppendsPrefix, Writes}
 use Rattle.px_bytes.specs.Waiting.{Owes, Puts}
-use Rattle.px_bytes.specs.WaitingLaws.{from_none, owed_all, owed_prefix, puts_both, puts_first}
-use Rattle.px_bytes.specs.WriteLaws.{appends_kept, prefix_all}
+use Rattle.px_bytes.specs.lemmas.WaitingLaws.{from_none, owed_all, owed_prefix, puts_both, puts_first}
+use Rattle.px_bytes.specs.lemmas.WriteLaws.{appends_kept, prefix_all}
 use Rattle.px_cli.specs.Lines.{device, Flushes, Tells}
 
 -- the first of two parts was put, and a call failed behind it

@@ -11,7 +11,7 @@ use Rattle.px_bytes.specs.Reading.{ReadsUpTo, ConsumesAtMost}
 use Rattle.px_iim.specs.Group.{Record, IsRecord}
 use Rattle.px_iim.specs.Record.{SaysIim}
 use Rattle.px_iim.specs.Check.{iim_checks}
-use Rattle.px_iim.specs.BoundLaws as iim
+use Rattle.px_iim.specs.lemmas.BoundLaws as iim
 use Rattle.px_tree.specs.Tree.{Meaning}
 use Rattle.px_tree.specs.Says.{SaysExif}
 use Rattle.px_tree.specs.Fits.{Fits}
@@ -26,8 +26,8 @@ use Rattle.px_engine.specs.declared.faults.Fault.TheVariants.{Refused, NormalToo
 use Rattle.px_engine.specs.Input.{IsSaidIn, IsFaultyIn, IsRefusedIn, IsSaid, IsFaulty, IsRefused, IsUnsaid, CountsReadFault}
 use Rattle.px_engine.specs.Lacking.{LacksFault}
 use Rattle.px_engine.specs.Runs.{KnownSaid, Stops}
-use Rattle.px_engine.specs.Faults.{refused}
-use Rattle.px_engine.specs.FileLaws as file
+use Rattle.px_engine.specs.calls.Faults.{refused}
+use Rattle.px_engine.specs.lemmas.FileLaws as file
 use Rattle.px_engine.specs.Laws.{taken}
 
 -- ---- a block

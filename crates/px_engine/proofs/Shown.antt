@@ -11,8 +11,8 @@ use Rattle.px_field.specs.declared.Kind.TheVariants.{Of, Whole}
 use Rattle.px_field.specs.declared.Element.{Element}
 use Rattle.px_field.specs.declared.Element.TheVariants as element
 use Rattle.px_field.specs.Values.{Value, is_bytes, spell, spelled}
-use Rattle.px_field.specs.ValueLaws.{spell-bytes}
-use Rattle.px_engine.specs.Words.{shown_bytes}
+use Rattle.px_field.specs.lemmas.ValueLaws.{spell-bytes}
+use Rattle.px_engine.specs.calls.Words.{shown_bytes}
 use Rattle.px_engine.specs.Listing.{element_text, divider, shown_elements}
 use Rattle.px_engine.specs.Captions.{is_text}
 use Rattle.px_engine.proofs.Parts.{encode_cons, encode_none}

@@ -4,7 +4,7 @@ use Rattle.px_bytes.specs.Parts.{limit}
 use Rattle.px_engine.specs.Files.{Said, Says, normal, block_of}
 use Rattle.px_engine.specs.Input.{IsSaid}
 use Rattle.px_engine.specs.Laws.{OneSaid, NormalSays}
-use Rattle.px_engine.specs.FileLaws.{own_block}
+use Rattle.px_engine.specs.lemmas.FileLaws.{own_block}
 use Rattle.px_engine.specs.Headline.{IsFormOf, IsItsOwn, Headline}
 
 module _ (one : OneSaid) (says : NormalSays) where

@@ -1,15 +1,12 @@
-pub mod Faults
 pub mod Files
-pub mod Seen
 pub mod Input
 pub mod Lacking
 pub mod Runs
 pub mod Laws
-pub mod FileLaws
 pub mod Headline
 pub mod Hand
-pub mod Words
 pub mod Listing
 pub mod Captions
-pub mod CaptionView
 pub mod Prints
+pub mod calls
+pub mod lemmas

@@ -14,7 +14,7 @@ use Rattle.px_field.specs.Values.{Value, is_bytes}
 use Rattle.px_iim.specs.Group.{Group, Record}
 use Rattle.px_tree.specs.Tree.{Fields, ExifPart, Thumbnail, Meaning}
 use Rattle.px_engine.specs.Files.{Said, Exif, Iim}
-use Rattle.px_engine.specs.Words.{sized_bytes}
+use Rattle.px_engine.specs.calls.Words.{sized_bytes}
 
 -- ---- fields
 

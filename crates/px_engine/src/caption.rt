@@ -1,6 +1,6 @@
 // Captions: labelled texts.
 ghost use Rattle.std.specs.Prelude.{◌≡◌, ◌<◌, ◌↔◌, IsTrue, List, [], length, slice_get, Some};
-ghost use Rattle.px_engine.specs.CaptionView.{caption_view};
+ghost use Rattle.px_engine.specs.calls.CaptionView.{caption_view};
 
 use crate::labels::Label;
 use std::marker::Model;
@@ -26,7 +26,7 @@ pub struct Captions<'a> {
 impl<'a> Model for Captions<'a> {
     ghost use Rattle.std.specs.Prelude.{Bool, List, map};
     ghost use Rattle.px_engine.specs.Captions.{Labelled};
-    ghost use Rattle.px_engine.specs.CaptionView.{caption_view};
+    ghost use Rattle.px_engine.specs.calls.CaptionView.{caption_view};
 
     ghost Value = { Bool × List Labelled };
 

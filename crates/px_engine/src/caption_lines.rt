@@ -1,13 +1,13 @@
 // The lines of captions, escaped, made group by group.
 ghost use Rattle.std.specs.Prelude.{◌≡◌, [], ◌∷◌, ◌++◌, map, filter_map, OnOk, IfOk};
 ghost use Rattle.px_bytes.specs.Lacking.{Lacks};
-ghost use Rattle.px_iim.specs.View.{item_view};
+ghost use Rattle.px_iim.specs.calls.View.{item_view};
 ghost use Rattle.px_tree.specs.Roles.{at_tag};
-ghost use Rattle.px_tree.specs.Seen.{meaning_of};
+ghost use Rattle.px_tree.specs.calls.Seen.{meaning_of};
 ghost use Rattle.px_engine.specs.Files as files;
 ghost use Rattle.px_engine.specs.Captions.{is_plain, escaped_byte, escaped, labelled, text_captions, caption_line, caption_lines, charset_line, iim_captions, iim_lines, exif_captions, caption_text};
-ghost use Rattle.px_engine.specs.CaptionView.{caption_view};
-ghost use Rattle.px_engine.specs.Seen.{said_of};
+ghost use Rattle.px_engine.specs.calls.CaptionView.{caption_view};
+ghost use Rattle.px_engine.specs.calls.Seen.{said_of};
 
 use crate::caption::Caption;
 use crate::gather::{GROUPS, declares_utf8, text_of};

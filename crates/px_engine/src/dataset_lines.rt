@@ -1,7 +1,7 @@
 // The lines of DataSets: record number, number, length and data.
 ghost use Rattle.std.specs.Prelude.{◌≡◌, ◌++◌, map, length, flat_map, OnOk};
 ghost use Rattle.px_bytes.specs.Lacking.{Lacks};
-ghost use Rattle.px_iim.specs.View.{item_view};
+ghost use Rattle.px_iim.specs.calls.View.{item_view};
 ghost use Rattle.px_engine.specs.Listing.{dataset_line, dataset_lines, dataset_count};
 
 use crate::texts::{push_decimal, push_sized};

@@ -61,7 +61,7 @@ impl From<Refused> for Fault {
 
 impl From<ReadFault> for Fault {
     ghost use Rattle.std.specs.Prelude.{◌≡◌};
-    ghost use Rattle.px_engine.specs.Faults.{read_fault};
+    ghost use Rattle.px_engine.specs.calls.Faults.{read_fault};
 
     ghost from_gives = { λ r e. e ≡ read_fault r };
 
@@ -75,7 +75,7 @@ impl From<ReadFault> for Fault {
 
 impl From<Refusal> for Fault {
     ghost use Rattle.std.specs.Prelude.{◌≡◌};
-    ghost use Rattle.px_engine.specs.Faults.{refused};
+    ghost use Rattle.px_engine.specs.calls.Faults.{refused};
 
     ghost from_gives = { λ r e. e ≡ refused r };
 
@@ -89,7 +89,7 @@ impl From<Refusal> for Fault {
 
 impl From<WriteRefusal> for Fault {
     ghost use Rattle.std.specs.Prelude.{◌≡◌};
-    ghost use Rattle.px_engine.specs.Faults.{unwritten};
+    ghost use Rattle.px_engine.specs.calls.Faults.{unwritten};
 
     ghost from_gives = { λ r e. e ≡ unwritten r };
 

@@ -1,6 +1,6 @@
 // Flushes, counted: each run that writes asks for one, behind the last byte.
 ghost use Rattle.std.specs.Prelude.{◌≡◌};
-ghost use Rattle.px_bytes.specs.Watching.{failures_of};
+ghost use Rattle.px_bytes.specs.calls.Watching.{failures_of};
 
 use crate::{Fault, captions, normalise, show};
 use px_bytes::Watched;

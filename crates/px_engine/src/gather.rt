@@ -3,13 +3,13 @@ ghost use Rattle.std.specs.Prelude.{◌≡◌, [], ◌∷◌, ◌++◌, map, fil
 ghost use Rattle.px_bytes.specs.Lacking.{Lacks};
 ghost use Rattle.px_bytes.specs.declared.Order.TheVariants.{Most};
 ghost use Rattle.px_field.specs.Values.{spelled};
-ghost use Rattle.px_iim.specs.View.{item_view};
+ghost use Rattle.px_iim.specs.calls.View.{item_view};
 ghost use Rattle.px_tree.specs.Roles.{at_tag};
-ghost use Rattle.px_tree.specs.Seen.{meaning_of};
+ghost use Rattle.px_tree.specs.calls.Seen.{meaning_of};
 ghost use Rattle.px_engine.specs.Files as files;
 ghost use Rattle.px_engine.specs.Captions.{labelled, iim_captions, utf8_designation, declares_utf8, is_text, text_captions, exif_captions, captions_in};
-ghost use Rattle.px_engine.specs.CaptionView.{caption_view};
-ghost use Rattle.px_engine.specs.Seen.{said_of};
+ghost use Rattle.px_engine.specs.calls.CaptionView.{caption_view};
+ghost use Rattle.px_engine.specs.calls.Seen.{said_of};
 
 use crate::caption::{Caption, Captions};
 use crate::labels::{Label, label_of};

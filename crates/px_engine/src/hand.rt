@@ -9,7 +9,7 @@ ghost use Rattle.px_engine.specs.Input.{IsUnsaid};
 ghost use Rattle.px_engine.specs.Lacking.{LacksRun, LacksPair};
 ghost use Rattle.px_engine.specs.Listing.{listing};
 ghost use Rattle.px_engine.specs.Prints.{IsTextOf};
-ghost use Rattle.px_engine.specs.Seen.{said_of};
+ghost use Rattle.px_engine.specs.calls.Seen.{said_of};
 
 use crate::caption_lines::caption_text;
 use crate::faults::{CompareFault, Fault, Side};

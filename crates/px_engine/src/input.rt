@@ -2,12 +2,12 @@
 ghost use Rattle.std.specs.Prelude.{◌≡◌, ◌<◌, ◌+◌, ◌^◌, Bool, IfOk, IfErr};
 ghost use Rattle.px_bytes.specs.Checks.{LacksBlock};
 ghost use Rattle.px_bytes.specs.Reading.{ReadsUpTo, ConsumesAtMost};
-ghost use Rattle.px_tree.specs.Seen.{meaning_of};
+ghost use Rattle.px_tree.specs.calls.Seen.{meaning_of};
 ghost use Rattle.px_engine.specs.declared.kinds.BlockKind.TheVariants as kind;
 ghost use Rattle.px_engine.specs.Files as said;
 ghost use Rattle.px_engine.specs.Input.{IsSaidIn, IsRefusedIn, IsSaid, IsRefused, CountsRead, CountsReadOf};
 ghost use Rattle.px_engine.specs.Lacking.{LacksRun, LacksPair};
-ghost use Rattle.px_engine.specs.Seen.{said_of};
+ghost use Rattle.px_engine.specs.calls.Seen.{said_of};
 
 use crate::faults::{CompareFault, Fault, Side};
 use crate::kinds::{BlockKind, block_of, kind_of};

@@ -3,7 +3,7 @@ ghost use Rattle.std.specs.Prelude.{◌≡◌, IfOk, IfErr};
 ghost use Rattle.px_engine.specs.Files.{kind_said};
 ghost use Rattle.px_engine.specs.Input.{IsSaid, IsUnsaid};
 ghost use Rattle.px_engine.specs.Lacking.{LacksRun, LacksPair};
-ghost use Rattle.px_engine.specs.Seen.{said_of};
+ghost use Rattle.px_engine.specs.calls.Seen.{said_of};
 
 use crate::faults::{CompareFault, Fault, Side};
 use crate::input::read_any_in;

@@ -1,9 +1,9 @@
 // The listing of what a file says.
 ghost use Rattle.std.specs.Prelude.{◌≡◌, ◌++◌, flat_map, option_map, OnOk, IfOk};
 ghost use Rattle.px_bytes.specs.Lacking.{Lacks};
-ghost use Rattle.px_tree.specs.Seen.{exif_of, thumb_of, meaning_of};
+ghost use Rattle.px_tree.specs.calls.Seen.{exif_of, thumb_of, meaning_of};
 ghost use Rattle.px_engine.specs.Listing.{jpeg_lines, strip_line, strips_lines, record_lines, directory_lines, exif_lines, thumb_lines, exif_listing, iim_listing, listing};
-ghost use Rattle.px_engine.specs.Seen.{said_of};
+ghost use Rattle.px_engine.specs.calls.Seen.{said_of};
 
 use crate::dataset_lines::{count_datasets, push_datasets};
 use crate::field_lines::push_fields;

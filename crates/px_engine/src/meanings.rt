@@ -1,6 +1,6 @@
 // What a file says, and whether two say the same.
 ghost use Rattle.std.specs.Prelude.{◌≡◌, ◌↔◌, IsTrue};
-ghost use Rattle.px_engine.specs.Seen.{said_of};
+ghost use Rattle.px_engine.specs.calls.Seen.{said_of};
 
 use px_iim::{Iim, same_iim};
 use px_tree::{Meaning, same_meaning};

@@ -2,7 +2,7 @@
 ghost use Rattle.std.specs.Prelude.{◌≡◌, ◌≤◌, ◌*◌, ◌++◌, length, OnOk};
 ghost use Rattle.hex.specs.Hex.{encode_lower};
 ghost use Rattle.px_bytes.specs.Lacking.{Lacks};
-ghost use Rattle.px_engine.specs.Words.{shown_bytes, sized_bytes};
+ghost use Rattle.px_engine.specs.calls.Words.{shown_bytes, sized_bytes};
 
 use hex::encode_to_slice;
 use itoa::{Buffer, Integer};
@@ -69,7 +69,7 @@ pub(crate) fn push_shown(
 }
 
 // Appends how many bytes there are, and the bytes, up to the end of the line.
-#[tactic(auto, unfolding(crate::specs::Words::sized_bytes))]
+#[tactic(auto, unfolding(crate::specs::calls::Words::sized_bytes))]
 pub(crate) fn push_sized(
     memory: &mut Memory,
     bytes: &[u8],

@@ -1,9 +1,9 @@
 // The normal form of what is said, written.
 ghost use Rattle.std.specs.Prelude.{◌≡◌, ◌<◌, ◌+◌, ◌^◌};
-ghost use Rattle.px_engine.specs.Faults.{written};
+ghost use Rattle.px_engine.specs.calls.Faults.{written};
 ghost use Rattle.px_engine.specs.Files.{CanBeWritten};
 ghost use Rattle.px_engine.specs.Runs.{WritesSaid};
-ghost use Rattle.px_engine.specs.Seen.{said_of};
+ghost use Rattle.px_engine.specs.calls.Seen.{said_of};
 
 use crate::faults::Fault;
 use crate::meanings::Said;

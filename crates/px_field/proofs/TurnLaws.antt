@@ -11,7 +11,7 @@ use Rattle.std.proofs.lemmas.Slice.{take-put_mid}
 use borrow.Rule.Slice.PartMut.{put_mid}
 use Rattle.px_bytes.specs.declared.Order.{Order}
 use Rattle.px_bytes.specs.Numbers.{number, spelling, AreBytes}
-use Rattle.px_bytes.specs.NumberLaws.{number-lt, length-spelling}
+use Rattle.px_bytes.specs.lemmas.NumberLaws.{number-lt, length-spelling}
 use Rattle.px_bytes.specs.Parts.{pieces}
 use Rattle.px_field.specs.declared.forms.Form.{Form}
 use Rattle.px_field.specs.declared.forms.Form.TheVariants as form
@@ -20,10 +20,10 @@ use Rattle.px_field.specs.declared.turning.Width.{Width}
 use Rattle.px_field.specs.declared.turning.Width.TheVariants as width
 use Rattle.px_field.specs.Forms.{size}
 use Rattle.px_field.specs.Values.{spell, element_of, widened, IsWhole, elements, count_in, form_in}
-use Rattle.px_field.specs.Views.{shown}
-use Rattle.px_field.specs.Turning.{width_of, read_by, written_by, turned}
-use Rattle.px_field.specs.PieceLaws.{bytes_take, bytes_drop}
-use Rattle.px_field.specs.ElementLaws.{spell-element_of}
+use Rattle.px_field.specs.calls.Views.{shown}
+use Rattle.px_field.specs.calls.Turning.{width_of, read_by, written_by, turned}
+use Rattle.px_field.specs.lemmas.PieceLaws.{bytes_take, bytes_drop}
+use Rattle.px_field.specs.lemmas.ElementLaws.{spell-element_of}
 
 -- ---- pieces
 

@@ -6,7 +6,7 @@ use Rattle.std.proofs.lemmas.List.{length-map}
 use Rattle.std.proofs.lemmas.Option.{slice_get-map}
 use Rattle.px_bytes.specs.declared.Order.{Order}
 use Rattle.px_bytes.specs.Numbers.{AreBytes}
-use Rattle.px_bytes.specs.EachLaws.{all_at}
+use Rattle.px_bytes.specs.lemmas.EachLaws.{all_at}
 use Rattle.px_field.specs.declared.forms.Form.{Form}
 use Rattle.px_field.specs.declared.forms.Form.TheVariants as form
 use Rattle.px_field.specs.declared.forms.Kind.{Kind}
@@ -15,8 +15,8 @@ use Rattle.px_field.specs.declared.forms.Element.{Element}
 use Rattle.px_field.specs.declared.forms.Element.TheVariants as element
 use Rattle.px_field.specs.Forms.{size}
 use Rattle.px_field.specs.Values.{elements, widened, count_in, form_in, IsValue, IsWhole, IsOf, Value, is_bytes, spell, spelled, value_in, whole_in}
-use Rattle.px_field.specs.ValueLaws.{length-elements, IsValue-value_in, IsValue-whole_in, count_in-whole, elements-bytes, spell-bytes, spelled-value_in, spelled-whole_in, value_in-spelled, whole_in-spelled}
-use Rattle.px_field.specs.Views.{shown}
+use Rattle.px_field.specs.lemmas.ValueLaws.{length-elements, IsValue-value_in, IsValue-whole_in, count_in-whole, elements-bytes, spell-bytes, spelled-value_in, spelled-whole_in, value_in-spelled, whole_in-spelled}
+use Rattle.px_field.specs.calls.Views.{shown}
 
 -- an element lies inside
 pub element_fits : (i n : ℕ) (f : Form) → i < n / size f → i * size f + size f ≤ n

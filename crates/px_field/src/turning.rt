@@ -3,7 +3,7 @@ ghost use Rattle.std.specs.Prelude.{◌≡◌, ◌≤◌, ◌*◌, length, flat_
 ghost use Rattle.px_bytes.specs.Parts.{pieces};
 ghost use Rattle.px_bytes.specs.declared.Order.{Order as AnyOrder};
 ghost use Rattle.px_field.specs.declared.turning.Width.TheVariants.{One, Two, Four, Pair, Eight, Widened};
-ghost use Rattle.px_field.specs.Turning.{width_of, read_by, turned, written_by};
+ghost use Rattle.px_field.specs.calls.Turning.{width_of, read_by, turned, written_by};
 
 use crate::forms::Form;
 use px_bytes::Order;

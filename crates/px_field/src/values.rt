@@ -27,7 +27,7 @@ impl<'a> Model for Value<'a> {
 
     ghost Value = { values.Value };
 
-    ghost use Rattle.px_field.specs.Views.{value_of, IsSound};
+    ghost use Rattle.px_field.specs.calls.Views.{value_of, IsSound};
 
     ghost view = { value_of };
 

@@ -5,7 +5,7 @@ ghost use Rattle.px_bytes.specs.Checks.{first_false};
 ghost use Rattle.px_bytes.specs.Numbers.{number};
 ghost use Rattle.px_iim.specs.Record.{form, extra, count, size, is_marked, has_form, is_end};
 ghost use Rattle.px_iim.specs.Check.{dataset_checks};
-ghost use Rattle.px_iim.specs.Reading.{Reads};
+ghost use Rattle.px_iim.specs.calls.Reading.{Reads};
 
 use px_bytes::{Cause, Order};
 

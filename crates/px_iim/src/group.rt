@@ -2,7 +2,7 @@
 ghost use Rattle.std.specs.Prelude.{◌≡◌, ◌+◌, ◌/◌, ◌<◌, ◌≤◌, ℕ, map, max, MatchResult, MatchOption, vec_len, vec_capacity, OnOk, OnErr};
 ghost use Rattle.px_bytes.specs.Lacking.{Lacks};
 ghost use Rattle.px_iim.specs.Group.{named, put};
-ghost use Rattle.px_iim.specs.View.{item_view, groups_view, numbers, Rises, Found, Missing, MissingIn, Holds, Appended, Inserted, octets_left};
+ghost use Rattle.px_iim.specs.calls.View.{item_view, groups_view, numbers, Rises, Found, Missing, MissingIn, Holds, Appended, Inserted, octets_left};
 
 use px_bytes::{LIMIT, Memory, Refused};
 
@@ -145,7 +145,7 @@ pub struct All<'b, 'a> {
 
 impl<'b, 'a> Iterator for All<'b, 'a> {
     ghost use Rattle.std.specs.Iterator.{item_count, YieldsFirstRef};
-    ghost use Rattle.px_iim.specs.View.{octets_left};
+    ghost use Rattle.px_iim.specs.calls.View.{octets_left};
 
     type Item = &'a [u8];
 

@@ -3,7 +3,7 @@ ghost use Rattle.std.specs.Prelude.{◌≡◌, ◌==◌, ◌<◌, ◌≤◌, [],
 ghost use Rattle.px_bytes.specs.Lacking.{Lacks};
 ghost use Rattle.px_iim.specs.Group.{named, put, items_at, AreGroups};
 ghost use Rattle.px_iim.specs.Record.{normal_iim};
-ghost use Rattle.px_iim.specs.View.{item_view, records_view, part_view, octets_left, octets_of};
+ghost use Rattle.px_iim.specs.calls.View.{item_view, records_view, part_view, octets_left, octets_of};
 ghost use Rattle.px_iim.specs.Writing.{within};
 
 use crate::group::{All, Group, Item, add, items_of, named};
@@ -32,7 +32,7 @@ impl<'a> Model for Iim<'a> {
     ghost use Rattle.std.specs.Prelude.{◌≡◌, ◌≤◌, [], length, vec_len};
     ghost use Rattle.px_iim.specs.Group.{Record, AreGroups};
     ghost use Rattle.px_iim.specs.Record.{normal_iim};
-    ghost use Rattle.px_iim.specs.View.{records_view};
+    ghost use Rattle.px_iim.specs.calls.View.{records_view};
     ghost use Rattle.px_iim.specs.Writing.{within};
 
     ghost Value = { Record };

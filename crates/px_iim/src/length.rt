@@ -1,7 +1,7 @@
 // The length of a normal form, counted DataSet by DataSet.
 ghost use Rattle.std.specs.Prelude.{◌≡◌, ◌≤◌, ◌+◌, ℕ, length, IfSome};
 ghost use Rattle.px_iim.specs.Record.{normal_count, normal_dataset};
-ghost use Rattle.px_iim.specs.View.{item_view};
+ghost use Rattle.px_iim.specs.calls.View.{item_view};
 ghost use Rattle.px_iim.specs.Writing.{within};
 
 use crate::dataset::TOP_BIT;

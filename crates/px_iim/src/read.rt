@@ -4,7 +4,7 @@ ghost use Rattle.px_bytes.specs.Checks.{Judges, LacksBlock};
 ghost use Rattle.px_iim.specs.Group.{IsRecord};
 ghost use Rattle.px_iim.specs.Record.{SaysIim, iim_of};
 ghost use Rattle.px_iim.specs.Check.{iim_checks};
-ghost use Rattle.px_iim.specs.Reading.{JudgesAt, RefusesIim};
+ghost use Rattle.px_iim.specs.calls.Reading.{JudgesAt, RefusesIim};
 
 use crate::dataset::{Found, is_end, read_dataset, rest};
 use crate::iim::Iim;

@@ -1,6 +1,6 @@
 // Records that are the same.
 ghost use Rattle.std.specs.Prelude.{◌≡◌, map, MatchBool};
-ghost use Rattle.px_iim.specs.View.{item_view, part_view};
+ghost use Rattle.px_iim.specs.calls.View.{item_view, part_view};
 
 use crate::group::Item;
 use crate::iim::Iim;

@@ -1,6 +1,6 @@
 // A record gone through once, group by group.
 ghost use Rattle.std.specs.Iterator.{item_count, YieldsFirstBy};
-ghost use Rattle.px_iim.specs.View.{part_view};
+ghost use Rattle.px_iim.specs.calls.View.{part_view};
 
 use crate::group::{Group, Item};
 use std::marker::Model;
@@ -19,7 +19,7 @@ pub struct Groups<'b, 'a> {
 impl<'b, 'a> Model for Groups<'b, 'a> {
     ghost use Rattle.std.specs.Prelude.{◌≤◌, length, drop};
     ghost use Rattle.px_iim.specs.Group.{Record};
-    ghost use Rattle.px_iim.specs.View.{left_view};
+    ghost use Rattle.px_iim.specs.calls.View.{left_view};
 
     ghost Value = { Record };
 

@@ -5,7 +5,7 @@ ghost use Rattle.px_bytes.specs.Devices.{Counts};
 ghost use Rattle.px_bytes.specs.Lacking.{Lacks};
 ghost use Rattle.px_bytes.specs.Waiting.{Puts};
 ghost use Rattle.px_iim.specs.Record.{normal_dataset, normal_iim};
-ghost use Rattle.px_iim.specs.View.{item_view};
+ghost use Rattle.px_iim.specs.calls.View.{item_view};
 ghost use Rattle.px_iim.specs.Writing.{AreShort, Grows, WritesIim, within};
 
 use crate::group::Item;

@@ -7,9 +7,9 @@ ghost use Rattle.px_bytes.specs.Waiting.{Puts};
 ghost use Rattle.std.specs.Io.KnownBytes.{Appends};
 ghost use Rattle.px_tree.specs.Directory.{dirs};
 ghost use Rattle.px_tree.specs.Fits.{Fits, items};
-ghost use Rattle.px_tree.specs.Seen.{thumb_of};
-ghost use Rattle.px_layout.specs.Building.{AreInside, PutsOver, said_plan, said_meaning, at_places, value_pieces, dir_pieces, piece_bytes, IsPiece};
-ghost use Rattle.px_layout.specs.Items.{item_of, IsCounted};
+ghost use Rattle.px_tree.specs.calls.Seen.{thumb_of};
+ghost use Rattle.px_layout.specs.calls.Building.{AreInside, PutsOver, said_plan, said_meaning, at_places, value_pieces, dir_pieces, piece_bytes, IsPiece};
+ghost use Rattle.px_layout.specs.calls.Items.{item_of, IsCounted};
 ghost use Rattle.px_layout.specs.Laid.{all_strip_contents, item_bytes, jpeg_contents, strip_contents, table_bytes, thumb_contents, header, contents_of_dir, laid};
 ghost use Rattle.px_layout.specs.Plans.{Legal, place};
 

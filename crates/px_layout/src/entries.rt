@@ -3,12 +3,12 @@
 ghost use Rattle.std.specs.Prelude.{◌≡◌, ◌<◌, ◌≤◌, ◌+◌, ◌*◌, ◌^◌, ℕ, List, length, map, slice_get, option_map, option_and_then, Some, None, IfSome};
 ghost use Rattle.std.specs.List.{AllByRecursion};
 ghost use Rattle.px_bytes.specs.Parts.{limit};
-ghost use Rattle.px_tree.specs.Iim.{normal_iim};
+ghost use Rattle.px_tree.specs.calls.Iim.{normal_iim};
 ghost use Rattle.px_tree.specs.Fits as said;
 ghost use Rattle.px_tree.specs.Fits.{Fits, FitsThumb, IsBytes, AtJpeg, JpegSize, AtStrips, StripSizes, Iptc, items, link, put_some, main_items, exif_items, thumb_items, field_items};
-ghost use Rattle.px_tree.specs.Seen.{exif_of, thumb_of, meaning_of};
-ghost use Rattle.px_layout.specs.Items.{item_of, IsCounted, rank};
-ghost use Rattle.px_layout.specs.Layers.{Stands, Tells, over};
+ghost use Rattle.px_tree.specs.calls.Seen.{exif_of, thumb_of, meaning_of};
+ghost use Rattle.px_layout.specs.calls.Items.{item_of, IsCounted, rank};
+ghost use Rattle.px_layout.specs.calls.Layers.{Stands, Tells, over};
 
 use crate::items::Item;
 use crate::records::Record;
@@ -44,7 +44,7 @@ pub(crate) struct Entries<'m, 'a> {
 impl<'m, 'a> Model for Entries<'m, 'a> {
     ghost use Rattle.std.specs.Prelude.{List, ℕ};
     ghost use Rattle.px_tree.specs.Fits as said;
-    ghost use Rattle.px_layout.specs.Layers.{entries_of, AreLayers};
+    ghost use Rattle.px_layout.specs.calls.Layers.{entries_of, AreLayers};
 
     ghost Value = { List (ℕ × said.Item) };
 
@@ -70,7 +70,7 @@ fn pass<'m, 'a>(extra: &Option<Extra<'m, 'a>>, i: usize) -> Step<'m, 'a>
 }
 
 // How many entries it adds.
-#[tactic(auto, using(crate::proofs::EntryLists::length_over))]
+#[tactic(auto, using(crate::proofs::plans::EntryLists::length_over))]
 fn number(extra: &Option<Extra>) -> usize
     ensures added { (xs : List (ℕ × said.Item)) → length (over extra.now xs) ≡ length xs + result }
     ensures bound { result ≤ 1 }
@@ -266,7 +266,7 @@ fn strip_offsets<'m, 'a>(strips: &'m Option<Strips<'a>>) -> Option<Item<'m, 'a>>
     }
 }
 
-#[tactic(auto, using(crate::proofs::EntryLists::lengths_counted))]
+#[tactic(auto, using(crate::proofs::plans::EntryLists::lengths_counted))]
 fn strip_lengths<'m, 'a>(strips: &'m Option<Strips<'a>>) -> Option<Item<'m, 'a>>
     requires { IfSome strips.now (λ s. (length s ≤ limit) × AllByRecursion IsBytes s) }
     ensures item { option_map item_of result ≡ option_map (λ s. StripSizes (map (λ x. length x) s)) strips.now }
@@ -363,7 +363,7 @@ fn thumb_entries<'m, 'a>(thumb: &'m Option<Thumb<'a>>) -> Option<Entries<'m, 'a>
 
 /// The entries of a directory, where it is there: its fields, pointers, the record, and what names the
 /// thumbnail's bytes.
-#[tactic(auto, using(crate::proofs::EntryLists::items_are))]
+#[tactic(auto, using(crate::proofs::plans::EntryLists::items_are))]
 pub(crate) fn entries_in<'m, 'a>(m: &'m Meaning<'a>, dir: Dir) -> Option<Entries<'m, 'a>>
     requires { Fits (meaning_of m.now) }
     ensures { result ≡ items (meaning_of m.now) dir }

@@ -2,7 +2,7 @@
 ghost use Rattle.std.specs.Prelude.{◌≡◌};
 ghost use Rattle.px_field.specs.Values.{form_in};
 ghost use Rattle.px_tree.specs.Fits.{item_form, item_count, item_size};
-ghost use Rattle.px_layout.specs.Items.{item_of, IsCounted};
+ghost use Rattle.px_layout.specs.calls.Items.{item_of, IsCounted};
 
 use crate::records::Record;
 use px_field::{Form, Kind, Value};

@@ -4,10 +4,10 @@ ghost use Rattle.px_bytes.specs.Lacking.{Lacks};
 ghost use Rattle.px_bytes.specs.Parts.{limit};
 ghost use Rattle.px_bytes.specs.Range.{Range, range, Agrees};
 ghost use Rattle.px_tree.specs.Fits.{Fits};
-ghost use Rattle.px_tree.specs.Seen.{meaning_of};
-ghost use Rattle.px_layout.specs.Planned.{plan_of};
+ghost use Rattle.px_tree.specs.calls.Seen.{meaning_of};
+ghost use Rattle.px_layout.specs.calls.Planned.{plan_of};
 ghost use Rattle.px_layout.specs.Plans.{place, Legal};
-ghost use Rattle.px_layout.specs.Judging.{stands, all_stand};
+ghost use Rattle.px_layout.specs.calls.Judging.{stands, all_stand};
 
 use crate::chunks::Chunk;
 use crate::plan::Plan;

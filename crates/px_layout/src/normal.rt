@@ -1,11 +1,11 @@
 // The plan of the normal form.
 ghost use Rattle.std.specs.Prelude.{◌≡◌, ◌≤◌};
 ghost use Rattle.px_bytes.specs.Parts.{limit};
-ghost use Rattle.px_bytes.specs.Writing.{LacksWrite};
+ghost use Rattle.px_bytes.specs.calls.Writing.{LacksWrite};
 ghost use Rattle.px_tree.specs.Fits.{Fits};
-ghost use Rattle.px_tree.specs.Seen.{meaning_of};
-ghost use Rattle.px_layout.specs.Planned.{plan_of, bare};
-ghost use Rattle.px_layout.specs.PlanningNormal.{AnswersNext, AnswersAll, AnswersPlan};
+ghost use Rattle.px_tree.specs.calls.Seen.{meaning_of};
+ghost use Rattle.px_layout.specs.calls.Planned.{plan_of, bare};
+ghost use Rattle.px_layout.specs.calls.PlanningNormal.{AnswersNext, AnswersAll, AnswersPlan};
 
 use crate::chunks::Chunk;
 use crate::plan::Plan;

@@ -4,7 +4,7 @@ ghost use Rattle.px_bytes.specs.Lacking.{Lacks};
 ghost use Rattle.px_layout.specs.declared.chunks.Chunk.{Chunk as AnyChunk};
 ghost use Rattle.px_layout.specs.declared.chunks.Chunk.TheVariants.{Table, Placed, Jpeg, Strip};
 ghost use Rattle.px_layout.specs.Chunks.{same_chunk};
-ghost use Rattle.px_layout.specs.Kept.{value_in, strip_in, dir_in, offset_in, dir_size, strips_size, size_in};
+ghost use Rattle.px_layout.specs.calls.Kept.{value_in, strip_in, dir_in, offset_in, dir_size, strips_size, size_in};
 
 use crate::chunks::Chunk;
 use px_bytes::{Memory, Refused};

@@ -1,8 +1,8 @@
 // Plans: where each chunk of a block stands.
 ghost use Rattle.std.specs.Prelude.{◌≡◌, None, IsSome, IfOk, OnErr, true, false, if◌then◌else◌};
 ghost use Rattle.px_bytes.specs.Lacking.{Lacks};
-ghost use Rattle.px_layout.specs.Kept.{offset_in, size_in};
-ghost use Rattle.px_layout.specs.Counted.{IsCount};
+ghost use Rattle.px_layout.specs.calls.Kept.{offset_in, size_in};
+ghost use Rattle.px_layout.specs.calls.Counted.{IsCount};
 
 use crate::chunks::Chunk;
 use crate::offsets::Offsets;
@@ -24,7 +24,7 @@ pub struct Plan {
 }
 
 impl Plan {
-    ghost use Rattle.px_layout.specs.Planned.{plan_of, bare, with_chunk, with_length};
+    ghost use Rattle.px_layout.specs.calls.Planned.{plan_of, bare, with_chunk, with_length};
 
     /// A plan of a block of `len` bytes, in which no chunk is placed. It takes no memory; `alloc`
     /// serves the chunks that are placed later.
@@ -35,7 +35,7 @@ impl Plan {
     }
 
     /// As `new`, with memory that serves the chunks that are placed later.
-    #[tactic(auto, unfolding(crate::specs::Planned::plan_of))]
+    #[tactic(auto, unfolding(crate::specs::calls::Planned::plan_of))]
     pub fn new_in(memory: &Memory, len: u32) -> Plan
         ensures { plan_of result ≡ bare len }
     {
@@ -47,7 +47,7 @@ impl Plan {
     }
 
     /// The length of the block in bytes. It takes no memory.
-    #[tactic(auto, unfolding(crate::specs::Planned::plan_of))]
+    #[tactic(auto, unfolding(crate::specs::calls::Planned::plan_of))]
     pub fn len(&self) -> u32
         ensures { result ≡ (plan_of self.now).length }
     {
@@ -55,7 +55,7 @@ impl Plan {
     }
 
     /// The offset of a chunk from the block's first byte, where it is placed. It takes no memory.
-    #[tactic(auto, unfolding(crate::specs::Planned::plan_of))]
+    #[tactic(auto, unfolding(crate::specs::calls::Planned::plan_of))]
     pub fn offset(&self, chunk: Chunk) -> Option<u32>
         ensures { result ≡ (plan_of self.now).offset chunk }
     {
@@ -77,7 +77,7 @@ impl Plan {
     }
 
     /// As `place`, with memory that tells whether a growth was refused: where the error came, and there alone.
-    #[tactic(auto, unfolding(crate::specs::Planned::plan_of))]
+    #[tactic(auto, unfolding(crate::specs::calls::Planned::plan_of))]
     pub fn place_in(
         &mut self,
         memory: &mut Memory,
@@ -99,7 +99,7 @@ impl Plan {
     }
 
     // How many chunks are placed.
-    #[tactic(auto, unfolding(crate::specs::Planned::plan_of))]
+    #[tactic(auto, unfolding(crate::specs::calls::Planned::plan_of))]
     pub(crate) fn count(&self) -> u128
         ensures { IsCount result (plan_of self.now).offset }
     {
@@ -107,7 +107,7 @@ impl Plan {
     }
 
     // Sets the length of the block.
-    #[tactic(auto, unfolding(crate::specs::Planned::plan_of))]
+    #[tactic(auto, unfolding(crate::specs::calls::Planned::plan_of))]
     pub(crate) fn set_len(&mut self, len: u32)
         ensures { plan_of self.new ≡ with_length (plan_of self.old) len }
     {

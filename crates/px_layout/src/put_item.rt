@@ -4,9 +4,9 @@ ghost use Rattle.std.specs.List.{AllByRecursion, range_with_len};
 ghost use Rattle.px_bytes.specs.Devices.{Counts};
 ghost use Rattle.px_bytes.specs.Parts.{limit};
 ghost use Rattle.px_bytes.specs.Waiting.{Puts};
-ghost use Rattle.px_layout.specs.Items.{item_of, IsCounted};
+ghost use Rattle.px_layout.specs.calls.Items.{item_of, IsCounted};
 ghost use Rattle.px_layout.specs.Laid.{long_bytes, item_bytes, last_bytes, entry_bytes};
-ghost use Rattle.px_layout.specs.Planned.{plan_of};
+ghost use Rattle.px_layout.specs.calls.Planned.{plan_of};
 ghost use Rattle.px_layout.specs.Plans.{place};
 
 use crate::chunks::Chunk;

@@ -3,9 +3,9 @@ ghost use Rattle.std.specs.Prelude.{◌≡◌, ◌<◌, ◌+◌, ◌^◌, ℕ, l
 ghost use Rattle.px_bytes.specs.Devices.{Counts};
 ghost use Rattle.px_bytes.specs.Waiting.{Puts};
 ghost use Rattle.px_tree.specs.Directory.{magic};
-ghost use Rattle.px_tree.specs.Seen.{meaning_of};
+ghost use Rattle.px_tree.specs.calls.Seen.{meaning_of};
 ghost use Rattle.px_layout.specs.Laid.{entry_bytes, next_bytes, table_bytes, header};
-ghost use Rattle.px_layout.specs.Planned.{plan_of};
+ghost use Rattle.px_layout.specs.calls.Planned.{plan_of};
 
 use crate::chunks::Chunk;
 use crate::entries::Entries;

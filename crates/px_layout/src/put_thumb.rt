@@ -3,7 +3,7 @@
 ghost use Rattle.std.specs.Prelude.{◌<◌, ◌+◌, ◌^◌, Some, option_map, flat_map};
 ghost use Rattle.px_bytes.specs.Devices.{Counts};
 ghost use Rattle.px_bytes.specs.Waiting.{Puts};
-ghost use Rattle.px_tree.specs.Seen.{thumb_of};
+ghost use Rattle.px_tree.specs.calls.Seen.{thumb_of};
 ghost use Rattle.px_layout.specs.Laid.{jpeg_contents, strip_contents, all_strip_contents, thumb_contents};
 ghost use Rattle.px_layout.specs.Normal.{padded};
 

@@ -1,7 +1,7 @@
 // A record inside an Exif block.
 ghost use Rattle.std.specs.Prelude.{◌≡◌, ◌≤◌, ◌*◌, length};
 ghost use Rattle.px_bytes.specs.Parts.{limit};
-ghost use Rattle.px_tree.specs.Iim.{normal_iim};
+ghost use Rattle.px_tree.specs.calls.Iim.{normal_iim};
 
 use px_bytes::LIMIT;
 use px_iim::{Iim, normal_len};

@@ -5,8 +5,8 @@ ghost use Rattle.px_bytes.specs.Lacking.{Lacks};
 ghost use Rattle.px_bytes.specs.Parts.{limit};
 ghost use Rattle.px_tree.specs.Entry.{table_size};
 ghost use Rattle.px_tree.specs.Fits.{Fits, items};
-ghost use Rattle.px_tree.specs.Seen.{thumb_of, meaning_of};
-ghost use Rattle.px_layout.specs.Items.{item_of, IsCounted};
+ghost use Rattle.px_tree.specs.calls.Seen.{thumb_of, meaning_of};
+ghost use Rattle.px_layout.specs.calls.Items.{item_of, IsCounted};
 ghost use Rattle.px_layout.specs.Chunks.{placed_chunk, chunks_of_dir, jpeg_chunks, strip_chunks, all_strip_chunks, thumb_chunks, chunks};
 
 use crate::chunks::Chunk;
@@ -36,7 +36,7 @@ fn push_value(
     Ok(())
 }
 
-#[tactic(auto, using(crate::proofs::Walks::values_more, crate::proofs::Walks::values_done))]
+#[tactic(auto, using(crate::proofs::plans::Walks::values_more, crate::proofs::plans::Walks::values_done))]
 fn push_values(
     memory: &mut Memory,
     out: &mut Vec<(Chunk, u64)>,
@@ -93,7 +93,7 @@ fn push_jpeg(
     Ok(())
 }
 
-#[tactic(auto, using(crate::proofs::Walks::strips_done))]
+#[tactic(auto, using(crate::proofs::plans::Walks::strips_done))]
 fn push_strips(
     memory: &mut Memory,
     out: &mut Vec<(Chunk, u64)>,
@@ -143,7 +143,7 @@ fn push_thumb(
 
 /// The chunks of a meaning in the order of the normal form, each with its size in bytes. It takes
 /// memory for the list.
-#[tactic(auto, using(crate::proofs::Walks::gathered))]
+#[tactic(auto, using(crate::proofs::plans::Walks::gathered))]
 pub(crate) fn chunk_sizes(memory: &mut Memory, m: &Meaning) -> Result<Vec<(Chunk, u64)>, Refused>
     requires { Fits (meaning_of m.now) }
     ensures chunks { IfOk result (λ v. v.items ≡ chunks (meaning_of m.now)) }

@@ -2,9 +2,9 @@
 ghost use Rattle.std.specs.Prelude.{◌≡◌, IfOk};
 ghost use Rattle.px_bytes.specs.Lacking.{Lacks};
 ghost use Rattle.px_tree.specs.Fits.{Fits};
-ghost use Rattle.px_tree.specs.Seen.{meaning_of};
+ghost use Rattle.px_tree.specs.calls.Seen.{meaning_of};
 ghost use Rattle.px_layout.specs.Laid.{laid};
-ghost use Rattle.px_layout.specs.Planned.{plan_of};
+ghost use Rattle.px_layout.specs.calls.Planned.{plan_of};
 ghost use Rattle.px_layout.specs.Plans.{Legal};
 
 use crate::building::{Layout, lay_all};

@@ -1,4 +1,3 @@
-pub mod Iim
 pub mod Roles
 pub mod Tree
 pub mod Entry
@@ -10,11 +9,5 @@ pub mod Fits
 pub mod Checks
 pub mod Faults
 pub mod Laws
-pub mod Places
-pub mod Seen
-pub mod Reading
-pub mod Uses
-pub mod Linked
-pub mod ReadTree
-pub mod Parts
 pub mod Refused
+pub mod calls

@@ -9,7 +9,7 @@ ghost use Rattle.px_tree.specs.Roles.{role};
 ghost use Rattle.px_tree.specs.Entry.{entry, short, long, has_form};
 ghost use Rattle.px_tree.specs.Footprint.{placed_range};
 ghost use Rattle.px_tree.specs.Checks.{shape_checks, entry_checks};
-ghost use Rattle.px_tree.specs.Reading.{Shows, bare, IsShape, Follows, span, span_checks};
+ghost use Rattle.px_tree.specs.calls.Reading.{Shows, bare, IsShape, Follows, span, span_checks};
 
 use crate::roles::{Dir, Role, role_of};
 use px_bytes::{Cause, Memory, Order, Ranges, Refusal};

@@ -10,9 +10,9 @@ ghost use Rattle.px_field.specs.Forms.{size};
 ghost use Rattle.px_tree.specs.Entry.{entry, raw, entry_elements, widened_value, record_in, unless_record, value_in, field, Rising};
 ghost use Rattle.px_tree.specs.Footprint.{placed_range};
 ghost use Rattle.px_tree.specs.Checks.{entries_checks};
-ghost use Rattle.px_tree.specs.Places.{tags};
-ghost use Rattle.px_tree.specs.Reading.{IsHeld, is_whole, entries_from};
-ghost use Rattle.px_tree.specs.Uses.{AreUses};
+ghost use Rattle.px_tree.specs.calls.Places.{tags};
+ghost use Rattle.px_tree.specs.calls.Reading.{IsHeld, is_whole, entries_from};
+ghost use Rattle.px_tree.specs.calls.Uses.{AreUses};
 
 use crate::entries::{Head, Shape, judge_entry};
 use crate::fields::Fields;

@@ -4,7 +4,7 @@ ghost use Rattle.px_bytes.specs.Lacking.{Lacks};
 ghost use Rattle.px_tree.specs.Roles.{at_tag};
 ghost use Rattle.px_tree.specs.Fits.{put};
 ghost use Rattle.px_tree.specs.Entry.{Rising};
-ghost use Rattle.px_tree.specs.Places.{tags, IsInOrder, IsAt, IsGapFor};
+ghost use Rattle.px_tree.specs.calls.Places.{tags, IsInOrder, IsAt, IsGapFor};
 
 use px_bytes::{Memory, Refused};
 use px_field::Value;
@@ -24,7 +24,7 @@ pub struct Fields<'a> {
 
 impl<'a> Model for Fields<'a> {
     ghost use Rattle.px_tree.specs.Tree.{Fields as Pairs};
-    ghost use Rattle.px_tree.specs.Places.{IsInOrder};
+    ghost use Rattle.px_tree.specs.calls.Places.{IsInOrder};
 
     ghost Value = { Pairs };
 

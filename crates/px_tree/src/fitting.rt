@@ -10,7 +10,7 @@ ghost use Rattle.px_tree.specs.Roles.{role, record_tag};
 ghost use Rattle.px_tree.specs.Entry.{record_in};
 ghost use Rattle.px_tree.specs.Directory.{dirs};
 ghost use Rattle.px_tree.specs.Fits.{Allows, FitsFields, FitsExif, FitsThumb, Fits, IsBytes, items, field_items, main_items, exif_items, thumb_items};
-ghost use Rattle.px_tree.specs.Seen.{exif_of, thumb_of, meaning_of};
+ghost use Rattle.px_tree.specs.calls.Seen.{exif_of, thumb_of, meaning_of};
 
 use crate::fields::Fields;
 use crate::meanings::{ExifPart, Meaning, Thumb};
@@ -170,7 +170,7 @@ fn fits_thumb(thumb: &Option<Thumb>) -> bool
 }
 
 // Whether the main directory has an entry: a field, a pointer, or the record.
-#[tactic(auto, using(crate::proofs::ItemCounts::main_count))]
+#[tactic(auto, using(crate::proofs::writable::ItemCounts::main_count))]
 fn is_main_filled(m: &Meaning) -> bool
     ensures { IsTrue result ↔ (1 ≤ length (main_items (meaning_of m.now))) }
 {
@@ -197,7 +197,7 @@ fn is_filled(fields: &Option<Fields>) -> bool
 }
 
 // Whether the Exif directory has an entry, if it is there.
-#[tactic(auto, using(crate::proofs::ItemCounts::exif_count))]
+#[tactic(auto, using(crate::proofs::writable::ItemCounts::exif_count))]
 fn is_exif_filled(part: &Option<ExifPart>) -> bool
     ensures { IsTrue result ↔ IfSome (option_map exif_items (option_map exif_of part.now)) (λ xs. 1 ≤ length xs) }
 {
@@ -223,7 +223,7 @@ fn is_interop_filled(part: &Option<ExifPart>) -> bool
 }
 
 // Whether the thumbnail directory has an entry, if it is there.
-#[tactic(auto, using(crate::proofs::ItemCounts::thumb_count))]
+#[tactic(auto, using(crate::proofs::writable::ItemCounts::thumb_count))]
 fn is_thumb_filled(thumb: &Option<Thumb>) -> bool
     ensures { IsTrue result ↔ IfSome (option_map thumb_items (option_map thumb_of thumb.now)) (λ xs. 1 ≤ length xs) }
 {

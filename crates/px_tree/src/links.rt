@@ -4,8 +4,8 @@ ghost use Rattle.px_bytes.specs.Parts.{limit};
 ghost use Rattle.px_tree.specs.Entry.{next, table};
 ghost use Rattle.px_tree.specs.Directory.{entries_at, unless_zero};
 ghost use Rattle.px_tree.specs.Checks.{is_earlier_at};
-ghost use Rattle.px_tree.specs.Reading.{HasTable};
-ghost use Rattle.px_tree.specs.Linked.{offset_of, offsets_of};
+ghost use Rattle.px_tree.specs.calls.Reading.{HasTable};
+ghost use Rattle.px_tree.specs.calls.Linked.{offset_of, offsets_of};
 
 use crate::entries::{Head, number32};
 use px_bytes::Order;

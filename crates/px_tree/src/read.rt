@@ -6,7 +6,7 @@ ghost use Rattle.px_bytes.specs.Checks.{ContentOnly, LacksBlock, Judges};
 ghost use Rattle.px_tree.specs.Directory.{magic};
 ghost use Rattle.px_tree.specs.Fits.{Fits};
 ghost use Rattle.px_tree.specs.Says.{meaning, SaysExif};
-ghost use Rattle.px_tree.specs.Seen.{exif_of, meaning_of};
+ghost use Rattle.px_tree.specs.calls.Seen.{exif_of, meaning_of};
 ghost use Rattle.px_tree.specs.Checks.{same_bytes, begins_header, order_of, header_checks, tree_checks};
 ghost use Rattle.px_tree.specs.Refused.{IsRefused};
 

@@ -1,6 +1,6 @@
 // Whether two meanings are the same.
 ghost use Rattle.std.specs.Prelude.{◌≡◌, ◌<◌, IsTrue, ◌↔◌, option_map, length, slice_get};
-ghost use Rattle.px_tree.specs.Seen.{exif_of, thumb_of, meaning_of};
+ghost use Rattle.px_tree.specs.calls.Seen.{exif_of, thumb_of, meaning_of};
 
 use crate::fields::Fields;
 use crate::meanings::{ExifPart, Meaning, Thumb};

@@ -7,9 +7,9 @@ ghost use Rattle.px_tree.specs.Entry.{fields, table_size};
 ghost use Rattle.px_tree.specs.Directory.{entries_at};
 ghost use Rattle.px_tree.specs.Footprint.{dir_ranges};
 ghost use Rattle.px_tree.specs.Checks.{opening_checks, dir_checks};
-ghost use Rattle.px_tree.specs.Reading.{HasTable};
-ghost use Rattle.px_tree.specs.Uses.{AreUses};
-ghost use Rattle.px_tree.specs.Linked.{offsets_of};
+ghost use Rattle.px_tree.specs.calls.Reading.{HasTable};
+ghost use Rattle.px_tree.specs.calls.Uses.{AreUses};
+ghost use Rattle.px_tree.specs.calls.Linked.{offsets_of};
 
 use crate::entries::{hold, number16};
 use crate::field_reading::{Entries, read_entries};

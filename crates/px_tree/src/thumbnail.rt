@@ -9,10 +9,10 @@ ghost use Rattle.px_field.specs.Forms.{form_of};
 ghost use Rattle.px_tree.specs.Thumbnail.{whole_number, numbers, ranges_of, bytes_of};
 ghost use Rattle.px_tree.specs.Footprint.{listed};
 ghost use Rattle.px_tree.specs.Says.{thumbnail};
-ghost use Rattle.px_tree.specs.Seen.{thumb_of};
+ghost use Rattle.px_tree.specs.calls.Seen.{thumb_of};
 ghost use Rattle.px_tree.specs.Checks.{end_checks, range_checks, thumb_checks, thumb_checks_at};
-ghost use Rattle.px_tree.specs.Reading.{HasTable};
-ghost use Rattle.px_tree.specs.Parts.{HasNumbers, HaveNumbers, AreEven, entry_here, place_in, pair_check, count_check, pairs_checks, jpeg_of, strips_of, IsReadThumb};
+ghost use Rattle.px_tree.specs.calls.Reading.{HasTable};
+ghost use Rattle.px_tree.specs.calls.Parts.{HasNumbers, HaveNumbers, AreEven, entry_here, place_in, pair_check, count_check, pairs_checks, jpeg_of, strips_of, IsReadThumb};
 
 use crate::entries::{hold, number32};
 use crate::field_reading::{part_of, value_at};

@@ -8,10 +8,10 @@ ghost use Rattle.px_tree.specs.Entry.{next, table};
 ghost use Rattle.px_tree.specs.Directory.{dirs, dir_at, fields_at, unless_zero};
 ghost use Rattle.px_tree.specs.Footprint.{ranges_at};
 ghost use Rattle.px_tree.specs.Checks.{checks_at, dirs_checks, dirs_held};
-ghost use Rattle.px_tree.specs.Reading.{HasTable};
-ghost use Rattle.px_tree.specs.Uses.{link_as};
-ghost use Rattle.px_tree.specs.Linked.{Names, IsRead, offsets_of, next_place};
-ghost use Rattle.px_tree.specs.ReadTree.{SeenTree};
+ghost use Rattle.px_tree.specs.calls.Reading.{HasTable};
+ghost use Rattle.px_tree.specs.calls.Uses.{link_as};
+ghost use Rattle.px_tree.specs.calls.Linked.{Names, IsRead, offsets_of, next_place};
+ghost use Rattle.px_tree.specs.calls.ReadTree.{SeenTree};
 
 use crate::entries::number32;
 use crate::links::{Link, next_link};

@@ -1,7 +1,7 @@
 // The entries of a table that have a use of their own, kept while the table is judged. CIPA DC-008 4.6.3
 // (pointers) and 4.5.5 (the thumbnail's bytes); TIFF 6.0 section 8, "StripOffsets" and "StripByteCounts".
 ghost use Rattle.std.specs.Prelude.{◌≡◌, ◌==◌, ◌&&◌, None, option_map};
-ghost use Rattle.px_tree.specs.Uses.{Keeps, NoUses, link_as, found_as};
+ghost use Rattle.px_tree.specs.calls.Uses.{Keeps, NoUses, link_as, found_as};
 
 use crate::entries::Head;
 use crate::links::{Found, Link};

@@ -1,6 +1,6 @@
 use Rattle.std.proofs.Common.{ℕ, ◌-◌, sym, ap, ◌∙◌, arith, bit_and, pow_pos}
 use Rattle.std.specs.Int.{bit_at}
-use Rattle.px_bytes.proofs.BitLaws.{bit_at_low_kept, bit_at_low_only, shl_one}
+use Rattle.px_bytes.proofs.ranges.BitLaws.{bit_at_low_kept, bit_at_low_only, shl_one}
 use Rattle.px_bytes.proofs.marks.bits_below.Goals as goal
 
 pub overflow_sub-result : goal.overflow_sub-result

@@ -1,4 +1,4 @@
-use Rattle.px_bytes.proofs.BitLaws.{bit_at_top, bit_at_past}
+use Rattle.px_bytes.proofs.ranges.BitLaws.{bit_at_top, bit_at_past}
 use Rattle.px_bytes.proofs.marks.highest.Goals as goal
 
 pub returns-clause-set : goal.returns-clause-set

@@ -1,5 +1,5 @@
 use Rattle.std.proofs.Common.{arith}
-use Rattle.px_bytes.proofs.MarkLaws.{climb_some, place_fits}
+use Rattle.px_bytes.proofs.ranges.MarkLaws.{climb_some, place_fits}
 use Rattle.px_bytes.proofs.marks.last_in.Goals as goal
 
 pub overflow_mul-result : goal.overflow_mul-result

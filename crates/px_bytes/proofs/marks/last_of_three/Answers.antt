@@ -1,4 +1,4 @@
-use Rattle.px_bytes.proofs.MarkLaws.{told_some}
+use Rattle.px_bytes.proofs.ranges.MarkLaws.{told_some}
 use Rattle.px_bytes.proofs.marks.last_of_three.Goals as goal
 
 pub last_in-requires-clause-word : goal.last_in-requires-clause-word

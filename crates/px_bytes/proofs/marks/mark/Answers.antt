@@ -1,7 +1,7 @@
 use Rattle.std.proofs.Common.{ℕ, ◌*◌, ◌/◌, ◌%◌, ◌^◌, set, bit_or, subst, sym, ◌∙◌}
 use Rattle.std.proofs.lemmas.List.{get_or_default}
-use Rattle.px_bytes.specs.Marks.{MarkedAt}
-use Rattle.px_bytes.proofs.MarkLaws.{marked}
+use Rattle.px_bytes.specs.calls.Marks.{MarkedAt}
+use Rattle.px_bytes.proofs.ranges.MarkLaws.{marked}
 use Rattle.px_bytes.proofs.marks.mark.Goals as goal
 
 pub returns : goal.returns

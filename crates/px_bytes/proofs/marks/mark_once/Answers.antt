@@ -1,5 +1,5 @@
 use Rattle.std.proofs.Common.{◌≢◌, ℕ, ◌*◌, ◌/◌, ◌%◌, ◌^◌, List, get_or, bit_and, subst, ap, ◌∙◌}
-use Rattle.px_bytes.proofs.MarkLaws.{marked_already}
+use Rattle.px_bytes.proofs.ranges.MarkLaws.{marked_already}
 use Rattle.px_bytes.proofs.marks.mark_once.Goals as goal
 
 pub returns-then-word_at-n-ne0 : goal.returns-then-word_at-n-ne0

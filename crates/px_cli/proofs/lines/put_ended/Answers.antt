@@ -1,5 +1,5 @@
 use Rattle.std.proofs.lemmas.Result.{err_from_is_err_and}
-use Rattle.px_bytes.specs.WaitingLaws.{puts_both, puts_first}
+use Rattle.px_bytes.specs.lemmas.WaitingLaws.{puts_both, puts_first}
 use Rattle.px_cli.specs.Lines.{end_of}
 use Rattle.px_cli.proofs.lines.put_ended.Goals as goal
 

@@ -1,7 +1,7 @@
 use Rattle.std.proofs.Common.{◌++◌}
 use Rattle.std.proofs.lemmas.Result.{err_from_is_err_and}
 use Rattle.px_bytes.specs.Devices.{AppendsPrefix}
-use Rattle.px_bytes.specs.WaitingLaws.{from_none}
+use Rattle.px_bytes.specs.lemmas.WaitingLaws.{from_none}
 use Rattle.px_cli.specs.Lines.{end_of}
 use Rattle.px_cli.proofs.LineLaws.{sent}
 use Rattle.px_cli.proofs.lines.write_ended.Goals as goal

@@ -1,6 +1,6 @@
 use Rattle.std.proofs.lemmas.Result.{err_from_is_err_and}
 use Rattle.px_bytes.specs.Devices.{AppendsPrefix}
-use Rattle.px_bytes.specs.WaitingLaws.{from_none}
+use Rattle.px_bytes.specs.lemmas.WaitingLaws.{from_none}
 use Rattle.px_cli.specs.Lines.{line_of}
 use Rattle.px_cli.proofs.LineLaws.{sent}
 use Rattle.px_cli.proofs.lines.write_line.Goals as goal

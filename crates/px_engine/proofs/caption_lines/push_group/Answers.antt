@@ -1,5 +1,5 @@
 use Rattle.std.proofs.Common.{map, ◌∙◌}
-use Rattle.px_iim.specs.View.{item_view}
+use Rattle.px_iim.specs.calls.View.{item_view}
 use Rattle.px_engine.proofs.Parts.{read_at, lines_more}
 use Rattle.px_engine.proofs.caption_lines.push_group.Goals as goal
 

@@ -1,6 +1,6 @@
 use Rattle.std.proofs.Common.{◌≡◌, ◌++◌, take, map}
 use Rattle.std.specs.Prelude.{filter_map}
-use Rattle.px_iim.specs.View.{item_view}
+use Rattle.px_iim.specs.calls.View.{item_view}
 use Rattle.px_engine.specs.Captions.{labelled, caption_lines}
 use Rattle.px_engine.proofs.caption_lines.push_group.Given as goal
 

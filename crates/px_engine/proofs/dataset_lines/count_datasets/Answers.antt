@@ -1,7 +1,7 @@
 use Rattle.std.proofs.Common.{◌∙◌, length, arith, sym, ap}
 use Rattle.std.proofs.lemmas.List.{length-map}
 use Rattle.px_iim.specs.Group.{Record}
-use Rattle.px_iim.specs.View.{item_view, part_view}
+use Rattle.px_iim.specs.calls.View.{item_view, part_view}
 use Rattle.px_engine.specs.Listing.{dataset_count}
 use Rattle.px_engine.proofs.Parts.{count_next}
 use Rattle.px_engine.proofs.dataset_lines.count_datasets.Goals as goal

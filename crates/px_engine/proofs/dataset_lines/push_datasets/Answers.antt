@@ -1,6 +1,6 @@
 use Rattle.std.proofs.Common.{◌++◌, ◌∙◌, refl, ap}
 use Rattle.px_iim.specs.Group.{Record}
-use Rattle.px_iim.specs.View.{part_view}
+use Rattle.px_iim.specs.calls.View.{part_view}
 use Rattle.px_engine.specs.Listing.{group_lines, dataset_lines}
 use Rattle.px_engine.proofs.Parts.{parts_next, parts_none}
 use Rattle.px_engine.proofs.dataset_lines.push_datasets.Goals as goal

@@ -1,7 +1,7 @@
 use Rattle.std.proofs.Common.{map, ◌∙◌}
-use Rattle.px_iim.specs.View.{item_view}
+use Rattle.px_iim.specs.calls.View.{item_view}
 use Rattle.px_engine.specs.Captions.{labelled}
-use Rattle.px_engine.specs.CaptionView.{caption_view}
+use Rattle.px_engine.specs.calls.CaptionView.{caption_view}
 use Rattle.px_engine.proofs.Parts.{read_at, given_more}
 use Rattle.px_engine.proofs.gather.push_group.Goals as goal
 

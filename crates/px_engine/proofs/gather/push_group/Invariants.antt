@@ -1,8 +1,8 @@
 use Rattle.std.proofs.Common.{◌≡◌, ◌++◌, take, map}
 use Rattle.std.specs.Prelude.{filter_map}
-use Rattle.px_iim.specs.View.{item_view}
+use Rattle.px_iim.specs.calls.View.{item_view}
 use Rattle.px_engine.specs.Captions.{labelled}
-use Rattle.px_engine.specs.CaptionView.{caption_view}
+use Rattle.px_engine.specs.calls.CaptionView.{caption_view}
 use Rattle.px_engine.proofs.gather.push_group.Given as goal
 
 abbrev pub invariant-loop-item : goal.invariant-loop-item

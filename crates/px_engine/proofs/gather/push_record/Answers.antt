@@ -2,7 +2,7 @@ use Rattle.std.proofs.Common.{ℕ, List, map, ◌++◌, ◌∙◌, ap}
 use Rattle.std.specs.Prelude.{filter_map}
 use Rattle.std.proofs.lemmas.Option.{slice_get-get_or}
 use Rattle.px_engine.specs.Captions.{labelled, group_captions, caption_groups}
-use Rattle.px_engine.specs.CaptionView.{caption_view}
+use Rattle.px_engine.specs.calls.CaptionView.{caption_view}
 use Rattle.px_engine.proofs.Parts.{parts_more}
 use Rattle.px_engine.proofs.gather.push_record.Goals as goal
 

@@ -1,7 +1,7 @@
 use Rattle.std.proofs.Common.{◌≡◌, ◌++◌, take, map}
 use Rattle.std.specs.List.{flat_map}
 use Rattle.px_engine.specs.Captions.{group_captions, caption_groups}
-use Rattle.px_engine.specs.CaptionView.{caption_view}
+use Rattle.px_engine.specs.calls.CaptionView.{caption_view}
 use Rattle.px_engine.proofs.gather.push_record.Given as goal
 
 abbrev pub invariant-loop-i : goal.invariant-loop-i

@@ -1,4 +1,4 @@
-use Rattle.px_engine.specs.Seen.{said_of}
+use Rattle.px_engine.specs.calls.Seen.{said_of}
 use Rattle.px_engine.proofs.Ended.{form_formed, form_unwritten}
 use Rattle.px_engine.proofs.hand.normal_form_in.Goals as goal
 

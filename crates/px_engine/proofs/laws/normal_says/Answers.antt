@@ -1,4 +1,4 @@
-use Rattle.px_engine.specs.FileLaws as file
+use Rattle.px_engine.specs.lemmas.FileLaws as file
 use Rattle.px_engine.proofs.laws.normal_says.Goals as goal
 
 pub returns : goal.returns

@@ -1,6 +1,6 @@
 use Rattle.std.proofs.Common.{◌∙◌}
 use Rattle.std.proofs.lemmas.Result.{err_from_is_err_and}
-use Rattle.px_engine.specs.Seen.{said_of}
+use Rattle.px_engine.specs.calls.Seen.{said_of}
 use Rattle.px_engine.proofs.Judged.{known_said, known_stops, read_fails, read_as, consumes_none}
 use Rattle.px_engine.proofs.Ended.{first_stops, second_stops, lacks_later}
 use Rattle.px_engine.proofs.runs.compare_in.Goals as goal

@@ -1,6 +1,6 @@
 use Rattle.std.proofs.Common.{◌∙◌}
 use Rattle.std.proofs.lemmas.Result.{err_from_is_err_and}
-use Rattle.px_engine.specs.Seen.{said_of}
+use Rattle.px_engine.specs.calls.Seen.{said_of}
 use Rattle.px_engine.proofs.Judged.{read_as}
 use Rattle.px_engine.proofs.Ended.{normalised, not_normalised, lacks_nothing, lacks_later}
 use Rattle.px_engine.proofs.runs.normalise_in.Goals as goal

@@ -1,6 +1,6 @@
 use Rattle.std.proofs.Common.{sym, ap, ◌∙◌, List, ℕ}
 use Rattle.px_field.specs.Values.{Value, value_in, spelled}
-use Rattle.px_field.specs.ValueLaws.{value_in-spelled, spelled-value_in}
+use Rattle.px_field.specs.lemmas.ValueLaws.{value_in-spelled, spelled-value_in}
 use Rattle.px_field.proofs.laws.read_spells.Goals as goal
 
 pub returns : goal.returns

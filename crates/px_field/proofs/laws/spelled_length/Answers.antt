@@ -1,4 +1,4 @@
-use Rattle.px_field.specs.ValueLaws.{length-spelled}
+use Rattle.px_field.specs.lemmas.ValueLaws.{length-spelled}
 use Rattle.px_field.proofs.laws.spelled_length.Goals as goal
 
 pub returns : goal.returns

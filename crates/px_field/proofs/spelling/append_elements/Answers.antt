@@ -5,7 +5,7 @@ use Rattle.std.proofs.lemmas.Option.{slice_get-get_or}
 use Rattle.px_field.specs.declared.forms.Element.{Element}
 use Rattle.px_field.specs.declared.forms.Element.TheVariants as element
 use Rattle.px_field.specs.Values.{spell, spelled}
-use Rattle.px_field.specs.ValueLaws.{spell-take}
+use Rattle.px_field.specs.lemmas.ValueLaws.{spell-take}
 use Rattle.px_field.proofs.spelling.append_elements.Goals as goal
 
 pub loop-i-preserved : goal.loop-i-preserved

@@ -1,7 +1,7 @@
 use Rattle.std.proofs.Common.{◌≡◌, ◌+◌, ◌*◌, ◌-◌, length, take, drop, refl, ap, ◌∙◌, arith}
 use Rattle.px_field.proofs.TurnLaws.{turn_more, length_pair}
 use Rattle.px_field.specs.declared.turning.Width.TheVariants.{Pair}
-use Rattle.px_field.specs.Turning.{turned}
+use Rattle.px_field.specs.calls.Turning.{turned}
 use Rattle.px_field.proofs.turning.turn_pairs.Goals as goal
 
 pub loop-i-preserved : goal.loop-i-preserved

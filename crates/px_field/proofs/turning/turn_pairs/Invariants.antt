@@ -1,7 +1,7 @@
 use Rattle.std.proofs.Common.{◌≡◌, ◌*◌, take, flat_map}
 use Rattle.px_bytes.specs.Parts.{pieces}
 use Rattle.px_field.specs.declared.turning.Width.TheVariants.{Pair}
-use Rattle.px_field.specs.Turning.{turned}
+use Rattle.px_field.specs.calls.Turning.{turned}
 use Rattle.px_field.proofs.turning.turn_pairs.Given as goal
 
 -- the first elements are written

@@ -1,9 +1,9 @@
 use Rattle.std.proofs.Common.{◌≡◌, ◌+◌, ◌*◌, ◌-◌, length, take, drop, refl, ap, ◌∙◌, arith, rules}
 use Rattle.px_bytes.specs.Numbers.{number, spelling}
-use Rattle.px_bytes.specs.NumberLaws.{length-spelling}
+use Rattle.px_bytes.specs.lemmas.NumberLaws.{length-spelling}
 use Rattle.px_field.proofs.TurnLaws.{turn_more}
 use Rattle.px_field.specs.declared.turning.Width.TheVariants.{Widened}
-use Rattle.px_field.specs.Turning.{turned}
+use Rattle.px_field.specs.calls.Turning.{turned}
 use Rattle.px_field.proofs.turning.turn_wide.Goals as goal
 
 pub loop-i-preserved : goal.loop-i-preserved

@@ -2,7 +2,7 @@ use Rattle.std.proofs.Common.{◌≡◌, ◌+◌, ◌*◌, ◌-◌, ℕ, List, t
 use Rattle.px_field.specs.declared.forms.Element.{Element}
 use Rattle.px_field.specs.Forms.{size}
 use Rattle.px_field.specs.Values.{element_of, count_in}
-use Rattle.px_field.specs.ValueLaws.{get-elements}
+use Rattle.px_field.specs.lemmas.ValueLaws.{get-elements}
 use Rattle.px_field.proofs.values.element_in.Goals as goal
 
 pub returns : goal.returns

@@ -1,5 +1,5 @@
 use Rattle.std.proofs.Common.{sym, arith}
-use Rattle.px_field.specs.ValueLaws.{spelled-value_in}
+use Rattle.px_field.specs.lemmas.ValueLaws.{spelled-value_in}
 use Rattle.px_field.proofs.values.read_value.Goals as goal
 
 pub returns-clause-spells : goal.returns-clause-spells

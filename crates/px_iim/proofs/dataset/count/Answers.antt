@@ -2,7 +2,7 @@ use Rattle.std.proofs.Common.{◌≤◌, ◌∙◌, sym, arith}
 use Rattle.std.proofs.lemmas.Bool.{cond-false}
 use Rattle.px_iim.specs.DataSet.{top_bit}
 use Rattle.px_iim.specs.Record.{form, extra}
-use Rattle.px_iim.proofs.Octets.{number_part, not_less}
+use Rattle.px_iim.proofs.reading.Octets.{number_part, not_less}
 use Rattle.px_iim.proofs.dataset.count.Goals as goal
 
 pub returns : goal.returns

@@ -1,5 +1,5 @@
 use Rattle.std.proofs.Common.{◌<◌, arith}
-use Rattle.px_iim.proofs.Octets.{number_more, number_below}
+use Rattle.px_iim.proofs.reading.Octets.{number_more, number_below}
 use Rattle.px_iim.proofs.dataset.number_of.Goals as goal
 
 pub overflow_mul-number : goal.overflow_mul-number

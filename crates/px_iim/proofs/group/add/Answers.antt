@@ -1,8 +1,8 @@
 use Rattle.std.proofs.Common.{List, ◌∙◌, ap, sym, subst, arith}
 use Rattle.std.proofs.lemmas.Result.{on_ok_weaker}
 use Rattle.px_iim.specs.declared.group.Group.{Group}
-use Rattle.px_iim.specs.View.{groups_view, numbers, Found, Missing}
-use Rattle.px_iim.proofs.Places.{put_same, put_new, numbers_length}
+use Rattle.px_iim.specs.calls.View.{groups_view, numbers, Found, Missing}
+use Rattle.px_iim.proofs.reading.Places.{put_same, put_new, numbers_length}
 use Rattle.px_iim.proofs.group.add.Goals as goal
 
 pub returns-in-Ok-clause-done : goal.returns-in-Ok-clause-done

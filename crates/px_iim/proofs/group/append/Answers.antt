@@ -3,8 +3,8 @@ use Rattle.std.proofs.lemmas.List.{map-append, get_or_read}
 use Rattle.std.proofs.lemmas.Result.{err_from_is_err_and}
 use Rattle.px_iim.specs.declared.group.Group.{Group}
 use Rattle.px_iim.specs.declared.group.Item.{Item}
-use Rattle.px_iim.specs.View.{item_view}
-use Rattle.px_iim.proofs.Places.{same_view}
+use Rattle.px_iim.specs.calls.View.{item_view}
+use Rattle.px_iim.proofs.reading.Places.{same_view}
 use Rattle.px_iim.proofs.group.append.Goals as goal
 
 pub returns-in_err-make_room-clause-failed : goal.returns-in_err-make_room-clause-failed

@@ -1,7 +1,7 @@
 use Rattle.std.proofs.Common.{rules}
 use Rattle.std.proofs.lemmas.List.Sorted.{answers_always}
 use Rattle.px_iim.specs.declared.group.Group.{Group}
-use Rattle.px_iim.proofs.Rising.{searched}
+use Rattle.px_iim.proofs.reading.Rising.{searched}
 use Rattle.px_iim.proofs.group.find.Goals as goal
 
 pub returns : goal.returns

@@ -1,7 +1,7 @@
 use Rattle.std.proofs.Common.{◌∷◌, ◌++◌, [], refl, ap, ◌∙◌, map, List}
 use Rattle.px_iim.specs.declared.group.Group.{Group}
 use Rattle.px_iim.specs.declared.group.Item.{Item}
-use Rattle.px_iim.specs.View.{item_view}
+use Rattle.px_iim.specs.calls.View.{item_view}
 use Rattle.px_iim.proofs.group.insert.Goals as goal
 
 pub returns-clause-done : goal.returns-clause-done

@@ -5,7 +5,7 @@ use Rattle.px_bytes.specs.Numbers.{spelling}
 use Rattle.px_iim.specs.DataSet.{marker, top_bit}
 use Rattle.px_iim.specs.Record.{normal_count}
 use Rattle.px_iim.specs.Writing.{normal_head}
-use Rattle.px_iim.proofs.Octets.{not_less}
+use Rattle.px_iim.proofs.reading.Octets.{not_less}
 use Rattle.px_iim.proofs.head.head.Goals as goal
 
 standard : (n : ℕ) (xs : List ℕ) → n < top_bit → xs ≡ spelling Most 2 n → ◌≡◌ {A = List ℕ} (get_or xs 0 0 ∷ get_or xs 1 0 ∷ []) (normal_count n)

@@ -1,4 +1,4 @@
-use Rattle.px_iim.specs.RecordLaws.{computes}
+use Rattle.px_iim.specs.lemmas.RecordLaws.{computes}
 use Rattle.px_iim.proofs.laws.computes.Goals as goal
 
 pub returns : goal.returns

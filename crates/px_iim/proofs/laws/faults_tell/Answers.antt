@@ -1,4 +1,4 @@
-use Rattle.px_iim.specs.FaultLaws.{faults_tell}
+use Rattle.px_iim.specs.lemmas.FaultLaws.{faults_tell}
 use Rattle.px_iim.proofs.laws.faults_tell.Goals as goal
 
 pub returns : goal.returns

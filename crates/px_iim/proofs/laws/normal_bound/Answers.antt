@@ -1,4 +1,4 @@
-use Rattle.px_iim.specs.BoundLaws.{normal_bound}
+use Rattle.px_iim.specs.lemmas.BoundLaws.{normal_bound}
 use Rattle.px_iim.proofs.laws.normal_bound.Goals as goal
 
 pub returns : goal.returns

@@ -1,4 +1,4 @@
-use Rattle.px_iim.specs.NormalLaws.{normal_says}
+use Rattle.px_iim.specs.lemmas.NormalLaws.{normal_says}
 use Rattle.px_iim.proofs.laws.normal_says.Goals as goal
 
 pub returns : goal.returns

@@ -1,4 +1,4 @@
-use Rattle.px_iim.specs.GatherLaws.{put_appends}
+use Rattle.px_iim.specs.lemmas.GatherLaws.{put_appends}
 use Rattle.px_iim.proofs.laws.put_appends.Goals as goal
 
 pub returns : goal.returns

@@ -1,5 +1,5 @@
 use Rattle.std.proofs.Common.{arith}
-use Rattle.px_iim.specs.BoundLaws.{length-count_short, length-count_long}
+use Rattle.px_iim.specs.lemmas.BoundLaws.{length-count_short, length-count_long}
 use Rattle.px_iim.proofs.length.head_len.Goals as goal
 
 pub returns-then-count-lt-TOP_BIT-clause-value : goal.returns-then-count-lt-TOP_BIT-clause-value

@@ -1,8 +1,8 @@
 use Rattle.std.proofs.Common.{◌+◌, ℕ, length, sym, ap, ◌∙◌, arith}
 use Rattle.px_iim.specs.Record.{normal_dataset}
-use Rattle.px_iim.specs.View.{item_view}
+use Rattle.px_iim.specs.calls.View.{item_view}
 use Rattle.px_iim.specs.Writing.{within}
-use Rattle.px_iim.proofs.Writes.{some_within, none_more}
+use Rattle.px_iim.proofs.writing.Writes.{some_within, none_more}
 use Rattle.px_iim.proofs.length.longer.Goals as goal
 
 pub with_item-requires-clause-counted : goal.with_item-requires-clause-counted

@@ -1,7 +1,7 @@
 use Rattle.std.proofs.Common.{arith}
-use Rattle.px_iim.specs.View.{item_view}
-use Rattle.px_iim.specs.BoundLaws.{length-normal_dataset}
-use Rattle.px_iim.proofs.Writes.{within_past, within_some}
+use Rattle.px_iim.specs.calls.View.{item_view}
+use Rattle.px_iim.specs.lemmas.BoundLaws.{length-normal_dataset}
+use Rattle.px_iim.proofs.writing.Writes.{within_past, within_some}
 use Rattle.px_iim.proofs.length.with_item.Goals as goal
 
 pub returns-then-longer-gt-MOST : goal.returns-then-longer-gt-MOST

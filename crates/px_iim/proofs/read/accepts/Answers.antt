@@ -1,7 +1,7 @@
 use Rattle.std.proofs.Common.{◌≡◌, ℕ, ◌+◌, true, false, is_some, None, List, [], drop, subst, ◌∙◌, ap, sym, arith}
 use Rattle.px_iim.specs.Record.{is_end}
-use Rattle.px_iim.specs.Reading.{Reads, found_view}
-use Rattle.px_iim.proofs.Steps.{datasets, iim_of-past, iim_of-within, some_mapped, some_more, refused_says, wide, inside, said_last, said_more}
+use Rattle.px_iim.specs.calls.Reading.{Reads, found_view}
+use Rattle.px_iim.proofs.reading.Steps.{datasets, iim_of-past, iim_of-within, some_mapped, some_more, refused_says, wide, inside, said_last, said_more}
 use Rattle.px_iim.proofs.read.accepts.Goals as goal
 
 pub returns-then-bytes : goal.returns-then-bytes

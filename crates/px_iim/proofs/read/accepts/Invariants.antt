@@ -1,6 +1,6 @@
 use Rattle.std.proofs.Common.{◌≡◌, ◌≤◌, ◌-◌, length, drop, is_some}
 use Rattle.px_iim.specs.Record.{iim_of}
-use Rattle.px_iim.proofs.Steps.{datasets}
+use Rattle.px_iim.proofs.reading.Steps.{datasets}
 use Rattle.px_iim.proofs.read.accepts.Given as goal
 
 abbrev pub invariant-loop-found : goal.invariant-loop-found

@@ -7,9 +7,9 @@ use Rattle.std.proofs.Common.{Err}
 use Rattle.px_iim.specs.Group.{Record, gather}
 use Rattle.px_iim.specs.Check.{iim_checks}
 use Rattle.px_iim.specs.Record.{is_end}
-use Rattle.px_iim.specs.Reading.{Reads, JudgesAt, found_view}
-use Rattle.px_iim.specs.ScanLaws.{checks_left, iim_left}
-use Rattle.px_iim.proofs.Steps.{datasets, iim_of-within, gather_last, gather_more, refused_fault, wide, inside, octets_within, said_last, said_more, fault_last, fault_more}
+use Rattle.px_iim.specs.calls.Reading.{Reads, JudgesAt, found_view}
+use Rattle.px_iim.specs.lemmas.ScanLaws.{checks_left, iim_left}
+use Rattle.px_iim.proofs.reading.Steps.{datasets, iim_of-within, gather_last, gather_more, refused_fault, wide, inside, octets_within, said_last, said_more, fault_last, fault_more}
 use Rattle.px_iim.proofs.read.read_groups.Goals as goal
 
 pub loop-record-init : goal.loop-record-init

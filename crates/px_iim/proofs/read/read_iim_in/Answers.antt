@@ -4,17 +4,17 @@ use Rattle.px_bytes.specs.declared.Refusal.TheVariants.{Content, OutOfMemory}
 use Rattle.px_bytes.specs.declared.Cause.{Cause}
 use Rattle.px_bytes.specs.declared.Cause.TheVariants.{TooLong, NoMarker, LengthForm, DataSetCut}
 use Rattle.px_bytes.specs.Checks.{Judges, LacksBlock}
-use Rattle.px_bytes.specs.CheckLaws.{Judges-good}
+use Rattle.px_bytes.specs.lemmas.CheckLaws.{Judges-good}
 use Rattle.px_bytes.specs.Numbers.{AreBytes}
 use Rattle.px_bytes.specs.Parts.{limit}
 use Rattle.px_iim.specs.DataSet.{DataSet}
 use Rattle.px_iim.specs.Group.{Record, IsRecord}
 use Rattle.px_iim.specs.Record.{SaysIim, iim_of}
 use Rattle.px_iim.specs.Check.{iim_checks, First, Stands, Behind}
-use Rattle.px_iim.specs.RecordLaws.{computes, said_is_record}
-use Rattle.px_iim.specs.FaultLaws.{first_stands, stands_unsaid}
-use Rattle.px_iim.specs.Reading.{RefusesIim}
-use Rattle.px_iim.proofs.Steps.{checks_past}
+use Rattle.px_iim.specs.lemmas.RecordLaws.{computes, said_is_record}
+use Rattle.px_iim.specs.lemmas.FaultLaws.{first_stands, stands_unsaid}
+use Rattle.px_iim.specs.calls.Reading.{RefusesIim}
+use Rattle.px_iim.proofs.reading.Steps.{checks_past}
 use Rattle.px_iim.proofs.read.read_iim_in.Goals as goal
 
 nothing : (x : List ℕ) → ((i : Record) → SaysIim x i → ⊥) → iim_of x ≡ None

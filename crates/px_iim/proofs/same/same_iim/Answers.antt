@@ -2,7 +2,7 @@ use Rattle.std.proofs.Common.{◌≡◌, [], ◌∷◌, List, ℕ, Bool, true, f
 use Rattle.std.specs.Iterator.{YieldsFirstBy}
 use Rattle.px_iim.specs.declared.group.Item.{Item}
 use Rattle.px_iim.specs.Group.{Group, Record}
-use Rattle.px_iim.specs.View.{part_view}
+use Rattle.px_iim.specs.calls.View.{part_view}
 use Rattle.px_iim.proofs.same.same_iim.Goals as goal
 
 some_none : (x : Group) (xs i : Record) → i ≡ x ∷ xs → i ≡ [] → ⊥

@@ -1,7 +1,7 @@
 use Rattle.std.proofs.Common.{◌<◌, length, map, get_or, arith}
-use Rattle.px_iim.specs.View.{item_view}
-use Rattle.px_iim.proofs.Writes.{no_item, item_read}
-use Rattle.px_iim.proofs.Alike.{same_more, same_at}
+use Rattle.px_iim.specs.calls.View.{item_view}
+use Rattle.px_iim.proofs.writing.Writes.{no_item, item_read}
+use Rattle.px_iim.proofs.writing.Alike.{same_more, same_at}
 use Rattle.px_iim.proofs.same.same_items.Goals as goal
 
 pub returns-then-not-same_item : goal.returns-then-not-same_item

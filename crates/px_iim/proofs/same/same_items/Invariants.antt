@@ -1,5 +1,5 @@
 use Rattle.std.proofs.Common.{◌≡◌, take, map}
-use Rattle.px_iim.specs.View.{item_view}
+use Rattle.px_iim.specs.calls.View.{item_view}
 use Rattle.px_iim.proofs.same.same_items.Given as goal
 
 abbrev pub invariant-loop-i : goal.invariant-loop-i

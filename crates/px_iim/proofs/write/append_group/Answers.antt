@@ -2,8 +2,8 @@ use Rattle.std.proofs.Common.{◌≤◌, ◌∙◌, length, map}
 use Rattle.std.proofs.lemmas.Result.{err_from_is_err_and}
 use Rattle.px_bytes.specs.Parts.{limit}
 use Rattle.px_iim.specs.Record.{normal_dataset}
-use Rattle.px_iim.specs.View.{item_view}
-use Rattle.px_iim.proofs.Writes.{item_read, all_at, grows_more, grows_stop}
+use Rattle.px_iim.specs.calls.View.{item_view}
+use Rattle.px_iim.proofs.writing.Writes.{item_read, all_at, grows_more, grows_stop}
 use Rattle.px_iim.proofs.write.append_group.Goals as goal
 
 pub append_item-requires : goal.append_item-requires

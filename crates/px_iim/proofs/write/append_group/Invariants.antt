@@ -1,7 +1,7 @@
 use Rattle.std.proofs.Common.{◌≡◌, ◌++◌, take, map}
 use Rattle.std.specs.List.{flat_map}
 use Rattle.px_iim.specs.Record.{normal_dataset}
-use Rattle.px_iim.specs.View.{item_view}
+use Rattle.px_iim.specs.calls.View.{item_view}
 use Rattle.px_iim.proofs.write.append_group.Given as goal
 
 abbrev pub invariant-loop-item : goal.invariant-loop-item

@@ -1,5 +1,5 @@
 use Rattle.std.proofs.Common.{take}
-use Rattle.px_iim.proofs.Writes.{grows_item, head_and_data}
+use Rattle.px_iim.proofs.writing.Writes.{grows_item, head_and_data}
 use Rattle.px_iim.proofs.write.append_item.Goals as goal
 
 pub returns-clause-grown : goal.returns-clause-grown

@@ -3,8 +3,8 @@ use Rattle.std.specs.List.{AllByRecursion}
 use Rattle.std.proofs.lemmas.Result.{err_from_is_err_and}
 use Rattle.px_iim.specs.Group.{IsGroup}
 use Rattle.px_iim.specs.Record.{normal_iim}
-use Rattle.px_iim.specs.View.{part_view}
-use Rattle.px_iim.proofs.Writes.{short_next, whole_next, grows_next, grows_stop, rest_none}
+use Rattle.px_iim.specs.calls.View.{part_view}
+use Rattle.px_iim.proofs.writing.Writes.{short_next, whole_next, grows_next, grows_stop, rest_none}
 use Rattle.px_iim.proofs.write.append_record.Goals as goal
 
 pub loop-rec-init : goal.loop-rec-init

@@ -2,9 +2,9 @@ use Rattle.std.proofs.Common.{map, length, ◌∙◌, ◌≤◌}
 use Rattle.std.proofs.lemmas.Result.{err_from_is_err_and}
 use Rattle.px_bytes.specs.Parts.{limit}
 use Rattle.px_iim.specs.Record.{normal_dataset}
-use Rattle.px_iim.specs.View.{item_view}
-use Rattle.px_iim.proofs.Writes.{item_read, all_at}
-use Rattle.px_bytes.specs.WaitingLaws.{loop_more, loop_stop}
+use Rattle.px_iim.specs.calls.View.{item_view}
+use Rattle.px_iim.proofs.writing.Writes.{item_read, all_at}
+use Rattle.px_bytes.specs.lemmas.WaitingLaws.{loop_more, loop_stop}
 use Rattle.px_iim.proofs.write.put_group.Goals as goal
 
 pub put_item-requires-clause-short : goal.put_item-requires-clause-short

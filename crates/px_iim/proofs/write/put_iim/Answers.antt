@@ -5,8 +5,8 @@ use Rattle.px_bytes.specs.Waiting.{Owes}
 use Rattle.std.proofs.KnownBytes.{Appends-nil}
 use Rattle.px_iim.specs.Group.{Record, IsGroup}
 use Rattle.px_iim.specs.Record.{normal_iim}
-use Rattle.px_iim.specs.View.{part_view}
-use Rattle.px_iim.proofs.Writes.{short_next, whole_next, owes_next, owes_failed, rest_none}
+use Rattle.px_iim.specs.calls.View.{part_view}
+use Rattle.px_iim.proofs.writing.Writes.{short_next, whole_next, owes_next, owes_failed, rest_none}
 use Rattle.px_iim.proofs.write.put_iim.Goals as goal
 
 pub loop-rec-init : goal.loop-rec-init

@@ -2,8 +2,8 @@ use Rattle.std.proofs.Common.{ℕ, ◌++◌, List, take, subst}
 use Rattle.std.proofs.lemmas.Result.{err_from_is_err_and}
 use Rattle.px_bytes.specs.Devices.{AppendsPrefix}
 use Rattle.px_bytes.specs.Waiting.{Puts}
-use Rattle.px_bytes.specs.WaitingLaws.{puts_both, puts_first}
-use Rattle.px_iim.proofs.Writes.{head_and_data}
+use Rattle.px_bytes.specs.lemmas.WaitingLaws.{puts_both, puts_first}
+use Rattle.px_iim.proofs.writing.Writes.{head_and_data}
 use Rattle.px_iim.proofs.write.put_item.Goals as goal
 
 pub returns-in_err-put-clause-bytes : goal.returns-in_err-put-clause-bytes

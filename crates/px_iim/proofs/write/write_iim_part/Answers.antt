@@ -3,8 +3,8 @@ use Rattle.std.proofs.lemmas.Result.{err_from_is_err_and}
 use Rattle.px_bytes.specs.Devices.{AppendsPrefix}
 use Rattle.px_iim.specs.Record.{normal_iim}
 use Rattle.px_bytes.specs.Waiting.{Owes}
-use Rattle.px_bytes.specs.WaitingLaws.{from_none, owed_prefix, owed_all}
-use Rattle.px_iim.proofs.Writes.{counted, not_counted}
+use Rattle.px_bytes.specs.lemmas.WaitingLaws.{from_none, owed_prefix, owed_all}
+use Rattle.px_iim.proofs.writing.Writes.{counted, not_counted}
 use Rattle.px_iim.proofs.write.write_iim_part.Goals as goal
 
 pub returns-then-len-gt-LIMIT : goal.returns-then-len-gt-LIMIT

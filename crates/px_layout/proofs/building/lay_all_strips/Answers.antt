@@ -1,6 +1,6 @@
 use Rattle.std.proofs.Common.{ℕ, List, Option, subst, sym}
 use Rattle.px_layout.specs.Laid.{all_strip_contents}
-use Rattle.px_layout.specs.Building.{PutsOver, at_places}
+use Rattle.px_layout.specs.calls.Building.{PutsOver, at_places}
 use Rattle.px_layout.proofs.building.lay_all_strips.Goals as goal
 
 pub returns-in-Some-clause-bytes : goal.returns-in-Some-clause-bytes

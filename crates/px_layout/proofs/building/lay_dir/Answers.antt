@@ -1,7 +1,7 @@
 use Rattle.std.proofs.Common.{ℕ, subst, sym, arith}
-use Rattle.px_tree.specs.Seen.{meaning_of}
-use Rattle.px_layout.specs.Building.{AreInside, value_pieces}
-use Rattle.px_layout.proofs.Pieces.{on_ok, dir_over, values_inside, table_inside, few_entries}
+use Rattle.px_tree.specs.calls.Seen.{meaning_of}
+use Rattle.px_layout.specs.calls.Building.{AreInside, value_pieces}
+use Rattle.px_layout.proofs.plans.Pieces.{on_ok, dir_over, values_inside, table_inside, few_entries}
 use Rattle.px_layout.proofs.building.lay_dir.Goals as goal
 
 pub lay_values-requires : goal.lay_values-requires

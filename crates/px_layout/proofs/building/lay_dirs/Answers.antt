@@ -1,6 +1,6 @@
 use Rattle.std.proofs.Common.{◌∙◌}
-use Rattle.px_tree.specs.Seen.{meaning_of}
-use Rattle.px_layout.proofs.Pieces.{on_ok, five}
+use Rattle.px_tree.specs.calls.Seen.{meaning_of}
+use Rattle.px_layout.proofs.plans.Pieces.{on_ok, five}
 use Rattle.px_layout.proofs.building.lay_dirs.Goals as goal
 
 pub returns-clause-bytes : goal.returns-clause-bytes

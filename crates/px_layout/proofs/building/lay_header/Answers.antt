@@ -1,7 +1,7 @@
 use Rattle.std.proofs.Common.{ℕ, List, length, ◌∙◌, ap, refl, arith}
-use Rattle.px_layout.specs.Building.{said_plan}
-use Rattle.px_layout.specs.SizeLaws.{length_header}
-use Rattle.px_layout.proofs.Pieces.{one_as}
+use Rattle.px_layout.specs.calls.Building.{said_plan}
+use Rattle.px_layout.specs.lemmas.SizeLaws.{length_header}
+use Rattle.px_layout.proofs.plans.Pieces.{one_as}
 use Rattle.px_layout.proofs.building.lay_header.Goals as goal
 
 pub put_at-requires : goal.put_at-requires

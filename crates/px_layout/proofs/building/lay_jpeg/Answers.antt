@@ -1,7 +1,7 @@
 use Rattle.std.proofs.Common.{ℕ, List, Option, option_map, subst, sym, ap, refl}
 use Rattle.px_layout.specs.Laid.{jpeg_contents}
-use Rattle.px_layout.specs.Building.{PutsOver, at_places}
-use Rattle.px_layout.proofs.Pieces.{one_as}
+use Rattle.px_layout.specs.calls.Building.{PutsOver, at_places}
+use Rattle.px_layout.proofs.plans.Pieces.{one_as}
 use Rattle.px_layout.proofs.building.lay_jpeg.Goals as goal
 
 pub returns-in-Some-clause-bytes : goal.returns-in-Some-clause-bytes

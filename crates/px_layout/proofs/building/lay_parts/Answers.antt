@@ -1,5 +1,5 @@
-use Rattle.px_tree.specs.Seen.{thumb_of}
-use Rattle.px_layout.proofs.Pieces.{parts_over}
+use Rattle.px_tree.specs.calls.Seen.{thumb_of}
+use Rattle.px_layout.proofs.plans.Pieces.{parts_over}
 use Rattle.px_layout.proofs.building.lay_parts.Goals as goal
 
 pub returns-clause-bytes : goal.returns-clause-bytes

@@ -1,7 +1,7 @@
 use Rattle.std.proofs.Common.{◌≡◌, ◌-◌, ℕ, length, drop, subst, refl, arith}
 use Rattle.px_layout.specs.Laid.{strip_contents}
-use Rattle.px_layout.specs.Building.{PutsOver, at_places}
-use Rattle.px_layout.proofs.Pieces.{strip_inside, strips_more, one_as}
+use Rattle.px_layout.specs.calls.Building.{PutsOver, at_places}
+use Rattle.px_layout.proofs.plans.Pieces.{strip_inside, strips_more, one_as}
 use Rattle.px_layout.proofs.building.lay_strips.Goals as goal
 
 pub put_at-requires : goal.put_at-requires

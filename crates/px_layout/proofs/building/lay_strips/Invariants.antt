@@ -1,6 +1,6 @@
 use Rattle.std.proofs.Common.{drop}
 use Rattle.px_layout.specs.Laid.{strip_contents}
-use Rattle.px_layout.specs.Building.{PutsOver, at_places}
+use Rattle.px_layout.specs.calls.Building.{PutsOver, at_places}
 use Rattle.px_layout.proofs.building.lay_strips.Given as goal
 
 -- the strips from i on stand in the block

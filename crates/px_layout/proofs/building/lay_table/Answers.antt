@@ -1,5 +1,5 @@
 use Rattle.std.proofs.Common.{ℕ, List, length, ◌∙◌, ap, arith}
-use Rattle.px_layout.proofs.Pieces.{one_as}
+use Rattle.px_layout.proofs.plans.Pieces.{one_as}
 use Rattle.px_layout.proofs.building.lay_table.Goals as goal
 
 pub put_at-requires : goal.put_at-requires

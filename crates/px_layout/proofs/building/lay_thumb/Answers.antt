@@ -1,9 +1,9 @@
 use Rattle.std.proofs.Common.{ℕ, Option, option_map, subst, sym, ap}
 use Rattle.px_tree.specs.Tree.{Thumbnail}
-use Rattle.px_tree.specs.Seen.{thumb_of, meaning_of}
+use Rattle.px_tree.specs.calls.Seen.{thumb_of, meaning_of}
 use Rattle.px_layout.specs.Laid.{jpeg_contents, all_strip_contents, thumb_contents}
-use Rattle.px_layout.specs.Building.{AreInside, PutsOver, at_places}
-use Rattle.px_layout.proofs.Pieces.{jpeg_inside, strips_inside, no_thumb}
+use Rattle.px_layout.specs.calls.Building.{AreInside, PutsOver, at_places}
+use Rattle.px_layout.proofs.plans.Pieces.{jpeg_inside, strips_inside, no_thumb}
 use Rattle.px_layout.proofs.building.lay_thumb.Goals as goal
 
 pub lay_parts-requires-clause-strips : goal.lay_parts-requires-clause-strips

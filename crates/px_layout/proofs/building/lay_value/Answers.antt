@@ -1,6 +1,6 @@
 use Rattle.std.proofs.Common.{◌∙◌, arith}
-use Rattle.px_layout.specs.Items.{item_of}
-use Rattle.px_layout.proofs.Pieces.{value_none, value_over, value_room}
+use Rattle.px_layout.specs.calls.Items.{item_of}
+use Rattle.px_layout.proofs.plans.Pieces.{value_none, value_over, value_room}
 use Rattle.px_layout.proofs.building.lay_value.Goals as goal
 
 pub returns-then-size-le4-clause-bytes : goal.returns-then-size-le4-clause-bytes

@@ -1,7 +1,7 @@
 use Rattle.std.proofs.Common.{◌≡◌, ◌∙◌, ◌-◌, ℕ, [], ◌∷◌, length, drop, subst, sym, arith}
-use Rattle.px_layout.specs.Items.{item_of}
-use Rattle.px_layout.specs.Building.{AreInside, PutsOver, value_pieces}
-use Rattle.px_layout.proofs.Pieces.{value_inside, values_more}
+use Rattle.px_layout.specs.calls.Items.{item_of}
+use Rattle.px_layout.specs.calls.Building.{AreInside, PutsOver, value_pieces}
+use Rattle.px_layout.proofs.plans.Pieces.{value_inside, values_more}
 use Rattle.px_layout.proofs.building.lay_values.Goals as goal
 
 pub lay_value-requires-clause-inside : goal.lay_value-requires-clause-inside

@@ -1,5 +1,5 @@
 use Rattle.std.proofs.Common.{◌≡◌, drop}
-use Rattle.px_layout.specs.Building.{PutsOver, value_pieces}
+use Rattle.px_layout.specs.calls.Building.{PutsOver, value_pieces}
 use Rattle.px_layout.proofs.building.lay_values.Given as goal
 
 -- the values of the entries from i on stand in the block, and no growth was refused

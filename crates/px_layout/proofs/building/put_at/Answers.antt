@@ -1,5 +1,5 @@
 use Rattle.std.proofs.Common.{arith}
-use Rattle.px_layout.proofs.Built.{puts_mid}
+use Rattle.px_layout.proofs.plans.Built.{puts_mid}
 use Rattle.px_layout.proofs.building.put_at.Goals as goal
 
 pub returns-clause-bytes : goal.returns-clause-bytes

@@ -1,7 +1,7 @@
 use Rattle.std.proofs.Common.{◌≡◌, ◌+◌, sym, subst, arith}
-use Rattle.px_layout.specs.Items.{item_of, rank}
-use Rattle.px_layout.specs.Layers.{over}
-use Rattle.px_layout.proofs.EntryLists.{rank_put, rank_kept}
+use Rattle.px_layout.specs.calls.Items.{item_of, rank}
+use Rattle.px_layout.specs.calls.Layers.{over}
+use Rattle.px_layout.proofs.plans.EntryLists.{rank_put, rank_kept}
 use Rattle.px_layout.proofs.entries.adds.Goals as goal
 
 pub returns-then-extra-tag-clause-added : goal.returns-then-extra-tag-clause-added

@@ -1,5 +1,5 @@
 use Rattle.std.proofs.Common.{◌+◌, ◌-◌, ◌/◌, arith}
-use Rattle.px_layout.proofs.EntryLists.{rank_le, rank_behind, rank_before, rank_fields}
+use Rattle.px_layout.proofs.plans.EntryLists.{rank_le, rank_behind, rank_before, rank_fields}
 use Rattle.px_layout.proofs.entries.fields_before.Goals as goal
 
 pub loop-low-init : goal.loop-low-init

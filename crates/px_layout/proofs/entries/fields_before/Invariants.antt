@@ -1,5 +1,5 @@
 use Rattle.std.proofs.Common.{◌≤◌, ◌-◌, length}
-use Rattle.px_layout.specs.Items.{rank}
+use Rattle.px_layout.specs.calls.Items.{rank}
 use Rattle.px_layout.proofs.entries.fields_before.Given as goal
 
 -- those below `low` have no greater tag, and all from `high` on have one

@@ -1,6 +1,6 @@
 use Rattle.std.proofs.Common.{◌-◌, arith}
 use Rattle.px_layout.specs.declared.entries.Step.TheVariants.{Here, Under}
-use Rattle.px_layout.proofs.EntryLists.{passes, pass_before, pass_here, pass_behind}
+use Rattle.px_layout.proofs.plans.EntryLists.{passes, pass_before, pass_here, pass_behind}
 use Rattle.px_layout.proofs.entries.pass.Goals as goal
 
 pub returns-then-i-extra : goal.returns-then-i-extra

@@ -1,4 +1,4 @@
-use Rattle.px_layout.proofs.EntryLists.{strips_counted}
+use Rattle.px_layout.proofs.plans.EntryLists.{strips_counted}
 use Rattle.px_layout.proofs.entries.strip_lengths.Goals as goal
 
 pub returns-in-Some-clause-counted : goal.returns-in-Some-clause-counted

@@ -1,7 +1,7 @@
 use Rattle.std.proofs.Common.{◌≡◌, List, drop}
 use Rattle.px_bytes.specs.Range.{Range, Agrees}
-use Rattle.px_layout.specs.Planned.{plan_of}
-use Rattle.px_layout.specs.Judging.{all_stand}
+use Rattle.px_layout.specs.calls.Planned.{plan_of}
+use Rattle.px_layout.specs.calls.Judging.{all_stand}
 use Rattle.px_layout.proofs.legal.hold_all.Given as goal
 
 -- the chunks left stand where they may exactly if all do, and no growth was refused

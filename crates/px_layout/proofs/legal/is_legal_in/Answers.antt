@@ -2,10 +2,10 @@ use Rattle.std.proofs.Common.{◌≡◌, ◌≤◌, ◌∙◌, length, ap, refl,
 use Rattle.std.proofs.lemmas.Bool.{both_ways}
 use Rattle.std.specs.Prelude.{false}
 use Rattle.px_bytes.specs.Parts.{limit}
-use Rattle.px_tree.specs.Seen.{meaning_of}
+use Rattle.px_tree.specs.calls.Seen.{meaning_of}
 use Rattle.px_layout.specs.Chunks.{chunks}
-use Rattle.px_layout.specs.Planned.{plan_of}
-use Rattle.px_layout.proofs.Verdicts.{as_many, verdicts}
+use Rattle.px_layout.specs.calls.Planned.{plan_of}
+use Rattle.px_layout.proofs.plans.Verdicts.{as_many, verdicts}
 use Rattle.px_layout.proofs.legal.is_legal_in.Goals as goal
 
 pub returns-then-count-len-clause-legal : goal.returns-then-count-len-clause-legal

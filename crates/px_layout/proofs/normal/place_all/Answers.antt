@@ -2,8 +2,8 @@ use Rattle.std.proofs.Common.{ℕ, refl}
 use Rattle.std.proofs.lemmas.Result.{err_from_is_err_and}
 use Rattle.px_tree.specs.declared.Dir.TheVariants.{Main}
 use Rattle.px_layout.specs.declared.chunks.Chunk.TheVariants.{Table}
-use Rattle.px_layout.specs.Planned.{plan_of}
-use Rattle.px_layout.proofs.Lines.{stopped, write_lacks}
+use Rattle.px_layout.specs.calls.Planned.{plan_of}
+use Rattle.px_layout.proofs.plans.Lines.{stopped, write_lacks}
 use Rattle.px_layout.proofs.normal.place_all.Goals as goal
 
 pub returns-in_err-at-clause-all : goal.returns-in_err-at-clause-all

@@ -1,6 +1,6 @@
 use Rattle.std.proofs.Common.{◌≡◌, take}
-use Rattle.px_layout.specs.Planned.{plan_of}
-use Rattle.px_layout.specs.PlanningNormal.{Placed}
+use Rattle.px_layout.specs.calls.Planned.{plan_of}
+use Rattle.px_layout.specs.calls.PlanningNormal.{Placed}
 use Rattle.px_layout.proofs.normal.place_all.Given as goal
 
 -- the chunks so far stand one behind the other, and no growth was refused

@@ -1,5 +1,5 @@
-use Rattle.px_layout.specs.Planned.{plan_of}
-use Rattle.px_layout.proofs.Lines.{next_placed}
+use Rattle.px_layout.specs.calls.Planned.{plan_of}
+use Rattle.px_layout.proofs.plans.Lines.{next_placed}
 use Rattle.px_layout.proofs.normal.place_next.Goals as goal
 
 pub returns-clause-next : goal.returns-clause-next

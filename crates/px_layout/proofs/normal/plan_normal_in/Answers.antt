@@ -1,11 +1,11 @@
 use Rattle.std.proofs.Common.{ℕ, ◌≡◌, ◌∙◌, subst}
 use Rattle.std.proofs.lemmas.Result.{err_from_is_err_and}
-use Rattle.px_tree.specs.Seen.{meaning_of}
+use Rattle.px_tree.specs.calls.Seen.{meaning_of}
 use Rattle.px_layout.specs.Chunks.{chunks}
 use Rattle.px_layout.specs.declared.plan.Plan as held
-use Rattle.px_layout.specs.Planned.{plan_of}
-use Rattle.px_layout.specs.PlanningNormal.{Placed}
-use Rattle.px_layout.proofs.Lines.{planned, refused, write_lacks}
+use Rattle.px_layout.specs.calls.Planned.{plan_of}
+use Rattle.px_layout.specs.calls.PlanningNormal.{Placed}
+use Rattle.px_layout.proofs.plans.Lines.{planned, refused, write_lacks}
 use Rattle.px_layout.proofs.normal.plan_normal_in.Goals as goal
 
 pub returns-in_err-len-clause-plan : goal.returns-in_err-len-clause-plan

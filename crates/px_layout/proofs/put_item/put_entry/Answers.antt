@@ -1,8 +1,8 @@
 use Rattle.std.proofs.lemmas.Result.{err_from_is_err_and}
-use Rattle.px_layout.specs.Items.{item_of}
-use Rattle.px_layout.specs.Planned.{plan_of}
-use Rattle.px_layout.proofs.Puts.{both_as, first_as}
-use Rattle.px_layout.proofs.EntryBytes.{entry_as}
+use Rattle.px_layout.specs.calls.Items.{item_of}
+use Rattle.px_layout.specs.calls.Planned.{plan_of}
+use Rattle.px_layout.proofs.writing.Puts.{both_as, first_as}
+use Rattle.px_layout.proofs.writing.EntryBytes.{entry_as}
 use Rattle.px_layout.proofs.put_item.put_entry.Goals as goal
 
 pub returns-in_err-put-clause-bytes : goal.returns-in_err-put-clause-bytes

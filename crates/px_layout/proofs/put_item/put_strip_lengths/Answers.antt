@@ -4,8 +4,8 @@ use Rattle.std.proofs.lemmas.Option.{slice_get-map}
 use Rattle.std.proofs.lemmas.Result.{err_from_is_err_and}
 use Rattle.px_bytes.specs.Parts.{limit}
 use Rattle.px_bytes.specs.Waiting.{Owes}
-use Rattle.px_bytes.specs.WaitingLaws.{loop_more, loop_stop}
-use Rattle.px_bytes.specs.EachLaws.{all_at}
+use Rattle.px_bytes.specs.lemmas.WaitingLaws.{loop_more, loop_stop}
+use Rattle.px_bytes.specs.lemmas.EachLaws.{all_at}
 use Rattle.px_layout.specs.Laid.{long_bytes}
 use Rattle.px_layout.proofs.put_item.put_strip_lengths.Goals as goal
 

@@ -5,10 +5,10 @@ use Rattle.std.proofs.lemmas.Result.{err_from_is_err_and}
 use Rattle.px_bytes.specs.Waiting.{Owes}
 use Rattle.px_layout.specs.declared.chunks.Chunk.TheVariants.{Strip}
 use Rattle.px_layout.specs.Laid.{long_bytes}
-use Rattle.px_layout.specs.Planned.{plan_of}
+use Rattle.px_layout.specs.calls.Planned.{plan_of}
 use Rattle.px_layout.specs.Plans.{place}
-use Rattle.px_layout.specs.StandLaws.{length-range}
-use Rattle.px_layout.proofs.Puts.{more_as, stop_as, slice_get-range}
+use Rattle.px_layout.specs.lemmas.StandLaws.{length-range}
+use Rattle.px_layout.proofs.writing.Puts.{more_as, stop_as, slice_get-range}
 use Rattle.px_layout.proofs.put_item.put_strip_offsets.Goals as goal
 
 pub returns-in_err-put_long-clause-bytes : goal.returns-in_err-put_long-clause-bytes

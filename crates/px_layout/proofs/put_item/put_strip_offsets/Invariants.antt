@@ -3,7 +3,7 @@ use Rattle.std.specs.List.{range_with_len}
 use Rattle.px_bytes.specs.Waiting.{Owes}
 use Rattle.px_layout.specs.declared.chunks.Chunk.TheVariants.{Strip}
 use Rattle.px_layout.specs.Laid.{long_bytes}
-use Rattle.px_layout.specs.Planned.{plan_of}
+use Rattle.px_layout.specs.calls.Planned.{plan_of}
 use Rattle.px_layout.specs.Plans.{place}
 use Rattle.px_layout.proofs.put_item.put_strip_offsets.Given as goal
 

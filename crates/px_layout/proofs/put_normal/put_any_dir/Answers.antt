@@ -1,7 +1,7 @@
 use Rattle.std.proofs.Common.{sym, subst}
 use Rattle.std.specs.Prelude.{IfSome}
-use Rattle.px_tree.specs.Seen.{meaning_of}
-use Rattle.px_layout.specs.EntryLaws.{Good, good_items}
+use Rattle.px_tree.specs.calls.Seen.{meaning_of}
+use Rattle.px_layout.specs.lemmas.EntryLaws.{Good, good_items}
 use Rattle.px_layout.proofs.put_normal.put_any_dir.Goals as goal
 
 pub put_dir-requires-clause-good : goal.put_dir-requires-clause-good

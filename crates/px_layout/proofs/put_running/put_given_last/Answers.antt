@@ -1,10 +1,10 @@
 use Rattle.std.proofs.Common.{arith}
 use Rattle.std.proofs.lemmas.Result.{err_from_is_err_and}
-use Rattle.px_tree.specs.Seen.{meaning_of}
-use Rattle.px_layout.specs.Items.{item_of}
+use Rattle.px_tree.specs.calls.Seen.{meaning_of}
+use Rattle.px_layout.specs.calls.Items.{item_of}
 use Rattle.px_layout.specs.Normal.{normal_plan}
-use Rattle.px_layout.proofs.Puts.{both_as, first_as, puts_as}
-use Rattle.px_layout.proofs.Runs.{last_far, last_near}
+use Rattle.px_layout.proofs.writing.Puts.{both_as, first_as, puts_as}
+use Rattle.px_layout.proofs.writing.Runs.{last_far, last_near}
 use Rattle.px_layout.proofs.put_running.put_given_last.Goals as goal
 
 pub returns-then-size-gt4-clause-bytes : goal.returns-then-size-gt4-clause-bytes

@@ -1,14 +1,14 @@
 use Rattle.std.proofs.Common.{◌∙◌, ap, arith}
 use Rattle.std.proofs.lemmas.Result.{err_from_is_err_and}
 use Rattle.px_bytes.specs.declared.Order.TheVariants.{Most}
-use Rattle.px_tree.specs.Seen.{meaning_of}
+use Rattle.px_tree.specs.calls.Seen.{meaning_of}
 use Rattle.px_tree.specs.Entry.{table_size}
 use Rattle.px_layout.specs.Laid.{entry_bytes}
 use Rattle.px_layout.specs.Normal.{normal_plan}
-use Rattle.px_layout.proofs.Puts.{more_as, stop_as}
-use Rattle.px_layout.proofs.Walks.{few_there}
-use Rattle.px_layout.proofs.Beginnings.{values_here}
-use Rattle.px_layout.proofs.Runs.{entry_running, values_most, tells_read}
+use Rattle.px_layout.proofs.writing.Puts.{more_as, stop_as}
+use Rattle.px_layout.proofs.plans.Walks.{few_there}
+use Rattle.px_layout.proofs.writing.Beginnings.{values_here}
+use Rattle.px_layout.proofs.writing.Runs.{entry_running, values_most, tells_read}
 use Rattle.px_layout.proofs.put_running.put_running_entries.Goals as goal
 
 pub table_len-requires : goal.table_len-requires

@@ -1,11 +1,11 @@
 use Rattle.std.proofs.Common.{◌≡◌, ◌+◌, ◌++◌, take, drop, flat_map, length}
 use Rattle.px_bytes.specs.Waiting.{Owes}
 use Rattle.px_bytes.specs.declared.Order.TheVariants.{Most}
-use Rattle.px_tree.specs.Seen.{meaning_of}
+use Rattle.px_tree.specs.calls.Seen.{meaning_of}
 use Rattle.px_tree.specs.Entry.{table_size}
 use Rattle.px_layout.specs.Laid.{entry_bytes}
 use Rattle.px_layout.specs.Normal.{even, normal_plan}
-use Rattle.px_layout.specs.RunLaws.{start, values_size}
+use Rattle.px_layout.specs.lemmas.RunLaws.{start, values_size}
 use Rattle.px_layout.proofs.put_running.put_running_entries.Given as goal
 
 -- the entries so far were put, no call failed, and the next value stands behind those of these entries

@@ -2,11 +2,11 @@ use Rattle.std.proofs.Common.{◌≡◌, ◌∙◌, ◌++◌, ℕ, List, take, f
 use Rattle.std.proofs.lemmas.List.{take_all}
 use Rattle.std.proofs.lemmas.Result.{err_from_is_err_and}
 use Rattle.px_bytes.specs.Waiting.{Owes}
-use Rattle.px_bytes.specs.WaitingLaws.{loop_more, loop_stop}
+use Rattle.px_bytes.specs.lemmas.WaitingLaws.{loop_more, loop_stop}
 use Rattle.px_bytes.specs.declared.Order.TheVariants.{Most}
 use Rattle.px_layout.specs.Laid.{long_bytes}
-use Rattle.px_layout.specs.Given.{strip_places}
-use Rattle.px_layout.proofs.Runs.{place_read, strips_next, length_places}
+use Rattle.px_layout.specs.calls.Given.{strip_places}
+use Rattle.px_layout.proofs.writing.Runs.{place_read, strips_next, length_places}
 use Rattle.px_layout.proofs.put_running.put_strip_places.Goals as goal
 
 pub returns-in_err-put_long-clause-bytes : goal.returns-in_err-put_long-clause-bytes

@@ -2,7 +2,7 @@ use Rattle.std.proofs.Common.{◌≡◌, ◌+◌, ◌++◌, take, drop, flat_map
 use Rattle.px_bytes.specs.Waiting.{Owes}
 use Rattle.px_bytes.specs.declared.Order.TheVariants.{Most}
 use Rattle.px_layout.specs.Laid.{long_bytes}
-use Rattle.px_layout.specs.Given.{strips_size, strip_places}
+use Rattle.px_layout.specs.calls.Given.{strips_size, strip_places}
 use Rattle.px_layout.proofs.put_running.put_strip_places.Given as goal
 
 -- the offsets so far were put, no call failed, and the next strip stands behind those

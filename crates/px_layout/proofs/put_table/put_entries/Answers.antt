@@ -1,8 +1,8 @@
 use Rattle.std.proofs.Common.{◌∙◌}
 use Rattle.std.proofs.lemmas.Result.{err_from_is_err_and}
-use Rattle.px_bytes.specs.WaitingLaws.{loop_more, loop_stop}
+use Rattle.px_bytes.specs.lemmas.WaitingLaws.{loop_more, loop_stop}
 use Rattle.px_layout.specs.Laid.{entry_bytes}
-use Rattle.px_layout.specs.Planned.{plan_of}
+use Rattle.px_layout.specs.calls.Planned.{plan_of}
 use Rattle.px_layout.proofs.put_table.put_entries.Goals as goal
 
 pub returns-in_err-put_entry-clause-bytes : goal.returns-in_err-put_entry-clause-bytes

@@ -1,7 +1,7 @@
 use Rattle.std.proofs.Common.{◌≡◌, ◌++◌, take, flat_map}
 use Rattle.px_bytes.specs.Waiting.{Owes}
 use Rattle.px_layout.specs.Laid.{entry_bytes}
-use Rattle.px_layout.specs.Planned.{plan_of}
+use Rattle.px_layout.specs.calls.Planned.{plan_of}
 use Rattle.px_layout.proofs.put_table.put_entries.Given as goal
 
 -- the entries so far were put, and no call failed

@@ -2,11 +2,11 @@ use Rattle.std.proofs.Common.{◌≡◌, ◌++◌, List, ℕ, length, ap, subst}
 use Rattle.std.proofs.lemmas.Result.{err_from_is_err_and}
 use Rattle.px_bytes.specs.Numbers.{spelling}
 use Rattle.px_bytes.specs.Waiting.{Owes}
-use Rattle.px_bytes.specs.WaitingLaws.{puts_both}
-use Rattle.px_tree.specs.Seen.{meaning_of}
-use Rattle.px_layout.specs.Planned.{plan_of}
-use Rattle.px_layout.proofs.Puts.{prefix_as, puts_as, first_as, second_of}
-use Rattle.px_layout.proofs.EntryBytes.{table_as}
+use Rattle.px_bytes.specs.lemmas.WaitingLaws.{puts_both}
+use Rattle.px_tree.specs.calls.Seen.{meaning_of}
+use Rattle.px_layout.specs.calls.Planned.{plan_of}
+use Rattle.px_layout.proofs.writing.Puts.{prefix_as, puts_as, first_as, second_of}
+use Rattle.px_layout.proofs.writing.EntryBytes.{table_as}
 use Rattle.px_layout.proofs.put_table.put_table.Goals as goal
 
 pub returns-in_err-put_short-clause-bytes : goal.returns-in_err-put_short-clause-bytes

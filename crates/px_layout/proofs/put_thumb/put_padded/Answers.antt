@@ -1,5 +1,5 @@
 use Rattle.std.proofs.Common.{◌%◌, length, replicate}
-use Rattle.px_bytes.specs.WaitingLaws.{puts_both}
+use Rattle.px_bytes.specs.lemmas.WaitingLaws.{puts_both}
 use Rattle.px_layout.proofs.put_thumb.put_padded.Goals as goal
 
 pub returns-clause-bytes : goal.returns-clause-bytes

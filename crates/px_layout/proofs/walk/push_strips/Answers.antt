@@ -1,5 +1,5 @@
 use Rattle.std.proofs.Common.{◌∙◌}
-use Rattle.px_layout.proofs.Walks.{strips_more}
+use Rattle.px_layout.proofs.plans.Walks.{strips_more}
 use Rattle.px_layout.proofs.walk.push_strips.Goals as goal
 
 pub loop-i-preserved : goal.loop-i-preserved

@@ -1,10 +1,10 @@
 use Rattle.std.proofs.Common.{refl, ℕ, ◌+◌, ◌∙◌, ap}
 use Rattle.std.proofs.lemmas.Result.{err_from_is_err_and}
-use Rattle.px_tree.specs.Seen.{meaning_of}
+use Rattle.px_tree.specs.calls.Seen.{meaning_of}
 use Rattle.px_layout.specs.Normal.{normal_plan}
-use Rattle.px_layout.specs.LineLaws.{length_normal}
-use Rattle.px_layout.proofs.Runs.{no_starts, form_most}
-use Rattle.px_layout.proofs.WriteNormal.{not_put, not_sent, not_flushed, written}
+use Rattle.px_layout.specs.lemmas.LineLaws.{length_normal}
+use Rattle.px_layout.proofs.writing.Runs.{no_starts, form_most}
+use Rattle.px_layout.proofs.writing.WriteNormal.{not_put, not_sent, not_flushed, written}
 use Rattle.px_layout.proofs.write.write_normal_in.Goals as goal
 
 pub returns-in_err-starts-clause-form : goal.returns-in_err-starts-clause-form

@@ -1,7 +1,7 @@
 use Rattle.std.proofs.Common.{ap, sym, ◌∙◌, arith}
-use Rattle.px_bytes.specs.PartLaws.{part-part}
+use Rattle.px_bytes.specs.lemmas.PartLaws.{part-part}
 use Rattle.px_tree.specs.Entry.{entry, short, long}
-use Rattle.px_tree.proofs.Pieces.{part_at}
+use Rattle.px_tree.proofs.reading.Pieces.{part_at}
 use Rattle.px_tree.proofs.entries.head_at.Goals as goal
 
 pub returns : goal.returns

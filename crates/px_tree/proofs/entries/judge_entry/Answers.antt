@@ -6,8 +6,8 @@ use Rattle.px_tree.specs.Roles.{role}
 use Rattle.px_tree.specs.declared.entries.Head.{Head}
 use Rattle.px_tree.specs.Entry.{entry}
 use Rattle.px_bytes.specs.Range.{Range, Agrees}
-use Rattle.px_tree.specs.Reading.{Shows}
-use Rattle.px_tree.proofs.Shapes.{shape_refuses, value_refuses, entry_true, range_same}
+use Rattle.px_tree.specs.calls.Reading.{Shows}
+use Rattle.px_tree.proofs.reading.Shapes.{shape_refuses, value_refuses, entry_true, range_same}
 use Rattle.px_tree.proofs.entries.judge_entry.Goals as goal
 
 pub returns-in_err-shape-clause-judged : goal.returns-in_err-shape-clause-judged

@@ -1,7 +1,7 @@
 use Rattle.std.proofs.Common.{◌≡◌, ap, ℕ, ◌∙◌, sym, arith, ◌*◌, ◌+◌}
 use Rattle.px_bytes.specs.Parts.{part}
 use Rattle.px_field.specs.Forms.{size}
-use Rattle.px_tree.proofs.Raw.{raw-placed, raw-inline, part-bounded}
+use Rattle.px_tree.proofs.reading.Raw.{raw-placed, raw-inline, part-bounded}
 use Rattle.px_tree.proofs.field_reading.raw_of.Goals as goal
 
 pub returns-then-len-gt4 : goal.returns-then-len-gt4

@@ -1,10 +1,10 @@
 use Rattle.std.proofs.Common.{◌≡◌, ◌+◌, ◌-◌, ◌*◌, ◌++◌, List, filter_map}
 use Rattle.px_bytes.specs.Range.{Range, Agrees}
 use Rattle.px_tree.specs.Entry.{field, Rising}
-use Rattle.px_tree.specs.Places.{tags}
-use Rattle.px_tree.specs.Reading.{Precede, entries_from}
-use Rattle.px_tree.proofs.KeptUses.{UsesSoFar}
-use Rattle.px_tree.proofs.Loop.{SoFar}
+use Rattle.px_tree.specs.calls.Places.{tags}
+use Rattle.px_tree.specs.calls.Reading.{Precede, entries_from}
+use Rattle.px_tree.proofs.reading.KeptUses.{UsesSoFar}
+use Rattle.px_tree.proofs.reading.Loop.{SoFar}
 use Rattle.px_tree.proofs.field_reading.read_entries.Given as goal
 
 abbrev pub invariant-loop : goal.invariant-loop

@@ -2,7 +2,7 @@ use Rattle.std.proofs.Common.{List, ℕ, Some, ap, ◌∙◌, sym}
 use Rattle.std.specs.Prelude.{is_some}
 use Rattle.px_field.specs.Values.{Value}
 use Rattle.px_tree.specs.Entry.{record_in}
-use Rattle.px_tree.proofs.Raw.{unless-some, unless-none}
+use Rattle.px_tree.proofs.reading.Raw.{unless-some, unless-none}
 use Rattle.px_tree.proofs.field_reading.unless_record_at.Goals as goal
 
 pub returns-then-says_record : goal.returns-then-says_record

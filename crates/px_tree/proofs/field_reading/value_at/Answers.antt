@@ -1,6 +1,6 @@
 use Rattle.std.proofs.Common.{◌∙◌}
-use Rattle.px_field.specs.ValueLaws.{whole-times}
-use Rattle.px_tree.proofs.Raw.{value-held}
+use Rattle.px_field.specs.lemmas.ValueLaws.{whole-times}
+use Rattle.px_tree.proofs.reading.Raw.{value-held}
 use Rattle.px_tree.proofs.field_reading.value_at.Goals as goal
 
 pub read_value-requires-clause-whole : goal.read_value-requires-clause-whole

@@ -1,6 +1,6 @@
 use Rattle.std.proofs.Common.{◌∙◌, sym}
-use Rattle.px_field.specs.ValueLaws.{whole-times}
-use Rattle.px_tree.proofs.Raw.{whole-held, whole_form, widened-other}
+use Rattle.px_field.specs.lemmas.ValueLaws.{whole-times}
+use Rattle.px_tree.proofs.reading.Raw.{whole-held, whole_form, widened-other}
 use Rattle.px_tree.proofs.field_reading.widened_at.Goals as goal
 
 pub read_whole-requires-clause-whole : goal.read_whole-requires-clause-whole

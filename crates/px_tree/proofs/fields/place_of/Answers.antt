@@ -1,6 +1,6 @@
 use Rattle.std.proofs.Common.{◌≡◌, ◌<◌, ◌-◌, ◌+◌, ◌/◌, length, slice_index, get_or, arith}
-use Rattle.px_tree.specs.Places.{tags}
-use Rattle.px_tree.proofs.FieldLemmas.{tag_at, below_middle, above_middle}
+use Rattle.px_tree.specs.calls.Places.{tags}
+use Rattle.px_tree.proofs.writable.FieldLemmas.{tag_at, below_middle, above_middle}
 use Rattle.px_tree.proofs.fields.place_of.Goals as goal
 
 pub loop-low-preserved-then-here-tag-2 : goal.loop-low-preserved-then-here-tag-2

@@ -1,5 +1,5 @@
 use Rattle.std.proofs.Common.{◌≤◌, ◌<◌, ◌-◌, ℕ, length, slice_index}
-use Rattle.px_tree.specs.Places.{tags}
+use Rattle.px_tree.specs.calls.Places.{tags}
 use Rattle.px_tree.proofs.fields.place_of.Given as goal
 
 abbrev pub invariant-loop-low : goal.invariant-loop-low

@@ -1,6 +1,6 @@
 use Rattle.std.proofs.Common.{sym, ap, ◌∙◌}
 use Rattle.px_field.specs.declared.Kind.TheVariants.{Of}
-use Rattle.px_tree.proofs.FitLemmas.{says_at_byte, says_at_undefined}
+use Rattle.px_tree.proofs.writable.FitLemmas.{says_at_byte, says_at_undefined}
 use Rattle.px_tree.proofs.fitting.says_record.Goals as goal
 
 pub returns-in-Of-Byte : goal.returns-in-Of-Byte

@@ -1,4 +1,4 @@
-use Rattle.px_tree.proofs.FitLemmas.{stands_alone_lem}
+use Rattle.px_tree.proofs.writable.FitLemmas.{stands_alone_lem}
 use Rattle.px_tree.proofs.fitting.stands_alone.Goals as goal
 
 pub returns-in-Some : goal.returns-in-Some

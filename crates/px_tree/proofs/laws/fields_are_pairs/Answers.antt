@@ -1,4 +1,4 @@
-use Rattle.px_tree.proofs.FieldPairs.{fields_are_pairs as pairs}
+use Rattle.px_tree.proofs.writable.FieldPairs.{fields_are_pairs as pairs}
 use Rattle.px_tree.proofs.laws.fields_are_pairs.Goals as goal
 
 pub returns : goal.returns

@@ -1,4 +1,4 @@
-use Rattle.px_tree.proofs.FieldLemmas as lemmas
+use Rattle.px_tree.proofs.writable.FieldLemmas as lemmas
 use Rattle.px_tree.proofs.laws.get_after_put.Goals as goal
 
 pub returns : goal.returns

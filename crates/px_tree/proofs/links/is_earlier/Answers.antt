@@ -1,5 +1,5 @@
 use Rattle.std.proofs.Common.{sym, ◌∙◌}
-use Rattle.px_tree.proofs.Earlier.{here_earlier, pass_earlier}
+use Rattle.px_tree.proofs.reading.Earlier.{here_earlier, pass_earlier}
 use Rattle.px_tree.proofs.links.is_earlier.Goals as goal
 
 pub returns-then-leads_to : goal.returns-then-leads_to

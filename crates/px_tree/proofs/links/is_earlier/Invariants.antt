@@ -1,6 +1,6 @@
 use Rattle.std.proofs.Common.{◌≡◌, drop}
 use Rattle.px_tree.specs.Checks.{is_earlier_at}
-use Rattle.px_tree.specs.Linked.{offsets_of}
+use Rattle.px_tree.specs.calls.Linked.{offsets_of}
 use Rattle.px_tree.proofs.links.is_earlier.Given as goal
 
 abbrev pub invariant-loop-link : goal.invariant-loop-link

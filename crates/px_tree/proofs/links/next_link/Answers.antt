@@ -2,7 +2,7 @@ use Rattle.std.proofs.Common.{◌≡◌, ℕ, ◌+◌, ◌*◌, Some, None, Bool
 use Rattle.px_bytes.specs.Parts.{part}
 use Rattle.px_tree.specs.Entry.{long}
 use Rattle.px_tree.specs.Directory.{unless_zero}
-use Rattle.px_tree.proofs.Pointers.{next-is, length-is}
+use Rattle.px_tree.proofs.reading.Pointers.{next-is, length-is}
 use Rattle.px_tree.proofs.links.next_link.Goals as goal
 
 zero_is : (n m : ℕ) → n ≡ 0 → m ≡ n → None ≡ unless_zero m

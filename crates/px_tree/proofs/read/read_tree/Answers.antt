@@ -2,14 +2,14 @@ use Rattle.std.proofs.Common.{[], ◌∷◌, option_map, refl, ap, ◌∙◌, �
 use Rattle.std.proofs.lemmas.Result.{err_from_is_err_and}
 use Rattle.px_bytes.specs.declared.Cause.TheVariants.{Overlap}
 use Rattle.px_bytes.specs.Range.{range, is_free}
-use Rattle.px_bytes.specs.RangeLaws.{agrees-none}
+use Rattle.px_bytes.specs.lemmas.RangeLaws.{agrees-none}
 use Rattle.px_bytes.specs.Checks.{check}
-use Rattle.px_bytes.specs.CheckLaws.{Refuses-none}
+use Rattle.px_bytes.specs.lemmas.CheckLaws.{Refuses-none}
 use Rattle.px_tree.specs.declared.tables.Directory.{Directory}
 use Rattle.px_tree.specs.Directory.{dirs}
 use Rattle.px_tree.specs.Says.{record_at}
 use Rattle.px_tree.specs.Checks.{dirs_held}
-use Rattle.px_tree.proofs.Assembled.{thumb_read, main_each, dirs_refuse_tree, thumb_refuses_tree, tree_true, all_in_order, meaning-is}
+use Rattle.px_tree.proofs.saying.Assembled.{thumb_read, main_each, dirs_refuse_tree, thumb_refuses_tree, tree_true, all_in_order, meaning-is}
 use Rattle.px_tree.proofs.read.read_tree.Goals as goal
 
 pub returns-in_err-hold-clause-judged : goal.returns-in_err-hold-clause-judged

@@ -1,5 +1,5 @@
 use Rattle.std.proofs.Common.{sym}
-use Rattle.px_tree.proofs.Answered.{faulty_says_none}
+use Rattle.px_tree.proofs.faulting.Answered.{faulty_says_none}
 use Rattle.px_tree.proofs.records.iim_in.Goals as goal
 
 pub returns-in-Err-Content-clause-ok : goal.returns-in-Err-Content-clause-ok

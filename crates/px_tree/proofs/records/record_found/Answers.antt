@@ -1,5 +1,5 @@
 use Rattle.std.proofs.Common.{sym, ◌∙◌}
-use Rattle.px_tree.proofs.Raw.{whole_from}
+use Rattle.px_tree.proofs.reading.Raw.{whole_from}
 use Rattle.px_tree.proofs.records.record_found.Goals as goal
 
 pub raw_of-raw-requires : goal.raw_of-raw-requires

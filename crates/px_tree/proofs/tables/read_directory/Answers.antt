@@ -2,13 +2,13 @@ use Rattle.std.proofs.Common.{◌+◌, ◌∷◌, None, sym, ap, subst, ◌∙�
 use Rattle.std.proofs.lemmas.Result.{err_from_is_err_and}
 use Rattle.px_bytes.specs.Range.{range}
 use Rattle.px_bytes.specs.Checks.{first_false, Refuses}
-use Rattle.px_bytes.specs.CheckLaws.{Refuses-more, Refuses-behind, all_true}
+use Rattle.px_bytes.specs.lemmas.CheckLaws.{Refuses-more, Refuses-behind, all_true}
 use Rattle.px_tree.specs.Entry.{table_size}
 use Rattle.px_tree.specs.Directory.{entries_at}
 use Rattle.px_tree.specs.Footprint.{table_range}
 use Rattle.px_tree.specs.Checks.{opening_checks, entries_checks}
-use Rattle.px_tree.specs.Linked.{offsets_of}
-use Rattle.px_tree.proofs.Standing.{entries_checks-is, fields-is, ranges-is, uses-is, dir_checks-parts}
+use Rattle.px_tree.specs.calls.Linked.{offsets_of}
+use Rattle.px_tree.proofs.reading.Standing.{entries_checks-is, fields-is, ranges-is, uses-is, dir_checks-parts}
 use Rattle.px_tree.proofs.tables.read_directory.Goals as goal
 
 pub returns-in_err-count-clause-judged : goal.returns-in_err-count-clause-judged

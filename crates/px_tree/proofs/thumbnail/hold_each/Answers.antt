@@ -2,7 +2,7 @@ use Rattle.std.proofs.Common.{map, ◌∙◌}
 use Rattle.std.proofs.lemmas.Result.{err_from_is_err_and}
 use Rattle.px_bytes.specs.Range.{range}
 use Rattle.px_tree.specs.Thumbnail.{whole_number, ranges_of}
-use Rattle.px_tree.proofs.StripRanges.{ranges-next, ranges_step, ranges_refuse, pushed}
+use Rattle.px_tree.proofs.reading.StripRanges.{ranges-next, ranges_step, ranges_refuse, pushed}
 use Rattle.px_tree.proofs.thumbnail.hold_each.Goals as goal
 
 pub returns-in_err-strip-clause-judged : goal.returns-in_err-strip-clause-judged

@@ -3,10 +3,10 @@ use Rattle.std.proofs.lemmas.Result.{err_from_is_err_and}
 use Rattle.px_bytes.specs.Range.{Range}
 use Rattle.px_tree.specs.Roles.{strip_offsets_tag, strip_lengths_tag}
 use Rattle.px_tree.specs.Thumbnail.{bytes_of}
-use Rattle.px_tree.specs.Parts.{jpeg_of}
-use Rattle.px_tree.proofs.Listed.{have_numbers, offsets_form, lengths_form}
-use Rattle.px_tree.proofs.Parted.{even_parts, pairs_refuse, end_refuses, jpeg_refuses, strips_refuse, thumb_true, jpeg-is, strips-is}
-use Rattle.px_tree.proofs.Assembled.{thumbnail-is}
+use Rattle.px_tree.specs.calls.Parts.{jpeg_of}
+use Rattle.px_tree.proofs.lists.Listed.{have_numbers, offsets_form, lengths_form}
+use Rattle.px_tree.proofs.reading.Parted.{even_parts, pairs_refuse, end_refuses, jpeg_refuses, strips_refuse, thumb_true, jpeg-is, strips-is}
+use Rattle.px_tree.proofs.saying.Assembled.{thumbnail-is}
 use Rattle.px_tree.proofs.thumbnail.read_thumbnail.Goals as goal
 
 pub hold_strips-requires-clause-numbers : goal.hold_strips-requires-clause-numbers

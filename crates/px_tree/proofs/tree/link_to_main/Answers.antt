@@ -1,5 +1,5 @@
 use Rattle.std.proofs.Common.{refl}
-use Rattle.px_tree.proofs.Named.{names_main}
+use Rattle.px_tree.proofs.reading.Named.{names_main}
 use Rattle.px_tree.proofs.tree.link_to_main.Goals as goal
 
 pub returns : goal.returns

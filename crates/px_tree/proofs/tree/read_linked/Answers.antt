@@ -3,8 +3,8 @@ use Rattle.std.proofs.lemmas.Result.{err_from_is_err_and}
 use Rattle.px_bytes.specs.Range.{Range, Agrees}
 use Rattle.px_bytes.specs.Checks.{first_false, Refuses}
 use Rattle.px_tree.specs.Tree.{Fields}
-use Rattle.px_tree.specs.Linked.{Names, offsets_of}
-use Rattle.px_tree.proofs.Named.{some_checks, some_ranges, some_fields}
+use Rattle.px_tree.specs.calls.Linked.{Names, offsets_of}
+use Rattle.px_tree.proofs.reading.Named.{some_checks, some_ranges, some_fields}
 use Rattle.px_tree.proofs.tree.read_linked.Goals as goal
 
 pub returns-in_err-directory-in-Some-clause-judged : goal.returns-in_err-directory-in-Some-clause-judged

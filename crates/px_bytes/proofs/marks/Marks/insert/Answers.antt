@@ -1,4 +1,4 @@
-use Rattle.px_bytes.proofs.MarkLaws.{sums_marked}
+use Rattle.px_bytes.proofs.ranges.MarkLaws.{sums_marked}
 use Rattle.px_bytes.proofs.marks.Marks.insert.Goals as goal
 
 pub invariant_of-self : goal.invariant_of-self

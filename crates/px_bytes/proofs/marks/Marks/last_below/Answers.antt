@@ -1,6 +1,6 @@
 use Rattle.std.proofs.Common.{ℕ, ◌/◌, List, subst, sym}
-use Rattle.px_bytes.specs.Marks.{IsLast, IsLastWord}
-use Rattle.px_bytes.proofs.MarkLaws.{told_some}
+use Rattle.px_bytes.specs.calls.Marks.{IsLast, IsLastWord}
+use Rattle.px_bytes.proofs.ranges.MarkLaws.{told_some}
 use Rattle.px_bytes.proofs.marks.Marks.last_below.Goals as goal
 
 pub last_in-requires-clause-word : goal.last_in-requires-clause-word

@@ -1,4 +1,4 @@
-use Rattle.px_bytes.specs.WaitingLaws.{puts_written}
+use Rattle.px_bytes.specs.lemmas.WaitingLaws.{puts_written}
 use Rattle.px_bytes.proofs.pending.Pending.put.Goals as goal
 
 pub returns-then-bytes-room-2-clause-bytes : goal.returns-then-bytes-room-2-clause-bytes

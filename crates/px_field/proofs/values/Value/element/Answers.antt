@@ -1,7 +1,7 @@
 use Rattle.std.proofs.Common.{◌≡◌, Bool, true, false, length, slice_get, Some, sym, ap, ◌∙◌, arith}
 use Rattle.px_field.specs.declared.forms.Element.{Element}
 use Rattle.px_field.specs.Values.{Value}
-use Rattle.px_field.specs.Views.{shown}
+use Rattle.px_field.specs.calls.Views.{shown}
 use Rattle.px_field.proofs.ViewLemmas.{length-shown, get-whole, IsOf-shown}
 use Rattle.px_field.proofs.values.Value.element.Goals as goal
 

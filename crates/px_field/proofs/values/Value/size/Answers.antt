@@ -1,9 +1,9 @@
 use Rattle.std.proofs.Common.{◌≡◌, ◌*◌, length, sym, ap, ◌∙◌, arith}
 use Rattle.px_field.specs.Forms.{size}
 use Rattle.px_field.specs.Values.{Value, IsValue, form_in}
-use Rattle.px_field.specs.ValueLaws.{length-spelled, count_in-bound}
+use Rattle.px_field.specs.lemmas.ValueLaws.{length-spelled, count_in-bound}
 use Rattle.px_field.proofs.ViewLemmas.{size-shown, size-whole, length-shown, IsValue-shown}
-use Rattle.px_field.specs.Views.{shown}
+use Rattle.px_field.specs.calls.Views.{shown}
 use Rattle.px_field.proofs.values.Value.size.Goals as goal
 
 pub returns-then-self-clause-elements : goal.returns-then-self-clause-elements

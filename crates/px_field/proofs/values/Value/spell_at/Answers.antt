@@ -2,7 +2,7 @@ use Rattle.std.proofs.Common.{◌≡◌, ◌∙◌, List, ℕ, take, drop, Some,
 use Rattle.std.proofs.lemmas.List.{take_at, drop_at}
 use Rattle.px_field.specs.declared.forms.Element.{Element}
 use Rattle.px_field.specs.Values.{form_in, spell}
-use Rattle.px_field.specs.ElementLaws.{length-spell}
+use Rattle.px_field.specs.lemmas.ElementLaws.{length-spell}
 use Rattle.px_field.proofs.values.Value.spell_at.Goals as goal
 
 pub returns-clause-width : goal.returns-clause-width

@@ -4,8 +4,8 @@ use Rattle.px_bytes.specs.Parts.{pieces}
 use Rattle.px_field.specs.declared.turning.Width.{Width}
 use Rattle.px_field.specs.Forms.{size}
 use Rattle.px_field.specs.Values.{Value, spell, form_in, count_in}
-use Rattle.px_field.specs.Views.{shown}
-use Rattle.px_field.specs.Turning.{width_of, read_by, turned}
+use Rattle.px_field.specs.calls.Views.{shown}
+use Rattle.px_field.specs.calls.Turning.{width_of, read_by, turned}
 use Rattle.px_field.proofs.ViewLemmas.{length-shown}
 use Rattle.px_field.proofs.TurnLaws.{part_shown, read_size}
 use Rattle.px_field.proofs.values.Value.spell_many.Goals as goal

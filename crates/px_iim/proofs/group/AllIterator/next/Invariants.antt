@@ -1,5 +1,5 @@
 use Rattle.std.proofs.Common.{length, ◌-◌, ◌≡◌}
-use Rattle.px_iim.specs.View.{octets_left}
+use Rattle.px_iim.specs.calls.View.{octets_left}
 use Rattle.px_iim.proofs.group.AllIterator.next.Given as goal
 
 abbrev pub invariant-loop-self : goal.invariant-loop-self

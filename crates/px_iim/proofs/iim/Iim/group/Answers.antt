@@ -1,9 +1,9 @@
 use Rattle.std.proofs.Common.{◌≡◌, ◌∙◌, ◌<◌, ℕ, [], List, Vec, Global, ap, sym, subst, arith, get_or, map, length, zero-add}
 use Rattle.px_iim.specs.declared.group.Group.{Group}
 use Rattle.px_iim.specs.Group.{named, items_at, AreGroups}
-use Rattle.px_iim.specs.View.{item_view, records_view, numbers, Rises, Holds, MissingIn}
-use Rattle.px_iim.proofs.Records.{found_record, missing_record, past_record}
-use Rattle.px_iim.proofs.Rising.{rises_record}
+use Rattle.px_iim.specs.calls.View.{item_view, records_view, numbers, Rises, Holds, MissingIn}
+use Rattle.px_iim.proofs.reading.Records.{found_record, missing_record, past_record}
+use Rattle.px_iim.proofs.reading.Rising.{rises_record}
 use Rattle.px_iim.proofs.iim.Iim.group.Goals as goal
 
 found : (k n m : ℕ) (vs : List (Vec Group Global)) (v : Vec Group Global) (gs : List Group) (items : List (ℕ × List ℕ)) → k < length vs → v ≡ get_or vs k v → gs ≡ v.items → n ≡ m

@@ -4,8 +4,8 @@ use Rattle.std.proofs.lemmas.Option.{slice_get-get_or}
 use Rattle.px_iim.specs.declared.group.Group.{Group as CodeGroup}
 use Rattle.px_iim.specs.declared.group.Item.{Item}
 use Rattle.px_iim.specs.Group.{Group, Record}
-use Rattle.px_iim.specs.View.{item_view, group_view, groups_view, records_view}
-use Rattle.px_iim.proofs.Records.{drop_view, get_left, get_right, get_view}
+use Rattle.px_iim.specs.calls.View.{item_view, group_view, groups_view, records_view}
+use Rattle.px_iim.proofs.reading.Records.{drop_view, get_left, get_right, get_view}
 use Rattle.px_iim.proofs.iim.Iim.group_at.Goals as goal
 
 here : (vs : List (Vec CodeGroup Global)) (k left : ℕ) (v : Vec CodeGroup Global) (g : CodeGroup) → k < length vs → v ≡ get_or vs k v → left < vec_len v → g ≡ get_or v.items left g

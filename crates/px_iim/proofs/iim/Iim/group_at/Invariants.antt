@@ -1,5 +1,5 @@
 use Rattle.std.proofs.Common.{◌≡◌, slice_get, drop}
-use Rattle.px_iim.specs.View.{records_view}
+use Rattle.px_iim.specs.calls.View.{records_view}
 use Rattle.px_iim.proofs.iim.Iim.group_at.Given as goal
 
 abbrev pub invariant-loop-rec : goal.invariant-loop-rec

@@ -2,9 +2,9 @@ use Rattle.std.proofs.Common.{◌≡◌, ◌∙◌, ◌+◌, ◌≤◌, ◌<◌,
 use Rattle.std.proofs.lemmas.List.{length-map}
 use Rattle.px_iim.specs.declared.group.Group.{Group}
 use Rattle.px_iim.specs.Group.{AreGroups}
-use Rattle.px_iim.specs.View.{group_view, groups_view, records_view}
-use Rattle.px_iim.proofs.Order.{few_groups}
-use Rattle.px_iim.proofs.Records.{drop_view}
+use Rattle.px_iim.specs.calls.View.{group_view, groups_view, records_view}
+use Rattle.px_iim.proofs.reading.Order.{few_groups}
+use Rattle.px_iim.proofs.reading.Records.{drop_view}
 use Rattle.px_iim.proofs.iim.Iim.groups.Goals as goal
 
 -- the groups of one more record number

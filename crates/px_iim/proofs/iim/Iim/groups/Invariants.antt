@@ -1,5 +1,5 @@
 use Rattle.std.proofs.Common.{◌≡◌, ◌+◌, length, drop}
-use Rattle.px_iim.specs.View.{records_view}
+use Rattle.px_iim.specs.calls.View.{records_view}
 use Rattle.px_iim.proofs.iim.Iim.groups.Given as goal
 
 abbrev pub invariant-loop-groups : goal.invariant-loop-groups

@@ -4,13 +4,13 @@ use Rattle.px_iim.specs.declared.group.Group.{Group}
 use Rattle.px_iim.specs.Group.{Record, put, IsAscending, AreGroups}
 use Rattle.px_iim.specs.DataSet.{DataSet}
 use Rattle.px_iim.specs.Record.{normal_dataset, normal_iim}
-use Rattle.px_iim.specs.BoundLaws.{length-put, length-normal_dataset}
-use Rattle.px_iim.specs.View.{groups_view, records_view, numbers, Rises}
+use Rattle.px_iim.specs.lemmas.BoundLaws.{length-put, length-normal_dataset}
+use Rattle.px_iim.specs.calls.View.{groups_view, records_view, numbers, Rises}
 use Rattle.px_iim.specs.Writing.{within}
-use Rattle.px_iim.proofs.Rising.{rises_record}
-use Rattle.px_iim.proofs.Writes.{within_counted}
-use Rattle.px_iim.proofs.Order.{whole_put}
-use Rattle.px_iim.proofs.Records.{put_record, same_record}
+use Rattle.px_iim.proofs.reading.Rising.{rises_record}
+use Rattle.px_iim.proofs.writing.Writes.{within_counted}
+use Rattle.px_iim.proofs.reading.Order.{whole_put}
+use Rattle.px_iim.proofs.reading.Records.{put_record, same_record}
 use Rattle.px_iim.proofs.iim.Iim.push_in.Goals as goal
 
 more : (k m : ℕ) (o : List ℕ) (vs old : List (Vec Group Global)) (v e : Vec Group Global) (i : Record)

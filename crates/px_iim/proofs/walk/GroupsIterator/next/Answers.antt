@@ -2,8 +2,8 @@ use Rattle.std.proofs.Common.{◌+◌, ◌<◌, ◌≤◌, ◌∷◌, List, Vec,
 use Rattle.px_iim.specs.declared.group.Group.{Group as CodeGroup}
 use Rattle.px_iim.specs.declared.group.Item.{Item}
 use Rattle.px_iim.specs.Group.{Group}
-use Rattle.px_iim.specs.View.{item_view, left_view}
-use Rattle.px_iim.proofs.Records.{left_more, left_behind, left_past}
+use Rattle.px_iim.specs.calls.View.{item_view, left_view}
+use Rattle.px_iim.proofs.reading.Records.{left_more, left_behind, left_past}
 use Rattle.px_iim.proofs.walk.GroupsIterator.next.Goals as goal
 
 pub loop-self-init : goal.loop-self-init

@@ -1,5 +1,5 @@
 use Rattle.std.proofs.Common.{◌≡◌, ◌-◌, ◌≤◌, length, drop}
-use Rattle.px_iim.specs.View.{left_view}
+use Rattle.px_iim.specs.calls.View.{left_view}
 use Rattle.px_iim.proofs.walk.GroupsIterator.next.Given as goal
 
 -- only groups of record numbers that have no more were passed over

@@ -1,6 +1,6 @@
 use Rattle.std.proofs.Common.{ap, arith}
-use Rattle.px_layout.specs.Items.{rank}
-use Rattle.px_layout.specs.Layers.{under_second, under_third, under_fourth}
+use Rattle.px_layout.specs.calls.Items.{rank}
+use Rattle.px_layout.specs.calls.Layers.{under_second, under_third, under_fourth}
 use Rattle.px_tree.specs.Fits.{field_items}
 use Rattle.px_layout.proofs.entries.Entries.rank.Goals as goal
 

@@ -1,7 +1,7 @@
 use Rattle.std.proofs.Common.{ℕ, subst, sym}
-use Rattle.px_layout.specs.Counted.{IsCount}
-use Rattle.px_layout.specs.Kept.{offset_in}
-use Rattle.px_layout.proofs.Counting.{count_none}
+use Rattle.px_layout.specs.calls.Counted.{IsCount}
+use Rattle.px_layout.specs.calls.Kept.{offset_in}
+use Rattle.px_layout.proofs.plans.Counting.{count_none}
 use Rattle.px_layout.proofs.plan.Plan.new_in.Goals as goal
 
 pub invariant_of-result : goal.invariant_of-result

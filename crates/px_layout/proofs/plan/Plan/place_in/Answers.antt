@@ -1,6 +1,6 @@
 use Rattle.std.proofs.Common.{◌≡◌, None, rules}
-use Rattle.px_layout.specs.Kept.{offset_in, size_in}
-use Rattle.px_layout.proofs.Counting.{count_put}
+use Rattle.px_layout.specs.calls.Kept.{offset_in, size_in}
+use Rattle.px_layout.proofs.plans.Counting.{count_put}
 use Rattle.px_layout.proofs.plan.Plan.place_in.Goals as goal
 
 pub invariant_of-self : goal.invariant_of-self

@@ -1,5 +1,5 @@
 use Rattle.std.proofs.Common.{sym}
-use Rattle.px_tree.proofs.FieldLemmas.{at_tag-read, at_tag-gap}
+use Rattle.px_tree.proofs.writable.FieldLemmas.{at_tag-read, at_tag-gap}
 use Rattle.px_tree.proofs.fields.Fields.get.Goals as goal
 
 pub returns-in-Ok : goal.returns-in-Ok

@@ -1,4 +1,4 @@
-use Rattle.px_tree.proofs.FieldLemmas.{rising_from_order}
+use Rattle.px_tree.proofs.writable.FieldLemmas.{rising_from_order}
 use Rattle.px_tree.proofs.fields.Fields.len.Goals as goal
 
 pub returns-clause-order : goal.returns-clause-order

@@ -1,4 +1,4 @@
-use Rattle.px_tree.proofs.FieldLemmas.{order_from_rising}
+use Rattle.px_tree.proofs.writable.FieldLemmas.{order_from_rising}
 use Rattle.px_tree.proofs.fields.Fields.push.Goals as goal
 
 pub invariant_of-self-2 : goal.invariant_of-self-2

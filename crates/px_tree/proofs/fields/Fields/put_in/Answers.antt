@@ -1,6 +1,6 @@
 use Rattle.std.proofs.Common.{sym, refl, ◌∙◌}
 use Rattle.std.proofs.lemmas.Result.{err_from_is_err_and}
-use Rattle.px_tree.proofs.FieldLemmas.{at_tag-some, at_tag-gap, put-insert, in_order-insert}
+use Rattle.px_tree.proofs.writable.FieldLemmas.{at_tag-some, at_tag-gap, put-insert, in_order-insert}
 use Rattle.px_tree.proofs.fields.Fields.put_in.Goals as goal
 
 pub invariant_of-self-in-Err : goal.invariant_of-self-in-Err

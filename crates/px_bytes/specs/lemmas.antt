@@ -1,0 +1,10 @@
+-- Lemmas: proved here, and not to be read to know what is promised.
+pub mod EachLaws
+pub mod ByteLaws
+pub mod NumberLaws
+pub mod PartLaws
+pub mod CheckLaws
+pub mod WriteLaws
+pub mod WaitingLaws
+pub mod RangeLaws
+pub mod ApartLaws

@@ -1,0 +1,2 @@
+-- Lemmas: proved here, and not to be read to know what is promised.
+pub mod FileLaws

@@ -1,0 +1,206 @@
+-- Laws of values: what is spelled reads back, and what is read spells as it stood.
+use Rattle.std.proofs.Common.{◌≡◌, ℕ, zero, suc, ◌*◌, ◌/◌, ◌%◌, ◌<◌, ◌≤◌, List, [], ◌∷◌, ◌++◌, map, flat_map, length, take, drop, slice_get, slice_index, Some, true, refl, sym, ◌∙◌, ap, ap₂, arith, append-nil, append_assoc, length-drop, take-append-drop}
+use Rattle.std.specs.List.{AllByRecursion}
+use Rattle.std.proofs.lemmas.List.{length-map, length-take-le, nil_from_length}
+use Rattle.std.proofs.lemmas.Option.{slice_get-map}
+use Rattle.std.proofs.Math.Nat.{div-add-mod', mul-div_cancel, mul-mod_left}
+use Rattle.std.specs.Option.{option_map}
+use Rattle.px_bytes.specs.declared.Order.{Order}
+use Rattle.px_bytes.specs.Numbers.{AreBytes}
+use Rattle.px_bytes.specs.Parts.{pieces}
+use Rattle.px_field.specs.declared.forms.Form.{Form}
+use Rattle.px_field.specs.declared.forms.Form.TheVariants as form
+use Rattle.px_field.specs.declared.forms.Kind.{Kind}
+use Rattle.px_field.specs.declared.forms.Kind.TheVariants as kind
+use Rattle.px_field.specs.declared.forms.Element.{Element}
+use Rattle.px_field.specs.declared.forms.Element.TheVariants as element
+use Rattle.px_field.specs.Forms.{size}
+use Rattle.px_field.specs.Values.{spell, element_of, IsOf, form_in, Value, IsValue, spelled, elements, widened, count_in, value_in, whole_in, IsWhole, is_bytes}
+use Rattle.px_field.specs.lemmas.PieceLaws.{length-pieces, get-pieces, pieces_joined, length_joined, each_piece, bytes_take, bytes_drop}
+use Rattle.px_field.specs.lemmas.ElementLaws.{size-pos, length-spell, element_of-spell, spell-element_of, IsOf-element_of}
+
+-- ---- elements
+
+-- there are as many as asked for
+pub length-elements : (o : Order) (f : Form) (n : ℕ) (x : List ℕ) → length (elements o f n x) ≡ n
+unfolding elements
+length-elements o f n x = length-map (pieces n (size f) x) (element_of o f) ∙ length-pieces n (size f) x
+
+-- the element at i
+pub get-elements : (o : Order) (f : Form) (n i at : ℕ) (x : List ℕ) → i < n → at ≡ i * size f → slice_get (elements o f n x) i ≡ Some (element_of o f (take (size f) (drop at x)))
+unfolding elements
+get-elements o f n i at x h e = slice_get-map (element_of o f) (pieces n (size f) x) i ∙ ap (option_map (element_of o f)) (get-pieces n (size f) i at x h e)
+
+each_of : (o : Order) (f : Form) (xs : List (List ℕ)) → AllByRecursion AreBytes xs → AllByRecursion (IsOf f) (map (element_of o f) xs)
+each_of o f [] h = tt
+each_of o f (x ∷ xs) h = (IsOf-element_of o f x h.0, each_of o f xs h.1)
+
+-- elements read from bytes are of their type
+pub IsOf-elements : (o : Order) (f : Form) (n : ℕ) (x : List ℕ) → AreBytes x → AllByRecursion (IsOf f) (elements o f n x)
+unfolding elements
+IsOf-elements o f n x h = each_of o f (pieces n (size f) x) (each_piece AreBytes AreBytes n (size f) x (bytes_take (size f)) (bytes_drop (size f)) h)
+
+all_stand : (o : Order) (f : Form) (n : ℕ) (x : List ℕ) → length x ≡ n * size f → AreBytes x → flat_map (spell o) (map (element_of o f) (pieces n (size f) x)) ≡ x
+all_stand o f zero x l h = sym (nil_from_length x (omega arith))
+all_stand o f (suc n) x l h =
+    ap₂ (λ a b. a ++ b) (spell-element_of o f (take (size f) x) (length-take-le (size f) x (omega arith)) (bytes_take (size f) x h))
+    (all_stand o f n (drop (size f) x) (length-drop (size f) x ∙ omega arith) (bytes_drop (size f) x h))
+    ∙ take-append-drop (size f) x
+
+-- and spell the bytes as they stood
+pub spell-elements : (o : Order) (f : Form) (n : ℕ) (x : List ℕ) → length x ≡ n * size f → AreBytes x → flat_map (spell o) (elements o f n x) ≡ x
+unfolding elements
+spell-elements o f n x l h = all_stand o f n x l h
+
+each_length : (o : Order) (f : Form) (es : List Element) → AllByRecursion (IsOf f) es → AllByRecursion (λ e. length (spell o e) ≡ size f) es
+each_length o f [] h = tt
+each_length o f (e ∷ es) h = (length-spell o f e h.0, each_length o f es h.1)
+
+each_back : (o : Order) (f : Form) (es : List Element) → AllByRecursion (IsOf f) es → map (element_of o f) (map (spell o) es) ≡ es
+each_back o f [] h = refl
+each_back o f (e ∷ es) h = ap₂ (λ x xs. x ∷ xs) (element_of-spell o f e h.0) (each_back o f es h.1)
+
+-- ---- values
+
+-- a value is spelled by as many bytes as its elements take
+pub length-spelled : (o : Order) (v : Value) → IsValue v → length (spelled o v) ≡ length v.elements * size (form_in v.kind)
+unfolding spelled
+length-spelled o v h = length_joined (size (form_in v.kind)) (spell o) v.elements (each_length o (form_in v.kind) v.elements h)
+
+-- the elements of a value, from the bytes that spell it
+pub elements-spelled : (o : Order) (v : Value) → IsValue v → elements o (form_in v.kind) (length v.elements) (spelled o v) ≡ v.elements
+unfolding elements spelled
+elements-spelled o v h =
+    let f = form_in v.kind in
+    let es = v.elements in
+    ap (map (element_of o f)) (ap (pieces (length es) (size f)) (sym (append-nil (flat_map (spell o) es))) ∙ pieces_joined (size f) (spell o) es [] (each_length o f es h))
+    ∙ each_back o f es h
+
+-- a whole number of elements
+pub count_in-whole : (f : Form) (x : List ℕ) → length x % size f ≡ 0 → count_in f x * size f ≡ length x
+count_in-whole f x h = omega (arith, div-add-mod' (length x) (size f), h)
+
+pub count_in-times : (f : Form) (x : List ℕ) (n : ℕ) → n * size f ≡ length x → count_in f x ≡ n
+count_in-times f x n h = ap (λ (m : ℕ). m / size f) (sym h) ∙ mul-div_cancel n (size-pos f)
+
+pub count_in-spelled : (o : Order) (v : Value) → IsValue v → count_in (form_in v.kind) (spelled o v) ≡ length v.elements
+count_in-spelled o v h = count_in-times (form_in v.kind) (spelled o v) (length v.elements) (sym (length-spelled o v h))
+
+-- what is read of a type is a value of it
+pub IsValue-value_in : (o : Order) (f : Form) (x : List ℕ) → AreBytes x → IsValue (value_in o f x)
+IsValue-value_in o f x h = IsOf-elements o f (count_in f x) x h
+
+each_short : (es : List Element) → AllByRecursion (IsOf form.Short) es → AllByRecursion (IsOf form.Long) (map widened es)
+each_short [] h = tt
+each_short (element.Short n ∷ es) h = (let below = h.0 in omega arith, each_short es h.1)
+each_short (_ ∷ es) h = absurd h.0
+
+each_long : (es : List Element) → AllByRecursion (IsOf form.Long) es → map widened es ≡ es
+each_long [] h = refl
+each_long (element.Long n ∷ es) h = ap (λ l. element.Long n ∷ l) (each_long es h.1)
+each_long (_ ∷ es) h = absurd h.0
+
+-- what is read as a whole number is one
+pub IsValue-whole_in : (o : Order) (f : Form) (x : List ℕ) → IsWhole f → AreBytes x → IsValue (whole_in o f x)
+IsValue-whole_in o form.Short x w h = each_short (elements o form.Short (count_in form.Short x) x) (IsOf-elements o form.Short (count_in form.Short x) x h)
+IsValue-whole_in o form.Long x w h =
+    let es = elements o form.Long (count_in form.Long x) x in
+    let all : AllByRecursion (IsOf form.Long) es = IsOf-elements o form.Long (count_in form.Long x) x h in
+    rw (each_long es all) all
+IsValue-whole_in o _ x w h = absurd w
+
+-- LONGs widened are the LONGs
+pub widened-long : (o : Order) (n : ℕ) (x : List ℕ) → AreBytes x → map widened (elements o form.Long n x) ≡ elements o form.Long n x
+widened-long o n x h = each_long (elements o form.Long n x) (IsOf-elements o form.Long n x h)
+
+-- a value that is read spells the bytes as they stood
+pub spelled-value_in : (o : Order) (f : Form) (x : List ℕ) → length x % size f ≡ 0 → AreBytes x → spelled o (value_in o f x) ≡ x
+unfolding spelled
+spelled-value_in o f x whole h = spell-elements o f (count_in f x) x (sym (count_in-whole f x whole)) h
+
+-- and a value that is spelled reads back
+pub value_in-spelled : (o : Order) (f : Form) (v : Value) → v.kind ≡ kind.Of f → IsValue v → value_in o f (spelled o v) ≡ v
+value_in-spelled o f v k h =
+    let g : form_in v.kind ≡ f = ap form_in k in
+    let es : elements o f (count_in f (spelled o v)) (spelled o v) ≡ v.elements =
+    ap (λ (t : Form). elements o t (count_in t (spelled o v)) (spelled o v)) (sym g)
+    ∙ ap (λ (n : ℕ). elements o (form_in v.kind) n (spelled o v)) (count_in-spelled o v h)
+    ∙ elements-spelled o v h in
+    ap₂ (λ (k : Kind) (l : List Element). record { kind = k; elements = l }) (sym k) es
+
+-- a whole number as LONG, widened
+pub whole_in-spelled : (o : Order) (v : Value) → v.kind ≡ kind.Whole → IsValue v → whole_in o form.Long (spelled o v) ≡ v
+whole_in-spelled o v k h =
+    let g : form_in v.kind ≡ form.Long = ap form_in k in
+    let es : elements o form.Long (count_in form.Long (spelled o v)) (spelled o v) ≡ v.elements =
+    ap (λ (t : Form). elements o t (count_in t (spelled o v)) (spelled o v)) (sym g)
+    ∙ ap (λ (n : ℕ). elements o (form_in v.kind) n (spelled o v)) (count_in-spelled o v h)
+    ∙ elements-spelled o v h in
+    let all : AllByRecursion (IsOf form.Long) v.elements = rw (← g) h in
+    ap₂ (λ (k : Kind) (l : List Element). record { kind = k; elements = l }) (sym k) (ap (map widened) es ∙ each_long v.elements all)
+
+one_each : (n : ℕ) (x : List ℕ) → length x ≡ n → map (λ p. element.Byte (slice_index p 0)) (pieces n 1 x) ≡ map element.Byte x
+one_each zero [] l = refl
+one_each zero (b ∷ x) l = absurd (omega arith)
+one_each (suc n) [] l = absurd (omega arith)
+one_each (suc n) (b ∷ x) l = ap (λ (es : List Element). element.Byte b ∷ es) (one_each n x (omega arith))
+
+-- the elements of a byte type are the bytes
+pub elements-bytes : (o : Order) (f : Form) (x : List ℕ) → is_bytes (kind.Of f) ≡ true → elements o f (count_in f x) x ≡ map element.Byte x
+unfolding elements
+elements-bytes o form.Byte x b = one_each (count_in form.Byte x) x (sym (count_in-times form.Byte x (length x) (omega arith)))
+elements-bytes o form.Ascii x b = one_each (count_in form.Ascii x) x (sym (count_in-times form.Ascii x (length x) (omega arith)))
+elements-bytes o form.SByte x b = one_each (count_in form.SByte x) x (sym (count_in-times form.SByte x (length x) (omega arith)))
+elements-bytes o form.Undefined x b = one_each (count_in form.Undefined x) x (sym (count_in-times form.Undefined x (length x) (omega arith)))
+elements-bytes o form.Utf8 x b = one_each (count_in form.Utf8 x) x (sym (count_in-times form.Utf8 x (length x) (omega arith)))
+elements-bytes o _ x b = absurd (cc)
+
+-- bytes as elements are spelled as they are
+pub spell-bytes : (o : Order) (x : List ℕ) → flat_map (spell o) (map element.Byte x) ≡ x
+spell-bytes o [] = refl
+spell-bytes o (b ∷ x) = ap (λ (l : List ℕ). b ∷ l) (spell-bytes o x)
+
+-- the bytes of the first elements, and of one more
+pub spell-take : (o : Order) (es : List Element) (i j : ℕ) (e : Element) → slice_get es i ≡ Some e → j ≡ suc i → flat_map (spell o) (take j es) ≡ flat_map (spell o) (take i es) ++ spell o e
+spell-take o [] i j e h s = absurd (cc)
+spell-take o (x ∷ es) zero j e h s =
+    let same : x ≡ e = cc in
+    let one : j ≡ 1 = omega arith in
+    rw (one, same) (append-nil (spell o e))
+spell-take o (x ∷ es) (suc i) j e h s =
+    rw s (ap (λ (l : List ℕ). spell o x ++ l) (spell-take o es i (suc i) e h refl) ∙ sym (append_assoc (spell o x) (flat_map (spell o) (take i es)) (spell o e)))
+
+-- a whole number that is read of LONGs spells them as they stood
+pub spelled-whole_in : (o : Order) (x : List ℕ) → length x % 4 ≡ 0 → AreBytes x → spelled o (whole_in o form.Long x) ≡ x
+unfolding spelled
+spelled-whole_in o x whole h =
+    ap (λ (es : List Element). flat_map (spell o) es) (widened-long o (count_in form.Long x) x h) ∙ spell-elements o form.Long (count_in form.Long x) x (sym (count_in-whole form.Long x whole)) h
+
+-- the value that n elements of a type give
+pub value_in-elements : (o : Order) (f : Form) (n : ℕ) (x : List ℕ) → n * size f ≡ length x → value_in o f x ≡ record { kind = kind.Of f; elements = elements o f n x }
+value_in-elements o f n x h = ap (λ (m : ℕ). record { kind = kind.Of f; elements = elements o f m x }) (count_in-times f x n h)
+
+pub whole_in-elements : (o : Order) (f : Form) (n : ℕ) (x : List ℕ) → n * size f ≡ length x → whole_in o f x ≡ record { kind = kind.Whole; elements = map widened (elements o f n x) }
+whole_in-elements o f n x h = ap (λ (m : ℕ). record { kind = kind.Whole; elements = map widened (elements o f m x) }) (count_in-times f x n h)
+
+-- so many bytes are a whole number of elements
+pub whole-times : (f : Form) (n : ℕ) (x : List ℕ) → n * size f ≡ length x → length x % size f ≡ 0
+whole-times f n x h = ap (λ (m : ℕ). m % size f) (sym h) ∙ mul-mod_left n (size f)
+
+-- a value that is read is spelled by as many bytes as were read, in either order
+pub length-value_in : (o p : Order) (f : Form) (x : List ℕ) → length x % size f ≡ 0 → AreBytes x → length (spelled p (value_in o f x)) ≡ length x
+length-value_in o p f x whole h =
+    length-spelled p (value_in o f x) (IsValue-value_in o f x h) ∙ ap (λ (n : ℕ). n * size f) (length-elements o f (count_in f x) x) ∙ count_in-whole f x whole
+
+-- four bytes for each whole number are at most twice as many as were read
+pub count_in-bound : (f : Form) (x : List ℕ) → IsWhole f → 4 * count_in f x ≤ 2 * length x
+count_in-bound form.Short x h = omega arith
+count_in-bound form.Long x h = omega arith
+count_in-bound _ x h = absurd h
+
+-- a whole number by at most twice as many
+pub length-whole_in : (o p : Order) (f : Form) (x : List ℕ) → IsWhole f → AreBytes x → length (spelled p (whole_in o f x)) ≤ 2 * length x
+length-whole_in o p f x w h =
+    let len : length (spelled p (whole_in o f x)) ≡ length (map widened (elements o f (count_in f x) x)) * 4 = length-spelled p (whole_in o f x) (IsValue-whole_in o f x w h) in
+    let count : length (map widened (elements o f (count_in f x) x)) ≡ count_in f x = length-map (elements o f (count_in f x) x) widened ∙ length-elements o f (count_in f x) x in
+    omega (arith, count_in-bound f x w, len, count)

@@ -1,0 +1,7 @@
+-- Steps of reading.
+pub mod Octets
+pub mod Order
+pub mod Places
+pub mod Records
+pub mod Steps
+pub mod Rising

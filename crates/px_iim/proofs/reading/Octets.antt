@@ -1,0 +1,37 @@
+-- The number of some octets, one octet more.
+use Rattle.std.proofs.Common.{◌≡◌, ℕ, ◌+◌, ◌*◌, ◌^◌, ◌<◌, ◌≤◌, zero, suc, List, slice_index, ap, ◌∙◌, arith, ◌-◌, nat_lt, false, length, take, drop, length-drop, length-take-le}
+use Rattle.px_bytes.specs.declared.Order.TheVariants.{Most}
+use Rattle.px_bytes.specs.Numbers.{number, AreBytes}
+use Rattle.px_bytes.specs.lemmas.NumberLaws.{number-lt, number-take}
+use Rattle.std.proofs.lemmas.Bool.Decides.{nat_tests}
+
+-- a count has at most four octets
+pub number_more : (n : ℕ) (xs : List ℕ) → n < 4 → number Most (n + 1) xs ≡ 256 * number Most n xs + slice_index xs n
+number_more zero xs h = omega arith
+number_more (suc zero) xs h = omega arith
+number_more (suc (suc zero)) xs h = omega arith
+number_more (suc (suc (suc zero))) xs h = omega arith
+number_more (suc (suc (suc (suc n)))) xs h = absurd (omega arith)
+
+few_octets : (n : ℕ) → n < 4 → 256 ^ n ≤ 16777216
+few_octets zero h = omega arith
+few_octets (suc zero) h = omega arith
+few_octets (suc (suc zero)) h = omega arith
+few_octets (suc (suc (suc zero))) h = omega arith
+few_octets (suc (suc (suc (suc n)))) h = absurd (omega arith)
+
+pub number_below : (n : ℕ) (xs : List ℕ) → n < 4 → AreBytes xs → number Most n xs < 16777216
+number_below n xs h b = let l = number-lt Most n xs b in let m = few_octets n h in omega arith
+
+pub not_less : (a b : ℕ) → b ≤ a → nat_lt a b ≡ false
+not_less a b h = grind (arith, nat_tests)
+
+-- the octets of an extended count
+pub number_part : (x : List ℕ) (k e : ℕ) → k ≡ e → 5 + e ≤ length x
+    → number Most (length (take (5 + k - 5) (drop 5 x))) (take (5 + k - 5) (drop 5 x)) ≡ number Most e (drop 5 x)
+number_part x k e q h =
+    let same : 5 + k - 5 ≡ e = omega arith in
+    let room : e ≤ length (drop 5 x) = omega (arith, length-drop 5 x) in
+    ap (λ (n : ℕ). number Most (length (take n (drop 5 x))) (take n (drop 5 x))) same
+    ∙ ap (λ (n : ℕ). number Most n (take e (drop 5 x))) (length-take-le e (drop 5 x) room)
+    ∙ number-take Most e e (drop 5 x) (omega arith)

@@ -1,0 +1,3 @@
+-- Steps of writing.
+pub mod Writes
+pub mod Alike

@@ -1,0 +1,266 @@
+-- What is wrong with a block, and what isn't.
+use Rattle.std.proofs.Common.{◌≡◌, ◌⊎◌, ◌<◌, ◌≤◌, ◌+◌, ℕ, zero, suc, nat_lt, nat_le, Bool, true, false, ◌&&◌, if◌then◌else◌, inl, inr, refl, sym, ap, subst, ◌∙◌, arith, leb-true, leb-false, ltb-true, ltb-false, Option, Some, None, List, [], ◌∷◌, ◌++◌, length, take, drop, length-append, length-drop, append_assoc, append-nil}
+use Rattle.std.specs.List.{AllByRecursion}
+use Rattle.std.proofs.lemmas.Bool.{cond-true, cond-false, cases_Bool, and_parts, and_cases, or_cases, or_parts, true≢false}
+use Rattle.std.proofs.lemmas.List.{take-append-drop, length-take-le}
+use Rattle.px_bytes.specs.declared.Cause.{Cause}
+use Rattle.px_bytes.specs.declared.Cause.TheVariants.{TooLong, NoMarker, LengthForm, DataSetCut}
+use Rattle.px_bytes.specs.Checks.{Check, check, first_false}
+use Rattle.px_bytes.specs.Parts.{limit}
+use Rattle.px_iim.specs.DataSet.{DataSet, top_bit, IsSpelling, Spells}
+use Rattle.px_iim.specs.Group.{Record, gather}
+use Rattle.px_iim.specs.Record.{SaysIim, form, extra, size, is_marked, has_form, is_dataset, dataset, is_end}
+use Rattle.px_iim.specs.Check.{dataset_checks, checks_from, iim_checks, First, Behind, Stands}
+use Rattle.px_iim.specs.lemmas.GatherLaws.{gathers}
+use Rattle.px_iim.specs.lemmas.SpellingLaws.{Holds, holds_dataset, dataset_holds, spelled_begins, dataset_spelled}
+use Rattle.px_iim.specs.lemmas.SequenceLaws.{IsZero, end_true, blank_unmarked, behind_begins, marked_spelling, Parsed, parsed_end, parsed_more}
+use Rattle.px_iim.specs.lemmas.NormalLaws.{spells_append}
+use Rattle.px_iim.specs.Laws.{FaultsTell}
+
+-- ---- the first of five
+
+abbrev pub five : ℕ → Bool → Bool → Bool → Bool → Bool → List Check
+five p a b c d e = check NoMarker p a ∷ check DataSetCut p b ∷ check LengthForm p c ∷ check DataSetCut p d ∷ check DataSetCut p e ∷ []
+
+told : (P : Cause → ℕ → Type 0) (c : Cause) (p : ℕ) (f : Cause × ℕ) → Some (c, p) ≡ Some f → P c p → P f.0 f.1
+told P c p f e h = let q : (c, p) ≡ f = cc in subst (λ (z : Cause × ℕ). P z.0 z.1) q h
+
+five_cases : (P : Cause → ℕ → Type 0) (p : ℕ) (a b c d e : Bool) (rest : List Check) (f : Cause × ℕ) →
+    (a ≡ false → P NoMarker p) → (a ≡ true → b ≡ false → P DataSetCut p) → (a ≡ true → b ≡ true → c ≡ false → P LengthForm p) →
+    (a ≡ true → c ≡ true → d ≡ false → P DataSetCut p) → (a ≡ true → c ≡ true → e ≡ false → P DataSetCut p) →
+    (a ≡ true → b ≡ true → c ≡ true → d ≡ true → e ≡ true → first_false rest ≡ Some f → P f.0 f.1) →
+    first_false (five p a b c d e ++ rest) ≡ Some f → P f.0 f.1
+five_cases P p false b c d e rest f h1 h2 h3 h4 h5 h6 q = told P NoMarker p f q (h1 refl)
+five_cases P p true false c d e rest f h1 h2 h3 h4 h5 h6 q = told P DataSetCut p f q (h2 refl refl)
+five_cases P p true true false d e rest f h1 h2 h3 h4 h5 h6 q = told P LengthForm p f q (h3 refl refl refl)
+five_cases P p true true true false e rest f h1 h2 h3 h4 h5 h6 q = told P DataSetCut p f q (h4 refl refl refl)
+five_cases P p true true true true false rest f h1 h2 h3 h4 h5 h6 q = told P DataSetCut p f q (h5 refl refl refl)
+five_cases P p true true true true true rest f h1 h2 h3 h4 h5 h6 q = h6 refl refl refl refl refl q
+
+five_none : (p : ℕ) (a b c d e : Bool) (rest : List Check) → first_false (five p a b c d e ++ rest) ≡ None →
+    (a ≡ true) × (b ≡ true) × (c ≡ true) × (d ≡ true) × (e ≡ true) × (first_false rest ≡ None)
+five_none p true true true true true rest q = (refl, refl, refl, refl, refl, q)
+five_none p false b c d e rest q = let clash : ◌≡◌ {A = Option (Cause × ℕ)} (Some (NoMarker, p)) None = q in absurd (cc)
+five_none p true false c d e rest q = let clash : ◌≡◌ {A = Option (Cause × ℕ)} (Some (DataSetCut, p)) None = q in absurd (cc)
+five_none p true true false d e rest q = let clash : ◌≡◌ {A = Option (Cause × ℕ)} (Some (LengthForm, p)) None = q in absurd (cc)
+five_none p true true true false e rest q = let clash : ◌≡◌ {A = Option (Cause × ℕ)} (Some (DataSetCut, p)) None = q in absurd (cc)
+five_none p true true true true false rest q = let clash : ◌≡◌ {A = Option (Cause × ℕ)} (Some (DataSetCut, p)) None = q in absurd (cc)
+
+-- ---- one step
+
+-- what is checked behind a DataSet
+unfoldable pub checks_behind : ℕ → ℕ → List ℕ → List Check
+checks_behind n p x = if is_dataset x then (if is_end (drop (size x) x) then [] else checks_from n (p + size x) (drop (size x) x)) else []
+
+pub checks_step : (n p : ℕ) (x : List ℕ) → checks_from (suc n) p x ≡ dataset_checks p x ++ checks_behind n p x
+unfolding checks_from checks_behind
+checks_step n p x = refl
+
+pub behind_end : (n p : ℕ) (x : List ℕ) → is_dataset x ≡ true → is_end (drop (size x) x) ≡ true → checks_behind n p x ≡ []
+unfolding checks_behind
+behind_end n p x h k = cond-true _ _ _ h ∙ cond-true _ _ _ k
+
+pub behind_more : (n p : ℕ) (x : List ℕ) → is_dataset x ≡ true → is_end (drop (size x) x) ≡ false → checks_behind n p x ≡ checks_from n (p + size x) (drop (size x) x)
+unfolding checks_behind
+behind_more n p x h k = cond-true _ _ _ h ∙ cond-false _ _ _ k
+
+five_hold : (x : List ℕ) → is_marked x ≡ true → nat_le 5 (length x) ≡ true → has_form x ≡ true → nat_le (5 + extra x) (length x) ≡ true → nat_le (size x) (length x) ≡ true → Holds x
+five_hold x a b c d e = record {
+  marked = a;
+  five = leb-true 5 (length x) b;
+  formed = c;
+  counted = leb-true (5 + extra x) (length x) d;
+  whole = leb-true (size x) (length x) e;
+}
+
+-- ---- the first fault stands
+
+module _ (x : List ℕ) where
+  pub behind_next : (ds : List DataSet) (rest : List ℕ) (p : ℕ) → Behind x ds rest p → Holds rest → Behind x (ds ++ dataset rest ∷ []) (drop (size rest) rest) (p + size rest)
+  behind_next ds rest p b h =
+      let cut : rest ≡ take (size rest) rest ++ drop (size rest) rest = sym (take-append-drop (size rest) rest) in
+      let one : Spells (dataset rest ∷ []) (take (size rest) rest) = (take (size rest) rest, [], sym (append-nil (take (size rest) rest)), dataset_spelled rest (holds_dataset rest h), refl) in
+      let l = length-take-le (size rest) rest h.whole in
+      let m = length-append b.front (take (size rest) rest) in
+      let q = b.place in record {
+        front = b.front ++ take (size rest) rest;
+        whole = b.whole ∙ ap (λ (z : List ℕ). b.front ++ z) cut ∙ sym (append_assoc b.front (take (size rest) rest) (drop (size rest) rest));
+        spells = spells_append ds (dataset rest ∷ []) b.front (take (size rest) rest) b.spells one;
+        place = omega arith;
+      }
+
+  long_form : (rest : List ℕ) → has_form rest ≡ false → (top_bit ≤ form rest) × ((extra rest ≡ 0) ⊎ (4 < extra rest))
+  long_form rest h =
+      let p = or_parts (nat_lt (form rest) top_bit) (nat_le 1 (extra rest) && nat_le (extra rest) 4) h in (
+        ltb-false (form rest) top_bit p.0,
+        elim (and_cases (nat_le 1 (extra rest)) (nat_le (extra rest) 4) p.1) [
+          | inl a ↦ let l = leb-false 1 (extra rest) a in inl (omega arith)
+          | inr b ↦ let l = leb-false (extra rest) 4 b in inr (omega arith)
+        ],
+      )
+
+  stands_from : (n : ℕ) (ds : List DataSet) (rest : List ℕ) (p : ℕ) (f : Cause × ℕ) → Behind x ds rest p → (ds ≡ []) ⊎ (is_end rest ≡ false) →
+      first_false (checks_from n p rest) ≡ Some f → Stands x f.0 f.1
+  unfolding checks_from
+  stands_from zero ds rest p f b o e = let clash : None ≡ Some f = e in absurd (cc)
+  stands_from (suc n) ds rest p f b o e =
+      five_cases (Stands x) p (is_marked rest) (nat_le 5 (length rest)) (has_form rest) (nat_le (5 + extra rest) (length rest)) (nat_le (size rest) (length rest)) (checks_behind n p rest) f
+      (λ a. (ds, rest, b, o, a))
+      (λ a l. (ds, rest, b, a, inl (let m = leb-false 5 (length rest) l in omega arith)))
+      (λ a l c. let g = long_form rest c in (ds, rest, b, a, leb-true 5 (length rest) l, g.0, g.1))
+      (λ a c l. (ds, rest, b, a, inr (c, inl (let m = leb-false (5 + extra rest) (length rest) l in omega arith))))
+      (λ a c l. (ds, rest, b, a, inr (c, inr (let m = leb-false (size rest) (length rest) l in omega arith))))
+      (λ a l c d w q.
+      let h = five_hold rest a l c d w in
+      let i = holds_dataset rest h in
+      elim (cases_Bool (is_end (drop (size rest) rest))) [
+        | inl t ↦ let clash : None ≡ Some f = sym (ap first_false (behind_end n p rest i t)) ∙ q in absurd (cc)
+        | inr t ↦ stands_from n (ds ++ dataset rest ∷ []) (drop (size rest) rest) (p + size rest) f (behind_next ds rest p b h) (inr t) (sym (ap first_false (behind_more n p rest i t)) ∙ q)
+      ])
+      (sym (ap first_false (checks_step n p rest)) ∙ e)
+
+  behind_none : Behind x [] x 0
+  behind_none = record { front = []; whole = refl; spells = refl; place = refl }
+
+first_head : (c : Check) (cs : List Check) (f : Cause × ℕ) → first_false (c ∷ cs) ≡ Some f → ((c.holds ≡ false) × ((c.cause, c.place) ≡ f)) ⊎ ((c.holds ≡ true) × (first_false cs ≡ Some f))
+first_head c cs f e = elim (cases_Bool c.holds) [
+  | inl t ↦ inr (t, sym (cond-true _ _ _ t) ∙ e)
+  | inr g ↦ let q : Some (c.cause, c.place) ≡ Some f = sym (cond-false _ _ _ g) ∙ e in inl (g, (cc))
+]
+
+pub first_stands : (x : List ℕ) (c : Cause) (p : ℕ) → First x c p → Stands x c p
+unfolding iim_checks
+first_stands x c p e = elim (first_head (check TooLong limit (nat_le (length x) limit)) (checks_from (length x + 1) 0 x) (c, p) e) [
+  | inl h ↦ let l = leb-false (length x) limit h.0 in subst (λ (z : Cause × ℕ). Stands x z.0 z.1) h.1 (refl, (omega arith))
+  | inr h ↦ stands_from x (length x + 1) [] x 0 (c, p) (behind_none x) (inl refl) h.1
+]
+
+-- ---- where a fault stands no record is said
+
+-- what is left behind some DataSets of a block is the block's end, or begins with a DataSet
+pub record Next (ds all : List DataSet) (rest zeros : List ℕ) : Type 0 where
+  pub or : ((rest ≡ zeros) × (length ds ≡ length all)) ⊎ ((d : DataSet) × (a : List ℕ) × (y : List ℕ) × IsSpelling d a × (rest ≡ a ++ y))
+
+next_more : (d e : DataSet) (ds all : List DataSet) (rest zeros : List ℕ) → Next ds all rest zeros → Next (d ∷ ds) (e ∷ all) rest zeros
+next_more d e ds all rest zeros n = record {
+  or = elim n.or [
+    | inl h ↦ inl (h.0, let l = h.1 in omega arith)
+    | inr h ↦ inr h
+  ];
+}
+
+pub aligned : (ds all : List DataSet) (front rest spelled zeros : List ℕ) → front ++ rest ≡ spelled ++ zeros → Spells ds front → Spells all spelled → AllByRecursion IsZero zeros → Next ds all rest zeros
+aligned [] [] front rest spelled zeros e s t b =
+    record { or = inl (sym (ap (λ (z : List ℕ). z ++ rest) s) ∙ e ∙ ap (λ (z : List ℕ). z ++ zeros) t, refl) }
+aligned [] (d ∷ all) front rest spelled zeros e s (a, y, q, u, v) b = record {
+  or = inr (d, a, y ++ zeros, u, sym (ap (λ (z : List ℕ). z ++ rest) s) ∙ e ∙ ap (λ (z : List ℕ). z ++ zeros) q ∙ append_assoc a y zeros);
+}
+aligned (d ∷ ds) [] front rest spelled zeros e (a, y, q, u, v) t b =
+    let same : a ++ (y ++ rest) ≡ zeros = sym (append_assoc a y rest) ∙ ap (λ (z : List ℕ). z ++ rest) (sym q) ∙ e ∙ ap (λ (z : List ℕ). z ++ zeros) t in
+    absurd (blank_unmarked zeros b (subst (λ (z : List ℕ). is_marked z ≡ true) same (marked_spelling d a (y ++ rest) u)))
+aligned (d ∷ ds) (f ∷ all) front rest spelled zeros e (a, y, q, u, v) (a', y', q', u', v') b =
+    let same : a ++ (y ++ rest) ≡ a' ++ (y' ++ zeros) =
+    sym (append_assoc a y rest) ∙ ap (λ (z : List ℕ). z ++ rest) (sym q) ∙ e ∙ ap (λ (z : List ℕ). z ++ zeros) q' ∙ append_assoc a' y' zeros in
+    let on : y ++ rest ≡ y' ++ zeros = sym (behind_begins d a (y ++ rest) u) ∙ ap (λ (z : List ℕ). drop (size z) z) same ∙ behind_begins f a' (y' ++ zeros) u' in
+    next_more d f ds all rest zeros (aligned ds all y rest y' zeros on v v' b)
+
+module _ (x : List ℕ) (i : Record) (s : SaysIim x i) where
+  pub next_of : (ds : List DataSet) (rest : List ℕ) (p : ℕ) → Behind x ds rest p → Next ds s.sequence rest s.zeros
+  next_of ds rest p b = aligned ds s.sequence b.front rest s.spelled s.zeros (sym b.whole ∙ s.whole) b.spells s.spells s.blank
+
+  -- a marked place has a whole DataSet
+  marked_holds : (ds : List DataSet) (rest : List ℕ) (p : ℕ) → Behind x ds rest p → is_marked rest ≡ true → Holds rest
+  marked_holds ds rest p b m = elim (next_of ds rest p b).or [
+    | inl h ↦ absurd (blank_unmarked s.zeros s.blank (subst (λ (z : List ℕ). is_marked z ≡ true) h.0 m))
+    | inr (d, a, y, u, q) ↦ subst Holds (sym q) (dataset_holds (a ++ y) (spelled_begins d a y u).is)
+  ]
+
+  no_unmarked : (ds : List DataSet) (rest : List ℕ) (p : ℕ) → Behind x ds rest p → (ds ≡ []) ⊎ (is_end rest ≡ false) → is_marked rest ≡ false → ⊥
+  no_unmarked ds rest p b o m = elim (next_of ds rest p b).or [
+    | inl h ↦ elim o [
+      | inl none ↦ let l = ap length none in let k = h.1 in let n = s.some in omega arith
+      | inr more ↦ true≢false (sym (end_true s.zeros s.short s.blank) ∙ sym (ap is_end h.0) ∙ more)
+    ]
+    | inr (d, a, y, u, q) ↦ true≢false (sym (marked_spelling d a y u) ∙ sym (ap is_marked q) ∙ m)
+  ]
+
+  no_form : (rest : List ℕ) → Holds rest → top_bit ≤ form rest → (extra rest ≡ 0) ⊎ (4 < extra rest) → ⊥
+  no_form rest h l o = elim (or_cases (nat_lt (form rest) top_bit) (nat_le 1 (extra rest) && nat_le (extra rest) 4) h.formed) [
+    | inl t ↦ let m = ltb-true (form rest) top_bit t in omega arith
+    | inr t ↦
+        let q = and_parts (nat_le 1 (extra rest)) (nat_le (extra rest) 4) t in
+        let m = leb-true 1 (extra rest) q.0 in
+        let n = leb-true (extra rest) 4 q.1 in
+        elim o [ inl z ↦ omega arith | inr z ↦ omega arith ]
+  ]
+
+  no_cut : (rest : List ℕ) → Holds rest → (length rest < 5) ⊎ ((has_form rest ≡ true) × ((length rest < 5 + extra rest) ⊎ (length rest < size rest))) → ⊥
+  no_cut rest h (inl l) = let m = h.five in omega arith
+  no_cut rest h (inr (f, inl l)) = let m = h.counted in omega arith
+  no_cut rest h (inr (f, inr l)) = let m = h.whole in omega arith
+
+pub stands_unsaid : (x : List ℕ) (c : Cause) (p : ℕ) (i : Record) → Stands x c p → SaysIim x i → ⊥
+stands_unsaid x TooLong p i h s = let l = s.bounded in let m = h.1 in omega arith
+stands_unsaid x NoMarker p i (ds, rest, b, o, m) s = no_unmarked x i s ds rest p b o m
+stands_unsaid x LengthForm p i (ds, rest, b, m, l, f, o) s = no_form x i s rest (marked_holds x i s ds rest p b m) f o
+stands_unsaid x DataSetCut p i (ds, rest, b, m, o) s = no_cut x i s rest (marked_holds x i s ds rest p b m) o
+stands_unsaid x _ p i h s = absurd h
+
+-- ---- a record, or a first fault
+
+-- where all checks are true, with enough of them, the block is a sequence of DataSets
+pub clean : (n p : ℕ) (x : List ℕ) → length x < n → first_false (checks_from n p x) ≡ None → (ds : List DataSet) × Parsed ds x
+clean zero p x l e = absurd (omega arith)
+clean (suc n) p x l e =
+    let q = five_none p (is_marked x) (nat_le 5 (length x)) (has_form x) (nat_le (5 + extra x) (length x)) (nat_le (size x) (length x)) (checks_behind n p x) (sym (ap first_false (checks_step n p x)) ∙ e) in
+    let h = five_hold x q.0 q.1 q.2 q.3 q.4 in
+    let i = holds_dataset x h in
+    elim (cases_Bool (is_end (drop (size x) x))) [
+      | inl t ↦ (dataset x ∷ [], parsed_end x i t)
+      | inr t ↦
+          let d = length-drop (size x) x in
+          let w = h.whole in
+          let r = clean n (p + size x) (drop (size x) x) (omega arith) (sym (ap first_false (behind_more n p x i t)) ∙ q.5) in
+          (dataset x ∷ r.0, parsed_more x r.0 i r.1)
+    ]
+
+pub parsed_says : (x : List ℕ) (ds : List DataSet) → length x ≤ limit → Parsed ds x → SaysIim x (gather [] ds)
+parsed_says x ds l p = record {
+  bounded = l;
+  sequence = ds;
+  some = p.some;
+  spelled = p.front;
+  zeros = p.zeros;
+  whole = p.whole;
+  spells = p.spells;
+  short = p.short;
+  blank = p.blank;
+  gathered = gathers ds;
+}
+
+pub clean_says : (x : List ℕ) → first_false (iim_checks x) ≡ None → (i : Record) × SaysIim x i
+unfolding iim_checks
+clean_says x e = elim (cases_Bool (nat_le (length x) limit)) [
+  | inl t ↦
+      let r = clean (length x + 1) 0 x (omega arith) (sym (cond-true _ _ _ t) ∙ e) in
+      (gather [] r.0, parsed_says x r.0 (leb-true (length x) limit t) r.1)
+  | inr f ↦ let clash : Some (TooLong, limit) ≡ None = sym (cond-false _ _ _ f) ∙ e in absurd (cc)
+]
+
+pub said_or_fault : (x : List ℕ) → ((i : Record) × SaysIim x i) ⊎ ((c : Cause) × (p : ℕ) × First x c p)
+said_or_fault x = go (first_false (iim_checks x)) refl
+  where
+    go : (z : Option (Cause × ℕ)) → first_false (iim_checks x) ≡ z → ((i : Record) × SaysIim x i) ⊎ ((c : Cause) × (p : ℕ) × First x c p)
+    go None e = inl (clean_says x e)
+    go (Some f) e = inr (f.0, f.1, e)
+
+-- where a record is said nothing is wrong
+pub said_clean : (x : List ℕ) (i : Record) → SaysIim x i → first_false (iim_checks x) ≡ None
+said_clean x i s = go (first_false (iim_checks x)) refl
+  where
+    go : (z : Option (Cause × ℕ)) → first_false (iim_checks x) ≡ z → z ≡ None
+    go None e = refl
+    go (Some f) e = absurd (stands_unsaid x f.0 f.1 i (first_stands x f.0 f.1 e) s)
+
+pub faults_tell : FaultsTell
+faults_tell = (first_stands, stands_unsaid, said_or_fault)

@@ -1,0 +1,97 @@
+-- What a scan of a block keeps: the DataSets so far, the octets left, and the checks that they have.
+use Rattle.std.proofs.Common.{◌≡◌, ◌<◌, ◌≤◌, ◌+◌, ℕ, zero, suc, true, false, inl, inr, refl, sym, ap, ◌∙◌, arith, le-leb, None, List, [], ◌∷◌, ◌++◌, length, drop, length-drop, append-nil}
+use Rattle.std.proofs.lemmas.Bool.{cond-true, cond-false, cases_Bool}
+use Rattle.px_bytes.specs.Checks.{Check, first_false}
+use Rattle.px_bytes.specs.lemmas.CheckLaws.{first_false-true}
+use Rattle.px_bytes.specs.Parts.{limit}
+use Rattle.px_iim.specs.DataSet.{DataSet}
+use Rattle.px_iim.specs.Group.{Record, put, gather}
+use Rattle.px_iim.specs.Record.{SaysIim, extra, size, is_dataset, is_end}
+use Rattle.px_iim.specs.Check.{dataset_checks, checks_from, iim_checks, Behind}
+use Rattle.px_iim.specs.lemmas.GatherLaws.{gathers}
+use Rattle.px_iim.specs.lemmas.SpellingLaws.{dataset_holds}
+use Rattle.px_iim.specs.lemmas.SequenceLaws.{end_parts}
+use Rattle.px_iim.specs.lemmas.FaultLaws.{checks_behind, checks_step, behind_end, behind_more}
+
+-- one more DataSet behind those gathered
+pub gather_push : (ds : List DataSet) (d : DataSet) (i : Record) → gather i (ds ++ d ∷ []) ≡ put d (gather i ds)
+unfolding gather
+gather_push [] d i = refl
+gather_push (e ∷ ds) d i = gather_push ds d (put e i)
+
+-- behind some DataSets the block's end: it says what was gathered of them
+pub behind_says : (x : List ℕ) (ds : List DataSet) (rest : List ℕ) (p : ℕ) → Behind x ds rest p → length x ≤ limit → 1 ≤ length ds → is_end rest ≡ true → SaysIim x (gather [] ds)
+behind_says x ds rest p b l s e =
+    let z = end_parts rest e in record {
+      bounded = l;
+      sequence = ds;
+      some = s;
+      spelled = b.front;
+      zeros = rest;
+      whole = b.whole;
+      spells = b.spells;
+      short = z.0;
+      blank = z.1;
+      gathered = gathers ds;
+    }
+
+-- ---- the checks of the octets left
+
+-- as many checks as the octets can have
+abbrev pub checks_left : ℕ → List ℕ → List Check
+checks_left p x = checks_from (length x + 1) p x
+
+no_dataset : (n p : ℕ) (x : List ℕ) → is_dataset x ≡ false → checks_behind n p x ≡ []
+unfolding checks_behind
+no_dataset n p x h = cond-false _ _ _ h
+
+shorter : (x : List ℕ) → is_dataset x ≡ true → length (drop (size x) x) < length x
+shorter x h = let f = dataset_holds x h in let a = f.five in let w = f.whole in let d = length-drop (size x) x in omega arith
+
+-- more of them change nothing
+pub checks_enough : (n m p : ℕ) (x : List ℕ) → length x < n → length x < m → checks_from n p x ≡ checks_from m p x
+checks_enough zero m p x h k = absurd (omega arith)
+checks_enough (suc n) zero p x h k = absurd (omega arith)
+checks_enough (suc n) (suc m) p x h k =
+    let same : checks_behind n p x ≡ checks_behind m p x = elim (cases_Bool (is_dataset x)) [
+      | inl t ↦ elim (cases_Bool (is_end (drop (size x) x))) [
+        | inl e ↦ behind_end n p x t e ∙ sym (behind_end m p x t e)
+        | inr e ↦
+            let s = shorter x t in
+            behind_more n p x t e ∙ checks_enough n m (p + size x) (drop (size x) x) (omega arith) (omega arith) ∙ sym (behind_more m p x t e)
+      ]
+      | inr f ↦ no_dataset n p x f ∙ sym (no_dataset m p x f)
+    ] in
+    checks_step n p x ∙ ap (λ (cs : List Check). dataset_checks p x ++ cs) same ∙ sym (checks_step m p x)
+
+left_step : (p : ℕ) (x : List ℕ) → checks_left p x ≡ dataset_checks p x ++ checks_behind (length x) p x
+left_step p x = let n : length x + 1 ≡ suc (length x) = omega arith in ap (λ (j : ℕ). checks_from j p x) n ∙ checks_step (length x) p x
+
+-- the checks of a whole DataSet are true
+pub dataset_clean : (p : ℕ) (x : List ℕ) → is_dataset x ≡ true → first_false (dataset_checks p x) ≡ None
+dataset_clean p x h =
+    let f = dataset_holds x h in
+    cond-true _ _ _ f.marked ∙ cond-true _ _ _ (le-leb 5 (length x) f.five) ∙ cond-true _ _ _ f.formed
+    ∙ cond-true _ _ _ (le-leb (5 + extra x) (length x) f.counted) ∙ cond-true _ _ _ (le-leb (size x) (length x) f.whole)
+
+-- where no DataSet stands, its checks alone tell the fault
+pub left_fault : (p : ℕ) (x : List ℕ) → is_dataset x ≡ false → first_false (checks_left p x) ≡ first_false (dataset_checks p x)
+left_fault p x h = ap first_false (left_step p x ∙ ap (λ (cs : List Check). dataset_checks p x ++ cs) (no_dataset (length x) p x h) ∙ append-nil (dataset_checks p x))
+
+-- behind the last DataSet nothing is wrong
+pub left_end : (p : ℕ) (x : List ℕ) → is_dataset x ≡ true → is_end (drop (size x) x) ≡ true → first_false (checks_left p x) ≡ None
+left_end p x h e =
+    ap first_false (left_step p x) ∙ first_false-true (dataset_checks p x) (checks_behind (length x) p x) (dataset_clean p x h)
+    ∙ ap first_false (behind_end (length x) p x h e)
+
+-- behind any other, what is wrong is what is wrong with the octets left
+pub left_more : (p : ℕ) (x : List ℕ) → is_dataset x ≡ true → is_end (drop (size x) x) ≡ false → first_false (checks_left p x) ≡ first_false (checks_left (p + size x) (drop (size x) x))
+left_more p x h e =
+    let s = shorter x h in
+    ap first_false (left_step p x) ∙ first_false-true (dataset_checks p x) (checks_behind (length x) p x) (dataset_clean p x h)
+    ∙ ap first_false (behind_more (length x) p x h e ∙ checks_enough (length x) (length (drop (size x) x) + 1) (p + size x) (drop (size x) x) s (omega arith))
+
+-- a block that isn't too long has the checks of all its octets
+pub iim_left : (x : List ℕ) → length x ≤ limit → first_false (iim_checks x) ≡ first_false (checks_left 0 x)
+unfolding iim_checks
+iim_left x l = cond-true _ _ _ (le-leb (length x) limit l)

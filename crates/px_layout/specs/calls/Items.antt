@@ -1,0 +1,32 @@
+-- The entries of a directory, as the code holds them: its fields, with up to four further entries put between.
+use Rattle.std.specs.Prelude.{ℕ, suc, ◌≤◌, ◌*◌, nat_lt, if◌then◌else◌, ⊤, List, [], ◌∷◌, length, map}
+use Rattle.std.specs.List.{AllByRecursion}
+use Rattle.px_bytes.specs.Parts.{limit}
+use Rattle.px_tree.specs.calls.Iim.{normal_iim}
+use Rattle.px_tree.specs.Fits.{Item, Field, Iptc, AtJpeg, JpegSize, AtStrips, StripSizes}
+use Rattle.px_tree.specs.Fits as fits
+use Rattle.px_layout.specs.declared.items.Item as held
+use Rattle.px_layout.specs.declared.items.Item.TheVariants as held_as
+
+-- what an item of the code says
+abbrev pub item_of : held.Item → Item
+item_of (held_as.Field v) = Field v.now
+item_of (held_as.Record r) = Iptc r.iim.now
+item_of (held_as.Link d) = fits.Link d
+item_of held_as.JpegOffset = AtJpeg
+item_of (held_as.JpegLength n) = JpegSize n
+item_of (held_as.StripOffsets s) = AtStrips (length s.now)
+item_of (held_as.StripLengths s) = StripSizes (map (λ x. length x) s.now)
+
+-- an item's counts and lengths are of four bytes
+abbrev pub IsCounted : Item → Type 0
+IsCounted (Iptc i) = length (normal_iim i) ≤ 2 * limit
+IsCounted (JpegSize n) = n ≤ limit
+IsCounted (AtStrips n) = n ≤ limit
+IsCounted (StripSizes ns) = (length ns ≤ limit) × AllByRecursion (λ n. n ≤ limit) ns
+IsCounted _ = ⊤
+
+-- how many pairs stand before the first of a greater tag
+abbrev pub rank : {X : Type 0} → ℕ → List (ℕ × X) → ℕ
+rank t [] = 0
+rank t (y ∷ ys) = if nat_lt t y.0 then 0 else suc (rank t ys)

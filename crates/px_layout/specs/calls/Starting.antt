@@ -1,0 +1,33 @@
+-- Where the parts of a normal form begin, as the program holds it.
+use Rattle.std.specs.Prelude.{◌≡◌, ℕ, ◌<◌, ◌≤◌, Option, Some, None, length, Result, Ok, Err}
+use Rattle.px_bytes.specs.declared.WriteRefusal.{WriteRefusal}
+use Rattle.px_bytes.specs.declared.WriteRefusal.TheVariants.{NormalTooLong, OutOfMemory, WriteFailed}
+use Rattle.px_bytes.specs.Parts.{limit}
+use Rattle.px_tree.specs.declared.Dir.TheVariants.{Exif, Interop, Gps, Thumb}
+use Rattle.px_tree.specs.Tree.{Meaning}
+use Rattle.px_layout.specs.declared.starts.Starts as held
+use Rattle.px_layout.specs.Normal.{normal_exif}
+use Rattle.px_layout.specs.lemmas.RunLaws.{start, thumb_start, strips_start}
+
+-- n, if it is no more than the limit
+abbrev pub Ends : Option ℕ → ℕ → Type 0
+Ends (Some end) n = (end ≡ n) × (end ≤ limit)
+Ends None n = limit < n
+
+-- each part begins there
+pub record AreStarts (s : held.Starts) (m : Meaning) : Type 0 where
+  pub exif : s.exif ≡ start m Exif
+  pub interop : s.interop ≡ start m Interop
+  pub gps : s.gps ≡ start m Gps
+  pub thumb : s.thumb ≡ start m Thumb
+  pub jpeg : s.jpeg ≡ thumb_start m
+  pub strips : s.strips ≡ strips_start m
+  pub ends : s.end ≡ length (normal_exif m)
+  pub most : s.end ≤ limit
+
+-- the parts of a form that is not too long
+abbrev pub AnswersStarts : Result held.Starts WriteRefusal → Meaning → Type 0
+AnswersStarts (Ok s) m = AreStarts s m
+AnswersStarts (Err NormalTooLong) m = limit < length (normal_exif m)
+AnswersStarts (Err OutOfMemory) m = ⊥
+AnswersStarts (Err WriteFailed) m = ⊥

@@ -1,0 +1,20 @@
+-- Lemmas: proved here, and not to be read to know what is promised.
+pub mod StandLaws
+pub mod ItemLaws
+pub mod ReadLaws
+pub mod EntryLaws
+pub mod TagLaws
+pub mod SizeLaws
+pub mod DirectoryLaws
+pub mod PlacedLaws
+pub mod PointerLaws
+pub mod PartLaws
+pub mod LegalLaws
+pub mod RankLaws
+pub mod LineLaws
+pub mod RunLaws
+pub mod NormalLaws
+pub mod ByteLaws
+pub mod CostLaws
+pub mod PayLaws
+pub mod BoundLaws

@@ -1,0 +1,8 @@
+-- Where a block is refused.
+pub mod Unsaid
+pub mod Told
+pub mod ToldDirs
+pub mod ToldThumb
+pub mod ToldAll
+pub mod Bounded
+pub mod Answered

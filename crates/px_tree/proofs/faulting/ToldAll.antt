@@ -1,0 +1,94 @@
+-- The first fault stands: all checks of a block tell faults.
+use Rattle.std.proofs.Common.{◌≡◌, ℕ, ◌+◌, ◌≤◌, ◌||◌, nat_lt, inl, inr, true, false, Option, Some, None, option_map, List, [], ◌∷◌, ◌++◌, flat_map, length, take, refl, sym, subst, arith, leb-true, leb-false, ltb-false}
+use Rattle.std.specs.Prelude.{IfSome}
+use Rattle.std.proofs.lemmas.Bool.{and_cases, or_parts, both_ways}
+use Rattle.px_bytes.specs.declared.Order.{Order}
+use Rattle.px_bytes.specs.declared.Order.TheVariants.{Least, Most}
+use Rattle.px_bytes.specs.declared.Cause.{Cause}
+use Rattle.px_bytes.specs.declared.Cause.TheVariants as cause
+use Rattle.px_bytes.specs.Parts.{limit}
+use Rattle.px_bytes.specs.Range.{Range, range}
+use Rattle.px_tree.specs.declared.roles.Dir.TheVariants.{Thumb}
+use Rattle.px_tree.specs.Entry.{IsDirectory}
+use Rattle.px_tree.specs.Directory.{magic, dirs, dir_at}
+use Rattle.px_tree.specs.Footprint.{listed}
+use Rattle.px_tree.specs.Checks.{same_bytes, order_of, begins_header, header_checks, dirs_checks, dirs_held, thumb_checks_at, tree_checks, checks_in, checks, FirstFault}
+use Rattle.px_tree.specs.Faults.{Begins, owners_at, thumb_owners, owners, Fault}
+use Rattle.px_tree.proofs.lists.At.{From, from_all, from_head, from_tail, from_left, from_right}
+use Rattle.px_tree.proofs.saying.Judged.{dirs_facts, bytes-self, begun, order_told}
+use Rattle.px_tree.proofs.faulting.Told.{Tells, tells_append, first_told, Held}
+use Rattle.px_tree.proofs.faulting.ToldDirs.{dirs_tell, dirs_kept}
+use Rattle.px_tree.proofs.faulting.ToldThumb.{thumb_tells}
+
+-- ---- the header
+
+kind_told : (b : List ℕ) → begins_header b ≡ false → Fault b cause.UnknownKind 0
+kind_told b h = elim (and_cases (nat_lt 0 (length b)) (same_bytes (take 4 b) (take (length b) (magic Least)) || same_bytes (take 4 b) (take (length b) (magic Most))) h) [
+  | inl n ↦ let l : length b ≤ 0 = ltb-false 0 (length b) n in (refl, inl (omega arith))
+  | inr n ↦ (refl, inr (neither (or_parts (same_bytes (take 4 b) (take (length b) (magic Least))) (same_bytes (take 4 b) (take (length b) (magic Most))) n)))
+]
+  where
+    differ : (x y : List ℕ) → same_bytes x y ≡ false → x ≡ y → ⊥
+    differ x y n q = both_ways (same_bytes x y) n (subst (λ y. same_bytes x y ≡ true) q (bytes-self x))
+
+    neither : (same_bytes (take 4 b) (take (length b) (magic Least)) ≡ false) × (same_bytes (take 4 b) (take (length b) (magic Most)) ≡ false) → (o : Order) → take 4 b ≡ take (length b) (magic o) → ⊥
+    neither n Least q = differ (take 4 b) (take (length b) (magic Least)) n.0 q
+    neither n Most q = differ (take 4 b) (take (length b) (magic Most)) n.1 q
+
+header_tells : (b : List ℕ) → Tells b (header_checks b)
+header_tells b = (
+  λ h. (refl, leb-false (length b) limit h),
+  λ _. (kind_told b, λ _. (λ h. (refl, leb-false 8 (length b) h), λ _. tt)),
+)
+
+-- ---- the tree
+
+module _ (b : List ℕ) (o : Order) (begins : Begins b o) where
+  thumb_tells_at : (z : Option ℕ) → dir_at b o Thumb ≡ z → IfSome z (IsDirectory b o Thumb) → (held : List Range) (k : ℕ) → From (owners b o) k (listed (option_map (thumb_owners b o) z)) → Held b o k held → Tells b (thumb_checks_at b o held z)
+  thumb_tells_at None q i held k f g = tt
+  thumb_tells_at (Some a) q i held k f g = thumb_tells b o a (begins, q) i.each held k f g
+
+  abbrev header : List Range
+  header = range 0 8 ∷ []
+
+  abbrev in_dirs : List (ℕ × Range)
+  in_dirs = flat_map (owners_at b o) dirs
+
+  abbrev in_thumb : List (ℕ × Range)
+  in_thumb = listed (option_map (thumb_owners b o) (dir_at b o Thumb))
+
+  whole : From (owners b o) 0 ((0, range 0 8) ∷ in_dirs ++ in_thumb)
+  unfolding owners
+  whole = from_all ((0, range 0 8) ∷ in_dirs ++ in_thumb)
+
+  behind : From (owners b o) 1 (in_dirs ++ in_thumb)
+  behind = from_tail (owners b o) 0 (0, range 0 8) (in_dirs ++ in_thumb) whole
+
+  header_held : Held b o 1 header
+  header_held = (record { index = 0; place = 0; before = omega arith; owner = from_head (owners b o) 0 (0, range 0 8) (in_dirs ++ in_thumb) whole; inside = begins.0 }, tt)
+
+  tree_tells : Tells b (tree_checks b o)
+  unfolding tree_checks
+  tree_tells =
+      let here : From (owners b o) 1 in_dirs = from_left (owners b o) 1 in_dirs in_thumb behind in
+      tells_append b (dirs_checks b o [] header dirs) (thumb_checks_at b o (dirs_held b o header dirs) (dir_at b o Thumb))
+      (dirs_tell b o begins 0 dirs [] header 1 (refl, (refl, (refl, (refl, (refl, tt))))) tt here header_held)
+      (λ all.
+      let i = (dirs_facts b o [] header dirs all).0 in
+      thumb_tells_at (dir_at b o Thumb) refl i.1.1.1.1.0 (dirs_held b o header dirs) (1 + length in_dirs)
+      (from_right (owners b o) 1 in_dirs in_thumb behind)
+      (dirs_kept b o begins dirs header 1 i here header_held))
+
+-- ---- all checks
+
+checks_tell : (b : List ℕ) → Tells b (checks b)
+unfolding checks
+checks_tell b = tells_append b (header_checks b) (checks_in b (order_of b)) (header_tells b)
+    (λ all.
+    let least : 8 ≤ length b = leb-true 8 (length b) all.1.1.0 in
+    let o = begun b least all.1.0 in
+    subst (λ z. Tells b (checks_in b z)) (sym (order_told b o.0 o.1)) (tree_tells b o.0 (least, o.1)))
+
+-- The first fault stands.
+pub first_stands : (b : List ℕ) (c : Cause) (p : ℕ) → FirstFault b c p → Fault b c p
+first_stands b c p h = first_told b (checks b) c p (checks_tell b) h

@@ -1,0 +1,6 @@
+-- Lists, by their places and members.
+pub mod Members
+pub mod SameLists
+pub mod EachDir
+pub mod At
+pub mod Listed

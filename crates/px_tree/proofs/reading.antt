@@ -1,0 +1,12 @@
+-- Steps of reading.
+pub mod Pieces
+pub mod Shapes
+pub mod Raw
+pub mod Loop
+pub mod Standing
+pub mod Pointers
+pub mod KeptUses
+pub mod Named
+pub mod Earlier
+pub mod Parted
+pub mod StripRanges

@@ -1,0 +1,62 @@
+-- Ranges judged one by one.
+use Rattle.std.proofs.Common.{◌≡◌, ℕ, zero, suc, ◌+◌, ◌≤◌, List, [], ◌∷◌, ◌++◌, None, Some, map, drop, length, refl, sym, ap, ◌∙◌, arith, nat_le, append_assoc, slice_get}
+use Rattle.px_bytes.specs.declared.Refusal.{Refusal}
+use Rattle.px_bytes.specs.declared.Cause.TheVariants.{Overlap, ThumbnailOutside}
+use Rattle.px_bytes.specs.Range.{Range, range, is_free, Agrees}
+use Rattle.px_bytes.specs.Checks.{Check, check, first_false, Refuses}
+use Rattle.px_bytes.specs.lemmas.CheckLaws.{first_false-true, Refuses-more, Refuses-same}
+use Rattle.px_tree.specs.Thumbnail.{ranges_of, bytes_of}
+use Rattle.px_tree.specs.Checks.{range_checks}
+
+-- what is left of the pairs has one more range
+pub ranges-next : (xs ns : List ℕ) (i x n : ℕ) → slice_get xs i ≡ Some x → slice_get ns i ≡ Some n → ranges_of (drop i xs) (drop i ns) ≡ range x n ∷ ranges_of (drop (i + 1) xs) (drop (i + 1) ns)
+ranges-next xs ns i x n h k = go xs ns i h k ∙ (let e : suc i ≡ i + 1 = omega arith in ap (λ (j : ℕ). range x n ∷ ranges_of (drop j xs) (drop j ns)) e)
+  where
+    go : (xs ns : List ℕ) (i : ℕ) → slice_get xs i ≡ Some x → slice_get ns i ≡ Some n → ranges_of (drop i xs) (drop i ns) ≡ range x n ∷ ranges_of (drop (suc i) xs) (drop (suc i) ns)
+    go [] ns i h k = cc
+    go (y ∷ xs) [] i h k = cc
+    go (y ∷ xs) (m ∷ ns) zero h k = let p : y ≡ x = cc in let q : m ≡ n = cc in cc
+    go (y ∷ xs) (m ∷ ns) (suc i) h k = go xs ns i h k
+
+pub ranges-end : (xs ns : List ℕ) (i : ℕ) → length xs ≤ i → ranges_of (drop i xs) (drop i ns) ≡ []
+ranges-end [] ns zero l = refl
+ranges-end [] ns (suc i) l = refl
+ranges-end (x ∷ xs) ns zero l = absurd (omega arith)
+ranges-end (x ∷ xs) [] (suc i) l = none xs i (omega arith)
+  where
+    none : (xs : List ℕ) (i : ℕ) → length xs ≤ i → ranges_of (drop i xs) [] ≡ []
+    none [] zero l = refl
+    none [] (suc i) l = refl
+    none (x ∷ xs) zero l = refl
+    none (x ∷ xs) (suc i) l = none xs i (omega arith)
+ranges-end (x ∷ xs) (n ∷ ns) (suc i) l = ranges-end xs ns i (omega arith)
+
+abbrev pub range_check : List ℕ → ℕ → List Range → Range → List Check
+range_check b p now r = check ThumbnailOutside p (nat_le (r.start + r.size) (length b)) ∷ check Overlap p (is_free now r) ∷ []
+
+module _ (b : List ℕ) (p : ℕ) (taken all : List Range) where
+  pub record RangesSoFar (held : List (ℕ × ℕ)) (rest : List Range) : Type 0 where
+    pub now : List Range
+    pub agrees : Agrees now held
+    pub faults : first_false (range_checks b p now rest) ≡ first_false (range_checks b p taken all)
+
+  module _ (held : List (ℕ × ℕ)) (rest : List Range) (r : Range) (rs : List Range) (is : rest ≡ r ∷ rs) (s : RangesSoFar held rest) where
+    pub ranges_refuse : (e : Refusal) → Refuses e (range_check b p s.now r) → Refuses e (range_checks b p taken all)
+    ranges_refuse e h = Refuses-same e (range_checks b p s.now (r ∷ rs)) (range_checks b p taken all)
+        (ap (λ (xs : List Range). first_false (range_checks b p s.now xs)) (sym is) ∙ s.faults)
+        (Refuses-more e (range_check b p s.now r) (range_checks b p (r ∷ s.now) rs) h)
+
+    pub ranges_step : (new : List (ℕ × ℕ)) → first_false (range_check b p s.now r) ≡ None → Agrees (r ∷ s.now) new → RangesSoFar new rs
+    ranges_step new h a = record {
+      now = r ∷ s.now;
+      agrees = a;
+      faults = sym (first_false-true (range_check b p s.now r) (range_checks b p (r ∷ s.now) rs) h) ∙ ap (λ (xs : List Range). first_false (range_checks b p s.now xs)) (sym is) ∙ s.faults;
+    }
+
+-- one more strip
+pub pushed : (b : List ℕ) (old new : List (List ℕ)) (s : List ℕ) (r : Range) (rest rs : List Range) → new ≡ old ++ s ∷ [] → s ≡ bytes_of b r → rest ≡ r ∷ rs → new ++ map (bytes_of b) rs ≡ old ++ map (bytes_of b) rest
+pushed b old new s r rest rs h e is =
+    ap (λ (l : List (List ℕ)). l ++ map (bytes_of b) rs) h
+    ∙ append_assoc old (s ∷ []) (map (bytes_of b) rs)
+    ∙ ap (λ (y : List ℕ). old ++ y ∷ map (bytes_of b) rs) e
+    ∙ ap (λ (l : List Range). old ++ map (bytes_of b) l) (sym is)

@@ -1,0 +1,88 @@
+-- Ranges that share no byte with those held before them, and none with one another.
+use Rattle.std.proofs.Common.{List, [], ◌∷◌, ◌++◌}
+use Rattle.std.specs.List.{AllByRecursion}
+use Rattle.px_bytes.specs.Range.{Range, Apart, AllApart}
+use Rattle.px_bytes.specs.lemmas.EachLaws.{each_map, each_map₂, each_left, each_right, each_append}
+
+pub apart_turned : (r s : Range) → Apart r s → Apart s r
+apart_turned r s a p i j = a p j i
+
+-- each of rs is apart from each of held
+abbrev pub Clear : List Range → List Range → Type 0
+Clear held rs = AllByRecursion (λ r. AllByRecursion (Apart r) held) rs
+
+pub record Fresh (held rs : List Range) : Type 0 where
+  pub clear : Clear held rs
+  pub apart : AllApart rs
+
+clear_turned : (r : Range) (rs : List Range) → AllByRecursion (Apart r) rs → Clear (r ∷ []) rs
+clear_turned r [] h = tt
+clear_turned r (s ∷ rs) h = ((apart_turned r s h.0, tt), clear_turned r rs h.1)
+
+unturned : (r : Range) (held rs : List Range) → Clear (r ∷ held) rs → AllByRecursion (Apart r) rs
+unturned r held [] h = tt
+unturned r held (s ∷ rs) h = (apart_turned s r h.0.0, unturned r held rs h.1)
+
+pub fresh_cons : (held : List Range) (r : Range) (rs : List Range) → AllByRecursion (Apart r) held → Fresh (r ∷ held) rs → Fresh held (r ∷ rs)
+fresh_cons held r rs a f = record {
+  clear = (a, each_map (λ s. AllByRecursion (Apart s) (r ∷ held)) (λ s. AllByRecursion (Apart s) held) (λ s h. h.1) rs f.clear);
+  apart = (unturned r held rs f.clear, f.apart);
+}
+
+pub fresh_head : (held : List Range) (r : Range) (rs : List Range) → Fresh held (r ∷ rs) → AllByRecursion (Apart r) held
+fresh_head held r rs f = f.clear.0
+
+pub fresh_tail : (held : List Range) (r : Range) (rs : List Range) → Fresh held (r ∷ rs) → Fresh (r ∷ held) rs
+fresh_tail held r rs f = record { clear = both rs f.apart.0 f.clear.1; apart = f.apart.1 }
+  where
+    both : (rs : List Range) → AllByRecursion (Apart r) rs → Clear held rs → Clear (r ∷ held) rs
+    both [] h k = tt
+    both (s ∷ rs) h k = ((apart_turned r s h.0, k.0), both rs h.1 k.1)
+
+apart_append : (rs ss : List Range) → AllApart rs → AllApart ss → Clear rs ss → AllApart (rs ++ ss)
+apart_append [] ss a b c = b
+apart_append (r ∷ rs) ss a b c = (each_append (Apart r) rs ss a.0 (unturned r rs ss c), apart_append rs ss a.1 b (each_map (λ s. AllByRecursion (Apart s) (r ∷ rs)) (λ s. AllByRecursion (Apart s) rs) (λ s h. h.1) ss c))
+
+pub apart_left : (rs ss : List Range) → AllApart (rs ++ ss) → AllApart rs
+apart_left [] ss h = tt
+apart_left (r ∷ rs) ss h = (each_left (Apart r) rs ss h.0, apart_left rs ss h.1)
+
+pub apart_right : (rs ss : List Range) → AllApart (rs ++ ss) → AllApart ss
+apart_right [] ss h = h
+apart_right (r ∷ rs) ss h = apart_right rs ss h.1
+
+nothing_clear : (ss : List Range) → Clear [] ss
+nothing_clear [] = tt
+nothing_clear (s ∷ ss) = (tt, nothing_clear ss)
+
+pub clear_across : (rs ss : List Range) → AllApart (rs ++ ss) → Clear rs ss
+clear_across [] ss h = nothing_clear ss
+clear_across (r ∷ rs) ss h = both ss (each_right (Apart r) rs ss h.0) (clear_across rs ss h.1)
+  where
+    both : (ss : List Range) → AllByRecursion (Apart r) ss → Clear rs ss → Clear (r ∷ rs) ss
+    both [] h k = tt
+    both (s ∷ ss) h k = ((apart_turned r s h.0, k.0), both ss h.1 k.1)
+
+pub fresh_append : (held rs ss : List Range) → Fresh held rs → Fresh (rs ++ held) ss → Fresh held (rs ++ ss)
+fresh_append held rs ss f g = record {
+  clear = each_append (λ r. AllByRecursion (Apart r) held) rs ss f.clear (each_map (λ s. AllByRecursion (Apart s) (rs ++ held)) (λ s. AllByRecursion (Apart s) held) (λ s h. each_right (Apart s) rs held h) ss g.clear);
+  apart = apart_append rs ss f.apart g.apart (each_map (λ s. AllByRecursion (Apart s) (rs ++ held)) (λ s. AllByRecursion (Apart s) rs) (λ s h. each_left (Apart s) rs held h) ss g.clear);
+}
+
+pub fresh_left : (held rs ss : List Range) → Fresh held (rs ++ ss) → Fresh held rs
+fresh_left held rs ss f = record { clear = each_left (λ r. AllByRecursion (Apart r) held) rs ss f.clear; apart = apart_left rs ss f.apart }
+
+pub fresh_right : (held rs ss : List Range) → Fresh held (rs ++ ss) → Fresh (rs ++ held) ss
+fresh_right held rs ss f = record {
+  clear = each_map₂ (λ s. AllByRecursion (Apart s) rs) (λ s. AllByRecursion (Apart s) held) (λ s. AllByRecursion (Apart s) (rs ++ held)) (λ s h k. each_append (Apart s) rs held h k) ss (clear_across rs ss f.apart) (each_right (λ r. AllByRecursion (Apart r) held) rs ss f.clear);
+  apart = apart_right rs ss f.apart;
+}
+
+pub fresh_nil : (held : List Range) → Fresh held []
+fresh_nil held = record { clear = tt; apart = tt }
+
+pub fresh_all : (h : Range) (rs : List Range) → Fresh (h ∷ []) rs → AllApart (h ∷ rs)
+fresh_all h rs f = (unturned h [] rs f.clear, f.apart)
+
+pub fresh_from : (h : Range) (rs : List Range) → AllApart (h ∷ rs) → Fresh (h ∷ []) rs
+fresh_from h rs a = record { clear = clear_turned h rs a.0; apart = a.1 }

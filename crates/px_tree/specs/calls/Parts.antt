@@ -1,0 +1,83 @@
+-- The entries that name the thumbnail's bytes, as the reader keeps them.
+use Rattle.std.specs.Prelude.{◌≡◌, ◌≤◌, ℕ, ◌+◌, ◌==◌, true, false, Option, Some, None, option_map, unwrap_or, List, [], ◌∷◌, ◌++◌, length, IfSome, ⊤}
+use Rattle.std.specs.List.{AllByRecursion}
+use Rattle.px_bytes.specs.declared.Order.{Order}
+use Rattle.px_bytes.specs.declared.Cause.TheVariants.{ThumbnailPair}
+use Rattle.px_bytes.specs.Parts.{limit, part}
+use Rattle.px_bytes.specs.Range.{Range, range}
+use Rattle.px_bytes.specs.Checks.{Check, check}
+use Rattle.px_tree.specs.declared.links.Found.{Found}
+use Rattle.px_tree.specs.declared.uses.Uses.{Uses}
+use Rattle.px_tree.specs.declared.tables.Directory.{Directory}
+use Rattle.px_tree.specs.declared.roles.Dir.TheVariants.{Thumb}
+use Rattle.px_tree.specs.Entry.{Entry, entry, has_raw, is_short_or_long, IsEntry, fields}
+use Rattle.px_tree.specs.Directory.{entries_at}
+use Rattle.px_tree.specs.Thumbnail.{both, numbers, ranges_of}
+use Rattle.px_tree.specs.calls.Reading.{Shows, bare, HasTable}
+use Rattle.px_tree.specs.calls.Uses.{Sees, has_tag}
+use Rattle.px_tree.specs.calls.Linked.{AreUsesAt}
+
+-- what was found of a tag is its entry, or there is none
+abbrev pub Finds : List ℕ → Order → ℕ → ℕ → Option Found → Type 0
+Finds b o a t x = Sees b o (entries_at b o a) (a + 2) (has_tag t) x
+
+-- the entry that was found
+abbrev pub entry_here : List ℕ → Order → Found → Entry
+entry_here b o f = entry o (part b f.place 12)
+
+-- where it stands
+abbrev pub place_in : Option Found → ℕ
+place_in x = unwrap_or (option_map (λ f. f.place) x) 0
+
+-- its value lies inside the block
+pub record HasValue (b : List ℕ) (o : Order) (f : Found) : Type 0 where
+  pub bounded : length b ≤ limit
+  pub inside : f.place + 12 ≤ length b
+  pub shown : Shows o f.head (entry_here b o f)
+  pub whole : has_raw b o (entry_here b o f) ≡ true
+
+-- it is a list of numbers inside the block
+pub record HasNumbers (b : List ℕ) (o : Order) (f : Found) : Type 0 where
+  pub bounded : length b ≤ limit
+  pub inside : f.place + 12 ≤ length b
+  pub shown : Shows o f.head (entry_here b o f)
+  pub formed : is_short_or_long (bare f.head) ≡ true
+  pub whole : has_raw b o (entry_here b o f) ≡ true
+
+abbrev pub HaveNumbers : List ℕ → Order → Option Found → Type 0
+HaveNumbers b o x = IfSome x (HasNumbers b o)
+
+-- ---- what is asked of both pairs
+
+-- one that is there without the other
+abbrev pub pair_check : Option Found → Option Found → List Check
+pair_check (Some f) None = check ThumbnailPair f.place false ∷ []
+pair_check None (Some f) = check ThumbnailPair f.place false ∷ []
+pair_check _ _ = []
+
+-- as many offsets as lengths
+abbrev pub count_check : Option Found → Option Found → List Check
+count_check (Some f) (Some g) = check ThumbnailPair f.place (f.head.count == g.head.count) ∷ []
+count_check _ _ = []
+
+abbrev pub pairs_checks : Uses → List Check
+pairs_checks p = pair_check p.jpeg_offset p.jpeg_length ++ (pair_check p.strip_offsets p.strip_lengths ++ count_check p.strip_offsets p.strip_lengths)
+
+abbrev pub AreEven : Option Found → Option Found → Type 0
+AreEven (Some f) (Some g) = f.head.count ≡ g.head.count
+AreEven _ _ = ⊤
+
+-- ---- the ranges
+
+abbrev pub jpeg_of : Option Found → Option Found → Option Range
+jpeg_of x n = both (λ f g. range f.head.offset g.head.offset) x n
+
+abbrev pub strips_of : List ℕ → Order → Option Found → Option Found → Option (List Range)
+strips_of b o x n = both (λ f g. ranges_of (numbers b o (entry_here b o f)) (numbers b o (entry_here b o g))) x n
+
+-- the thumbnail directory as it was read: its table stands, its entries are in order, and its fields are theirs
+pub record IsReadThumb (b : List ℕ) (o : Order) (t : Directory) : Type 0 where
+  pub table : HasTable b o t.at t.count
+  pub each : AllByRecursion (IsEntry b o Thumb) (entries_at b o t.at)
+  pub uses : AreUsesAt b o t
+  pub fields_are : t.fields ≡ fields b o Thumb t.at
