@@ -19,10 +19,7 @@ fn dataset_at<'a>(bytes: &'a [u8], at: usize) -> Result<Found<'a>, Refusal>
 {
     match read_dataset(rest(bytes, at)) {
         Ok(found) => Ok(found),
-        Err(cause) => Err(Refusal::Content {
-            cause,
-            place: at as u32,
-        }),
+        Err(cause) => Err(cause.at(at as u32)),
     }
 }
 
@@ -71,10 +68,7 @@ pub fn read_iim_in<'a>(memory: &mut Memory, bytes: &'a [u8]) -> Result<Iim<'a>, 
     ensures memory { LacksBlock result memory.old memory.new }
 {
     if bytes.len() > LIMIT as usize {
-        return Err(Refusal::Content {
-            cause: Cause::TooLong,
-            place: LIMIT,
-        });
+        return Err(Cause::TooLong.at(LIMIT));
     }
     read_groups(memory, bytes)
 }

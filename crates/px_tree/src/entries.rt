@@ -84,36 +84,21 @@ fn shape_of(dir: Dir, at: u32, before: Option<u16>, head: Head) -> Result<Shape,
 {
     if let Some(last) = before {
         if head.tag < last {
-            return Err(Refusal::Content {
-                cause: Cause::Unsorted,
-                place: at,
-            });
+            return Err(Cause::Unsorted.at(at));
         }
         if head.tag == last {
-            return Err(Refusal::Content {
-                cause: Cause::Doubled,
-                place: at,
-            });
+            return Err(Cause::Doubled.at(at));
         }
     }
     let Some(form) = Form::of(head.code) else {
-        return Err(Refusal::Content {
-            cause: Cause::UnknownType,
-            place: at,
-        });
+        return Err(Cause::UnknownType.at(at));
     };
     let role = role_of(dir, head.tag);
     if let Role::Forbidden = role {
-        return Err(Refusal::Content {
-            cause: Cause::MisplacedOffset,
-            place: at,
-        });
+        return Err(Cause::MisplacedOffset.at(at));
     }
     if !is_formed(role, head) {
-        return Err(Refusal::Content {
-            cause: Cause::PointerForm,
-            place: at,
-        });
+        return Err(Cause::PointerForm.at(at));
     }
     Ok(Shape { head, form, role })
 }
@@ -133,10 +118,7 @@ pub fn hold(
     ensures memory { LacksBlock result memory.old memory.new }
 {
     if !held.add_in(memory, start, len)? {
-        return Err(Refusal::Content {
-            cause: Cause::Overlap,
-            place: at,
-        });
+        return Err(Cause::Overlap.at(at));
     }
     Ok(())
 }
@@ -162,10 +144,7 @@ fn hold_value(
         return Ok(());
     }
     if u64::from(start) + len > block.len() as u64 {
-        return Err(Refusal::Content {
-            cause: Cause::ValueOutside,
-            place: at,
-        });
+        return Err(Cause::ValueOutside.at(at));
     }
     hold(memory, held, at, start, len as u32)
 }

@@ -59,16 +59,10 @@ fn judge_header(block: &[u8]) -> Result<(), Refusal>
     ensures content { ContentOnly result }
 {
     if !is_begun(block) {
-        return Err(Refusal::Content {
-            cause: Cause::UnknownKind,
-            place: 0,
-        });
+        return Err(Cause::UnknownKind.at(0));
     }
     if block.len() < 8 {
-        return Err(Refusal::Content {
-            cause: Cause::HeaderCut,
-            place: block.len() as u32,
-        });
+        return Err(Cause::HeaderCut.at(block.len() as u32));
     }
     Ok(())
 }

@@ -49,30 +49,18 @@ fn open_table(
     let at = link.at;
     let place = link.place;
     if is_earlier(earlier, at) {
-        return Err(Refusal::Content {
-            cause: Cause::Loop,
-            place,
-        });
+        return Err(Cause::Loop.at(place));
     }
     if u64::from(at) + 2 > block.len() as u64 {
-        return Err(Refusal::Content {
-            cause: Cause::DirectoryOutside,
-            place,
-        });
+        return Err(Cause::DirectoryOutside.at(place));
     }
     let count = number16(block, order, at);
     if count == 0 {
-        return Err(Refusal::Content {
-            cause: Cause::EmptyDirectory,
-            place: at,
-        });
+        return Err(Cause::EmptyDirectory.at(at));
     }
     let size = 2 + 12 * u32::from(count) + 4;
     if u64::from(at) + u64::from(size) > block.len() as u64 {
-        return Err(Refusal::Content {
-            cause: Cause::DirectoryOutside,
-            place,
-        });
+        return Err(Cause::DirectoryOutside.at(place));
     }
     hold(memory, held, place, at, size)?;
     Ok(count)

@@ -14,9 +14,9 @@ ghost use Rattle.px_tree.specs.Checks.{end_checks, range_checks, thumb_checks, t
 ghost use Rattle.px_tree.specs.calls.Reading.{HasTable};
 ghost use Rattle.px_tree.specs.calls.Parts.{HasNumbers, HaveNumbers, AreEven, entry_here, place_in, pair_check, count_check, pairs_checks, jpeg_of, strips_of, IsReadThumb};
 
-use crate::entries::{hold, number32};
+use crate::entries::hold;
 use crate::field_reading::{part_of, value_at};
-use crate::links::Found;
+use crate::links::{Found, next_link};
 use crate::meanings::Thumb;
 use crate::strips::Strips;
 use crate::tables::Directory;
@@ -30,14 +30,8 @@ fn judge_pair(first: Option<Found>, second: Option<Found>) -> Result<(), Refusal
     ensures content { ContentOnly result }
 {
     match (first, second) {
-        (Some(one), None) => Err(Refusal::Content {
-            cause: Cause::ThumbnailPair,
-            place: one.place,
-        }),
-        (None, Some(one)) => Err(Refusal::Content {
-            cause: Cause::ThumbnailPair,
-            place: one.place,
-        }),
+        (Some(one), None) => Err(Cause::ThumbnailPair.at(one.place)),
+        (None, Some(one)) => Err(Cause::ThumbnailPair.at(one.place)),
         _ => Ok(()),
     }
 }
@@ -50,10 +44,7 @@ fn judge_counts(offsets: Option<Found>, lengths: Option<Found>) -> Result<(), Re
     match (offsets, lengths) {
         (Some(offsets), Some(lengths)) => {
             if offsets.head.count != lengths.head.count {
-                return Err(Refusal::Content {
-                    cause: Cause::ThumbnailPair,
-                    place: offsets.place,
-                });
+                return Err(Cause::ThumbnailPair.at(offsets.place));
             }
             Ok(())
         }
@@ -78,14 +69,10 @@ fn judge_end(block: &[u8], order: Order, at: u32, count: u16) -> Result<(), Refu
     ensures judged { Judges result (end_checks block.now order at) (λ _. ⊤) }
     ensures content { ContentOnly result }
 {
-    let place = at + 2 + 12 * u32::from(count);
-    if number32(block, order, place) != 0 {
-        return Err(Refusal::Content {
-            cause: Cause::ExtraDirectory,
-            place,
-        });
+    match next_link(block, order, at, count) {
+        Some(link) => Err(Cause::ExtraDirectory.at(link.place)),
+        None => Ok(()),
     }
-    Ok(())
 }
 
 // Holds a part of the block that is named at a place.
@@ -106,10 +93,7 @@ fn hold_part<'a>(
     ensures memory { LacksBlock result memory.old memory.new }
 {
     if u64::from(start) + u64::from(len) > block.len() as u64 {
-        return Err(Refusal::Content {
-            cause: Cause::ThumbnailOutside,
-            place,
-        });
+        return Err(Cause::ThumbnailOutside.at(place));
     }
     hold(memory, held, place, start, len)?;
     Ok(part_of(block, start, len))

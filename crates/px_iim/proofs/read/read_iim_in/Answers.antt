@@ -49,10 +49,10 @@ wholes (Ok i) x b j = said_is_record x i b ((computes x i).1 j.1)
 wholes (Err e) x b j = tt
 
 pub returns-then-bytes-clause-judged : goal.returns-then-bytes-clause-judged
-returns-then-bytes-clause-judged c = checks_past c.args.bytes.now c.if-bytes.true
+returns-then-bytes-clause-judged c = rw c.at.ensures (checks_past c.args.bytes.now c.if-bytes.true)
 
 pub returns-then-bytes-clause-stands : goal.returns-then-bytes-clause-stands
-returns-then-bytes-clause-stands c = refuses c.args.bytes.now c.args.memory.now TooLong limit (checks_past c.args.bytes.now c.if-bytes.true) (omega arith)
+returns-then-bytes-clause-stands c = rw c.at.ensures (refuses c.args.bytes.now c.args.memory.now TooLong limit (checks_past c.args.bytes.now c.if-bytes.true) (omega arith))
 
 pub returns-clause-judged : goal.returns-clause-judged
 returns-clause-judged c =
