@@ -6,7 +6,7 @@ use Rattle.std.specs.List.{starts_with}
 use Rattle.px_bytes.specs.declared.Cause.{Cause}
 use Rattle.px_iim.specs.Group.{Record, IsRecord}
 use Rattle.px_iim.specs.Record.{SaysIim, normal_iim}
-use Rattle.px_iim.specs.Check.{First, Stands}
+use Rattle.px_iim.specs.Check.{FirstFault as IimFirstFault, Fault as IimFault}
 use Rattle.px_tree.specs.Tree.{Meaning}
 use Rattle.px_tree.specs.Says.{SaysExif}
 use Rattle.px_tree.specs.Fits.{Fits}
@@ -70,7 +70,7 @@ normal (Iim i) = normal_iim i
 
 abbrev pub FirstIn : BlockKind → List ℕ → Cause → ℕ → Type 0
 FirstIn kind.Exif b c p = FirstFault b c p
-FirstIn kind.Iim b c p = First b c p
+FirstIn kind.Iim b c p = IimFirstFault b c p
 
 -- the first fault of the block in the file, by the checks of its kind
 abbrev pub FirstFaultOf : List ℕ → Cause → ℕ → Type 0
@@ -78,7 +78,7 @@ FirstFaultOf f c p = FirstIn (kind_of f) (block_of f) c p
 
 abbrev pub StandsIn : BlockKind → List ℕ → Cause → ℕ → Type 0
 StandsIn kind.Exif b c p = Fault b c p
-StandsIn kind.Iim b c p = Stands b c p
+StandsIn kind.Iim b c p = IimFault b c p
 
 -- a fault that stands in the block in the file
 abbrev pub FaultOf : List ℕ → Cause → ℕ → Type 0

@@ -29,8 +29,8 @@ unfoldable pub iim_checks : List ℕ → List Check
 iim_checks x = check TooLong limit (nat_le (length x) limit) ∷ checks_from (length x + 1) 0 x
 
 -- the first fault
-abbrev pub First : List ℕ → Cause → ℕ → Type 0
-First x cause place = first_false (iim_checks x) ≡ Some (cause, place)
+abbrev pub FirstFault : List ℕ → Cause → ℕ → Type 0
+FirstFault x cause place = first_false (iim_checks x) ≡ Some (cause, place)
 
 -- ---- a fault that stands, cause by cause
 
@@ -42,13 +42,13 @@ pub record Behind (x : List ℕ) (sequence : List DataSet) (rest : List ℕ) (p 
   pub place : p ≡ length front
 
 -- the cause is true at place p
-abbrev pub Stands : List ℕ → Cause → ℕ → Type 0
-Stands x TooLong p = (p ≡ limit) × (limit < length x)
+abbrev pub Fault : List ℕ → Cause → ℕ → Type 0
+Fault x TooLong p = (p ≡ limit) × (limit < length x)
 -- no marker where a DataSet must begin: before the first, and wherever the block doesn't end
-Stands x NoMarker p = (sequence : List DataSet) × (rest : List ℕ) × Behind x sequence rest p × ((sequence ≡ []) ⊎ (is_end rest ≡ false)) × (is_marked rest ≡ false)
+Fault x NoMarker p = (sequence : List DataSet) × (rest : List ℕ) × Behind x sequence rest p × ((sequence ≡ []) ⊎ (is_end rest ≡ false)) × (is_marked rest ≡ false)
 -- an extended count of no octets, or of more than four
-Stands x LengthForm p = (sequence : List DataSet) × (rest : List ℕ) × Behind x sequence rest p × (is_marked rest ≡ true) × (5 ≤ length rest) × (top_bit ≤ form rest) × ((extra rest ≡ 0) ⊎ (4 < extra rest))
+Fault x LengthForm p = (sequence : List DataSet) × (rest : List ℕ) × Behind x sequence rest p × (is_marked rest ≡ true) × (5 ≤ length rest) × (top_bit ≤ form rest) × ((extra rest ≡ 0) ⊎ (4 < extra rest))
 -- the DataSet passes the end: its five octets, its count, or its data
-Stands x DataSetCut p = (sequence : List DataSet) × (rest : List ℕ) × Behind x sequence rest p × (is_marked rest ≡ true)
+Fault x DataSetCut p = (sequence : List DataSet) × (rest : List ℕ) × Behind x sequence rest p × (is_marked rest ≡ true)
     × ((length rest < 5) ⊎ ((has_form rest ≡ true) × ((length rest < 5 + extra rest) ⊎ (length rest < size rest))))
-Stands x _ p = ⊥
+Fault x _ p = ⊥

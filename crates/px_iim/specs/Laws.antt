@@ -6,7 +6,7 @@ use Rattle.px_bytes.specs.Parts.{limit}
 use Rattle.px_iim.specs.DataSet.{DataSet}
 use Rattle.px_iim.specs.Group.{Record, items_at, item_in, IsAscending, put, Gathers, gather, IsRecord}
 use Rattle.px_iim.specs.Record.{SaysIim, iim_of, normal_iim}
-use Rattle.px_iim.specs.Check.{First, Stands}
+use Rattle.px_iim.specs.Check.{FirstFault, Fault}
 
 -- A block says at most one record.
 abbrev pub OneRecord : Type 0
@@ -43,6 +43,6 @@ NormalBound = (x : List ℕ) (i : Record) → SaysIim x i → length (normal_iim
 
 -- The first fault stands; where a fault stands no record is said; and each block says a record or has a first fault.
 abbrev pub FaultsTell : Type 0
-FaultsTell = ((x : List ℕ) (c : Cause) (p : ℕ) → First x c p → Stands x c p)
-    × ((x : List ℕ) (c : Cause) (p : ℕ) (i : Record) → Stands x c p → SaysIim x i → ⊥)
-    × ((x : List ℕ) → ((i : Record) × SaysIim x i) ⊎ ((c : Cause) × (p : ℕ) × First x c p))
+FaultsTell = ((x : List ℕ) (c : Cause) (p : ℕ) → FirstFault x c p → Fault x c p)
+    × ((x : List ℕ) (c : Cause) (p : ℕ) (i : Record) → Fault x c p → SaysIim x i → ⊥)
+    × ((x : List ℕ) → ((i : Record) × SaysIim x i) ⊎ ((c : Cause) × (p : ℕ) × FirstFault x c p))

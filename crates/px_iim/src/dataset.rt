@@ -33,42 +33,42 @@ pub(crate) fn rest(bytes: &[u8], at: usize) -> &[u8]
     bytes.split_at(at).1
 }
 
-fn is_marked(x: &[u8]) -> bool
-    ensures { result ≡ is_marked x.now }
+fn is_marked(octets: &[u8]) -> bool
+    ensures { result ≡ is_marked octets.now }
 {
-    !x.is_empty() && x[0] == MARKER
+    !octets.is_empty() && octets[0] == MARKER
 }
 
 // The two octets of the count.
-fn form(x: &[u8]) -> u32
-    requires { 5 ≤ length x.now }
-    ensures value { result ≡ form x.now }
+fn form(octets: &[u8]) -> u32
+    requires { 5 ≤ length octets.now }
+    ensures value { result ≡ form octets.now }
     ensures bound { result < 65536 }
 {
-    u32::from(Order::Most.get16(&x[3..5]))
+    u32::from(Order::Most.get16(&octets[3..5]))
 }
 
 // How many octets of count follow them.
-fn extra(x: &[u8]) -> u32
-    requires { 5 ≤ length x.now }
-    ensures value { result ≡ extra x.now }
+fn extra(octets: &[u8]) -> u32
+    requires { 5 ≤ length octets.now }
+    ensures value { result ≡ extra octets.now }
     ensures bound { result < 65536 }
 {
-    let form = form(x);
+    let form = form(octets);
     if form < TOP_BIT {
         return 0;
     }
     form - TOP_BIT
 }
 
-fn has_form(x: &[u8]) -> bool
-    requires { 5 ≤ length x.now }
-    ensures { result ≡ has_form x.now }
+fn has_form(octets: &[u8]) -> bool
+    requires { 5 ≤ length octets.now }
+    ensures { result ≡ has_form octets.now }
 {
-    if form(x) < TOP_BIT {
+    if form(octets) < TOP_BIT {
         return true;
     }
-    let extra = extra(x);
+    let extra = extra(octets);
     1 <= extra && extra <= 4
 }
 
@@ -85,51 +85,51 @@ fn number_of(octets: &[u8]) -> u32
 }
 
 // The count.
-fn count(x: &[u8]) -> u32
-    requires there { 5 + extra x.now ≤ length x.now }
-    requires formed { has_form x.now ≡ true }
-    ensures { result ≡ count x.now }
+fn count(octets: &[u8]) -> u32
+    requires there { 5 + extra octets.now ≤ length octets.now }
+    requires formed { has_form octets.now ≡ true }
+    ensures { result ≡ count octets.now }
 {
-    let form = form(x);
+    let form = form(octets);
     if form < TOP_BIT {
         return form;
     }
-    let extra = extra(x) as usize;
-    number_of(&x[5..5 + extra])
+    let extra = extra(octets) as usize;
+    number_of(&octets[5..5 + extra])
 }
 
 // The DataSet that stands in front, or what is wrong with it.
-pub(crate) fn read_dataset<'a>(x: &'a [u8]) -> Result<Found<'a>, Cause>
-    ensures { MatchResult result (Reads x.now) (λ cause. (p : ℕ) → first_false (dataset_checks p x.now) ≡ Some (cause, p)) }
+pub(crate) fn read_dataset<'a>(octets: &'a [u8]) -> Result<Found<'a>, Cause>
+    ensures { MatchResult result (Reads octets.now) (λ cause. (p : ℕ) → first_false (dataset_checks p octets.now) ≡ Some (cause, p)) }
 {
-    if !is_marked(x) {
+    if !is_marked(octets) {
         return Err(Cause::NoMarker);
     }
-    if x.len() < 5 {
+    if octets.len() < 5 {
         return Err(Cause::DataSetCut);
     }
-    if !has_form(x) {
+    if !has_form(octets) {
         return Err(Cause::LengthForm);
     }
-    let start = 5 + extra(x) as usize;
-    if x.len() < start {
+    let start = 5 + extra(octets) as usize;
+    if octets.len() < start {
         return Err(Cause::DataSetCut);
     }
-    let count = count(x) as usize;
-    if x.len() - start < count {
+    let count = count(octets) as usize;
+    if octets.len() - start < count {
         return Err(Cause::DataSetCut);
     }
     Ok(Found {
-        rec: x[1],
-        number: x[2],
-        octets: &x[start..start + count],
+        rec: octets[1],
+        number: octets[2],
+        octets: &octets[start..start + count],
         size: start + count,
     })
 }
 
 // Whether at most three zero octets are left.
-pub(crate) fn is_end(x: &[u8]) -> bool
-    ensures { result ≡ is_end x.now }
+pub(crate) fn is_end(octets: &[u8]) -> bool
+    ensures { result ≡ is_end octets.now }
 {
-    x.len() <= 3 && x.iter().all(|octet| *octet == 0)
+    octets.len() <= 3 && octets.iter().all(|octet| *octet == 0)
 }

@@ -8,7 +8,7 @@ use Rattle.px_iim.specs.declared.dataset.Found.{Found}
 use Rattle.px_iim.specs.DataSet.{DataSet}
 use Rattle.px_iim.specs.Group.{Record}
 use Rattle.px_iim.specs.Record.{SaysIim, iim_of, size, dataset, is_dataset}
-use Rattle.px_iim.specs.Check.{dataset_checks, Stands}
+use Rattle.px_iim.specs.Check.{dataset_checks, Fault}
 
 abbrev pub found_view : Found → DataSet
 found_view f = record { rec = f.rec; number = f.number; octets = f.octets.now }
@@ -28,5 +28,5 @@ JudgesAt (Err OutOfMemory) x at = ⊥
 -- a refusal of content carries a fault that stands, at a place up to the limit, and the block says nothing; want of memory
 -- tells that memory has refused a growth
 abbrev pub RefusesIim : List ℕ → Bool → Refusal → Type 0
-RefusesIim x refused (Content cause place) = Stands x cause place × (place ≤ limit) × (iim_of x ≡ None) × ((i : Record) → SaysIim x i → ⊥)
+RefusesIim x refused (Content cause place) = Fault x cause place × (place ≤ limit) × (iim_of x ≡ None) × ((i : Record) → SaysIim x i → ⊥)
 RefusesIim x refused OutOfMemory = refused ≡ true

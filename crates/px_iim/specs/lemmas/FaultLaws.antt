@@ -10,7 +10,7 @@ use Rattle.px_bytes.specs.Parts.{limit}
 use Rattle.px_iim.specs.DataSet.{DataSet, top_bit, IsSpelling, Spells}
 use Rattle.px_iim.specs.Group.{Record, gather}
 use Rattle.px_iim.specs.Record.{SaysIim, form, extra, size, is_marked, has_form, is_dataset, dataset, is_end}
-use Rattle.px_iim.specs.Check.{dataset_checks, checks_from, iim_checks, First, Behind, Stands}
+use Rattle.px_iim.specs.Check.{dataset_checks, checks_from, iim_checks, FirstFault, Behind, Fault}
 use Rattle.px_iim.specs.lemmas.GatherLaws.{gathers}
 use Rattle.px_iim.specs.lemmas.SpellingLaws.{Holds, holds_dataset, dataset_holds, spelled_begins, dataset_spelled}
 use Rattle.px_iim.specs.lemmas.SequenceLaws.{IsZero, end_true, blank_unmarked, behind_begins, marked_spelling, Parsed, parsed_end, parsed_more}
@@ -100,11 +100,11 @@ module _ (x : List ℕ) where
       )
 
   stands_from : (n : ℕ) (ds : List DataSet) (rest : List ℕ) (p : ℕ) (f : Cause × ℕ) → Behind x ds rest p → (ds ≡ []) ⊎ (is_end rest ≡ false) →
-      first_false (checks_from n p rest) ≡ Some f → Stands x f.0 f.1
+      first_false (checks_from n p rest) ≡ Some f → Fault x f.0 f.1
   unfolding checks_from
   stands_from zero ds rest p f b o e = let clash : None ≡ Some f = e in absurd (cc)
   stands_from (suc n) ds rest p f b o e =
-      five_cases (Stands x) p (is_marked rest) (nat_le 5 (length rest)) (has_form rest) (nat_le (5 + extra rest) (length rest)) (nat_le (size rest) (length rest)) (checks_behind n p rest) f
+      five_cases (Fault x) p (is_marked rest) (nat_le 5 (length rest)) (has_form rest) (nat_le (5 + extra rest) (length rest)) (nat_le (size rest) (length rest)) (checks_behind n p rest) f
       (λ a. (ds, rest, b, o, a))
       (λ a l. (ds, rest, b, a, inl (let m = leb-false 5 (length rest) l in omega arith)))
       (λ a l c. let g = long_form rest c in (ds, rest, b, a, leb-true 5 (length rest) l, g.0, g.1))
@@ -128,10 +128,10 @@ first_head c cs f e = elim (cases_Bool c.holds) [
   | inr g ↦ let q : Some (c.cause, c.place) ≡ Some f = sym (cond-false _ _ _ g) ∙ e in inl (g, (cc))
 ]
 
-pub first_stands : (x : List ℕ) (c : Cause) (p : ℕ) → First x c p → Stands x c p
+pub first_stands : (x : List ℕ) (c : Cause) (p : ℕ) → FirstFault x c p → Fault x c p
 unfolding iim_checks
 first_stands x c p e = elim (first_head (check TooLong limit (nat_le (length x) limit)) (checks_from (length x + 1) 0 x) (c, p) e) [
-  | inl h ↦ let l = leb-false (length x) limit h.0 in subst (λ (z : Cause × ℕ). Stands x z.0 z.1) h.1 (refl, (omega arith))
+  | inl h ↦ let l = leb-false (length x) limit h.0 in subst (λ (z : Cause × ℕ). Fault x z.0 z.1) h.1 (refl, (omega arith))
   | inr h ↦ stands_from x (length x + 1) [] x 0 (c, p) (behind_none x) (inl refl) h.1
 ]
 
@@ -199,7 +199,7 @@ module _ (x : List ℕ) (i : Record) (s : SaysIim x i) where
   no_cut rest h (inr (f, inl l)) = let m = h.counted in omega arith
   no_cut rest h (inr (f, inr l)) = let m = h.whole in omega arith
 
-pub stands_unsaid : (x : List ℕ) (c : Cause) (p : ℕ) (i : Record) → Stands x c p → SaysIim x i → ⊥
+pub stands_unsaid : (x : List ℕ) (c : Cause) (p : ℕ) (i : Record) → Fault x c p → SaysIim x i → ⊥
 stands_unsaid x TooLong p i h s = let l = s.bounded in let m = h.1 in omega arith
 stands_unsaid x NoMarker p i (ds, rest, b, o, m) s = no_unmarked x i s ds rest p b o m
 stands_unsaid x LengthForm p i (ds, rest, b, m, l, f, o) s = no_form x i s rest (marked_holds x i s ds rest p b m) f o
@@ -247,10 +247,10 @@ clean_says x e = elim (cases_Bool (nat_le (length x) limit)) [
   | inr f ↦ let clash : Some (TooLong, limit) ≡ None = sym (cond-false _ _ _ f) ∙ e in absurd (cc)
 ]
 
-pub said_or_fault : (x : List ℕ) → ((i : Record) × SaysIim x i) ⊎ ((c : Cause) × (p : ℕ) × First x c p)
+pub said_or_fault : (x : List ℕ) → ((i : Record) × SaysIim x i) ⊎ ((c : Cause) × (p : ℕ) × FirstFault x c p)
 said_or_fault x = go (first_false (iim_checks x)) refl
   where
-    go : (z : Option (Cause × ℕ)) → first_false (iim_checks x) ≡ z → ((i : Record) × SaysIim x i) ⊎ ((c : Cause) × (p : ℕ) × First x c p)
+    go : (z : Option (Cause × ℕ)) → first_false (iim_checks x) ≡ z → ((i : Record) × SaysIim x i) ⊎ ((c : Cause) × (p : ℕ) × FirstFault x c p)
     go None e = inl (clean_says x e)
     go (Some f) e = inr (f.0, f.1, e)
 

@@ -19,11 +19,11 @@ value x k n a b =
 
 pub returns : goal.returns
 returns c =
-    let x = c.args.x.now in
+    let x = c.args.octets.now in
     let k = c.extra.ensures.value in
     let n = c.count-count.ensures in
     record {
-      there = there x (sym c.if-not-is_marked.ensures) c.if-x-lt5.false (sym c.if-not-has_form.ensures) (omega (arith, c.if-x-start.false)) (omega (arith, c.if-x-start.false, c.if-x-start-2.false));
+      there = there x (sym c.if-not-is_marked.ensures) c.if-octets-lt5.false (sym c.if-not-has_form.ensures) (omega (arith, c.if-octets-start.false)) (omega (arith, c.if-octets-start.false, c.if-octets-start-2.false));
       value = value x c.extra.result c.count-count.result k n;
       sized = omega arith;
     }

@@ -10,7 +10,7 @@ use Rattle.px_bytes.specs.Parts.{limit}
 use Rattle.px_iim.specs.DataSet.{DataSet}
 use Rattle.px_iim.specs.Group.{Record, IsRecord}
 use Rattle.px_iim.specs.Record.{SaysIim, iim_of}
-use Rattle.px_iim.specs.Check.{iim_checks, First, Stands, Behind}
+use Rattle.px_iim.specs.Check.{iim_checks, FirstFault, Fault, Behind}
 use Rattle.px_iim.specs.lemmas.RecordLaws.{computes, said_is_record}
 use Rattle.px_iim.specs.lemmas.FaultLaws.{first_stands, stands_unsaid}
 use Rattle.px_iim.specs.calls.Reading.{RefusesIim}
@@ -26,14 +26,14 @@ nothing x h = go (iim_of x) refl where
 behind_place : (x : List ℕ) (ds : List DataSet) (rest : List ℕ) (p : ℕ) → Behind x ds rest p → length x ≤ limit → p ≤ limit
 behind_place x ds rest p b l = omega (arith, b.place, ap length b.whole, length-append b.front rest)
 
-place : (x : List ℕ) (c : Cause) (p : ℕ) → Stands x c p → length x ≤ limit → p ≤ limit
+place : (x : List ℕ) (c : Cause) (p : ℕ) → Fault x c p → length x ≤ limit → p ≤ limit
 place x TooLong p s l = omega (arith, s.0)
 place x NoMarker p s l = behind_place x s.0 s.1 p s.2 l
 place x LengthForm p s l = behind_place x s.0 s.1 p s.2 l
 place x DataSetCut p s l = behind_place x s.0 s.1 p s.2 l
 place x _ p s l = absurd s
 
-refuses : (x : List ℕ) (refused : Bool) (c : Cause) (p : ℕ) → First x c p → p ≤ limit → RefusesIim x refused (Content c p)
+refuses : (x : List ℕ) (refused : Bool) (c : Cause) (p : ℕ) → FirstFault x c p → p ≤ limit → RefusesIim x refused (Content c p)
 refuses x refused c p f l =
     let s = first_stands x c p f in
     let none = λ (i : Record) (t : SaysIim x i). stands_unsaid x c p i s t in
