@@ -1,6 +1,7 @@
 // The groups of one record number, in ascending order.
 ghost use Rattle.std.specs.Prelude.{◌≡◌, ◌+◌, ◌/◌, ◌<◌, ◌≤◌, ℕ, map, max, MatchResult, MatchOption, vec_len, vec_capacity, OnOk, OnErr};
 ghost use Rattle.px_bytes.specs.Lacking.{Lacks};
+ghost use Rattle.px_bytes.specs.Parts.{limit};
 ghost use Rattle.px_iim.specs.Group.{named, put};
 ghost use Rattle.px_iim.specs.calls.View.{item_view, groups_view, numbers, Rises, Found, Missing, MissingIn, Holds, Appended, Inserted, octets_left};
 
@@ -46,14 +47,31 @@ pub(crate) fn find(groups: &[Group], number: u8) -> Result<usize, usize>
     groups.binary_search_by_key(&number, |group| group.number)
 }
 
-// Makes room for one more in a full list: in an empty one for one, else for half as many as there are, and three at
-// least. Most groups have one DataSet, and a long list needs few growths and holds little more than it needs.
+// A list of more items than this is long.
+const LONG: usize = 65536;
+
+// For how many more a full list of so many items makes room: for half as many, and three at least; in a long list for a
+// 32nd. A long list so needs few growths, and holds little more than it needs; the system moves it without a copy.
+fn room_for(len: usize) -> usize
+    ensures some { 1 ≤ result }
+    ensures most { result ≤ max 3 (len / 2) }
+    ensures long { LONG < len → result ≤ len / 32 }
+    ensures bounded { result ≤ limit }
+{
+    if len > LONG {
+        return (len / 32).min(LIMIT as usize);
+    }
+    (len / 2).max(3)
+}
+
+// Makes room for one more in a full list: in an empty one for that one alone, since most groups have one DataSet.
 fn make_room<T>(memory: &mut Memory, list: &mut Vec<T>) -> Result<(), Refused>
     ensures items { list.new.items ≡ list.old.items }
     ensures len { vec_len list.new ≡ vec_len list.old }
     ensures room { OnOk result (vec_len list.new < vec_capacity list.new) }
     ensures first { vec_len list.old ≡ 0 → vec_capacity list.new ≤ max (vec_capacity list.old) 1 }
     ensures most { vec_capacity list.new ≤ max (vec_capacity list.old) (vec_len list.old + max 3 (vec_len list.old / 2)) }
+    ensures long { LONG < vec_len list.old → vec_capacity list.new ≤ max (vec_capacity list.old) (vec_len list.old + vec_len list.old / 32) }
     ensures memory { Lacks result memory.old memory.new }
 {
     if list.len() < list.capacity() {
@@ -62,8 +80,7 @@ fn make_room<T>(memory: &mut Memory, list: &mut Vec<T>) -> Result<(), Refused>
     if list.is_empty() {
         return memory.reserve_exact(list, 1);
     }
-    let more = (list.len() / 2).max(3).min(LIMIT as usize);
-    memory.reserve_exact(list, more)
+    memory.reserve_exact(list, room_for(list.len()))
 }
 
 // Appends the item to the group at a place.
