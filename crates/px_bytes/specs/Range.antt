@@ -30,11 +30,6 @@ shares r s = nat_lt 0 r.size && nat_lt 0 s.size && nat_lt r.start (s.start + s.s
 abbrev pub is_free : List Range → Range → Bool
 is_free held r = list_all (λ s. not (shares r s)) held
 
--- no two of the ranges share a byte, by the test
-abbrev pub all_apart : List Range → Bool
-all_apart [] = true
-all_apart (r ∷ rs) = is_free rs r && all_apart rs
-
 -- lists that leave the same ranges free
 abbrev pub SameFree : List Range → List Range → Type 0
 SameFree xs ys = (s n : ℕ) → is_free xs (range s n) ≡ is_free ys (range s n)

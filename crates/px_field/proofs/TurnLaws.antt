@@ -1,7 +1,6 @@
 -- Elements turned round one after another.
-use Rattle.std.proofs.Common.{◌≡◌, ℕ, zero, suc, ◌+◌, ◌*◌, ◌/◌, ◌-◌, ◌<◌, ◌≤◌, Bool, true, false, List, [], ◌∷◌, ◌++◌, map, flat_map, length, take, drop, refl, sym, ◌∙◌, ap, ap₂, subst, arith, append_assoc, append-nil, length-append, length-drop}
-use Rattle.std.specs.List.{AllByRecursion}
-use Rattle.std.specs.Int.{w16, w32, cast_signed}
+use Rattle.std.proofs.Common.{◌≡◌, ℕ, zero, suc, ◌+◌, ◌*◌, ◌/◌, ◌-◌, ◌≤◌, Bool, true, false, List, [], ◌∷◌, ◌++◌, map, flat_map, length, take, drop, refl, sym, ◌∙◌, ap, ap₂, arith, append_assoc, append-nil, length-append, length-drop}
+use Rattle.std.specs.Int.{w16, w32}
 use Rattle.std.proofs.lemmas.Grind.{common_steps}
 use Rattle.std.proofs.lemmas.Int.{of_z-to_z}
 use Rattle.std.proofs.lemmas.List.{length-take-le}
@@ -15,13 +14,11 @@ use Rattle.px_bytes.specs.lemmas.NumberLaws.{number-lt, length-spelling}
 use Rattle.px_bytes.specs.Parts.{pieces}
 use Rattle.px_field.specs.declared.forms.Form.{Form}
 use Rattle.px_field.specs.declared.forms.Form.TheVariants as form
-use Rattle.px_field.specs.declared.forms.Element.{Element}
-use Rattle.px_field.specs.declared.turning.Width.{Width}
 use Rattle.px_field.specs.declared.turning.Width.TheVariants as width
 use Rattle.px_field.specs.Forms.{size}
-use Rattle.px_field.specs.Values.{spell, element_of, widened, IsWhole, elements, count_in, form_in}
+use Rattle.px_field.specs.Values.{spell, element_of, widened, IsWhole, elements, count_in}
 use Rattle.px_field.specs.calls.Views.{shown}
-use Rattle.px_field.specs.calls.Turning.{width_of, read_by, written_by, turned}
+use Rattle.px_field.specs.calls.Turning.{width_of, read_by, turned}
 use Rattle.px_field.specs.lemmas.PieceLaws.{bytes_take, bytes_drop}
 use Rattle.px_field.specs.lemmas.ElementLaws.{spell-element_of}
 
@@ -152,24 +149,6 @@ read_size false form.SRational h = refl
 read_size false form.Float h = refl
 read_size false form.Double h = refl
 read_size false form.Utf8 h = refl
-
-pub written_size : (w : Bool) (r : Order) (f : Form) (raw : List ℕ) → (w ≡ true → IsWhole f) → written_by (width_of w f) ≡ size (form_in (shown w r f raw).kind)
-written_size true r form.Short raw h = refl
-written_size true r form.Long raw h = refl
-written_size true r _ raw h = absurd (h refl)
-written_size false r form.Byte raw h = refl
-written_size false r form.Ascii raw h = refl
-written_size false r form.Short raw h = refl
-written_size false r form.Long raw h = refl
-written_size false r form.Rational raw h = refl
-written_size false r form.SByte raw h = refl
-written_size false r form.Undefined raw h = refl
-written_size false r form.SShort raw h = refl
-written_size false r form.SLong raw h = refl
-written_size false r form.SRational raw h = refl
-written_size false r form.Float raw h = refl
-written_size false r form.Double raw h = refl
-written_size false r form.Utf8 raw h = refl
 
 -- ---- what has room
 

@@ -1,5 +1,5 @@
 -- What is seen of a value.
-use Rattle.std.proofs.Common.{◌≡◌, ◌<◌, ◌≤◌, ◌+◌, ◌*◌, ◌/◌, ◌%◌, ℕ, Bool, true, false, List, [], ◌∷◌, suc, length, map, flat_map, slice_get, Some, ap, ap₂, subst, sym, ◌∙◌, refl, arith}
+use Rattle.std.proofs.Common.{◌≡◌, ◌<◌, ◌≤◌, ◌+◌, ◌*◌, ◌/◌, ◌%◌, ℕ, Bool, true, false, List, [], ◌∷◌, suc, length, map, flat_map, slice_get, Some, ap, subst, sym, ◌∙◌, refl, arith}
 use Rattle.std.specs.Option.{option_map}
 use Rattle.std.proofs.Math.Nat.{div-mul-le_self, mul-le-mul_right}
 use Rattle.std.proofs.lemmas.List.{length-map}
@@ -39,10 +39,6 @@ IsValue-shown false o f raw whole are = IsValue-value_in o f raw are
 pub get-whole : (o : Order) (f : Form) (raw : List ℕ) (i : ℕ) (e : Element) → slice_get (elements o f (count_in f raw) raw) i ≡ Some e → slice_get (shown true o f raw).elements i ≡ Some (widened e)
 get-whole o f raw i e h = slice_get-map widened (elements o f (count_in f raw) raw) i ∙ ap (option_map widened) h
 
--- two values of one kind with the same elements are the same
-pub same_parts : (a b : Value) → a.kind ≡ b.kind → a.elements ≡ b.elements → a ≡ b
-same_parts a b p q = ap₂ (λ (k : Kind) (es : List Element). record { kind = k; elements = es }) p q
-
 -- lists with the same elements are the same
 pub same_by_get : {A : Type 0} (xs ys : List A) → length xs ≡ length ys → ((k : ℕ) → k < length xs → slice_get xs k ≡ slice_get ys k) → xs ≡ ys
 same_by_get [] [] len h = refl
@@ -51,17 +47,6 @@ same_by_get (x ∷ xs) [] len h = absurd (omega arith)
 same_by_get (x ∷ xs) (y ∷ ys) len h =
     let head : Some x ≡ Some y = h 0 (omega arith) in
     let tail : xs ≡ ys = same_by_get xs ys (omega arith) (λ k below. h (suc k) (omega arith)) in
-    cc
-
--- bytes and the elements of a byte type tell each other
-pub same_bytes : (xs ys : List ℕ) → map element.Byte xs ≡ map element.Byte ys → xs ≡ ys
-same_bytes [] [] e = refl
-same_bytes [] (y ∷ ys) e = absurd (cc)
-same_bytes (x ∷ xs) [] e = absurd (cc)
-same_bytes (x ∷ xs) (y ∷ ys) e =
-    let head : element.Byte x ≡ element.Byte y = cc in
-    let rest : map element.Byte xs ≡ map element.Byte ys = cc in
-    let tail : xs ≡ ys = same_bytes xs ys rest in
     cc
 
 -- the size of what is seen

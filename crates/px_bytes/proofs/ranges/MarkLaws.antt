@@ -1,12 +1,12 @@
 -- Sets of numbers as bits: a word, rows above rows, and what is put in.
-use Rattle.std.proofs.Common.{◌≡◌, ◌≢◌, inl, inr, ℕ, zero, suc, ◌+◌, ◌*◌, ◌/◌, ◌%◌, ◌^◌, ◌<◌, ◌≤◌, max, List, [], ◌∷◌, ◌++◌, length, length-set, get_or, set, replicate, refl, sym, ap, ◌∙◌, subst, arith, w64, bit_and, bit_or}
+use Rattle.std.proofs.Common.{◌≡◌, ◌≢◌, inl, inr, ℕ, zero, ◌+◌, ◌*◌, ◌/◌, ◌%◌, ◌^◌, ◌<◌, ◌≤◌, max, List, length, length-set, get_or, set, refl, sym, ap, ◌∙◌, subst, arith, w64, bit_and, bit_or}
 use Rattle.std.specs.Int.{bit_at}
 use Rattle.std.proofs.lemmas.Bool.{cases_lt, cases_eq}
 use Rattle.std.proofs.lemmas.Nat.{div-add-mod', div-mul-add, mod-mul-add, mod_below}
 use Rattle.std.proofs.lemmas.Nat.Bits.{bit_at-zero, bit_at_set_same, bit_at_set_other, bit_at-lt, and_pow}
 use Rattle.std.proofs.lemmas.List.{get_or-set_same, get_or-set_other}
 use Rattle.px_bytes.proofs.ranges.BitLaws.{shl_one}
-use Rattle.px_bytes.specs.calls.Marks.{Has, HasNone, IsLast, IsLastWord, HasNoWord, Sums, SameMarks, MarkedAt}
+use Rattle.px_bytes.specs.calls.Marks.{Has, IsLast, IsLastWord, Sums, SameMarks, MarkedAt}
 
 -- a number is its word's place and its bit's
 split : (n : ℕ) → (n / 64 * 64 + n % 64 ≡ n) × (n % 64 < 64)
@@ -23,44 +23,6 @@ pub some_word : (words : List ℕ) (n : ℕ) → Has words n → get_or words (n
 some_word words n h zero_word =
     let clear : bit_at (get_or words (n / 64) 0) (n % 64) ≡ 0 = ap (λ (x : ℕ). bit_at x (n % 64)) zero_word ∙ bit_at-zero (n % 64) in
     omega (arith, h, clear)
-
--- the bits of `lower` are those of the word below n
-same_word : (words : List ℕ) (n q lower : ℕ) → ((k : ℕ) → k < n % 64 → bit_at lower k ≡ bit_at (get_or words (n / 64) 0) k) → q < n → Has words q → n / 64 ≤ q / 64
-    → (q / 64 ≡ n / 64) × (bit_at lower (q % 64) ≡ 1)
-same_word words n q lower kept l h ge =
-    let sn = split n in
-    let sq = split q in
-    let same : q / 64 ≡ n / 64 = omega (arith, sn.0, sn.1, sq.0, sq.1) in
-    let small : q % 64 < n % 64 = omega (arith, sn.0, sn.1, sq.0, sq.1) in
-    (same, kept (q % 64) small ∙ ap (λ (x : ℕ). bit_at (get_or words x 0) (q % 64)) (sym same) ∙ h)
-
-pub near_some : (words : List ℕ) (n lower h : ℕ) → ((k : ℕ) → k < n % 64 → bit_at lower k ≡ bit_at (get_or words (n / 64) 0) k)
-    → ((k : ℕ) → bit_at lower k ≡ 1 → k < n % 64) → h < 64 → bit_at lower h ≡ 1 → ((k : ℕ) → h < k → bit_at lower k ≡ 0) → IsLast words n (n / 64 * 64 + h)
-near_some words n lower h kept no_more bound is_set above = record {
-  below = let sn = split n in let l = no_more h is_set in omega (arith, sn.0, sn.1);
-  has = has_at words (n / 64) h bound (sym (kept h (no_more h is_set)) ∙ is_set);
-  greatest = λ q l has. let sn = split n in let sq = split q in
-      elim (cases_lt (q / 64) (n / 64)) [
-        | inl before ↦ omega (arith, sn.0, sn.1, sq.0, sq.1)
-        | inr ge ↦
-            let w = same_word words n q lower kept l has ge in
-            elim (cases_lt h (q % 64)) [
-              | inl past ↦ let clear = above (q % 64) past in let bit = w.1 in absurd (omega (arith, clear, bit))
-              | inr upto ↦ let same = w.0 in omega (arith, sn.0, sn.1, sq.0, sq.1, same)
-            ]
-      ];
-}
-
-pub near_none : (words : List ℕ) (n lower : ℕ) → ((k : ℕ) → k < n % 64 → bit_at lower k ≡ bit_at (get_or words (n / 64) 0) k)
-    → lower ≡ 0 → (q : ℕ) → q < n → Has words q → q / 64 < n / 64
-near_none words n lower kept none q l has = elim (cases_lt (q / 64) (n / 64)) [
-  | inl before ↦ before
-  | inr ge ↦
-      let w = same_word words n q lower kept l has ge in
-      let clear : bit_at lower (q % 64) ≡ 0 = ap (λ (x : ℕ). bit_at x (q % 64)) none ∙ bit_at-zero (q % 64) in
-      let bit = w.1 in
-      absurd (omega (arith, clear, bit))
-]
 
 -- the greatest number in a word
 last_in_word : (words : List ℕ) (i h : ℕ) → ((k : ℕ) → h < k → bit_at (get_or words i 0) k ≡ 0) → (q : ℕ) → q / 64 ≡ i → Has words q → q ≤ i * 64 + h
@@ -91,9 +53,6 @@ climb_some words n i h near word bound is_set above = record {
 pub place_fits : (n i : ℕ) → n < 2 ^ 64 → i < n / 64 → i * 64 + 63 < 2 ^ 64
 place_fits n i l b = let sn = split n in omega (arith, sn.0, sn.1)
 
-pub climb_none : (words : List ℕ) (n : ℕ) → ((q : ℕ) → q < n → Has words q → q / 64 < n / 64) → HasNoWord words (n / 64) → HasNone words n
-climb_none words n near none q l h = some_word words q h (none (q / 64) (near q l h))
-
 -- the row above tells which words have a bit
 pub told_some : (low high : List ℕ) (m i : ℕ) → Sums low high → IsLast high m i → IsLastWord low m i
 told_some low high m i s last = record {
@@ -101,12 +60,6 @@ told_some low high m i s last = record {
   some = s.tells i last.has;
   greatest = λ j l some. last.greatest j l (s.told j some);
 }
-
-pub told_none : (low high : List ℕ) (m : ℕ) → Sums low high → HasNone high m → HasNoWord low m
-told_none low high m s none j l = elim (cases_eq (get_or low j 0) 0) [
-  | inl e ↦ e
-  | inr ne ↦ absurd (none j l (s.told j ne))
-]
 
 -- ---- a number more
 
@@ -182,13 +135,6 @@ sums_marked low high low2 high2 n s a b = record {
 
 -- ---- more room
 
-pub get_or-zeros : (xs : List ℕ) (k i : ℕ) → get_or (xs ++ replicate k 0) i 0 ≡ get_or xs i 0
-get_or-zeros [] zero i = refl
-get_or-zeros [] (suc k) zero = refl
-get_or-zeros [] (suc k) (suc i) = get_or-zeros [] k i
-get_or-zeros (x ∷ xs) k zero = refl
-get_or-zeros (x ∷ xs) k (suc i) = get_or-zeros xs k i
-
 has_same : (old new : List ℕ) (n : ℕ) → SameMarks old new → Has old n → Has new n
 has_same old new n s h = ap (λ (x : ℕ). bit_at x (n % 64)) (s (n / 64)) ∙ h
 
@@ -202,7 +148,3 @@ sums_grown low high low2 high2 s a b fits = record {
 -- a row that has grown to m + 1 words has room above
 pub room_above : (low low2 high high2 m : ℕ) → low2 ≤ max low (m + 1) → low ≤ 64 * high → high ≤ high2 → m / 64 + 1 ≤ high2 → low2 ≤ 64 * high2
 room_above low low2 high high2 m p q r s = let sm = split m in omega (arith, sm.0, sm.1)
-
--- and a number has its place in the row above
-pub place_above : (low high n : ℕ) → n / 64 < low → low ≤ 64 * high → n / 64 / 64 < high
-place_above low high n p q = let sm = split (n / 64) in omega (arith, sm.0, sm.1)

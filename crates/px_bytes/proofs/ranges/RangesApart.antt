@@ -11,7 +11,7 @@ use Rattle.std.specs.declared.cmp.Ordering.TheVariants.{Less, Equal, Greater}
 use Rattle.std.specs.Map.{lookup}
 use Rattle.std.specs.BTreeMap.{is_at}
 use Rattle.px_bytes.specs.Held.{Holds, Takes, IsFree, IsTaken, AreApart}
-use Rattle.px_bytes.specs.calls.Marks.{Has, HasNone, IsLast, SameMarks, MarkedAt}
+use Rattle.px_bytes.specs.calls.Marks.{Has, IsLast, SameMarks, MarkedAt}
 use Rattle.px_bytes.specs.calls.Marked.{Marked, has, end_from, told_before, told}
 
 one_end : (held : List (ℕ × ℕ)) (s e t f : ℕ) → Holds held s e → Holds held t f → s ≡ t → e ≡ f
@@ -21,13 +21,6 @@ one_end held s e t f p q same =
     cc
 
 -- ---- the last mark below `end` decides
-
--- with no mark there, no range starts there
-pub free_none : (held : List (ℕ × ℕ)) (words : List ℕ) (start end : ℕ) → Marked held words → HasNone words (end * 2) → IsFree held start end
-free_none held words start end m none s e holds = elim (cases_lt s end) [
-  | inl early ↦ absurd (none (2 * s + 1) (omega arith) (m.start s e holds))
-  | inr late ↦ omega arith
-]
 
 -- behind an end, at or before `start`, no range begins before `end`
 pub free_end : (held : List (ℕ × ℕ)) (words : List ℕ) (start end p : ℕ) → AreApart held → Marked held words → IsLast words (end * 2) (2 * p) → p ≤ start → IsFree held start end
@@ -283,14 +276,6 @@ pub apart_none : AreApart []
 apart_none = record {
   not_empty = λ s e h. let clash : None ≡ Some e = h in absurd (cc);
   apart = λ s e t f h k l. let clash : None ≡ Some e = h in absurd (cc);
-}
-
-pub marked_none : Marked [] []
-marked_none = record {
-  start = λ s e h. let clash : None ≡ Some e = h in absurd (cc);
-  end = λ s e h. let clash : None ≡ Some e = h in absurd (cc);
-  started = λ s h. let clear = bit_at-zero ((2 * s + 1) % 64) in absurd (omega (arith, h, clear));
-  ended = λ e h. let clear = bit_at-zero ((2 * e) % 64) in absurd (omega (arith, h, clear));
 }
 
 -- ---- room without a mark

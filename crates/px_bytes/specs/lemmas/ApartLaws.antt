@@ -1,8 +1,8 @@
 -- Ranges that share no byte: the test, and how much they take.
-use Rattle.std.proofs.Common.{◌≡◌, ℕ, zero, suc, ◌+◌, ◌-◌, ◌<◌, ◌≤◌, inl, inr, max, min, Bool, true, false, not, ◌&&◌, nat_lt, nat_le, List, [], ◌∷◌, ◌++◌, refl, sym, ap, ◌∙◌, subst, arith, ltb-true, lt-ltb}
+use Rattle.std.proofs.Common.{◌≡◌, ℕ, zero, suc, ◌+◌, ◌-◌, ◌<◌, ◌≤◌, inl, inr, max, min, Bool, true, false, not, ◌&&◌, nat_lt, List, [], ◌∷◌, ◌++◌, refl, sym, ap, ◌∙◌, subst, arith, ltb-true, lt-ltb}
 use Rattle.std.specs.List.{AllByRecursion}
 use Rattle.std.proofs.lemmas.Bool.{and_parts, and_from, not-true, not_from_false, both_ways, cases_lt, false_from_ne_true}
-use Rattle.px_bytes.specs.Range.{Range, range, IsIn, Apart, AllApart, shares, is_free, all_apart, SameFree}
+use Rattle.px_bytes.specs.Range.{Range, range, IsIn, Apart, AllApart, shares, is_free, SameFree}
 
 -- ---- the test
 
@@ -32,11 +32,6 @@ pub apart_each : (r : Range) (rs : List Range) → is_free rs r ≡ true → All
 apart_each r [] e = tt
 apart_each r (s ∷ rs) e = (apart_from_test r s (and_parts _ _ e).0, apart_each r rs (and_parts _ _ e).1)
 
--- the same of all of a list
-pub all_apart_from_test : (rs : List Range) → all_apart rs ≡ true → AllApart rs
-all_apart_from_test [] e = tt
-all_apart_from_test (r ∷ rs) e = (apart_each r rs (and_parts _ _ e).0, all_apart_from_test rs (and_parts _ _ e).1)
-
 -- and back: ranges that share a byte by the test have one
 pub test_from_apart : (r s : Range) → Apart r s → not (shares r s) ≡ true
 test_from_apart r s a = not_from_false (shares r s) (false_from_ne_true (shares r s) (λ e.
@@ -52,16 +47,6 @@ test_from_apart r s a = not_from_false (shares r s) (false_from_ne_true (shares 
       | inr l ↦ a r.start (omega arith, omega arith) (omega arith, omega arith)
     ]))
 
--- a range that is apart from each is free
-pub free_from_apart : (r : Range) (rs : List Range) → AllByRecursion (Apart r) rs → is_free rs r ≡ true
-free_from_apart r [] h = refl
-free_from_apart r (s ∷ rs) h = and_from _ _ (test_from_apart r s h.0) (free_from_apart r rs h.1)
-
--- and all of a list by the test
-pub test_from_all_apart : (rs : List Range) → AllApart rs → all_apart rs ≡ true
-test_from_all_apart [] h = refl
-test_from_all_apart (r ∷ rs) h = and_from _ _ (free_from_apart r rs h.0) (test_from_all_apart rs h.1)
-
 -- ---- what lists leave free
 
 -- what is free of both of two lists
@@ -72,16 +57,6 @@ is_free-append (x ∷ xs) ys r = ap (λ (t : Bool). not (shares r x) && t) (is_f
     regroup : (p q t : Bool) → (p && (q && t)) ≡ ((p && q) && t)
     regroup true q t = refl
     regroup false q t = refl
-
--- the order of two lists is all one
-pub same_swapped : (xs ys : List Range) → SameFree (xs ++ ys) (ys ++ xs)
-same_swapped xs ys s n = is_free-append xs ys (range s n) ∙ swap (is_free xs (range s n)) (is_free ys (range s n)) ∙ sym (is_free-append ys xs (range s n))
-  where
-    swap : (p q : Bool) → (p && q) ≡ (q && p)
-    swap true true = refl
-    swap true false = refl
-    swap false true = refl
-    swap false false = refl
 
 -- one range between two lists, and in front of them
 pub same_front : (x : Range) (xs ys : List Range) → SameFree (xs ++ (x ∷ ys)) (x ∷ (xs ++ ys))
@@ -97,9 +72,6 @@ same_front x xs ys s n =
 
 pub same_refl : (xs : List Range) → SameFree xs xs
 same_refl xs s n = refl
-
-pub same_turned : (xs ys : List Range) → SameFree xs ys → SameFree ys xs
-same_turned xs ys h s n = sym (h s n)
 
 pub same_trans : (xs ys zs : List Range) → SameFree xs ys → SameFree ys zs → SameFree xs zs
 same_trans xs ys zs h k s n = h s n ∙ k s n
@@ -117,9 +89,6 @@ below n r = min n (r.start + r.size) - min n r.start
 abbrev all_below : ℕ → List Range → ℕ
 all_below n [] = 0
 all_below n (r ∷ rs) = below n r + all_below n rs
-
-abbrev in_range : ℕ → Range → Bool
-in_range p r = nat_le r.start p && nat_lt p (r.start + r.size)
 
 none_here : (n : ℕ) (rs : List Range) → AllByRecursion (λ r. IsIn n r → ⊥) rs → all_below (suc n) rs ≡ all_below n rs
 none_here n [] h = refl

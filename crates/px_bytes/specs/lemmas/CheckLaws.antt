@@ -46,16 +46,6 @@ pub Refuses-none : (e : Refusal) (xs ys : List Check) → first_false xs ≡ Non
 Refuses-none (Content cause place) xs ys h r = let clash : ◌≡◌ {A = Option (Cause × ℕ)} None (Some (cause, place)) = sym h ∙ r in absurd (cc)
 Refuses-none OutOfMemory xs ys h r = tt
 
--- a judgement by more checks, behind true ones
-pub Judges-behind : {X : Type 0} (r : Result X Refusal) (xs ys : List Check) (good : X → Type 0) → first_false xs ≡ None → Judges r ys good → Judges r (xs ++ ys) good
-Judges-behind (Ok x) xs ys good h j = (all_true xs ys h j.0, j.1)
-Judges-behind (Err e) xs ys good h j = Refuses-behind e xs ys h j
-
--- and one by checks with the same first false one
-pub Judges-same : {X : Type 0} (r : Result X Refusal) (xs ys : List Check) (good : X → Type 0) → first_false xs ≡ first_false ys → Judges r xs good → Judges r ys good
-Judges-same (Ok x) xs ys good same j = (sym same ∙ j.0, j.1)
-Judges-same (Err e) xs ys good same j = Refuses-same e xs ys same j
-
 -- what holds of one answer holds of the other
 pub Judges-good : {X : Type 0} (r : Result X Refusal) (xs : List Check) (good fine : X → Type 0) → ((x : X) → good x → fine x) → Judges r xs good → Judges r xs fine
 Judges-good (Ok x) xs good fine f j = (j.0, f x j.1)

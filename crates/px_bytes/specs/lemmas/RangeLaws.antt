@@ -1,7 +1,7 @@
 -- A list of ranges and the ranges that are held.
-use Rattle.std.proofs.Common.{subst, [], refl, None, Some, ◌≡◌, ℕ, ◌+◌, ◌≤◌, ◌<◌, inl, inr, min, max, true, false, not, ◌&&◌, nat_lt, List, ◌∷◌, sym, ◌∙◌, arith, ltb-true, lt-ltb}
+use Rattle.std.proofs.Common.{subst, [], refl, None, Some, ◌≡◌, ℕ, ◌+◌, ◌≤◌, ◌<◌, inl, inr, min, max, true, not, ◌&&◌, nat_lt, List, ◌∷◌, sym, ◌∙◌, arith, ltb-true, lt-ltb}
 use Rattle.std.proofs.lemmas.Bool.{and_parts, and_from, not-true, not_from_false, both_ways, cases_lt, false_from_ne_true}
-use Rattle.px_bytes.specs.Held.{Holds, AreApartAt, IsFree, IsTaken, Takes}
+use Rattle.px_bytes.specs.Held.{Holds, IsFree, Takes}
 use Rattle.px_bytes.specs.Range.{Range, range, shares, is_free, SameFree, Agrees}
 
 -- ranges that do not share a byte, as one fact on numbers
@@ -24,22 +24,9 @@ test_from_gap s n t m l = not_from_false _ (false_from_ne_true (shares (range s 
     let n4 : t < s + n = ltb-true _ _ h.1 in
     omega arith))
 
--- no byte lies in both exactly where no number is in both
-pub gap-byte : (a b c d p : ℕ) → AreApartAt a b c d → a ≤ p → p < b → c ≤ p → p < d → ⊥
-gap-byte a b c d p h l1 l2 l3 l4 = absurd (omega arith)
-
-pub byte-gap : (a b c d : ℕ) → ((p : ℕ) → a ≤ p → p < b → c ≤ p → p < d → ⊥) → AreApartAt a b c d
-byte-gap a b c d h = elim (cases_lt (max a c) (min b d)) [
-  | inl l ↦ absurd (h (max a c) (omega arith) (omega arith) (omega arith) (omega arith))
-  | inr l ↦ l
-]
-
 -- what is free or taken is so in the list
 pub is_free-free : (taken : List Range) (held : List (ℕ × ℕ)) (s n : ℕ) → Agrees taken held → IsFree held s (s + n) → is_free taken (range s n) ≡ true
 is_free-free taken held s n a h = a.all_free s n h
-
-pub is_free-taken : (taken : List Range) (held : List (ℕ × ℕ)) (s n : ℕ) → Agrees taken held → IsTaken held s (s + n) → is_free taken (range s n) ≡ false
-is_free-taken taken held s n a (t, e, holds, l) = false_from_ne_true _ (λ h. let k = a.free s n h t e holds in omega arith)
 
 -- one more range
 pub agrees-takes : (taken : List Range) (old new : List (ℕ × ℕ)) (s n : ℕ) → Agrees taken old → Takes old new s (s + n) → Agrees (range s n ∷ taken) new
@@ -50,13 +37,6 @@ agrees-takes taken old new s n a k = record {
         | inr q ↦ a.free t m p.1 u e q
       ];
   all_free = λ t m h. and_from _ _ (test_from_gap t m s n (let g = h s (s + n) k.here in omega arith)) (a.all_free t m (λ u e holds. h u e (k.kept u e holds)));
-}
-
--- an empty one
-pub agrees-empty : (taken : List Range) (old : List (ℕ × ℕ)) (s n : ℕ) → Agrees taken old → n ≡ 0 → Agrees (range s n ∷ taken) old
-agrees-empty taken old s n a z = record {
-  free = λ t m h. a.free t m (and_parts _ _ h).1;
-  all_free = λ t m h. and_from _ _ (test_from_gap t m s n (omega arith)) (a.all_free t m h);
 }
 
 -- lists that leave the same free agree with the same

@@ -1,8 +1,8 @@
 -- Laws of the numbers of types.
-use Rattle.std.proofs.Common.{◌≡◌, ℕ, ◌<◌, ◌^◌, ◌==◌, Bool, true, false, if◌then◌else◌, find, Some, List, [], ◌∷◌, refl, arith, rules, tests}
+use Rattle.std.proofs.Common.{◌≡◌, ◌<◌, ◌^◌, Some, refl, arith}
 use Rattle.px_field.specs.declared.forms.Form.{Form}
 use Rattle.px_field.specs.declared.forms.Form.TheVariants.{Byte, Ascii, Short, Long, Rational, SByte, Undefined, SShort, SLong, SRational, Float, Double, Utf8}
-use Rattle.px_field.specs.Forms.{code, form_of, forms}
+use Rattle.px_field.specs.Forms.{code, form_of}
 
 -- the type of a type's number is that type
 pub form_of-code : (f : Form) → form_of (code f) ≡ Some f
@@ -36,16 +36,3 @@ code-lt SRational = omega arith
 code-lt Float = omega arith
 code-lt Double = omega arith
 code-lt Utf8 = omega arith
-
-found : {A : Type 0} (p : A → Bool) (xs : List A) (x : A) → find p xs ≡ Some x → p x ≡ true
-found p [] x h = absurd (cc)
-found {A} p (y ∷ ys) x h =
-    (elim (p y) as (λ b. p y ≡ b → (if b then Some y else find p ys) ≡ Some x → p x ≡ true) [
-      | true ↦ λ e k. let same : y ≡ x = cc in rw (← same) e
-      | false ↦ λ e k. found p ys x k
-    ]) refl h
-
--- a type that a number has, has that number
-pub code-form_of : (n : ℕ) (f : Form) → form_of n ≡ Some f → code f ≡ n
-unfolding form_of
-code-form_of n f h = let e : (code f == n) ≡ true = found (λ g. code g == n) forms f h in search (rules, tests)

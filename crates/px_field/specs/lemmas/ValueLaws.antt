@@ -187,20 +187,8 @@ whole_in-elements o f n x h = ap (λ (m : ℕ). record { kind = kind.Whole; elem
 pub whole-times : (f : Form) (n : ℕ) (x : List ℕ) → n * size f ≡ length x → length x % size f ≡ 0
 whole-times f n x h = ap (λ (m : ℕ). m % size f) (sym h) ∙ mul-mod_left n (size f)
 
--- a value that is read is spelled by as many bytes as were read, in either order
-pub length-value_in : (o p : Order) (f : Form) (x : List ℕ) → length x % size f ≡ 0 → AreBytes x → length (spelled p (value_in o f x)) ≡ length x
-length-value_in o p f x whole h =
-    length-spelled p (value_in o f x) (IsValue-value_in o f x h) ∙ ap (λ (n : ℕ). n * size f) (length-elements o f (count_in f x) x) ∙ count_in-whole f x whole
-
 -- four bytes for each whole number are at most twice as many as were read
 pub count_in-bound : (f : Form) (x : List ℕ) → IsWhole f → 4 * count_in f x ≤ 2 * length x
 count_in-bound form.Short x h = omega arith
 count_in-bound form.Long x h = omega arith
 count_in-bound _ x h = absurd h
-
--- a whole number by at most twice as many
-pub length-whole_in : (o p : Order) (f : Form) (x : List ℕ) → IsWhole f → AreBytes x → length (spelled p (whole_in o f x)) ≤ 2 * length x
-length-whole_in o p f x w h =
-    let len : length (spelled p (whole_in o f x)) ≡ length (map widened (elements o f (count_in f x) x)) * 4 = length-spelled p (whole_in o f x) (IsValue-whole_in o f x w h) in
-    let count : length (map widened (elements o f (count_in f x) x)) ≡ count_in f x = length-map (elements o f (count_in f x) x) widened ∙ length-elements o f (count_in f x) x in
-    omega (arith, count_in-bound f x w, len, count)

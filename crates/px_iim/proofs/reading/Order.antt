@@ -12,9 +12,6 @@ use Rattle.px_iim.specs.lemmas.RecordLaws.{IsGood, put_groups}
 pub whole_put : (d : DataSet) → IsGood d → (gs : Record) → AreGroups gs → AreGroups (put d gs)
 whole_put d good gs a = record { ascending = put_ascends d gs a.ascending; groups = put_groups d gs good a.groups }
 
-pub whole_none : AreGroups []
-whole_none = record { ascending = tt; groups = tt }
-
 -- ---- there are at most 65,536 groups
 
 named_byte : (r n : ℕ) → n < 256 → named r n < 256

@@ -2,17 +2,13 @@
 use Rattle.std.proofs.Common.{◌≡◌, ℕ, ◌+◌, ◌<◌, ◌≤◌, ◌==◌, zero, suc, nat_lt, true, false, ◌&&◌, ◌||◌, List, [], ◌∷◌, ◌++◌, length, get_or, slice_index, map, sym, ap, ◌∙◌, arith}
 use Rattle.std.proofs.Common.{set}
 use Rattle.std.specs.List.{insert}
-use Rattle.std.proofs.lemmas.List.{get_or-map, length-map, map-set, set-get_or}
+use Rattle.std.proofs.lemmas.List.{length-map, map-set, set-get_or}
 use Rattle.std.proofs.lemmas.Bool.{cond-true, cond-false}
 use Rattle.std.proofs.lemmas.Bool.Decides.{nat_tests}
 use borrow.Author.Count.{below_more as below_more_at}
 use Rattle.px_iim.specs.declared.group.Group.{Group as CodeGroup}
 use Rattle.px_iim.specs.Group.{Group, Record, named, put, is_at, is_before}
 use Rattle.px_iim.specs.calls.View.{item_view, group_view, groups_view, numbers, IsBelow}
-
--- the number of the group at a place
-pub numbers_at : (gs : List CodeGroup) (i : ℕ) (g : CodeGroup) → i < length gs → g ≡ get_or gs i g → slice_index (numbers gs) i ≡ g.number
-numbers_at gs i g h e = get_or-map (λ (x : CodeGroup). x.number) gs i g 0 h ∙ ap (λ (x : CodeGroup). x.number) (sym e)
 
 -- tests on numbers
 same : (r x n : ℕ) → x ≡ n → ((r == r) && (x == n)) ≡ true

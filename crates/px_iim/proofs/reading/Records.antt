@@ -49,10 +49,6 @@ put_within d (x ∷ xs) ys a =
     out false true p q t ys = refl
     out false false p q t ys = refl
 
-same_rec : (r : ℕ) (gs : List CodeGroup) → AllByRecursion (λ g. g.rec ≡ r) (groups_view r gs)
-same_rec r [] = tt
-same_rec r (g ∷ gs) = (refl, same_rec r gs)
-
 lesser : (r s : ℕ) (gs : List CodeGroup) → r < s → AllByRecursion (λ g. g.rec < s) (groups_view r gs)
 lesser r s [] l = tt
 lesser r s (g ∷ gs) l = (l, lesser r s gs l)

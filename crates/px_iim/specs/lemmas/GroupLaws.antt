@@ -10,9 +10,6 @@ use Rattle.px_iim.specs.lemmas.KeyLaws.{at_parts, at_true, at_false, before_tran
 abbrev pub Item : Type 0
 Item = ℕ × List ℕ
 
-pub item : DataSet → Item
-item d = (d.number, d.octets)
-
 -- ---- a DataSet put
 
 abbrev pub new_group : DataSet → Group

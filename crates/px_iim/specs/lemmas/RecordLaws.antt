@@ -57,10 +57,6 @@ computed_said x i e = elim (cases_Bool (nat_le (length x) limit)) [
 pub computes : Computes
 computes x i = (said_computed x i, computed_said x i)
 
--- what computes to nothing says nothing
-pub computed_unsaid : (x : List ℕ) → iim_of x ≡ None → (i : Record) → SaysIim x i → ⊥
-computed_unsaid x e i s = let clash : Some i ≡ None = sym (said_computed x i s) ∙ e in absurd (cc)
-
 -- ---- one record
 
 pub one_record : OneRecord

@@ -1,39 +1,13 @@
 -- What a scan of a block keeps: the DataSets so far, the octets left, and the checks that they have.
-use Rattle.std.proofs.Common.{◌≡◌, ◌<◌, ◌≤◌, ◌+◌, ℕ, zero, suc, true, false, inl, inr, refl, sym, ap, ◌∙◌, arith, le-leb, None, List, [], ◌∷◌, ◌++◌, length, drop, length-drop, append-nil}
+use Rattle.std.proofs.Common.{◌≡◌, ◌<◌, ◌≤◌, ◌+◌, ℕ, zero, suc, true, false, inl, inr, sym, ap, ◌∙◌, arith, le-leb, None, List, [], ◌++◌, length, drop, length-drop, append-nil}
 use Rattle.std.proofs.lemmas.Bool.{cond-true, cond-false, cases_Bool}
 use Rattle.px_bytes.specs.Checks.{Check, first_false}
 use Rattle.px_bytes.specs.lemmas.CheckLaws.{first_false-true}
 use Rattle.px_bytes.specs.Parts.{limit}
-use Rattle.px_iim.specs.DataSet.{DataSet}
-use Rattle.px_iim.specs.Group.{Record, put, gather}
-use Rattle.px_iim.specs.Record.{SaysIim, extra, size, is_dataset, is_end}
-use Rattle.px_iim.specs.Check.{dataset_checks, checks_from, iim_checks, Behind}
-use Rattle.px_iim.specs.lemmas.GatherLaws.{gathers}
+use Rattle.px_iim.specs.Record.{extra, size, is_dataset, is_end}
+use Rattle.px_iim.specs.Check.{dataset_checks, checks_from, iim_checks}
 use Rattle.px_iim.specs.lemmas.SpellingLaws.{dataset_holds}
-use Rattle.px_iim.specs.lemmas.SequenceLaws.{end_parts}
 use Rattle.px_iim.specs.lemmas.FaultLaws.{checks_behind, checks_step, behind_end, behind_more}
-
--- one more DataSet behind those gathered
-pub gather_push : (ds : List DataSet) (d : DataSet) (i : Record) → gather i (ds ++ d ∷ []) ≡ put d (gather i ds)
-unfolding gather
-gather_push [] d i = refl
-gather_push (e ∷ ds) d i = gather_push ds d (put e i)
-
--- behind some DataSets the block's end: it says what was gathered of them
-pub behind_says : (x : List ℕ) (ds : List DataSet) (rest : List ℕ) (p : ℕ) → Behind x ds rest p → length x ≤ limit → 1 ≤ length ds → is_end rest ≡ true → SaysIim x (gather [] ds)
-behind_says x ds rest p b l s e =
-    let z = end_parts rest e in record {
-      bounded = l;
-      sequence = ds;
-      some = s;
-      spelled = b.front;
-      zeros = rest;
-      whole = b.whole;
-      spells = b.spells;
-      short = z.0;
-      blank = z.1;
-      gathered = gathers ds;
-    }
 
 -- ---- the checks of the octets left
 

@@ -20,16 +20,6 @@ use Rattle.px_tree.specs.calls.Uses.{Sees, link_as}
 use Rattle.px_tree.specs.calls.Linked.{AreUsesAt, IsRead, Names, offsets_of, next_place}
 
 module _ (b : List ℕ) (o : Order) (d : Dir) where
-  -- no such directory
-  pub none_checks : (earlier : List ℕ) (taken : List Range) → dir_at b o d ≡ None → checks_at b o earlier taken d (dir_at b o d) ≡ []
-  none_checks earlier taken h = ap (λ (x : Option ℕ). checks_at b o earlier taken d x) h
-
-  pub none_ranges : dir_at b o d ≡ None → ranges_at b o d ≡ []
-  none_ranges h = ap (λ (x : Option ℕ). listed (option_map (dir_ranges b o) x)) h
-
-  pub none_fields : dir_at b o d ≡ None → fields_at b o d ≡ None
-  none_fields h = ap (λ (x : Option ℕ). option_map (fields b o d) x) h
-
   -- one that a link names
   module _ (link : Link) (n : Names b o d (Some link)) where
     pub some_checks : (earlier : List ℕ) (taken : List Range) → checks_at b o earlier taken d (dir_at b o d) ≡ dir_checks b o earlier taken link.place d link.at

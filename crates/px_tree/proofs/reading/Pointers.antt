@@ -1,12 +1,12 @@
 -- Where entries are found.
-use Rattle.std.proofs.Common.{◌≡◌, ℕ, zero, suc, ◌+◌, ◌-◌, ◌*◌, ◌==◌, ◌&&◌, Bool, true, false, if◌then◌else◌, List, None, Some, option_map, drop, length, refl, ap, ap₂, ◌∙◌, arith}
+use Rattle.std.proofs.Common.{◌≡◌, ℕ, zero, suc, ◌+◌, ◌-◌, ◌*◌, ◌==◌, ◌&&◌, Bool, true, false, if◌then◌else◌, List, None, Some, drop, length, refl, ap, ap₂, ◌∙◌, arith}
 use Rattle.std.specs.Prelude.{find}
 use Rattle.px_bytes.specs.declared.Order.{Order}
 use Rattle.px_bytes.specs.Parts.{part}
 use Rattle.px_bytes.specs.lemmas.PartLaws.{drop-part}
 use Rattle.px_tree.specs.declared.entries.Head.{Head}
-use Rattle.px_tree.specs.Entry.{Entry, entry, long, next, table, table_size, offset}
-use Rattle.px_tree.specs.Directory.{entries_at, is_pointer, pointer}
+use Rattle.px_tree.specs.Entry.{Entry, entry, long, next, table, table_size}
+use Rattle.px_tree.specs.Directory.{entries_at, is_pointer}
 use Rattle.px_tree.specs.Checks.{place_of}
 use Rattle.px_tree.specs.calls.Reading.{HasTable, Shows, bare, entries_from}
 use Rattle.px_tree.proofs.reading.Standing.{entries_at-is, table-is, count-is}
@@ -36,16 +36,6 @@ pub find_none : (b : List ℕ) (o : Order) (test : Entry → Bool) (p n : ℕ) �
 find_none b o test p n z = ap (λ (k : ℕ). find test (entries_from b o p k)) z
 
 module _ (b : List ℕ) (o : Order) (a n : ℕ) (s : HasTable b o a n) where
-  pub pointer-is : (t : ℕ) → pointer o t (entries_at b o a) ≡ option_map (offset o) (find (is_pointer t) (entries_from b o (a + 2) n))
-  unfolding pointer
-  pointer-is t = ap (λ (es : List Entry). option_map (offset o) (find (is_pointer t) es)) (entries_at-is b o a n s)
-
-  pub find-is : (test : Entry → Bool) → find test (entries_at b o a) ≡ find test (entries_from b o (a + 2) n)
-  find-is test = ap (λ (es : List Entry). find test es) (entries_at-is b o a n s)
-
-  pub place_of-is : (test : Entry → Bool) → place_of test (a + 2) (entries_at b o a) ≡ place_of test (a + 2) (entries_from b o (a + 2) n)
-  place_of-is test = ap (place_of test (a + 2)) (entries_at-is b o a n s)
-
   length_from : (p k : ℕ) → length (entries_from b o p k) ≡ k
   length_from p zero = refl
   length_from p (suc k) = ap suc (length_from (p + 12) k)

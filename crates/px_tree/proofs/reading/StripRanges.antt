@@ -1,5 +1,5 @@
 -- Ranges judged one by one.
-use Rattle.std.proofs.Common.{◌≡◌, ℕ, zero, suc, ◌+◌, ◌≤◌, List, [], ◌∷◌, ◌++◌, None, Some, map, drop, length, refl, sym, ap, ◌∙◌, arith, nat_le, append_assoc, slice_get}
+use Rattle.std.proofs.Common.{◌≡◌, ℕ, zero, suc, ◌+◌, List, [], ◌∷◌, ◌++◌, None, Some, map, drop, length, sym, ap, ◌∙◌, arith, nat_le, append_assoc, slice_get}
 use Rattle.px_bytes.specs.declared.Refusal.{Refusal}
 use Rattle.px_bytes.specs.declared.Cause.TheVariants.{Overlap, ThumbnailOutside}
 use Rattle.px_bytes.specs.Range.{Range, range, is_free, Agrees}
@@ -17,19 +17,6 @@ ranges-next xs ns i x n h k = go xs ns i h k ∙ (let e : suc i ≡ i + 1 = omeg
     go (y ∷ xs) [] i h k = cc
     go (y ∷ xs) (m ∷ ns) zero h k = let p : y ≡ x = cc in let q : m ≡ n = cc in cc
     go (y ∷ xs) (m ∷ ns) (suc i) h k = go xs ns i h k
-
-pub ranges-end : (xs ns : List ℕ) (i : ℕ) → length xs ≤ i → ranges_of (drop i xs) (drop i ns) ≡ []
-ranges-end [] ns zero l = refl
-ranges-end [] ns (suc i) l = refl
-ranges-end (x ∷ xs) ns zero l = absurd (omega arith)
-ranges-end (x ∷ xs) [] (suc i) l = none xs i (omega arith)
-  where
-    none : (xs : List ℕ) (i : ℕ) → length xs ≤ i → ranges_of (drop i xs) [] ≡ []
-    none [] zero l = refl
-    none [] (suc i) l = refl
-    none (x ∷ xs) zero l = refl
-    none (x ∷ xs) (suc i) l = none xs i (omega arith)
-ranges-end (x ∷ xs) (n ∷ ns) (suc i) l = ranges-end xs ns i (omega arith)
 
 abbrev pub range_check : List ℕ → ℕ → List Range → Range → List Check
 range_check b p now r = check ThumbnailOutside p (nat_le (r.start + r.size) (length b)) ∷ check Overlap p (is_free now r) ∷ []

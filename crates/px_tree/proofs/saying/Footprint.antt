@@ -48,10 +48,6 @@ filter_map-same : {X Z : Type 0} (g h : X → Option Z) (xs : List X) → AllByR
 filter_map-same g h [] e = refl
 filter_map-same g h (x ∷ xs) e = ap₂ cons_option e.0 (filter_map-same g h xs e.1)
 
-map-same : {X Z : Type 0} (g h : X → Z) (xs : List X) → AllByRecursion (λ x. g x ≡ h x) xs → map g xs ≡ map h xs
-map-same g h [] e = refl
-map-same g h (x ∷ xs) e = ap₂ (λ y ys. y ∷ ys) e.0 (map-same g h xs e.1)
-
 -- what holds of each range holds of each placed value's
 each_placed : (P : Range → Type 0) (o : Order) (es : List Entry) → AllByRecursion P (filter_map (placed_range o) es) → AllByRecursion (λ e. is_placed e ≡ true → P (range (offset o e) (raw_size e))) es
 unfolding placed_range

@@ -15,10 +15,6 @@ pub record Fresh (held rs : List Range) : Type 0 where
   pub clear : Clear held rs
   pub apart : AllApart rs
 
-clear_turned : (r : Range) (rs : List Range) → AllByRecursion (Apart r) rs → Clear (r ∷ []) rs
-clear_turned r [] h = tt
-clear_turned r (s ∷ rs) h = ((apart_turned r s h.0, tt), clear_turned r rs h.1)
-
 unturned : (r : Range) (held rs : List Range) → Clear (r ∷ held) rs → AllByRecursion (Apart r) rs
 unturned r held [] h = tt
 unturned r held (s ∷ rs) h = (apart_turned s r h.0.0, unturned r held rs h.1)
@@ -28,16 +24,6 @@ fresh_cons held r rs a f = record {
   clear = (a, each_map (λ s. AllByRecursion (Apart s) (r ∷ held)) (λ s. AllByRecursion (Apart s) held) (λ s h. h.1) rs f.clear);
   apart = (unturned r held rs f.clear, f.apart);
 }
-
-pub fresh_head : (held : List Range) (r : Range) (rs : List Range) → Fresh held (r ∷ rs) → AllByRecursion (Apart r) held
-fresh_head held r rs f = f.clear.0
-
-pub fresh_tail : (held : List Range) (r : Range) (rs : List Range) → Fresh held (r ∷ rs) → Fresh (r ∷ held) rs
-fresh_tail held r rs f = record { clear = both rs f.apart.0 f.clear.1; apart = f.apart.1 }
-  where
-    both : (rs : List Range) → AllByRecursion (Apart r) rs → Clear held rs → Clear (r ∷ held) rs
-    both [] h k = tt
-    both (s ∷ rs) h k = ((apart_turned r s h.0, k.0), both rs h.1 k.1)
 
 apart_append : (rs ss : List Range) → AllApart rs → AllApart ss → Clear rs ss → AllApart (rs ++ ss)
 apart_append [] ss a b c = b
@@ -83,6 +69,3 @@ fresh_nil held = record { clear = tt; apart = tt }
 
 pub fresh_all : (h : Range) (rs : List Range) → Fresh (h ∷ []) rs → AllApart (h ∷ rs)
 fresh_all h rs f = (unturned h [] rs f.clear, f.apart)
-
-pub fresh_from : (h : Range) (rs : List Range) → AllApart (h ∷ rs) → Fresh (h ∷ []) rs
-fresh_from h rs a = record { clear = clear_turned h rs a.0; apart = a.1 }

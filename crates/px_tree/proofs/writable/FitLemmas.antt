@@ -1,5 +1,5 @@
 -- What is asked of fields.
-use Rattle.std.proofs.Common.{◌≡◌, ◌<◌, ◌+◌, ◌^◌, ℕ, Bool, zero, suc, true, false, List, [], ◌∷◌, map, flat_map, length, slice_get, Option, Some, None, refl, sym, ap, ◌∙◌, subst, inl, inr, arith, IsTrue, ◌↔◌, ◌==◌, eqb-true, eq-eqb}
+use Rattle.std.proofs.Common.{◌≡◌, ◌<◌, ◌+◌, ◌^◌, ℕ, Bool, suc, true, false, List, [], ◌∷◌, map, flat_map, length, slice_get, Option, Some, None, refl, sym, ap, ◌∙◌, subst, inl, inr, arith, IsTrue, ◌↔◌, ◌==◌, eqb-true, eq-eqb}
 use Rattle.std.specs.Prelude.{IfSome, is_some, not, option_copied}
 use Rattle.std.specs.Borrow.{Bor}
 use Rattle.std.specs.List.{AllByRecursion}
@@ -40,11 +40,6 @@ not_none_some (Some x) h = refl
 pub each_by_get : {X : Type 0} (P : X → Type 0) (xs : List X) → ((k : ℕ) (x : X) → k < length xs → slice_get xs k ≡ Some x → P x) → AllByRecursion P xs
 each_by_get P [] h = tt
 each_by_get P (x ∷ xs) h = (h 0 x (omega arith) refl, each_by_get P xs (λ k y below e. h (suc k) y (omega arith) e))
-
-pub get_from_each : {X : Type 0} (P : X → Type 0) (xs : List X) (k : ℕ) (x : X) → AllByRecursion P xs → slice_get xs k ≡ Some x → P x
-get_from_each P [] k x h e = let clash : None ≡ Some x = e in absurd (cc)
-get_from_each P (y ∷ ys) zero x h e = let one : Some y ≡ Some x = e in let same : y ≡ x = cc in subst P same h.0
-get_from_each P (y ∷ ys) (suc k) x h e = get_from_each P ys k x h.1 e
 
 -- a tag that is absent stands at no field
 pub absent_each : (t : ℕ) (fs : Fields) → at_tag t fs ≡ None → AllByRecursion (λ p. (p.0 ≡ t) → ⊥) fs

@@ -80,9 +80,6 @@ length-thumb_items t =
       one_of-map (λ _. AtJpeg) t.jpeg,
     )
 
-pub length-field_items : (fs : Fields) → length (field_items fs) ≡ length fs
-length-field_items fs = length-pairs fs
-
 -- the same of the program's values
 pub main_count : (m : declared_meaning.Meaning) → length (main_items (meaning_of m)) ≡ bit (is_some m.exif) + bit (is_some m.gps) + bit (is_some m.iptc) + length m.main
 main_count m = omega (arith, length-main_items (meaning_of m), one_of-map exif_of m.exif)

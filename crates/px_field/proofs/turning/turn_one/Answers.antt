@@ -1,4 +1,4 @@
-use Rattle.std.proofs.Common.{◌≡◌, take, arith, rules}
+use Rattle.std.proofs.Common.{arith, rules}
 use Rattle.px_field.proofs.TurnLaws.{ones}
 use Rattle.px_field.proofs.turning.turn_one.Goals as goal
 
