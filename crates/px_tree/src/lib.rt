@@ -43,6 +43,8 @@ mod tests;
 mod thumbnail;
 mod tree;
 mod uses;
+#[cfg(test)]
+mod worked_blocks;
 
 pub use fields::Fields;
 pub use fitting::fits;
