@@ -1,5 +1,6 @@
 -- Lemmas: proved here, and not to be read to know what is promised.
 pub mod EachLaws
+pub mod SameLaws
 pub mod ByteLaws
 pub mod NumberLaws
 pub mod PartLaws

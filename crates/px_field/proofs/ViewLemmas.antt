@@ -1,5 +1,5 @@
 -- What is seen of a value.
-use Rattle.std.proofs.Common.{◌≡◌, ◌<◌, ◌≤◌, ◌+◌, ◌*◌, ◌/◌, ◌%◌, ℕ, Bool, true, false, List, [], ◌∷◌, suc, length, map, flat_map, slice_get, Some, ap, subst, sym, ◌∙◌, refl, arith}
+use Rattle.std.proofs.Common.{◌≡◌, ◌<◌, ◌≤◌, ◌+◌, ◌*◌, ◌/◌, ◌%◌, ℕ, Bool, true, false, List, length, map, flat_map, slice_get, Some, ap, subst, sym, ◌∙◌, refl, arith}
 use Rattle.std.specs.Option.{option_map}
 use Rattle.std.proofs.Math.Nat.{div-mul-le_self, mul-le-mul_right}
 use Rattle.std.proofs.lemmas.List.{length-map}
@@ -38,16 +38,6 @@ IsValue-shown false o f raw whole are = IsValue-value_in o f raw are
 -- the element at i, where it is widened and where it isn't
 pub get-whole : (o : Order) (f : Form) (raw : List ℕ) (i : ℕ) (e : Element) → slice_get (elements o f (count_in f raw) raw) i ≡ Some e → slice_get (shown true o f raw).elements i ≡ Some (widened e)
 get-whole o f raw i e h = slice_get-map widened (elements o f (count_in f raw) raw) i ∙ ap (option_map widened) h
-
--- lists with the same elements are the same
-pub same_by_get : {A : Type 0} (xs ys : List A) → length xs ≡ length ys → ((k : ℕ) → k < length xs → slice_get xs k ≡ slice_get ys k) → xs ≡ ys
-same_by_get [] [] len h = refl
-same_by_get [] (y ∷ ys) len h = absurd (omega arith)
-same_by_get (x ∷ xs) [] len h = absurd (omega arith)
-same_by_get (x ∷ xs) (y ∷ ys) len h =
-    let head : Some x ≡ Some y = h 0 (omega arith) in
-    let tail : xs ≡ ys = same_by_get xs ys (omega arith) (λ k below. h (suc k) (omega arith)) in
-    cc
 
 -- the size of what is seen
 pub size-shown : (w : Bool) (o : Order) (f : Form) (raw : List ℕ) → length raw % size f ≡ 0 → w ≡ false → length (shown w o f raw).elements * size (form_in (shown w o f raw).kind) ≡ length raw

@@ -1,6 +1,7 @@
 // A record: its groups, and what they hold.
 ghost use Rattle.std.specs.Prelude.{◌≡◌, ◌==◌, ◌<◌, ◌≤◌, [], length, map, slice_get, Some, vec_len, OnOk, OnErr};
 ghost use Rattle.px_bytes.specs.Lacking.{Lacks};
+ghost use Rattle.px_bytes.specs.Parts.{limit};
 ghost use Rattle.px_iim.specs.Group.{named, put, items_at, AreGroups};
 ghost use Rattle.px_iim.specs.Record.{normal_iim};
 ghost use Rattle.px_iim.specs.calls.View.{item_view, records_view, part_view, octets_left, octets_of};
@@ -80,7 +81,7 @@ impl<'a> Iim<'a> {
     /// Puts a DataSet, of any record number and number and at most `LIMIT` octets of data, at the end of
     /// its group. It takes memory for it; where that is refused, nothing changes.
     pub fn push(&mut self, rec: u8, number: u8, octets: &'a [u8]) -> Result<(), AllocError>
-        requires { length octets.now ≤ 16777216 }
+        requires { length octets.now ≤ limit }
         ensures done { OnOk result (self.new ≡ put (record { rec = rec; number = number; octets = octets.now }) self.old) }
         ensures failed { OnErr result (self.new ≡ self.old) }
     {
@@ -98,7 +99,7 @@ impl<'a> Iim<'a> {
         number: u8,
         octets: &'a [u8],
     ) -> Result<(), Refused>
-        requires { length octets.now ≤ 16777216 }
+        requires { length octets.now ≤ limit }
         ensures done { OnOk result (self.new ≡ put (record { rec = rec; number = number; octets = octets.now }) self.old) }
         ensures failed { OnErr result (self.new ≡ self.old) }
         ensures memory { Lacks result memory.old memory.new }

@@ -1,5 +1,6 @@
 // The length of a normal form, counted DataSet by DataSet.
-ghost use Rattle.std.specs.Prelude.{◌≡◌, ◌≤◌, ◌+◌, ℕ, length, IfSome};
+ghost use Rattle.std.specs.Prelude.{◌≡◌, ◌*◌, ◌≤◌, ◌+◌, ℕ, length, IfSome};
+ghost use Rattle.px_bytes.specs.Parts.{limit};
 ghost use Rattle.px_iim.specs.Record.{normal_count, normal_dataset};
 ghost use Rattle.px_iim.specs.calls.View.{item_view};
 ghost use Rattle.px_iim.specs.Writing.{within};
@@ -24,8 +25,8 @@ fn head_len(count: u32) -> u32
 
 // A length with one more DataSet, where it is at most MOST.
 fn with_item(total: u32, item: &Item) -> Option<u32>
-    requires counted { total ≤ 33554432 }
-    requires short { length item.now.octets.now ≤ 16777216 }
+    requires counted { total ≤ 2 * limit }
+    requires short { length item.now.octets.now ≤ limit }
     ensures { result ≡ within (total + length (normal_dataset 0 (item_view item.now))) }
 {
     let len = item.octets.len() as u32;
@@ -38,8 +39,8 @@ fn with_item(total: u32, item: &Item) -> Option<u32>
 
 // The length of a normal form, counted up to MOST, with one more DataSet.
 pub(crate) fn longer(len: Option<u32>, item: &Item) -> Option<u32>
-    requires counted { IfSome len (λ total. total ≤ 33554432) }
-    requires short { length item.now.octets.now ≤ 16777216 }
+    requires counted { IfSome len (λ total. total ≤ 2 * limit) }
+    requires short { length item.now.octets.now ≤ limit }
     ensures { (n : ℕ) → len ≡ within n → result ≡ within (n + length (normal_dataset 0 (item_view item.now))) }
 {
     match len {

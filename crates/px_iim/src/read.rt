@@ -1,6 +1,7 @@
 // A whole block, read DataSet by DataSet.
 ghost use Rattle.std.specs.Prelude.{◌≡◌, ◌≤◌, Bool, length, Some, is_some, IfOk, IfErr};
 ghost use Rattle.px_bytes.specs.Checks.{Judges, LacksBlock};
+ghost use Rattle.px_bytes.specs.Parts.{limit};
 ghost use Rattle.px_iim.specs.Group.{IsRecord};
 ghost use Rattle.px_iim.specs.Record.{SaysIim, iim_of};
 ghost use Rattle.px_iim.specs.Check.{iim_checks};
@@ -14,7 +15,7 @@ use std::alloc::Global;
 // The DataSet at a place, or the refusal of it.
 fn dataset_at<'a>(bytes: &'a [u8], at: usize) -> Result<Found<'a>, Refusal>
     requires inside { at ≤ length bytes.now }
-    requires bounded { length bytes.now ≤ 16777216 }
+    requires bounded { length bytes.now ≤ limit }
     ensures { JudgesAt result bytes.now at }
 {
     match read_dataset(rest(bytes, at)) {
@@ -25,7 +26,7 @@ fn dataset_at<'a>(bytes: &'a [u8], at: usize) -> Result<Found<'a>, Refusal>
 
 // Reads the groups, judged by the checks.
 fn read_groups<'a>(memory: &mut Memory, bytes: &'a [u8]) -> Result<Iim<'a>, Refusal>
-    requires { length bytes.now ≤ 16777216 }
+    requires { length bytes.now ≤ limit }
     ensures judged { Judges result (iim_checks bytes.now) (λ i. iim_of bytes.now ≡ Some i) }
     ensures memory { LacksBlock result memory.old memory.new }
 {

@@ -1,6 +1,5 @@
 -- Lists, by their places and members.
 pub mod Members
-pub mod SameLists
 pub mod EachDir
 pub mod At
 pub mod Listed

@@ -1,5 +1,4 @@
 -- What a block says.
-pub mod OneMeaning
 pub mod Owned
 pub mod Footprint
 pub mod Fresh

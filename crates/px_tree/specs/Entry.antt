@@ -67,8 +67,11 @@ unfoldable pub raw_size : Entry → ℕ
 raw_size e = sized (form_of e.code) e.count
 
 -- more than four bytes stand at an offset
+abbrev pub needs_place : ℕ → Bool
+needs_place n = nat_lt 4 n
+
 abbrev pub is_placed : Entry → Bool
-is_placed e = nat_lt 4 (raw_size e)
+is_placed e = needs_place (raw_size e)
 
 -- the last field as an offset
 abbrev pub offset : Order → Entry → ℕ

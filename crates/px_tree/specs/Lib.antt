@@ -11,3 +11,4 @@ pub mod Faults
 pub mod Laws
 pub mod Refused
 pub mod calls
+pub mod lemmas

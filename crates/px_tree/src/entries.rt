@@ -11,6 +11,8 @@ ghost use Rattle.px_tree.specs.Footprint.{placed_range};
 ghost use Rattle.px_tree.specs.Checks.{shape_checks, entry_checks};
 ghost use Rattle.px_tree.specs.calls.Reading.{Shows, bare, IsShape, Follows, span, span_checks};
 
+use crate::holding::hold;
+use crate::parts::{needs_place, number16, number32};
 use crate::roles::{Dir, Role, role_of};
 use px_bytes::{Cause, Memory, Order, Ranges, Refusal};
 use px_field::Form;
@@ -30,24 +32,6 @@ pub struct Shape {
     pub head: Head,
     pub form: Form,
     pub role: Role,
-}
-
-// The number in the two bytes at a place.
-pub fn number16(block: &[u8], order: Order, at: u32) -> u16
-    requires { at + 2 ≤ length block.now }
-    ensures { result ≡ short order (part block.now at 2) }
-{
-    let from = at as usize;
-    order.get16(&block[from..from + 2])
-}
-
-// The number in the four bytes at a place.
-pub fn number32(block: &[u8], order: Order, at: u32) -> u32
-    requires { at + 4 ≤ length block.now }
-    ensures { result ≡ long order (part block.now at 4) }
-{
-    let from = at as usize;
-    order.get32(&block[from..from + 4])
 }
 
 // The entry at a place.
@@ -103,26 +87,6 @@ fn shape_of(dir: Dir, at: u32, before: Option<u16>, head: Head) -> Result<Shape,
     Ok(Shape { head, form, role })
 }
 
-// Holds a range that is named at a place.
-pub fn hold(
-    memory: &mut Memory,
-    held: &mut Ranges,
-    at: u32,
-    start: u32,
-    len: u32,
-) -> Result<(), Refusal>
-    requires { start + len ≤ limit }
-    ensures judged { (taken : List Range) → Agrees taken held.old →
-        Judges result (check Overlap at (is_free taken (range start len)) ∷ [])
-        (λ _. Agrees (range start len ∷ taken) held.new) }
-    ensures memory { LacksBlock result memory.old memory.new }
-{
-    if !held.add_in(memory, start, len)? {
-        return Err(Cause::Overlap.at(at));
-    }
-    Ok(())
-}
-
 // Holds the bytes of a value of so many bytes, where it stands at an offset.
 fn hold_value(
     memory: &mut Memory,
@@ -140,7 +104,7 @@ fn hold_value(
     ensures inside { IfOk result (λ _. 4 < len → start + len ≤ length block.now) }
     ensures memory { LacksBlock result memory.old memory.new }
 {
-    if len <= 4 {
+    if !needs_place(len) {
         return Ok(());
     }
     if u64::from(start) + len > block.len() as u64 {

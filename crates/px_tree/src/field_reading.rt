@@ -15,48 +15,13 @@ ghost use Rattle.px_tree.specs.calls.Reading.{IsHeld, is_whole, entries_from};
 ghost use Rattle.px_tree.specs.calls.Uses.{AreUses};
 
 use crate::entries::{Head, Shape, judge_entry};
+use crate::entry_values::{raw_of, value_at};
 use crate::fields::Fields;
+use crate::records::says_record;
 use crate::roles::{Dir, Role};
 use crate::uses::{Uses, keep_use, no_uses};
 use px_bytes::{Memory, Order, Ranges, Refusal};
-use px_field::{Form, Value, read_value, read_whole};
-use px_iim::accepts;
-
-// The bytes of a block from a place on.
-pub fn part_of<'a>(block: &'a [u8], at: u32, len: u32) -> &'a [u8]
-    requires { at + len ≤ length block.now }
-    ensures { result.now ≡ part block.now at len }
-{
-    let from = at as usize;
-    &block[from..from + len as usize]
-}
-
-// The raw bytes of an entry.
-pub fn raw_of<'a>(block: &'a [u8], order: Order, at: u32, head: Head, form: Form) -> &'a [u8]
-    requires { IsHeld block.now order at head form }
-    ensures bytes { result.now ≡ raw block.now order (entry order (part block.now at 12)) }
-    ensures size { head.count * size form ≡ length result.now }
-    ensures bounded { length result.now ≤ limit }
-{
-    let len = u64::from(head.count) * u64::from(form.size());
-    if len > 4 {
-        return part_of(block, head.offset, len as u32);
-    }
-    part_of(block, at + 8, len as u32)
-}
-
-// The value of an entry.
-pub fn value_at<'a>(block: &'a [u8], order: Order, at: u32, head: Head, form: Form) -> Value<'a>
-    requires { IsHeld block.now order at head form }
-    ensures { result
-        ≡ record {
-          kind = Of form;
-          elements = entry_elements block.now order (entry order
-              (part block.now at 12)) form;
-        } }
-{
-    read_value(form, order, raw_of(block, order, at, head, form))
-}
+use px_field::{Form, Value, read_whole};
 
 // Whether SHORT or LONG.
 fn is_whole_form(form: Form) -> bool
@@ -76,16 +41,6 @@ fn widened_at<'a>(block: &'a [u8], order: Order, at: u32, head: Head, form: Form
         return read_whole(form, order, raw_of(block, order, at, head, form));
     }
     value_at(block, order, at, head, form)
-}
-
-// Whether bytes of a type say a record.
-fn says_record(form: Form, raw: &[u8]) -> bool
-    ensures { result ≡ is_some (record_in form raw.now) }
-{
-    match form {
-        Form::Byte | Form::Undefined => accepts(raw),
-        _ => false,
-    }
 }
 
 // The value of an entry at the record's tag, where its bytes say no record.

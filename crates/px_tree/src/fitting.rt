@@ -14,11 +14,13 @@ ghost use Rattle.px_tree.specs.calls.Seen.{exif_of, thumb_of, meaning_of};
 
 use crate::fields::Fields;
 use crate::meanings::{ExifPart, Meaning, Thumb};
+use crate::records::says_record;
 use crate::roles::{Dir, Role, role_of};
 use crate::strips::Strips;
+use crate::tags::IPTC_NAA;
 use px_bytes::LIMIT;
 use px_field::{Form, Kind, Value};
-use px_iim::{Iim, accepts, normal_len};
+use px_iim::{Iim, normal_len};
 
 /// Whether a meaning can be written: every tag is plain or widened in its directory, and its value
 /// isn't `Whole` at a plain tag, nor SHORT or LONG at a widened one; bytes at 0x83BB in the main
@@ -38,16 +40,15 @@ pub fn fits(m: &Meaning) -> bool
 }
 
 // Whether the bytes of a value at the record's tag say a record.
-fn says_record(value: &Value) -> bool
+fn is_record(value: &Value) -> bool
     ensures { IsTrue result ↔ (record_in (form_in value.now.kind) (spelled Least value.now) ≡ None → ⊥) }
 {
     let Some(bytes) = value.bytes() else {
         return false;
     };
     match value.kind() {
-        Kind::Of(Form::Byte) => accepts(bytes),
-        Kind::Of(Form::Undefined) => accepts(bytes),
-        _ => false,
+        Kind::Of(form) => says_record(form, bytes),
+        Kind::Whole => false,
     }
 }
 
@@ -61,7 +62,7 @@ fn is_allowed(dir: Dir, tag: u16, value: &Value) -> bool
     match role_of(dir, tag) {
         Role::Plain => kind != Kind::Whole,
         Role::Widened => kind != Kind::Of(Form::Short) && kind != Kind::Of(Form::Long),
-        Role::Record => kind != Kind::Whole && !says_record(value),
+        Role::Record => kind != Kind::Whole && !is_record(value),
         _ => false,
     }
 }
@@ -88,11 +89,11 @@ fn fits_optional(dir: Dir, fields: &Option<Fields>) -> bool
     }
 }
 
-fn fits_record(record: &Option<Iim>) -> bool
-    ensures { IsTrue result ↔ IfSome record.now (λ i. IsRecord i × (length (normal_iim i) ≤ 2 * limit)) }
+fn fits_record(iim: &Option<Iim>) -> bool
+    ensures { IsTrue result ↔ IfSome iim.now (λ i. IsRecord i × (length (normal_iim i) ≤ 2 * limit)) }
 {
-    match record {
-        Some(record) => record.groups() > 0 && normal_len(record).is_some(),
+    match iim {
+        Some(iim) => iim.groups() > 0 && normal_len(iim).is_some(),
         None => true,
     }
 }
@@ -102,7 +103,7 @@ fn stands_alone(m: &Meaning) -> bool
     ensures { IsTrue result ↔ IfSome m.now.iptc (λ i. AllByRecursion (λ p. (p.0 ≡ record_tag) → ⊥) m.now.main) }
 {
     match m.iptc {
-        Some(_) => m.main.get(0x83BB).is_none(),
+        Some(_) => m.main.get(IPTC_NAA).is_none(),
         None => true,
     }
 }

@@ -17,17 +17,21 @@
 #[cfg(test)]
 mod edge_tests;
 mod entries;
+mod entry_values;
 pub mod fault_laws;
 #[cfg(test)]
 mod fault_tests;
 mod field_reading;
 mod fields;
 mod fitting;
+mod header;
+mod holding;
 pub mod laws;
 mod links;
 mod meanings;
 #[cfg(test)]
 mod oracle_tests;
+mod parts;
 mod read;
 #[cfg(test)]
 mod read_tests;
@@ -38,6 +42,7 @@ mod strips;
 #[cfg(test)]
 mod sweep_tests;
 mod tables;
+mod tags;
 #[cfg(test)]
 mod tests;
 mod thumbnail;
@@ -48,8 +53,11 @@ mod worked_blocks;
 
 pub use fields::Fields;
 pub use fitting::fits;
+pub use header::magic_of;
 pub use meanings::{ExifPart, Meaning, Thumb};
+pub use parts::needs_place;
 pub use read::{read_block, read_block_in};
 pub use roles::{Dir, Role};
 pub use same::same_meaning;
 pub use strips::Strips;
+pub use tables::table_len;

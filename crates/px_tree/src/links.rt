@@ -7,7 +7,8 @@ ghost use Rattle.px_tree.specs.Checks.{is_earlier_at};
 ghost use Rattle.px_tree.specs.calls.Reading.{HasTable};
 ghost use Rattle.px_tree.specs.calls.Linked.{offset_of, offsets_of};
 
-use crate::entries::{Head, number32};
+use crate::entries::Head;
+use crate::parts::number32;
 use px_bytes::Order;
 
 // The offset of a directory, and the place of what names it.

@@ -1,5 +1,5 @@
-// The record in the main directory, at its tag: IPTC-NAA, 0x83BB.
-ghost use Rattle.std.specs.Prelude.{◌≡◌, ◌≤◌, length, IfOk, IfErr, option_and_then};
+// The record in the main directory, at the tag of IPTC-NAA.
+ghost use Rattle.std.specs.Prelude.{◌≡◌, ◌≤◌, length, is_some, IfOk, IfErr, option_and_then};
 ghost use Rattle.std.specs.List.{AllByRecursion};
 ghost use Rattle.px_bytes.specs.Checks.{LacksBlock};
 ghost use Rattle.px_bytes.specs.declared.Refusal.TheVariants.{OutOfMemory};
@@ -12,13 +12,23 @@ ghost use Rattle.px_tree.specs.Says.{record_at};
 ghost use Rattle.px_tree.specs.calls.Linked.{AreUsesAt};
 ghost use Rattle.px_tree.specs.calls.Parts.{HasValue, entry_here};
 
-use crate::field_reading::raw_of;
+use crate::entry_values::raw_of;
 use crate::links::Found;
 use crate::roles::Dir;
 use crate::tables::Directory;
 use px_bytes::{Memory, Order, Refusal};
 use px_field::Form;
-use px_iim::{Iim, read_iim_in};
+use px_iim::{Iim, accepts, read_iim_in};
+
+// Whether bytes of a type say a record.
+pub fn says_record(form: Form, raw: &[u8]) -> bool
+    ensures { result ≡ is_some (record_in form raw.now) }
+{
+    match form {
+        Form::Byte | Form::Undefined => accepts(raw),
+        _ => false,
+    }
+}
 
 // The record that bytes say, if they say one.
 fn iim_in<'a>(memory: &mut Memory, raw: &'a [u8]) -> Result<Option<Iim<'a>>, Refusal>

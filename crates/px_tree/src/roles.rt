@@ -2,6 +2,13 @@
 ghost use Rattle.std.specs.Prelude.{◌≡◌};
 ghost use Rattle.px_tree.specs.Roles.{role};
 
+use crate::tags::{
+    EXIF_IFD_POINTER, FREE_OFFSETS, GPS_INFO_IFD_POINTER, IMAGE_LENGTH, IMAGE_WIDTH,
+    INTEROPERABILITY_IFD_POINTER, IPTC_NAA, JPEG_AC_TABLES, JPEG_DC_TABLES,
+    JPEG_INTERCHANGE_FORMAT, JPEG_INTERCHANGE_FORMAT_LENGTH, JPEG_Q_TABLES, PIXEL_X_DIMENSION,
+    PIXEL_Y_DIMENSION, ROWS_PER_STRIP, STRIP_BYTE_COUNTS, STRIP_OFFSETS, SUB_IFDS, TILE_OFFSETS,
+};
+
 /// A directory: the main one of TIFF 6.0, and those that CIPA DC-008 names from it.
 #[derive(Clone, Copy, Debug, PartialEq, Eq)]
 pub enum Dir {
@@ -15,6 +22,11 @@ pub enum Dir {
     Gps,
     /// The thumbnail directory (1st IFD), which stands behind the main directory.
     Thumb,
+}
+
+impl Dir {
+    /// Each directory, in the order in which they are read.
+    pub const ALL: [Dir; 5] = [Dir::Main, Dir::Exif, Dir::Interop, Dir::Gps, Dir::Thumb];
 }
 
 /// What a tag is in a directory.
@@ -46,19 +58,19 @@ fn common_role(tag: u16) -> Role
     ensures { result ≡ role Dir.Gps tag }
 {
     match tag {
-        0x0111
-        | 0x0117
-        | 0x0120
-        | 0x0144
-        | 0x014A
-        | 0x0201
-        | 0x0202
-        | 0x0207
-        | 0x0208
-        | 0x0209
-        | 0x8769
-        | 0x8825
-        | 0xA005 => Role::Forbidden,
+        STRIP_OFFSETS
+        | STRIP_BYTE_COUNTS
+        | FREE_OFFSETS
+        | TILE_OFFSETS
+        | SUB_IFDS
+        | JPEG_INTERCHANGE_FORMAT
+        | JPEG_INTERCHANGE_FORMAT_LENGTH
+        | JPEG_Q_TABLES
+        | JPEG_DC_TABLES
+        | JPEG_AC_TABLES
+        | EXIF_IFD_POINTER
+        | GPS_INFO_IFD_POINTER
+        | INTEROPERABILITY_IFD_POINTER => Role::Forbidden,
         _ => Role::Plain,
     }
 }
@@ -69,17 +81,17 @@ pub fn role_of(dir: Dir, tag: u16) -> Role
     ensures { result ≡ role dir tag }
 {
     match (dir, tag) {
-        (Dir::Main, 0x8769) => Role::To(Dir::Exif),
-        (Dir::Main, 0x8825) => Role::To(Dir::Gps),
-        (Dir::Main, 0x83BB) => Role::Record,
-        (Dir::Main, 0x0100 | 0x0101 | 0x0116) => Role::Widened,
-        (Dir::Exif, 0xA005) => Role::To(Dir::Interop),
-        (Dir::Exif, 0xA002 | 0xA003) => Role::Widened,
-        (Dir::Thumb, 0x0201) => Role::JpegOffset,
-        (Dir::Thumb, 0x0202) => Role::JpegLength,
-        (Dir::Thumb, 0x0111) => Role::StripOffsets,
-        (Dir::Thumb, 0x0117) => Role::StripLengths,
-        (Dir::Thumb, 0x0100 | 0x0101 | 0x0116) => Role::Widened,
+        (Dir::Main, EXIF_IFD_POINTER) => Role::To(Dir::Exif),
+        (Dir::Main, GPS_INFO_IFD_POINTER) => Role::To(Dir::Gps),
+        (Dir::Main, IPTC_NAA) => Role::Record,
+        (Dir::Main, IMAGE_WIDTH | IMAGE_LENGTH | ROWS_PER_STRIP) => Role::Widened,
+        (Dir::Exif, INTEROPERABILITY_IFD_POINTER) => Role::To(Dir::Interop),
+        (Dir::Exif, PIXEL_X_DIMENSION | PIXEL_Y_DIMENSION) => Role::Widened,
+        (Dir::Thumb, JPEG_INTERCHANGE_FORMAT) => Role::JpegOffset,
+        (Dir::Thumb, JPEG_INTERCHANGE_FORMAT_LENGTH) => Role::JpegLength,
+        (Dir::Thumb, STRIP_OFFSETS) => Role::StripOffsets,
+        (Dir::Thumb, STRIP_BYTE_COUNTS) => Role::StripLengths,
+        (Dir::Thumb, IMAGE_WIDTH | IMAGE_LENGTH | ROWS_PER_STRIP) => Role::Widened,
         _ => common_role(tag),
     }
 }

@@ -11,10 +11,11 @@ ghost use Rattle.px_tree.specs.calls.Reading.{HasTable};
 ghost use Rattle.px_tree.specs.calls.Uses.{AreUses};
 ghost use Rattle.px_tree.specs.calls.Linked.{offsets_of};
 
-use crate::entries::{hold, number16};
 use crate::field_reading::{Entries, read_entries};
 use crate::fields::Fields;
+use crate::holding::hold;
 use crate::links::{Link, is_earlier};
+use crate::parts::number16;
 use crate::roles::Dir;
 use crate::uses::Uses;
 use px_bytes::{Cause, Memory, Order, Ranges, Refusal};
@@ -27,6 +28,13 @@ pub struct Directory<'a> {
     pub uses: Uses,
     pub at: u32,
     pub count: u16,
+}
+
+/// The bytes of a table of so many entries.
+pub fn table_len(entries: u16) -> u32
+    ensures { result ≡ table_size entries }
+{
+    2 + 12 * u32::from(entries) + 4
 }
 
 // How many entries the table that a link leads to has, once it is held.
@@ -58,7 +66,7 @@ fn open_table(
     if count == 0 {
         return Err(Cause::EmptyDirectory.at(at));
     }
-    let size = 2 + 12 * u32::from(count) + 4;
+    let size = table_len(count);
     if u64::from(at) + u64::from(size) > block.len() as u64 {
         return Err(Cause::DirectoryOutside.at(place));
     }

@@ -14,10 +14,11 @@ ghost use Rattle.px_tree.specs.Checks.{end_checks, range_checks, thumb_checks, t
 ghost use Rattle.px_tree.specs.calls.Reading.{HasTable};
 ghost use Rattle.px_tree.specs.calls.Parts.{HasNumbers, HaveNumbers, AreEven, entry_here, place_in, pair_check, count_check, pairs_checks, jpeg_of, strips_of, IsReadThumb};
 
-use crate::entries::hold;
-use crate::field_reading::{part_of, value_at};
+use crate::entry_values::value_at;
+use crate::holding::hold;
 use crate::links::{Found, next_link};
 use crate::meanings::Thumb;
+use crate::parts::part_of;
 use crate::strips::Strips;
 use crate::tables::Directory;
 use crate::uses::Uses;

@@ -13,8 +13,8 @@ ghost use Rattle.px_tree.specs.calls.Uses.{link_as};
 ghost use Rattle.px_tree.specs.calls.Linked.{Names, IsRead, offsets_of, next_place};
 ghost use Rattle.px_tree.specs.calls.ReadTree.{SeenTree};
 
-use crate::entries::number32;
 use crate::links::{Link, next_link};
+use crate::parts::number32;
 use crate::roles::Dir;
 use crate::tables::{Directory, read_directory};
 use crate::uses::link_of;

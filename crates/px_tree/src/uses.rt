@@ -5,6 +5,10 @@ ghost use Rattle.px_tree.specs.calls.Uses.{Keeps, NoUses, link_as, found_as};
 
 use crate::entries::Head;
 use crate::links::{Found, Link};
+use crate::tags::{
+    EXIF_IFD_POINTER, GPS_INFO_IFD_POINTER, INTEROPERABILITY_IFD_POINTER, IPTC_NAA,
+    JPEG_INTERCHANGE_FORMAT, JPEG_INTERCHANGE_FORMAT_LENGTH, STRIP_BYTE_COUNTS, STRIP_OFFSETS,
+};
 
 // Of each tag with a use of its own the entry, if the table has one: the pointers, the record, and what
 // names the thumbnail's bytes.
@@ -49,26 +53,26 @@ pub fn keep_use(uses: &mut Uses, head: Head, place: u32)
 {
     let found = Some(Found { head, place });
     match head.tag {
-        0x8769 => {
+        EXIF_IFD_POINTER => {
             if is_one_long(head) {
                 uses.exif = found;
             }
         }
-        0x8825 => {
+        GPS_INFO_IFD_POINTER => {
             if is_one_long(head) {
                 uses.gps = found;
             }
         }
-        0xA005 => {
+        INTEROPERABILITY_IFD_POINTER => {
             if is_one_long(head) {
                 uses.interop = found;
             }
         }
-        0x83BB => uses.iptc = found,
-        0x0201 => uses.jpeg_offset = found,
-        0x0202 => uses.jpeg_length = found,
-        0x0111 => uses.strip_offsets = found,
-        0x0117 => uses.strip_lengths = found,
+        IPTC_NAA => uses.iptc = found,
+        JPEG_INTERCHANGE_FORMAT => uses.jpeg_offset = found,
+        JPEG_INTERCHANGE_FORMAT_LENGTH => uses.jpeg_length = found,
+        STRIP_OFFSETS => uses.strip_offsets = found,
+        STRIP_BYTE_COUNTS => uses.strip_lengths = found,
         _ => {}
     }
 }

@@ -24,8 +24,8 @@ use Rattle.px_tree.specs.Faults.{At, Begins, EntryAt, dir_number, owners, partne
 use Rattle.px_tree.proofs.lists.EachDir.{each_dir}
 use Rattle.px_tree.proofs.saying.Fresh.{Clear, clear_across, apart_left, apart_right}
 use Rattle.px_tree.proofs.saying.Owned.{ranges, owners_own}
-use Rattle.px_tree.proofs.saying.OneMeaning.{magic_tells}
-use Rattle.px_tree.proofs.writable.Filled.{each_at}
+use Rattle.px_tree.specs.lemmas.MeaningLaws.{magic_tells}
+use Rattle.px_tree.specs.lemmas.TagLaws.{each_at}
 use Rattle.px_tree.proofs.saying.Judged.{all_magic}
 use Rattle.px_tree.proofs.lists.Members.{each_member}
 use Rattle.px_tree.proofs.lists.At.{at_map, at_apart, at_rising, at_found}

@@ -1,7 +1,8 @@
 -- Only the footprint counts: a block that agrees on it says the same.
-use Rattle.std.proofs.Common.{◌≡◌, ℕ, zero, suc, ◌+◌, ◌<◌, ◌≤◌, ◌==◌, nat_le, inl, inr, true, false, Option, Some, None, option_map, option_and_then, List, [], ◌∷◌, ◌++◌, map, filter_map, flat_map, length, take, drop, get_or, slice_index, refl, sym, ◌∙◌, ap, ap₂, subst, arith, le-leb, leb-true, length-drop, get_or-take, get_or-drop}
+use Rattle.std.proofs.Common.{◌≡◌, ℕ, ◌+◌, ◌<◌, ◌≤◌, ◌==◌, nat_le, inl, inr, true, false, Option, Some, None, option_map, option_and_then, List, [], ◌∷◌, ◌++◌, map, filter_map, flat_map, length, take, drop, get_or, slice_index, refl, sym, ◌∙◌, ap, ap₂, subst, arith, le-leb, leb-true, length-drop, get_or-take, get_or-drop}
 use Rattle.std.specs.Prelude.{IfSome, option_to_list}
 use Rattle.std.specs.List.{AllByRecursion, cons_option}
+use Rattle.std.proofs.lemmas.Grind.{get_or_default_zero}
 use Rattle.std.proofs.lemmas.Bool.{cond-true, cond-false, cases_Bool, and_parts, and_from}
 use Rattle.std.proofs.lemmas.List.{same_lists, take-take, drop-take, length-take-le}
 use Rattle.px_bytes.specs.declared.Order.{Order}
@@ -30,19 +31,14 @@ use Rattle.px_tree.proofs.lists.EachDir.{each_dir}
 abbrev pub AgreeIn : List ℕ → List ℕ → Range → Type 0
 AgreeIn b c r = (p : ℕ) → IsIn p r → slice_index c p ≡ slice_index b p
 
-default : (y : List ℕ) (k d : ℕ) → k < length y → get_or y k d ≡ slice_index y k
-default [] k d l = absurd (omega arith)
-default (z ∷ zs) zero d l = refl
-default (z ∷ zs) (suc k) d l = default zs k d (omega arith)
-
 same_part : (b c : List ℕ) (x n : ℕ) → length b ≤ length c → x + n ≤ length b → AgreeIn b c (range x n) → part c x n ≡ part b x n
 same_part b c x n l i a =
     let lb : length (part b x n) ≡ n = length-take-le n (drop x b) (let e = length-drop x b in omega arith) in
     let lc : length (part c x n) ≡ n = length-take-le n (drop x c) (let e = length-drop x c in omega arith) in
     same_lists (part c x n) (part b x n) (lc ∙ sym lb) (λ k d h.
     let q : k < n = omega arith in
-    get_or-take n (drop x c) k d q ∙ get_or-drop x c k d ∙ default c (x + k) d (omega arith) ∙ a (x + k) (omega arith, omega arith)
-    ∙ sym (get_or-take n (drop x b) k d q ∙ get_or-drop x b k d ∙ default b (x + k) d (omega arith)))
+    get_or-take n (drop x c) k d q ∙ get_or-drop x c k d ∙ get_or_default_zero c (x + k) d (omega arith) ∙ a (x + k) (omega arith, omega arith)
+    ∙ sym (get_or-take n (drop x b) k d q ∙ get_or-drop x b k d ∙ get_or_default_zero b (x + k) d (omega arith)))
 
 filter_map-same : {X Z : Type 0} (g h : X → Option Z) (xs : List X) → AllByRecursion (λ x. g x ≡ h x) xs → filter_map g xs ≡ filter_map h xs
 filter_map-same g h [] e = refl

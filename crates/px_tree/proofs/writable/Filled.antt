@@ -1,5 +1,5 @@
 -- What a block says fits: the tree, and each directory has an entry.
-use Rattle.std.proofs.Common.{◌≡◌, ℕ, suc, ◌+◌, ◌*◌, ◌<◌, ◌≤◌, ◌==◌, nat_lt, inl, inr, true, false, ◌&&◌, Option, Some, None, is_some, option_map, option_and_then, find, List, [], ◌∷◌, map, filter_map, length, take, drop, refl, sym, ◌∙◌, ap, ap₂, subst, arith, ltb-false, eq-eqb, eqb-true, ne_eqb, length-take, length-drop}
+use Rattle.std.proofs.Common.{◌≡◌, ℕ, suc, ◌+◌, ◌*◌, ◌<◌, ◌≤◌, ◌==◌, nat_lt, inl, inr, true, false, ◌&&◌, Option, Some, None, is_some, option_map, option_and_then, find, List, [], ◌∷◌, map, filter_map, length, take, drop, refl, sym, ◌∙◌, ap, ap₂, subst, arith, ltb-false, eq-eqb, ne_eqb, length-take, length-drop}
 use Rattle.std.specs.Prelude.{IfSome, ◌⊎◌}
 use Rattle.std.specs.List.{AllByRecursion, cons_option}
 use Rattle.std.proofs.lemmas.Bool.{cond-true, cond-false, cases_Bool, cond_both}
@@ -33,21 +33,13 @@ use Rattle.px_tree.specs.Directory.{entries_at, entry_with, pointer, main_at, di
 use Rattle.px_tree.specs.Thumbnail.{both, are_paired, whole_number, numbers_in, numbers, bytes_of, jpeg_range, ranges_of, strip_ranges, IsThumbnail}
 use Rattle.px_tree.specs.Says.{record_at, exif_part, thumbnail, meaning, IsExif, SaysExif}
 use Rattle.px_tree.specs.Fits.{Item, Iptc, AtJpeg, JpegSize, AtStrips, StripSizes, put, put_some, link, field_items, main_items, exif_items, thumb_items, items, FitsFields, FitsExif, FitsThumb, IsBytes, Fits}
+use Rattle.px_tree.specs.lemmas.TagLaws.{each_at}
 use Rattle.px_tree.proofs.writable.InRange.{bytes_part}
 use Rattle.px_tree.proofs.writable.FitsBack.{whole, count_is, Plausible, entries_plausible, bytes_raw, length_raw, value_of, fields_fit}
 
 -- what is used of records: bytes say a whole one, with a normal form no longer than twice the bytes
 iim_said : (x : List ℕ) (i : Iim) → AreBytes x → iim_of x ≡ Some i → IsRecord i × (length (normal_iim i) ≤ 2 * length x)
 iim_said x i h e = let s : SaysIim x i = computed_said x i e in (said_is_record x i h s, normal_bound x i s)
-
-pub each_at : {X : Type 0} (P : ℕ × X → Type 0) (t : ℕ) (x : X) (xs : List (ℕ × X)) → AllByRecursion P xs → at_tag t xs ≡ Some x → P (t, x)
-each_at P t x [] h e = cc
-each_at {X} P t x (y ∷ ys) h e = elim (cases_Bool (y.0 == t)) [
-  | inl q ↦ let s : Some y.1 ≡ Some x = sym (cond-true (y.0 == t) (Some y.1) (at_tag t ys) q) ∙ e in
-      let k : y.1 ≡ x = cc in let t' : y.0 ≡ t = eqb-true y.0 t q in
-      subst (λ (z : X). P (t, z)) k (subst (λ (u : ℕ). P (u, y.1)) t' h.0)
-  | inr q ↦ each_at P t x ys h.1 (sym (cond-false (y.0 == t) (Some y.1) (at_tag t ys) q) ∙ e)
-]
 
 -- a role by its table
 role_cases : (d : Dir) (t : ℕ) (P : Role → Type 0) → AllByRecursion (λ x. x.0 ≡ t → P x.1) (special d) → P Forbidden → P Plain → P (role d t)

@@ -9,9 +9,8 @@ use Rattle.px_bytes.specs.declared.Order.TheVariants.{Least}
 use Rattle.px_field.specs.declared.Element.TheVariants.{Byte}
 use Rattle.px_field.specs.declared.Kind.{Kind}
 use Rattle.px_field.specs.declared.Kind.TheVariants as kind
-use Rattle.px_field.specs.declared.Form.TheVariants as form
+use Rattle.px_field.specs.declared.Form.{Form}
 use Rattle.px_field.specs.Values.{Value, IsValue, form_in, spell, spelled}
-use Rattle.px_tree.specs.calls.Iim.{iim_of}
 use Rattle.px_tree.specs.declared.roles.Dir.{Dir}
 use Rattle.px_tree.specs.Roles.{at_tag, role}
 use Rattle.px_tree.specs.Tree.{Fields}
@@ -56,16 +55,13 @@ each_absent t (f ∷ fs) h = elim (cases_Bool (f.0 == t)) [
   | inr q ↦ cond-false (f.0 == t) (Some f.1) (at_tag t fs) q ∙ each_absent t fs h.1
 ]
 
-module _ (v : Value) (s : List ℕ) (r : Bool) (elements : v.elements ≡ map Byte s) (test : r ≡ is_some (iim_of s)) where
-  says : record_in (form_in v.kind) (spelled Least v) ≡ iim_of s → IsTrue r ↔ (record_in (form_in v.kind) (spelled Least v) ≡ None → ⊥)
-  says same = (λ h e. some_not_none (iim_of s) (sym test ∙ h) (sym same ∙ e), λ h. test ∙ not_none_some (iim_of s) (λ e. h (same ∙ e)))
-
-  -- the bytes of BYTE or UNDEFINED say a record
-  pub says_at_byte : v.kind ≡ kind.Of form.Byte → IsTrue r ↔ (record_in (form_in v.kind) (spelled Least v) ≡ None → ⊥)
-  says_at_byte h = says (ap (λ (k : Kind). record_in (form_in k) (spelled Least v)) h ∙ ap iim_of (spelled-bytes Least v s elements))
-
-  pub says_at_undefined : v.kind ≡ kind.Of form.Undefined → IsTrue r ↔ (record_in (form_in v.kind) (spelled Least v) ≡ None → ⊥)
-  says_at_undefined h = says (ap (λ (k : Kind). record_in (form_in k) (spelled Least v)) h ∙ ap iim_of (spelled-bytes Least v s elements))
+-- the bytes of a type say a record
+pub says_at : (v : Value) (s : List ℕ) (r : Bool) (f : Form) → v.elements ≡ map Byte s → v.kind ≡ kind.Of f → r ≡ is_some (record_in f s)
+    → IsTrue r ↔ (record_in (form_in v.kind) (spelled Least v) ≡ None → ⊥)
+says_at v s r f elements at test =
+    let same : record_in (form_in v.kind) (spelled Least v) ≡ record_in f s =
+        ap (λ (k : Kind). record_in (form_in k) (spelled Least v)) at ∙ ap (record_in f) (spelled-bytes Least v s elements) in
+    (λ h e. some_not_none (record_in f s) (sym test ∙ h) (sym same ∙ e), λ h. test ∙ not_none_some (record_in f s) (λ e. h (same ∙ e)))
 
 -- one field more fits
 pub fits_one_more : (d : Dir) (fs : Fields) (i tag : ℕ) (v : Value) → tag < 2 ^ 16 → IsValue v → Allows (role d tag) v → slice_get fs i ≡ Some (tag, v)

@@ -1,5 +1,5 @@
 -- How what the reader keeps shows what the definitions say: entries and their values.
-use Rattle.std.specs.Prelude.{◌≡◌, ◌≤◌, ◌<◌, ℕ, zero, suc, ◌+◌, ◌*◌, nat_lt, nat_le, Bool, true, false, if◌then◌else◌, Option, Some, None, List, [], ◌∷◌, length, ⊤}
+use Rattle.std.specs.Prelude.{◌≡◌, ◌≤◌, ◌<◌, ℕ, zero, suc, ◌+◌, ◌*◌, nat_le, Bool, true, false, if◌then◌else◌, Option, Some, None, List, [], ◌∷◌, length, ⊤}
 use Rattle.px_bytes.specs.declared.Order.{Order}
 use Rattle.px_bytes.specs.declared.Cause.TheVariants.{Overlap, ValueOutside}
 use Rattle.px_bytes.specs.Parts.{limit, part}
@@ -12,7 +12,7 @@ use Rattle.px_tree.specs.declared.entries.Head.{Head}
 use Rattle.px_tree.specs.declared.entries.Shape.{Shape}
 use Rattle.px_tree.specs.declared.roles.Dir.{Dir}
 use Rattle.px_tree.specs.Roles.{role}
-use Rattle.px_tree.specs.Entry.{Entry, entry, short, offset}
+use Rattle.px_tree.specs.Entry.{Entry, entry, short, needs_place, offset}
 use Rattle.px_tree.specs.Checks.{is_free_value}
 use Rattle.px_tree.specs.Tree.{Fields}
 use Rattle.px_tree.specs.calls.Places.{tags}
@@ -52,12 +52,12 @@ Precede u fields = (t : ℕ) → Follows u t → AllByRecursion (λ s. s < t) (t
 
 -- the range of n bytes at x, where those stand at an offset
 abbrev pub span : ℕ → ℕ → Option Range
-span x n = if nat_lt 4 n then Some (range x n) else None
+span x n = if needs_place n then Some (range x n) else None
 
 -- what is asked of a value of n bytes, which stands at x if at an offset
 abbrev pub span_checks : List ℕ → List Range → ℕ → ℕ → ℕ → List Check
 span_checks b taken p x n =
-    check ValueOutside p (if nat_lt 4 n then nat_le (x + n) (length b) else true)
+    check ValueOutside p (if needs_place n then nat_le (x + n) (length b) else true)
     ∷ check Overlap p (is_free_value taken (span x n))
     ∷ []
 

@@ -1,7 +1,7 @@
 use Rattle.std.proofs.Common.{◌≡◌, ℕ, length, slice_get, Some, inl, inr, sym, ap, subst, ◌∙◌, arith, rules}
 use Rattle.std.proofs.lemmas.Bool.{cases_lt}
 use Rattle.px_field.specs.declared.forms.Element.{Element}
-use Rattle.px_field.proofs.ViewLemmas.{same_by_get}
+use Rattle.px_bytes.specs.lemmas.SameLaws.{same_by_get}
 use Rattle.px_field.proofs.values.same_elements.Goals as goal
 
 pub loop-i-preserved : goal.loop-i-preserved

@@ -1,4 +1,4 @@
-use Rattle.px_tree.proofs.saying.OneMeaning.{one_meaning}
+use Rattle.px_tree.specs.lemmas.MeaningLaws.{one_meaning}
 use Rattle.px_tree.proofs.laws.one_meaning.Goals as goal
 
 pub returns : goal.returns

@@ -1,5 +1,5 @@
 use Rattle.std.proofs.Common.{◌≡◌, length, arith, rules}
-use Rattle.px_tree.proofs.lists.SameLists.{same_by_get}
+use Rattle.px_bytes.specs.lemmas.SameLaws.{same_by_get}
 use Rattle.px_tree.proofs.same.same_lists.Goals as goal
 
 pub returns : goal.returns

@@ -1,7 +1,7 @@
 use Rattle.std.proofs.Common.{◌∙◌}
 use Rattle.px_field.specs.lemmas.ValueLaws.{whole-times}
 use Rattle.px_tree.proofs.reading.Raw.{value-held}
-use Rattle.px_tree.proofs.field_reading.value_at.Goals as goal
+use Rattle.px_tree.proofs.entry_values.value_at.Goals as goal
 
 pub read_value-requires-clause-whole : goal.read_value-requires-clause-whole
 read_value-requires-clause-whole c = whole-times c.args.form c.args.head.count c.raw_of.result.now c.raw_of.ensures.size

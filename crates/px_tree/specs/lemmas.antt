@@ -1,0 +1,3 @@
+-- Lemmas: proved here, and not to be read to know what is promised.
+pub mod TagLaws
+pub mod MeaningLaws

@@ -1,0 +1,69 @@
+// The header of a block. TIFF 6.0 section 2, "Image File Header".
+ghost use Rattle.std.specs.Prelude.{◌≡◌, ◌≤◌, length, take, true, Some, ⊤};
+ghost use Rattle.px_bytes.specs.Parts.{limit};
+ghost use Rattle.px_bytes.specs.Numbers.{AreBytes};
+ghost use Rattle.px_bytes.specs.Checks.{ContentOnly, Judges};
+ghost use Rattle.px_tree.specs.Directory.{magic};
+ghost use Rattle.px_tree.specs.Checks.{same_bytes, begins_header, order_of, header_checks};
+
+use px_bytes::{Cause, Order, Refusal};
+
+/// The first four bytes of a block in an order: "II" or "MM", and 42 in that order.
+pub fn magic_of(order: Order) -> [u8; 4]
+    ensures { result ≡ magic order }
+{
+    match order {
+        Order::Least => [0x49, 0x49, 0x2A, 0],
+        Order::Most => [0x4D, 0x4D, 0, 0x2A],
+    }
+}
+
+// Whether the first bytes, up to four, begin the header of an order.
+fn begins(block: &[u8], order: Order) -> bool
+    ensures { result ≡ same_bytes (take 4 block.now) (take (length block.now) (magic order)) }
+{
+    let magic = magic_of(order);
+    let n = block.len().min(4);
+    block[..n] == magic[..n]
+}
+
+// Whether the first bytes, up to four, begin a header.
+fn is_begun(block: &[u8]) -> bool
+    ensures { result ≡ begins_header block.now }
+{
+    if block.is_empty() {
+        return false;
+    }
+    if begins(block, Order::Least) {
+        return true;
+    }
+    begins(block, Order::Most)
+}
+
+// The block has a header.
+pub fn judge_header(block: &[u8]) -> Result<(), Refusal>
+    requires { length block.now ≤ limit }
+    ensures judged { Judges result (header_checks block.now) (λ _. ⊤) }
+    ensures content { ContentOnly result }
+{
+    if !is_begun(block) {
+        return Err(Cause::UnknownKind.at(0));
+    }
+    if block.len() < 8 {
+        return Err(Cause::HeaderCut.at(block.len() as u32));
+    }
+    Ok(())
+}
+
+// The order that the header tells.
+pub fn order_in(block: &[u8]) -> Order
+    requires least { 8 ≤ length block.now }
+    requires begun { begins_header block.now ≡ true }
+    ensures told { order_of block.now ≡ Some result }
+    ensures bytes { AreBytes block.now }
+{
+    if begins(block, Order::Least) {
+        return Order::Least;
+    }
+    Order::Most
+}

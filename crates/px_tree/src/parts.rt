@@ -1,0 +1,40 @@
+// The parts of a block, and the numbers in them. TIFF 6.0 section 2, "Types" and "Value/Offset".
+ghost use Rattle.std.specs.Prelude.{◌≡◌, ◌≤◌, ◌+◌, length};
+ghost use Rattle.px_bytes.specs.Parts.{part};
+ghost use Rattle.px_tree.specs.Entry.{short, long, needs_place};
+
+use px_bytes::Order;
+
+// The bytes of a block from a place on.
+pub fn part_of<'a>(block: &'a [u8], at: u32, len: u32) -> &'a [u8]
+    requires { at + len ≤ length block.now }
+    ensures { result.now ≡ part block.now at len }
+{
+    let from = at as usize;
+    &block[from..from + len as usize]
+}
+
+// The number in the two bytes at a place.
+pub fn number16(block: &[u8], order: Order, at: u32) -> u16
+    requires { at + 2 ≤ length block.now }
+    ensures { result ≡ short order (part block.now at 2) }
+{
+    let from = at as usize;
+    order.get16(&block[from..from + 2])
+}
+
+// The number in the four bytes at a place.
+pub fn number32(block: &[u8], order: Order, at: u32) -> u32
+    requires { at + 4 ≤ length block.now }
+    ensures { result ≡ long order (part block.now at 4) }
+{
+    let from = at as usize;
+    order.get32(&block[from..from + 4])
+}
+
+/// Whether a value of so many bytes stands at an offset, and not in its entry.
+pub fn needs_place(len: u64) -> bool
+    ensures { result ≡ needs_place len }
+{
+    len > 4
+}
