@@ -188,7 +188,7 @@ fn small_parts_go_out_in_one_write(rt: HostRuntime) -> Result<(), Fail> {
 
 // It ends only where the last range below another is found without a look at all of them.
 #[test]
-fn falling_ranges_far_above_a_low_one(rt: HostRuntime) -> Result<(), Fail> {
+fn falling_ranges_are_held_far_above_a_low_one(rt: HostRuntime) -> Result<(), Fail> {
     let mut memory = Memory::new(rt.alloc());
     let mut held = Ranges::new_in(&memory);
     assert!(rt; held.add_in(&mut memory, 0, 8)?);

@@ -40,7 +40,7 @@ fn only(form: Form, order: Order, raw: &[u8]) -> Option<Element>
 
 // The example of the crate's page.
 #[test]
-fn worked_example(rt: HostRuntime) -> Result<(), Fail> {
+fn a_value_is_read_and_spelled_in_either_order(rt: HostRuntime) -> Result<(), Fail> {
     let raw = [0x48, 0, 0, 0, 1, 0, 0, 0];
     let value = read_value(Form::Rational, Order::Least, &raw);
     assert_eq!(rt; value.count(), 1);
@@ -57,7 +57,7 @@ fn worked_example(rt: HostRuntime) -> Result<(), Fail> {
 }
 
 #[test]
-fn types_of_the_standards(rt: HostRuntime) {
+fn types_have_the_numbers_and_sizes_of_the_standards(rt: HostRuntime) {
     for (code, form, size) in TYPES {
         assert_eq!(rt; Form::of(code), Some(form), "at {code}");
         assert_eq!(rt; form.code(), code);
@@ -118,7 +118,7 @@ fn byte_types_show_their_bytes(rt: HostRuntime) {
 }
 
 #[test]
-fn bit_patterns_and_signed_numbers(rt: HostRuntime) {
+fn bit_patterns_and_signed_numbers_are_read(rt: HostRuntime) {
     let patterns = [
         (Order::Most, [0x7F, 0xC0, 0x00, 0x01]),
         (Order::Least, [0x01, 0x00, 0xC0, 0x7F]),
@@ -158,7 +158,7 @@ fn bit_patterns_and_signed_numbers(rt: HostRuntime) {
 }
 
 #[test]
-fn extremes_of_the_signed_types(rt: HostRuntime) {
+fn the_least_and_the_greatest_signed_numbers_are_read(rt: HostRuntime) {
     let least = [0x80, 0x00, 0x00, 0x00];
     let most = [0x7F, 0xFF, 0xFF, 0xFF];
     assert_eq!(rt;
@@ -193,7 +193,7 @@ fn extremes_of_the_signed_types(rt: HostRuntime) {
 }
 
 #[test]
-fn no_elements_of_each_type(rt: HostRuntime) -> Result<(), Fail> {
+fn a_value_of_each_type_may_have_no_elements(rt: HostRuntime) -> Result<(), Fail> {
     let mut out = Vec::new(rt.alloc());
     for (_, form, size) in TYPES {
         let value = read_value(form, Order::Least, &[]);
@@ -247,7 +247,7 @@ fn values_are_appended(rt: HostRuntime) -> Result<(), Fail> {
 }
 
 #[test]
-fn spelled_in_front(rt: HostRuntime) {
+fn elements_are_spelled_at_the_front_of_a_buffer(rt: HostRuntime) {
     let value = read_value(
         Form::SLong,
         Order::Least,
