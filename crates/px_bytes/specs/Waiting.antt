@@ -15,3 +15,13 @@ Puts (Err e) old new held held_now bytes = AppendsPrefix old new (held ++ bytes)
 -- the bytes can wait with those held
 abbrev pub Fits : List ℕ → List ℕ → Type 0
 Fits held bytes = length held + length bytes ≤ 8192
+
+-- what can wait does, and the writer is as it was; a call failed only where it can't
+abbrev pub Waits : {A E W : Type 0} → Result A E → W → W → List ℕ → List ℕ → List ℕ → Type 0
+Waits (Ok x) old new held held_now bytes = Fits held bytes → (held_now ≡ held ++ bytes) × (new ≡ old)
+Waits (Err e) old new held held_now bytes = ¬ Fits held bytes
+
+-- both, of a writer that tells what it has taken
+abbrev pub PutsTo : {A E W : Type 0} → (W → Option (List ℕ)) → Result A E → W → W → List ℕ → List ℕ → List ℕ → Type 0
+PutsTo taken result old new held held_now bytes =
+    Puts result (taken old) (taken new) held held_now bytes × Waits result old new held held_now bytes

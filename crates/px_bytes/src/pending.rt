@@ -1,7 +1,7 @@
 // Bytes on their way to a writer, which gets them in large writes.
 ghost use Rattle.std.specs.Prelude.{◌≡◌, ◌≤◌, ◌<◌, ◌+◌, ◌^◌, ◌++◌, [], ℕ, length, take, OnOk, IsOk};
 ghost use Rattle.px_bytes.specs.Devices.{Counts, Writes};
-ghost use Rattle.px_bytes.specs.Waiting.{Fits, Puts};
+ghost use Rattle.px_bytes.specs.Waiting.{Fits, Puts, Waits};
 
 use crate::devices::{Failed, Sink};
 use crate::whole::write_whole;
@@ -80,7 +80,7 @@ impl Pending {
         requires { W.failed writer.old + 1 < 2 ^ 64 }
         ensures bytes { Puts result (W.bytes_taken writer.old) (W.bytes_taken writer.new) self.old self.new bytes.now }
         ensures count { Counts result (W.failed writer.old) (W.failed writer.new) }
-        ensures waits { Fits self.old bytes.now → IsOk result × (self.new ≡ self.old ++ bytes.now) × (writer.new ≡ writer.old) }
+        ensures waits { Waits result writer.old writer.new self.old self.new bytes.now }
     {
         if bytes.len() > self.room() {
             self.send(writer)?;

@@ -3,10 +3,11 @@ ghost use Rattle.std.specs.Prelude.{◌≡◌, ◌≤◌, ◌<◌, ◌+◌, ◌^
 ghost use Rattle.std.specs.List.{flat_map};
 ghost use Rattle.px_bytes.specs.Devices.{Counts};
 ghost use Rattle.px_bytes.specs.Lacking.{Lacks};
-ghost use Rattle.px_bytes.specs.Waiting.{Puts};
+ghost use Rattle.px_bytes.specs.Parts.{limit};
+ghost use Rattle.px_bytes.specs.Waiting.{Puts, Waits, PutsTo};
 ghost use Rattle.px_iim.specs.Record.{normal_dataset, normal_iim};
 ghost use Rattle.px_iim.specs.calls.View.{item_view};
-ghost use Rattle.px_iim.specs.Writing.{AreShort, Grows, WritesIim, within};
+ghost use Rattle.px_iim.specs.Writing.{AreShort, Grows, WritesIim, most, within};
 
 use crate::group::Item;
 use crate::head::head;
@@ -21,8 +22,8 @@ fn put_item<W: Sink>(
     item: &Item,
 ) -> Result<(), Failed>
     requires few { W.failed writer.old + 1 < 2 ^ 64 }
-    requires short { length item.now.octets.now ≤ 16777216 }
-    ensures bytes { Puts result (W.bytes_taken writer.old) (W.bytes_taken writer.new) pending.old pending.new (normal_dataset rec (item_view item.now)) }
+    requires short { length item.now.octets.now ≤ limit }
+    ensures bytes { PutsTo W.bytes_taken result writer.old writer.new pending.old pending.new (normal_dataset rec (item_view item.now)) }
     ensures count { Counts result (W.failed writer.old) (W.failed writer.new) }
 {
     let (octets, len) = head(rec, item.number, item.octets.len() as u32);
@@ -38,7 +39,7 @@ fn put_group<W: Sink>(
 ) -> Result<(), Failed>
     requires few { W.failed writer.old + 1 < 2 ^ 64 }
     requires short { AreShort (map item_view items.now) }
-    ensures bytes { Puts result (W.bytes_taken writer.old) (W.bytes_taken writer.new) pending.old pending.new (flat_map (normal_dataset rec) (map item_view items.now)) }
+    ensures bytes { PutsTo W.bytes_taken result writer.old writer.new pending.old pending.new (flat_map (normal_dataset rec) (map item_view items.now)) }
     ensures count { Counts result (W.failed writer.old) (W.failed writer.new) }
 {
     for item in items {
@@ -47,13 +48,15 @@ fn put_group<W: Sink>(
     Ok(())
 }
 
-/// Puts the normal form behind the octets that wait, group by group. It takes no memory, and ends at the
-/// first call that fails: the writer has then taken a prefix of those that waited and of the form behind
-/// them. A record that isn't empty gives at least five octets.
+/// Puts the normal form behind the octets that wait, group by group: where these are 8,192 octets together,
+/// or fewer, all of them wait, and the writer isn't called. It takes no memory, and ends at the first call
+/// that fails: the writer has then taken a prefix of those that waited and of the form behind them. A record
+/// that isn't empty gives at least five octets.
 pub fn put_iim<W: Sink>(pending: &mut Pending, writer: &mut W, iim: &Iim) -> Result<(), Failed>
     requires { W.failed writer.old + 1 < 2 ^ 64 }
     ensures bytes { Puts result (W.bytes_taken writer.old) (W.bytes_taken writer.new) pending.old pending.new (normal_iim iim.now) }
     ensures count { Counts result (W.failed writer.old) (W.failed writer.new) }
+    ensures waits { Waits result writer.old writer.new pending.old pending.new (normal_iim iim.now) }
 {
     for (rec, _, items) in iim.iter() {
         put_group(pending, writer, rec, items)?;
@@ -74,8 +77,10 @@ pub fn normal_len(iim: &Iim) -> Option<u32>
 /// record isn't empty. No flush follows.
 ///
 /// NormalTooLong is answered before the first octet, where the form is longer than `LIMIT`; WriteFailed
-/// at the first failed call, after which the writer has taken a prefix of the form. Octets go out in
-/// writes of up to 8,192, longer data at once; no memory is taken, but for such a buffer on the stack.
+/// at the first failed call, after which the writer has taken a prefix of the form. A form of at most 8,192
+/// octets goes out in one whole write: all of it waits (`put_iim`, clause `waits`), and is then sent. Octets
+/// of a longer one go out in writes of up to 8,192, longer data at once; no memory is taken, but for such a
+/// buffer on the stack.
 pub fn write_iim_part<W: Sink>(iim: &Iim, writer: &mut W) -> Result<u64, WriteRefusal>
     requires few { W.failed writer.old + 1 < 2 ^ 64 }
     requires some { 0 < length iim.now }
@@ -104,7 +109,7 @@ pub fn write_iim<W: Sink>(iim: &Iim, writer: &mut W) -> Result<u64, WriteRefusal
 }
 
 fn append_item(memory: &mut Memory, rec: u8, item: &Item, out: &mut Vec<u8>) -> Result<(), Refused>
-    requires { length item.now.octets.now ≤ 16777216 }
+    requires { length item.now.octets.now ≤ limit }
     ensures grown { Grows result out.old.items out.new.items (normal_dataset rec (item_view item.now)) }
     ensures memory { Lacks result memory.old memory.new }
 {
@@ -142,7 +147,7 @@ fn append_record(memory: &mut Memory, iim: &Iim, out: &mut Vec<u8>) -> Result<()
 /// Appends the normal form, which is at most twice `LIMIT` long (`normal_len` is Some). It takes memory
 /// for the vector; where that is refused, the vector holds what it held.
 pub fn append_iim(iim: &Iim, out: &mut Vec<u8>) -> Result<(), AllocError>
-    requires { length (normal_iim iim.now) ≤ 33554432 }
+    requires { length (normal_iim iim.now) ≤ most }
     ensures done { OnOk result (out.new.items ≡ out.old.items ++ normal_iim iim.now) }
     ensures failed { OnErr result (out.new.items ≡ out.old.items) }
 {
@@ -154,7 +159,7 @@ pub fn append_iim(iim: &Iim, out: &mut Vec<u8>) -> Result<(), AllocError>
 /// Appends the normal form as `append_iim` does, in the memory that is lent: an error tells that it refused
 /// a growth in this call.
 pub fn append_iim_in(memory: &mut Memory, iim: &Iim, out: &mut Vec<u8>) -> Result<(), Refused>
-    requires { length (normal_iim iim.now) ≤ 33554432 }
+    requires { length (normal_iim iim.now) ≤ most }
     ensures done { OnOk result (out.new.items ≡ out.old.items ++ normal_iim iim.now) }
     ensures failed { OnErr result (out.new.items ≡ out.old.items) }
     ensures memory { Lacks result memory.old memory.new }

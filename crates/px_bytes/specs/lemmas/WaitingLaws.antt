@@ -1,5 +1,6 @@
 -- Parts put one behind another, while the bytes of some wait.
-use Rattle.std.proofs.Common.{◌≡◌, ℕ, ◌+◌, ◌<◌, ◌++◌, List, [], ◌∷◌, length, take, drop, get_or, slice_get, Option, Some, Result, Ok, Err, sym, ap, ◌∙◌, subst, append_assoc, append-nil}
+use Rattle.std.proofs.Common.{◌≡◌, ℕ, ◌+◌, ◌<◌, ◌++◌, List, [], ◌∷◌, length, take, drop, get_or, slice_get, Option, Some, Result, Ok, Err, refl, sym, ap, ◌∙◌, subst, arith, append_assoc, append-nil, length-append}
+use Rattle.std.proofs.KnownBytes.{Appends-nil}
 use Rattle.std.specs.List.{flat_map}
 use Rattle.std.specs.Io.KnownBytes.{Appends}
 use Rattle.std.proofs.lemmas.List.{take_more, flat_map_more, drop_more, take-append-drop}
@@ -7,7 +8,7 @@ use Rattle.std.proofs.lemmas.List.Concat.{flat_map-append}
 use Rattle.std.proofs.lemmas.Option.{slice_get_within, get_or_from_slice_get}
 use Rattle.px_bytes.specs.Devices.{AppendsPrefix, Writes}
 use Rattle.px_bytes.specs.lemmas.WriteLaws.{appends_both, prefix_first, prefix_second}
-use Rattle.px_bytes.specs.Waiting.{Owes, Puts}
+use Rattle.px_bytes.specs.Waiting.{Owes, Puts, Fits, Waits, PutsTo}
 
 -- one more part, behind what is owed
 pub owes_more : (a b c : Option (List ℕ)) (h k out bytes : List ℕ) → Owes a b h out → Owes b c k (h ++ bytes) → Owes a c k (out ++ bytes)
@@ -69,15 +70,69 @@ module _ {X : Type 0} (f : X → List ℕ) (xs : List X) (i : ℕ) (x : X) (read
       ∙ ap (λ (ys : List X). flat_map f (take i xs) ++ flat_map f ys) (drop_more xs i x within)
       ∙ ap (λ (y : X). flat_map f (take i xs) ++ (f y ++ flat_map f (drop (i + 1) xs))) element
 
-  pub loop_more : (a b c : Option (List ℕ)) (h k m : List ℕ) → Owes a b k (h ++ flat_map f (take i xs)) → Owes b c m (k ++ f x) → Owes a c m (h ++ flat_map f (take (i + 1) xs))
-  loop_more a b c h k m p q =
-      subst (Owes a c m) (append_assoc h (flat_map f (take i xs)) (f x) ∙ ap (λ (l : List ℕ). h ++ l) (sym parts_more))
-      (owes_more a b c k m (h ++ flat_map f (take i xs)) (f x) p q)
+-- ---- parts that wait where they can
 
-  pub loop_stop : (a b c : Option (List ℕ)) (h k : List ℕ) → Owes a b k (h ++ flat_map f (take i xs)) → AppendsPrefix b c (k ++ f x) → AppendsPrefix a c (h ++ flat_map f xs)
-  loop_stop a b c h k p q =
-      let stop = owes_stop a b c k (h ++ flat_map f (take i xs)) (f x) p q in
-      let rest = flat_map f (drop (i + 1) xs) in
-      let out : h ++ flat_map f (take i xs) ++ f x ++ rest ≡ h ++ flat_map f xs =
-      append_assoc (h ++ flat_map f (take i xs)) (f x) rest ∙ append_assoc h (flat_map f (take i xs)) (f x ++ rest) ∙ ap (λ (l : List ℕ). h ++ l) (sym parts_all) in
-      subst (AppendsPrefix a c) out (prefix_first a c (h ++ flat_map f (take i xs) ++ f x) rest stop)
+-- what can't wait together
+fits_first : (h xs ys : List ℕ) → Fits h (xs ++ ys) → Fits h xs
+fits_first h xs ys f = omega (arith, length-append xs ys, f)
+
+fits_second : (h k xs ys : List ℕ) → k ≡ h ++ xs → Fits h (xs ++ ys) → Fits k ys
+fits_second h k xs ys e f = omega (arith, ap (λ (l : List ℕ). length l) e, length-append h xs, length-append xs ys, f)
+
+-- what was put
+pub waits_past : {A E W : Type 0} (r : Result A E) (a b : W) (h k xs : List ℕ) → ¬ Fits h xs → Waits r a b h k xs
+waits_past (Ok x) a b h k xs n = λ f. absurd (n f)
+waits_past (Err e) a b h k xs n = n
+
+module _ {W : Type 0} (taken : W → Option (List ℕ)) where
+  -- the bytes were put
+  abbrev pub HasPut : W → W → List ℕ → List ℕ → List ℕ → Type 0
+  HasPut a b h k xs = Owes (taken a) (taken b) k (h ++ xs) × (Fits h xs → (k ≡ h ++ xs) × (b ≡ a))
+
+  -- a call failed at them
+  abbrev pub FailsPut : W → W → List ℕ → List ℕ → Type 0
+  FailsPut a b h xs = AppendsPrefix (taken a) (taken b) (h ++ xs) × ¬ Fits h xs
+
+  -- no bytes
+  pub put_none : (a : W) (h : List ℕ) → HasPut a a h h []
+  put_none a h = (([], Appends-nil (taken a), sym (append-nil h)), λ f. (sym (append-nil h), refl))
+
+  -- two parts
+  pub put_both : (a b c : W) (h k m xs ys : List ℕ) → HasPut a b h k xs → HasPut b c k m ys → HasPut a c h m (xs ++ ys)
+  put_both a b c h k m xs ys p q =
+      let waits : Fits h (xs ++ ys) → (m ≡ h ++ (xs ++ ys)) × (c ≡ a) = λ f.
+          let first = p.1 (fits_first h xs ys f) in
+          let second = q.1 (fits_second h k xs ys first.0 f) in
+          (second.0 ∙ ap (λ (l : List ℕ). l ++ ys) first.0 ∙ append_assoc h xs ys, second.1 ∙ first.1) in
+      (subst (Owes (taken a) (taken c) m) (append_assoc h xs ys) (owes_more (taken a) (taken b) (taken c) k m (h ++ xs) ys p.0 q.0), waits)
+
+  -- the second of two parts failed
+  pub fails_second : (a b c : W) (h k xs ys : List ℕ) → HasPut a b h k xs → FailsPut b c k ys → FailsPut a c h (xs ++ ys)
+  fails_second a b c h k xs ys p q = (
+    subst (AppendsPrefix (taken a) (taken c)) (append_assoc h xs ys) (owes_stop (taken a) (taken b) (taken c) k (h ++ xs) ys p.0 q.0),
+    λ f. q.1 (fits_second h k xs ys (p.1 (fits_first h xs ys f)).0 f),
+  )
+
+  -- the first of two parts failed
+  pub fails_first : (a b : W) (h xs ys : List ℕ) → FailsPut a b h xs → FailsPut a b h (xs ++ ys)
+  fails_first a b h xs ys p = (puts_first (taken a) (taken b) h xs ys p.0, λ f. p.1 (fits_first h xs ys f))
+
+  -- the answer of the second part is that of both
+  pub puts_to_both : {A E : Type 0} (r : Result A E) (a b c : W) (h k m xs ys : List ℕ) → HasPut a b h k xs
+      → PutsTo taken r b c k m ys → PutsTo taken r a c h m (xs ++ ys)
+  puts_to_both (Ok x) a b c h k m xs ys p q = put_both a b c h k m xs ys p q
+  puts_to_both (Err e) a b c h k m xs ys p q = fails_second a b c h k xs ys p q
+
+  -- the parts of a list's elements: one more, and one at which a call failed
+  module _ {X : Type 0} (f : X → List ℕ) (xs : List X) (i : ℕ) (x : X) (read : slice_get xs i ≡ Some x) where
+    pub loop_more : (a b c : W) (h k m : List ℕ) → HasPut a b h k (flat_map f (take i xs)) → HasPut b c k m (f x)
+        → HasPut a c h m (flat_map f (take (i + 1) xs))
+    loop_more a b c h k m p q =
+        subst (HasPut a c h m) (sym (parts_more f xs i x read)) (put_both a b c h k m (flat_map f (take i xs)) (f x) p q)
+
+    pub loop_stop : (a b c : W) (h k : List ℕ) → HasPut a b h k (flat_map f (take i xs)) → FailsPut b c k (f x)
+        → FailsPut a c h (flat_map f xs)
+    loop_stop a b c h k p q =
+        let rest = flat_map f (drop (i + 1) xs) in
+        subst (FailsPut a c h) (sym (parts_all f xs i x read))
+        (fails_second a b c h k (flat_map f (take i xs)) (f x ++ rest) p (fails_first b c k (f x) rest q))

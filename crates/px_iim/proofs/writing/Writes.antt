@@ -4,10 +4,7 @@ use Rattle.std.specs.List.{flat_map, AllByRecursion}
 use Rattle.std.proofs.lemmas.List.{take-take, take_at}
 use Rattle.std.proofs.lemmas.Option.{slice_get-map, slice_get-get_or}
 use Rattle.px_bytes.specs.Parts.{limit}
-use Rattle.px_bytes.specs.Devices.{AppendsPrefix}
-use Rattle.px_bytes.specs.Waiting.{Owes}
-use Rattle.px_bytes.specs.lemmas.WaitingLaws.{parts_more, owes_more, owes_stop}
-use Rattle.px_bytes.specs.lemmas.WriteLaws.{prefix_first}
+use Rattle.px_bytes.specs.lemmas.WaitingLaws.{HasPut, FailsPut, parts_more, put_both, fails_first, fails_second}
 use Rattle.px_iim.specs.Writing.{AreShort, Grows, normal_head, most, within as within_most}
 use Rattle.px_iim.specs.Group.{Group, Record, IsGroup, IsItem}
 use Rattle.px_iim.specs.Record.{normal_dataset, normal_group, normal_iim}
@@ -79,14 +76,18 @@ module _ (i left : Record) (x : Group) (step : i ≡ x ∷ left) (all : List ℕ
   rest_next : (out : List ℕ) → out ++ normal_iim i ≡ all → out ++ normal_group x ++ normal_iim left ≡ all
   rest_next out e = append_assoc out (normal_group x) (normal_iim left) ∙ ap (λ (k : Record). out ++ normal_iim k) (sym step) ∙ e
 
-  -- x was put
-  pub owes_next : (a b c : Option (List ℕ)) (k m out : List ℕ) → Owes a b k out → out ++ normal_iim i ≡ all → Owes b c m (k ++ normal_group x)
-      → (now : List ℕ) × Owes a c m now × (now ++ normal_iim left ≡ all)
-  owes_next a b c k m out p e q = (out ++ normal_group x, owes_more a b c k m out (normal_group x) p q, rest_next out e)
+  module _ {W : Type 0} (taken : W → Option (List ℕ)) (a b c : W) (h k : List ℕ) where
+    -- x was put
+    pub put_next : (m parts : List ℕ) → HasPut taken a b h k parts → parts ++ normal_iim i ≡ all → HasPut taken b c k m (normal_group x)
+        → (now : List ℕ) × HasPut taken a c h m now × (now ++ normal_iim left ≡ all)
+    put_next m parts p e q = (parts ++ normal_group x, put_both taken a b c h k m parts (normal_group x) p q, rest_next parts e)
 
-  -- the put of x failed
-  pub owes_failed : (a b c : Option (List ℕ)) (k out : List ℕ) → Owes a b k out → out ++ normal_iim i ≡ all → AppendsPrefix b c (k ++ normal_group x) → AppendsPrefix a c all
-  owes_failed a b c k out p e q = subst (AppendsPrefix a c) (rest_next out e) (prefix_first a c (out ++ normal_group x) (normal_iim left) (owes_stop a b c k out (normal_group x) p q))
+    -- the put of x failed
+    pub put_failed : (parts : List ℕ) → HasPut taken a b h k parts → parts ++ normal_iim i ≡ all → FailsPut taken b c k (normal_group x)
+        → FailsPut taken a c h all
+    put_failed parts p e q =
+        subst (FailsPut taken a c h) (rest_next parts e)
+        (fails_first taken a c h (parts ++ normal_group x) (normal_iim left) (fails_second taken a b c h k parts (normal_group x) p q))
 
   -- x was appended
   pub grows_next : (old now new parts : List ℕ) → now ≡ old ++ parts → parts ++ normal_iim i ≡ all → new ≡ now ++ normal_group x
