@@ -5,7 +5,9 @@ pub mod Planned
 pub mod PlanningNormal
 pub mod Judging
 pub mod Starting
+pub mod Forms
 pub mod Given
 pub mod Items
 pub mod Layers
+pub mod Layouts
 pub mod Building

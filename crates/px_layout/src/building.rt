@@ -3,33 +3,25 @@ ghost use Rattle.std.specs.Prelude.{◌≡◌, ◌≤◌, ◌<◌, ◌+◌, ◌^
 ghost use Rattle.px_bytes.specs.Devices.{Counts};
 ghost use Rattle.px_bytes.specs.Lacking.{Lacks};
 ghost use Rattle.px_bytes.specs.Parts.{limit};
-ghost use Rattle.px_bytes.specs.Waiting.{Puts};
+ghost use Rattle.px_bytes.specs.Waiting.{PutsTo};
 ghost use Rattle.std.specs.Io.KnownBytes.{Appends};
 ghost use Rattle.px_tree.specs.Directory.{dirs};
 ghost use Rattle.px_tree.specs.Fits.{Fits, items};
 ghost use Rattle.px_tree.specs.calls.Seen.{thumb_of};
-ghost use Rattle.px_layout.specs.calls.Building.{AreInside, PutsOver, said_plan, said_meaning, at_places, value_pieces, dir_pieces, piece_bytes, IsPiece};
-ghost use Rattle.px_layout.specs.calls.Items.{item_of, IsCounted};
+ghost use Rattle.px_layout.specs.calls.Building.{AreInside, PutsOver, at_places, value_pieces, dir_pieces, piece_bytes, IsPiece};
+ghost use Rattle.px_layout.specs.calls.Items.{item_of, entry_of, IsCounted};
+ghost use Rattle.px_layout.specs.calls.Layouts.{said_plan, said_meaning};
 ghost use Rattle.px_layout.specs.Laid.{all_strip_contents, item_bytes, jpeg_contents, strip_contents, table_bytes, thumb_contents, header, contents_of_dir, laid};
 ghost use Rattle.px_layout.specs.Plans.{Legal, place};
 
 use crate::chunks::Chunk;
 use crate::entries::{Entries, entries_in};
-use crate::items::Item;
-use crate::plan::Plan;
+use crate::items::{Entry, Item};
+use crate::layout::Layout;
 use crate::put_item::{place_of, put_item};
 use crate::put_table::{put_header, put_table};
-use px_bytes::{Failed, Growing, Memory, Order, Pending, Refused, Sink};
-use px_tree::{Dir, Meaning, Strips, Thumb};
-
-// What a block says, and how it is laid out.
-#[derive(Clone, Copy)]
-pub(crate) struct Layout<'p, 'a> {
-    pub(crate) m: &'p Meaning<'a>,
-    pub(crate) plan: &'p Plan,
-    pub(crate) order: Order,
-    pub(crate) filler: u8,
-}
+use px_bytes::{Failed, Growing, Memory, Pending, Refused, Sink};
+use px_tree::{Dir, Strips, Thumb};
 
 // Puts bytes at a place.
 fn put_at(block: &mut [u8], at: u32, bytes: &[u8])
@@ -59,21 +51,13 @@ fn put_piece<W: Sink>(
 ) -> Result<(), Failed>
     requires few { W.failed writer.old + 1 < 2 ^ 64 }
     requires piece { IsPiece piece }
-    ensures bytes { Puts result (W.bytes_taken writer.old) (W.bytes_taken writer.new) pending.old pending.new (piece_bytes layout.now piece.entry) }
+    ensures bytes { PutsTo W.bytes_taken result writer.old writer.new pending.old pending.new (piece_bytes layout.now piece.entry) }
     ensures count { Counts result (W.failed writer.old) (W.failed writer.new) }
 {
-    let Layout {
-        m,
-        plan,
-        order,
-        filler,
-    } = *layout;
     match piece {
-        Piece::Header => put_header(pending, writer, plan, order),
-        Piece::Table(dir, entries) => {
-            put_table(pending, writer, m, plan, order, filler, dir, entries)
-        }
-        Piece::Value(item) => put_item(pending, writer, plan, order, item),
+        Piece::Header => put_header(pending, writer, layout),
+        Piece::Table(dir, entries) => put_table(pending, writer, layout, dir, entries),
+        Piece::Value(item) => put_item(pending, writer, layout, item),
     }
 }
 
@@ -167,24 +151,21 @@ fn lay_value(
     block: &mut [u8],
     layout: &Layout,
     dir: Dir,
-    tag: u16,
-    item: Item,
+    entry: &Entry,
 ) -> Result<(), Refused>
-    requires counted { IsCounted (item_of item) }
-    requires inside { AreInside (length block.old) (value_pieces layout.now dir ((tag, item_of item) ∷ [])) }
+    requires counted { IsCounted (item_of entry.now.item) }
+    requires inside { AreInside (length block.old) (value_pieces layout.now dir (entry_of entry.now ∷ [])) }
     ensures memory { Lacks result memory.old memory.new }
     ensures len { length block.new ≡ length block.old }
-    ensures bytes { OnOk result (PutsOver block.old block.new (value_pieces layout.now dir ((tag, item_of item.entry) ∷ []))) }
+    ensures bytes { OnOk result (PutsOver block.old block.new (value_pieces layout.now dir (entry_of entry.now ∷ []))) }
 {
+    let Entry { tag, item } = *entry;
     if item.size() <= 4 {
         return Ok(());
     }
     let bytes = bytes_of(memory, layout, Piece::Value(item))?;
-    put_at(
-        block,
-        place_of(layout.plan, Chunk::Placed(dir, tag)),
-        &bytes,
-    );
+    let at = place_of(layout.plan, Chunk::Placed(dir, tag));
+    put_at(block, at, &bytes);
     Ok(())
 }
 
@@ -202,8 +183,8 @@ fn lay_values(
     ensures bytes { OnOk result (PutsOver block.old block.new (value_pieces layout.now dir entries.now)) }
 {
     for i in (0..entries.len()).rev() {
-        let (tag, item) = entries.at(i);
-        lay_value(memory, block, layout, dir, tag, item)?;
+        let entry = entries.at(i);
+        lay_value(memory, block, layout, dir, &entry)?;
     }
     Ok(())
 }

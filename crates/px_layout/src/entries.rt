@@ -7,10 +7,10 @@ ghost use Rattle.px_tree.specs.calls.Iim.{normal_iim};
 ghost use Rattle.px_tree.specs.Fits as said;
 ghost use Rattle.px_tree.specs.Fits.{Fits, FitsThumb, IsBytes, AtJpeg, JpegSize, AtStrips, StripSizes, Iptc, items, link, put_some, main_items, exif_items, thumb_items, field_items};
 ghost use Rattle.px_tree.specs.calls.Seen.{exif_of, thumb_of, meaning_of};
-ghost use Rattle.px_layout.specs.calls.Items.{item_of, IsCounted, rank};
+ghost use Rattle.px_layout.specs.calls.Items.{item_of, entry_of, IsCounted, rank};
 ghost use Rattle.px_layout.specs.calls.Layers.{Stands, Tells, over};
 
-use crate::items::Item;
+use crate::items::{Entry, Item};
 use crate::records::Record;
 use px_iim::Iim;
 use px_tree::{Dir, ExifPart, Fields, Meaning, Strips, Thumb};
@@ -150,30 +150,33 @@ impl<'m, 'a> Entries<'m, 'a> {
             + number(&self.fourth)
     }
 
-    /// The tag and the item at place `i`, counted from 0.
-    pub(crate) fn at(&self, i: usize) -> (u16, Item<'m, 'a>)
+    /// The entry at place `i`, counted from 0.
+    pub(crate) fn at(&self, i: usize) -> Entry<'m, 'a>
         requires { i < length self.now }
-        ensures entry { slice_get self.now i ≡ Some (result.0, item_of result.1) }
-        ensures counted { IsCounted (item_of result.1) }
+        ensures entry { slice_get self.now i ≡ Some (entry_of result) }
+        ensures counted { IsCounted (item_of result.item) }
     {
         let i = match pass(&self.fourth, i) {
-            Step::Here(tag, item) => return (tag, item),
+            Step::Here(tag, item) => return Entry { tag, item },
             Step::Under(i) => i,
         };
         let i = match pass(&self.third, i) {
-            Step::Here(tag, item) => return (tag, item),
+            Step::Here(tag, item) => return Entry { tag, item },
             Step::Under(i) => i,
         };
         let i = match pass(&self.second, i) {
-            Step::Here(tag, item) => return (tag, item),
+            Step::Here(tag, item) => return Entry { tag, item },
             Step::Under(i) => i,
         };
         let i = match pass(&self.first, i) {
-            Step::Here(tag, item) => return (tag, item),
+            Step::Here(tag, item) => return Entry { tag, item },
             Step::Under(i) => i,
         };
         let (tag, value) = self.fields.at(i);
-        (tag, Item::Field(value))
+        Entry {
+            tag,
+            item: Item::Field(value),
+        }
     }
 
     // How many entries stand before the first of a greater tag.

@@ -21,6 +21,13 @@ pub(crate) enum Item<'m, 'a> {
     StripLengths(&'m Strips<'a>),
 }
 
+/// An entry: its tag, and what it says.
+#[derive(Clone, Copy)]
+pub(crate) struct Entry<'m, 'a> {
+    pub(crate) tag: u16,
+    pub(crate) item: Item<'m, 'a>,
+}
+
 // The type of a field: whole numbers are written as LONG.
 fn form_of(value: &Value) -> Form
     ensures { result ≡ form_in value.now.kind }

@@ -19,8 +19,10 @@
 mod building;
 mod chunks;
 mod entries;
+mod form;
 mod items;
 pub mod laws;
+mod layout;
 mod legal;
 mod normal;
 mod offsets;
@@ -28,8 +30,8 @@ mod plan;
 #[cfg(test)]
 mod plan_tests;
 mod put;
+mod put_form;
 mod put_item;
-mod put_normal;
 mod put_running;
 mod put_table;
 mod put_thumb;
@@ -44,9 +46,11 @@ mod write;
 mod write_tests;
 
 pub use chunks::Chunk;
+pub use form::NormalForm;
 pub use legal::{is_legal, is_legal_in};
 pub use normal::{plan_normal, plan_normal_in};
 pub use plan::Plan;
+pub use put_form::put_normal;
 pub use px_bytes::WriteRefusal;
 pub use with_plan::{write_with, write_with_in};
 pub use write::{write_normal, write_normal_in};

@@ -2,13 +2,15 @@
 ghost use Rattle.std.specs.Prelude.{◌≡◌, ◌≤◌, ◌<◌, ◌+◌, ◌^◌, ◌%◌, ◌++◌, replicate, flat_map};
 ghost use Rattle.px_bytes.specs.Devices.{Counts};
 ghost use Rattle.px_bytes.specs.Numbers.{spelling};
-ghost use Rattle.px_bytes.specs.Waiting.{Puts};
-ghost use Rattle.px_field.specs.Forms.{code};
+ghost use Rattle.px_bytes.specs.Waiting.{PutsTo};
 ghost use Rattle.px_field.specs.Values.{spell, spelled};
 ghost use Rattle.px_layout.specs.Laid.{long_bytes};
+ghost use Rattle.px_layout.specs.calls.Given.{head_bytes};
+ghost use Rattle.px_layout.specs.calls.Items.{item_of, entry_of, IsCounted};
 
+use crate::items::Entry;
 use px_bytes::{Failed, Order, Pending, Sink};
-use px_field::{Form, Value};
+use px_field::Value;
 
 // A number of two bytes.
 pub(crate) fn put_short<W: Sink>(
@@ -18,7 +20,7 @@ pub(crate) fn put_short<W: Sink>(
     n: u16,
 ) -> Result<(), Failed>
     requires { W.failed writer.old + 1 < 2 ^ 64 }
-    ensures bytes { Puts result (W.bytes_taken writer.old) (W.bytes_taken writer.new) pending.old pending.new (spelling order 2 n) }
+    ensures bytes { PutsTo W.bytes_taken result writer.old writer.new pending.old pending.new (spelling order 2 n) }
     ensures count { Counts result (W.failed writer.old) (W.failed writer.new) }
 {
     let mut bytes = [0; 2];
@@ -34,7 +36,7 @@ pub(crate) fn put_long<W: Sink>(
     n: u32,
 ) -> Result<(), Failed>
     requires { W.failed writer.old + 1 < 2 ^ 64 }
-    ensures bytes { Puts result (W.bytes_taken writer.old) (W.bytes_taken writer.new) pending.old pending.new (long_bytes order n) }
+    ensures bytes { PutsTo W.bytes_taken result writer.old writer.new pending.old pending.new (long_bytes order n) }
     ensures count { Counts result (W.failed writer.old) (W.failed writer.new) }
 {
     let mut bytes = [0; 4];
@@ -51,7 +53,7 @@ pub(crate) fn put_filler<W: Sink>(
 ) -> Result<(), Failed>
     requires few { W.failed writer.old + 1 < 2 ^ 64 }
     requires most { count ≤ 4 }
-    ensures bytes { Puts result (W.bytes_taken writer.old) (W.bytes_taken writer.new) pending.old pending.new (replicate count filler) }
+    ensures bytes { PutsTo W.bytes_taken result writer.old writer.new pending.old pending.new (replicate count filler) }
     ensures count { Counts result (W.failed writer.old) (W.failed writer.new) }
 {
     pending.put(writer, &[filler; 4][..count])
@@ -64,7 +66,7 @@ pub(crate) fn put_padding<W: Sink>(
     len: u64,
 ) -> Result<(), Failed>
     requires { W.failed writer.old + 1 < 2 ^ 64 }
-    ensures bytes { Puts result (W.bytes_taken writer.old) (W.bytes_taken writer.new) pending.old pending.new (replicate (len % 2) 0) }
+    ensures bytes { PutsTo W.bytes_taken result writer.old writer.new pending.old pending.new (replicate (len % 2) 0) }
     ensures count { Counts result (W.failed writer.old) (W.failed writer.new) }
 {
     put_filler(pending, writer, 0, (len % 2) as usize)
@@ -81,7 +83,7 @@ fn put_elements<W: Sink>(
     value: &Value,
 ) -> Result<(), Failed>
     requires { W.failed writer.old + 1 < 2 ^ 64 }
-    ensures bytes { Puts result (W.bytes_taken writer.old) (W.bytes_taken writer.new) pending.old pending.new (flat_map (spell order) value.now.elements) }
+    ensures bytes { PutsTo W.bytes_taken result writer.old writer.new pending.old pending.new (flat_map (spell order) value.now.elements) }
     ensures count { Counts result (W.failed writer.old) (W.failed writer.new) }
 {
     let width = value.width();
@@ -103,7 +105,7 @@ pub(crate) fn put_value<W: Sink>(
     value: &Value,
 ) -> Result<(), Failed>
     requires { W.failed writer.old + 1 < 2 ^ 64 }
-    ensures bytes { Puts result (W.bytes_taken writer.old) (W.bytes_taken writer.new) pending.old pending.new (spelled order value.now) }
+    ensures bytes { PutsTo W.bytes_taken result writer.old writer.new pending.old pending.new (spelled order value.now) }
     ensures count { Counts result (W.failed writer.old) (W.failed writer.new) }
 {
     if let Some(bytes) = value.in_order(order) {
@@ -113,12 +115,14 @@ pub(crate) fn put_value<W: Sink>(
 }
 
 // An entry up to its last field: tag, type, count.
-pub(crate) fn entry_head(order: Order, tag: u16, form: Form, count: u32) -> [u8; 8]
-    ensures { result ≡ spelling order 2 tag ++ (spelling order 2 (code form) ++ long_bytes order count) }
+pub(crate) fn entry_head(order: Order, entry: &Entry) -> [u8; 8]
+    requires { IsCounted (item_of entry.now.item) }
+    ensures { result ≡ head_bytes order (entry_of entry.now) }
 {
+    let Entry { tag, item } = *entry;
     let mut head = [0; 8];
     order.put16(tag, &mut head[..2]);
-    order.put16(form.code(), &mut head[2..4]);
-    order.put32(count, &mut head[4..]);
+    order.put16(item.form().code(), &mut head[2..4]);
+    order.put32(item.count(), &mut head[4..]);
     head
 }

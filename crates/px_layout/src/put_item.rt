@@ -1,16 +1,18 @@
 // What an entry says, put behind the bytes that wait for a writer. TIFF 6.0 section 2, "IFD Entry" and "Value/Offset".
-ghost use Rattle.std.specs.Prelude.{◌≡◌, ◌≤◌, ◌<◌, ◌+◌, ◌^◌, ℕ, length, map, flat_map};
+ghost use Rattle.std.specs.Prelude.{◌≡◌, ◌≤◌, ◌<◌, ◌+◌, ◌^◌, length, map, flat_map};
 ghost use Rattle.std.specs.List.{AllByRecursion, range_with_len};
 ghost use Rattle.px_bytes.specs.Devices.{Counts};
 ghost use Rattle.px_bytes.specs.Parts.{limit};
-ghost use Rattle.px_bytes.specs.Waiting.{Puts};
-ghost use Rattle.px_layout.specs.calls.Items.{item_of, IsCounted};
+ghost use Rattle.px_bytes.specs.Waiting.{PutsTo};
+ghost use Rattle.px_layout.specs.calls.Items.{item_of, entry_of, IsCounted};
+ghost use Rattle.px_layout.specs.calls.Layouts.{said_plan};
 ghost use Rattle.px_layout.specs.Laid.{long_bytes, item_bytes, last_bytes, entry_bytes};
 ghost use Rattle.px_layout.specs.calls.Planned.{plan_of};
 ghost use Rattle.px_layout.specs.Plans.{place};
 
 use crate::chunks::Chunk;
-use crate::items::Item;
+use crate::items::{Entry, Item};
+use crate::layout::Layout;
 use crate::plan::Plan;
 use crate::put::{entry_head, put_filler, put_long, put_value};
 use px_bytes::{Failed, Order, Pending, Sink};
@@ -24,21 +26,34 @@ pub(crate) fn place_of(plan: &Plan, chunk: Chunk) -> u32
     plan.offset(chunk).unwrap_or(0)
 }
 
+// Where a chunk stands, put in the layout's order.
+pub(crate) fn put_place<W: Sink>(
+    pending: &mut Pending,
+    writer: &mut W,
+    layout: &Layout,
+    chunk: Chunk,
+) -> Result<(), Failed>
+    requires { W.failed writer.old + 1 < 2 ^ 64 }
+    ensures bytes { PutsTo W.bytes_taken result writer.old writer.new pending.old pending.new (long_bytes layout.now.order (place (said_plan layout.now) chunk)) }
+    ensures count { Counts result (W.failed writer.old) (W.failed writer.new) }
+{
+    put_long(pending, writer, layout.order, place_of(layout.plan, chunk))
+}
+
 // The offsets of the first strips.
 fn put_strip_offsets<W: Sink>(
     pending: &mut Pending,
     writer: &mut W,
-    plan: &Plan,
-    order: Order,
+    layout: &Layout,
     count: u32,
 ) -> Result<(), Failed>
     requires { W.failed writer.old + 1 < 2 ^ 64 }
-    ensures bytes { Puts result (W.bytes_taken writer.old) (W.bytes_taken writer.new) pending.old pending.new (flat_map
-        (λ i. long_bytes order (place (plan_of plan.now) (Chunk.Strip i))) (range_with_len 0 count)) }
+    ensures bytes { PutsTo W.bytes_taken result writer.old writer.new pending.old pending.new (flat_map
+        (λ i. long_bytes layout.now.order (place (said_plan layout.now) (Chunk.Strip i))) (range_with_len 0 count)) }
     ensures count { Counts result (W.failed writer.old) (W.failed writer.new) }
 {
     for i in 0..count {
-        put_long(pending, writer, order, place_of(plan, Chunk::Strip(i)))?;
+        put_place(pending, writer, layout, Chunk::Strip(i))?;
     }
     Ok(())
 }
@@ -51,7 +66,7 @@ pub(crate) fn put_strip_lengths<W: Sink>(
 ) -> Result<(), Failed>
     requires few { W.failed writer.old + 1 < 2 ^ 64 }
     requires short { AllByRecursion (λ n. n ≤ limit) (map (λ x. length x) strips.now) }
-    ensures bytes { Puts result (W.bytes_taken writer.old) (W.bytes_taken writer.new) pending.old pending.new (flat_map
+    ensures bytes { PutsTo W.bytes_taken result writer.old writer.new pending.old pending.new (flat_map
         (long_bytes order) (map (λ x. length x) strips.now)) }
     ensures count { Counts result (W.failed writer.old) (W.failed writer.new) }
 {
@@ -61,30 +76,29 @@ pub(crate) fn put_strip_lengths<W: Sink>(
     Ok(())
 }
 
-// The value of an entry, whatever fills the gaps of the block.
+// The value of an entry.
 #[tactic(auto, unfolding(crate::specs::Laid::item_bytes))]
 pub(crate) fn put_item<W: Sink>(
     pending: &mut Pending,
     writer: &mut W,
-    plan: &Plan,
-    order: Order,
+    layout: &Layout,
     item: Item,
 ) -> Result<(), Failed>
     requires few { W.failed writer.old + 1 < 2 ^ 64 }
     requires counted { IsCounted (item_of item) }
-    ensures bytes { (filler : ℕ) → Puts result (W.bytes_taken writer.old) (W.bytes_taken writer.new) pending.old pending.new (item_bytes (plan_of plan.now) order filler (item_of item.entry)) }
+    ensures bytes { PutsTo W.bytes_taken result writer.old writer.new pending.old pending.new (item_bytes (said_plan layout.now) layout.now.order layout.now.filler (item_of item.entry)) }
     ensures count { Counts result (W.failed writer.old) (W.failed writer.new) }
 {
     match item {
-        Item::Field(value) => put_value(pending, writer, order, value),
+        Item::Field(value) => put_value(pending, writer, layout.order, value),
         Item::Record(record) => put_iim(pending, writer, record.iim),
-        Item::Link(dir) => put_long(pending, writer, order, place_of(plan, Chunk::Table(dir))),
-        Item::JpegOffset => put_long(pending, writer, order, place_of(plan, Chunk::Jpeg)),
-        Item::JpegLength(len) => put_long(pending, writer, order, len),
+        Item::Link(dir) => put_place(pending, writer, layout, Chunk::Table(dir)),
+        Item::JpegOffset => put_place(pending, writer, layout, Chunk::Jpeg),
+        Item::JpegLength(len) => put_long(pending, writer, layout.order, len),
         Item::StripOffsets(strips) => {
-            put_strip_offsets(pending, writer, plan, order, strips.len() as u32)
+            put_strip_offsets(pending, writer, layout, strips.len() as u32)
         }
-        Item::StripLengths(strips) => put_strip_lengths(pending, writer, order, strips),
+        Item::StripLengths(strips) => put_strip_lengths(pending, writer, layout.order, strips),
     }
 }
 
@@ -93,47 +107,37 @@ pub(crate) fn put_item<W: Sink>(
 fn put_last<W: Sink>(
     pending: &mut Pending,
     writer: &mut W,
-    plan: &Plan,
-    order: Order,
-    filler: u8,
+    layout: &Layout,
     dir: Dir,
-    tag: u16,
-    item: Item,
+    entry: &Entry,
 ) -> Result<(), Failed>
     requires few { W.failed writer.old + 1 < 2 ^ 64 }
-    requires counted { IsCounted (item_of item) }
-    ensures bytes { Puts result (W.bytes_taken writer.old) (W.bytes_taken writer.new) pending.old pending.new (last_bytes (plan_of plan.now) order filler dir (tag, item_of item.entry)) }
+    requires counted { IsCounted (item_of entry.now.item) }
+    ensures bytes { PutsTo W.bytes_taken result writer.old writer.new pending.old pending.new (last_bytes (said_plan layout.now) layout.now.order layout.now.filler dir (entry_of entry.now)) }
     ensures count { Counts result (W.failed writer.old) (W.failed writer.new) }
 {
+    let Entry { tag, item } = *entry;
     let size = item.size();
     if size > 4 {
-        return put_long(
-            pending,
-            writer,
-            order,
-            place_of(plan, Chunk::Placed(dir, tag)),
-        );
+        return put_place(pending, writer, layout, Chunk::Placed(dir, tag));
     }
-    put_item(pending, writer, plan, order, item)?;
-    put_filler(pending, writer, filler, 4 - size as usize)
+    put_item(pending, writer, layout, item)?;
+    put_filler(pending, writer, layout.filler, 4 - size as usize)
 }
 
 // An entry of a directory.
 pub(crate) fn put_entry<W: Sink>(
     pending: &mut Pending,
     writer: &mut W,
-    plan: &Plan,
-    order: Order,
-    filler: u8,
+    layout: &Layout,
     dir: Dir,
-    tag: u16,
-    item: Item,
+    entry: &Entry,
 ) -> Result<(), Failed>
     requires few { W.failed writer.old + 1 < 2 ^ 64 }
-    requires counted { IsCounted (item_of item) }
-    ensures bytes { Puts result (W.bytes_taken writer.old) (W.bytes_taken writer.new) pending.old pending.new (entry_bytes (plan_of plan.now) order filler dir (tag, item_of item.entry)) }
+    requires counted { IsCounted (item_of entry.now.item) }
+    ensures bytes { PutsTo W.bytes_taken result writer.old writer.new pending.old pending.new (entry_bytes (said_plan layout.now) layout.now.order layout.now.filler dir (entry_of entry.now)) }
     ensures count { Counts result (W.failed writer.old) (W.failed writer.new) }
 {
-    pending.put(writer, &entry_head(order, tag, item.form(), item.count()))?;
-    put_last(pending, writer, plan, order, filler, dir, tag, item)
+    pending.put(writer, &entry_head(layout.order, entry))?;
+    put_last(pending, writer, layout, dir, entry)
 }

@@ -1,19 +1,18 @@
 // The header and the tables of directories. TIFF 6.0 section 2, "Image File Header" and "Image File Directory".
-ghost use Rattle.std.specs.Prelude.{◌≡◌, ◌<◌, ◌+◌, ◌^◌, ℕ, length, flat_map};
+ghost use Rattle.std.specs.Prelude.{◌≡◌, ◌<◌, ◌+◌, ◌^◌, length, flat_map};
 ghost use Rattle.px_bytes.specs.Devices.{Counts};
-ghost use Rattle.px_bytes.specs.Waiting.{Puts};
+ghost use Rattle.px_bytes.specs.Waiting.{PutsTo};
 ghost use Rattle.px_tree.specs.Directory.{magic};
-ghost use Rattle.px_tree.specs.calls.Seen.{meaning_of};
 ghost use Rattle.px_layout.specs.Laid.{entry_bytes, next_bytes, table_bytes, header};
-ghost use Rattle.px_layout.specs.calls.Planned.{plan_of};
+ghost use Rattle.px_layout.specs.calls.Layouts.{said_plan, said_meaning};
 
 use crate::chunks::Chunk;
 use crate::entries::Entries;
-use crate::plan::Plan;
+use crate::layout::Layout;
 use crate::put::{put_filler, put_long, put_short};
-use crate::put_item::{place_of, put_entry};
+use crate::put_item::{put_entry, put_place};
 use px_bytes::{Failed, Order, Pending, Sink};
-use px_tree::{Dir, Meaning};
+use px_tree::Dir;
 
 // "II" or "MM", and 42 in that order.
 fn magic_of(order: Order) -> [u8; 4]
@@ -25,43 +24,34 @@ fn magic_of(order: Order) -> [u8; 4]
     }
 }
 
-// The header, whatever fills the gaps of the block.
 pub(crate) fn put_header<W: Sink>(
     pending: &mut Pending,
     writer: &mut W,
-    plan: &Plan,
-    order: Order,
+    layout: &Layout,
 ) -> Result<(), Failed>
     requires { W.failed writer.old + 1 < 2 ^ 64 }
-    ensures bytes { (filler : ℕ) → Puts result (W.bytes_taken writer.old) (W.bytes_taken writer.new) pending.old pending.new (header (plan_of plan.now) order filler) }
+    ensures bytes { PutsTo W.bytes_taken result writer.old writer.new pending.old pending.new (header (said_plan layout.now) layout.now.order layout.now.filler) }
     ensures count { Counts result (W.failed writer.old) (W.failed writer.new) }
 {
-    pending.put(writer, &magic_of(order))?;
-    put_long(
-        pending,
-        writer,
-        order,
-        place_of(plan, Chunk::Table(Dir::Main)),
-    )
+    pending.put(writer, &magic_of(layout.order))?;
+    put_place(pending, writer, layout, Chunk::Table(Dir::Main))
 }
 
 fn put_entries<W: Sink>(
     pending: &mut Pending,
     writer: &mut W,
-    plan: &Plan,
-    order: Order,
-    filler: u8,
+    layout: &Layout,
     dir: Dir,
     entries: &Entries,
 ) -> Result<(), Failed>
     requires { W.failed writer.old + 1 < 2 ^ 64 }
-    ensures bytes { Puts result (W.bytes_taken writer.old) (W.bytes_taken writer.new) pending.old pending.new (flat_map
-        (entry_bytes (plan_of plan.now) order filler dir) entries.now) }
+    ensures bytes { PutsTo W.bytes_taken result writer.old writer.new pending.old pending.new (flat_map
+        (entry_bytes (said_plan layout.now) layout.now.order layout.now.filler dir) entries.now) }
     ensures count { Counts result (W.failed writer.old) (W.failed writer.new) }
 {
     for i in 0..entries.len() {
-        let (tag, item) = entries.at(i);
-        put_entry(pending, writer, plan, order, filler, dir, tag, item)?;
+        let entry = entries.at(i);
+        put_entry(pending, writer, layout, dir, &entry)?;
     }
     Ok(())
 }
@@ -70,22 +60,15 @@ fn put_entries<W: Sink>(
 fn put_next_of_main<W: Sink>(
     pending: &mut Pending,
     writer: &mut W,
-    m: &Meaning,
-    plan: &Plan,
-    order: Order,
+    layout: &Layout,
 ) -> Result<(), Failed>
     requires { W.failed writer.old + 1 < 2 ^ 64 }
-    ensures bytes { (filler : ℕ) → Puts result (W.bytes_taken writer.old) (W.bytes_taken writer.new) pending.old pending.new (next_bytes (plan_of plan.now) order filler (meaning_of m.now) Dir.Main) }
+    ensures bytes { PutsTo W.bytes_taken result writer.old writer.new pending.old pending.new (next_bytes (said_plan layout.now) layout.now.order layout.now.filler (said_meaning layout.now) Dir.Main) }
     ensures count { Counts result (W.failed writer.old) (W.failed writer.new) }
 {
-    match &m.thumb {
-        Some(_) => put_long(
-            pending,
-            writer,
-            order,
-            place_of(plan, Chunk::Table(Dir::Thumb)),
-        ),
-        None => put_long(pending, writer, order, 0),
+    match &layout.m.thumb {
+        Some(_) => put_place(pending, writer, layout, Chunk::Table(Dir::Thumb)),
+        None => put_long(pending, writer, layout.order, 0),
     }
 }
 
@@ -93,20 +76,17 @@ fn put_next_of_main<W: Sink>(
 fn put_next<W: Sink>(
     pending: &mut Pending,
     writer: &mut W,
-    m: &Meaning,
-    plan: &Plan,
-    order: Order,
-    filler: u8,
+    layout: &Layout,
     dir: Dir,
 ) -> Result<(), Failed>
     requires { W.failed writer.old + 1 < 2 ^ 64 }
-    ensures bytes { Puts result (W.bytes_taken writer.old) (W.bytes_taken writer.new) pending.old pending.new (next_bytes (plan_of plan.now) order filler (meaning_of m.now) dir) }
+    ensures bytes { PutsTo W.bytes_taken result writer.old writer.new pending.old pending.new (next_bytes (said_plan layout.now) layout.now.order layout.now.filler (said_meaning layout.now) dir) }
     ensures count { Counts result (W.failed writer.old) (W.failed writer.new) }
 {
     match dir {
-        Dir::Main => put_next_of_main(pending, writer, m, plan, order),
-        Dir::Thumb => put_long(pending, writer, order, 0),
-        Dir::Exif | Dir::Interop | Dir::Gps => put_filler(pending, writer, filler, 4),
+        Dir::Main => put_next_of_main(pending, writer, layout),
+        Dir::Thumb => put_long(pending, writer, layout.order, 0),
+        Dir::Exif | Dir::Interop | Dir::Gps => put_filler(pending, writer, layout.filler, 4),
     }
 }
 
@@ -114,19 +94,16 @@ fn put_next<W: Sink>(
 pub(crate) fn put_table<W: Sink>(
     pending: &mut Pending,
     writer: &mut W,
-    m: &Meaning,
-    plan: &Plan,
-    order: Order,
-    filler: u8,
+    layout: &Layout,
     dir: Dir,
     entries: &Entries,
 ) -> Result<(), Failed>
     requires few { W.failed writer.old + 1 < 2 ^ 64 }
     requires counted { length entries.now < 2 ^ 16 }
-    ensures bytes { Puts result (W.bytes_taken writer.old) (W.bytes_taken writer.new) pending.old pending.new (table_bytes (plan_of plan.now) order filler (meaning_of m.now) dir entries.now) }
+    ensures bytes { PutsTo W.bytes_taken result writer.old writer.new pending.old pending.new (table_bytes (said_plan layout.now) layout.now.order layout.now.filler (said_meaning layout.now) dir entries.now) }
     ensures count { Counts result (W.failed writer.old) (W.failed writer.new) }
 {
-    put_short(pending, writer, order, entries.len() as u16)?;
-    put_entries(pending, writer, plan, order, filler, dir, entries)?;
-    put_next(pending, writer, m, plan, order, filler, dir)
+    put_short(pending, writer, layout.order, entries.len() as u16)?;
+    put_entries(pending, writer, layout, dir, entries)?;
+    put_next(pending, writer, layout, dir)
 }

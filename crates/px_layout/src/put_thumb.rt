@@ -2,7 +2,7 @@
 // TIFF 6.0 section 8.
 ghost use Rattle.std.specs.Prelude.{◌<◌, ◌+◌, ◌^◌, Some, option_map, flat_map};
 ghost use Rattle.px_bytes.specs.Devices.{Counts};
-ghost use Rattle.px_bytes.specs.Waiting.{Puts};
+ghost use Rattle.px_bytes.specs.Waiting.{PutsTo};
 ghost use Rattle.px_tree.specs.calls.Seen.{thumb_of};
 ghost use Rattle.px_layout.specs.Laid.{jpeg_contents, strip_contents, all_strip_contents, thumb_contents};
 ghost use Rattle.px_layout.specs.Normal.{padded};
@@ -13,7 +13,7 @@ use px_tree::{Strips, Thumb};
 
 fn put_padded<W: Sink>(pending: &mut Pending, writer: &mut W, bytes: &[u8]) -> Result<(), Failed>
     requires { W.failed writer.old + 1 < 2 ^ 64 }
-    ensures bytes { Puts result (W.bytes_taken writer.old) (W.bytes_taken writer.new) pending.old pending.new (padded bytes.now) }
+    ensures bytes { PutsTo W.bytes_taken result writer.old writer.new pending.old pending.new (padded bytes.now) }
     ensures count { Counts result (W.failed writer.old) (W.failed writer.new) }
 {
     pending.put(writer, bytes)?;
@@ -22,7 +22,7 @@ fn put_padded<W: Sink>(pending: &mut Pending, writer: &mut W, bytes: &[u8]) -> R
 
 fn put_strips<W: Sink>(pending: &mut Pending, writer: &mut W, strips: &Strips) -> Result<(), Failed>
     requires { W.failed writer.old + 1 < 2 ^ 64 }
-    ensures bytes { Puts result (W.bytes_taken writer.old) (W.bytes_taken writer.new) pending.old pending.new (flat_map
+    ensures bytes { PutsTo W.bytes_taken result writer.old writer.new pending.old pending.new (flat_map
         (λ c. padded c.1) (strip_contents 0 strips.now)) }
     ensures count { Counts result (W.failed writer.old) (W.failed writer.new) }
 {
@@ -38,7 +38,7 @@ fn put_all_strips<W: Sink>(
     strips: &Option<Strips>,
 ) -> Result<(), Failed>
     requires { W.failed writer.old + 1 < 2 ^ 64 }
-    ensures bytes { Puts result (W.bytes_taken writer.old) (W.bytes_taken writer.new) pending.old pending.new (flat_map
+    ensures bytes { PutsTo W.bytes_taken result writer.old writer.new pending.old pending.new (flat_map
         (λ c. padded c.1) (all_strip_contents strips.now)) }
     ensures count { Counts result (W.failed writer.old) (W.failed writer.new) }
 {
@@ -54,7 +54,7 @@ fn put_jpeg<W: Sink>(
     jpeg: Option<&[u8]>,
 ) -> Result<(), Failed>
     requires { W.failed writer.old + 1 < 2 ^ 64 }
-    ensures bytes { Puts result (W.bytes_taken writer.old) (W.bytes_taken writer.new) pending.old pending.new (flat_map
+    ensures bytes { PutsTo W.bytes_taken result writer.old writer.new pending.old pending.new (flat_map
         (λ c. padded c.1) (jpeg_contents (option_map (λ x. x.now) jpeg.entry))) }
     ensures count { Counts result (W.failed writer.old) (W.failed writer.new) }
 {
@@ -66,7 +66,7 @@ fn put_jpeg<W: Sink>(
 
 fn put_parts<W: Sink>(pending: &mut Pending, writer: &mut W, thumb: &Thumb) -> Result<(), Failed>
     requires { W.failed writer.old + 1 < 2 ^ 64 }
-    ensures bytes { Puts result (W.bytes_taken writer.old) (W.bytes_taken writer.new) pending.old pending.new (flat_map
+    ensures bytes { PutsTo W.bytes_taken result writer.old writer.new pending.old pending.new (flat_map
         (λ c. padded c.1) (thumb_contents (Some (thumb_of thumb.now)))) }
     ensures count { Counts result (W.failed writer.old) (W.failed writer.new) }
 {
@@ -82,7 +82,7 @@ pub(crate) fn put_thumb<W: Sink>(
     thumb: &Option<Thumb>,
 ) -> Result<(), Failed>
     requires { W.failed writer.old + 1 < 2 ^ 64 }
-    ensures bytes { Puts result (W.bytes_taken writer.old) (W.bytes_taken writer.new) pending.old pending.new (flat_map
+    ensures bytes { PutsTo W.bytes_taken result writer.old writer.new pending.old pending.new (flat_map
         (λ c. padded c.1) (thumb_contents (option_map thumb_of thumb.now))) }
     ensures count { Counts result (W.failed writer.old) (W.failed writer.new) }
 {

@@ -6,12 +6,12 @@ ghost use Rattle.px_bytes.specs.Parts.{limit};
 ghost use Rattle.px_tree.specs.Entry.{table_size};
 ghost use Rattle.px_tree.specs.Fits.{Fits, items};
 ghost use Rattle.px_tree.specs.calls.Seen.{thumb_of, meaning_of};
-ghost use Rattle.px_layout.specs.calls.Items.{item_of, IsCounted};
+ghost use Rattle.px_layout.specs.calls.Items.{item_of, entry_of, IsCounted};
 ghost use Rattle.px_layout.specs.Chunks.{placed_chunk, chunks_of_dir, jpeg_chunks, strip_chunks, all_strip_chunks, thumb_chunks, chunks};
 
 use crate::chunks::Chunk;
 use crate::entries::{Entries, entries_in};
-use crate::items::Item;
+use crate::items::Entry;
 use px_bytes::{Memory, Refused};
 use px_tree::{Dir, Meaning, Strips, Thumb};
 
@@ -21,13 +21,13 @@ fn push_value(
     memory: &mut Memory,
     out: &mut Vec<(Chunk, u64)>,
     dir: Dir,
-    tag: u16,
-    item: Item,
+    entry: &Entry,
 ) -> Result<(), Refused>
-    requires { IsCounted (item_of item) }
-    ensures chunks { OnOk result (out.new.items ≡ out.old.items ++ option_to_list (placed_chunk dir (tag, item_of item.entry))) }
+    requires { IsCounted (item_of entry.now.item) }
+    ensures chunks { OnOk result (out.new.items ≡ out.old.items ++ option_to_list (placed_chunk dir (entry_of entry.now))) }
     ensures memory { Lacks result memory.old memory.new }
 {
+    let Entry { tag, item } = *entry;
     let size = item.size();
     if size <= 4 {
         return Ok(());
@@ -47,8 +47,8 @@ fn push_values(
     ensures memory { Lacks result memory.old memory.new }
 {
     for i in 0..entries.len() {
-        let (tag, item) = entries.at(i);
-        push_value(memory, out, dir, tag, item)?;
+        let entry = entries.at(i);
+        push_value(memory, out, dir, &entry)?;
     }
     Ok(())
 }

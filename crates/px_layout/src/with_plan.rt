@@ -7,7 +7,8 @@ ghost use Rattle.px_layout.specs.Laid.{laid};
 ghost use Rattle.px_layout.specs.calls.Planned.{plan_of};
 ghost use Rattle.px_layout.specs.Plans.{Legal};
 
-use crate::building::{Layout, lay_all};
+use crate::building::lay_all;
+use crate::layout::Layout;
 use crate::plan::Plan;
 use px_bytes::{Memory, Order, Refused};
 use px_tree::Meaning;

@@ -5,8 +5,8 @@ ghost use Rattle.px_tree.specs.Fits.{Fits};
 ghost use Rattle.px_tree.specs.calls.Seen.{meaning_of};
 ghost use Rattle.px_layout.specs.Writing.{WritesExif};
 
-use crate::put_normal::put_block;
-use crate::starts::starts_of;
+use crate::form::NormalForm;
+use crate::put_form::put_normal;
 use px_bytes::{Pending, Sink, WriteRefusal};
 use px_tree::Meaning;
 use std::alloc::Global;
@@ -22,8 +22,9 @@ use std::alloc::Global;
 /// failed call of the writer, the flush too; the writer has then taken a prefix of the form. OutOfMemory never
 /// comes: it takes no memory, and leaves `alloc` alone.
 ///
-/// Where each part stands is summed up first, and offsets run along with the parts. Bytes go out in writes of
-/// up to 8,192, and longer values at once.
+/// Where each part stands is summed up first (`NormalForm::new`), and offsets run along with the parts. A form of at
+/// most 8,192 bytes goes out in one whole write: all of it waits (`put_normal`, clause `waits`), and is then
+/// sent. Bytes of a longer one go out in writes of up to 8,192, and longer values at once.
 pub fn write_normal<W: Sink>(
     _alloc: Global,
     m: &Meaning,
@@ -44,10 +45,10 @@ pub fn write_normal_in<W: Sink>(m: &Meaning, writer: &mut W) -> Result<u64, Writ
     ensures form { WritesExif result (W.bytes_taken writer.old) (W.bytes_taken writer.new) (W.failed writer.old) (W.failed writer.new) (meaning_of m.now) }
     ensures untouched { IfErr result (λ e. e ≡ NormalTooLong → writer.new ≡ writer.old) }
 {
-    let starts = starts_of(m)?;
+    let form = NormalForm::new(m)?;
     let mut pending = Pending::new();
-    put_block(&mut pending, writer, m, &starts)?;
+    put_normal(&mut pending, writer, &form)?;
     pending.send(writer)?;
     writer.flush_all()?;
-    Ok(u64::from(starts.end))
+    Ok(form.len())
 }

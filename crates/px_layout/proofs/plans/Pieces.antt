@@ -14,13 +14,14 @@ use Rattle.px_tree.specs.Directory.{dirs}
 use Rattle.px_tree.specs.Fits.{Item, item_size, items, IsBytes, FitsThumb, Fits}
 use Rattle.px_layout.specs.declared.chunks.Chunk.{Chunk}
 use Rattle.px_layout.specs.declared.chunks.Chunk.TheVariants.{Table, Placed, Strip}
-use Rattle.px_layout.specs.declared.building.Layout.{Layout}
+use Rattle.px_layout.specs.declared.layout.Layout.{Layout}
 use Rattle.px_layout.specs.Plans.{Plan, place, Legal}
 use Rattle.px_layout.specs.Laid.{item_bytes, table_bytes, placed_content, contents_of_dir, contents, jpeg_contents, strip_contents, all_strip_contents, thumb_contents, header, laid_pieces, laid}
 use Rattle.px_layout.specs.lemmas.StandLaws.{piece_range}
 use Rattle.px_layout.specs.lemmas.EntryLaws.{Good, good_items, few_items}
 use Rattle.px_layout.specs.lemmas.SizeLaws.{ranges_are}
-use Rattle.px_layout.specs.calls.Building.{made, AreInside, PutsOver, said_plan, at_places, value_pieces, dir_pieces}
+use Rattle.px_layout.specs.calls.Building.{made, AreInside, PutsOver, at_places, value_pieces, dir_pieces}
+use Rattle.px_layout.specs.calls.Layouts.{said_plan}
 use Rattle.px_layout.proofs.plans.Built.{puts_none, puts_more, none_made, drop_get, drop_end}
 
 module _ (l : Layout) where

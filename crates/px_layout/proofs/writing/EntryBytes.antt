@@ -7,7 +7,6 @@ use Rattle.std.proofs.Math.Nat.{mul-mod_left}
 use Rattle.px_bytes.specs.declared.Order.{Order}
 use Rattle.px_bytes.specs.declared.Order.TheVariants.{Most}
 use Rattle.px_bytes.specs.Numbers.{spelling}
-use Rattle.px_field.specs.declared.Form.{Form}
 use Rattle.px_field.specs.Forms.{code}
 use Rattle.px_tree.specs.declared.Dir.{Dir}
 use Rattle.px_tree.specs.declared.Dir.TheVariants.{Main}
@@ -20,6 +19,7 @@ use Rattle.px_layout.specs.declared.chunks.Chunk.TheVariants.{Table, Placed}
 use Rattle.px_layout.specs.Plans.{Plan, place}
 use Rattle.px_layout.specs.Laid.{long_bytes, item_bytes, last_bytes, entry_bytes, next_bytes, table_bytes, placed_content, contents_of_dir, thumb_contents, contents, header}
 use Rattle.px_layout.specs.Normal.{padded}
+use Rattle.px_layout.specs.calls.Given.{head_bytes}
 use Rattle.px_layout.specs.Writing.{placed_bytes}
 use Rattle.px_layout.specs.lemmas.ItemLaws.{Suits, length_is}
 use Rattle.px_layout.specs.lemmas.EntryLaws.{Good}
@@ -38,16 +38,14 @@ module _ (plan : Plan) (o : Order) (filler : ℕ) where
       ap (λ k. item_bytes plan o filler i.1 ++ replicate (4 - k) filler) e
       ∙ sym (cond-false (nat_lt 4 (item_size i.1)) (long_bytes o (place plan (Placed d i.0))) (item_bytes plan o filler i.1 ++ replicate (4 - item_size i.1) filler) (le-ltb 4 (item_size i.1) (omega arith)))
 
-  pub entry_as : (d : Dir) (i : ℕ × Item) (f : Form) (n : ℕ) (head : List ℕ) → head ≡ spelling o 2 i.0 ++ (spelling o 2 (code f) ++ long_bytes o n) → f ≡ item_form i.1 → n ≡ item_count i.1 →
-      head ++ last_bytes plan o filler d i ≡ entry_bytes plan o filler d i
+  pub entry_as : (d : Dir) (i : ℕ × Item) (head : List ℕ) → head ≡ head_bytes o i → head ++ last_bytes plan o filler d i ≡ entry_bytes plan o filler d i
   unfolding entry_bytes
-  entry_as d i f n head e p q =
+  entry_as d i head e =
       let last = last_bytes plan o filler d i in
       let tag = spelling o 2 i.0 in
-      let form = spelling o 2 (code f) in
-      let count = long_bytes o n in
+      let form = spelling o 2 (code (item_form i.1)) in
+      let count = long_bytes o (item_count i.1) in
       ap (λ x. x ++ last) e ∙ append_assoc tag (form ++ count) last ∙ ap (λ x. tag ++ x) (append_assoc form count last)
-      ∙ ap₂ (λ g k. tag ++ (spelling o 2 (code g) ++ (long_bytes o k ++ last))) p q
 
   pub table_as : (m : Meaning) (d : Dir) (xs : List (ℕ × Item)) → spelling o 2 (length xs) ++ (flat_map (entry_bytes plan o filler d) xs ++ next_bytes plan o filler m d) ≡ table_bytes plan o filler m d xs
   unfolding table_bytes

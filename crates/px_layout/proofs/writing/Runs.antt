@@ -6,7 +6,6 @@ use Rattle.std.proofs.lemmas.Bool.{cond-true, cond-false, cases_Bool, le-ltb}
 use Rattle.px_bytes.specs.Parts.{limit}
 use Rattle.px_bytes.specs.Numbers.{spelling}
 use Rattle.px_bytes.specs.declared.Order.TheVariants.{Most}
-use Rattle.px_field.specs.declared.Form.{Form}
 use Rattle.px_field.specs.Forms.{code}
 use Rattle.px_tree.specs.declared.Dir.{Dir}
 use Rattle.px_tree.specs.declared.Dir.TheVariants.{Main, Exif, Interop, Gps, Thumb}
@@ -22,12 +21,8 @@ use Rattle.px_layout.specs.Laid.{long_bytes, item_bytes, last_bytes, entry_bytes
 use Rattle.px_layout.specs.Normal.{even, running, padded_size, normal_plan, normal_exif}
 use Rattle.px_layout.specs.lemmas.EntryLaws.{Good, good_items, each_put}
 use Rattle.px_layout.specs.lemmas.RunLaws.{values_size, start, dir_end, thumb_start, strips_start, jpeg_part, strips_part, thumb_parts, thumb_found, jpeg_place, run_none, without_all_strips, table_place, value_place, strip_place}
-use Rattle.px_layout.specs.calls.Given.{last_given, entry_given, strip_list, TellsAll, strips_size, strip_places}
-use Rattle.px_layout.specs.calls.Starting.{AreStarts, AnswersStarts}
-use Rattle.px_layout.specs.Writing.{WritesExif}
-use Rattle.px_bytes.specs.declared.WriteRefusal.{WriteRefusal}
-use Rattle.px_bytes.specs.declared.WriteRefusal.TheVariants.{NormalTooLong, OutOfMemory, WriteFailed}
-use Rattle.std.specs.Prelude.{Err}
+use Rattle.px_layout.specs.calls.Given.{head_bytes, last_given, entry_given, strip_list, TellsAll, strips_size, strip_places}
+use Rattle.px_layout.specs.calls.Starting.{AreStarts}
 use Rattle.px_tree.specs.Directory.{magic}
 use Rattle.px_layout.proofs.writing.Beginnings.{dir_there, form_end}
 use Rattle.px_layout.proofs.plans.Walks.{drop_here}
@@ -51,16 +46,14 @@ module _ (plan : Plan) where
       ap (λ k. item_bytes plan Most 0 x ++ replicate (4 - k) 0) e
       ∙ sym (cond-false (nat_lt 4 (item_size x)) (long_bytes Most at) (item_bytes plan Most 0 x ++ replicate (4 - item_size x) 0) (le-ltb 4 (item_size x) (omega arith)))
 
-  pub given_as : (at : ℕ) (i : ℕ × Item) (f : Form) (n : ℕ) (head : List ℕ) → head ≡ spelling Most 2 i.0 ++ (spelling Most 2 (code f) ++ long_bytes Most n) → f ≡ item_form i.1 → n ≡ item_count i.1 →
-      head ++ last_given plan at i.1 ≡ entry_given plan at i
+  pub given_as : (at : ℕ) (i : ℕ × Item) (head : List ℕ) → head ≡ head_bytes Most i → head ++ last_given plan at i.1 ≡ entry_given plan at i
   unfolding entry_given
-  given_as at i f n head e p q =
+  given_as at i head e =
       let last = last_given plan at i.1 in
       let tag = spelling Most 2 i.0 in
-      let form = spelling Most 2 (code f) in
-      let count = long_bytes Most n in
+      let form = spelling Most 2 (code (item_form i.1)) in
+      let count = long_bytes Most (item_count i.1) in
       ap (λ x. x ++ last) e ∙ append_assoc tag (form ++ count) last ∙ ap (λ x. tag ++ x) (append_assoc form count last)
-      ∙ ap₂ (λ g k. tag ++ (spelling Most 2 (code g) ++ (long_bytes Most k ++ last))) p q
 
   -- at the place of its value, these are the entry's bytes
   pub given_is : (d : Dir) (at : ℕ) (i : ℕ × Item) → (4 < item_size i.1 → place plan (Placed d i.0) ≡ at) → entry_given plan at i ≡ entry_bytes plan Most 0 d i
@@ -241,15 +234,7 @@ pub item_told : (m : Meaning) (x : Item) (n : ℕ) → x ≡ AtStrips n → Tell
 unfolding item_bytes
 item_told m x n e h = strips_told m n (subst (TellsAll m) e h) ∙ sym (ap (item_bytes (normal_plan m) Most 0) e)
 
--- ---- the answers of writing
-
-pub no_starts : (m : Meaning) (a : Option (List ℕ)) (failed : ℕ) (e : WriteRefusal) → AnswersStarts (Err e) m → WritesExif (Err e) a a failed failed m
-no_starts m a failed NormalTooLong h = (h, refl, refl)
-no_starts m a failed OutOfMemory h = absurd h
-no_starts m a failed WriteFailed h = absurd h
-
-pub form_most : (m : Meaning) (s : Starts) → AreStarts s m → length (normal_exif m) ≤ limit
-form_most m s a = let e = a.ends in let l = a.most in omega arith
+-- ---- the header
 
 -- the main directory begins right behind the header
 pub header_is : (m : Meaning) → 0x4D ∷ 0x4D ∷ 0 ∷ 0x2A ∷ 0 ∷ 0 ∷ 0 ∷ 8 ∷ [] ≡ header (normal_plan m) Most 0

@@ -5,13 +5,12 @@ use Rattle.px_tree.specs.declared.Dir.{Dir}
 use Rattle.px_tree.specs.Tree.{Meaning}
 use Rattle.px_tree.specs.Fits.{Item, items}
 use Rattle.px_layout.specs.declared.chunks.Chunk.{Chunk}
-use Rattle.px_layout.specs.declared.building.Layout.{Layout}
+use Rattle.px_layout.specs.declared.layout.Layout.{Layout}
 use Rattle.px_layout.specs.declared.building.Piece.{Piece}
 use Rattle.px_layout.specs.declared.building.Piece.TheVariants.{Header, Table, Value}
-use Rattle.px_tree.specs.calls.Seen.{meaning_of}
 use Rattle.px_layout.specs.calls.Items.{item_of, IsCounted}
-use Rattle.px_layout.specs.Plans.{Plan, place}
-use Rattle.px_layout.specs.calls.Planned.{plan_of}
+use Rattle.px_layout.specs.Plans.{place}
+use Rattle.px_layout.specs.calls.Layouts.{said_plan, said_meaning}
 use Rattle.px_layout.specs.Laid.{placed_content, contents_of_dir, byte_at, header, table_bytes, item_bytes}
 
 -- the block of n bytes that pieces make
@@ -25,12 +24,6 @@ AreInside n xs = AllByRecursion (λ y. y.0 + length y.1 ≤ n) xs
 -- the pieces were put over what the block was made of
 abbrev pub PutsOver : List ℕ → List ℕ → List (ℕ × List ℕ) → Type 0
 PutsOver old new xs = (filler : ℕ) (ys : List (ℕ × List ℕ)) → old ≡ made (length old) filler ys → new ≡ made (length old) filler (xs ++ ys)
-
-abbrev pub said_plan : Layout → Plan
-said_plan l = plan_of l.plan.now
-
-abbrev pub said_meaning : Layout → Meaning
-said_meaning l = meaning_of l.m.now
 
 -- the bytes of a piece
 abbrev pub piece_bytes : Layout → Piece → List ℕ

@@ -6,6 +6,7 @@ use Rattle.px_tree.specs.calls.Iim.{normal_iim}
 use Rattle.px_tree.specs.Fits.{Item, Field, Iptc, AtJpeg, JpegSize, AtStrips, StripSizes}
 use Rattle.px_tree.specs.Fits as fits
 use Rattle.px_layout.specs.declared.items.Item as held
+use Rattle.px_layout.specs.declared.items.Entry.{Entry}
 use Rattle.px_layout.specs.declared.items.Item.TheVariants as held_as
 
 -- what an item of the code says
@@ -17,6 +18,10 @@ item_of held_as.JpegOffset = AtJpeg
 item_of (held_as.JpegLength n) = JpegSize n
 item_of (held_as.StripOffsets s) = AtStrips (length s.now)
 item_of (held_as.StripLengths s) = StripSizes (map (λ x. length x) s.now)
+
+-- an entry of the code, likewise
+abbrev pub entry_of : Entry → ℕ × Item
+entry_of x = (x.tag, item_of x.item)
 
 -- an item's counts and lengths are of four bytes
 abbrev pub IsCounted : Item → Type 0

@@ -1,5 +1,5 @@
 use Rattle.std.proofs.Common.{ℕ, List, length, ◌∙◌, ap, refl, arith}
-use Rattle.px_layout.specs.calls.Building.{said_plan}
+use Rattle.px_layout.specs.calls.Layouts.{said_plan}
 use Rattle.px_layout.specs.lemmas.SizeLaws.{length_header}
 use Rattle.px_layout.proofs.plans.Pieces.{one_as}
 use Rattle.px_layout.proofs.building.lay_header.Goals as goal

@@ -1,6 +1,6 @@
 use Rattle.std.proofs.lemmas.Result.{err_from_is_err_and}
-use Rattle.px_layout.specs.calls.Items.{item_of}
-use Rattle.px_layout.specs.calls.Planned.{plan_of}
+use Rattle.px_layout.specs.calls.Items.{entry_of}
+use Rattle.px_layout.specs.calls.Layouts.{said_plan}
 use Rattle.px_layout.proofs.writing.Puts.{both_as, first_as}
 use Rattle.px_layout.proofs.writing.EntryBytes.{last_inside}
 use Rattle.px_layout.proofs.put_item.put_last.Goals as goal
@@ -8,9 +8,9 @@ use Rattle.px_layout.proofs.put_item.put_last.Goals as goal
 pub returns-in_err-put_item-clause-bytes : goal.returns-in_err-put_item-clause-bytes
 returns-in_err-put_item-clause-bytes g c =
     let p = err_from_is_err_and c.from_residual.result c.from_residual.ensures.1 in
-    rw p.1 (first_as _ _ c.args.pending.now _ _ _ (last_inside (plan_of c.args.plan.now) c.args.order c.args.filler c.args.dir (c.args.tag, item_of c.args.item) c.size-size.result c.size-size.ensures c.if-size-gt4.false) (c.in_err-put_item.ensures.bytes c.args.filler))
+    rw p.1 (first_as g.W.Sink.bytes_taken _ _ c.args.pending.now _ _ _ (last_inside (said_plan c.args.layout.now) c.args.layout.now.order c.args.layout.now.filler c.args.dir (entry_of c.args.entry.now) c.size-size.result c.size-size.ensures c.if-size-gt4.false) c.in_err-put_item.ensures.bytes)
 
 pub returns-clause-bytes : goal.returns-clause-bytes
 returns-clause-bytes g c =
-    both_as c.put_filler.result _ _ _ c.args.pending.now c.put_item.new.pending c.put_filler.new.pending _ _ _ (last_inside (plan_of c.args.plan.now) c.args.order c.args.filler c.args.dir (c.args.tag, item_of c.args.item) c.size-size.result c.size-size.ensures c.if-size-gt4.false)
-    (c.in_ok-put_item.ensures.bytes c.args.filler) c.put_filler.ensures.bytes
+    both_as g.W.Sink.bytes_taken c.put_filler.result _ _ _ c.args.pending.now c.put_item.new.pending c.put_filler.new.pending _ _ _ (last_inside (said_plan c.args.layout.now) c.args.layout.now.order c.args.layout.now.filler c.args.dir (entry_of c.args.entry.now) c.size-size.result c.size-size.ensures c.if-size-gt4.false)
+    c.in_ok-put_item.ensures.bytes c.put_filler.ensures.bytes

@@ -1,7 +1,7 @@
 use Rattle.std.proofs.Common.{◌∙◌, ap, arith}
 use Rattle.std.proofs.lemmas.Result.{err_from_is_err_and}
 use Rattle.px_bytes.specs.declared.Order.TheVariants.{Most}
-use Rattle.px_tree.specs.calls.Seen.{meaning_of}
+use Rattle.px_layout.specs.calls.Forms.{said_in}
 use Rattle.px_tree.specs.Entry.{table_size}
 use Rattle.px_layout.specs.Laid.{entry_bytes}
 use Rattle.px_layout.specs.Normal.{normal_plan}
@@ -13,49 +13,49 @@ use Rattle.px_layout.proofs.put_running.put_running_entries.Goals as goal
 
 pub table_len-requires : goal.table_len-requires
 table_len-requires g c =
-    let few = few_there (meaning_of c.args.m.now) c.args.dir c.args.entries.now c.requires.fits c.requires.there in
+    let few = few_there (said_in c.args.form.now) c.args.dir c.args.entries.now c.requires.form.0 c.requires.there in
     let n = c.len.ensures in
     omega arith
 
 pub overflow_cast-at : goal.overflow_cast-at
 overflow_cast-at g c =
-    let few = few_there (meaning_of c.args.m.now) c.args.dir c.args.entries.now c.requires.fits c.requires.there in
+    let few = few_there (said_in c.args.form.now) c.args.dir c.args.entries.now c.requires.form.0 c.requires.there in
     let n = c.len.ensures in
     let t = c.table_len.ensures in
     omega arith
 
 pub overflow_add-at : goal.overflow_add-at
 overflow_add-at g c =
-    let few = few_there (meaning_of c.args.m.now) c.args.dir c.args.entries.now c.requires.fits c.requires.there in
+    let few = few_there (said_in c.args.form.now) c.args.dir c.args.entries.now c.requires.form.0 c.requires.there in
     let n = c.len.ensures in
     let t = c.table_len.ensures in
     let k = ap table_size n in
-    let s = c.start_of.ensures (meaning_of c.args.m.now) c.requires.starts in
-    let v = values_most (meaning_of c.args.m.now) c.args.starts.now c.args.dir c.args.entries.now c.requires.starts c.requires.fits c.requires.there in
+    let s = c.start_of.ensures in
+    let v = values_most (said_in c.args.form.now) c.args.form.now.starts c.args.dir c.args.entries.now c.requires.form.1 c.requires.form.0 c.requires.there in
     omega arith
 
 pub put_given_entry-requires-clause-tells : goal.put_given_entry-requires-clause-tells
-put_given_entry-requires-clause-tells g c = tells_read (meaning_of c.args.m.now) c.args.dir c.args.entries.now c.loop-i.i _ c.requires.there c.at-tag.ensures.entry
+put_given_entry-requires-clause-tells g c = tells_read (said_in c.args.form.now) c.args.dir c.args.entries.now c.loop-i.i _ c.requires.there c.at-entry.ensures.entry
 
 pub returns-in_err-put_given_entry-clause-bytes : goal.returns-in_err-put_given_entry-clause-bytes
 returns-in_err-put_given_entry-clause-bytes g c =
     let p = err_from_is_err_and c.from_residual.result c.from_residual.ensures.1 in
-    rw p.1 (stop_as (entry_bytes (normal_plan (meaning_of c.args.m.now)) Most 0 c.args.dir) c.args.entries.now c.loop-i.i _ c.at-tag.ensures.entry _
-    (entry_running (meaning_of c.args.m.now) c.args.dir c.args.entries.now c.loop-i.i c.loop-i.at _ c.requires.fits c.requires.there c.at-tag.ensures.entry c.loop-i.invariant.left)
-    _ _ _ c.args.pending.now c.loop-i.pending c.loop-i.invariant.owes c.in_err-put_given_entry.ensures.bytes)
+    rw p.1 (stop_as g.W.Sink.bytes_taken (entry_bytes (normal_plan (said_in c.args.form.now)) Most 0 c.args.dir) c.args.entries.now c.loop-i.i _ c.at-entry.ensures.entry _
+    (entry_running (said_in c.args.form.now) c.args.dir c.args.entries.now c.loop-i.i c.loop-i.at _ c.requires.form.0 c.requires.there c.at-entry.ensures.entry c.loop-i.invariant.left)
+    _ _ _ c.args.pending.now c.loop-i.pending c.loop-i.invariant.put c.in_err-put_given_entry.ensures.bytes)
 
 pub next_at-at-requires-clause-most : goal.next_at-at-requires-clause-most
 next_at-at-requires-clause-most g c =
-    let h = values_here c.args.entries.now c.loop-i.i _ c.at-tag.ensures.entry in
+    let h = values_here c.args.entries.now c.loop-i.i _ c.at-entry.ensures.entry in
     let l = c.loop-i.invariant.left in
-    let v = values_most (meaning_of c.args.m.now) c.args.starts.now c.args.dir c.args.entries.now c.requires.starts c.requires.fits c.requires.there in
+    let v = values_most (said_in c.args.form.now) c.args.form.now.starts c.args.dir c.args.entries.now c.requires.form.1 c.requires.form.0 c.requires.there in
     omega arith
 
 pub loop-i-preserved : goal.loop-i-preserved
 loop-i-preserved g c = record {
-  owes = more_as (entry_bytes (normal_plan (meaning_of c.args.m.now)) Most 0 c.args.dir) c.args.entries.now c.loop-i.i _ c.at-tag.ensures.entry _
-      (entry_running (meaning_of c.args.m.now) c.args.dir c.args.entries.now c.loop-i.i c.loop-i.at _ c.requires.fits c.requires.there c.at-tag.ensures.entry c.loop-i.invariant.left)
-      _ _ _ c.args.pending.now c.loop-i.pending c.put_given_entry.new.pending c.loop-i.invariant.owes c.in_ok-put_given_entry.ensures.bytes;
+  put = more_as g.W.Sink.bytes_taken (entry_bytes (normal_plan (said_in c.args.form.now)) Most 0 c.args.dir) c.args.entries.now c.loop-i.i _ c.at-entry.ensures.entry _
+      (entry_running (said_in c.args.form.now) c.args.dir c.args.entries.now c.loop-i.i c.loop-i.at _ c.requires.form.0 c.requires.there c.at-entry.ensures.entry c.loop-i.invariant.left)
+      _ _ _ c.args.pending.now c.loop-i.pending c.put_given_entry.new.pending c.loop-i.invariant.put c.in_ok-put_given_entry.ensures.bytes;
   count = c.in_ok-put_given_entry.ensures.count ∙ c.loop-i.invariant.count;
-  left = (let h = values_here c.args.entries.now c.loop-i.i _ c.at-tag.ensures.entry in let l = c.loop-i.invariant.left in let n = c.next_at-at.ensures in omega arith);
+  left = (let h = values_here c.args.entries.now c.loop-i.i _ c.at-entry.ensures.entry in let l = c.loop-i.invariant.left in let n = c.next_at-at.ensures in omega arith);
 }

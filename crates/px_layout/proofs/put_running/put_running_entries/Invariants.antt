@@ -1,7 +1,7 @@
-use Rattle.std.proofs.Common.{◌≡◌, ◌+◌, ◌++◌, take, drop, flat_map, length}
-use Rattle.px_bytes.specs.Waiting.{Owes}
+use Rattle.std.proofs.Common.{◌≡◌, ◌+◌, take, drop, flat_map, length}
+use Rattle.px_bytes.specs.lemmas.WaitingLaws.{HasPut}
 use Rattle.px_bytes.specs.declared.Order.TheVariants.{Most}
-use Rattle.px_tree.specs.calls.Seen.{meaning_of}
+use Rattle.px_layout.specs.calls.Forms.{said_in}
 use Rattle.px_tree.specs.Entry.{table_size}
 use Rattle.px_layout.specs.Laid.{entry_bytes}
 use Rattle.px_layout.specs.Normal.{even, normal_plan}
@@ -11,7 +11,7 @@ use Rattle.px_layout.proofs.put_running.put_running_entries.Given as goal
 -- the entries so far were put, no call failed, and the next value stands behind those of these entries
 abbrev pub invariant-loop-i : goal.invariant-loop-i
 invariant-loop-i g l = record {
-  owes : Owes (g.W.Sink.bytes_taken l.initial.writer) (g.W.Sink.bytes_taken l.writer) l.pending (l.initial.pending ++ flat_map (entry_bytes (normal_plan (meaning_of l.m)) Most 0 l.fn.dir) (take l.i l.entries));
+  put : HasPut g.W.Sink.bytes_taken l.initial.writer l.writer l.initial.pending l.pending (flat_map (entry_bytes (normal_plan (said_in l.form)) Most 0 l.fn.dir) (take l.i l.entries));
   count : g.W.Device.failed l.writer ≡ g.W.Device.failed l.initial.writer;
-  left : l.at + values_size (drop l.i l.entries) ≡ start (meaning_of l.m) l.fn.dir + even (table_size (length l.entries)) + values_size l.entries;
+  left : l.at + values_size (drop l.i l.entries) ≡ start (said_in l.form) l.fn.dir + even (table_size (length l.entries)) + values_size l.entries;
 }

@@ -1,8 +1,7 @@
 use Rattle.std.proofs.Common.{◌≡◌, ◌∙◌, ◌++◌, ℕ, List, take, flat_map, arith, subst}
 use Rattle.std.proofs.lemmas.List.{take_all}
 use Rattle.std.proofs.lemmas.Result.{err_from_is_err_and}
-use Rattle.px_bytes.specs.Waiting.{Owes}
-use Rattle.px_bytes.specs.lemmas.WaitingLaws.{loop_more, loop_stop}
+use Rattle.px_bytes.specs.lemmas.WaitingLaws.{HasPut, loop_more, loop_stop}
 use Rattle.px_bytes.specs.declared.Order.TheVariants.{Most}
 use Rattle.px_layout.specs.Laid.{long_bytes}
 use Rattle.px_layout.specs.calls.Given.{strip_places}
@@ -12,8 +11,8 @@ use Rattle.px_layout.proofs.put_running.put_strip_places.Goals as goal
 pub returns-in_err-put_long-clause-bytes : goal.returns-in_err-put_long-clause-bytes
 returns-in_err-put_long-clause-bytes g c =
     let p = err_from_is_err_and c.from_residual.result c.from_residual.ensures.1 in
-    rw p.1 (loop_stop (long_bytes Most) (strip_places c.args.at c.args.strips.now) c.loop-i.i c.loop-i.at (place_read c.args.at c.args.strips.now c.loop-i.i c.loop-i.at (omega arith) c.loop-i.invariant.left)
-    _ _ _ c.args.pending.now c.loop-i.pending c.loop-i.invariant.owes c.in_err-put_long.ensures.bytes)
+    rw p.1 (loop_stop g.W.Sink.bytes_taken (long_bytes Most) (strip_places c.args.at c.args.strips.now) c.loop-i.i c.loop-i.at (place_read c.args.at c.args.strips.now c.loop-i.i c.loop-i.at (omega arith) c.loop-i.invariant.left)
+    _ _ _ c.args.pending.now c.loop-i.pending c.loop-i.invariant.put c.in_err-put_long.ensures.bytes)
 
 pub overflow_cast-size : goal.overflow_cast-size
 overflow_cast-size g c =
@@ -29,8 +28,8 @@ overflow_add-at-in-loop-i g c =
 
 pub loop-i-preserved : goal.loop-i-preserved
 loop-i-preserved g c = record {
-  owes = loop_more (long_bytes Most) (strip_places c.args.at c.args.strips.now) c.loop-i.i c.loop-i.at (place_read c.args.at c.args.strips.now c.loop-i.i c.loop-i.at (omega arith) c.loop-i.invariant.left)
-      _ _ _ c.args.pending.now c.loop-i.pending c.put_long.new.pending c.loop-i.invariant.owes c.in_ok-put_long.ensures.bytes;
+  put = loop_more g.W.Sink.bytes_taken (long_bytes Most) (strip_places c.args.at c.args.strips.now) c.loop-i.i c.loop-i.at (place_read c.args.at c.args.strips.now c.loop-i.i c.loop-i.at (omega arith) c.loop-i.invariant.left)
+      _ _ _ c.args.pending.now c.loop-i.pending c.put_long.new.pending c.loop-i.invariant.put c.in_ok-put_long.ensures.bytes;
   count = c.in_ok-put_long.ensures.count ∙ c.loop-i.invariant.count;
   left = (let s = strips_next c.args.strips.now c.loop-i.i c.at.result.now c.at.ensures in let l = c.loop-i.invariant.left in omega arith);
 }
@@ -38,4 +37,4 @@ loop-i-preserved g c = record {
 pub returns-clause-bytes : goal.returns-clause-bytes
 returns-clause-bytes g c =
     let all : take c.loop-i.i (strip_places c.args.at c.args.strips.now) ≡ strip_places c.args.at c.args.strips.now = take_all c.loop-i.i (strip_places c.args.at c.args.strips.now) (omega (arith, length_places c.args.at c.args.strips.now)) in
-    subst (λ (xs : List ℕ). Owes (g.W.Sink.bytes_taken c.args.writer.now) (g.W.Sink.bytes_taken c.loop-i.writer) c.loop-i.pending (c.args.pending.now ++ flat_map (long_bytes Most) xs)) all c.loop-i.invariant.owes
+    subst (λ (xs : List ℕ). HasPut g.W.Sink.bytes_taken c.args.writer.now c.loop-i.writer c.args.pending.now c.loop-i.pending (flat_map (long_bytes Most) xs)) all c.loop-i.invariant.put

@@ -1,5 +1,5 @@
-use Rattle.std.proofs.Common.{◌≡◌, ◌+◌, ◌++◌, take, drop, flat_map}
-use Rattle.px_bytes.specs.Waiting.{Owes}
+use Rattle.std.proofs.Common.{◌≡◌, ◌+◌, take, drop, flat_map}
+use Rattle.px_bytes.specs.lemmas.WaitingLaws.{HasPut}
 use Rattle.px_bytes.specs.declared.Order.TheVariants.{Most}
 use Rattle.px_layout.specs.Laid.{long_bytes}
 use Rattle.px_layout.specs.calls.Given.{strips_size, strip_places}
@@ -8,7 +8,7 @@ use Rattle.px_layout.proofs.put_running.put_strip_places.Given as goal
 -- the offsets so far were put, no call failed, and the next strip stands behind those
 abbrev pub invariant-loop-i : goal.invariant-loop-i
 invariant-loop-i g l = record {
-  owes : Owes (g.W.Sink.bytes_taken l.initial.writer) (g.W.Sink.bytes_taken l.writer) l.pending (l.initial.pending ++ flat_map (long_bytes Most) (take l.i (strip_places l.initial.at l.strips)));
+  put : HasPut g.W.Sink.bytes_taken l.initial.writer l.writer l.initial.pending l.pending (flat_map (long_bytes Most) (take l.i (strip_places l.initial.at l.strips)));
   count : g.W.Device.failed l.writer ≡ g.W.Device.failed l.initial.writer;
   left : l.at + strips_size (drop l.i l.strips) ≡ l.initial.at + strips_size l.strips;
 }

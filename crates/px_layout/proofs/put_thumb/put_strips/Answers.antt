@@ -1,29 +1,28 @@
 use Rattle.std.proofs.Common.{◌≡◌, ◌∙◌, ◌++◌, List, ℕ, take, flat_map, arith, subst}
 use Rattle.std.proofs.lemmas.List.{take_all}
 use Rattle.std.proofs.lemmas.Result.{err_from_is_err_and}
-use Rattle.px_bytes.specs.Waiting.{Owes}
-use Rattle.px_bytes.specs.lemmas.WaitingLaws.{loop_more, loop_stop}
+use Rattle.px_bytes.specs.lemmas.WaitingLaws.{HasPut, loop_more, loop_stop}
 use Rattle.px_layout.specs.Normal.{padded}
-use Rattle.px_layout.proofs.writing.Puts.{prefix_as, owes_as}
+use Rattle.px_layout.proofs.writing.Puts.{fails_as, has_as}
 use Rattle.px_layout.proofs.writing.Strips.{strips_padded}
 use Rattle.px_layout.proofs.put_thumb.put_strips.Goals as goal
 
 pub returns-in_err-put_padded-clause-bytes : goal.returns-in_err-put_padded-clause-bytes
 returns-in_err-put_padded-clause-bytes g c =
     let p = err_from_is_err_and c.from_residual.result c.from_residual.ensures.1 in
-    rw p.1 (prefix_as _ _ c.args.pending.now _ _ (strips_padded 0 c.args.strips.now)
-    (loop_stop padded c.args.strips.now c.loop-i.i c.at.result.now c.at.ensures
-    _ _ _ c.args.pending.now c.loop-i.pending c.loop-i.invariant.owes c.in_err-put_padded.ensures.bytes))
+    rw p.1 (fails_as g.W.Sink.bytes_taken _ _ c.args.pending.now _ _ (strips_padded 0 c.args.strips.now)
+    (loop_stop g.W.Sink.bytes_taken padded c.args.strips.now c.loop-i.i c.at.result.now c.at.ensures
+    _ _ _ c.args.pending.now c.loop-i.pending c.loop-i.invariant.put c.in_err-put_padded.ensures.bytes))
 
 pub loop-i-preserved : goal.loop-i-preserved
 loop-i-preserved g c = record {
-  owes = loop_more padded c.args.strips.now c.loop-i.i c.at.result.now c.at.ensures
-      _ _ _ c.args.pending.now c.loop-i.pending c.put_padded.new.pending c.loop-i.invariant.owes c.in_ok-put_padded.ensures.bytes;
+  put = loop_more g.W.Sink.bytes_taken padded c.args.strips.now c.loop-i.i c.at.result.now c.at.ensures
+      _ _ _ c.args.pending.now c.loop-i.pending c.put_padded.new.pending c.loop-i.invariant.put c.in_ok-put_padded.ensures.bytes;
   count = c.in_ok-put_padded.ensures.count ∙ c.loop-i.invariant.count;
 }
 
 pub returns-clause-bytes : goal.returns-clause-bytes
 returns-clause-bytes g c =
     let all : take c.loop-i.i c.args.strips.now ≡ c.args.strips.now = take_all c.loop-i.i c.args.strips.now (omega arith) in
-    owes_as _ _ c.args.pending.now c.loop-i.pending _ _ (strips_padded 0 c.args.strips.now)
-    (subst (λ (xs : List (List ℕ)). Owes (g.W.Sink.bytes_taken c.args.writer.now) (g.W.Sink.bytes_taken c.loop-i.writer) c.loop-i.pending (c.args.pending.now ++ flat_map padded xs)) all c.loop-i.invariant.owes)
+    has_as g.W.Sink.bytes_taken _ _ c.args.pending.now c.loop-i.pending _ _ (strips_padded 0 c.args.strips.now)
+    (subst (λ (xs : List (List ℕ)). HasPut g.W.Sink.bytes_taken c.args.writer.now c.loop-i.writer c.args.pending.now c.loop-i.pending (flat_map padded xs)) all c.loop-i.invariant.put)

@@ -1,8 +1,0 @@
-use Rattle.std.proofs.Common.{sym, subst}
-use Rattle.std.specs.Prelude.{IfSome}
-use Rattle.px_tree.specs.calls.Seen.{meaning_of}
-use Rattle.px_layout.specs.lemmas.EntryLaws.{Good, good_items}
-use Rattle.px_layout.proofs.put_normal.put_any_dir.Goals as goal
-
-pub put_dir-requires-clause-good : goal.put_dir-requires-clause-good
-put_dir-requires-clause-good g c = subst (λ o. IfSome o (Good c.args.dir)) (sym c.in-Some.ensures) (good_items (meaning_of c.args.m.now) c.requires.fits c.args.dir)

@@ -1,0 +1,30 @@
+-- The normal form of a meaning, as the program holds it.
+use Rattle.std.specs.Prelude.{◌≡◌, ◌<◌, ◌≤◌, length, Result, Ok, Err}
+use Rattle.px_bytes.specs.declared.WriteRefusal.{WriteRefusal}
+use Rattle.px_bytes.specs.declared.WriteRefusal.TheVariants.{NormalTooLong, OutOfMemory, WriteFailed}
+use Rattle.px_bytes.specs.Parts.{limit}
+use Rattle.px_tree.specs.Tree.{Meaning}
+use Rattle.px_tree.specs.Fits.{Fits}
+use Rattle.px_tree.specs.calls.Seen.{meaning_of}
+use Rattle.px_layout.specs.declared.form.NormalForm.{NormalForm}
+use Rattle.px_layout.specs.Plans.{Plan}
+use Rattle.px_layout.specs.Normal.{normal_plan, normal_exif}
+use Rattle.px_layout.specs.calls.Starting.{AreStarts}
+
+-- what it says
+abbrev pub said_in : NormalForm → Meaning
+said_in form = meaning_of form.m.now
+
+abbrev pub plan_in : NormalForm → Plan
+plan_in form = normal_plan (said_in form)
+
+-- the meaning can be written, its form is not too long, and each part begins where it is said to
+abbrev pub IsForm : NormalForm → Type 0
+IsForm form = Fits (said_in form) × AreStarts form.starts (said_in form)
+
+-- the meaning's form; or it is too long
+abbrev pub AnswersForm : Result NormalForm WriteRefusal → Meaning → Type 0
+AnswersForm (Ok form) m = IsForm form × (said_in form ≡ m) × (length (normal_exif m) ≤ limit)
+AnswersForm (Err NormalTooLong) m = limit < length (normal_exif m)
+AnswersForm (Err OutOfMemory) m = ⊥
+AnswersForm (Err WriteFailed) m = ⊥

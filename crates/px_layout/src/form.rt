@@ -1,0 +1,40 @@
+// A normal form, before it is written.
+ghost use Rattle.std.specs.Prelude.{◌≡◌, length};
+ghost use Rattle.px_tree.specs.Fits.{Fits};
+ghost use Rattle.px_tree.specs.calls.Seen.{meaning_of};
+ghost use Rattle.px_layout.specs.Normal.{normal_exif};
+ghost use Rattle.px_layout.specs.calls.Forms.{said_in, IsForm, AnswersForm};
+
+use crate::starts::{Starts, starts_of};
+use px_bytes::WriteRefusal;
+use px_tree::Meaning;
+
+/// A meaning whose normal form is no longer than `LIMIT`, and where the parts of that form begin. `put_normal`
+/// puts its bytes.
+#[derive(Clone, Copy)]
+pub struct NormalForm<'p, 'a> {
+    pub(crate) m: &'p Meaning<'a>,
+    pub(crate) starts: Starts,
+}
+
+impl<'p, 'a> NormalForm<'p, 'a> {
+    /// Sums up where the parts begin, of a meaning that can be written (`fits`). NormalTooLong where the form
+    /// is longer than `LIMIT`; no other error comes. It takes no memory.
+    pub fn new(m: &'p Meaning<'a>) -> Result<NormalForm<'p, 'a>, WriteRefusal>
+        requires { Fits (meaning_of m.now) }
+        ensures { AnswersForm result (meaning_of m.now) }
+    {
+        match starts_of(m) {
+            Ok(starts) => Ok(NormalForm { m, starts }),
+            Err(refusal) => Err(refusal),
+        }
+    }
+
+    /// How many bytes the form has, at most `LIMIT`.
+    pub fn len(&self) -> u64
+        requires { IsForm self.now }
+        ensures { result ≡ length (normal_exif (said_in self.now)) }
+    {
+        u64::from(self.starts.end)
+    }
+}

@@ -1,0 +1,199 @@
+// The parts of a normal form, put behind the bytes that wait for a writer: each is padded to an even number of bytes. TIFF 6.0
+// section 2, "IFD Entry".
+ghost use Rattle.std.specs.Prelude.{◌≡◌, ◌<◌, ◌+◌, ◌^◌, ◌++◌, Some, flat_map};
+ghost use Rattle.px_bytes.specs.Devices.{Counts};
+ghost use Rattle.px_bytes.specs.Waiting.{Puts, Waits, PutsTo};
+ghost use Rattle.px_tree.specs.Roles.{role};
+ghost use Rattle.px_tree.specs.Directory.{dirs};
+ghost use Rattle.px_tree.specs.Fits.{items};
+ghost use Rattle.px_layout.specs.lemmas.EntryLaws.{Good};
+ghost use Rattle.px_layout.specs.lemmas.ItemLaws.{Suits};
+ghost use Rattle.px_layout.specs.calls.Items.{item_of, entry_of, IsCounted};
+ghost use Rattle.px_layout.specs.Laid.{item_bytes, contents_of_dir, contents};
+ghost use Rattle.px_layout.specs.Normal.{normal_exif, padded};
+ghost use Rattle.px_layout.specs.calls.Given.{TellsAll};
+ghost use Rattle.px_layout.specs.calls.Forms.{said_in, plan_in, IsForm};
+ghost use Rattle.px_layout.specs.Writing.{placed_bytes};
+
+use crate::entries::{Entries, entries_in};
+use crate::form::NormalForm;
+use crate::items::Entry;
+use crate::put::put_padding;
+use crate::put_running::{put_running_header, put_running_table, put_told_item};
+use crate::put_thumb::put_thumb;
+use px_bytes::{Failed, Order, Pending, Sink};
+use px_tree::Dir;
+
+// The value of an entry, padded.
+fn put_padded_item<W: Sink>(
+    pending: &mut Pending,
+    writer: &mut W,
+    form: &NormalForm,
+    dir: Dir,
+    entry: &Entry,
+) -> Result<(), Failed>
+    requires few { W.failed writer.old + 1 < 2 ^ 64 }
+    requires form { IsForm form.now }
+    requires counted { IsCounted (item_of entry.now.item) }
+    requires suits { Suits (role dir entry.now.tag) (item_of entry.now.item) }
+    requires tells { TellsAll (said_in form.now) (item_of entry.now.item) }
+    ensures bytes { PutsTo W.bytes_taken result writer.old writer.new pending.old pending.new (padded (item_bytes (plan_in form.now) Order.Most 0 (item_of entry.now.item))) }
+    ensures count { Counts result (W.failed writer.old) (W.failed writer.new) }
+{
+    let item = entry.item;
+    put_told_item(pending, writer, form, item)?;
+    put_padding(pending, writer, item.size())
+}
+
+// A value that is placed; nothing where it stands in its entry.
+fn put_placed<W: Sink>(
+    pending: &mut Pending,
+    writer: &mut W,
+    form: &NormalForm,
+    dir: Dir,
+    entry: &Entry,
+) -> Result<(), Failed>
+    requires few { W.failed writer.old + 1 < 2 ^ 64 }
+    requires form { IsForm form.now }
+    requires counted { IsCounted (item_of entry.now.item) }
+    requires suits { Suits (role dir entry.now.tag) (item_of entry.now.item) }
+    requires tells { TellsAll (said_in form.now) (item_of entry.now.item) }
+    ensures bytes { PutsTo W.bytes_taken result writer.old writer.new pending.old pending.new (placed_bytes (plan_in form.now) (entry_of entry.now)) }
+    ensures count { Counts result (W.failed writer.old) (W.failed writer.new) }
+{
+    if entry.item.size() > 4 {
+        return put_padded_item(pending, writer, form, dir, entry);
+    }
+    Ok(())
+}
+
+// The placed values of a directory, by ascending tag.
+fn put_values<W: Sink>(
+    pending: &mut Pending,
+    writer: &mut W,
+    form: &NormalForm,
+    dir: Dir,
+    entries: &Entries,
+) -> Result<(), Failed>
+    requires few { W.failed writer.old + 1 < 2 ^ 64 }
+    requires form { IsForm form.now }
+    requires good { Good dir entries.now }
+    requires there { items (said_in form.now) dir ≡ Some entries.now }
+    ensures bytes { PutsTo W.bytes_taken result writer.old writer.new pending.old pending.new (flat_map
+        (placed_bytes (plan_in form.now)) entries.now) }
+    ensures count { Counts result (W.failed writer.old) (W.failed writer.new) }
+{
+    for i in 0..entries.len() {
+        let entry = entries.at(i);
+        put_placed(pending, writer, form, dir, &entry)?;
+    }
+    Ok(())
+}
+
+// A directory that is there: its table, then its placed values.
+fn put_dir<W: Sink>(
+    pending: &mut Pending,
+    writer: &mut W,
+    form: &NormalForm,
+    dir: Dir,
+    entries: &Entries,
+) -> Result<(), Failed>
+    requires few { W.failed writer.old + 1 < 2 ^ 64 }
+    requires form { IsForm form.now }
+    requires good { Good dir entries.now }
+    requires there { items (said_in form.now) dir ≡ Some entries.now }
+    ensures bytes { PutsTo W.bytes_taken result writer.old writer.new pending.old pending.new (flat_map
+        (λ c. padded c.1) (contents_of_dir
+        (plan_in form.now) Order.Most 0 (said_in form.now) dir (Some entries.now))) }
+    ensures count { Counts result (W.failed writer.old) (W.failed writer.new) }
+{
+    put_running_table(pending, writer, form, dir, entries)?;
+    put_values(pending, writer, form, dir, entries)
+}
+
+// A directory, if it is there.
+fn put_any_dir<W: Sink>(
+    pending: &mut Pending,
+    writer: &mut W,
+    form: &NormalForm,
+    dir: Dir,
+) -> Result<(), Failed>
+    requires few { W.failed writer.old + 1 < 2 ^ 64 }
+    requires form { IsForm form.now }
+    ensures bytes { PutsTo W.bytes_taken result writer.old writer.new pending.old pending.new (flat_map
+        (λ c. padded c.1) (contents_of_dir (plan_in form.now) Order.Most 0 (said_in form.now) dir
+        (items (said_in form.now) dir))) }
+    ensures count { Counts result (W.failed writer.old) (W.failed writer.new) }
+{
+    match entries_in(form.m, dir) {
+        Some(entries) => put_dir(pending, writer, form, dir, &entries),
+        None => Ok(()),
+    }
+}
+
+const DIRS: [Dir; 5] = [Dir::Main, Dir::Exif, Dir::Interop, Dir::Gps, Dir::Thumb];
+
+// The directories that are there, each with its placed values.
+fn put_dirs<W: Sink>(pending: &mut Pending, writer: &mut W, form: &NormalForm) -> Result<(), Failed>
+    requires few { W.failed writer.old + 1 < 2 ^ 64 }
+    requires form { IsForm form.now }
+    ensures bytes { PutsTo W.bytes_taken result writer.old writer.new pending.old pending.new (flat_map
+        (λ c. padded c.1) (flat_map
+        (λ d. contents_of_dir (plan_in form.now) Order.Most 0 (said_in form.now) d
+        (items (said_in form.now) d)) dirs)) }
+    ensures count { Counts result (W.failed writer.old) (W.failed writer.new) }
+{
+    for dir in DIRS {
+        put_any_dir(pending, writer, form, dir)?;
+    }
+    Ok(())
+}
+
+// All that stands behind the header: the directories, then the thumbnail's bytes.
+fn put_contents<W: Sink>(
+    pending: &mut Pending,
+    writer: &mut W,
+    form: &NormalForm,
+) -> Result<(), Failed>
+    requires few { W.failed writer.old + 1 < 2 ^ 64 }
+    requires form { IsForm form.now }
+    ensures bytes { PutsTo W.bytes_taken result writer.old writer.new pending.old pending.new (flat_map
+        (λ c. padded c.1) (contents (plan_in form.now) Order.Most 0 (said_in form.now))) }
+    ensures count { Counts result (W.failed writer.old) (W.failed writer.new) }
+{
+    put_dirs(pending, writer, form)?;
+    put_thumb(pending, writer, &form.m.thumb)
+}
+
+// The header, and all that stands behind it.
+#[tactic(auto, unfolding(crate::specs::Normal::normal_exif))]
+fn put_block<W: Sink>(
+    pending: &mut Pending,
+    writer: &mut W,
+    form: &NormalForm,
+) -> Result<(), Failed>
+    requires few { W.failed writer.old + 1 < 2 ^ 64 }
+    requires form { IsForm form.now }
+    ensures bytes { PutsTo W.bytes_taken result writer.old writer.new pending.old pending.new (normal_exif (said_in form.now)) }
+    ensures count { Counts result (W.failed writer.old) (W.failed writer.new) }
+{
+    put_running_header(pending, writer)?;
+    put_contents(pending, writer, form)
+}
+
+/// Puts a normal form behind the bytes that wait: where these are 8,192 bytes together, or fewer, all of them
+/// wait, and the writer isn't called. It takes no memory, and ends at the first call that fails: the writer
+/// has then taken a prefix of those that waited and of the form behind them.
+pub fn put_normal<W: Sink>(
+    pending: &mut Pending,
+    writer: &mut W,
+    form: &NormalForm,
+) -> Result<(), Failed>
+    requires few { W.failed writer.old + 1 < 2 ^ 64 }
+    requires form { IsForm form.now }
+    ensures bytes { Puts result (W.bytes_taken writer.old) (W.bytes_taken writer.new) pending.old pending.new (normal_exif (said_in form.now)) }
+    ensures count { Counts result (W.failed writer.old) (W.failed writer.new) }
+    ensures waits { Waits result writer.old writer.new pending.old pending.new (normal_exif (said_in form.now)) }
+{
+    put_block(pending, writer, form)
+}
