@@ -1,5 +1,5 @@
 // The pieces of a block, put at their places: from the last to the first, so that a piece is put over those behind it.
-ghost use Rattle.std.specs.Prelude.{◌≡◌, ◌≤◌, ◌<◌, ◌+◌, ◌^◌, ◌++◌, [], ◌∷◌, length, replicate, Some, option_map, flat_map, IfSome, OnOk, IfOk};
+ghost use Rattle.std.specs.Prelude.{◌≡◌, ◌≤◌, ◌<◌, ◌+◌, ◌^◌, [], ◌∷◌, length, replicate, Some, option_map, flat_map, IfSome, OnOk, IfOk};
 ghost use Rattle.px_bytes.specs.Devices.{Counts};
 ghost use Rattle.px_bytes.specs.Lacking.{Lacks};
 ghost use Rattle.px_bytes.specs.Parts.{limit};
@@ -11,12 +11,12 @@ ghost use Rattle.px_tree.specs.calls.Seen.{thumb_of};
 ghost use Rattle.px_layout.specs.calls.Building.{AreInside, PutsOver, at_places, value_pieces, dir_pieces, piece_bytes, IsPiece};
 ghost use Rattle.px_layout.specs.calls.Items.{item_of, entry_of, IsCounted};
 ghost use Rattle.px_layout.specs.calls.Layouts.{said_plan, said_meaning};
-ghost use Rattle.px_layout.specs.Laid.{all_strip_contents, item_bytes, jpeg_contents, strip_contents, table_bytes, thumb_contents, header, contents_of_dir, laid};
+ghost use Rattle.px_layout.specs.Laid.{all_strip_contents, jpeg_contents, strip_contents, table_bytes, thumb_contents, header, contents_of_dir, laid};
 ghost use Rattle.px_layout.specs.Plans.{Legal, place};
 
 use crate::chunks::Chunk;
 use crate::entries::{Entries, entries_in};
-use crate::items::{Entry, Item};
+use crate::items::{Entry, INSIDE, Item};
 use crate::layout::Layout;
 use crate::put_item::{place_of, put_item};
 use crate::put_table::{put_header, put_table};
@@ -160,7 +160,7 @@ fn lay_value(
     ensures bytes { OnOk result (PutsOver block.old block.new (value_pieces layout.now dir (entry_of entry.now ∷ []))) }
 {
     let Entry { tag, item } = *entry;
-    if item.size() <= 4 {
+    if item.size() <= INSIDE {
         return Ok(());
     }
     let bytes = bytes_of(memory, layout, Piece::Value(item))?;

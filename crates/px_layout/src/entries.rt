@@ -1,6 +1,6 @@
 // The entries of a directory by ascending tag, without a list of them: its fields, with at most four
 // further entries put between. TIFF 6.0 section 2, "Sort Order".
-ghost use Rattle.std.specs.Prelude.{◌≡◌, ◌<◌, ◌≤◌, ◌+◌, ◌*◌, ◌^◌, ℕ, List, length, map, slice_get, option_map, option_and_then, Some, None, IfSome};
+ghost use Rattle.std.specs.Prelude.{◌≡◌, ◌<◌, ◌≤◌, ◌+◌, ◌*◌, ◌^◌, ℕ, List, length, map, slice_get, option_map, option_and_then, is_some, Some, None, IfSome};
 ghost use Rattle.std.specs.List.{AllByRecursion};
 ghost use Rattle.px_bytes.specs.Parts.{limit};
 ghost use Rattle.px_tree.specs.calls.Iim.{normal_iim};
@@ -361,6 +361,29 @@ fn thumb_entries<'m, 'a>(thumb: &'m Option<Thumb<'a>>) -> Option<Entries<'m, 'a>
     match thumb {
         Some(thumb) => Some(thumb_part_entries(thumb)),
         None => None,
+    }
+}
+
+fn has_interop(part: &Option<ExifPart>) -> bool
+    ensures { result ≡ is_some (option_and_then (λ e. option_map field_items e.interop) (option_map exif_of part.now)) }
+{
+    match part {
+        Some(part) => part.interop.is_some(),
+        None => false,
+    }
+}
+
+/// Whether a directory is there.
+#[tactic(auto, using(crate::proofs::plans::EntryLists::items_are))]
+pub(crate) fn is_there(m: &Meaning, dir: Dir) -> bool
+    ensures { result ≡ is_some (items (meaning_of m.now) dir) }
+{
+    match dir {
+        Dir::Main => true,
+        Dir::Exif => m.exif.is_some(),
+        Dir::Interop => has_interop(&m.exif),
+        Dir::Gps => m.gps.is_some(),
+        Dir::Thumb => m.thumb.is_some(),
     }
 }
 

@@ -11,7 +11,7 @@ ghost use Rattle.px_layout.specs.calls.Judging.{stands, all_stand};
 
 use crate::chunks::Chunk;
 use crate::plan::Plan;
-use crate::walk::chunk_sizes;
+use crate::sizing::chunk_sizes;
 use px_bytes::{LIMIT, Memory, Ranges, Refused};
 use px_tree::Meaning;
 use std::alloc::{AllocError, Global};

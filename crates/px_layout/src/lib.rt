@@ -36,8 +36,8 @@ mod put_running;
 mod put_table;
 mod put_thumb;
 mod records;
+mod sizing;
 mod starts;
-mod walk;
 mod with_plan;
 #[cfg(test)]
 mod with_plan_tests;

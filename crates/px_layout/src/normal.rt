@@ -9,8 +9,8 @@ ghost use Rattle.px_layout.specs.calls.PlanningNormal.{AnswersNext, AnswersAll, 
 
 use crate::chunks::Chunk;
 use crate::plan::Plan;
+use crate::sizing::chunk_sizes;
 use crate::starts::behind;
-use crate::walk::chunk_sizes;
 use px_bytes::{Memory, WriteRefusal};
 use px_tree::Meaning;
 use std::alloc::Global;

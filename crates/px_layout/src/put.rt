@@ -1,5 +1,5 @@
 // Numbers, values and filler, put behind the bytes that wait for a writer.
-ghost use Rattle.std.specs.Prelude.{◌≡◌, ◌≤◌, ◌<◌, ◌+◌, ◌^◌, ◌%◌, ◌++◌, replicate, flat_map};
+ghost use Rattle.std.specs.Prelude.{◌≡◌, ◌≤◌, ◌<◌, ◌+◌, ◌^◌, ◌%◌, replicate, flat_map};
 ghost use Rattle.px_bytes.specs.Devices.{Counts};
 ghost use Rattle.px_bytes.specs.Numbers.{spelling};
 ghost use Rattle.px_bytes.specs.Waiting.{PutsTo};

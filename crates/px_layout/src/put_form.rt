@@ -1,6 +1,6 @@
 // The parts of a normal form, put behind the bytes that wait for a writer: each is padded to an even number of bytes. TIFF 6.0
 // section 2, "IFD Entry".
-ghost use Rattle.std.specs.Prelude.{◌≡◌, ◌<◌, ◌+◌, ◌^◌, ◌++◌, Some, flat_map};
+ghost use Rattle.std.specs.Prelude.{◌≡◌, ◌<◌, ◌+◌, ◌^◌, Some, flat_map};
 ghost use Rattle.px_bytes.specs.Devices.{Counts};
 ghost use Rattle.px_bytes.specs.Waiting.{Puts, Waits, PutsTo};
 ghost use Rattle.px_tree.specs.Roles.{role};
@@ -17,7 +17,7 @@ ghost use Rattle.px_layout.specs.Writing.{placed_bytes};
 
 use crate::entries::{Entries, entries_in};
 use crate::form::NormalForm;
-use crate::items::Entry;
+use crate::items::{Entry, INSIDE};
 use crate::put::put_padding;
 use crate::put_running::{put_running_header, put_running_table, put_told_item};
 use crate::put_thumb::put_thumb;
@@ -61,7 +61,7 @@ fn put_placed<W: Sink>(
     ensures bytes { PutsTo W.bytes_taken result writer.old writer.new pending.old pending.new (placed_bytes (plan_in form.now) (entry_of entry.now)) }
     ensures count { Counts result (W.failed writer.old) (W.failed writer.new) }
 {
-    if entry.item.size() > 4 {
+    if entry.item.size() > INSIDE {
         return put_padded_item(pending, writer, form, dir, entry);
     }
     Ok(())

@@ -11,7 +11,7 @@ ghost use Rattle.px_layout.specs.calls.Planned.{plan_of};
 ghost use Rattle.px_layout.specs.Plans.{place};
 
 use crate::chunks::Chunk;
-use crate::items::{Entry, Item};
+use crate::items::{Entry, INSIDE, Item};
 use crate::layout::Layout;
 use crate::plan::Plan;
 use crate::put::{entry_head, put_filler, put_long, put_value};
@@ -118,7 +118,7 @@ fn put_last<W: Sink>(
 {
     let Entry { tag, item } = *entry;
     let size = item.size();
-    if size > 4 {
+    if size > INSIDE {
         return put_place(pending, writer, layout, Chunk::Placed(dir, tag));
     }
     put_item(pending, writer, layout, item)?;

@@ -1,26 +1,25 @@
 // The entries of a normal form, put behind the bytes that wait for a writer: offsets run along, so that no plan is kept.
-ghost use Rattle.std.specs.Prelude.{◌≡◌, ◌<◌, ◌≤◌, ◌+◌, ◌^◌, ℕ, Some, None, length, flat_map, unwrap_or, []};
+ghost use Rattle.std.specs.Prelude.{◌≡◌, ◌<◌, ◌≤◌, ◌+◌, ◌^◌, Some, None, length, flat_map, unwrap_or, []};
 ghost use Rattle.px_bytes.specs.Devices.{Counts};
 ghost use Rattle.px_bytes.specs.Parts.{limit};
 ghost use Rattle.px_bytes.specs.Waiting.{PutsTo};
-ghost use Rattle.px_tree.specs.Entry.{table_size};
 ghost use Rattle.px_tree.specs.Tree as said;
 ghost use Rattle.px_tree.specs.Fits.{items};
 ghost use Rattle.px_layout.specs.calls.Items.{item_of, entry_of, IsCounted};
 ghost use Rattle.px_layout.specs.Laid.{long_bytes, item_bytes, entry_bytes, next_bytes, table_bytes, header};
-ghost use Rattle.px_layout.specs.Normal.{even, normal_plan};
+ghost use Rattle.px_layout.specs.Normal.{normal_plan};
 ghost use Rattle.px_layout.specs.Plans.{place};
-ghost use Rattle.px_layout.specs.lemmas.RunLaws.{start, strips_start, value_size, values_size};
+ghost use Rattle.px_layout.specs.lemmas.RunLaws.{start, strips_start, value_size};
 ghost use Rattle.px_layout.specs.calls.Given.{last_given, entry_given, strip_list, TellsAll, strips_size, strip_places};
 ghost use Rattle.px_layout.specs.calls.Forms.{said_in, plan_in, IsForm};
 
 use crate::chunks::Chunk;
-use crate::entries::{Entries, entries_in};
+use crate::entries::{Entries, is_there};
 use crate::form::NormalForm;
-use crate::items::{Entry, Item};
+use crate::items::{Entry, INSIDE, Item};
 use crate::put::{entry_head, put_filler, put_long, put_short, put_value};
 use crate::put_item::put_strip_lengths;
-use crate::walk::table_len;
+use crate::sizing::table_len;
 use px_bytes::{Failed, Order, Pending, Sink};
 use px_iim::put_iim;
 use px_tree::{Dir, Strips};
@@ -44,10 +43,10 @@ fn table_at(form: &NormalForm, dir: Dir) -> u32
     requires { IsForm form.now }
     ensures { result ≡ place (plan_in form.now) (Chunk.Table dir) }
 {
-    match entries_in(form.m, dir) {
-        Some(_) => start_of(form, dir),
-        None => 0,
+    if is_there(form.m, dir) {
+        return start_of(form, dir);
     }
+    0
 }
 
 // Where the JPEG stands, 0 where there is none.
@@ -164,7 +163,7 @@ fn put_given_last<W: Sink>(
     ensures count { Counts result (W.failed writer.old) (W.failed writer.new) }
 {
     let size = item.size();
-    if size > 4 {
+    if size > INSIDE {
         return put_long(pending, writer, Order::Most, at);
     }
     put_told_item(pending, writer, form, item)?;
@@ -197,7 +196,7 @@ fn next_at(at: u32, entry: &Entry) -> u32
     ensures { result ≡ at + value_size (item_of entry.now.item) }
 {
     let size = entry.item.size();
-    if size <= 4 {
+    if size <= INSIDE {
         return at;
     }
     at + (size + size % 2) as u32

@@ -1,5 +1,5 @@
 -- Entries that are put over a list of entries.
-use Rattle.std.proofs.Common.{◌≡◌, ℕ, zero, suc, ◌+◌, ◌-◌, ◌*◌, ◌^◌, ◌<◌, ◌≤◌, nat_lt, inl, inr, true, false, refl, sym, ◌∙◌, ap, subst, arith, Option, Some, None, option_map, option_and_then, List, [], ◌∷◌, map, length, slice_get, lt-ltb, ltb-true, le-ltb, ltb-false}
+use Rattle.std.proofs.Common.{is_some, ◌≡◌, ℕ, zero, suc, ◌+◌, ◌-◌, ◌^◌, ◌<◌, ◌≤◌, nat_lt, inl, inr, true, false, refl, sym, ◌∙◌, ap, subst, arith, Option, Some, None, option_map, option_and_then, List, [], ◌∷◌, map, length, slice_get, lt-ltb, ltb-true, le-ltb, ltb-false}
 use Rattle.std.specs.Prelude.{IfSome, if◌then◌else◌}
 use Rattle.std.specs.List.{AllByRecursion}
 use Rattle.std.proofs.lemmas.Bool.{cond-true, cond-false, cases_Bool, cond_both}
@@ -7,7 +7,6 @@ use Rattle.std.proofs.lemmas.List.{length-map}
 use Rattle.std.proofs.lemmas.Option.{slice_get-map}
 use Rattle.px_bytes.specs.Parts.{limit}
 use Rattle.px_field.specs.Values.{Value}
-use Rattle.px_tree.specs.calls.Iim.{Iim, IsRecord, normal_iim}
 use Rattle.px_tree.specs.declared.Dir.{Dir}
 use Rattle.px_tree.specs.declared.Dir.TheVariants.{Main, Exif, Interop, Gps, Thumb}
 use Rattle.px_tree.specs.Entry.{Rising}
@@ -203,10 +202,6 @@ pub few_thumb : (t : Option Thumbnail) → IfSome t FitsThumb → IfSome t (λ t
 few_thumb None f = tt
 few_thumb (Some t) f = few_fields Thumb t.fields f.fields
 
-pub record_counted : (i : Option Iim) → IfSome i (λ i. IsRecord i × (length (normal_iim i) ≤ 2 * limit)) → IfSome i (λ i. length (normal_iim i) ≤ 2 * limit)
-record_counted None h = tt
-record_counted (Some i) h = h.1
-
 -- ---- the lengths of strips
 
 pub lengths_counted : (s : List (List ℕ)) → AllByRecursion IsBytes s → AllByRecursion (λ n. n ≤ limit) (map (λ x. length x) s)
@@ -220,6 +215,10 @@ strips_counted (Some t) s q h = let k : t ≡ s = cc in
     (subst (λ n. n ≤ limit) (sym (length-map t (λ x. length x))) h.0, lengths_counted t h.1)
 
 -- ---- the entries of each directory
+
+pub there : {X Y : Type 0} (f : X → Y) (o : Option X) → is_some (option_map f o) ≡ is_some o
+there f None = refl
+there f (Some x) = refl
 
 pub items_are : (m : Meaning) →
     (items m Main ≡ Some (main_items m)) × (items m Exif ≡ option_map exif_items m.exif)

@@ -16,7 +16,7 @@ use Rattle.px_layout.specs.Chunks.{same_chunk, chunks}
 use Rattle.px_layout.specs.Plans.{Plan, Legal}
 use Rattle.px_layout.specs.Normal.{even, running, padded_size, normal_plan, normal_exif}
 use Rattle.px_layout.specs.lemmas.LineLaws.{same_chunk-true, length_normal, legal_in_line}
-use Rattle.px_layout.specs.calls.Planned.{with_chunk, with_length, bare}
+use Rattle.px_layout.specs.calls.Planned.{with_chunk, with_length}
 use Rattle.px_layout.specs.calls.PlanningNormal.{Placed, AnswersNext, AnswersAll, AnswersPlan}
 
 abbrev or_else : Option ℕ → Option ℕ → Option ℕ
@@ -70,10 +70,6 @@ next_placed old new c size x end placed ends most none some e cs h = record {
       ∙ ap₂ (λ o n. or_else o (if same_chunk c d then Some n else None)) (h.each d) h.ends
       ∙ sym (running_more 8 cs (c, size) d);
 }
-
--- no chunk yet
-pub none_placed : (plan : Plan) → plan ≡ bare 8 → Placed plan 8 []
-none_placed plan e = record { ends = refl; most = omega arith; each = λ c. ap (λ (p : Plan). p.offset c) e }
 
 -- the line so far, and the whole
 pub part_fits : (cs : List (Chunk × ℕ)) (i : ℕ) (c : Chunk × ℕ) → slice_get cs i ≡ Some c → padded_size (take i cs) + even c.1 ≤ padded_size cs

@@ -5,13 +5,12 @@ use Rattle.std.specs.List.{AllByRecursion, cons_option}
 use Rattle.std.proofs.lemmas.Bool.{cond-true, cond-false, false_from_ne_true}
 use Rattle.std.proofs.lemmas.List.{map-append, length-replicate}
 use Rattle.px_bytes.specs.declared.Order.{Order}
-use Rattle.px_bytes.specs.Parts.{limit}
 use Rattle.px_bytes.specs.lemmas.EachLaws.{each_in_map, each_left, each_right}
 use Rattle.px_tree.specs.declared.Dir.{Dir}
 use Rattle.px_tree.specs.declared.Dir.TheVariants.{Main, Exif, Interop, Gps, Thumb}
 use Rattle.px_tree.specs.Tree.{Thumbnail, Meaning}
 use Rattle.px_tree.specs.Directory.{dirs}
-use Rattle.px_tree.specs.Fits.{Item, item_size, items, IsBytes, FitsThumb, Fits}
+use Rattle.px_tree.specs.Fits.{Item, item_size, items, Fits}
 use Rattle.px_layout.specs.declared.chunks.Chunk.{Chunk}
 use Rattle.px_layout.specs.declared.chunks.Chunk.TheVariants.{Table, Placed, Strip}
 use Rattle.px_layout.specs.declared.layout.Layout.{Layout}
@@ -22,7 +21,7 @@ use Rattle.px_layout.specs.lemmas.EntryLaws.{Good, good_items, few_items}
 use Rattle.px_layout.specs.lemmas.SizeLaws.{ranges_are}
 use Rattle.px_layout.specs.calls.Building.{made, AreInside, PutsOver, at_places, value_pieces, dir_pieces}
 use Rattle.px_layout.specs.calls.Layouts.{said_plan}
-use Rattle.px_layout.proofs.plans.Built.{puts_none, puts_more, none_made, drop_get, drop_end}
+use Rattle.px_layout.proofs.plans.Built.{puts_none, puts_more, none_made, drop_get}
 
 module _ (l : Layout) where
   abbrev P : Plan
@@ -35,9 +34,6 @@ module _ (l : Layout) where
   f = l.filler
 
   -- ---- strips
-
-  pub strips_end : (s : List (List ℕ)) (n : ℕ) → n ≡ length s → at_places l (strip_contents n (drop n s)) ≡ []
-  strips_end s n e = ap (λ t. at_places l (strip_contents n t)) (drop_end s n e)
 
   pub strips_more : (a b c : List ℕ) (s : List (List ℕ)) (j k : ℕ) (x : List ℕ) → k ≡ j + 1 → slice_get s j ≡ Some x → length b ≡ length a →
       PutsOver a b (at_places l (strip_contents k (drop k s))) → PutsOver b c ((place P (Strip j), x) ∷ []) → PutsOver a c (at_places l (strip_contents j (drop j s)))
@@ -65,9 +61,6 @@ module _ (l : Layout) where
 
     values_cons : (x : ℕ × Item) (xs : List (ℕ × Item)) → value_pieces l d (x ∷ xs) ≡ value_pieces l d (x ∷ []) ++ value_pieces l d xs
     values_cons x xs = cut (placed_content P o f d x) (filter_map (placed_content P o f d) xs)
-
-    pub values_end : (xs : List (ℕ × Item)) (n : ℕ) → n ≡ length xs → value_pieces l d (drop n xs) ≡ []
-    values_end xs n e = ap (value_pieces l d) (drop_end xs n e)
 
     pub values_more : (a b c : List ℕ) (xs : List (ℕ × Item)) (j k : ℕ) (x : ℕ × Item) → k ≡ j + 1 → slice_get xs j ≡ Some x → length b ≡ length a →
         PutsOver a b (value_pieces l d (drop k xs)) → PutsOver b c (value_pieces l d (x ∷ [])) → PutsOver a c (value_pieces l d (drop j xs))
@@ -97,9 +90,6 @@ module _ (l : Layout) where
   -- ---- a directory
 
   module _ (m : Meaning) where
-    pub dir_none : (d : Dir) → items m d ≡ None → dir_pieces l m d ≡ []
-    dir_none d e = ap (λ x. at_places l (contents_of_dir P o f m d x)) e
-
     pub dir_some : (d : Dir) (xs : List (ℕ × Item)) → items m d ≡ Some xs → dir_pieces l m d ≡ ((place P (Table d), table_bytes P o f m d xs) ∷ []) ++ value_pieces l d xs
     dir_some d xs e = ap (λ x. at_places l (contents_of_dir P o f m d x)) e
 
@@ -187,16 +177,6 @@ module _ (l : Layout) where
 
         pub strips_inside : AreInside P.length (at_places l (all_strip_contents t.strips))
         strips_inside = each_right (λ y. y.0 + length y.1 ≤ P.length) (at_places l (jpeg_contents t.jpeg)) (at_places l (all_strip_contents t.strips)) (subst (AreInside P.length) cut_parts both_inside)
-
-        fit : FitsThumb t
-        fit = subst (λ x. IfSome x FitsThumb) is fits.thumb
-
-        pub few_strips : IfSome t.strips (λ s. length s ≤ limit)
-        few_strips = each t.strips fit.strips
-          where
-            each : (s : Option (List (List ℕ))) → IfSome s (λ s. (length s ≤ limit) × AllByRecursion IsBytes s) → IfSome s (λ s. length s ≤ limit)
-            each None h = tt
-            each (Some s) h = h.0
 
       -- ---- all of it
 

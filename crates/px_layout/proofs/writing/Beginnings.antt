@@ -1,6 +1,5 @@
 -- Where the parts of a normal form begin, one behind the other.
-use Rattle.std.proofs.Common.{◌≡◌, ℕ, ◌+◌, ◌≤◌, Option, Some, None, List, length, drop, slice_get, ◌∙◌, ap, subst, arith}
-use Rattle.std.proofs.lemmas.List.{drop_all}
+use Rattle.std.proofs.Common.{◌≡◌, ℕ, ◌+◌, Option, Some, List, length, drop, slice_get, ◌∙◌, ap, subst, arith}
 use Rattle.px_tree.specs.Tree.{Meaning}
 use Rattle.px_tree.specs.Fits.{Item, items, Fits}
 use Rattle.px_tree.specs.Entry.{table_size}
@@ -16,14 +15,8 @@ use Rattle.px_layout.proofs.plans.Walks.{drop_here}
 pub values_here : (xs : List (ℕ × Item)) (i : ℕ) (x : ℕ × Item) → slice_get xs i ≡ Some x → values_size (drop i xs) ≡ value_size x.1 + values_size (drop (i + 1) xs)
 values_here xs i x e = ap values_size (drop_here xs i x e)
 
-pub values_none : (xs : List (ℕ × Item)) (i : ℕ) → length xs ≤ i → values_size (drop i xs) ≡ 0
-values_none xs i l = ap values_size (drop_all i xs l)
-
 pub strips_here : (xs : List (List ℕ)) (i : ℕ) (x : List ℕ) → slice_get xs i ≡ Some x → padded_size (strip_chunks i (drop i xs)) ≡ even (length x) + padded_size (strip_chunks (i + 1) (drop (i + 1) xs))
 strips_here xs i x e = ap (λ ys. padded_size (strip_chunks i ys)) (drop_here xs i x e)
-
-pub strips_none : (xs : List (List ℕ)) (i : ℕ) → length xs ≤ i → padded_size (strip_chunks i (drop i xs)) ≡ 0
-strips_none xs i l = ap (λ ys. padded_size (strip_chunks i ys)) (drop_all i xs l)
 
 -- the length of the form
 pub form_end : (m : Meaning) → Fits m → length (normal_exif m) ≡ strips_start m + padded_size (strips_part m.thumb)
@@ -36,6 +29,3 @@ ends_as r a b e h = subst (Ends r) e h
 -- the end of a directory that is there
 pub dir_there : (m : Meaning) (d : Dir) (x : ℕ) (xs : List (ℕ × Item)) → items m d ≡ Some xs → dir_end x m d ≡ x + even (table_size (length xs)) + values_size xs
 dir_there m d x xs e = let p = ap (λ y. x + padded_size (chunks_of_dir d y)) e in let v = values_padded d xs in omega arith
-
-pub dir_gone : (m : Meaning) (d : Dir) (x : ℕ) → items m d ≡ None → dir_end x m d ≡ x
-dir_gone m d x e = let p = ap (λ y. x + padded_size (chunks_of_dir d y)) e in omega arith

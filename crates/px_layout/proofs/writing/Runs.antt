@@ -1,5 +1,5 @@
 -- Writing with offsets that run along.
-use Rattle.std.proofs.Common.{◌≡◌, ℕ, zero, suc, ◌+◌, ◌-◌, ◌<◌, ◌≤◌, nat_lt, Option, Some, None, option_map, List, [], ◌∷◌, ◌++◌, map, flat_map, length, take, drop, slice_get, replicate, unwrap_or, refl, sym, ◌∙◌, ap, ap₂, subst, arith, append_assoc, lt-ltb, ltb-true, inl, inr}
+use Rattle.std.proofs.Common.{◌≡◌, ℕ, zero, suc, ◌+◌, ◌-◌, ◌<◌, ◌≤◌, nat_lt, Option, Some, None, option_map, List, [], ◌∷◌, ◌++◌, map, flat_map, length, take, drop, slice_get, replicate, unwrap_or, refl, sym, ◌∙◌, ap, ap₂, subst, arith, append_assoc, lt-ltb, ltb-true, is_some, true, false, inl, inr}
 use Rattle.std.specs.Prelude.{IfSome, option_and_then}
 use Rattle.std.specs.List.{AllByRecursion, range_with_len}
 use Rattle.std.proofs.lemmas.Bool.{cond-true, cond-false, cases_Bool, le-ltb}
@@ -13,14 +13,14 @@ use Rattle.px_tree.specs.Tree.{Fields, ExifPart, Thumbnail, Meaning}
 use Rattle.px_tree.specs.Entry.{table_size}
 use Rattle.px_tree.specs.calls.Iim.{Iim}
 use Rattle.px_tree.specs.Fits.{Item, Iptc, AtJpeg, JpegSize, AtStrips, StripSizes, put_some, link, field_items, main_items, exif_items, thumb_items, items, item_form, item_count, item_size, Fits}
-use Rattle.px_layout.specs.declared.chunks.Chunk.TheVariants.{Placed, Jpeg, Strip}
+use Rattle.px_layout.specs.declared.chunks.Chunk.TheVariants.{Table, Placed, Jpeg, Strip}
 use Rattle.px_layout.specs.declared.starts.Starts.{Starts}
 use Rattle.px_layout.specs.Chunks.{jpeg_chunks, strip_chunks, all_strip_chunks}
 use Rattle.px_layout.specs.Plans.{Plan, place}
 use Rattle.px_layout.specs.Laid.{long_bytes, item_bytes, last_bytes, entry_bytes, header}
-use Rattle.px_layout.specs.Normal.{even, running, padded_size, normal_plan, normal_exif}
+use Rattle.px_layout.specs.Normal.{even, running, padded_size, normal_plan}
 use Rattle.px_layout.specs.lemmas.EntryLaws.{Good, good_items, each_put}
-use Rattle.px_layout.specs.lemmas.RunLaws.{values_size, start, dir_end, thumb_start, strips_start, jpeg_part, strips_part, thumb_parts, thumb_found, jpeg_place, run_none, without_all_strips, table_place, value_place, strip_place}
+use Rattle.px_layout.specs.lemmas.RunLaws.{values_size, start, dir_end, thumb_start, strips_start, jpeg_part, strips_part, thumb_parts, thumb_found, jpeg_place, run_none, without_all_strips, table_place, no_table_place, value_place, strip_place}
 use Rattle.px_layout.specs.calls.Given.{head_bytes, last_given, entry_given, strip_list, TellsAll, strips_size, strip_places}
 use Rattle.px_layout.specs.calls.Starting.{AreStarts}
 use Rattle.px_tree.specs.Directory.{magic}
@@ -200,12 +200,6 @@ tells_read m d xs i x e r = each_read (λ i. TellsAll m i.1) xs i x (subst (λ (
 pub strips_next : (s : List (List ℕ)) (i : ℕ) (x : List ℕ) → slice_get s i ≡ Some x → strips_size (drop i s) ≡ even (length x) + strips_size (drop (i + 1) s)
 strips_next s i x e = ap strips_size (drop_here s i x e)
 
-pub strips_left : (s : List (List ℕ)) (i : ℕ) → strips_size (drop i s) ≤ strips_size s
-strips_left [] zero = omega arith
-strips_left [] (suc i) = omega arith
-strips_left (x ∷ s) zero = omega arith
-strips_left (x ∷ s) (suc i) = let h = strips_left s i in omega arith
-
 pub length_places : (x : ℕ) (s : List (List ℕ)) → length (strip_places x s) ≡ length s
 length_places x [] = refl
 length_places x (y ∷ s) = ap suc (length_places (x + even (length y)) s)
@@ -233,6 +227,16 @@ strips_most m s t a f e =
 pub item_told : (m : Meaning) (x : Item) (n : ℕ) → x ≡ AtStrips n → TellsAll m x → flat_map (long_bytes Most) (strip_places (strips_start m) (strip_list m.thumb)) ≡ item_bytes (normal_plan m) Most 0 x
 unfolding item_bytes
 item_told m x n e h = strips_told m n (subst (TellsAll m) e h) ∙ sym (ap (item_bytes (normal_plan m) Most 0) e)
+
+-- ---- the tables
+
+pub place_there : (m : Meaning) (d : Dir) (o : Option (List (ℕ × Item))) → items m d ≡ o → is_some o ≡ true → place (normal_plan m) (Table d) ≡ start m d
+place_there m d (Some xs) e t = table_place m d xs e
+place_there m d None e t = absurd (cc)
+
+pub place_gone : (m : Meaning) (d : Dir) (o : Option (List (ℕ × Item))) → items m d ≡ o → is_some o ≡ false → place (normal_plan m) (Table d) ≡ 0
+place_gone m d (Some xs) e f = absurd (cc)
+place_gone m d None e f = no_table_place m d e
 
 -- ---- the header
 

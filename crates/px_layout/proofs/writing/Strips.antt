@@ -1,5 +1,5 @@
 -- The thumbnail's bytes as they are put.
-use Rattle.std.proofs.Common.{◌≡◌, ℕ, ◌+◌, Some, None, List, [], ◌∷◌, ◌++◌, flat_map, refl, sym, ap}
+use Rattle.std.proofs.Common.{◌≡◌, ℕ, ◌+◌, Some, List, [], ◌∷◌, ◌++◌, flat_map, refl, sym, ap}
 use Rattle.std.proofs.lemmas.List.Concat.{flat_map-append}
 use Rattle.px_tree.specs.Tree.{Thumbnail}
 use Rattle.px_layout.specs.declared.chunks.Chunk.{Chunk}
@@ -18,7 +18,3 @@ strips_padded n (x ∷ xs) = ap (λ y. padded x ++ y) (strips_padded (n + 1) xs)
 pub parts_padded : (t : Thumbnail) → flat_map padded_content (jpeg_contents t.jpeg) ++ flat_map padded_content (all_strip_contents t.strips) ≡ flat_map padded_content (thumb_contents (Some t))
 unfolding thumb_contents
 parts_padded t = sym (flat_map-append padded_content (jpeg_contents t.jpeg) (all_strip_contents t.strips))
-
-pub none_padded : [] ≡ flat_map padded_content (thumb_contents None)
-unfolding thumb_contents
-none_padded = refl

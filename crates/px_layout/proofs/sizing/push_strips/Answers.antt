@@ -1,6 +1,6 @@
 use Rattle.std.proofs.Common.{◌∙◌}
 use Rattle.px_layout.proofs.plans.Walks.{strips_more}
-use Rattle.px_layout.proofs.walk.push_strips.Goals as goal
+use Rattle.px_layout.proofs.sizing.push_strips.Goals as goal
 
 pub loop-i-preserved : goal.loop-i-preserved
 loop-i-preserved c = record {

@@ -1,6 +1,6 @@
 use Rattle.std.proofs.Common.{◌≡◌, ◌++◌, drop}
 use Rattle.px_layout.specs.Chunks.{strip_chunks}
-use Rattle.px_layout.proofs.walk.push_strips.Given as goal
+use Rattle.px_layout.proofs.sizing.push_strips.Given as goal
 
 -- what is there, and then the strips left; and no growth was refused
 abbrev pub invariant-loop-i : goal.invariant-loop-i

@@ -11,7 +11,7 @@ ghost use Rattle.px_layout.specs.Chunks.{placed_chunk, chunks_of_dir, jpeg_chunk
 
 use crate::chunks::Chunk;
 use crate::entries::{Entries, entries_in};
-use crate::items::Entry;
+use crate::items::{Entry, INSIDE};
 use px_bytes::{Memory, Refused};
 use px_tree::{Dir, Meaning, Strips, Thumb};
 
@@ -29,7 +29,7 @@ fn push_value(
 {
     let Entry { tag, item } = *entry;
     let size = item.size();
-    if size <= 4 {
+    if size <= INSIDE {
         return Ok(());
     }
     memory.push(out, (Chunk::Placed(dir, tag), size))?;

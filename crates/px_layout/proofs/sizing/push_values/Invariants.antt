@@ -1,6 +1,6 @@
 use Rattle.std.proofs.Common.{◌≡◌, ◌++◌, drop, filter_map}
 use Rattle.px_layout.specs.Chunks.{placed_chunk}
-use Rattle.px_layout.proofs.walk.push_values.Given as goal
+use Rattle.px_layout.proofs.sizing.push_values.Given as goal
 
 -- what is there, and then the chunks of the entries left; and no growth was refused
 abbrev pub invariant-loop-i : goal.invariant-loop-i

@@ -1,7 +1,7 @@
 use Rattle.std.proofs.Common.{sym, arith}
 use Rattle.px_tree.specs.calls.Seen.{meaning_of}
 use Rattle.px_layout.proofs.plans.Walks.{few_there}
-use Rattle.px_layout.proofs.walk.push_dir.Goals as goal
+use Rattle.px_layout.proofs.sizing.push_dir.Goals as goal
 
 pub table_len-requires : goal.table_len-requires
 table_len-requires c =
