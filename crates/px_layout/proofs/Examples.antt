@@ -29,7 +29,15 @@ orientation = 1 ∷ 0x12 ∷ 0 ∷ 3 ∷ 0 ∷ 0 ∷ 0 ∷ 1 ∷ 0 ∷ 1 ∷ 0 �
 -- ---- one field
 
 one_field : Meaning
-one_field = record { main = (0x0112, record { kind = Of Short; elements = element.Short 1 ∷ [] }) ∷ []; iptc = None; exif = None; gps = None; thumb = None }
+one_field =
+    record {
+      main =
+          (0x0112, record { kind = Of Short; elements = element.Short 1 ∷ [] }) ∷ [];
+      iptc = None;
+      exif = None;
+      gps = None;
+      thumb = None;
+    }
 
 one_field_normal : normal_exif one_field ≡ header ++ 0 ∷ 1 ∷ orientation ++ last
 unfolding header last orientation one_field opened
@@ -65,7 +73,8 @@ odd_offset_laid = refl
 
 -- pointers to the Exif and the GPS directory
 pointers_to : ℕ → ℕ → List ℕ
-pointers_to exif gps = 0 ∷ 2 ∷ 0x87 ∷ 0x69 ∷ 0 ∷ 4 ∷ 0 ∷ 0 ∷ 0 ∷ 1 ∷ 0 ∷ 0 ∷ 0 ∷ exif ∷ 0x88 ∷ 0x25 ∷ 0 ∷ 4 ∷ 0 ∷ 0 ∷ 0 ∷ 1 ∷ 0 ∷ 0 ∷ 0 ∷ gps ∷ last
+pointers_to exif gps =
+    0 ∷ 2 ∷ 0x87 ∷ 0x69 ∷ 0 ∷ 4 ∷ 0 ∷ 0 ∷ 0 ∷ 1 ∷ 0 ∷ 0 ∷ 0 ∷ exif ∷ 0x88 ∷ 0x25 ∷ 0 ∷ 4 ∷ 0 ∷ 0 ∷ 0 ∷ 1 ∷ 0 ∷ 0 ∷ 0 ∷ gps ∷ last
 
 exif_dir : ℕ → List ℕ
 exif_dir interop = 0 ∷ 1 ∷ 0xA0 ∷ 5 ∷ 0 ∷ 4 ∷ 0 ∷ 0 ∷ 0 ∷ 1 ∷ 0 ∷ 0 ∷ 0 ∷ interop ∷ last
@@ -109,13 +118,16 @@ four_dirs_turned = refl
 strips : List ℕ
 strips =
     header ++ 0 ∷ 1 ∷ orientation
-    ++ (0 ∷ 0 ∷ 0 ∷ 0x1A ∷ 0 ∷ 2 ∷ 1 ∷ 0x11 ∷ 0 ∷ 3 ∷ 0 ∷ 0 ∷ 0 ∷ 3 ∷ 0 ∷ 0 ∷ 0 ∷ 0x38 ∷ 1 ∷ 0x17 ∷ 0 ∷ 3 ∷ 0 ∷ 0 ∷ 0 ∷ 3 ∷ 0 ∷ 0 ∷ 0 ∷ 0x3E ∷ last)
+    ++ (0 ∷ 0 ∷ 0 ∷ 0x1A ∷ 0 ∷ 2 ∷ 1 ∷ 0x11 ∷ 0 ∷ 3 ∷ 0 ∷ 0 ∷ 0 ∷ 3 ∷ 0 ∷ 0 ∷ 0 ∷ 0x38 ∷ 1 ∷ 0x17 ∷ 0 ∷ 3 ∷ 0 ∷ 0 ∷ 0 ∷ 3 ∷ 0 ∷ 0 ∷ 0 ∷
+    0x3E ∷ last)
     ++ 0 ∷ 0x47 ∷ 0 ∷ 0x46 ∷ 0 ∷ 0x44 ∷ 0 ∷ 2 ∷ 0 ∷ 0 ∷ 0 ∷ 3 ∷ 0x58 ∷ 0x59 ∷ 0x5A ∷ 0x41 ∷ 0x42 ∷ []
 
 strips_normal : normal_exif (meaning strips Most) ≡
     header ++ 0 ∷ 1 ∷ orientation
-    ++ (0 ∷ 0 ∷ 0 ∷ 0x1A ∷ 0 ∷ 2 ∷ 1 ∷ 0x11 ∷ 0 ∷ 4 ∷ 0 ∷ 0 ∷ 0 ∷ 3 ∷ 0 ∷ 0 ∷ 0 ∷ 0x38 ∷ 1 ∷ 0x17 ∷ 0 ∷ 4 ∷ 0 ∷ 0 ∷ 0 ∷ 3 ∷ 0 ∷ 0 ∷ 0 ∷ 0x44 ∷ last)
-    ++ (0 ∷ 0 ∷ 0 ∷ 0x50 ∷ 0 ∷ 0 ∷ 0 ∷ 0x52 ∷ 0 ∷ 0 ∷ 0 ∷ 0x52 ∷ 0 ∷ 0 ∷ 0 ∷ 2 ∷ 0 ∷ 0 ∷ 0 ∷ 0 ∷ 0 ∷ 0 ∷ 0 ∷ 3 ∷ 0x41 ∷ 0x42 ∷ 0x58 ∷ 0x59 ∷ 0x5A ∷ 0 ∷ [])
+    ++ (0 ∷ 0 ∷ 0 ∷ 0x1A ∷ 0 ∷ 2 ∷ 1 ∷ 0x11 ∷ 0 ∷ 4 ∷ 0 ∷ 0 ∷ 0 ∷ 3 ∷ 0 ∷ 0 ∷ 0 ∷ 0x38 ∷ 1 ∷ 0x17 ∷ 0 ∷ 4 ∷ 0 ∷ 0 ∷ 0 ∷ 3 ∷ 0 ∷ 0 ∷ 0 ∷
+    0x44 ∷ last)
+    ++ (0 ∷ 0 ∷ 0 ∷ 0x50 ∷ 0 ∷ 0 ∷ 0 ∷ 0x52 ∷ 0 ∷ 0 ∷ 0 ∷ 0x52 ∷ 0 ∷ 0 ∷ 0 ∷ 2 ∷ 0 ∷ 0 ∷ 0 ∷ 0 ∷ 0 ∷ 0 ∷ 0 ∷ 3 ∷ 0x41 ∷ 0x42 ∷ 0x58 ∷ 0x59
+    ∷ 0x5A ∷ 0 ∷ [])
 unfolding header last orientation strips opened
 strips_normal = refl
 
@@ -141,7 +153,8 @@ width_normal = (refl, refl)
 
 -- a type and a count
 record_of : ℕ → ℕ → List ℕ
-record_of code count = header ++ 0 ∷ 1 ∷ 0x83 ∷ 0xBB ∷ 0 ∷ code ∷ 0 ∷ 0 ∷ 0 ∷ count ∷ 0 ∷ 0 ∷ 0 ∷ 0x1A ∷ last ++ 0x1C ∷ 2 ∷ 0x78 ∷ 0 ∷ 2 ∷ 0x68 ∷ 0x69 ∷ 0 ∷ []
+record_of code count =
+    header ++ 0 ∷ 1 ∷ 0x83 ∷ 0xBB ∷ 0 ∷ code ∷ 0 ∷ 0 ∷ 0 ∷ count ∷ 0 ∷ 0 ∷ 0 ∷ 0x1A ∷ last ++ 0x1C ∷ 2 ∷ 0x78 ∷ 0 ∷ 2 ∷ 0x68 ∷ 0x69 ∷ 0 ∷ []
 
 record_normal : normal_exif (meaning (record_of 1 8) Most) ≡ record_of 7 7
 unfolding header last record_of opened

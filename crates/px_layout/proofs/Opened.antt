@@ -15,5 +15,8 @@ use Rattle.px_layout.specs.Laid.{item_bytes, last_bytes, entry_bytes, table_byte
 use Rattle.px_layout.specs.Normal.{normal_plan, normal_exif}
 
 unfoldable pub opened : ℕ
-unfolding form_of elements spelled named put gather is_dataset dataset sequence_of iim_of normal_count normal_dataset role entry has_table table entries next raw_size raw has_raw entry_elements field fields pointer dir_at numbers jpeg_range strip_ranges record_at exif_part thumbnail meaning item_size items placed_chunk thumb_chunks chunks item_bytes last_bytes entry_bytes table_bytes placed_content thumb_contents contents header laid_pieces laid normal_plan normal_exif
+unfolding form_of elements spelled named put gather is_dataset dataset sequence_of iim_of normal_count normal_dataset role entry has_table
+    table entries next raw_size raw has_raw entry_elements field fields pointer dir_at numbers jpeg_range strip_ranges record_at exif_part
+    thumbnail meaning item_size items placed_chunk thumb_chunks chunks item_bytes last_bytes entry_bytes table_bytes placed_content
+    thumb_contents contents header laid_pieces laid normal_plan normal_exif
 opened = 0

@@ -51,7 +51,8 @@ module _ (plan : Plan) (o : Order) (filler : ℕ) where
 
   -- the four bytes of the last field: the value and filler behind it, or the offset of its chunk
   unfoldable pub last_bytes : Dir → ℕ × Item → List ℕ
-  last_bytes d i = if nat_lt 4 (item_size i.1) then long_bytes o (place plan (Placed d i.0)) else item_bytes i.1 ++ replicate (4 - item_size i.1) filler
+  last_bytes d i =
+      if nat_lt 4 (item_size i.1) then long_bytes o (place plan (Placed d i.0)) else item_bytes i.1 ++ replicate (4 - item_size i.1) filler
 
   -- tag, type, count, last field
   unfoldable pub entry_bytes : Dir → ℕ × Item → List ℕ

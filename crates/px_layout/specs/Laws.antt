@@ -17,11 +17,13 @@ LegalSays = (m : Meaning) (plan : Plan) (o : Order) (filler : ℕ) → Fits m �
 
 -- The normal form is laid out by its plan, which is legal.
 abbrev pub NormalIsLaid : Type 0
-NormalIsLaid = (m : Meaning) → Fits m → length (normal_exif m) ≤ limit → Legal m (normal_plan m) × (normal_exif m ≡ laid m (normal_plan m) Most 0)
+NormalIsLaid =
+    (m : Meaning) → Fits m → length (normal_exif m) ≤ limit → Legal m (normal_plan m) × (normal_exif m ≡ laid m (normal_plan m) Most 0)
 
 -- Meanings have one normal form exactly if they are one, and the normal form says its meaning.
 abbrev pub NormalTells : Type 0
-NormalTells = (s t : Meaning) → Fits s → Fits t → length (normal_exif s) ≤ limit → length (normal_exif t) ≤ limit → ((normal_exif s ≡ normal_exif t) ↔ (s ≡ t)) × SaysExif (normal_exif s) s
+NormalTells = (s t : Meaning) → Fits s → Fits t → length (normal_exif s) ≤ limit → length (normal_exif t) ≤ limit
+    → ((normal_exif s ≡ normal_exif t) ↔ (s ≡ t)) × SaysExif (normal_exif s) s
 
 -- A normal form is at most twice as long as any block that says its meaning.
 abbrev pub NormalBound : Type 0

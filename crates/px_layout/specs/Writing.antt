@@ -15,10 +15,12 @@ use Rattle.px_layout.specs.Normal.{padded, normal_exif}
 -- the writer has taken the meaning's normal form, whose length is answered; a form that is too long leaves the writer as it was;
 -- where a call failed, the writer has taken a prefix of the form; want of memory is never answered
 abbrev pub WritesExif : Result ℕ WriteRefusal → Option (List ℕ) → Option (List ℕ) → ℕ → ℕ → Meaning → Type 0
-WritesExif (Ok n) old new failed failed_now m = Appends old new (normal_exif m) × (n ≡ length (normal_exif m)) × (n ≤ limit) × (failed_now ≡ failed)
+WritesExif (Ok n) old new failed failed_now m =
+    Appends old new (normal_exif m) × (n ≡ length (normal_exif m)) × (n ≤ limit) × (failed_now ≡ failed)
 WritesExif (Err NormalTooLong) old new failed failed_now m = (limit < length (normal_exif m)) × (new ≡ old) × (failed_now ≡ failed)
 WritesExif (Err OutOfMemory) old new failed failed_now m = ⊥
-WritesExif (Err WriteFailed) old new failed failed_now m = (length (normal_exif m) ≤ limit) × AppendsPrefix old new (normal_exif m) × (failed_now ≡ failed + 1)
+WritesExif (Err WriteFailed) old new failed failed_now m =
+    (length (normal_exif m) ≤ limit) × AppendsPrefix old new (normal_exif m) × (failed_now ≡ failed + 1)
 
 -- a placed value of the normal form with its padding, nothing where the value stands in its entry
 abbrev pub placed_bytes : Plan → ℕ × Item → List ℕ

@@ -197,10 +197,16 @@ fn lay_table(
     entries: &Entries,
 ) -> Result<(), Refused>
     requires few { length entries.now < 2 ^ 16 }
-    requires inside { place (said_plan layout.now) (Chunk.Table dir) + length (table_bytes (said_plan layout.now) layout.now.order layout.now.filler (said_meaning layout.now) dir entries.now) ≤ length block.old }
+    requires inside { place (said_plan layout.now) (Chunk.Table dir) + length
+        (table_bytes (said_plan layout.now) layout.now.order layout.now.filler (said_meaning layout.now) dir entries.now) ≤ length
+        block.old }
     ensures memory { Lacks result memory.old memory.new }
     ensures len { length block.new ≡ length block.old }
-    ensures bytes { OnOk result (PutsOver block.old block.new ((place (said_plan layout.now) (Chunk.Table dir), table_bytes (said_plan layout.now) layout.now.order layout.now.filler (said_meaning layout.now) dir entries.now) ∷ [])) }
+    ensures bytes { OnOk result (PutsOver block.old block.new ((
+      place (said_plan layout.now) (Chunk.Table dir),
+      table_bytes
+          (said_plan layout.now) layout.now.order layout.now.filler (said_meaning layout.now) dir entries.now,
+    ) ∷ [])) }
 {
     let bytes = bytes_of(memory, layout, Piece::Table(dir, entries))?;
     put_at(block, place_of(layout.plan, Chunk::Table(dir)), &bytes);
@@ -230,7 +236,9 @@ fn lay_dirs(memory: &mut Memory, block: &mut [u8], layout: &Layout) -> Result<()
     requires len { length block.old ≡ (said_plan layout.now).length }
     ensures memory { Lacks result memory.old memory.new }
     ensures len { length block.new ≡ length block.old }
-    ensures bytes { OnOk result (PutsOver block.old block.new (at_places layout.now (flat_map (λ d. contents_of_dir (said_plan layout.now) layout.now.order layout.now.filler (said_meaning layout.now) d (items (said_meaning layout.now) d)) dirs))) }
+    ensures bytes { OnOk result (PutsOver block.old block.new (at_places layout.now
+        (flat_map (λ d. contents_of_dir (said_plan layout.now) layout.now.order layout.now.filler (said_meaning layout.now) d
+        (items (said_meaning layout.now) d)) dirs))) }
 {
     lay_dir(memory, block, layout, Dir::Thumb)?;
     lay_dir(memory, block, layout, Dir::Gps)?;

@@ -200,7 +200,8 @@ impl Offsets {
         offset: u32,
     ) -> Result<(), Refused>
         requires { offset_in self.old (Placed dir tag) ≡ None }
-        ensures ok { OnOk result ((c : AnyChunk) → offset_in self.new c ≡ (if same_chunk (Placed dir tag) c then Some offset else offset_in self.old c)) }
+        ensures ok { OnOk result ((c : AnyChunk) → offset_in self.new c ≡ (if same_chunk (Placed dir tag) c then Some offset else offset_in
+            self.old c)) }
         ensures err { OnErr result ((c : AnyChunk) → offset_in self.new c ≡ offset_in self.old c) }
         ensures size { OnOk result (size_in self.new ≡ size_in self.old + 1) }
         ensures kept { OnErr result (size_in self.new ≡ size_in self.old) }
@@ -225,7 +226,8 @@ impl Offsets {
 
     fn put_strip(&mut self, memory: &mut Memory, i: u32, offset: u32) -> Result<(), Refused>
         requires { offset_in self.old (Strip i) ≡ None }
-        ensures ok { OnOk result ((c : AnyChunk) → offset_in self.new c ≡ (if same_chunk (Strip i) c then Some offset else offset_in self.old c)) }
+        ensures ok { OnOk result ((c : AnyChunk) → offset_in self.new c ≡ (if same_chunk (Strip i) c then Some offset else offset_in
+            self.old c)) }
         ensures err { OnErr result ((c : AnyChunk) → offset_in self.new c ≡ offset_in self.old c) }
         ensures size { OnOk result (size_in self.new ≡ size_in self.old + 1) }
         ensures kept { OnErr result (size_in self.new ≡ size_in self.old) }
@@ -242,7 +244,8 @@ impl Offsets {
         offset: u32,
     ) -> Result<(), Refused>
         requires { offset_in self.old chunk ≡ None }
-        ensures ok { OnOk result ((c : AnyChunk) → offset_in self.new c ≡ (if same_chunk chunk c then Some offset else offset_in self.old c)) }
+        ensures ok { OnOk result ((c : AnyChunk) → offset_in self.new c ≡ (if same_chunk chunk c then Some offset else offset_in self.old
+            c)) }
         ensures err { OnErr result ((c : AnyChunk) → offset_in self.new c ≡ offset_in self.old c) }
         ensures size { OnOk result (size_in self.new ≡ size_in self.old + 1) }
         ensures kept { OnErr result (size_in self.new ≡ size_in self.old) }

@@ -37,7 +37,8 @@ fn put_padded_item<W: Sink>(
     requires counted { IsCounted (item_of entry.now.item) }
     requires suits { Suits (role dir entry.now.tag) (item_of entry.now.item) }
     requires tells { TellsAll (said_in form.now) (item_of entry.now.item) }
-    ensures bytes { PutsTo W.bytes_taken result writer.old writer.new pending.old pending.new (padded (item_bytes (plan_in form.now) Order.Most 0 (item_of entry.now.item))) }
+    ensures bytes { PutsTo W.bytes_taken result writer.old writer.new pending.old pending.new
+        (padded (item_bytes (plan_in form.now) Order.Most 0 (item_of entry.now.item))) }
     ensures count { Counts result (W.failed writer.old) (W.failed writer.new) }
 {
     let item = entry.item;
@@ -58,7 +59,8 @@ fn put_placed<W: Sink>(
     requires counted { IsCounted (item_of entry.now.item) }
     requires suits { Suits (role dir entry.now.tag) (item_of entry.now.item) }
     requires tells { TellsAll (said_in form.now) (item_of entry.now.item) }
-    ensures bytes { PutsTo W.bytes_taken result writer.old writer.new pending.old pending.new (placed_bytes (plan_in form.now) (entry_of entry.now)) }
+    ensures bytes { PutsTo W.bytes_taken result writer.old writer.new pending.old pending.new
+        (placed_bytes (plan_in form.now) (entry_of entry.now)) }
     ensures count { Counts result (W.failed writer.old) (W.failed writer.new) }
 {
     if entry.item.size() > INSIDE {
@@ -191,7 +193,8 @@ pub fn put_normal<W: Sink>(
 ) -> Result<(), Failed>
     requires few { W.failed writer.old + 1 < 2 ^ 64 }
     requires form { IsForm form.now }
-    ensures bytes { Puts result (W.bytes_taken writer.old) (W.bytes_taken writer.new) pending.old pending.new (normal_exif (said_in form.now)) }
+    ensures bytes { Puts result (W.bytes_taken writer.old) (W.bytes_taken writer.new) pending.old pending.new
+        (normal_exif (said_in form.now)) }
     ensures count { Counts result (W.failed writer.old) (W.failed writer.new) }
     ensures waits { Waits result writer.old writer.new pending.old pending.new (normal_exif (said_in form.now)) }
 {

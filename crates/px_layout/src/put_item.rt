@@ -34,7 +34,8 @@ pub(crate) fn put_place<W: Sink>(
     chunk: Chunk,
 ) -> Result<(), Failed>
     requires { W.failed writer.old + 1 < 2 ^ 64 }
-    ensures bytes { PutsTo W.bytes_taken result writer.old writer.new pending.old pending.new (long_bytes layout.now.order (place (said_plan layout.now) chunk)) }
+    ensures bytes { PutsTo W.bytes_taken result writer.old writer.new pending.old pending.new
+        (long_bytes layout.now.order (place (said_plan layout.now) chunk)) }
     ensures count { Counts result (W.failed writer.old) (W.failed writer.new) }
 {
     put_long(pending, writer, layout.order, place_of(layout.plan, chunk))
@@ -86,7 +87,8 @@ pub(crate) fn put_item<W: Sink>(
 ) -> Result<(), Failed>
     requires few { W.failed writer.old + 1 < 2 ^ 64 }
     requires counted { IsCounted (item_of item) }
-    ensures bytes { PutsTo W.bytes_taken result writer.old writer.new pending.old pending.new (item_bytes (said_plan layout.now) layout.now.order layout.now.filler (item_of item.entry)) }
+    ensures bytes { PutsTo W.bytes_taken result writer.old writer.new pending.old pending.new
+        (item_bytes (said_plan layout.now) layout.now.order layout.now.filler (item_of item.entry)) }
     ensures count { Counts result (W.failed writer.old) (W.failed writer.new) }
 {
     match item {
@@ -113,7 +115,8 @@ fn put_last<W: Sink>(
 ) -> Result<(), Failed>
     requires few { W.failed writer.old + 1 < 2 ^ 64 }
     requires counted { IsCounted (item_of entry.now.item) }
-    ensures bytes { PutsTo W.bytes_taken result writer.old writer.new pending.old pending.new (last_bytes (said_plan layout.now) layout.now.order layout.now.filler dir (entry_of entry.now)) }
+    ensures bytes { PutsTo W.bytes_taken result writer.old writer.new pending.old pending.new
+        (last_bytes (said_plan layout.now) layout.now.order layout.now.filler dir (entry_of entry.now)) }
     ensures count { Counts result (W.failed writer.old) (W.failed writer.new) }
 {
     let Entry { tag, item } = *entry;
@@ -135,7 +138,8 @@ pub(crate) fn put_entry<W: Sink>(
 ) -> Result<(), Failed>
     requires few { W.failed writer.old + 1 < 2 ^ 64 }
     requires counted { IsCounted (item_of entry.now.item) }
-    ensures bytes { PutsTo W.bytes_taken result writer.old writer.new pending.old pending.new (entry_bytes (said_plan layout.now) layout.now.order layout.now.filler dir (entry_of entry.now)) }
+    ensures bytes { PutsTo W.bytes_taken result writer.old writer.new pending.old pending.new
+        (entry_bytes (said_plan layout.now) layout.now.order layout.now.filler dir (entry_of entry.now)) }
     ensures count { Counts result (W.failed writer.old) (W.failed writer.new) }
 {
     pending.put(writer, &entry_head(layout.order, entry))?;

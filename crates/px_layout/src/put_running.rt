@@ -133,7 +133,8 @@ pub(crate) fn put_told_item<W: Sink>(
     requires form { IsForm form.now }
     requires counted { IsCounted (item_of item) }
     requires tells { TellsAll (said_in form.now) (item_of item) }
-    ensures bytes { PutsTo W.bytes_taken result writer.old writer.new pending.old pending.new (item_bytes (plan_in form.now) Order.Most 0 (item_of item.entry)) }
+    ensures bytes { PutsTo W.bytes_taken result writer.old writer.new pending.old pending.new
+        (item_bytes (plan_in form.now) Order.Most 0 (item_of item.entry)) }
     ensures count { Counts result (W.failed writer.old) (W.failed writer.new) }
 {
     match item {
@@ -159,7 +160,8 @@ fn put_given_last<W: Sink>(
     requires form { IsForm form.now }
     requires counted { IsCounted (item_of item) }
     requires tells { TellsAll (said_in form.now) (item_of item) }
-    ensures bytes { PutsTo W.bytes_taken result writer.old writer.new pending.old pending.new (last_given (plan_in form.now) at (item_of item.entry)) }
+    ensures bytes { PutsTo W.bytes_taken result writer.old writer.new pending.old pending.new
+        (last_given (plan_in form.now) at (item_of item.entry)) }
     ensures count { Counts result (W.failed writer.old) (W.failed writer.new) }
 {
     let size = item.size();
@@ -182,7 +184,8 @@ fn put_given_entry<W: Sink>(
     requires form { IsForm form.now }
     requires counted { IsCounted (item_of entry.now.item) }
     requires tells { TellsAll (said_in form.now) (item_of entry.now.item) }
-    ensures bytes { PutsTo W.bytes_taken result writer.old writer.new pending.old pending.new (entry_given (plan_in form.now) at (entry_of entry.now)) }
+    ensures bytes { PutsTo W.bytes_taken result writer.old writer.new pending.old pending.new
+        (entry_given (plan_in form.now) at (entry_of entry.now)) }
     ensures count { Counts result (W.failed writer.old) (W.failed writer.new) }
 {
     pending.put(writer, &entry_head(Order::Most, entry))?;
@@ -235,7 +238,8 @@ fn put_running_next<W: Sink>(
 ) -> Result<(), Failed>
     requires few { W.failed writer.old + 1 < 2 ^ 64 }
     requires form { IsForm form.now }
-    ensures bytes { PutsTo W.bytes_taken result writer.old writer.new pending.old pending.new (next_bytes (plan_in form.now) Order.Most 0 (said_in form.now) dir) }
+    ensures bytes { PutsTo W.bytes_taken result writer.old writer.new pending.old pending.new
+        (next_bytes (plan_in form.now) Order.Most 0 (said_in form.now) dir) }
     ensures count { Counts result (W.failed writer.old) (W.failed writer.new) }
 {
     match dir {
@@ -253,7 +257,8 @@ fn put_next_of_main<W: Sink>(
 ) -> Result<(), Failed>
     requires few { W.failed writer.old + 1 < 2 ^ 64 }
     requires form { IsForm form.now }
-    ensures bytes { PutsTo W.bytes_taken result writer.old writer.new pending.old pending.new (next_bytes (plan_in form.now) Order.Most 0 (said_in form.now) Dir.Main) }
+    ensures bytes { PutsTo W.bytes_taken result writer.old writer.new pending.old pending.new
+        (next_bytes (plan_in form.now) Order.Most 0 (said_in form.now) Dir.Main) }
     ensures count { Counts result (W.failed writer.old) (W.failed writer.new) }
 {
     match &form.m.thumb {
@@ -277,7 +282,8 @@ pub(crate) fn put_running_table<W: Sink>(
     requires form { IsForm form.now }
     requires counted { length entries.now < 2 ^ 16 }
     requires there { items (said_in form.now) dir ≡ Some entries.now }
-    ensures bytes { PutsTo W.bytes_taken result writer.old writer.new pending.old pending.new (table_bytes (plan_in form.now) Order.Most 0 (said_in form.now) dir entries.now) }
+    ensures bytes { PutsTo W.bytes_taken result writer.old writer.new pending.old pending.new
+        (table_bytes (plan_in form.now) Order.Most 0 (said_in form.now) dir entries.now) }
     ensures count { Counts result (W.failed writer.old) (W.failed writer.new) }
 {
     put_short(pending, writer, Order::Most, entries.len() as u16)?;
@@ -291,7 +297,8 @@ pub(crate) fn put_running_header<W: Sink>(
     writer: &mut W,
 ) -> Result<(), Failed>
     requires few { W.failed writer.old + 1 < 2 ^ 64 }
-    ensures bytes { (m : said.Meaning) → PutsTo W.bytes_taken result writer.old writer.new pending.old pending.new (header (normal_plan m) Order.Most 0) }
+    ensures bytes { (m : said.Meaning) → PutsTo W.bytes_taken result writer.old writer.new pending.old pending.new
+        (header (normal_plan m) Order.Most 0) }
     ensures count { Counts result (W.failed writer.old) (W.failed writer.new) }
 {
     pending.put(writer, &[0x4D, 0x4D, 0, 0x2A, 0, 0, 0, 8])

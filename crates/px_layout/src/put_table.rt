@@ -30,7 +30,8 @@ pub(crate) fn put_header<W: Sink>(
     layout: &Layout,
 ) -> Result<(), Failed>
     requires { W.failed writer.old + 1 < 2 ^ 64 }
-    ensures bytes { PutsTo W.bytes_taken result writer.old writer.new pending.old pending.new (header (said_plan layout.now) layout.now.order layout.now.filler) }
+    ensures bytes { PutsTo W.bytes_taken result writer.old writer.new pending.old pending.new
+        (header (said_plan layout.now) layout.now.order layout.now.filler) }
     ensures count { Counts result (W.failed writer.old) (W.failed writer.new) }
 {
     pending.put(writer, &magic_of(layout.order))?;
@@ -63,7 +64,8 @@ fn put_next_of_main<W: Sink>(
     layout: &Layout,
 ) -> Result<(), Failed>
     requires { W.failed writer.old + 1 < 2 ^ 64 }
-    ensures bytes { PutsTo W.bytes_taken result writer.old writer.new pending.old pending.new (next_bytes (said_plan layout.now) layout.now.order layout.now.filler (said_meaning layout.now) Dir.Main) }
+    ensures bytes { PutsTo W.bytes_taken result writer.old writer.new pending.old pending.new
+        (next_bytes (said_plan layout.now) layout.now.order layout.now.filler (said_meaning layout.now) Dir.Main) }
     ensures count { Counts result (W.failed writer.old) (W.failed writer.new) }
 {
     match &layout.m.thumb {
@@ -80,7 +82,8 @@ fn put_next<W: Sink>(
     dir: Dir,
 ) -> Result<(), Failed>
     requires { W.failed writer.old + 1 < 2 ^ 64 }
-    ensures bytes { PutsTo W.bytes_taken result writer.old writer.new pending.old pending.new (next_bytes (said_plan layout.now) layout.now.order layout.now.filler (said_meaning layout.now) dir) }
+    ensures bytes { PutsTo W.bytes_taken result writer.old writer.new pending.old pending.new
+        (next_bytes (said_plan layout.now) layout.now.order layout.now.filler (said_meaning layout.now) dir) }
     ensures count { Counts result (W.failed writer.old) (W.failed writer.new) }
 {
     match dir {
@@ -100,7 +103,8 @@ pub(crate) fn put_table<W: Sink>(
 ) -> Result<(), Failed>
     requires few { W.failed writer.old + 1 < 2 ^ 64 }
     requires counted { length entries.now < 2 ^ 16 }
-    ensures bytes { PutsTo W.bytes_taken result writer.old writer.new pending.old pending.new (table_bytes (said_plan layout.now) layout.now.order layout.now.filler (said_meaning layout.now) dir entries.now) }
+    ensures bytes { PutsTo W.bytes_taken result writer.old writer.new pending.old pending.new
+        (table_bytes (said_plan layout.now) layout.now.order layout.now.filler (said_meaning layout.now) dir entries.now) }
     ensures count { Counts result (W.failed writer.old) (W.failed writer.new) }
 {
     put_short(pending, writer, layout.order, entries.len() as u16)?;

@@ -32,7 +32,8 @@ pub fn write_normal<W: Sink>(
 ) -> Result<u64, WriteRefusal>
     requires few { W.failed writer.old + 1 < 2 ^ 64 }
     requires fits { Fits (meaning_of m.now) }
-    ensures form { WritesExif result (W.bytes_taken writer.old) (W.bytes_taken writer.new) (W.failed writer.old) (W.failed writer.new) (meaning_of m.now) }
+    ensures form { WritesExif result (W.bytes_taken writer.old) (W.bytes_taken writer.new) (W.failed writer.old) (W.failed writer.new)
+        (meaning_of m.now) }
     ensures untouched { IfErr result (λ e. e ≡ NormalTooLong → writer.new ≡ writer.old) }
 {
     write_normal_in(m, writer)
@@ -42,7 +43,8 @@ pub fn write_normal<W: Sink>(
 pub fn write_normal_in<W: Sink>(m: &Meaning, writer: &mut W) -> Result<u64, WriteRefusal>
     requires few { W.failed writer.old + 1 < 2 ^ 64 }
     requires fits { Fits (meaning_of m.now) }
-    ensures form { WritesExif result (W.bytes_taken writer.old) (W.bytes_taken writer.new) (W.failed writer.old) (W.failed writer.new) (meaning_of m.now) }
+    ensures form { WritesExif result (W.bytes_taken writer.old) (W.bytes_taken writer.new) (W.failed writer.old) (W.failed writer.new)
+        (meaning_of m.now) }
     ensures untouched { IfErr result (λ e. e ≡ NormalTooLong → writer.new ≡ writer.old) }
 {
     let form = NormalForm::new(m)?;

@@ -16,7 +16,9 @@ module _ (f : ℕ) (x : ℕ) (b : List ℕ) (ys : List (ℕ × List ℕ)) where
   covers p = (x ≤ p) × (p < x + length b)
 
   inside : (p : ℕ) → x ≤ p → p < x + length b → byte_at f ((x, b) ∷ ys) p ≡ slice_index b (p - x)
-  inside p h k = cond-true (nat_le x p && nat_lt p (x + length b)) (slice_index b (p - x)) (byte_at f ys p) (and_from _ _ (le-leb x p h) (lt-ltb p (x + length b) k))
+  inside p h k =
+      cond-true (nat_le x p && nat_lt p (x + length b)) (slice_index b (p - x)) (byte_at f ys p)
+      (and_from _ _ (le-leb x p h) (lt-ltb p (x + length b) k))
 
   outside : (p : ℕ) → ((x ≤ p) → (p < x + length b) → ⊥) → byte_at f ((x, b) ∷ ys) p ≡ byte_at f ys p
   outside p h = cond-false (nat_le x p && nat_lt p (x + length b)) (slice_index b (p - x)) (byte_at f ys p)
@@ -70,7 +72,8 @@ module _ (f : ℕ) (x : ℕ) (b : List ℕ) (ys : List (ℕ × List ℕ)) where
         (λ k d l. each k d (let e = length-laid (byte_at f ((x, b) ∷ ys)) n in omega arith))
 
 -- bytes that took the place of others are a piece that was put over
-pub puts_one : (old : List ℕ) (x : ℕ) (b : List ℕ) → x + length b ≤ length old → PutsOver old (take x old ++ (b ++ drop (x + length b) old)) ((x, b) ∷ [])
+pub puts_one : (old : List ℕ) (x : ℕ) (b : List ℕ) → x + length b ≤ length old
+    → PutsOver old (take x old ++ (b ++ drop (x + length b) old)) ((x, b) ∷ [])
 puts_one old x b l f ys e =
     ap (λ o. take x o ++ (b ++ drop (x + length b) o)) e ∙ sym (one_over f x b ys (length old) l)
 
@@ -79,12 +82,14 @@ puts_one old x b l f ys e =
 pub puts_none : (b : List ℕ) → PutsOver b b []
 puts_none b f ys e = e
 
-pub puts_more : (a b c : List ℕ) (xs ys : List (ℕ × List ℕ)) → length b ≡ length a → PutsOver a b ys → PutsOver b c xs → PutsOver a c (xs ++ ys)
+pub puts_more : (a b c : List ℕ) (xs ys : List (ℕ × List ℕ)) → length b ≡ length a → PutsOver a b ys → PutsOver b c xs
+    → PutsOver a c (xs ++ ys)
 puts_more a b c xs ys l p q f zs e =
     q f (ys ++ zs) (p f zs e ∙ ap (λ n. made n f (ys ++ zs)) (sym l)) ∙ ap₂ (λ n ws. made n f ws) l (sym (append_assoc xs ys zs))
 
 -- bytes that were copied into the middle
-pub puts_mid : (old : List ℕ) (x k : ℕ) (b z : List ℕ) → z ≡ b → k ≡ length b → x + length b ≤ length old → PutsOver old (put_mid x k old z) ((x, b) ∷ [])
+pub puts_mid : (old : List ℕ) (x k : ℕ) (b z : List ℕ) → z ≡ b → k ≡ length b → x + length b ≤ length old
+    → PutsOver old (put_mid x k old z) ((x, b) ∷ [])
 puts_mid old x k b z e q l = subst (λ n. PutsOver old n ((x, b) ∷ [])) (sym (same old)) (puts_one old x b l)
   where
     same : (old : List ℕ) → put_mid x k old z ≡ take x old ++ (b ++ drop (x + length b) old)

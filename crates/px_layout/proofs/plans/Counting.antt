@@ -22,7 +22,8 @@ module _ (k : Chunk) where
   stays : (c : Chunk) (cs : List Chunk) → same_chunk k c ≡ false → without (c ∷ cs) ≡ c ∷ without cs
   stays c cs e = cond-false (same_chunk k c) (without cs) (c ∷ without cs) e
 
-  each_without : (P Q : Chunk → Type 0) → ((c : Chunk) → same_chunk k c ≡ false → P c → Q c) → (cs : List Chunk) → AllByRecursion P cs → AllByRecursion Q (without cs)
+  each_without : (P Q : Chunk → Type 0) → ((c : Chunk) → same_chunk k c ≡ false → P c → Q c) → (cs : List Chunk) → AllByRecursion P cs
+      → AllByRecursion Q (without cs)
   each_without P Q f [] h = tt
   each_without P Q f (c ∷ cs) h = elim (cases_Bool (same_chunk k c)) [
     | inl e ↦ subst (AllByRecursion Q) (sym (gone c cs e)) (each_without P Q f cs h.1)
@@ -47,7 +48,8 @@ module _ (k : Chunk) where
   one_less [] h = omega arith
   one_less (c ∷ cs) h = elim (cases_Bool (same_chunk k c)) [
     | inl e ↦ let q = ap (λ xs. length xs) (gone c cs e) in
-        let s = all_stay cs (subst (λ z. AllByRecursion (λ y. same_chunk z y ≡ false) cs) (sym (same_chunk-true k c e)) (IsDistinct-head same_chunk c cs h)) in omega arith
+        let s = all_stay cs (subst (λ z. AllByRecursion (λ y. same_chunk z y ≡ false) cs) (sym (same_chunk-true k c e))
+        (IsDistinct-head same_chunk c cs h)) in omega arith
     | inr e ↦ let q = ap (λ xs. length xs) (stays c cs e) in let s = one_less cs (IsDistinct-tail same_chunk c cs h) in omega arith
   ]
 
@@ -70,19 +72,22 @@ module _ (k : Chunk) where
         ]
   ]
 
-  still : (c : Chunk) (cs : List Chunk) → same_chunk k c ≡ false → list_any (same_chunk c) cs ≡ true → list_any (same_chunk c) (without cs) ≡ true
+  still : (c : Chunk) (cs : List Chunk) → same_chunk k c ≡ false → list_any (same_chunk c) cs ≡ true
+      → list_any (same_chunk c) (without cs) ≡ true
   still c [] n h = h
   still c (d ∷ cs) n h = elim (cases_Bool (same_chunk k d)) [
-    | inl e ↦ subst (λ xs. list_any (same_chunk c) xs ≡ true) (sym (gone d cs e)) (still c cs n (elim (or_cases (same_chunk c d) (list_any (same_chunk c) cs) h) [
-      | inl t ↦ absurd (both_ways (same_chunk k c) n (subst (λ z. same_chunk k z ≡ true) (sym (same_chunk-true c d t)) e))
-      | inr t ↦ t
-    ]))
+    | inl e ↦ subst (λ xs. list_any (same_chunk c) xs ≡ true) (sym (gone d cs e))
+        (still c cs n (elim (or_cases (same_chunk c d) (list_any (same_chunk c) cs) h) [
+          | inl t ↦ absurd (both_ways (same_chunk k c) n (subst (λ z. same_chunk k z ≡ true) (sym (same_chunk-true c d t)) e))
+          | inr t ↦ t
+        ]))
     | inr e ↦ subst (λ xs. list_any (same_chunk c) xs ≡ true) (sym (stays d cs e)) (elim (cases_Bool (same_chunk c d)) [
       | inl t ↦ ap (λ b. b || list_any (same_chunk c) (without cs)) t
-      | inr t ↦ ap (λ b. b || list_any (same_chunk c) (without cs)) t ∙ still c cs n (elim (or_cases (same_chunk c d) (list_any (same_chunk c) cs) h) [
-        | inl u ↦ absurd (both_ways (same_chunk c d) t u)
-        | inr u ↦ u
-      ])
+      | inr t ↦ ap (λ b. b || list_any (same_chunk c) (without cs)) t
+          ∙ still c cs n (elim (or_cases (same_chunk c d) (list_any (same_chunk c) cs) h) [
+            | inl u ↦ absurd (both_ways (same_chunk c d) t u)
+            | inr u ↦ u
+          ])
     ])
   ]
 
@@ -98,24 +103,30 @@ count_none f none = record {
     least (c ∷ cs) d h = absurd (both_ways false refl (subst (λ (o : Option ℕ). IsSome o) (none c) h.0))
 
 -- one more
-pub count_more : (n : ℕ) (f g : Chunk → Option ℕ) (k : Chunk) (x : ℕ) → IsCount n f → f k ≡ None → ((c : Chunk) → g c ≡ (if same_chunk k c then Some x else f c)) → IsCount (n + 1) g
+pub count_more : (n : ℕ) (f g : Chunk → Option ℕ) (k : Chunk) (x : ℕ) → IsCount n f → f k ≡ None
+    → ((c : Chunk) → g c ≡ (if same_chunk k c then Some x else f c)) → IsCount (n + 1) g
 count_more n f g k x is none more = record {
   least = λ cs d h.
       let s = one_less k cs d in
-      let t = is.least (without k cs) (distinct_without k cs d) (each_without k (λ c. IsSome (g c)) (λ c. IsSome (f c)) (λ c e p. subst (λ (o : Option ℕ). IsSome o) (more c ∙ cond-false (same_chunk k c) (Some x) (f c) e) p) cs h) in
+      let t = is.least (without k cs) (distinct_without k cs d) (each_without k (λ c. IsSome (g c)) (λ c. IsSome (f c))
+      (λ c e p. subst (λ (o : Option ℕ). IsSome o) (more c ∙ cond-false (same_chunk k c) (Some x) (f c) e) p) cs h) in
       omega arith;
   most = λ cs h.
-      let s = fewer k cs (h k (subst (λ (o : Option ℕ). IsSome o) (sym (more k ∙ cond-true (same_chunk k k) (Some x) (f k) (same_chunk-self k))) refl)) in
+      let s = fewer k cs (h k (subst (λ (o : Option ℕ). IsSome o) (sym (more k ∙ cond-true (same_chunk k k) (Some x) (f k)
+      (same_chunk-self k))) refl)) in
       let t = is.most (without k cs) (λ c p. let e : same_chunk k c ≡ false = differs c p in
       still k c cs e (h c (subst (λ (o : Option ℕ). IsSome o) (sym (more c ∙ cond-false (same_chunk k c) (Some x) (f c) e)) p))) in
       omega arith;
 }
   where
     differs : (c : Chunk) → IsSome (f c) → same_chunk k c ≡ false
-    differs c p = false_from_ne_true (same_chunk k c) (λ e. both_ways false refl (subst (λ (o : Option ℕ). IsSome o) (ap f (sym (same_chunk-true k c e)) ∙ none) p))
+    differs c p =
+        false_from_ne_true (same_chunk k c) (λ e. both_ways false refl (subst (λ (o : Option ℕ). IsSome o)
+        (ap f (sym (same_chunk-true k c e)) ∙ none) p))
 
 -- one more, where there was room for it
-pub count_put : {A E : Type 0} (r : Result A E) (n m : ℕ) (f g : Chunk → Option ℕ) (k : Chunk) (x : ℕ) → IsCount n f → f k ≡ None → OnOk r ((c : Chunk) → g c ≡ (if same_chunk k c then Some x else f c)) →
+pub count_put : {A E : Type 0} (r : Result A E) (n m : ℕ) (f g : Chunk → Option ℕ) (k : Chunk) (x : ℕ) → IsCount n f → f k ≡ None
+    → OnOk r ((c : Chunk) → g c ≡ (if same_chunk k c then Some x else f c)) →
     OnErr r ((c : Chunk) → g c ≡ f c) → OnOk r (m ≡ n + 1) → OnErr r (m ≡ n) → IsCount m g
 count_put (Ok a) n m f g k x is none more same size kept = subst (λ (j : ℕ). IsCount j g) (sym size) (count_more n f g k x is none more)
 count_put (Err e) n m f g k x is none more same size kept =

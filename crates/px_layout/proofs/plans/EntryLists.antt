@@ -24,11 +24,14 @@ use Rattle.px_layout.specs.lemmas.EntryLaws.{good_fields, few_items}
 module _ {X : Type 0} where
   pub rank_le : (t : ℕ) (xs : List (ℕ × X)) → rank t xs ≤ length xs
   rank_le t [] = omega arith
-  rank_le t (y ∷ ys) = cond_both (nat_lt t y.0) 0 (suc (rank t ys)) (λ r. r ≤ suc (length ys)) (λ _. omega arith) (λ _. let h = rank_le t ys in omega arith)
+  rank_le t (y ∷ ys) =
+      cond_both (nat_lt t y.0) 0 (suc (rank t ys)) (λ r. r ≤ suc (length ys)) (λ _. omega arith) (λ _. let h = rank_le t ys in omega arith)
 
   pub length_put : (t : ℕ) (x : X) (xs : List (ℕ × X)) → length (put t x xs) ≡ suc (length xs)
   length_put t x [] = refl
-  length_put t x (y ∷ ys) = cond_both (nat_lt t y.0) ((t, x) ∷ y ∷ ys) (y ∷ put t x ys) (λ zs. length zs ≡ suc (suc (length ys))) (λ _. refl) (λ _. ap suc (length_put t x ys))
+  length_put t x (y ∷ ys) =
+      cond_both (nat_lt t y.0) ((t, x) ∷ y ∷ ys) (y ∷ put t x ys) (λ zs. length zs ≡ suc (suc (length ys))) (λ _. refl)
+      (λ _. ap suc (length_put t x ys))
 
   put_now : (t : ℕ) (x : X) (y : ℕ × X) (ys : List (ℕ × X)) → nat_lt t y.0 ≡ true → put t x (y ∷ ys) ≡ (t, x) ∷ y ∷ ys
   put_now t x y ys q = cond-true (nat_lt t y.0) ((t, x) ∷ y ∷ ys) (y ∷ put t x ys) q
@@ -72,7 +75,8 @@ module _ {X : Type 0} where
   ]
   put_behind t x (y ∷ ys) (suc j) l = elim (cases_Bool (nat_lt t y.0)) [
     | inl q ↦ ap (λ zs. slice_get zs (suc (suc j))) (put_now t x y ys q)
-    | inr q ↦ ap (λ zs. slice_get zs (suc (suc j))) (put_later t x y ys q) ∙ put_behind t x ys j (let r = rank_later t y ys q in omega arith)
+    | inr q ↦ ap (λ zs. slice_get zs (suc (suc j))) (put_later t x y ys q)
+        ∙ put_behind t x ys j (let r = rank_later t y ys q in omega arith)
   ]
 
   -- ---- a place counted
@@ -104,13 +108,15 @@ module _ {X : Type 0} where
   ]
 
   -- a tag that is read
-  tag_read : (P : ℕ → Type 0) (xs : List (ℕ × X)) (i : ℕ) (x : ℕ × X) → AllByRecursion P (map (λ y. y.0) xs) → slice_get xs i ≡ Some x → P x.0
+  tag_read : (P : ℕ → Type 0) (xs : List (ℕ × X)) (i : ℕ) (x : ℕ × X) → AllByRecursion P (map (λ y. y.0) xs) → slice_get xs i ≡ Some x
+      → P x.0
   tag_read P [] i x h e = cc
   tag_read P (y ∷ ys) zero x h e = let q : y ≡ x = cc in subst (λ (z : ℕ × X). P z.0) q h.0
   tag_read P (y ∷ ys) (suc i) x h e = tag_read P ys i x h.1 e
 
   -- where tags rise, all up to one that isn't greater aren't, and none behind one that is greater counts
-  pub rank_behind : (t : ℕ) (xs : List (ℕ × X)) (i : ℕ) (x : ℕ × X) → Rising (map (λ y. y.0) xs) → slice_get xs i ≡ Some x → x.0 ≤ t → i + 1 ≤ rank t xs
+  pub rank_behind : (t : ℕ) (xs : List (ℕ × X)) (i : ℕ) (x : ℕ × X) → Rising (map (λ y. y.0) xs) → slice_get xs i ≡ Some x → x.0 ≤ t
+      → i + 1 ≤ rank t xs
   rank_behind t [] i x r e l = cc
   rank_behind t (y ∷ ys) zero x r e l =
       let q : y ≡ x = cc in
@@ -134,23 +140,27 @@ module _ {X : Type 0} where
 
 pub rank_fields : (t : ℕ) (fs : Fields) → rank t (field_items fs) ≡ rank t fs
 rank_fields t [] = refl
-rank_fields t (y ∷ ys) = elim (nat_lt t y.0) as (λ b. (if b then 0 else suc (rank t (field_items ys))) ≡ (if b then 0 else suc (rank t ys))) [
-  | true ↦ refl
-  | false ↦ ap suc (rank_fields t ys)
-]
+rank_fields t (y ∷ ys) =
+    elim (nat_lt t y.0) as (λ b. (if b then 0 else suc (rank t (field_items ys))) ≡ (if b then 0 else suc (rank t ys))) [
+      | true ↦ refl
+      | false ↦ ap suc (rank_fields t ys)
+    ]
 
 -- ---- one further entry
 
 pub length_over : (e : Extra) (xs : List (ℕ × Item)) → length (over (Some e) xs) ≡ length xs + 1
 length_over e xs = length_put e.tag (item_of e.item) xs ∙ omega arith
 
-pub pass_before : (e : Extra) (xs : List (ℕ × Item)) (i : ℕ) → i < e.place → Stands (Some e) xs → i < length (over (Some e) xs) → Tells (Under i) (Some e) xs i
+pub pass_before : (e : Extra) (xs : List (ℕ × Item)) (i : ℕ) → i < e.place → Stands (Some e) xs → i < length (over (Some e) xs)
+    → Tells (Under i) (Some e) xs i
 pass_before e xs i l s h = let p = s.0 in let r = rank_le e.tag xs in (put_before e.tag (item_of e.item) xs i (omega arith), omega arith)
 
-pub pass_here : (e : Extra) (xs : List (ℕ × Item)) (i : ℕ) → i ≡ e.place → Stands (Some e) xs → i < length (over (Some e) xs) → Tells (Here e.tag e.item) (Some e) xs i
+pub pass_here : (e : Extra) (xs : List (ℕ × Item)) (i : ℕ) → i ≡ e.place → Stands (Some e) xs → i < length (over (Some e) xs)
+    → Tells (Here e.tag e.item) (Some e) xs i
 pass_here e xs i q s h = (put_here e.tag (item_of e.item) xs i (q ∙ s.0), s.1)
 
-pub pass_behind : (e : Extra) (xs : List (ℕ × Item)) (i : ℕ) → e.place < i → Stands (Some e) xs → i < length (over (Some e) xs) → Tells (Under (i - 1)) (Some e) xs i
+pub pass_behind : (e : Extra) (xs : List (ℕ × Item)) (i : ℕ) → e.place < i → Stands (Some e) xs → i < length (over (Some e) xs)
+    → Tells (Under (i - 1)) (Some e) xs i
 pass_behind e xs zero l s h = absurd (omega arith)
 pass_behind e xs (suc j) l s h =
     let p = s.0 in
@@ -167,15 +177,20 @@ passes p o e i q f = subst (λ o. Passes p o i) (sym q) f
 -- past four further entries stands the field at the place that is left
 pub through : (a b c d : Option Extra) (fs : Fields) (i k j h g : ℕ) →
     Passes (Under k) d i → Passes (Under j) c k → Passes (Under h) b j → Passes (Under g) a h →
-    Stands a (field_items fs) → Stands b (over a (field_items fs)) → Stands c (over b (over a (field_items fs))) → Stands d (over c (over b (over a (field_items fs)))) →
+    Stands a (field_items fs) → Stands b (over a (field_items fs)) → Stands c (over b (over a (field_items fs)))
+    → Stands d (over c (over b (over a (field_items fs)))) →
     i < length (over d (over c (over b (over a (field_items fs))))) →
-    (slice_get (over d (over c (over b (over a (field_items fs))))) i ≡ option_map (λ p. (p.0, Field p.1)) (slice_get fs g)) × (g < length fs)
+    (slice_get (over d (over c (over b (over a (field_items fs))))) i ≡ option_map (λ p. (p.0, Field p.1)) (slice_get fs g)) × (g < length
+    fs)
 through a b c d fs i k j h g pd pc pb pa sa sb sc sd l =
     let z = pd (over c (over b (over a (field_items fs)))) sd l in
     let y = pc (over b (over a (field_items fs))) sc z.1 in
     let x = pb (over a (field_items fs)) sb y.1 in
-    let w = pa (field_items fs) sa x.1 in
-    (z.0 ∙ y.0 ∙ x.0 ∙ w.0 ∙ slice_get-map (λ (p : ℕ × Value). (p.0, Field p.1)) fs g, subst (λ n. g < n) (length-map fs (λ (p : ℕ × Value). (p.0, Field p.1))) w.1)
+    let w = pa (field_items fs) sa x.1 in (
+      z.0 ∙ y.0 ∙ x.0 ∙ w.0 ∙ slice_get-map (λ (p : ℕ × Value). (p.0, Field p.1)) fs g,
+      subst (λ n. g < n)
+          (length-map fs (λ (p : ℕ × Value). (p.0, Field p.1))) w.1,
+    )
 
 -- ---- fields
 
@@ -208,7 +223,8 @@ pub lengths_counted : (s : List (List ℕ)) → AllByRecursion IsBytes s → All
 lengths_counted [] h = tt
 lengths_counted (x ∷ s) h = (h.0.most, lengths_counted s h.1)
 
-pub strips_counted : (o : Option (List (List ℕ))) (s : List (List ℕ)) → o ≡ Some s → IfSome o (λ s. (length s ≤ limit) × AllByRecursion IsBytes s) → IsCounted (StripSizes (map (λ x. length x) s))
+pub strips_counted : (o : Option (List (List ℕ))) (s : List (List ℕ)) → o ≡ Some s
+    → IfSome o (λ s. (length s ≤ limit) × AllByRecursion IsBytes s) → IsCounted (StripSizes (map (λ x. length x) s))
 strips_counted None s q h = cc
 strips_counted (Some t) s q h = let k : t ≡ s = cc in
     subst (λ (s : List (List ℕ)). IsCounted (StripSizes (map (λ x. length x) s))) k

@@ -24,7 +24,8 @@ names cs = map (λ c. c.0) cs
 
 -- ---- the chunks differ from one another
 
-others : (c : Chunk × ℕ) (cs : List (Chunk × ℕ)) → AllByRecursion (λ u. rank c < u) (map rank cs) → AllByRecursion (λ y. same_chunk c.0 y ≡ false) (names cs)
+others : (c : Chunk × ℕ) (cs : List (Chunk × ℕ)) → AllByRecursion (λ u. rank c < u) (map rank cs)
+    → AllByRecursion (λ y. same_chunk c.0 y ≡ false) (names cs)
 others c [] h = tt
 others c (d ∷ cs) h = (other_chunk c.0 d.0 h.0, others c cs h.1)
 
@@ -83,16 +84,19 @@ module _ (plan : Plan) where
   turned : (r s : Range) → Apart r s → Apart s r
   turned r s a p i j = a p j i
 
-  behind : (taken : List Range) (x : Range) (rs : List Range) → AllByRecursion (λ r. is_free (x ∷ taken) r ≡ true) rs → AllByRecursion (Apart x) rs × AllByRecursion (λ r. is_free taken r ≡ true) rs
+  behind : (taken : List Range) (x : Range) (rs : List Range) → AllByRecursion (λ r. is_free (x ∷ taken) r ≡ true) rs
+      → AllByRecursion (Apart x) rs × AllByRecursion (λ r. is_free taken r ≡ true) rs
   behind taken x [] h = (tt, tt)
   behind taken x (r ∷ rs) h =
       let p = and_parts (not (shares r x)) (is_free taken r) h.0 in
       let q = behind taken x rs h.1 in
       ((turned r x (apart_from_test r x p.0), q.0), (p.1, q.1))
 
-  before : (taken : List Range) (x : Range) (rs : List Range) → AllByRecursion (Apart x) rs → AllByRecursion (λ r. is_free taken r ≡ true) rs → AllByRecursion (λ r. is_free (x ∷ taken) r ≡ true) rs
+  before : (taken : List Range) (x : Range) (rs : List Range) → AllByRecursion (Apart x) rs
+      → AllByRecursion (λ r. is_free taken r ≡ true) rs → AllByRecursion (λ r. is_free (x ∷ taken) r ≡ true) rs
   before taken x [] a h = tt
-  before taken x (r ∷ rs) a h = (and_from (not (shares r x)) (is_free taken r) (test_from_apart r x (turned x r a.0)) h.0, before taken x rs a.1 h.1)
+  before taken x (r ∷ rs) a h =
+      (and_from (not (shares r x)) (is_free taken r) (test_from_apart r x (turned x r a.0)) h.0, before taken x rs a.1 h.1)
 
   standing : (taken : List Range) (cs : List (Chunk × ℕ)) → all_stand plan taken cs ≡ true → Standing taken cs
   standing taken [] h = record { there = tt; inside = tt; free = tt; apart = tt }
@@ -110,7 +114,12 @@ module _ (plan : Plan) where
       and_from (stands plan taken c) (all_stand plan (at c ∷ taken) cs)
       (and_from (is_some (plan.offset c.0) && nat_le (place plan c.0 + c.1) plan.length) (is_free taken (at c))
       (and_from (is_some (plan.offset c.0)) (nat_le (place plan c.0 + c.1) plan.length) s.there.0 (le-leb _ _ s.inside.0)) s.free.0)
-      (stood (at c ∷ taken) cs (record { there = s.there.1; inside = s.inside.1; free = before taken (at c) (map at cs) s.apart.0 s.free.1; apart = s.apart.1 }))
+      (stood (at c ∷ taken) cs (record {
+        there = s.there.1;
+        inside = s.inside.1;
+        free = before taken (at c) (map at cs) s.apart.0 s.free.1;
+        apart = s.apart.1;
+      }))
 
   all_free : (rs : List Range) → AllByRecursion (λ r. is_free [] r ≡ true) rs
   all_free [] = tt
@@ -129,7 +138,8 @@ module _ (m : Meaning) (f : Fits m) (plan : Plan) (n : ℕ) (count : IsCount n p
   distinct_all = distinct (chunks m) (chunks_rise m f)
 
   -- a chunk that has an offset is among so many that have one
-  pub judged : 8 ≤ plan.length → plan.length ≤ limit → n ≡ length (chunks m) → all_stand plan (range 0 8 ∷ []) (chunks m) ≡ true → Legal m plan
+  pub judged : 8 ≤ plan.length → plan.length ≤ limit → n ≡ length (chunks m) → all_stand plan (range 0 8 ∷ []) (chunks m) ≡ true
+      → Legal m plan
   unfolding plan_ranges
   judged least most same h =
       let s = standing plan (range 0 8 ∷ []) (chunks m) h in
@@ -137,7 +147,8 @@ module _ (m : Meaning) (f : Fits m) (plan : Plan) (n : ℕ) (count : IsCount n p
         exactly = λ c. (
           λ p. elim (cases_Bool (list_any (same_chunk c) all)) [
             | inl e ↦ among c all e
-            | inr e ↦ let l = count.least (c ∷ all) (IsDistinct-cons same_chunk c all (differ c all e) distinct_all) (p, s.there) in let k = length_all in absurd (omega arith)
+            | inr e ↦ let l = count.least (c ∷ all) (IsDistinct-cons same_chunk c all (differ c all e) distinct_all) (p, s.there) in
+                let k = length_all in absurd (omega arith)
           ],
           λ w. there_at plan c all w.0 s.there w.1 w.2,
         );
@@ -171,9 +182,12 @@ module _ (m : Meaning) (f : Fits m) (plan : Plan) (n : ℕ) (count : IsCount n p
   })
 
   -- the verdict
-  pub verdict : (b : Bool) → 8 ≤ plan.length → plan.length ≤ limit → n ≡ length (chunks m) → b ≡ all_stand plan (range 0 8 ∷ []) (chunks m) → (b ≡ true) ↔ Legal m plan
+  pub verdict : (b : Bool) → 8 ≤ plan.length → plan.length ≤ limit → n ≡ length (chunks m) → b ≡ all_stand plan (range 0 8 ∷ []) (chunks m)
+      → (b ≡ true) ↔ Legal m plan
   verdict b least most same e = ((λ h. judged least most same (sym e ∙ h)), (λ l. e ∙ legal_stand l))
 
-  pub verdicts : {E : Type 0} (r : Result Bool E) (cs : List (Chunk × ℕ)) → 8 ≤ plan.length → plan.length ≤ limit → n ≡ length cs → cs ≡ chunks m → IfOk r (λ b. b ≡ all_stand plan (range 0 8 ∷ []) cs) → IfOk r (λ b. IsTrue b ↔ Legal m plan)
-  verdicts (Ok b) cs least most same is h = verdict b least most (same ∙ ap (λ xs. length xs) is) (h ∙ ap (all_stand plan (range 0 8 ∷ [])) is)
+  pub verdicts : {E : Type 0} (r : Result Bool E) (cs : List (Chunk × ℕ)) → 8 ≤ plan.length → plan.length ≤ limit → n ≡ length cs
+      → cs ≡ chunks m → IfOk r (λ b. b ≡ all_stand plan (range 0 8 ∷ []) cs) → IfOk r (λ b. IsTrue b ↔ Legal m plan)
+  verdicts (Ok b) cs least most same is h =
+      verdict b least most (same ∙ ap (λ xs. length xs) is) (h ∙ ap (all_stand plan (range 0 8 ∷ [])) is)
   verdicts (Err e) cs least most same is h = h

@@ -25,25 +25,33 @@ one_put None out rest = append_assoc out [] rest
 one_put (Some x) out rest = append_assoc out (x ∷ []) rest
 
 -- one more placed value
-pub values_more : {X Y : Type 0} (h : X → Option Y) (xs : List X) (i : ℕ) (x : X) (out now : List Y) → slice_get xs i ≡ Some x → now ≡ out ++ option_to_list (h x) → now ++ filter_map h (drop (i + 1) xs) ≡ out ++ filter_map h (drop i xs)
+pub values_more : {X Y : Type 0} (h : X → Option Y) (xs : List X) (i : ℕ) (x : X) (out now : List Y) → slice_get xs i ≡ Some x
+    → now ≡ out ++ option_to_list (h x) → now ++ filter_map h (drop (i + 1) xs) ≡ out ++ filter_map h (drop i xs)
 values_more h xs i x out now e s =
-    ap (λ ys. ys ++ filter_map h (drop (i + 1) xs)) s ∙ one_put (h x) out (filter_map h (drop (i + 1) xs)) ∙ ap (λ ys. out ++ filter_map h ys) (sym (drop_here xs i x e))
+    ap (λ ys. ys ++ filter_map h (drop (i + 1) xs)) s ∙ one_put (h x) out (filter_map h (drop (i + 1) xs))
+    ∙ ap (λ ys. out ++ filter_map h ys) (sym (drop_here xs i x e))
 
 -- one more strip
-pub strips_more : (xs : List (List ℕ)) (i : ℕ) (x : List ℕ) (out now : List (Chunk × ℕ)) → slice_get xs i ≡ Some x → now ≡ out ++ (Strip i, length x) ∷ [] → now ++ strip_chunks (i + 1) (drop (i + 1) xs) ≡ out ++ strip_chunks i (drop i xs)
+pub strips_more : (xs : List (List ℕ)) (i : ℕ) (x : List ℕ) (out now : List (Chunk × ℕ)) → slice_get xs i ≡ Some x
+    → now ≡ out ++ (Strip i, length x) ∷ [] → now ++ strip_chunks (i + 1) (drop (i + 1) xs) ≡ out ++ strip_chunks i (drop i xs)
 strips_more xs i x out now e s =
-    ap (λ ys. ys ++ strip_chunks (i + 1) (drop (i + 1) xs)) s ∙ append_assoc out ((Strip i, length x) ∷ []) (strip_chunks (i + 1) (drop (i + 1) xs)) ∙ ap (λ ys. out ++ strip_chunks i ys) (sym (drop_here xs i x e))
+    ap (λ ys. ys ++ strip_chunks (i + 1) (drop (i + 1) xs)) s
+    ∙ append_assoc out ((Strip i, length x) ∷ []) (strip_chunks (i + 1) (drop (i + 1) xs))
+    ∙ ap (λ ys. out ++ strip_chunks i ys) (sym (drop_here xs i x e))
 
 -- a directory has fewer than 65536 entries
 pub few_there : (m : Meaning) (d : Dir) (xs : List (ℕ × Item)) → Fits m → items m d ≡ Some xs → length xs < 2 ^ 16
 few_there m d xs f e = few_items d xs (subst (λ (o : Option (List (ℕ × Item))). IfSome o (Good d)) e (good_items m f d))
 
 -- all of them
-pub gathered : (m : Meaning) (a b c d e f g : List (Chunk × ℕ)) → a ≡ [] → b ≡ a ++ chunks_of_dir Main (items m Main) → c ≡ b ++ chunks_of_dir Exif (items m Exif) → d ≡ c ++ chunks_of_dir Interop (items m Interop)
+pub gathered : (m : Meaning) (a b c d e f g : List (Chunk × ℕ)) → a ≡ [] → b ≡ a ++ chunks_of_dir Main (items m Main)
+    → c ≡ b ++ chunks_of_dir Exif (items m Exif) → d ≡ c ++ chunks_of_dir Interop (items m Interop)
     → e ≡ d ++ chunks_of_dir Gps (items m Gps) → f ≡ e ++ chunks_of_dir Thumb (items m Thumb) → g ≡ f ++ thumb_chunks m.thumb → g ≡ chunks m
 unfolding chunks
 gathered m a b c d e f g ea eb ec ed ee ef eg =
-    eg ∙ ap (λ x. x ++ thumb_chunks m.thumb) (ef ∙ ap (λ x. x ++ of Thumb) (ee ∙ ap (λ x. x ++ of Gps) (ed ∙ ap (λ x. x ++ of Interop) (ec ∙ ap (λ x. x ++ of Exif) (eb ∙ ap (λ x. x ++ of Main) ea)))) ∙ line (of Main) (of Exif) (of Interop) (of Gps) (of Thumb))
+    eg ∙ ap (λ x. x ++ thumb_chunks m.thumb) (ef ∙ ap (λ x. x ++ of Thumb) (ee ∙ ap (λ x. x ++ of Gps)
+    (ed ∙ ap (λ x. x ++ of Interop) (ec ∙ ap (λ x. x ++ of Exif) (eb ∙ ap (λ x. x ++ of Main) ea))))
+    ∙ line (of Main) (of Exif) (of Interop) (of Gps) (of Thumb))
   where
     of : Dir → List (Chunk × ℕ)
     of x = chunks_of_dir x (items m x)
@@ -52,8 +60,10 @@ gathered m a b c d e f g ea eb ec ed ee ef eg =
     line p q r s t = simp (append_assoc, append-nil)
 
 -- where a loop is done, nothing is left
-pub values_done : {X Y : Type 0} (h : X → Option Y) (xs : List X) (i : ℕ) (out all : List Y) → length xs ≤ i → out ++ filter_map h (drop i xs) ≡ all → out ≡ all
+pub values_done : {X Y : Type 0} (h : X → Option Y) (xs : List X) (i : ℕ) (out all : List Y) → length xs ≤ i
+    → out ++ filter_map h (drop i xs) ≡ all → out ≡ all
 values_done h xs i out all l e = sym (append-nil out) ∙ ap (λ ys. out ++ filter_map h ys) (sym (drop_all i xs l)) ∙ e
 
-pub strips_done : (xs : List (List ℕ)) (i : ℕ) (out all : List (Chunk × ℕ)) → length xs ≤ i → out ++ strip_chunks i (drop i xs) ≡ all → out ≡ all
+pub strips_done : (xs : List (List ℕ)) (i : ℕ) (out all : List (Chunk × ℕ)) → length xs ≤ i → out ++ strip_chunks i (drop i xs) ≡ all
+    → out ≡ all
 strips_done xs i out all l e = sym (append-nil out) ∙ ap (λ ys. out ++ strip_chunks i ys) (sym (drop_all i xs l)) ∙ e

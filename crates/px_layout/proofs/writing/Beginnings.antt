@@ -12,10 +12,12 @@ use Rattle.px_layout.specs.lemmas.RunLaws.{value_size, values_size, values_padde
 use Rattle.px_layout.proofs.plans.Walks.{drop_here}
 
 -- what the values from an entry on take
-pub values_here : (xs : List (ℕ × Item)) (i : ℕ) (x : ℕ × Item) → slice_get xs i ≡ Some x → values_size (drop i xs) ≡ value_size x.1 + values_size (drop (i + 1) xs)
+pub values_here : (xs : List (ℕ × Item)) (i : ℕ) (x : ℕ × Item) → slice_get xs i ≡ Some x
+    → values_size (drop i xs) ≡ value_size x.1 + values_size (drop (i + 1) xs)
 values_here xs i x e = ap values_size (drop_here xs i x e)
 
-pub strips_here : (xs : List (List ℕ)) (i : ℕ) (x : List ℕ) → slice_get xs i ≡ Some x → padded_size (strip_chunks i (drop i xs)) ≡ even (length x) + padded_size (strip_chunks (i + 1) (drop (i + 1) xs))
+pub strips_here : (xs : List (List ℕ)) (i : ℕ) (x : List ℕ) → slice_get xs i ≡ Some x
+    → padded_size (strip_chunks i (drop i xs)) ≡ even (length x) + padded_size (strip_chunks (i + 1) (drop (i + 1) xs))
 strips_here xs i x e = ap (λ ys. padded_size (strip_chunks i ys)) (drop_here xs i x e)
 
 -- the length of the form
@@ -27,5 +29,6 @@ pub ends_as : (r : Option ℕ) (a b : ℕ) → a ≡ b → Ends r a → Ends r b
 ends_as r a b e h = subst (Ends r) e h
 
 -- the end of a directory that is there
-pub dir_there : (m : Meaning) (d : Dir) (x : ℕ) (xs : List (ℕ × Item)) → items m d ≡ Some xs → dir_end x m d ≡ x + even (table_size (length xs)) + values_size xs
+pub dir_there : (m : Meaning) (d : Dir) (x : ℕ) (xs : List (ℕ × Item)) → items m d ≡ Some xs
+    → dir_end x m d ≡ x + even (table_size (length xs)) + values_size xs
 dir_there m d x xs e = let p = ap (λ y. x + padded_size (chunks_of_dir d y)) e in let v = values_padded d xs in omega arith

@@ -11,11 +11,13 @@ use Rattle.px_layout.specs.lemmas.StandLaws.{length-range, get_or-range}
 -- the numbers from 0 on
 pub slice_get-range : (n i : ℕ) → i < n → slice_get (range_with_len 0 n) i ≡ Some i
 slice_get-range n i h =
-    slice_get-get_or (range_with_len 0 n) i 0 (let e = length-range 0 n in omega arith) ∙ ap (λ (k : ℕ). Some k) (get_or-range 0 n i 0 h ∙ omega arith)
+    slice_get-get_or (range_with_len 0 n) i 0 (let e = length-range 0 n in omega arith)
+    ∙ ap (λ (k : ℕ). Some k) (get_or-range 0 n i 0 h ∙ omega arith)
 
 module _ {W : Type 0} (taken : W → Option (List ℕ)) where
   -- the same bytes
-  pub puts_as : {A E : Type 0} (r : Result A E) (a b : W) (h k xs ys : List ℕ) → xs ≡ ys → PutsTo taken r a b h k xs → PutsTo taken r a b h k ys
+  pub puts_as : {A E : Type 0} (r : Result A E) (a b : W) (h k xs ys : List ℕ) → xs ≡ ys → PutsTo taken r a b h k xs
+      → PutsTo taken r a b h k ys
   puts_as r a b h k xs ys e p = subst (λ (z : List ℕ). PutsTo taken r a b h k z) e p
 
   pub fails_as : (a b : W) (h xs ys : List ℕ) → xs ≡ ys → FailsPut taken a b h xs → FailsPut taken a b h ys
@@ -43,7 +45,8 @@ module _ {W : Type 0} (taken : W → Option (List ℕ)) where
         → HasPut taken a c h m (flat_map f (take (i + n) xs))
     more_many a b c h k m p q =
         let both : flat_map f (take i xs) ++ y ≡ flat_map f (take (i + n) xs) =
-        ap (λ (l : List ℕ). flat_map f (take i xs) ++ l) e ∙ sym (flat_map-append f (take i xs) (take n (drop i xs))) ∙ ap (flat_map f) (sym (take-add i n xs)) in
+        ap (λ (l : List ℕ). flat_map f (take i xs) ++ l) e ∙ sym (flat_map-append f (take i xs) (take n (drop i xs)))
+        ∙ ap (flat_map f) (sym (take-add i n xs)) in
         has_as a c h m (flat_map f (take i xs) ++ y) _ both (put_both taken a b c h k m (flat_map f (take i xs)) y p q)
 
     pub stop_many : (a b c : W) (h k : List ℕ) → HasPut taken a b h k (flat_map f (take i xs)) → FailsPut taken b c k y
@@ -51,9 +54,11 @@ module _ {W : Type 0} (taken : W → Option (List ℕ)) where
     stop_many a b c h k p q =
         let rest = flat_map f (drop n (drop i xs)) in
         let behind : y ++ rest ≡ flat_map f (drop i xs) =
-        ap (λ (l : List ℕ). l ++ rest) e ∙ sym (flat_map-append f (take n (drop i xs)) (drop n (drop i xs))) ∙ ap (flat_map f) (take-append-drop n (drop i xs)) in
+        ap (λ (l : List ℕ). l ++ rest) e ∙ sym (flat_map-append f (take n (drop i xs)) (drop n (drop i xs)))
+        ∙ ap (flat_map f) (take-append-drop n (drop i xs)) in
         let all : flat_map f (take i xs) ++ (y ++ rest) ≡ flat_map f xs =
-        ap (λ (l : List ℕ). flat_map f (take i xs) ++ l) behind ∙ sym (flat_map-append f (take i xs) (drop i xs)) ∙ ap (flat_map f) (take-append-drop i xs) in
+        ap (λ (l : List ℕ). flat_map f (take i xs) ++ l) behind ∙ sym (flat_map-append f (take i xs) (drop i xs))
+        ∙ ap (flat_map f) (take-append-drop i xs) in
         fails_as a c h (flat_map f (take i xs) ++ (y ++ rest)) (flat_map f xs) all (second_of a b c h k (flat_map f (take i xs)) y rest p q)
 
   -- one more element of a list, and one at which a call failed

@@ -38,13 +38,17 @@ each_read P (y ∷ xs) (suc i) x h e = each_read P xs i x h.1 e
 module _ (plan : Plan) where
   pub last_far : (at : ℕ) (x : Item) → 4 < item_size x → long_bytes Most at ≡ last_given plan at x
   unfolding last_given
-  last_far at x l = sym (cond-true (nat_lt 4 (item_size x)) (long_bytes Most at) (item_bytes plan Most 0 x ++ replicate (4 - item_size x) 0) (lt-ltb 4 (item_size x) l))
+  last_far at x l =
+      sym (cond-true (nat_lt 4 (item_size x)) (long_bytes Most at) (item_bytes plan Most 0 x
+      ++ replicate (4 - item_size x) 0) (lt-ltb 4 (item_size x) l))
 
-  pub last_near : (at : ℕ) (x : Item) (n : ℕ) → n ≡ item_size x → n ≤ 4 → item_bytes plan Most 0 x ++ replicate (4 - n) 0 ≡ last_given plan at x
+  pub last_near : (at : ℕ) (x : Item) (n : ℕ) → n ≡ item_size x → n ≤ 4
+      → item_bytes plan Most 0 x ++ replicate (4 - n) 0 ≡ last_given plan at x
   unfolding last_given
   last_near at x n e l =
       ap (λ k. item_bytes plan Most 0 x ++ replicate (4 - k) 0) e
-      ∙ sym (cond-false (nat_lt 4 (item_size x)) (long_bytes Most at) (item_bytes plan Most 0 x ++ replicate (4 - item_size x) 0) (le-ltb 4 (item_size x) (omega arith)))
+      ∙ sym (cond-false (nat_lt 4 (item_size x)) (long_bytes Most at) (item_bytes plan Most 0 x
+      ++ replicate (4 - item_size x) 0) (le-ltb 4 (item_size x) (omega arith)))
 
   pub given_as : (at : ℕ) (i : ℕ × Item) (head : List ℕ) → head ≡ head_bytes Most i → head ++ last_given plan at i.1 ≡ entry_given plan at i
   unfolding entry_given
@@ -56,24 +60,28 @@ module _ (plan : Plan) where
       ap (λ x. x ++ last) e ∙ append_assoc tag (form ++ count) last ∙ ap (λ x. tag ++ x) (append_assoc form count last)
 
   -- at the place of its value, these are the entry's bytes
-  pub given_is : (d : Dir) (at : ℕ) (i : ℕ × Item) → (4 < item_size i.1 → place plan (Placed d i.0) ≡ at) → entry_given plan at i ≡ entry_bytes plan Most 0 d i
+  pub given_is : (d : Dir) (at : ℕ) (i : ℕ × Item) → (4 < item_size i.1 → place plan (Placed d i.0) ≡ at)
+      → entry_given plan at i ≡ entry_bytes plan Most 0 d i
   unfolding entry_given entry_bytes last_given last_bytes
-  given_is d at i h = ap (λ last. spelling Most 2 i.0 ++ (spelling Most 2 (code (item_form i.1)) ++ (long_bytes Most (item_count i.1) ++ last))) (elim (cases_Bool (nat_lt 4 (item_size i.1))) [
-    | inl t ↦ let rest : List ℕ = item_bytes plan Most 0 i.1 ++ replicate (4 - item_size i.1) 0 in
-        cond-true (nat_lt 4 (item_size i.1)) (long_bytes Most at) rest t
-        ∙ ap (long_bytes Most) (sym (h (ltb-true 4 (item_size i.1) t)))
-        ∙ sym (cond-true (nat_lt 4 (item_size i.1)) (long_bytes Most (place plan (Placed d i.0))) rest t)
-    | inr t ↦ let rest : List ℕ = item_bytes plan Most 0 i.1 ++ replicate (4 - item_size i.1) 0 in
-        cond-false (nat_lt 4 (item_size i.1)) (long_bytes Most at) rest t
-        ∙ sym (cond-false (nat_lt 4 (item_size i.1)) (long_bytes Most (place plan (Placed d i.0))) rest t)
-  ])
+  given_is d at i h =
+      ap (λ last. spelling Most 2 i.0 ++ (spelling Most 2 (code (item_form i.1)) ++ (long_bytes Most (item_count i.1) ++ last)))
+      (elim (cases_Bool (nat_lt 4 (item_size i.1))) [
+        | inl t ↦ let rest : List ℕ = item_bytes plan Most 0 i.1 ++ replicate (4 - item_size i.1) 0 in
+            cond-true (nat_lt 4 (item_size i.1)) (long_bytes Most at) rest t
+            ∙ ap (long_bytes Most) (sym (h (ltb-true 4 (item_size i.1) t)))
+            ∙ sym (cond-true (nat_lt 4 (item_size i.1)) (long_bytes Most (place plan (Placed d i.0))) rest t)
+        | inr t ↦ let rest : List ℕ = item_bytes plan Most 0 i.1 ++ replicate (4 - item_size i.1) 0 in
+            cond-false (nat_lt 4 (item_size i.1)) (long_bytes Most at) rest t
+            ∙ sym (cond-false (nat_lt 4 (item_size i.1)) (long_bytes Most (place plan (Placed d i.0))) rest t)
+      ])
 
 -- ---- in the normal form
 
 module _ (m : Meaning) where
   -- an entry of a directory, where its values run
   pub entry_running : (d : Dir) (xs : List (ℕ × Item)) (i at : ℕ) (x : ℕ × Item) → Fits m → items m d ≡ Some xs → slice_get xs i ≡ Some x →
-      at + values_size (drop i xs) ≡ start m d + even (table_size (length xs)) + values_size xs → entry_given (normal_plan m) at x ≡ entry_bytes (normal_plan m) Most 0 d x
+      at + values_size (drop i xs) ≡ start m d + even (table_size (length xs)) + values_size xs
+      → entry_given (normal_plan m) at x ≡ entry_bytes (normal_plan m) Most 0 d x
   entry_running d xs i at x f e r h =
       let g : Good d xs = subst (λ (o : Option (List (ℕ × Item))). IfSome o (Good d)) e (good_items m f d) in
       given_is (normal_plan m) d at x (λ l. value_place m d xs i at x e g.rising r l h)
@@ -86,7 +94,8 @@ module _ (m : Meaning) where
   dir_most s Gps a f = let e = form_end m f in let n = a.ends in let l = a.most in omega arith
   dir_most s Thumb a f = let e = form_end m f in let n = a.ends in let l = a.most in omega arith
 
-  pub values_most : (s : Starts) (d : Dir) (xs : List (ℕ × Item)) → AreStarts s m → Fits m → items m d ≡ Some xs → start m d + even (table_size (length xs)) + values_size xs ≤ limit
+  pub values_most : (s : Starts) (d : Dir) (xs : List (ℕ × Item)) → AreStarts s m → Fits m → items m d ≡ Some xs
+      → start m d + even (table_size (length xs)) + values_size xs ≤ limit
   values_most s d xs a f e = let t = dir_there m d (start m d) xs e in let l = dir_most s d a f in omega arith
 
 -- ---- the strips that an entry tells
@@ -95,7 +104,8 @@ tells_fields : (m : Meaning) (fs : Fields) → AllByRecursion (λ i. TellsAll m 
 tells_fields m [] = tt
 tells_fields m (x ∷ xs) = (tt, tells_fields m xs)
 
-tells_some : (m : Meaning) (t : ℕ) (o : Option Item) (ys : List (ℕ × Item)) → IfSome o (TellsAll m) → AllByRecursion (λ i. TellsAll m i.1) ys → AllByRecursion (λ i. TellsAll m i.1) (put_some t o ys)
+tells_some : (m : Meaning) (t : ℕ) (o : Option Item) (ys : List (ℕ × Item)) → IfSome o (TellsAll m)
+    → AllByRecursion (λ i. TellsAll m i.1) ys → AllByRecursion (λ i. TellsAll m i.1) (put_some t o ys)
 tells_some m t None ys p h = h
 tells_some m t (Some x) ys p h = each_put (λ i. TellsAll m i.1) t x ys p h
 
@@ -103,42 +113,53 @@ pub strips_sum : (n : ℕ) (s : List (List ℕ)) → padded_size (strip_chunks n
 strips_sum n [] = refl
 strips_sum n (x ∷ s) = ap (λ k. even (length x) + k) (strips_sum (n + 1) s)
 
-pub place_read : (x : ℕ) (s : List (List ℕ)) (i at : ℕ) → i < length s → at + strips_size (drop i s) ≡ x + strips_size s → slice_get (strip_places x s) i ≡ Some at
+pub place_read : (x : ℕ) (s : List (List ℕ)) (i at : ℕ) → i < length s → at + strips_size (drop i s) ≡ x + strips_size s
+    → slice_get (strip_places x s) i ≡ Some at
 place_read x [] i at l h = absurd (omega arith)
 place_read x (y ∷ s) zero at l h = ap (λ (n : ℕ). Some n) (omega arith)
 place_read x (y ∷ s) (suc i) at l h = place_read (x + even (length y)) s i at (omega arith) (omega arith)
 
 -- the same places, told by the plan and running along
-same_places : (p : ℕ → ℕ) (n x : ℕ) (s : List (List ℕ)) → ((j : ℕ) → j < length s → p (n + j) ≡ x + strips_size (take j s)) → flat_map (λ i. long_bytes Most (p i)) (range_with_len n (length s)) ≡ flat_map (long_bytes Most) (strip_places x s)
+same_places : (p : ℕ → ℕ) (n x : ℕ) (s : List (List ℕ)) → ((j : ℕ) → j < length s → p (n + j) ≡ x + strips_size (take j s))
+    → flat_map (λ i. long_bytes Most (p i)) (range_with_len n (length s)) ≡ flat_map (long_bytes Most) (strip_places x s)
 same_places p n x [] h = refl
 same_places p n x (y ∷ s) h = ap₂ (λ (k : ℕ) (ys : List ℕ). long_bytes Most k ++ ys)
     (ap p (omega arith) ∙ h 0 (omega arith) ∙ omega arith)
     (same_places p (n + 1) (x + even (length y)) s (λ j l. ap p (omega arith) ∙ h (suc j) (omega arith) ∙ omega arith))
 
 -- the bytes of the item that tells all strips
-pub strips_told : (m : Meaning) (n : ℕ) → TellsAll m (AtStrips n) → flat_map (long_bytes Most) (strip_places (strips_start m) (strip_list m.thumb)) ≡ flat_map (λ i. long_bytes Most (place (normal_plan m) (Strip i))) (range_with_len 0 n)
+pub strips_told : (m : Meaning) (n : ℕ) → TellsAll m (AtStrips n)
+    → flat_map (long_bytes Most) (strip_places (strips_start m) (strip_list m.thumb)) ≡ flat_map
+    (λ i. long_bytes Most (place (normal_plan m) (Strip i))) (range_with_len 0 n)
 strips_told m n h = sym (ap (λ k. flat_map (λ i. long_bytes Most (place (normal_plan m) (Strip i))) (range_with_len 0 k)) h
     ∙ same_places (λ i. place (normal_plan m) (Strip i)) 0 (strips_start m) (strip_list m.thumb) (go m.thumb refl))
   where
-    go : (t : Option Thumbnail) → m.thumb ≡ t → (j : ℕ) → j < length (strip_list t) → place (normal_plan m) (Strip (0 + j)) ≡ strips_start m + strips_size (take j (strip_list t))
+    go : (t : Option Thumbnail) → m.thumb ≡ t → (j : ℕ) → j < length (strip_list t)
+        → place (normal_plan m) (Strip (0 + j)) ≡ strips_start m + strips_size (take j (strip_list t))
     go None e j l = absurd (omega arith)
     go (Some t) e j l = all t.strips refl j l
       where
-        all : (o : Option (List (List ℕ))) → t.strips ≡ o → (j : ℕ) → j < length (unwrap_or o []) → place (normal_plan m) (Strip (0 + j)) ≡ strips_start m + strips_size (take j (unwrap_or o []))
+        all : (o : Option (List (List ℕ))) → t.strips ≡ o → (j : ℕ) → j < length (unwrap_or o [])
+            → place (normal_plan m) (Strip (0 + j)) ≡ strips_start m + strips_size (take j (unwrap_or o []))
         all None q j l = absurd (omega arith)
-        all (Some s) q j l = ap (λ k. place (normal_plan m) (Strip k)) (omega arith) ∙ strip_place m t s j e q l ∙ ap (λ k. strips_start m + k) (strips_sum 0 (take j s))
+        all (Some s) q j l = ap (λ k. place (normal_plan m) (Strip k)) (omega arith) ∙ strip_place m t s j e q l
+            ∙ ap (λ k. strips_start m + k) (strips_sum 0 (take j s))
 
 -- ---- the JPEG
 
-jpeg_run : (m : Meaning) → place (normal_plan m) Jpeg ≡ unwrap_or (running (thumb_start m) (jpeg_part m.thumb ++ strips_part m.thumb) Jpeg) 0
+jpeg_run : (m : Meaning) → place (normal_plan m) Jpeg ≡ unwrap_or
+    (running (thumb_start m) (jpeg_part m.thumb ++ strips_part m.thumb) Jpeg) 0
 unfolding normal_plan
-jpeg_run m = ap (λ o. unwrap_or o 0) (thumb_found m Jpeg (λ d. refl) (λ d u. refl) ∙ ap (λ y. running (thumb_start m) y Jpeg) (thumb_parts m.thumb))
+jpeg_run m =
+    ap (λ o. unwrap_or o 0) (thumb_found m Jpeg (λ d. refl) (λ d u. refl) ∙ ap (λ y. running (thumb_start m) y Jpeg) (thumb_parts m.thumb))
 
 pub jpeg_some : (m : Meaning) (t : Thumbnail) (x : List ℕ) → m.thumb ≡ Some t → t.jpeg ≡ Some x → thumb_start m ≡ place (normal_plan m) Jpeg
 jpeg_some m t x e f = sym (jpeg_place m t x e f)
 
 pub jpeg_gone : (m : Meaning) (t : Thumbnail) → m.thumb ≡ Some t → t.jpeg ≡ None → 0 ≡ place (normal_plan m) Jpeg
-jpeg_gone m t e f = sym (jpeg_run m ∙ ap (λ o. unwrap_or o 0) (ap (λ y. running (thumb_start m) (jpeg_part y ++ strips_part y) Jpeg) e ∙ ap (λ y. running (thumb_start m) (jpeg_chunks y ++ all_strip_chunks t.strips) Jpeg) f
+jpeg_gone m t e f =
+    sym (jpeg_run m ∙ ap (λ o. unwrap_or o 0) (ap (λ y. running (thumb_start m) (jpeg_part y ++ strips_part y) Jpeg) e
+    ∙ ap (λ y. running (thumb_start m) (jpeg_chunks y ++ all_strip_chunks t.strips) Jpeg) f
     ∙ run_none (thumb_start m) (all_strip_chunks t.strips) Jpeg (without_all_strips Jpeg (λ i. refl) t.strips)))
 
 pub thumb_gone : (m : Meaning) → m.thumb ≡ None → 0 ≡ place (normal_plan m) Jpeg
@@ -154,7 +175,8 @@ tells_record : (m : Meaning) (o : Option Iim) → IfSome (option_map Iptc o) (Te
 tells_record m None = tt
 tells_record m (Some x) = tt
 
-tells_jpeg : (m : Meaning) (o : Option (List ℕ)) → IfSome (option_map (λ _. AtJpeg) o) (TellsAll m) × IfSome (option_map (λ (x : List ℕ). JpegSize (length x)) o) (TellsAll m)
+tells_jpeg : (m : Meaning) (o : Option (List ℕ)) → IfSome (option_map (λ _. AtJpeg) o) (TellsAll m) × IfSome
+    (option_map (λ (x : List ℕ). JpegSize (length x)) o) (TellsAll m)
 tells_jpeg m None = (tt, tt)
 tells_jpeg m (Some x) = (tt, tt)
 
@@ -166,14 +188,16 @@ tells_plain : (m : Meaning) (o : Option Fields) → IfSome (option_map field_ite
 tells_plain m None = tt
 tells_plain m (Some fs) = tells_fields m fs
 
-tells_interop : (m : Meaning) (o : Option ExifPart) → IfSome (option_and_then (λ e. option_map field_items e.interop) o) (AllByRecursion (λ i. TellsAll m i.1))
+tells_interop : (m : Meaning) (o : Option ExifPart) → IfSome (option_and_then (λ e. option_map field_items e.interop) o)
+    (AllByRecursion (λ i. TellsAll m i.1))
 tells_interop m None = tt
 tells_interop m (Some e) = tells_plain m e.interop
 
 tells_thumb : (m : Meaning) (o : Option Thumbnail) → m.thumb ≡ o → IfSome (option_map thumb_items o) (AllByRecursion (λ i. TellsAll m i.1))
 tells_thumb m None e = tt
 tells_thumb m (Some t) e =
-    tells_some m _ (option_map (λ _. AtJpeg) t.jpeg) _ (tells_jpeg m t.jpeg).0 (tells_some m _ (option_map (λ x. JpegSize (length x)) t.jpeg) _ (tells_jpeg m t.jpeg).1
+    tells_some m _ (option_map (λ _. AtJpeg) t.jpeg) _ (tells_jpeg m t.jpeg).0
+    (tells_some m _ (option_map (λ x. JpegSize (length x)) t.jpeg) _ (tells_jpeg m t.jpeg).1
     (tells_some m _ (option_map (λ s. AtStrips (length s)) t.strips) _ (offsets t.strips refl)
     (tells_some m _ (option_map (λ s. StripSizes (map (λ x. length x) s)) t.strips) _ (sizes t.strips) (tells_fields m t.fields))))
   where
@@ -187,17 +211,23 @@ tells_thumb m (Some t) e =
 
 pub tells_all : (m : Meaning) (d : Dir) → IfSome (items m d) (AllByRecursion (λ i. TellsAll m i.1))
 unfolding items
-tells_all m Main = tells_some m _ (link Exif m.exif) _ (tells_link m Exif m.exif) (tells_some m _ (link Gps m.gps) _ (tells_link m Gps m.gps) (tells_some m _ (option_map Iptc m.iptc) _ (tells_record m m.iptc) (tells_fields m m.main)))
+tells_all m Main =
+    tells_some m _ (link Exif m.exif) _ (tells_link m Exif m.exif) (tells_some m _ (link Gps m.gps) _ (tells_link m Gps m.gps)
+    (tells_some m _ (option_map Iptc m.iptc) _ (tells_record m m.iptc) (tells_fields m m.main)))
 tells_all m Exif = tells_exif m m.exif
 tells_all m Interop = tells_interop m m.exif
 tells_all m Gps = tells_plain m m.gps
 tells_all m Thumb = tells_thumb m m.thumb refl
 
-pub tells_read : (m : Meaning) (d : Dir) (xs : List (ℕ × Item)) (i : ℕ) (x : ℕ × Item) → items m d ≡ Some xs → slice_get xs i ≡ Some x → TellsAll m x.1
-tells_read m d xs i x e r = each_read (λ i. TellsAll m i.1) xs i x (subst (λ (o : Option (List (ℕ × Item))). IfSome o (AllByRecursion (λ i. TellsAll m i.1))) e (tells_all m d)) r
+pub tells_read : (m : Meaning) (d : Dir) (xs : List (ℕ × Item)) (i : ℕ) (x : ℕ × Item) → items m d ≡ Some xs → slice_get xs i ≡ Some x
+    → TellsAll m x.1
+tells_read m d xs i x e r =
+    each_read (λ i. TellsAll m i.1) xs i x (subst (λ (o : Option (List (ℕ × Item))). IfSome o (AllByRecursion (λ i. TellsAll m i.1))) e
+    (tells_all m d)) r
 
 -- what strips from one on take
-pub strips_next : (s : List (List ℕ)) (i : ℕ) (x : List ℕ) → slice_get s i ≡ Some x → strips_size (drop i s) ≡ even (length x) + strips_size (drop (i + 1) s)
+pub strips_next : (s : List (List ℕ)) (i : ℕ) (x : List ℕ) → slice_get s i ≡ Some x
+    → strips_size (drop i s) ≡ even (length x) + strips_size (drop (i + 1) s)
 strips_next s i x e = ap strips_size (drop_here s i x e)
 
 pub length_places : (x : ℕ) (s : List (List ℕ)) → length (strip_places x s) ≡ length s
@@ -205,7 +235,8 @@ length_places x [] = refl
 length_places x (y ∷ s) = ap suc (length_places (x + even (length y)) s)
 
 -- the strips end before the limit
-pub strips_most : (m : Meaning) (s : Starts) (t : Option Thumbnail) → AreStarts s m → Fits m → m.thumb ≡ t → s.strips + strips_size (strip_list t) ≤ limit
+pub strips_most : (m : Meaning) (s : Starts) (t : Option Thumbnail) → AreStarts s m → Fits m → m.thumb ≡ t
+    → s.strips + strips_size (strip_list t) ≤ limit
 strips_most m s t a f e =
     let n = form_end m f in
     let p = ap (λ y. padded_size (strips_part y)) e in
@@ -224,17 +255,20 @@ strips_most m s t a f e =
     part (Some t) = all t.strips
 
 -- the item that tells all strips
-pub item_told : (m : Meaning) (x : Item) (n : ℕ) → x ≡ AtStrips n → TellsAll m x → flat_map (long_bytes Most) (strip_places (strips_start m) (strip_list m.thumb)) ≡ item_bytes (normal_plan m) Most 0 x
+pub item_told : (m : Meaning) (x : Item) (n : ℕ) → x ≡ AtStrips n → TellsAll m x
+    → flat_map (long_bytes Most) (strip_places (strips_start m) (strip_list m.thumb)) ≡ item_bytes (normal_plan m) Most 0 x
 unfolding item_bytes
 item_told m x n e h = strips_told m n (subst (TellsAll m) e h) ∙ sym (ap (item_bytes (normal_plan m) Most 0) e)
 
 -- ---- the tables
 
-pub place_there : (m : Meaning) (d : Dir) (o : Option (List (ℕ × Item))) → items m d ≡ o → is_some o ≡ true → place (normal_plan m) (Table d) ≡ start m d
+pub place_there : (m : Meaning) (d : Dir) (o : Option (List (ℕ × Item))) → items m d ≡ o → is_some o ≡ true
+    → place (normal_plan m) (Table d) ≡ start m d
 place_there m d (Some xs) e t = table_place m d xs e
 place_there m d None e t = absurd (cc)
 
-pub place_gone : (m : Meaning) (d : Dir) (o : Option (List (ℕ × Item))) → items m d ≡ o → is_some o ≡ false → place (normal_plan m) (Table d) ≡ 0
+pub place_gone : (m : Meaning) (d : Dir) (o : Option (List (ℕ × Item))) → items m d ≡ o → is_some o ≡ false
+    → place (normal_plan m) (Table d) ≡ 0
 place_gone m d (Some xs) e f = absurd (cc)
 place_gone m d None e f = no_table_place m d e
 

@@ -15,6 +15,7 @@ strips_padded n [] = refl
 strips_padded n (x ∷ xs) = ap (λ y. padded x ++ y) (strips_padded (n + 1) xs)
 
 -- the JPEG, then the strips
-pub parts_padded : (t : Thumbnail) → flat_map padded_content (jpeg_contents t.jpeg) ++ flat_map padded_content (all_strip_contents t.strips) ≡ flat_map padded_content (thumb_contents (Some t))
+pub parts_padded : (t : Thumbnail) → flat_map padded_content (jpeg_contents t.jpeg) ++ flat_map padded_content
+    (all_strip_contents t.strips) ≡ flat_map padded_content (thumb_contents (Some t))
 unfolding thumb_contents
 parts_padded t = sym (flat_map-append padded_content (jpeg_contents t.jpeg) (all_strip_contents t.strips))

@@ -14,18 +14,21 @@ use Rattle.px_layout.specs.calls.Forms.{AnswersForm}
 use Rattle.px_layout.specs.Writing.{WritesExif}
 
 -- there is no form to write
-pub no_form : (m : Meaning) (a : Option (List ℕ)) (failed : ℕ) (e : WriteRefusal) → AnswersForm (Err e) m → WritesExif (Err e) a a failed failed m
+pub no_form : (m : Meaning) (a : Option (List ℕ)) (failed : ℕ) (e : WriteRefusal) → AnswersForm (Err e) m
+    → WritesExif (Err e) a a failed failed m
 no_form m a failed NormalTooLong h = (h, refl, refl)
 no_form m a failed OutOfMemory h = absurd h
 no_form m a failed WriteFailed h = absurd h
 
 -- the form of s is that of m, is not too long, and is put where nothing waits
-module _ (m s : Meaning) (a : Option (List ℕ)) (failed : ℕ) (h : List ℕ) (same : s ≡ m) (l : length (normal_exif m) ≤ limit) (none : h ≡ []) where
+module _ (m s : Meaning) (a : Option (List ℕ)) (failed : ℕ) (h : List ℕ) (same : s ≡ m) (l : length (normal_exif m) ≤ limit)
+    (none : h ≡ []) where
   of_form : (P : List ℕ → Type 0) → P (h ++ normal_exif s) → P (normal_exif m)
   of_form P p = subst (λ (x : Meaning). P (normal_exif x)) same (from_none P h (normal_exif s) none p)
 
   -- a part could not be put
-  pub not_put : (b : Option (List ℕ)) (n : ℕ) → AppendsPrefix a b (h ++ normal_exif s) → n ≡ failed + 1 → WritesExif (Err WriteFailed) a b failed n m
+  pub not_put : (b : Option (List ℕ)) (n : ℕ) → AppendsPrefix a b (h ++ normal_exif s) → n ≡ failed + 1
+      → WritesExif (Err WriteFailed) a b failed n m
   not_put b n p q = (l, of_form (AppendsPrefix a b) p, q)
 
   -- what waited could not be sent
@@ -37,11 +40,13 @@ module _ (m s : Meaning) (a : Option (List ℕ)) (failed : ℕ) (h : List ℕ) (
   all b c d k p t f = appends_kept a c d (normal_exif m) (owed_all a b c k (normal_exif m) (of_form (Owes a b k) p) t) f
 
   -- the flush failed
-  pub not_flushed : (b c d : Option (List ℕ)) (k : List ℕ) (n : ℕ) → Owes a b k (h ++ normal_exif s) → Appends b c k → Keeps c d → n ≡ failed + 1
+  pub not_flushed : (b c d : Option (List ℕ)) (k : List ℕ) (n : ℕ) → Owes a b k (h ++ normal_exif s) → Appends b c k → Keeps c d
+      → n ≡ failed + 1
       → WritesExif (Err WriteFailed) a d failed n m
   not_flushed b c d k n p t f q = (l, prefix_all a d (normal_exif m) (all b c d k p t f), q)
 
-  pub written : (b c d : Option (List ℕ)) (k : List ℕ) (n x : ℕ) → x ≡ length (normal_exif s) → Owes a b k (h ++ normal_exif s) → Appends b c k
+  pub written : (b c d : Option (List ℕ)) (k : List ℕ) (n x : ℕ) → x ≡ length (normal_exif s) → Owes a b k (h ++ normal_exif s)
+      → Appends b c k
       → Keeps c d → n ≡ failed → WritesExif (Ok x) a d failed n m
   written b c d k n x is p t f q =
       let long : x ≡ length (normal_exif m) = is ∙ ap (λ (y : Meaning). length (normal_exif y)) same in

@@ -39,4 +39,6 @@ abbrev pub strips_size : StripOffsets → ℕ
 strips_size s = length s.line.items + btree_map_len s.others
 
 abbrev pub size_in : Offsets → ℕ
-size_in o = dir_size o.main + dir_size o.exif + dir_size o.interop + dir_size o.gps + dir_size o.thumb + (if is_some o.jpeg then 1 else 0) + strips_size o.strips
+size_in o =
+    dir_size o.main + dir_size o.exif + dir_size o.interop + dir_size o.gps + dir_size
+    o.thumb + (if is_some o.jpeg then 1 else 0) + strips_size o.strips

@@ -40,7 +40,8 @@ padded-append : (xs ys : List (Chunk × ℕ)) → padded_size (xs ++ ys) ≡ pad
 padded-append [] ys = omega arith
 padded-append (x ∷ xs) ys = let e = padded-append xs ys in omega arith
 
-bound_append : (xs ys : List (Chunk × ℕ)) (rs ss : List Range) → padded_size xs ≤ 2 * total rs → padded_size ys ≤ 2 * total ss → padded_size (xs ++ ys) ≤ 2 * total (rs ++ ss)
+bound_append : (xs ys : List (Chunk × ℕ)) (rs ss : List Range) → padded_size xs ≤ 2 * total rs → padded_size ys ≤ 2 * total ss
+    → padded_size (xs ++ ys) ≤ 2 * total (rs ++ ss)
 bound_append xs ys rs ss h k = let p = padded-append xs ys in let t = total-append rs ss in omega arith
 
 module _ (b : List ℕ) (o : Order) where
@@ -62,7 +63,8 @@ module _ (b : List ℕ) (o : Order) where
 
     count_is : short o (take 2 (table b o a)) ≡ n
     unfolding table
-    count_is = ap (λ t. short o (take 2 t)) (cond-true (has_table b o a) (part b a (table_size n)) [] is.there) ∙ ap (number o 2) (take-take 2 (table_size n) (drop a b) (omega arith))
+    count_is = ap (λ t. short o (take 2 t)) (cond-true (has_table b o a) (part b a (table_size n)) [] is.there)
+        ∙ ap (number o 2) (take-take 2 (table_size n) (drop a b) (omega arith))
 
     length_entries : length es ≡ n
     unfolding entries
@@ -74,9 +76,14 @@ module _ (b : List ℕ) (o : Order) where
     unfolding placed_range has_raw IsIn
     placed_inside [] h = tt
     placed_inside (e ∷ zs) h = elim (cases_Bool (is_placed e)) [
-      | inl t ↦ subst (λ r. AllByRecursion IsIn (cons_option r (filter_map (placed_range o) zs))) (sym (cond-true (is_placed e) (Some (range (offset o e) (raw_size e))) None t))
-          (leb-true _ _ (sym (cond-true (is_placed e) (nat_le (offset o e + raw_size e) (length b)) true t) ∙ h.0.inside), placed_inside zs h.1)
-      | inr t ↦ subst (λ r. AllByRecursion IsIn (cons_option r (filter_map (placed_range o) zs))) (sym (cond-false (is_placed e) (Some (range (offset o e) (raw_size e))) None t)) (placed_inside zs h.1)
+      | inl t ↦ subst (λ r. AllByRecursion IsIn (cons_option r (filter_map (placed_range o) zs)))
+          (sym (cond-true (is_placed e) (Some (range (offset o e) (raw_size e))) None t)) (
+            leb-true _ _ (sym (cond-true (is_placed e) (nat_le (offset o e + raw_size e) (length b)) true t)
+                ∙ h.0.inside),
+            placed_inside zs h.1,
+          )
+      | inr t ↦ subst (λ r. AllByRecursion IsIn (cons_option r (filter_map (placed_range o) zs)))
+          (sym (cond-false (is_placed e) (Some (range (offset o e) (raw_size e))) None t)) (placed_inside zs h.1)
     ]
 
     dir_inside : AllByRecursion IsIn (dir_ranges b o a)
@@ -113,13 +120,16 @@ module _ (b : List ℕ) (o : Order) where
   jpeg_bound None = omega arith
   jpeg_bound (Some r) = let e = even_double (length (bytes_of b r)) r.size (part_short r) in omega arith
 
-  thumb_bound : (z : Option ℕ) → padded_size (thumb_chunks (option_map (thumbnail b o) z)) ≤ 2 * total (listed (option_map (thumb_ranges b o) z))
+  thumb_bound : (z : Option ℕ) → padded_size (thumb_chunks (option_map (thumbnail b o) z)) ≤ 2 * total
+      (listed (option_map (thumb_ranges b o) z))
   unfolding thumb_chunks thumbnail thumb_ranges
   thumb_bound None = omega arith
   thumb_bound (Some a) =
       let es = entries_at b o a in
-      bound_append (jpeg_chunks (option_map (bytes_of b) (jpeg_range o es))) (all_strip_chunks (option_map (map (bytes_of b)) (strip_ranges b o es)))
-      (option_to_list (jpeg_range o es)) (listed (strip_ranges b o es)) (jpeg_bound (jpeg_range o es)) (all_strips_bound (strip_ranges b o es))
+      bound_append (jpeg_chunks (option_map (bytes_of b) (jpeg_range o es)))
+      (all_strip_chunks (option_map (map (bytes_of b)) (strip_ranges b o es)))
+      (option_to_list (jpeg_range o es)) (listed (strip_ranges b o es)) (jpeg_bound (jpeg_range o es))
+      (all_strips_bound (strip_ranges b o es))
 
   jpeg_inside : (z : Option Range) → IfSome z (IsInside b) → AllByRecursion IsIn (option_to_list z)
   unfolding IsIn
@@ -136,7 +146,8 @@ module _ (b : List ℕ) (o : Order) where
   thumb_inside None h = tt
   thumb_inside (Some a) h =
       let es = entries_at b o a in
-      each_append IsIn (option_to_list (jpeg_range o es)) (listed (strip_ranges b o es)) (jpeg_inside (jpeg_range o es) h.jpeg_inside) (strips_inside (strip_ranges b o es) h.strips_inside)
+      each_append IsIn (option_to_list (jpeg_range o es)) (listed (strip_ranges b o es)) (jpeg_inside (jpeg_range o es) h.jpeg_inside)
+      (strips_inside (strip_ranges b o es) h.strips_inside)
 
   -- ---- the block
 
@@ -155,26 +166,31 @@ module _ (b : List ℕ) (o : Order) where
     is_at d a q = subst (λ z. IfSome z (IsDirectory b o d)) q (in_order d)
 
     -- where a directory is
-    bound_at : (d : Dir) (a : ℕ) (xs : List (ℕ × Item)) → dir_at b o d ≡ Some a → Good d xs → PayEach (entries_at b o a) xs → padded_size (dir_chunks d xs) ≤ 2 * total (dir_ranges b o a)
+    bound_at : (d : Dir) (a : ℕ) (xs : List (ℕ × Item)) → dir_at b o d ≡ Some a → Good d xs → PayEach (entries_at b o a) xs
+        → padded_size (dir_chunks d xs) ≤ 2 * total (dir_ranges b o a)
     bound_at d a xs q g p = dir_bound d a (is_at d a q) xs g p
 
     abbrev Bounded : Dir → Option (List (ℕ × Item)) → Option ℕ → Type 0
     Bounded d y z = padded_size (chunks_of_dir d y) ≤ 2 * total (listed (option_map (dir_ranges b o) z))
 
-    bound_exif : (z : Option ℕ) → dir_at b o Exif ≡ z → IfSome (option_map exif_items (option_map (exif_part b o) z)) (Good Exif) → Bounded Exif (option_map exif_items (option_map (exif_part b o) z)) z
+    bound_exif : (z : Option ℕ) → dir_at b o Exif ≡ z → IfSome (option_map exif_items (option_map (exif_part b o) z)) (Good Exif)
+        → Bounded Exif (option_map exif_items (option_map (exif_part b o) z)) z
     bound_exif None q g = omega arith
     bound_exif (Some a) q g = bound_at Exif a (exif_items (exif_part b o a)) q g (exif_paid b o a q)
 
-    bound_plain : (d : Dir) (z : Option ℕ) → dir_at b o d ≡ z → IfSome (option_map field_items (option_map (fields b o d) z)) (Good d) → Bounded d (option_map field_items (option_map (fields b o d) z)) z
+    bound_plain : (d : Dir) (z : Option ℕ) → dir_at b o d ≡ z → IfSome (option_map field_items (option_map (fields b o d) z)) (Good d)
+        → Bounded d (option_map field_items (option_map (fields b o d) z)) z
     bound_plain d None q g = omega arith
     bound_plain d (Some a) q g = bound_at d a (field_items (fields b o d a)) q g (plain_paid b o d a)
 
-    bound_thumb : (z : Option ℕ) → dir_at b o Thumb ≡ z → IfSome (option_map thumb_items (option_map (thumbnail b o) z)) (Good Thumb) → Bounded Thumb (option_map thumb_items (option_map (thumbnail b o) z)) z
+    bound_thumb : (z : Option ℕ) → dir_at b o Thumb ≡ z → IfSome (option_map thumb_items (option_map (thumbnail b o) z)) (Good Thumb)
+        → Bounded Thumb (option_map thumb_items (option_map (thumbnail b o) z)) z
     bound_thumb None q g = omega arith
     bound_thumb (Some a) q g = bound_at Thumb a (thumb_items (thumbnail b o a)) q g (thumb_paid b o a (is_at Thumb a q).each)
 
     -- the directory of the Exif directory
-    bound_interop : (y : Option ℕ) → IfSome (option_and_then (λ e. option_map field_items e.interop) (option_map (exif_part b o) y)) (Good Interop) →
+    bound_interop : (y : Option ℕ) → IfSome (option_and_then (λ e. option_map field_items e.interop) (option_map (exif_part b o) y))
+        (Good Interop) →
         Bounded Interop (option_and_then (λ e. option_map field_items e.interop) (option_map (exif_part b o) y)) (dir_at b o Interop)
     unfolding exif_part
     bound_interop None g = none (total (listed (option_map (dir_ranges b o) (dir_at b o Interop))))
@@ -189,7 +205,9 @@ module _ (b : List ℕ) (o : Order) where
 
     each_bound : (d : Dir) → Bounded d (items m d) (dir_at b o d)
     unfolding items meaning
-    each_bound Main = subst (λ z. Bounded Main (items m Main) z) (sym main_is) (bound_at Main (main_at b o) _ main_is (good_items m f Main) (main_paid b o))
+    each_bound Main =
+        subst (λ z. Bounded Main (items m Main) z) (sym main_is) (bound_at Main (main_at b o) _ main_is (good_items m f Main)
+        (main_paid b o))
     each_bound Exif = bound_exif (dir_at b o Exif) refl (good_items m f Exif)
     each_bound Interop = bound_interop (dir_at b o Exif) (good_items m f Interop)
     each_bound Gps = bound_plain Gps (dir_at b o Gps) refl (good_items m f Gps)
@@ -197,11 +215,15 @@ module _ (b : List ℕ) (o : Order) where
 
     dirs_bound : (ds : List Dir) → padded_size (flat_map (λ d. chunks_of_dir d (items m d)) ds) ≤ 2 * total (flat_map (ranges_at b o) ds)
     dirs_bound [] = omega arith
-    dirs_bound (d ∷ ds) = bound_append (chunks_of_dir d (items m d)) (flat_map (λ d. chunks_of_dir d (items m d)) ds) (ranges_at b o d) (flat_map (ranges_at b o) ds) (each_bound d) (dirs_bound ds)
+    dirs_bound (d ∷ ds) =
+        bound_append (chunks_of_dir d (items m d)) (flat_map (λ d. chunks_of_dir d (items m d)) ds) (ranges_at b o d)
+        (flat_map (ranges_at b o) ds) (each_bound d) (dirs_bound ds)
 
     chunks_bound : 16 + padded_size (chunks m) ≤ 2 * total (footprint b o)
     unfolding chunks footprint meaning
-    chunks_bound = let e = bound_append (flat_map (λ d. chunks_of_dir d (items m d)) dirs) (thumb_chunks m.thumb) (flat_map (ranges_at b o) dirs) (listed (option_map (thumb_ranges b o) (dir_at b o Thumb))) (dirs_bound dirs) (thumb_bound (dir_at b o Thumb)) in omega arith
+    chunks_bound =
+        let e = bound_append (flat_map (λ d. chunks_of_dir d (items m d)) dirs) (thumb_chunks m.thumb) (flat_map (ranges_at b o) dirs)
+        (listed (option_map (thumb_ranges b o) (dir_at b o Thumb))) (dirs_bound dirs) (thumb_bound (dir_at b o Thumb)) in omega arith
 
     -- ---- the footprint lies inside
 
@@ -211,11 +233,16 @@ module _ (b : List ℕ) (o : Order) where
 
     dirs_inside : (ds : List Dir) → AllByRecursion IsIn (flat_map (ranges_at b o) ds)
     dirs_inside [] = tt
-    dirs_inside (d ∷ ds) = each_append IsIn (ranges_at b o d) (flat_map (ranges_at b o) ds) (inside_at d (dir_at b o d) refl) (dirs_inside ds)
+    dirs_inside (d ∷ ds) =
+        each_append IsIn (ranges_at b o d) (flat_map (ranges_at b o) ds) (inside_at d (dir_at b o d) refl) (dirs_inside ds)
 
     inside : AllByRecursion IsIn (footprint b o)
     unfolding footprint IsIn
-    inside = (x.least, each_append IsIn (flat_map (ranges_at b o) dirs) (listed (option_map (thumb_ranges b o) (dir_at b o Thumb))) (dirs_inside dirs) (thumb_inside (dir_at b o Thumb) x.thumbnail))
+    inside = (
+      x.least,
+      each_append IsIn (flat_map (ranges_at b o) dirs) (listed (option_map (thumb_ranges b o) (dir_at b o Thumb)))
+          (dirs_inside dirs) (thumb_inside (dir_at b o Thumb) x.thumbnail),
+    )
 
     footprint_fits : total (footprint b o) ≤ length b
     unfolding IsIn

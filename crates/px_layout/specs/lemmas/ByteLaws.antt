@@ -52,10 +52,13 @@ bytes_map g h (p ∷ ps) = bytes_cons (g p) (map g ps) (h p) (bytes_map g h ps)
 bytes_spell : (o : Order) (f : Form) (e : Element) → IsOf f e → AreBytes (spell o e)
 bytes_spell o form.Short (element.Short n) h = bytes_spelling o 2 n
 bytes_spell o form.Long (element.Long n) h = bytes_spelling o 4 n
-bytes_spell o form.Rational (element.Rational n d) h = bytes_append (spelling o 4 n) (spelling o 4 d) (bytes_spelling o 4 n) (bytes_spelling o 4 d)
+bytes_spell o form.Rational (element.Rational n d) h =
+    bytes_append (spelling o 4 n) (spelling o 4 d) (bytes_spelling o 4 n) (bytes_spelling o 4 d)
 bytes_spell o form.SShort (element.SShort z) h = bytes_spelling o 2 (cast_unsigned w16 z)
 bytes_spell o form.SLong (element.SLong z) h = bytes_spelling o 4 (cast_unsigned w32 z)
-bytes_spell o form.SRational (element.SRational y z) h = bytes_append (spelling o 4 (cast_unsigned w32 y)) (spelling o 4 (cast_unsigned w32 z)) (bytes_spelling o 4 (cast_unsigned w32 y)) (bytes_spelling o 4 (cast_unsigned w32 z))
+bytes_spell o form.SRational (element.SRational y z) h =
+    bytes_append (spelling o 4 (cast_unsigned w32 y)) (spelling o 4 (cast_unsigned w32 z)) (bytes_spelling o 4 (cast_unsigned w32 y))
+    (bytes_spelling o 4 (cast_unsigned w32 z))
 bytes_spell o form.Float (element.Float n) h = bytes_spelling o 4 n
 bytes_spell o form.Double (element.Double n) h = bytes_spelling o 8 n
 bytes_spell o form.Byte (element.Byte n) h = bytes_cons n [] h bytes_none
@@ -68,7 +71,9 @@ bytes_spell o _ _ h = absurd h
 -- a value is spelled by bytes
 pub bytes_spelled : (o : Order) (v : Value) → IsValue v → AreBytes (spelled o v)
 unfolding spelled
-bytes_spelled o v h = bytes_flat (spell o) v.elements (each_map (IsOf (form_in v.kind)) (λ e. AreBytes (spell o e)) (bytes_spell o (form_in v.kind)) v.elements h)
+bytes_spelled o v h =
+    bytes_flat (spell o) v.elements (each_map (IsOf (form_in v.kind)) (λ e. AreBytes (spell o e)) (bytes_spell o (form_in v.kind))
+    v.elements h)
 
 -- ---- the pieces of a block
 
@@ -86,8 +91,11 @@ module _ (plan : Plan) (o : Order) (filler : ℕ) (fill : filler < 256) where
   item_is (To d) (Link e) h = bytes_spelling o 4 (place plan (Table e))
   item_is JpegOffset AtJpeg h = bytes_spelling o 4 (place plan Jpeg)
   item_is JpegLength (JpegSize n) h = bytes_spelling o 4 n
-  item_is StripOffsets (AtStrips n) h = bytes_flat (λ i. long_bytes o (place plan (Strip i))) (range_with_len 0 n) (each_all (λ i. AreBytes (long_bytes o (place plan (Strip i)))) (λ i. bytes_spelling o 4 (place plan (Strip i))) (range_with_len 0 n))
-  item_is StripLengths (StripSizes ns) h = bytes_flat (long_bytes o) ns (each_all (λ n. AreBytes (long_bytes o n)) (λ n. bytes_spelling o 4 n) ns)
+  item_is StripOffsets (AtStrips n) h =
+      bytes_flat (λ i. long_bytes o (place plan (Strip i))) (range_with_len 0 n)
+      (each_all (λ i. AreBytes (long_bytes o (place plan (Strip i)))) (λ i. bytes_spelling o 4 (place plan (Strip i))) (range_with_len 0 n))
+  item_is StripLengths (StripSizes ns) h =
+      bytes_flat (long_bytes o) ns (each_all (λ n. AreBytes (long_bytes o n)) (λ n. bytes_spelling o 4 n) ns)
   item_is _ _ h = absurd h
 
   module _ (d : Dir) where
@@ -96,9 +104,12 @@ module _ (plan : Plan) (o : Order) (filler : ℕ) (fill : filler < 256) where
 
     last_is : (i : ℕ × Item) → Suited i → AreBytes (last_bytes plan o filler d i)
     unfolding last_bytes
-    last_is i h = cond_both (nat_lt 4 (item_size i.1)) (long_bytes o (place plan (Placed d i.0))) (item_bytes plan o filler i.1 ++ replicate (4 - item_size i.1) filler) AreBytes
+    last_is i h =
+        cond_both (nat_lt 4 (item_size i.1)) (long_bytes o (place plan (Placed d i.0))) (item_bytes plan o filler i.1
+        ++ replicate (4 - item_size i.1) filler) AreBytes
         (λ _. bytes_spelling o 4 (place plan (Placed d i.0)))
-        (λ _. bytes_append (item_bytes plan o filler i.1) (replicate (4 - item_size i.1) filler) (item_is (role d i.0) i.1 h) (bytes_same (4 - item_size i.1) filler fill))
+        (λ _. bytes_append (item_bytes plan o filler i.1) (replicate (4 - item_size i.1) filler) (item_is (role d i.0) i.1 h)
+        (bytes_same (4 - item_size i.1) filler fill))
 
     entry_is : (i : ℕ × Item) → Suited i → AreBytes (entry_bytes plan o filler d i)
     unfolding entry_bytes
@@ -119,7 +130,8 @@ module _ (plan : Plan) (o : Order) (filler : ℕ) (fill : filler < 256) where
   next_is : (m : Meaning) (d : Dir) → AreBytes (next_bytes plan o filler m d)
   next_is m Main = main_next m.thumb
     where
-      main_next : (t : Option Thumbnail) → AreBytes (elim t as (λ _. List ℕ) [ Some t ↦ long_bytes o (place plan (Table Thumb)) | None ↦ long_bytes o 0 ])
+      main_next : (t : Option Thumbnail) → AreBytes
+          (elim t as (λ _. List ℕ) [ Some t ↦ long_bytes o (place plan (Table Thumb)) | None ↦ long_bytes o 0 ])
       main_next (Some t) = bytes_spelling o 4 (place plan (Table Thumb))
       main_next None = bytes_spelling o 4 0
   next_is m Thumb = bytes_spelling o 4 0
@@ -128,11 +140,14 @@ module _ (plan : Plan) (o : Order) (filler : ℕ) (fill : filler < 256) where
   table_is : (m : Meaning) (d : Dir) (xs : List (ℕ × Item)) → AllByRecursion (Suited d) xs → AreBytes (table_bytes plan o filler m d xs)
   unfolding table_bytes
   table_is m d xs h =
-      bytes_append (spelling o 2 (length xs)) (flat_map (entry_bytes plan o filler d) xs ++ next_bytes plan o filler m d) (bytes_spelling o 2 (length xs))
+      bytes_append (spelling o 2 (length xs)) (flat_map (entry_bytes plan o filler d) xs
+      ++ next_bytes plan o filler m d) (bytes_spelling o 2 (length xs))
       (bytes_append (flat_map (entry_bytes plan o filler d) xs) (next_bytes plan o filler m d)
-      (bytes_flat (entry_bytes plan o filler d) xs (each_map (Suited d) (λ i. AreBytes (entry_bytes plan o filler d i)) (entry_is d) xs h)) (next_is m d))
+      (bytes_flat (entry_bytes plan o filler d) xs (each_map (Suited d) (λ i. AreBytes (entry_bytes plan o filler d i)) (entry_is d) xs h))
+      (next_is m d))
 
-  dir_is : (m : Meaning) (d : Dir) (x : Option (List (ℕ × Item))) → IfSome x (Good d) → AllByRecursion OfBytes (contents_of_dir plan o filler m d x)
+  dir_is : (m : Meaning) (d : Dir) (x : Option (List (ℕ × Item))) → IfSome x (Good d)
+      → AllByRecursion OfBytes (contents_of_dir plan o filler m d x)
   dir_is m d None g = tt
   dir_is m d (Some xs) g = (table_is m d xs g.suit, placed_is d xs g.suit)
 
@@ -143,28 +158,38 @@ module _ (plan : Plan) (o : Order) (filler : ℕ) (fill : filler < 256) where
   thumb_is : (t : Option Thumbnail) → IfSome t FitsThumb → AllByRecursion OfBytes (thumb_contents t)
   unfolding thumb_contents
   thumb_is None f = tt
-  thumb_is (Some t) f = each_append OfBytes (jpeg_contents t.jpeg) (all_strip_contents t.strips) (jpeg t.jpeg f.jpeg) (strips t.strips f.strips)
+  thumb_is (Some t) f =
+      each_append OfBytes (jpeg_contents t.jpeg) (all_strip_contents t.strips) (jpeg t.jpeg f.jpeg) (strips t.strips f.strips)
     where
       jpeg : (j : Option (List ℕ)) → IfSome j IsBytes → AllByRecursion OfBytes (jpeg_contents j)
       jpeg None h = tt
       jpeg (Some x) h = (h.each, tt)
 
-      strips : (s : Option (List (List ℕ))) → IfSome s (λ s. (length s ≤ limit) × AllByRecursion IsBytes s) → AllByRecursion OfBytes (all_strip_contents s)
+      strips : (s : Option (List (List ℕ))) → IfSome s (λ s. (length s ≤ limit) × AllByRecursion IsBytes s)
+          → AllByRecursion OfBytes (all_strip_contents s)
       strips None h = tt
       strips (Some s) h = strips_are 0 s h.1
 
   -- each chunk is made of bytes
   pub contents_are : (m : Meaning) → Fits m → AllByRecursion OfBytes (contents plan o filler m)
   unfolding contents
-  contents_are m f = each_append OfBytes (flat_map (λ d. contents_of_dir plan o filler m d (items m d)) dirs) (thumb_contents m.thumb) (each_dir dirs) (thumb_is m.thumb f.thumb)
+  contents_are m f =
+      each_append OfBytes (flat_map (λ d. contents_of_dir plan o filler m d (items m d)) dirs) (thumb_contents m.thumb) (each_dir dirs)
+      (thumb_is m.thumb f.thumb)
     where
       each_dir : (ds : List Dir) → AllByRecursion OfBytes (flat_map (λ d. contents_of_dir plan o filler m d (items m d)) ds)
       each_dir [] = tt
-      each_dir (d ∷ ds) = each_append OfBytes (contents_of_dir plan o filler m d (items m d)) (flat_map (λ d. contents_of_dir plan o filler m d (items m d)) ds) (dir_is m d (items m d) (good_items m f d)) (each_dir ds)
+      each_dir (d ∷ ds) =
+          each_append OfBytes (contents_of_dir plan o filler m d (items m d))
+          (flat_map (λ d. contents_of_dir plan o filler m d (items m d)) ds) (dir_is m d (items m d) (good_items m f d)) (each_dir ds)
 
   magic_is : (p : Order) → AreBytes (magic p)
-  magic_is Least = bytes_cons 0x49 (0x49 ∷ 0x2A ∷ 0 ∷ []) (omega arith) (bytes_cons 0x49 (0x2A ∷ 0 ∷ []) (omega arith) (bytes_cons 0x2A (0 ∷ []) (omega arith) (bytes_cons 0 [] (omega arith) bytes_none)))
-  magic_is Most = bytes_cons 0x4D (0x4D ∷ 0 ∷ 0x2A ∷ []) (omega arith) (bytes_cons 0x4D (0 ∷ 0x2A ∷ []) (omega arith) (bytes_cons 0 (0x2A ∷ []) (omega arith) (bytes_cons 0x2A [] (omega arith) bytes_none)))
+  magic_is Least =
+      bytes_cons 0x49 (0x49 ∷ 0x2A ∷ 0 ∷ []) (omega arith) (bytes_cons 0x49 (0x2A ∷ 0 ∷ []) (omega arith)
+      (bytes_cons 0x2A (0 ∷ []) (omega arith) (bytes_cons 0 [] (omega arith) bytes_none)))
+  magic_is Most =
+      bytes_cons 0x4D (0x4D ∷ 0 ∷ 0x2A ∷ []) (omega arith) (bytes_cons 0x4D (0 ∷ 0x2A ∷ []) (omega arith)
+      (bytes_cons 0 (0x2A ∷ []) (omega arith) (bytes_cons 0x2A [] (omega arith) bytes_none)))
 
   pub header_is : AreBytes (header plan o filler)
   unfolding header
@@ -176,9 +201,13 @@ module _ (plan : Plan) (o : Order) (filler : ℕ) (fill : filler < 256) where
 
   byte_is : (ys : List (ℕ × List ℕ)) (p : ℕ) → AllByRecursion (λ y. AreBytes y.1) ys → byte_at filler ys p < 256
   byte_is [] p h = fill
-  byte_is (y ∷ ys) p h = cond_both (nat_le y.0 p && nat_lt p (y.0 + length y.1)) (slice_index y.1 (p - y.0)) (byte_at filler ys p) (λ n. n < 256) (λ _. h.0 (p - y.0)) (λ _. byte_is ys p h.1)
+  byte_is (y ∷ ys) p h =
+      cond_both (nat_le y.0 p && nat_lt p (y.0 + length y.1)) (slice_index y.1 (p - y.0)) (byte_at filler ys p) (λ n. n < 256)
+      (λ _. h.0 (p - y.0)) (λ _. byte_is ys p h.1)
 
 -- A laid block is made of bytes.
 pub laid_is_bytes : LaidIsBytes
 unfolding laid
-laid_is_bytes m plan o filler fill f = bytes_map (byte_at filler (laid_pieces plan o filler m)) (λ p. byte_is plan o filler fill (laid_pieces plan o filler m) p (pieces_are plan o filler fill m f)) (range_with_len 0 plan.length)
+laid_is_bytes m plan o filler fill f =
+    bytes_map (byte_at filler (laid_pieces plan o filler m)) (λ p. byte_is plan o filler fill (laid_pieces plan o filler m) p
+    (pieces_are plan o filler fill m f)) (range_with_len 0 plan.length)

@@ -41,13 +41,17 @@ cost i = 12 + (if nat_lt 4 (item_size i.1) then even (item_size i.1) else 0)
 
 -- a value of at most twice the bytes costs at most twice as much
 pub widens : (i : ℕ × Item) (e : Entry) → item_size i.1 ≤ 2 * raw_size e → cost i ≤ 2 * weight e
-widens i e h = cond_both (nat_lt 4 (item_size i.1)) (even (item_size i.1)) 0 (λ n. 12 + n ≤ 2 * weight e) (λ _. long (item_size i.1) (raw_size e) h) (λ _. none (apart_size (raw_size e)))
+widens i e h =
+    cond_both (nat_lt 4 (item_size i.1)) (even (item_size i.1)) 0 (λ n. 12 + n ≤ 2 * weight e) (λ _. long (item_size i.1) (raw_size e) h)
+    (λ _. none (apart_size (raw_size e)))
   where
     none : (w : ℕ) → 12 + 0 ≤ 2 * (12 + w)
     none w = omega arith
 
     long : (k s : ℕ) → k ≤ 2 * s → 12 + even k ≤ 2 * (12 + apart_size s)
-    long k s h = let n = even_near k in cond_both (nat_lt 4 s) s 0 (λ w. 12 + even k ≤ 2 * (12 + w)) (λ _. omega arith) (λ f. let l = ltb-false 4 s f in omega arith)
+    long k s h =
+        let n = even_near k in cond_both (nat_lt 4 s) s 0 (λ w. 12 + even k ≤ 2 * (12 + w)) (λ _. omega arith)
+        (λ f. let l = ltb-false 4 s f in omega arith)
 
 -- ---- all entries
 
@@ -73,22 +77,27 @@ pays_above k t c [] h p = absurd p
 pays_above k t c (e ∷ es) h p = elim p [ inl q ↦ (let l = h.0 in let s = q.0 in omega arith) | inr q ↦ pays_above k t c es h.1 q ]
 
 -- the first entry pays for no tag above its own
-pay_later : (e : Entry) (es : List Entry) (xs : List (ℕ × Item)) → AllByRecursion (λ u. e.tag < u) (map (λ i. i.0) xs) → PayEach (e ∷ es) xs → PayEach es xs
+pay_later : (e : Entry) (es : List Entry) (xs : List (ℕ × Item)) → AllByRecursion (λ u. e.tag < u) (map (λ i. i.0) xs)
+    → PayEach (e ∷ es) xs → PayEach es xs
 pay_later e es [] h p = tt
-pay_later e es (x ∷ xs) h p = (elim p.0 [ inl q ↦ absurd (let l = h.0 in let s = q.0 in omega arith) | inr q ↦ q ], pay_later e es xs h.1 p.1)
+pay_later e es (x ∷ xs) h p =
+    (elim p.0 [ inl q ↦ absurd (let l = h.0 in let s = q.0 in omega arith) | inr q ↦ q ], pay_later e es xs h.1 p.1)
 
 -- As tags rise, no entry pays twice.
-pub pay_all : (xs : List (ℕ × Item)) (es : List Entry) → Rising (map (λ i. i.0) xs) → Rising (map (λ e. e.tag) es) → PayEach es xs → costs xs ≤ 2 * weights es
+pub pay_all : (xs : List (ℕ × Item)) (es : List Entry) → Rising (map (λ i. i.0) xs) → Rising (map (λ e. e.tag) es) → PayEach es xs
+    → costs xs ≤ 2 * weights es
 pay_all [] es r s p = omega arith
 pay_all (x ∷ xs) [] r s p = absurd p.0
 pay_all (x ∷ xs) (e ∷ es) r s p = elim p.0 [
   | inl q ↦
-      let above : AllByRecursion (λ u. e.tag < u) (map (λ i. i.0) xs) = each_map (λ u. x.0 < u) (λ u. e.tag < u) (λ u l. let t = q.0 in omega arith) (map (λ i. i.0) xs) r.0 in
+      let above : AllByRecursion (λ u. e.tag < u) (map (λ i. i.0) xs) =
+      each_map (λ u. x.0 < u) (λ u. e.tag < u) (λ u l. let t = q.0 in omega arith) (map (λ i. i.0) xs) r.0 in
       let rest : costs xs ≤ 2 * weights es = pay_all xs es r.1 s.1 (pay_later e es xs above p.1) in
       let c = q.1 in omega arith
   | inr q ↦
       let k : e.tag < x.0 = pays_above e.tag x.0 (cost x) es s.0 q in
-      let above : AllByRecursion (λ u. e.tag < u) (map (λ i. i.0) xs) = each_map (λ u. x.0 < u) (λ u. e.tag < u) (λ u l. omega arith) (map (λ i. i.0) xs) r.0 in
+      let above : AllByRecursion (λ u. e.tag < u) (map (λ i. i.0) xs) =
+      each_map (λ u. x.0 < u) (λ u. e.tag < u) (λ u l. omega arith) (map (λ i. i.0) xs) r.0 in
       let rest : costs (x ∷ xs) ≤ 2 * weights es = pay_all (x ∷ xs) es r s.1 (q, pay_later e es xs above p.1) in
       omega arith
 ]
@@ -96,7 +105,8 @@ pay_all (x ∷ xs) (e ∷ es) r s p = elim p.0 [
 -- ---- which entry pays
 
 -- one that is found
-pub pays_found : (t c : ℕ) (test : Entry → Bool) (es : List Entry) (e : Entry) → find test es ≡ Some e → e.tag ≡ t → c ≤ 2 * weight e → Pays t c es
+pub pays_found : (t c : ℕ) (test : Entry → Bool) (es : List Entry) (e : Entry) → find test es ≡ Some e → e.tag ≡ t → c ≤ 2 * weight e
+    → Pays t c es
 pays_found t c test [] e r l k = cc
 pays_found t c test (y ∷ es) e r l k = elim (cases_Bool (test y)) [
   | inl q ↦ let s : Some y ≡ Some e = sym (cond-true (test y) (Some y) (find test es) q) ∙ r in
@@ -106,7 +116,8 @@ pays_found t c test (y ∷ es) e r l k = elim (cases_Bool (test y)) [
 ]
 
 -- what holds of each holds of one that is found, and so does the test
-pub found_is : (P : Entry → Type 0) (test : Entry → Bool) (es : List Entry) (e : Entry) → AllByRecursion P es → find test es ≡ Some e → P e × (test e ≡ true)
+pub found_is : (P : Entry → Type 0) (test : Entry → Bool) (es : List Entry) (e : Entry) → AllByRecursion P es → find test es ≡ Some e
+    → P e × (test e ≡ true)
 found_is P test [] e h r = cc
 found_is P test (y ∷ es) e h r = elim (cases_Bool (test y)) [
   | inl q ↦ let s : Some y ≡ Some e = sym (cond-true (test y) (Some y) (find test es) q) ∙ r in
@@ -116,15 +127,19 @@ found_is P test (y ∷ es) e h r = elim (cases_Bool (test y)) [
 ]
 
 -- one that makes a field
-pub pay_fields : (val : Entry → Option Value) (es : List Entry) → AllByRecursion (λ e. (v : Value) → val e ≡ Some v → cost (e.tag, Field v) ≤ 2 * weight e) es →
+pub pay_fields : (val : Entry → Option Value) (es : List Entry)
+    → AllByRecursion (λ e. (v : Value) → val e ≡ Some v → cost (e.tag, Field v) ≤ 2 * weight e) es →
     PayEach es (field_items (filter_map (λ e. option_map (λ v. (e.tag, v)) (val e)) es))
 pay_fields val [] h = tt
-pay_fields val (e ∷ es) h = go (val e) refl (each_map (λ i. Pays i.0 (cost i) es) (λ i. Pays i.0 (cost i) (e ∷ es)) (λ i p. inr p) (field_items rest) (pay_fields val es h.1))
+pay_fields val (e ∷ es) h =
+    go (val e) refl (each_map (λ i. Pays i.0 (cost i) es) (λ i. Pays i.0 (cost i) (e ∷ es)) (λ i p. inr p) (field_items rest)
+    (pay_fields val es h.1))
   where
     rest : List (ℕ × Value)
     rest = filter_map (λ e. option_map (λ v. (e.tag, v)) (val e)) es
 
-    go : (x : Option Value) → val e ≡ x → PayEach (e ∷ es) (field_items rest) → PayEach (e ∷ es) (field_items (cons_option (option_map (λ v. (e.tag, v)) x) rest))
+    go : (x : Option Value) → val e ≡ x → PayEach (e ∷ es) (field_items rest)
+        → PayEach (e ∷ es) (field_items (cons_option (option_map (λ v. (e.tag, v)) x) rest))
     go None q k = k
     go (Some v) q k = (inl (refl, h.0 v q), k)
 
@@ -137,7 +152,8 @@ padded_placed d (i ∷ xs) =
     let rest : List (Chunk × ℕ) = filter_map (placed_chunk d) xs in
     let s : ℕ = item_size i.1 in
     let e : 12 * length xs + padded_size rest ≡ costs xs = padded_placed d xs in
-    elim (nat_lt 4 s) as (λ t. 12 * suc (length xs) + padded_size (cons_option (if t then Some (Placed d i.0, s) else None) rest) ≡ 12 + (if t then even s else 0) + costs xs) [
+    elim (nat_lt 4 s) as (λ t. 12 * suc (length xs) + padded_size (cons_option (if t then Some (Placed d i.0, s) else None)
+    rest) ≡ 12 + (if t then even s else 0) + costs xs) [
       | true ↦ omega arith
       | false ↦ omega arith
     ]
@@ -149,7 +165,8 @@ total_placed o (e ∷ es) =
     let rest : List Range = filter_map (placed_range o) es in
     let s : ℕ = raw_size e in
     let k : 12 * length es + total rest ≡ weights es = total_placed o es in
-    elim (nat_lt 4 s) as (λ t. 12 * suc (length es) + total (cons_option (if t then Some (range (offset o e) s) else None) rest) ≡ 12 + (if t then s else 0) + weights es) [
+    elim (nat_lt 4 s) as (λ t. 12 * suc (length es) + total (cons_option (if t then Some (range (offset o e) s) else None) rest) ≡ 12 + (if
+    t then s else 0) + weights es) [
       | true ↦ omega arith
       | false ↦ omega arith
     ]

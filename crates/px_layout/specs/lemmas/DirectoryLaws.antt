@@ -22,7 +22,8 @@ use Rattle.px_layout.specs.lemmas.SizeLaws.{length_table, length_entries, twelve
 use Rattle.px_layout.specs.lemmas.ItemLaws.{Suits, item_field, IsHere, entry_of, entry_is}
 use Rattle.px_layout.specs.lemmas.ReadLaws.{field_is, entry_in_order}
 
-pub filter_map-each : {X Y Z : Type 0} (g : Y → Option Z) (f : X → Y) (h : X → Option Z) (xs : List X) → AllByRecursion (λ x. g (f x) ≡ h x) xs → filter_map g (map f xs) ≡ filter_map h xs
+pub filter_map-each : {X Y Z : Type 0} (g : Y → Option Z) (f : X → Y) (h : X → Option Z) (xs : List X)
+    → AllByRecursion (λ x. g (f x) ≡ h x) xs → filter_map g (map f xs) ≡ filter_map h xs
 filter_map-each g f h [] e = refl
 filter_map-each g f h (x ∷ xs) e = ap₂ cons_option e.0 (filter_map-each g f h xs e.1)
 
@@ -48,11 +49,15 @@ module _ (plan : Plan) (o : Order) (filler : ℕ) (b : List ℕ) (m : Meaning) (
 
   first_2 : take 2 bytes ≡ spelling o 2 (length xs)
   unfolding bytes table_bytes
-  first_2 = take_at (spelling o 2 (length xs)) (flat_map (entry_bytes plan o filler d) xs ++ next_bytes plan o filler m d) 2 (length-spelling o 2 (length xs))
+  first_2 =
+      take_at (spelling o 2 (length xs)) (flat_map (entry_bytes plan o filler d) xs
+      ++ next_bytes plan o filler m d) 2 (length-spelling o 2 (length xs))
 
   after_2 : drop 2 bytes ≡ flat_map (entry_bytes plan o filler d) xs ++ next_bytes plan o filler m d
   unfolding bytes table_bytes
-  after_2 = drop_at (spelling o 2 (length xs)) (flat_map (entry_bytes plan o filler d) xs ++ next_bytes plan o filler m d) 2 (length-spelling o 2 (length xs))
+  after_2 =
+      drop_at (spelling o 2 (length xs)) (flat_map (entry_bytes plan o filler d) xs
+      ++ next_bytes plan o filler m d) 2 (length-spelling o 2 (length xs))
 
   count_of : short o (take 2 bytes) ≡ length xs
   count_of = ap (number o 2) first_2 ∙ number-spelling o 2 (length xs) few
@@ -62,7 +67,8 @@ module _ (plan : Plan) (o : Order) (filler : ℕ) (b : List ℕ) (m : Meaning) (
   stands = t.is
 
   pub count_is : short o (part b at 2) ≡ length xs
-  count_is = ap (number o 2) (sym (take-take 2 (length bytes) (drop at b) (let l = length_bytes in omega arith)) ∙ ap (take 2) stands) ∙ count_of
+  count_is =
+      ap (number o 2) (sym (take-take 2 (length bytes) (drop at b) (let l = length_bytes in omega arith)) ∙ ap (take 2) stands) ∙ count_of
 
   pub has_table_is : has_table b o at ≡ true
   unfolding has_table bytes
@@ -82,20 +88,27 @@ module _ (plan : Plan) (o : Order) (filler : ℕ) (b : List ℕ) (m : Meaning) (
   pub entries_are : entries o (table b o at) ≡ map (entry_of plan o filler d) xs
   unfolding entries
   entries_are = ap (λ t. map (entry o) (pieces (short o (take 2 t)) 12 (drop 2 t))) table_is
-      ∙ ap (map (entry o)) (ap₂ (λ n y. pieces n 12 y) count_of after_2 ∙ pieces_joined 12 (entry_bytes plan o filler d) xs (next_bytes plan o filler m d) (twelve plan o filler d xs suit))
+      ∙ ap (map (entry o)) (ap₂ (λ n y. pieces n 12 y) count_of after_2
+      ∙ pieces_joined 12 (entry_bytes plan o filler d) xs (next_bytes plan o filler m d) (twelve plan o filler d xs suit))
       ∙ map-map (entry o) (entry_bytes plan o filler d) xs
-      ∙ map-each (λ i. entry o (entry_bytes plan o filler d i)) (entry_of plan o filler d) xs (each_map (IsHere plan o filler b d) (λ i. entry o (entry_bytes plan o filler d i) ≡ entry_of plan o filler d i) (λ i h. entry_is plan o filler b d i h) xs here)
+      ∙ map-each (λ i. entry o (entry_bytes plan o filler d i)) (entry_of plan o filler d) xs
+      (each_map (IsHere plan o filler b d) (λ i. entry o (entry_bytes plan o filler d i) ≡ entry_of plan o filler d i)
+      (λ i h. entry_is plan o filler b d i h) xs here)
 
   pub next_is : next o (table b o at) ≡ long o (next_bytes plan o filler m d)
   unfolding next
   next_is = ap (λ t. long o (drop (2 + 12 * short o (take 2 t)) t)) table_is
-      ∙ ap (number o 4) (ap (λ n. drop (2 + 12 * n) bytes) count_of ∙ sym (drop-drop (12 * length xs) 2 bytes) ∙ ap (drop (12 * length xs)) after_2
-      ∙ drop_at (flat_map (entry_bytes plan o filler d) xs) (next_bytes plan o filler m d) (12 * length xs) (let e = length_entries plan o filler d xs suit in omega arith))
+      ∙ ap (number o 4) (ap (λ n. drop (2 + 12 * n) bytes) count_of ∙ sym (drop-drop (12 * length xs) 2 bytes)
+      ∙ ap (drop (12 * length xs)) after_2
+      ∙ drop_at (flat_map (entry_bytes plan o filler d) xs) (next_bytes plan o filler m d) (12 * length xs)
+      (let e = length_entries plan o filler d xs suit in omega arith))
 
   pub fields_are : fields b o d at ≡ filter_map item_field xs
   unfolding fields
   fields_are = ap (filter_map (field b o d)) entries_are
-      ∙ filter_map-each (field b o d) (entry_of plan o filler d) item_field xs (each_map (IsHere plan o filler b d) (λ i. field b o d (entry_of plan o filler d i) ≡ item_field i) (λ i h. field_is plan o filler b d i h) xs here)
+      ∙ filter_map-each (field b o d) (entry_of plan o filler d) item_field xs
+      (each_map (IsHere plan o filler b d) (λ i. field b o d (entry_of plan o filler d i) ≡ item_field i)
+      (λ i h. field_is plan o filler b d i h) xs here)
 
   tags : map (λ (e : Entry). e.tag) (map (entry_of plan o filler d) xs) ≡ map (λ i. i.0) xs
   unfolding entry_of
@@ -105,5 +118,7 @@ module _ (plan : Plan) (o : Order) (filler : ℕ) (b : List ℕ) (m : Meaning) (
   directory_stands r = record {
     there = has_table_is;
     rising = subst (λ es. Rising (map (λ e. e.tag) es)) (sym entries_are) (subst Rising (sym tags) r);
-    each = subst (AllByRecursion (IsEntry b o d)) (sym entries_are) (each_along (IsEntry b o d) (entry_of plan o filler d) xs (each_map (IsHere plan o filler b d) (λ i. IsEntry b o d (entry_of plan o filler d i)) (λ i h. entry_in_order plan o filler b d i h) xs here));
+    each = subst (AllByRecursion (IsEntry b o d)) (sym entries_are) (each_along (IsEntry b o d) (entry_of plan o filler d) xs
+        (each_map (IsHere plan o filler b d) (λ i. IsEntry b o d (entry_of plan o filler d i))
+        (λ i h. entry_in_order plan o filler b d i h) xs here));
   }

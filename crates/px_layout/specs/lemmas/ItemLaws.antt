@@ -82,12 +82,15 @@ module _ (plan : Plan) (o : Order) (filler : ℕ) where
   length-item (To d) (Link e) h = length-spelling o 4 (place plan (chunk.Table e))
   length-item JpegOffset AtJpeg h = length-spelling o 4 (place plan chunk.Jpeg)
   length-item JpegLength (JpegSize n) h = length-spelling o 4 n
-  length-item StripOffsets (AtStrips n) h = length_joined 4 (λ i. long_bytes o (place plan (chunk.Strip i))) (range_with_len 0 n) (each_four (λ i. place plan (chunk.Strip i)) (range_with_len 0 n)) ∙ ap (λ k. k * 4) (length-range 0 n)
+  length-item StripOffsets (AtStrips n) h =
+      length_joined 4 (λ i. long_bytes o (place plan (chunk.Strip i))) (range_with_len 0 n)
+      (each_four (λ i. place plan (chunk.Strip i)) (range_with_len 0 n)) ∙ ap (λ k. k * 4) (length-range 0 n)
     where
       each_four : (g : ℕ → ℕ) (xs : List ℕ) → AllByRecursion (λ x. length (spelling o 4 (g x)) ≡ 4) xs
       each_four g [] = tt
       each_four g (x ∷ xs) = (length-spelling o 4 (g x), each_four g xs)
-  length-item StripLengths (StripSizes ns) h = length_joined 4 (long_bytes o) ns (each_all (λ n. length (spelling o 4 n) ≡ 4) (λ n. length-spelling o 4 n) ns)
+  length-item StripLengths (StripSizes ns) h =
+      length_joined 4 (long_bytes o) ns (each_all (λ n. length (spelling o 4 n) ≡ 4) (λ n. length-spelling o 4 n) ns)
   length-item _ _ h = absurd h
 
   -- the entry that an item makes
@@ -110,8 +113,10 @@ module _ (plan : Plan) (o : Order) (filler : ℕ) where
     pub length_last : length (last_bytes plan o filler d i) ≡ 4
     unfolding last_bytes
     length_last = elim (cases_Bool (nat_lt 4 (item_size i.1))) [
-      | inl t ↦ ap (λ x. length x) (cond-true (nat_lt 4 (item_size i.1)) (long_bytes o (place plan (Placed d i.0))) (item_bytes plan o filler i.1 ++ replicate (4 - item_size i.1) filler) t) ∙ length-spelling o 4 (place plan (Placed d i.0))
-      | inr n ↦ ap (λ x. length x) (cond-false (nat_lt 4 (item_size i.1)) (long_bytes o (place plan (Placed d i.0))) (item_bytes plan o filler i.1 ++ replicate (4 - item_size i.1) filler) n)
+      | inl t ↦ ap (λ x. length x) (cond-true (nat_lt 4 (item_size i.1)) (long_bytes o (place plan (Placed d i.0)))
+          (item_bytes plan o filler i.1 ++ replicate (4 - item_size i.1) filler) t) ∙ length-spelling o 4 (place plan (Placed d i.0))
+      | inr n ↦ ap (λ x. length x) (cond-false (nat_lt 4 (item_size i.1)) (long_bytes o (place plan (Placed d i.0)))
+          (item_bytes plan o filler i.1 ++ replicate (4 - item_size i.1) filler) n)
           ∙ (let a = length-append (item_bytes plan o filler i.1) (replicate (4 - item_size i.1) filler) in
           let r = length-replicate (4 - item_size i.1) filler in
           let l = length_is in
@@ -122,7 +127,8 @@ module _ (plan : Plan) (o : Order) (filler : ℕ) where
     unfolding entry_bytes
     length_entry = twelve o (last_bytes plan o filler d i) length_last
       where
-        twelve : (o : Order) (x : List ℕ) → length x ≡ 4 → length (spelling o 2 i.0 ++ (spelling o 2 (code (item_form i.1)) ++ (spelling o 4 (item_count i.1) ++ x))) ≡ 12
+        twelve : (o : Order) (x : List ℕ) → length x ≡ 4 → length
+            (spelling o 2 i.0 ++ (spelling o 2 (code (item_form i.1)) ++ (spelling o 4 (item_count i.1) ++ x))) ≡ 12
         twelve Least x e = omega arith
         twelve Most x e = omega arith
 
@@ -133,32 +139,45 @@ module _ (plan : Plan) (o : Order) (filler : ℕ) where
 
     pub entry_is : entry o (entry_bytes plan o filler d i) ≡ entry_of d i
     unfolding entry_bytes entry_of
-    entry_is = entry-spelled o i.0 (code (item_form i.1)) (item_count i.1) (last_bytes plan o filler d i) h.tag (code-lt (item_form i.1)) h.count (length_last d i h.suits)
+    entry_is =
+        entry-spelled o i.0 (code (item_form i.1)) (item_count i.1) (last_bytes plan o filler d i) h.tag (code-lt (item_form i.1)) h.count
+        (length_last d i h.suits)
 
     pub placed_as : is_placed (entry_of d i) ≡ nat_lt 4 (item_size i.1)
     placed_as = ap (nat_lt 4) size_is
 
     pub offset_is : nat_lt 4 (item_size i.1) ≡ true → offset o (entry_of d i) ≡ place plan (Placed d i.0)
     unfolding entry_of last_bytes
-    offset_is t = ap (number o 4) (cond-true (nat_lt 4 (item_size i.1)) (long_bytes o (place plan (Placed d i.0))) (item_bytes plan o filler i.1 ++ replicate (4 - item_size i.1) filler) t) ∙ number-spelling o 4 (place plan (Placed d i.0)) (h.near t)
+    offset_is t =
+        ap (number o 4) (cond-true (nat_lt 4 (item_size i.1)) (long_bytes o (place plan (Placed d i.0)))
+        (item_bytes plan o filler i.1 ++ replicate (4 - item_size i.1) filler) t)
+        ∙ number-spelling o 4 (place plan (Placed d i.0)) (h.near t)
 
     last_is : nat_lt 4 (item_size i.1) ≡ false → (entry_of d i).last ≡ item_bytes plan o filler i.1 ++ replicate (4 - item_size i.1) filler
     unfolding entry_of last_bytes
-    last_is t = cond-false (nat_lt 4 (item_size i.1)) (long_bytes o (place plan (Placed d i.0))) (item_bytes plan o filler i.1 ++ replicate (4 - item_size i.1) filler) t
+    last_is t =
+        cond-false (nat_lt 4 (item_size i.1)) (long_bytes o (place plan (Placed d i.0))) (item_bytes plan o filler i.1
+        ++ replicate (4 - item_size i.1) filler) t
 
     pub raw_is : raw b o (entry_of d i) ≡ item_bytes plan o filler i.1
     unfolding raw
     raw_is = elim (cases_Bool (nat_lt 4 (item_size i.1))) [
-      | inl t ↦ cond-true (is_placed (entry_of d i)) (part b (offset o (entry_of d i)) (raw_size (entry_of d i))) (take (raw_size (entry_of d i)) (entry_of d i).last) (placed_as ∙ t)
+      | inl t ↦ cond-true (is_placed (entry_of d i)) (part b (offset o (entry_of d i)) (raw_size (entry_of d i)))
+          (take (raw_size (entry_of d i)) (entry_of d i).last) (placed_as ∙ t)
           ∙ ap₂ (part b) (offset_is t) (size_is ∙ sym (length_is d i h.suits)) ∙ (h.stands t).is
-      | inr n ↦ cond-false (is_placed (entry_of d i)) (part b (offset o (entry_of d i)) (raw_size (entry_of d i))) (take (raw_size (entry_of d i)) (entry_of d i).last) (placed_as ∙ n)
-          ∙ ap₂ take (size_is ∙ sym (length_is d i h.suits)) (last_is n) ∙ take_at (item_bytes plan o filler i.1) (replicate (4 - item_size i.1) filler) (length (item_bytes plan o filler i.1)) refl
+      | inr n ↦ cond-false (is_placed (entry_of d i)) (part b (offset o (entry_of d i)) (raw_size (entry_of d i)))
+          (take (raw_size (entry_of d i)) (entry_of d i).last) (placed_as ∙ n)
+          ∙ ap₂ take (size_is ∙ sym (length_is d i h.suits)) (last_is n)
+          ∙ take_at (item_bytes plan o filler i.1) (replicate (4 - item_size i.1) filler) (length (item_bytes plan o filler i.1)) refl
     ]
 
     pub has_raw_is : has_raw b o (entry_of d i) ≡ true
     unfolding has_raw
     has_raw_is = elim (cases_Bool (nat_lt 4 (item_size i.1))) [
-      | inl t ↦ cond-true (is_placed (entry_of d i)) (nat_le (offset o (entry_of d i) + raw_size (entry_of d i)) (length b)) true (placed_as ∙ t)
-          ∙ le-leb _ _ (let a = offset_is t in let s = size_is in let l = (length_is d i h.suits) in let k = (h.stands t).inside in omega arith)
-      | inr n ↦ cond-false (is_placed (entry_of d i)) (nat_le (offset o (entry_of d i) + raw_size (entry_of d i)) (length b)) true (placed_as ∙ n)
+      | inl t ↦ cond-true (is_placed (entry_of d i)) (nat_le (offset o (entry_of d i) + raw_size (entry_of d i)) (length b)) true
+          (placed_as ∙ t)
+          ∙ le-leb _ _ (let a = offset_is t in let s = size_is in let l = (length_is d i h.suits) in let k = (h.stands t).inside in omega
+          arith)
+      | inr n ↦ cond-false (is_placed (entry_of d i)) (nat_le (offset o (entry_of d i) + raw_size (entry_of d i)) (length b)) true
+          (placed_as ∙ n)
     ]

@@ -57,7 +57,9 @@ module _ (m : Meaning) (plan : Plan) (o : Order) (filler : ℕ) (f : Fits m) (l 
   -- ---- each directory is in order
 
   stands_dir : (d : Dir) (xs : List (ℕ × Item)) → items m d ≡ Some xs → IsDirectory b o d (at_plan d)
-  stands_dir d xs is = directory_stands plan o filler b m d xs (items_here m plan o filler f l d xs is) (some_items m plan o filler f l d xs is) (few m plan o filler f l d xs is) (table_here m plan o filler f l d xs is) (good_dir m plan o filler f l d xs is).rising
+  stands_dir d xs is =
+      directory_stands plan o filler b m d xs (items_here m plan o filler f l d xs is) (some_items m plan o filler f l d xs is)
+      (few m plan o filler f l d xs is) (table_here m plan o filler f l d xs is) (good_dir m plan o filler f l d xs is).rising
 
   in_order : (d : Dir) (x : Option (List (ℕ × Item))) → items m d ≡ x → IfSome (dir_at b o d) (IsDirectory b o d)
   in_order d None is = subst (λ a. IfSome a (IsDirectory b o d)) (sym (not_there d is)) tt
@@ -65,13 +67,16 @@ module _ (m : Meaning) (plan : Plan) (o : Order) (filler : ℕ) (f : Fits m) (l 
 
   -- ---- the footprint of each directory
 
-  placed_one : (d : Dir) (i : ℕ × Item) → IsHere plan o filler b d i → placed_range o (entry_of plan o filler d i) ≡ option_map (chunk_range plan) (placed_chunk d i)
+  placed_one : (d : Dir) (i : ℕ × Item) → IsHere plan o filler b d i
+      → placed_range o (entry_of plan o filler d i) ≡ option_map (chunk_range plan) (placed_chunk d i)
   unfolding placed_range placed_chunk
   placed_one d i h = elim (cases_Bool (nat_lt 4 (item_size i.1))) [
-    | inl t ↦ cond-true (is_placed (entry_of plan o filler d i)) (Some (range (offset o (entry_of plan o filler d i)) (raw_size (entry_of plan o filler d i)))) None (placed_as plan o filler b d i h ∙ t)
+    | inl t ↦ cond-true (is_placed (entry_of plan o filler d i)) (Some (range (offset o (entry_of plan o filler d i))
+        (raw_size (entry_of plan o filler d i)))) None (placed_as plan o filler b d i h ∙ t)
         ∙ ap₂ (λ x n. Some (range x n)) (offset_is plan o filler b d i h t) (size_is plan o filler b d i h)
         ∙ sym (ap (option_map (chunk_range plan)) (cond-true (nat_lt 4 (item_size i.1)) (Some (Placed d i.0, item_size i.1)) None t))
-    | inr n ↦ cond-false (is_placed (entry_of plan o filler d i)) (Some (range (offset o (entry_of plan o filler d i)) (raw_size (entry_of plan o filler d i)))) None (placed_as plan o filler b d i h ∙ n)
+    | inr n ↦ cond-false (is_placed (entry_of plan o filler d i)) (Some (range (offset o (entry_of plan o filler d i))
+        (raw_size (entry_of plan o filler d i)))) None (placed_as plan o filler b d i h ∙ n)
         ∙ sym (ap (option_map (chunk_range plan)) (cond-false (nat_lt 4 (item_size i.1)) (Some (Placed d i.0, item_size i.1)) None n))
   ]
 
@@ -79,17 +84,25 @@ module _ (m : Meaning) (plan : Plan) (o : Order) (filler : ℕ) (f : Fits m) (l 
   same_each g [] = tt
   same_each g (x ∷ xs) = (refl, same_each g xs)
 
-  ranges_dir : (d : Dir) (xs : List (ℕ × Item)) → items m d ≡ Some xs → dir_ranges b o (at_plan d) ≡ map (chunk_range plan) (dir_chunks d xs)
+  ranges_dir : (d : Dir) (xs : List (ℕ × Item)) → items m d ≡ Some xs
+      → dir_ranges b o (at_plan d) ≡ map (chunk_range plan) (dir_chunks d xs)
   unfolding dir_ranges
   ranges_dir d xs is = ap₂ (λ n rs. range (at_plan d) (table_size n) ∷ rs)
-      (count_is plan o filler b m d xs (items_here m plan o filler f l d xs is) (some_items m plan o filler f l d xs is) (few m plan o filler f l d xs is) (table_here m plan o filler f l d xs is))
+      (count_is plan o filler b m d xs (items_here m plan o filler f l d xs is) (some_items m plan o filler f l d xs is)
+      (few m plan o filler f l d xs is) (table_here m plan o filler f l d xs is))
       (ap (filter_map (placed_range o)) (entries_of m plan o filler f l d xs is)
-      ∙ filter_map-each (placed_range o) (entry_of plan o filler d) (λ i. option_map (chunk_range plan) (placed_chunk d i)) xs (each_map (IsHere plan o filler b d) (λ i. placed_range o (entry_of plan o filler d i) ≡ option_map (chunk_range plan) (placed_chunk d i)) (placed_one d) xs (items_here m plan o filler f l d xs is))
-      ∙ sym (filter_map-map (chunk_range plan) (placed_chunk d) (λ i. option_map (chunk_range plan) (placed_chunk d i)) xs (same_each (λ i. option_map (chunk_range plan) (placed_chunk d i)) xs)))
+      ∙ filter_map-each (placed_range o) (entry_of plan o filler d) (λ i. option_map (chunk_range plan) (placed_chunk d i)) xs
+      (each_map (IsHere plan o filler b d) (λ i. placed_range o (entry_of plan o filler d i) ≡ option_map (chunk_range plan)
+      (placed_chunk d i)) (placed_one d) xs (items_here m plan o filler f l d xs is))
+      ∙ sym (filter_map-map (chunk_range plan) (placed_chunk d) (λ i. option_map (chunk_range plan) (placed_chunk d i)) xs
+      (same_each (λ i. option_map (chunk_range plan) (placed_chunk d i)) xs)))
 
-  ranges_opt : (d : Dir) (x : Option (List (ℕ × Item))) → items m d ≡ x → listed (option_map (dir_ranges b o) (dir_at b o d)) ≡ map (chunk_range plan) (chunks_of_dir d (items m d))
-  ranges_opt d None is = ap (λ a. listed (option_map (dir_ranges b o) a)) (not_there d is) ∙ sym (ap (λ x. map (chunk_range plan) (chunks_of_dir d x)) is)
-  ranges_opt d (Some xs) is = ap (λ a. listed (option_map (dir_ranges b o) a)) (there d xs is) ∙ ranges_dir d xs is ∙ sym (ap (λ x. map (chunk_range plan) (chunks_of_dir d x)) is)
+  ranges_opt : (d : Dir) (x : Option (List (ℕ × Item))) → items m d ≡ x
+      → listed (option_map (dir_ranges b o) (dir_at b o d)) ≡ map (chunk_range plan) (chunks_of_dir d (items m d))
+  ranges_opt d None is =
+      ap (λ a. listed (option_map (dir_ranges b o) a)) (not_there d is) ∙ sym (ap (λ x. map (chunk_range plan) (chunks_of_dir d x)) is)
+  ranges_opt d (Some xs) is = ap (λ a. listed (option_map (dir_ranges b o) a)) (there d xs is) ∙ ranges_dir d xs is
+      ∙ sym (ap (λ x. map (chunk_range plan) (chunks_of_dir d x)) is)
 
   -- ---- the thumbnail
 
@@ -113,7 +126,8 @@ module _ (m : Meaning) (plan : Plan) (o : Order) (filler : ℕ) (f : Fits m) (l 
     found u x e = ap (entry_with u) es_are ∙ entry_found plan o filler Thumb u (thumb_items t) ∙ ap (option_map (λ x. of (u, x))) e
 
     here : (u : ℕ) (x : Item) → at_tag u (thumb_items t) ≡ Some x → IsHere plan o filler b Thumb (u, x)
-    here u x e = each_at (IsHere plan o filler b Thumb) u x (thumb_items t) (items_here m plan o filler f l Thumb (thumb_items t) items_are) e
+    here u x e =
+        each_at (IsHere plan o filler b Thumb) u x (thumb_items t) (items_here m plan o filler f l Thumb (thumb_items t) items_are) e
 
     abbrev Here : Chunk × List ℕ → Type 0
     Here c = Stands b (place plan c.0) c.1
@@ -134,26 +148,39 @@ module _ (m : Meaning) (plan : Plan) (o : Order) (filler : ℕ) (f : Fits m) (l 
     -- the JPEG
     jpeg_is : (j : Option (List ℕ)) → t.jpeg ≡ j → jpeg_range o es ≡ option_map (λ x. range (place plan Jpeg) (length x)) j
     unfolding jpeg_range
-    jpeg_is None q = ap₂ (both (λ x n. range (offset o x) (offset o n))) (found jpeg_offset_tag None (at_jpeg t fit ∙ ap (option_map (λ _. AtJpeg)) q)) (found jpeg_length_tag None (at_size t fit ∙ ap (option_map (λ x. JpegSize (length x))) q))
+    jpeg_is None q =
+        ap₂ (both (λ x n. range (offset o x) (offset o n))) (found jpeg_offset_tag None (at_jpeg t fit ∙ ap (option_map (λ _. AtJpeg)) q))
+        (found jpeg_length_tag None (at_size t fit ∙ ap (option_map (λ x. JpegSize (length x))) q))
     jpeg_is (Some x) q =
         let h : AllByRecursion Here ((Jpeg, x) ∷ []) = subst (λ j. AllByRecursion Here (jpeg_contents j)) q jpeg_here in
         let p : place plan Jpeg < 2 ^ 32 = near_chunk (Jpeg, x) h.0 in
         let most : length x ≤ limit = (subst (λ j. IfSome j IsBytes) q fit.jpeg).most in
-        ap₂ (both (λ x n. range (offset o x) (offset o n))) (found jpeg_offset_tag (Some AtJpeg) (at_jpeg t fit ∙ ap (option_map (λ _. AtJpeg)) q)) (found jpeg_length_tag (Some (JpegSize (length x))) (at_size t fit ∙ ap (option_map (λ x. JpegSize (length x))) q))
-        ∙ ap₂ (λ x n. Some (range x n)) (offset_jpeg plan o filler b Thumb jpeg_offset_tag p) (offset_size plan o filler b Thumb jpeg_length_tag (length x) (omega arith))
+        ap₂ (both (λ x n. range (offset o x) (offset o n))) (found jpeg_offset_tag (Some AtJpeg)
+        (at_jpeg t fit ∙ ap (option_map (λ _. AtJpeg)) q)) (found jpeg_length_tag (Some (JpegSize (length x)))
+        (at_size t fit ∙ ap (option_map (λ x. JpegSize (length x))) q))
+        ∙ ap₂ (λ x n. Some (range x n)) (offset_jpeg plan o filler b Thumb jpeg_offset_tag p)
+        (offset_size plan o filler b Thumb jpeg_length_tag (length x) (omega arith))
 
     -- the strips
-    strips_are : (s : Option (List (List ℕ))) → t.strips ≡ s → strip_ranges b o es ≡ option_map (λ s. map (chunk_range plan) (strip_chunks 0 s)) s
+    strips_are : (s : Option (List (List ℕ))) → t.strips ≡ s
+        → strip_ranges b o es ≡ option_map (λ s. map (chunk_range plan) (strip_chunks 0 s)) s
     unfolding strip_ranges
-    strips_are None q = ap₂ (both (λ x n. ranges_of (numbers b o x) (numbers b o n))) (found strip_offsets_tag None (at_strips t fit ∙ ap (option_map (λ s. AtStrips (length s))) q)) (found strip_lengths_tag None (at_lengths t fit ∙ ap (option_map (λ s. StripSizes (map (λ x. length x) s))) q))
+    strips_are None q =
+        ap₂ (both (λ x n. ranges_of (numbers b o x) (numbers b o n))) (found strip_offsets_tag None
+        (at_strips t fit ∙ ap (option_map (λ s. AtStrips (length s))) q)) (found strip_lengths_tag None
+        (at_lengths t fit ∙ ap (option_map (λ s. StripSizes (map (λ x. length x) s))) q))
     strips_are (Some s) q =
         let h : AllByRecursion Here (strip_contents 0 s) = subst (λ s. AllByRecursion Here (all_strip_contents s)) q strips_here in
         let e1 = at_strips t fit ∙ ap (option_map (λ s. AtStrips (length s))) q in
         let e2 = at_lengths t fit ∙ ap (option_map (λ s. StripSizes (map (λ x. length x) s))) q in
-        ap₂ (both (λ x n. ranges_of (numbers b o x) (numbers b o n))) (found strip_offsets_tag (Some (AtStrips (length s))) e1) (found strip_lengths_tag (Some (StripSizes (map (λ x. length x) s))) e2)
+        ap₂ (both (λ x n. ranges_of (numbers b o x) (numbers b o n))) (found strip_offsets_tag (Some (AtStrips (length s))) e1)
+        (found strip_lengths_tag (Some (StripSizes (map (λ x. length x) s))) e2)
         ∙ ap₂ (λ xs ns. Some (ranges_of xs ns))
-        (numbers_at_strips plan o filler b Thumb strip_offsets_tag (length s) (here strip_offsets_tag (AtStrips (length s)) e1) (length-range 0 (length s)) (strips_near plan o filler Here near_chunk 0 s h))
-        (numbers_sizes plan o filler b Thumb strip_lengths_tag (map (λ x. length x) s) (here strip_lengths_tag (StripSizes (map (λ x. length x) s)) e2) (small s (subst (λ s. IfSome s (λ s. (length s ≤ limit) × AllByRecursion IsBytes s)) q fit.strips).1))
+        (numbers_at_strips plan o filler b Thumb strip_offsets_tag (length s) (here strip_offsets_tag (AtStrips (length s)) e1)
+        (length-range 0 (length s)) (strips_near plan o filler Here near_chunk 0 s h))
+        (numbers_sizes plan o filler b Thumb strip_lengths_tag (map (λ x. length x) s)
+        (here strip_lengths_tag (StripSizes (map (λ x. length x) s)) e2)
+        (small s (subst (λ s. IfSome s (λ s. (length s ≤ limit) × AllByRecursion IsBytes s)) q fit.strips).1))
         ∙ ap (λ rs. Some rs) (strip_ranges_are plan 0 s)
       where
         small : (s : List (List ℕ)) → AllByRecursion IsBytes s → AllByRecursion (λ n. n < 2 ^ 32) (map (λ x. length x) s)
@@ -174,28 +201,47 @@ module _ (m : Meaning) (plan : Plan) (o : Order) (filler : ℕ) (f : Fits m) (l 
 
     thumb_is : thumbnail b o (at_plan Thumb) ≡ t
     unfolding thumbnail
-    thumb_is i = record { fields = (fields_of m plan o filler f l Thumb (thumb_items t) items_are ∙ fields_thumb t) i; jpeg = thumb_jpeg t.jpeg refl i; strips = thumb_strips t.strips refl i }
+    thumb_is i =
+        record {
+          fields =
+              (fields_of m plan o filler f l Thumb (thumb_items t) items_are ∙ fields_thumb t) i;
+          jpeg =
+              thumb_jpeg t.jpeg refl i;
+          strips = thumb_strips t.strips refl i;
+        }
 
     ranges_thumb : thumb_ranges b o (at_plan Thumb) ≡ map (chunk_range plan) (jpeg_chunks t.jpeg ++ all_strip_chunks t.strips)
     unfolding thumb_ranges
     ranges_thumb = ap₂ (λ j s. option_to_list j ++ listed s) (jpeg_is t.jpeg refl) (strips_are t.strips refl) ∙ joined t.jpeg t.strips
       where
-        joined : (j : Option (List ℕ)) (s : Option (List (List ℕ))) → option_to_list (option_map (λ x. range (place plan Jpeg) (length x)) j) ++ listed (option_map (λ s. map (chunk_range plan) (strip_chunks 0 s)) s) ≡ map (chunk_range plan) (jpeg_chunks j ++ all_strip_chunks s)
+        joined : (j : Option (List ℕ)) (s : Option (List (List ℕ)))
+            → option_to_list (option_map (λ x. range (place plan Jpeg) (length x)) j)
+            ++ listed (option_map (λ s. map (chunk_range plan) (strip_chunks 0 s)) s) ≡ map (chunk_range plan) (jpeg_chunks j
+            ++ all_strip_chunks s)
         joined None None = refl
         joined None (Some s) = refl
         joined (Some x) None = refl
         joined (Some x) (Some s) = refl
 
-    pairs : {X : Type 0} (u w : ℕ) (g h : X → Item) (x : Option X) → at_tag u (thumb_items t) ≡ option_map g x → at_tag w (thumb_items t) ≡ option_map h x → are_paired (entry_with u es) (entry_with w es) ≡ true
+    pairs : {X : Type 0} (u w : ℕ) (g h : X → Item) (x : Option X) → at_tag u (thumb_items t) ≡ option_map g x
+        → at_tag w (thumb_items t) ≡ option_map h x → are_paired (entry_with u es) (entry_with w es) ≡ true
     pairs u w g h None e k = ap₂ are_paired (found u None e) (found w None k)
     pairs u w g h (Some x) e k = ap₂ are_paired (found u (Some (g x)) e) (found w (Some (h x)) k)
 
-    counts : (s : Option (List (List ℕ))) → t.strips ≡ s → option_map (λ (e : Entry). e.count) (entry_with strip_offsets_tag es) ≡ option_map (λ (e : Entry). e.count) (entry_with strip_lengths_tag es)
+    counts : (s : Option (List (List ℕ))) → t.strips ≡ s → option_map (λ (e : Entry). e.count)
+        (entry_with strip_offsets_tag es) ≡ option_map (λ (e : Entry). e.count) (entry_with strip_lengths_tag es)
     unfolding entry_of
-    counts None q = ap (option_map (λ (e : Entry). e.count)) (found strip_offsets_tag None (at_strips t fit ∙ ap (option_map (λ s. AtStrips (length s))) q)) ∙ sym (ap (option_map (λ (e : Entry). e.count)) (found strip_lengths_tag None (at_lengths t fit ∙ ap (option_map (λ s. StripSizes (map (λ x. length x) s))) q)))
-    counts (Some s) q = ap (option_map (λ (e : Entry). e.count)) (found strip_offsets_tag (Some (AtStrips (length s))) (at_strips t fit ∙ ap (option_map (λ s. AtStrips (length s))) q))
+    counts None q =
+        ap (option_map (λ (e : Entry). e.count)) (found strip_offsets_tag None
+        (at_strips t fit ∙ ap (option_map (λ s. AtStrips (length s))) q))
+        ∙ sym (ap (option_map (λ (e : Entry). e.count)) (found strip_lengths_tag None
+        (at_lengths t fit ∙ ap (option_map (λ s. StripSizes (map (λ x. length x) s))) q)))
+    counts (Some s) q =
+        ap (option_map (λ (e : Entry). e.count)) (found strip_offsets_tag (Some (AtStrips (length s)))
+        (at_strips t fit ∙ ap (option_map (λ s. AtStrips (length s))) q))
         ∙ ap (λ n. Some n) (sym (length-map s (λ x. length x)))
-        ∙ sym (ap (option_map (λ (e : Entry). e.count)) (found strip_lengths_tag (Some (StripSizes (map (λ x. length x) s))) (at_lengths t fit ∙ ap (option_map (λ s. StripSizes (map (λ x. length x) s))) q)))
+        ∙ sym (ap (option_map (λ (e : Entry). e.count)) (found strip_lengths_tag (Some (StripSizes (map (λ x. length x) s)))
+        (at_lengths t fit ∙ ap (option_map (λ s. StripSizes (map (λ x. length x) s))) q)))
 
     jpeg_in : (j : Option (List ℕ)) → t.jpeg ≡ j → IfSome (jpeg_range o es) (IsInside b)
     jpeg_in None q = subst (λ r. IfSome r (IsInside b)) (sym (jpeg_is None q)) tt
@@ -213,7 +259,9 @@ module _ (m : Meaning) (plan : Plan) (o : Order) (filler : ℕ) (f : Fits m) (l 
     thumb_ok = record {
       jpeg_pair = pairs jpeg_offset_tag jpeg_length_tag (λ _. AtJpeg) (λ x. JpegSize (length x)) t.jpeg (at_jpeg t fit) (at_size t fit);
       jpeg_inside = jpeg_in t.jpeg refl;
-      strip_pair = pairs strip_offsets_tag strip_lengths_tag (λ s. AtStrips (length s)) (λ s. StripSizes (map (λ x. length x) s)) t.strips (at_strips t fit) (at_lengths t fit);
+      strip_pair =
+          pairs strip_offsets_tag strip_lengths_tag (λ s. AtStrips (length s)) (λ s. StripSizes (map (λ x. length x) s)) t.strips
+          (at_strips t fit) (at_lengths t fit);
       strip_counts = counts t.strips refl;
       strips_inside = strips_in t.strips refl;
       ends = next_of m plan o filler f l Thumb (thumb_items t) items_are ∙ number-spelling o 4 0 (omega arith);
@@ -230,33 +278,47 @@ module _ (m : Meaning) (plan : Plan) (o : Order) (filler : ℕ) (f : Fits m) (l 
   thumb_checked None q = subst (λ a. IfSome a (IsThumbnail b o)) (sym (no_thumb q)) tt
   thumb_checked (Some t) q = subst (λ a. IfSome a (IsThumbnail b o)) (sym (is_thumb t q)) (thumb_ok t q)
 
-  ranges_of_thumb : (x : Option Thumbnail) → m.thumb ≡ x → listed (option_map (thumb_ranges b o) (dir_at b o Thumb)) ≡ map (chunk_range plan) (thumb_chunks x)
+  ranges_of_thumb : (x : Option Thumbnail) → m.thumb ≡ x → listed (option_map (thumb_ranges b o) (dir_at b o Thumb)) ≡ map
+      (chunk_range plan) (thumb_chunks x)
   unfolding thumb_chunks
   ranges_of_thumb None q = ap (λ a. listed (option_map (thumb_ranges b o) a)) (no_thumb q)
   ranges_of_thumb (Some t) q = ap (λ a. listed (option_map (thumb_ranges b o) a)) (is_thumb t q) ∙ ranges_thumb t q
 
-  map-flat : {X Y Z : Type 0} (g : Y → Z) (h : X → List Y) (k : X → List Z) (xs : List X) → AllByRecursion (λ x. k x ≡ map g (h x)) xs → flat_map k xs ≡ map g (flat_map h xs)
+  map-flat : {X Y Z : Type 0} (g : Y → Z) (h : X → List Y) (k : X → List Z) (xs : List X) → AllByRecursion (λ x. k x ≡ map g (h x)) xs
+      → flat_map k xs ≡ map g (flat_map h xs)
   map-flat g h k [] e = refl
   map-flat g h k (x ∷ xs) e = ap₂ (λ a c. a ++ c) e.0 (map-flat g h k xs e.1) ∙ sym (map-append g (h x) (flat_map h xs))
 
   footprint_is : footprint b o ≡ plan_ranges m plan
   unfolding footprint plan_ranges chunks
   footprint_is = ap (λ rs. range 0 8 ∷ rs) (ap₂ (λ a c. a ++ c)
-      (map-flat (chunk_range plan) (λ d. chunks_of_dir d (items m d)) (λ d. listed (option_map (dir_ranges b o) (dir_at b o d))) dirs
-      (ranges_opt Main (items m Main) refl, (ranges_opt Exif (items m Exif) refl, (ranges_opt Interop (items m Interop) refl, (ranges_opt Gps (items m Gps) refl, (ranges_opt Thumb (items m Thumb) refl, tt))))))
-      (ranges_of_thumb m.thumb refl) ∙ sym (map-append (chunk_range plan) (flat_map (λ d. chunks_of_dir d (items m d)) dirs) (thumb_chunks m.thumb)))
+      (map-flat (chunk_range plan) (λ d. chunks_of_dir d (items m d)) (λ d. listed (option_map (dir_ranges b o) (dir_at b o d))) dirs (
+        ranges_opt Main (items m Main) refl,
+        (
+          ranges_opt Exif (items m Exif) refl,
+          (ranges_opt Interop (items m Interop) refl, (ranges_opt Gps (items m Gps) refl, (ranges_opt Thumb (items m Thumb) refl, tt))),
+        ),
+      ))
+      (ranges_of_thumb m.thumb refl) ∙ sym (map-append (chunk_range plan) (flat_map (λ d. chunks_of_dir d (items m d)) dirs)
+      (thumb_chunks m.thumb)))
 
   -- ---- the fields
 
   opt_fields : (d : Dir) (x : Option Fields) → items m d ≡ option_map field_items x → fields_at b o d ≡ x
   opt_fields d None is = ap (option_map (fields b o d)) (not_there d is)
-  opt_fields d (Some fs) is = ap (option_map (fields b o d)) (there d (field_items fs) is) ∙ ap (λ x. Some x) (fields_of m plan o filler f l d (field_items fs) is ∙ fields_back fs)
+  opt_fields d (Some fs) is = ap (option_map (fields b o d)) (there d (field_items fs) is)
+      ∙ ap (λ x. Some x) (fields_of m plan o filler f l d (field_items fs) is ∙ fields_back fs)
 
   exif_of : (x : Option ExifPart) → m.exif ≡ x → option_map (exif_part b o) (dir_at b o Exif) ≡ x
   unfolding items exif_part
   exif_of None q = ap (option_map (exif_part b o)) (not_there Exif (ap (option_map exif_items) q))
   exif_of (Some e) q = ap (option_map (exif_part b o)) (there Exif (exif_items e) (exif_items_are m plan o filler f l e q))
-      ∙ (λ i. Some (record { fields = (fields_of m plan o filler f l Exif (exif_items e) (exif_items_are m plan o filler f l e q) ∙ fields_exif e) i; interop = opt_fields Interop e.interop (interop_items_are m plan o filler f l e q) i }))
+      ∙ (λ i. Some (record {
+        fields = (fields_of m plan o filler f l Exif (exif_items e)
+            (exif_items_are m plan o filler f l e q) ∙ fields_exif e) i;
+        interop =
+            opt_fields Interop e.interop (interop_items_are m plan o filler f l e q) i;
+      }))
 
   gps_of : fields_at b o Gps ≡ m.gps
   unfolding items
@@ -270,18 +332,25 @@ module _ (m : Meaning) (plan : Plan) (o : Order) (filler : ℕ) (f : Fits m) (l 
   record_entry : Option Entry → Option Iim
   record_entry x = option_and_then (λ e. option_and_then (λ f. record_in f (raw b o e)) (form_of e.code)) x
 
-  main_found : (x : Option Item) → at_tag record_tag (main_items m) ≡ x → entry_with record_tag (entries_at b o (at_plan Main)) ≡ option_map (λ x. entry_of plan o filler Main (record_tag, x)) x
-  main_found x e = ap (entry_with record_tag) (entries_of m plan o filler f l Main (main_items m) (main_items_are m plan o filler f l)) ∙ entry_found plan o filler Main record_tag (main_items m) ∙ ap (option_map (λ x. entry_of plan o filler Main (record_tag, x))) e
+  main_found : (x : Option Item) → at_tag record_tag (main_items m) ≡ x
+      → entry_with record_tag (entries_at b o (at_plan Main)) ≡ option_map (λ x. entry_of plan o filler Main (record_tag, x)) x
+  main_found x e = ap (entry_with record_tag) (entries_of m plan o filler f l Main (main_items m) (main_items_are m plan o filler f l))
+      ∙ entry_found plan o filler Main record_tag (main_items m) ∙ ap (option_map (λ x. entry_of plan o filler Main (record_tag, x))) e
 
   main_here : (x : Item) → at_tag record_tag (main_items m) ≡ Some x → IsHere plan o filler b Main (record_tag, x)
-  main_here x e = each_at (IsHere plan o filler b Main) record_tag x (main_items m) (items_here m plan o filler f l Main (main_items m) (main_items_are m plan o filler f l)) e
+  main_here x e =
+      each_at (IsHere plan o filler b Main) record_tag x (main_items m) (items_here m plan o filler f l Main (main_items m)
+      (main_items_are m plan o filler f l)) e
 
-  past_pointers : at_tag record_tag (main_items m) ≡ at_tag record_tag (put_some record_tag (option_map (λ i. Iptc i) m.iptc) (field_items m.main))
+  past_pointers : at_tag record_tag (main_items m) ≡ at_tag record_tag
+      (put_some record_tag (option_map (λ i. Iptc i) m.iptc) (field_items m.main))
   past_pointers =
       let rest = put_some record_tag (option_map (λ i. Iptc i) m.iptc) (field_items m.main) in
-      at_some_other record_tag exif_tag (link Exif m.exif) (put_some gps_tag (link Gps m.gps) rest) (omega arith) ∙ at_some_other record_tag gps_tag (link Gps m.gps) rest (omega arith)
+      at_some_other record_tag exif_tag (link Exif m.exif) (put_some gps_tag (link Gps m.gps) rest) (omega arith)
+      ∙ at_some_other record_tag gps_tag (link Gps m.gps) rest (omega arith)
 
-  record_read : (x : Item) (i : Option Iim) → at_tag record_tag (main_items m) ≡ Some x → record_in (item_form x) (item_bytes plan o filler x) ≡ i → record_entry (entry_with record_tag (entries_at b o (at_plan Main))) ≡ i
+  record_read : (x : Item) (i : Option Iim) → at_tag record_tag (main_items m) ≡ Some x
+      → record_in (item_form x) (item_bytes plan o filler x) ≡ i → record_entry (entry_with record_tag (entries_at b o (at_plan Main))) ≡ i
   unfolding record_entry entry_of
   record_read x i e c = ap record_entry (main_found (Some x) e)
       ∙ ap (option_and_then (λ f. record_in f (raw b o (entry_of plan o filler Main (record_tag, x))))) (form_of-code (item_form x))
@@ -291,7 +360,8 @@ module _ (m : Meaning) (plan : Plan) (o : Order) (filler : ℕ) (f : Fits m) (l 
   unfolding role
   record_role = refl
 
-  plain_record : (x : Option Value) → at_tag record_tag m.main ≡ x → at_tag record_tag (main_items m) ≡ option_map (λ v. Field v) x → record_entry (entry_with record_tag (entries_at b o (at_plan Main))) ≡ None
+  plain_record : (x : Option Value) → at_tag record_tag m.main ≡ x → at_tag record_tag (main_items m) ≡ option_map (λ v. Field v) x
+      → record_entry (entry_with record_tag (entries_at b o (at_plan Main))) ≡ None
   unfolding record_entry item_bytes
   plain_record None q e = ap record_entry (main_found None e)
   plain_record (Some v) q e =
@@ -301,12 +371,17 @@ module _ (m : Meaning) (plan : Plan) (o : Order) (filler : ℕ) (f : Fits m) (l 
 
   record_is : (i : Option Iim) → m.iptc ≡ i → record_entry (entry_with record_tag (entries_at b o (at_plan Main))) ≡ i
   unfolding item_bytes item_size
-  record_is None q = plain_record (at_tag record_tag m.main) refl (past_pointers ∙ ap (λ x. at_tag record_tag (put_some record_tag (option_map (λ i. Iptc i) x) (field_items m.main))) q ∙ at_fields record_tag m.main)
+  record_is None q =
+      plain_record (at_tag record_tag m.main) refl (past_pointers
+      ∙ ap (λ x. at_tag record_tag (put_some record_tag (option_map (λ i. Iptc i) x) (field_items m.main))) q ∙ at_fields record_tag m.main)
   record_is (Some i) q =
-      let e : at_tag record_tag (main_items m) ≡ Some (Iptc i) = past_pointers ∙ ap (λ x. at_tag record_tag (put_some record_tag (option_map (λ i. Iptc i) x) (field_items m.main))) q
-      ∙ at_some_same record_tag (Some (Iptc i)) (field_items m.main) (none (subst (λ x. IfSome x (λ i. AllByRecursion (λ p. (p.0 ≡ record_tag) → ⊥) m.main)) q f.no_second)) in
+      let e : at_tag record_tag (main_items m) ≡ Some (Iptc i) =
+      past_pointers ∙ ap (λ x. at_tag record_tag (put_some record_tag (option_map (λ i. Iptc i) x) (field_items m.main))) q
+      ∙ at_some_same record_tag (Some (Iptc i)) (field_items m.main) (none (subst
+      (λ x. IfSome x (λ i. AllByRecursion (λ p. (p.0 ≡ record_tag) → ⊥) m.main)) q f.no_second)) in
       let l : item_size (Iptc i) ≤ limit = (main_here (Iptc i) e).bounded in
-      record_read (Iptc i) (Some i) e (iim-normal i (subst (λ x. IfSome x (λ i. IsRecord i × (length (normal_iim i) ≤ 2 * limit))) q f.iptc).0 (omega arith))
+      record_read (Iptc i) (Some i) e (iim-normal i (subst (λ x. IfSome x (λ i. IsRecord i × (length (normal_iim i) ≤ 2 * limit))) q
+      f.iptc).0 (omega arith))
     where
       none_in : (fs : Fields) → AllByRecursion (λ p. (p.0 ≡ record_tag) → ⊥) fs → NotThere record_tag (field_items fs)
       none_in [] h = tt
@@ -320,7 +395,8 @@ module _ (m : Meaning) (plan : Plan) (o : Order) (filler : ℕ) (f : Fits m) (l 
   meaning_is : meaning b o ≡ m
   unfolding meaning record_at record_entry
   meaning_is i = record {
-    main = (ap (fields b o Main) (main_place m plan o filler f l) ∙ fields_of m plan o filler f l Main (main_items m) (main_items_are m plan o filler f l) ∙ fields_main m) i;
+    main = (ap (fields b o Main) (main_place m plan o filler f l)
+        ∙ fields_of m plan o filler f l Main (main_items m) (main_items_are m plan o filler f l) ∙ fields_main m) i;
     iptc = (ap (λ a. record_entry (entry_with record_tag (entries_at b o a))) (main_place m plan o filler f l) ∙ record_is m.iptc refl) i;
     exif = exif_of m.exif refl i;
     gps = gps_of i;
@@ -332,11 +408,18 @@ module _ (m : Meaning) (plan : Plan) (o : Order) (filler : ℕ) (f : Fits m) (l 
     least = subst (λ n. 8 ≤ n) (sym (length_block m plan o filler f l)) l.least;
     most = subst (λ n. n ≤ limit) (sym (length_block m plan o filler f l)) l.most;
     begins = begins_is m plan o filler f l;
-    directories = (in_order Main (items m Main) refl, (in_order Exif (items m Exif) refl, (in_order Interop (items m Interop) refl, (in_order Gps (items m Gps) refl, (in_order Thumb (items m Thumb) refl, tt)))));
+    directories = (
+      in_order Main (items m Main) refl,
+      (
+        in_order Exif (items m Exif) refl,
+        (in_order Interop (items m Interop) refl, (in_order Gps (items m Gps) refl, (in_order Thumb (items m Thumb) refl, tt))),
+      ),
+    );
     thumbnail = thumb_checked m.thumb refl;
     apart = subst AllApart (sym footprint_is) l.apart;
   }
 
 -- A legal block of a meaning that fits says it, in either order, with any filler.
 pub legal_says : LegalSays
-legal_says m plan o filler f l = record { order = o; is_block = legal_is_exif m plan o filler f l; says = sym (meaning_is m plan o filler f l) }
+legal_says m plan o filler f l =
+    record { order = o; is_block = legal_is_exif m plan o filler f l; says = sym (meaning_is m plan o filler f l) }

@@ -39,4 +39,7 @@ normal_says s f l =
 
 -- Meanings have one normal form exactly if they are one.
 pub normal_tells : NormalTells
-normal_tells s t f g l k = ((λ e. one_meaning (normal_exif t) s t (subst (λ b. SaysExif b s) e (normal_says s f l)) (normal_says t g k), λ e. ap normal_exif e), normal_says s f l)
+normal_tells s t f g l k = (
+  (λ e. one_meaning (normal_exif t) s t (subst (λ b. SaysExif b s) e (normal_says s f l)) (normal_says t g k), λ e. ap normal_exif e),
+  normal_says s f l,
+)

@@ -38,11 +38,13 @@ count_le Float n = omega arith
 count_le Double n = omega arith
 count_le Utf8 n = omega arith
 
-picked : {Y : Type 0} (P : Y → Type 0) (o : Option Y) (ys : List Y) → AllByRecursion P (cons_option o ys) → ((y : Y) → o ≡ Some y → P y) × AllByRecursion P ys
+picked : {Y : Type 0} (P : Y → Type 0) (o : Option Y) (ys : List Y) → AllByRecursion P (cons_option o ys)
+    → ((y : Y) → o ≡ Some y → P y) × AllByRecursion P ys
 picked P None ys a = (λ y e. cc, a)
 picked P (Some z) ys a = (λ y e. let k : z ≡ y = cc in subst P k a.0, a.1)
 
-each_picked : {X Y : Type 0} (P : Y → Type 0) (h : X → Option Y) (xs : List X) → AllByRecursion P (filter_map h xs) → AllByRecursion (λ x. (y : Y) → h x ≡ Some y → P y) xs
+each_picked : {X Y : Type 0} (P : Y → Type 0) (h : X → Option Y) (xs : List X) → AllByRecursion P (filter_map h xs)
+    → AllByRecursion (λ x. (y : Y) → h x ≡ Some y → P y) xs
 each_picked P h [] a = tt
 each_picked P h (x ∷ xs) a = let q = picked P (h x) (filter_map h xs) a in (q.0, each_picked P h xs q.1)
 
@@ -113,17 +115,20 @@ module _ (m : Meaning) (plan : Plan) (o : Order) (filler : ℕ) (f : Fits m) (l 
     pub table_near : place plan (Table d) < 2 ^ 32
     table_near = let n = near (place plan (Table d)) (table_bytes plan o filler m d xs) table_here in omega arith
 
-    item_here : (i : ℕ × Item) → i.0 < 2 ^ 16 × Suits (role d i.0) i.1 → ((c : Chunk × List ℕ) → placed_content plan o filler d i ≡ Some c → Here c) → IsHere plan o filler block d i
+    item_here : (i : ℕ × Item) → i.0 < 2 ^ 16 × Suits (role d i.0) i.1
+        → ((c : Chunk × List ℕ) → placed_content plan o filler d i ≡ Some c → Here c) → IsHere plan o filler block d i
     unfolding placed_content item_size
     item_here i g h = record {
       tag = g.0;
       suits = g.1;
       count = elim (cases_Bool (nat_lt 4 (item_size i.1))) [
-        | inl t ↦ let n = near (place plan (Placed d i.0)) (item_bytes plan o filler i.1) (stands t) in let s = length_is plan o filler d i g.1 in let c = count_le (item_form i.1) (item_count i.1) in omega arith
+        | inl t ↦ let n = near (place plan (Placed d i.0)) (item_bytes plan o filler i.1) (stands t) in
+            let s = length_is plan o filler d i g.1 in let c = count_le (item_form i.1) (item_count i.1) in omega arith
         | inr t ↦ let k = ltb-false 4 (item_size i.1) t in let c = count_le (item_form i.1) (item_count i.1) in omega arith
       ];
       bounded = elim (cases_Bool (nat_lt 4 (item_size i.1))) [
-        | inl t ↦ let n = (stands t).inside in let b = length_block in let k = l.most in let s = length_is plan o filler d i g.1 in omega arith
+        | inl t ↦ let n =
+            (stands t).inside in let b = length_block in let k = l.most in let s = length_is plan o filler d i g.1 in omega arith
         | inr t ↦ let k = ltb-false 4 (item_size i.1) t in omega arith
       ];
       near = λ t. let n = near (place plan (Placed d i.0)) (item_bytes plan o filler i.1) (stands t) in omega arith;
@@ -131,11 +136,16 @@ module _ (m : Meaning) (plan : Plan) (o : Order) (filler : ℕ) (f : Fits m) (l 
     }
       where
         stands : nat_lt 4 (item_size i.1) ≡ true → Stands block (place plan (Placed d i.0)) (item_bytes plan o filler i.1)
-        stands t = h (Placed d i.0, item_bytes plan o filler i.1) (cond-true (nat_lt 4 (item_size i.1)) (Some (Placed d i.0, item_bytes plan o filler i.1)) None t)
+        stands t =
+            h (Placed d i.0, item_bytes plan o filler i.1) (cond-true (nat_lt 4 (item_size i.1))
+            (Some (Placed d i.0, item_bytes plan o filler i.1)) None t)
 
     pub items_here : AllByRecursion (IsHere plan o filler block d) xs
-    items_here = each_map₂ (λ i. i.0 < 2 ^ 16 × Suits (role d i.0) i.1) (λ i. (c : Chunk × List ℕ) → placed_content plan o filler d i ≡ Some c → Here c) (IsHere plan o filler block d) item_here xs
-        (each_map₂ (λ i. i.0 < 2 ^ 16) (λ i. Suits (role d i.0) i.1) (λ i. i.0 < 2 ^ 16 × Suits (role d i.0) i.1) (λ i a b. (a, b)) xs good_dir.tags good_dir.suit)
+    items_here =
+        each_map₂ (λ i. i.0 < 2 ^ 16 × Suits (role d i.0) i.1) (λ i. (c : Chunk × List ℕ) → placed_content plan o filler d i ≡ Some
+        c → Here c) (IsHere plan o filler block d) item_here xs
+        (each_map₂ (λ i. i.0 < 2 ^ 16) (λ i. Suits (role d i.0) i.1) (λ i. i.0 < 2 ^ 16 × Suits (role d i.0) i.1) (λ i a b. (a, b)) xs
+        good_dir.tags good_dir.suit)
         (each_picked Here (placed_content plan o filler d) xs dir_contents.1)
 
     pub some_items : 1 ≤ length xs

@@ -39,22 +39,27 @@ if_all P (Some x) h = h x refl
 module _ (m : Meaning) (f : Fits m) where
   pub exif_link : at_tag exif_tag (main_items m) ≡ link Exif m.exif
   unfolding role
-  exif_link = at_some_same exif_tag (link Exif m.exif) _ (not_put exif_tag gps_tag (link Gps m.gps) _ (omega arith) (not_put exif_tag record_tag (option_map Iptc m.iptc) _ (omega arith) (no_field Main exif_tag m.main (λ v a. a) f.main.each)))
+  exif_link =
+      at_some_same exif_tag (link Exif m.exif) _ (not_put exif_tag gps_tag (link Gps m.gps) _ (omega arith)
+      (not_put exif_tag record_tag (option_map Iptc m.iptc) _ (omega arith) (no_field Main exif_tag m.main (λ v a. a) f.main.each)))
 
   pub gps_link : at_tag gps_tag (main_items m) ≡ link Gps m.gps
   unfolding role
   gps_link = at_some_other gps_tag exif_tag (link Exif m.exif) _ (omega arith)
-      ∙ at_some_same gps_tag (link Gps m.gps) _ (not_put gps_tag record_tag (option_map Iptc m.iptc) _ (omega arith) (no_field Main gps_tag m.main (λ v a. a) f.main.each))
+      ∙ at_some_same gps_tag (link Gps m.gps) _ (not_put gps_tag record_tag (option_map Iptc m.iptc) _ (omega arith)
+      (no_field Main gps_tag m.main (λ v a. a) f.main.each))
 
 pub interop_link : (e : ExifPart) → AllByRecursion (FitsField Exif) e.fields → at_tag interop_tag (exif_items e) ≡ link Interop e.interop
 unfolding role
 interop_link e h = at_some_same interop_tag (link Interop e.interop) _ (no_field Exif interop_tag e.fields (λ v a. a) h)
 
-link_near : {X Y : Type 0} (d : Dir) (o : Option X) (g : X → Y) (N : Type 0) → IfSome (option_map g o) (λ _. N) → (x : Item) → link d o ≡ Some x → N
+link_near : {X Y : Type 0} (d : Dir) (o : Option X) (g : X → Y) (N : Type 0) → IfSome (option_map g o) (λ _. N) → (x : Item)
+    → link d o ≡ Some x → N
 link_near d None g N h x e = cc
 link_near d (Some y) g N h x e = h
 
-link_place : {X Y : Type 0} (d : Dir) (o : Option X) (g : X → Y) (n : ℕ) → option_map (λ _. n) (link d o) ≡ option_map (λ _. n) (option_map g o)
+link_place : {X Y : Type 0} (d : Dir) (o : Option X) (g : X → Y) (n : ℕ)
+    → option_map (λ _. n) (link d o) ≡ option_map (λ _. n) (option_map g o)
 link_place d None g n = refl
 link_place d (Some y) g n = refl
 
@@ -81,7 +86,8 @@ module _ (m : Meaning) (plan : Plan) (o : Order) (filler : ℕ) (f : Fits m) (l 
 
   pub main_place : long o (part b 4 4) ≡ place plan (Table Main)
   unfolding header
-  main_place = ap (number o 4) (sym (drop-take 4 4 b) ∙ ap (drop 4) header_is ∙ rest o) ∙ number-spelling o 4 (place plan (Table Main)) (table_near m plan o filler f l Main (main_items m) main_items_are)
+  main_place = ap (number o 4) (sym (drop-take 4 4 b) ∙ ap (drop 4) header_is ∙ rest o)
+      ∙ number-spelling o 4 (place plan (Table Main)) (table_near m plan o filler f l Main (main_items m) main_items_are)
     where
       rest : (p : Order) → drop 4 (magic p ++ spelling p 4 (place plan (Table Main))) ≡ spelling p 4 (place plan (Table Main))
       rest Least = refl
@@ -91,13 +97,19 @@ module _ (m : Meaning) (plan : Plan) (o : Order) (filler : ℕ) (f : Fits m) (l 
 
   module _ (d : Dir) (xs : List (ℕ × Item)) (is : items m d ≡ Some xs) where
     pub entries_of : entries_at b o (place plan (Table d)) ≡ map (entry_of plan o filler d) xs
-    entries_of = entries_are plan o filler b m d xs (items_here m plan o filler f l d xs is) (some_items m plan o filler f l d xs is) (few m plan o filler f l d xs is) (table_here m plan o filler f l d xs is)
+    entries_of =
+        entries_are plan o filler b m d xs (items_here m plan o filler f l d xs is) (some_items m plan o filler f l d xs is)
+        (few m plan o filler f l d xs is) (table_here m plan o filler f l d xs is)
 
     pub fields_of : fields b o d (place plan (Table d)) ≡ filter_map item_field xs
-    fields_of = fields_are plan o filler b m d xs (items_here m plan o filler f l d xs is) (some_items m plan o filler f l d xs is) (few m plan o filler f l d xs is) (table_here m plan o filler f l d xs is)
+    fields_of =
+        fields_are plan o filler b m d xs (items_here m plan o filler f l d xs is) (some_items m plan o filler f l d xs is)
+        (few m plan o filler f l d xs is) (table_here m plan o filler f l d xs is)
 
     pub next_of : next o (table b o (place plan (Table d))) ≡ long o (next_bytes plan o filler m d)
-    next_of = next_is plan o filler b m d xs (items_here m plan o filler f l d xs is) (some_items m plan o filler f l d xs is) (few m plan o filler f l d xs is) (table_here m plan o filler f l d xs is)
+    next_of =
+        next_is plan o filler b m d xs (items_here m plan o filler f l d xs is) (some_items m plan o filler f l d xs is)
+        (few m plan o filler f l d xs is) (table_here m plan o filler f l d xs is)
 
   pub main_entries : entries_at b o (long o (part b 4 4)) ≡ map (entry_of plan o filler Main) (main_items m)
   main_entries = ap (entries_at b o) main_place ∙ entries_of Main (main_items m) main_items_are
@@ -113,13 +125,15 @@ module _ (m : Meaning) (plan : Plan) (o : Order) (filler : ℕ) (f : Fits m) (l 
   exif_pointer : pointer o exif_tag (entries_at b o (long o (part b 4 4))) ≡ at_plan Exif
   unfolding items role
   exif_pointer = ap (pointer o exif_tag) main_entries
-      ∙ pointer_found plan o filler Main exif_tag Exif (main_items m) refl (λ x e. link_near Exif m.exif exif_items _ (near_dir Exif) x (sym (exif_link m f) ∙ e)) (good_dir m plan o filler f l Main (main_items m) main_items_are).suit
+      ∙ pointer_found plan o filler Main exif_tag Exif (main_items m) refl (λ x e. link_near Exif m.exif exif_items _ (near_dir Exif) x
+      (sym (exif_link m f) ∙ e)) (good_dir m plan o filler f l Main (main_items m) main_items_are).suit
       ∙ ap (option_map (λ _. place plan (Table Exif))) (exif_link m f) ∙ link_place Exif m.exif exif_items (place plan (Table Exif))
 
   gps_pointer : pointer o gps_tag (entries_at b o (long o (part b 4 4))) ≡ at_plan Gps
   unfolding items role
   gps_pointer = ap (pointer o gps_tag) main_entries
-      ∙ pointer_found plan o filler Main gps_tag Gps (main_items m) refl (λ x e. link_near Gps m.gps field_items _ (near_dir Gps) x (sym (gps_link m f) ∙ e)) (good_dir m plan o filler f l Main (main_items m) main_items_are).suit
+      ∙ pointer_found plan o filler Main gps_tag Gps (main_items m) refl (λ x e. link_near Gps m.gps field_items _ (near_dir Gps) x
+      (sym (gps_link m f) ∙ e)) (good_dir m plan o filler f l Main (main_items m) main_items_are).suit
       ∙ ap (option_map (λ _. place plan (Table Gps))) (gps_link m f) ∙ link_place Gps m.gps field_items (place plan (Table Gps))
 
   pub exif_items_are : (e : ExifPart) → m.exif ≡ Some e → items m Exif ≡ Some (exif_items e)
@@ -141,14 +155,19 @@ module _ (m : Meaning) (plan : Plan) (o : Order) (filler : ℕ) (f : Fits m) (l 
   pub exif_fits : (e : ExifPart) → m.exif ≡ Some e → FitsExif e
   exif_fits e q = subst (λ x. IfSome x FitsExif) q f.exif
 
-  interop_pointer : (x : Option ExifPart) → m.exif ≡ x → option_and_then (λ a. pointer o interop_tag (entries_at b o a)) (at_plan Exif) ≡ at_plan Interop
+  interop_pointer : (x : Option ExifPart) → m.exif ≡ x → option_and_then (λ a. pointer o interop_tag (entries_at b o a))
+      (at_plan Exif) ≡ at_plan Interop
   unfolding role
-  interop_pointer None q = ap (λ x. option_and_then (λ a. pointer o interop_tag (entries_at b o a)) (option_map (λ _. place plan (Table Exif)) x)) (no_exif q) ∙ sym (ap (option_map (λ _. place plan (Table Interop))) (no_interop q))
+  interop_pointer None q =
+      ap (λ x. option_and_then (λ a. pointer o interop_tag (entries_at b o a)) (option_map (λ _. place plan (Table Exif)) x)) (no_exif q)
+      ∙ sym (ap (option_map (λ _. place plan (Table Interop))) (no_interop q))
   interop_pointer (Some e) q =
-      ap (λ x. option_and_then (λ a. pointer o interop_tag (entries_at b o a)) (option_map (λ _. place plan (Table Exif)) x)) (exif_items_are e q)
+      ap (λ x. option_and_then (λ a. pointer o interop_tag (entries_at b o a)) (option_map (λ _. place plan (Table Exif)) x))
+      (exif_items_are e q)
       ∙ ap (pointer o interop_tag) (entries_of Exif (exif_items e) (exif_items_are e q))
       ∙ pointer_found plan o filler Exif interop_tag Interop (exif_items e) refl
-      (λ x r. link_near Interop e.interop field_items _ (subst (λ z. IfSome z (λ _. place plan (Table Interop) < 2 ^ 32)) (interop_items_are e q) (near_dir Interop)) x (sym link' ∙ r))
+      (λ x r. link_near Interop e.interop field_items _ (subst (λ z. IfSome z (λ _. place plan (Table Interop) < 2 ^ 32))
+      (interop_items_are e q) (near_dir Interop)) x (sym link' ∙ r))
       (good_dir m plan o filler f l Exif (exif_items e) (exif_items_are e q)).suit
       ∙ ap (option_map (λ _. place plan (Table Interop))) link' ∙ link_place Interop e.interop field_items (place plan (Table Interop))
       ∙ sym (ap (option_map (λ _. place plan (Table Interop))) (interop_items_are e q))
@@ -163,8 +182,10 @@ module _ (m : Meaning) (plan : Plan) (o : Order) (filler : ℕ) (f : Fits m) (l 
       let R : Chunk × ℕ → Range = λ c. range (place plan c.0) c.1 in
       let G : Dir → List (Chunk × ℕ) = λ d. chunks_of_dir d (items m d) in
       let all : AllByRecursion (λ c. Apart (range 0 8) (R c)) (chunks m) = each_in_map (Apart (range 0 8)) R (chunks m) l.apart.0 in
-      let of_dirs : AllByRecursion (λ c. Apart (range 0 8) (R c)) (flat_map G dirs) = each_left _ (flat_map G dirs) (thumb_chunks m.thumb) all in
-      let mine : AllByRecursion (λ c. Apart (range 0 8) (R c)) (chunks_of_dir d (Some xs)) = subst (λ x. AllByRecursion (λ c. Apart (range 0 8) (R c)) (chunks_of_dir d x)) is (picked (λ c. Apart (range 0 8) (R c)) G d of_dirs) in
+      let of_dirs : AllByRecursion (λ c. Apart (range 0 8) (R c)) (flat_map G dirs) =
+      each_left _ (flat_map G dirs) (thumb_chunks m.thumb) all in
+      let mine : AllByRecursion (λ c. Apart (range 0 8) (R c)) (chunks_of_dir d (Some xs)) = subst
+      (λ x. AllByRecursion (λ c. Apart (range 0 8) (R c)) (chunks_of_dir d x)) is (picked (λ c. Apart (range 0 8) (R c)) G d of_dirs) in
       mine.0 0 (omega arith, omega arith) (omega arith, omega arith)
     where
       picked : (P : Chunk × ℕ → Type 0) (G : Dir → List (Chunk × ℕ)) (d : Dir) → AllByRecursion P (flat_map G dirs) → AllByRecursion P (G d)
@@ -172,7 +193,9 @@ module _ (m : Meaning) (plan : Plan) (o : Order) (filler : ℕ) (f : Fits m) (l 
       picked P G Exif h = each_left P (G Exif) _ (each_right P (G Main) _ h)
       picked P G Interop h = each_left P (G Interop) _ (each_right P (G Exif) _ (each_right P (G Main) _ h))
       picked P G Gps h = each_left P (G Gps) _ (each_right P (G Interop) _ (each_right P (G Exif) _ (each_right P (G Main) _ h)))
-      picked P G Thumb h = each_left P (G Thumb) [] (each_right P (G Gps) _ (each_right P (G Interop) _ (each_right P (G Exif) _ (each_right P (G Main) _ h))))
+      picked P G Thumb h =
+          each_left P (G Thumb) [] (each_right P (G Gps) _ (each_right P (G Interop) _
+          (each_right P (G Exif) _ (each_right P (G Main) _ h))))
 
   pub thumb_items_are : (t : Thumbnail) → m.thumb ≡ Some t → items m Thumb ≡ Some (thumb_items t)
   unfolding items
@@ -183,11 +206,21 @@ module _ (m : Meaning) (plan : Plan) (o : Order) (filler : ℕ) (f : Fits m) (l 
   no_thumb q = ap (option_map thumb_items) q
 
   next_main : (x : Option Thumbnail) → m.thumb ≡ x → unless_zero (long o (next_bytes plan o filler m Main)) ≡ at_plan Thumb
-  next_main None q = ap (λ x. unless_zero (number o 4 (elim x as (λ _. List ℕ) [ Some t ↦ long_bytes o (place plan (Table Thumb)) | None ↦ long_bytes o 0 ]))) q
+  next_main None q =
+      ap (λ x. unless_zero (number o 4 (elim x as (λ _. List ℕ) [
+        | Some t ↦ long_bytes o (place plan (Table Thumb))
+        | None ↦ long_bytes o 0
+      ]))) q
       ∙ ap unless_zero (number-spelling o 4 0 (omega arith)) ∙ sym (ap (option_map (λ _. place plan (Table Thumb))) (no_thumb q))
-  next_main (Some t) q = ap (λ x. unless_zero (number o 4 (elim x as (λ _. List ℕ) [ Some t ↦ long_bytes o (place plan (Table Thumb)) | None ↦ long_bytes o 0 ]))) q
-      ∙ ap unless_zero (number-spelling o 4 (place plan (Table Thumb)) (table_near m plan o filler f l Thumb (thumb_items t) (thumb_items_are t q)))
-      ∙ cond-false (place plan (Table Thumb) == 0) None (Some (place plan (Table Thumb))) (ne_eqb (place plan (Table Thumb)) 0 (past_header Thumb (thumb_items t) (thumb_items_are t q)))
+  next_main (Some t) q =
+      ap (λ x. unless_zero (number o 4 (elim x as (λ _. List ℕ) [
+        | Some t ↦ long_bytes o (place plan (Table Thumb))
+        | None ↦ long_bytes o 0
+      ]))) q
+      ∙ ap unless_zero (number-spelling o 4 (place plan (Table Thumb)) (table_near m plan o filler f l Thumb (thumb_items t)
+      (thumb_items_are t q)))
+      ∙ cond-false (place plan (Table Thumb) == 0) None (Some (place plan (Table Thumb)))
+      (ne_eqb (place plan (Table Thumb)) 0 (past_header Thumb (thumb_items t) (thumb_items_are t q)))
       ∙ sym (ap (option_map (λ _. place plan (Table Thumb))) (thumb_items_are t q))
 
   -- each directory stands where the plan says, and no other is there
@@ -197,4 +230,5 @@ module _ (m : Meaning) (plan : Plan) (o : Order) (filler : ℕ) (f : Fits m) (l 
   dir_at_plan Exif = exif_pointer
   dir_at_plan Interop = ap (option_and_then (λ a. pointer o interop_tag (entries_at b o a))) exif_pointer ∙ interop_pointer m.exif refl
   dir_at_plan Gps = gps_pointer
-  dir_at_plan Thumb = ap unless_zero (ap (λ a. next o (table b o a)) main_place ∙ next_of Main (main_items m) main_items_are) ∙ next_main m.thumb refl
+  dir_at_plan Thumb =
+      ap unless_zero (ap (λ a. next o (table b o a)) main_place ∙ next_of Main (main_items m) main_items_are) ∙ next_main m.thumb refl

@@ -36,7 +36,8 @@ undefined_spelled o [] h = refl
 undefined_spelled o (element.Byte n ∷ es) h = ap (λ ys. n ∷ ys) (undefined_spelled o es h.1)
 undefined_spelled o (_ ∷ es) h = absurd h.0
 
-pub record_turned : (o : Order) (f : Form) (v : Value) → AllByRecursion (IsOf f) v.elements → record_in f (spelled o v) ≡ record_in f (spelled Least v)
+pub record_turned : (o : Order) (f : Form) (v : Value) → AllByRecursion (IsOf f) v.elements
+    → record_in f (spelled o v) ≡ record_in f (spelled Least v)
 unfolding spelled
 record_turned o Byte v h = ap iim_of (byte_spelled o v.elements h)
 record_turned o Undefined v h = ap iim_of (undefined_spelled o v.elements h)
@@ -47,34 +48,45 @@ long_widened [] h = refl
 long_widened (element.Long n ∷ es) h = ap (λ ys. element.Long n ∷ ys) (long_widened es h.1)
 long_widened (_ ∷ es) h = absurd h.0
 
-widened_of : (f : Form) (es : List Element) → (Of f ≡ Of Short → ⊥) → (Of f ≡ Of Long → ⊥) → widened_value f es ≡ record { kind = Of f; elements = es }
+widened_of : (f : Form) (es : List Element) → (Of f ≡ Of Short → ⊥) → (Of f ≡ Of Long → ⊥)
+    → widened_value f es ≡ record { kind = Of f; elements = es }
 widened_of Short es h k = absurd (h refl)
 widened_of Long es h k = absurd (k refl)
 widened_of _ es h k = refl
 
 module _ (plan : Plan) (o : Order) (filler : ℕ) (b : List ℕ) where
-  elements_are : (v : Value) (e : Entry) → IsValue v → raw b o e ≡ item_bytes plan o filler (Field v) → e.count ≡ length v.elements → entry_elements b o e (form_in v.kind) ≡ v.elements
+  elements_are : (v : Value) (e : Entry) → IsValue v → raw b o e ≡ item_bytes plan o filler (Field v) → e.count ≡ length v.elements
+      → entry_elements b o e (form_in v.kind) ≡ v.elements
   unfolding entry_elements item_bytes
   elements_are v e h r c = ap₂ (elements o (form_in v.kind)) c r ∙ elements-spelled o v h
 
-  plain_is : (k : Kind) (es : List Element) (e : Entry) → (k ≡ Whole → ⊥) → entry_elements b o e (form_in k) ≡ es → value_in b o e Plain (form_in k) ≡ Some (record { kind = k; elements = es })
+  plain_is : (k : Kind) (es : List Element) (e : Entry) → (k ≡ Whole → ⊥) → entry_elements b o e (form_in k) ≡ es
+      → value_in b o e Plain (form_in k) ≡ Some (record { kind = k; elements = es })
   plain_is (Of f) es e n h = ap (λ xs. Some (record { kind = Of f; elements = xs })) h
   plain_is Whole es e n h = absurd (n refl)
 
-  widened_is : (k : Kind) (es : List Element) (e : Entry) → (k ≡ Of Short → ⊥) → (k ≡ Of Long → ⊥) → AllByRecursion (IsOf (form_in k)) es → entry_elements b o e (form_in k) ≡ es → value_in b o e Widened (form_in k) ≡ Some (record { kind = k; elements = es })
+  widened_is : (k : Kind) (es : List Element) (e : Entry) → (k ≡ Of Short → ⊥) → (k ≡ Of Long → ⊥) → AllByRecursion (IsOf (form_in k)) es
+      → entry_elements b o e (form_in k) ≡ es → value_in b o e Widened (form_in k) ≡ Some (record { kind = k; elements = es })
   widened_is (Of f) es e n m v h = ap (λ xs. Some (widened_value f xs)) h ∙ ap (λ x. Some x) (widened_of f es n m)
-  widened_is Whole es e n m v h = ap (λ xs. Some (record { kind = Whole; elements = map widened xs })) h ∙ ap (λ xs. Some (record { kind = Whole; elements = xs })) (long_widened es v)
+  widened_is Whole es e n m v h = ap (λ xs. Some (record { kind = Whole; elements = map widened xs })) h
+      ∙ ap (λ xs. Some (record { kind = Whole; elements = xs })) (long_widened es v)
 
-  record_is : (k : Kind) (es : List Element) (e : Entry) → (k ≡ Whole → ⊥) → record_in (form_in k) (raw b o e) ≡ None → entry_elements b o e (form_in k) ≡ es → value_in b o e Record (form_in k) ≡ Some (record { kind = k; elements = es })
+  record_is : (k : Kind) (es : List Element) (e : Entry) → (k ≡ Whole → ⊥) → record_in (form_in k) (raw b o e) ≡ None
+      → entry_elements b o e (form_in k) ≡ es → value_in b o e Record (form_in k) ≡ Some (record { kind = k; elements = es })
   record_is (Of f) es e n c h = ap₂ (λ i xs. unless_record i (record { kind = Of f; elements = xs })) c h
   record_is Whole es e n c h = absurd (n refl)
 
-  value_is : (r : Role) (x : Item) (e : Entry) → Suits r x → item_size x ≤ limit → raw b o e ≡ item_bytes plan o filler x → e.count ≡ item_count x → value_in b o e r (item_form x) ≡ item_value x
+  value_is : (r : Role) (x : Item) (e : Entry) → Suits r x → item_size x ≤ limit → raw b o e ≡ item_bytes plan o filler x
+      → e.count ≡ item_count x → value_in b o e r (item_form x) ≡ item_value x
   unfolding item_bytes item_size
   value_is Plain (Field v) e h s r c = plain_is v.kind v.elements e h.1 (elements_are v e h.0 r c)
   value_is Widened (Field v) e h s r c = widened_is v.kind v.elements e h.1.0 h.1.1 h.0 (elements_are v e h.0 r c)
-  value_is Record (Field v) e h s r c = record_is v.kind v.elements e h.1.0 (ap (record_in (form_in v.kind)) r ∙ record_turned o (form_in v.kind) v h.0 ∙ h.1.1) (elements_are v e h.0 r c)
-  value_is Record (Iptc i) e h s r c = ap (λ x. unless_record x (record { kind = Of Undefined; elements = entry_elements b o e Undefined })) (ap iim_of r ∙ iim-normal i h (omega arith))
+  value_is Record (Field v) e h s r c =
+      record_is v.kind v.elements e h.1.0 (ap (record_in (form_in v.kind)) r ∙ record_turned o (form_in v.kind) v h.0
+      ∙ h.1.1) (elements_are v e h.0 r c)
+  value_is Record (Iptc i) e h s r c =
+      ap (λ x. unless_record x (record { kind = Of Undefined; elements = entry_elements b o e Undefined })) (ap iim_of r
+      ∙ iim-normal i h (omega arith))
   value_is (To d) (Link e') e h s r c = refl
   value_is JpegOffset AtJpeg e h s r c = refl
   value_is JpegLength (JpegSize n) e h s r c = refl
@@ -108,8 +120,11 @@ module _ (plan : Plan) (o : Order) (filler : ℕ) (b : List ℕ) where
   module _ (d : Dir) (i : ℕ × Item) (h : IsHere plan o filler b d i) where
     pub field_is : field b o d (entry_of plan o filler d i) ≡ item_field i
     unfolding field entry_of
-    field_is = ap (λ f. option_map (λ v. (i.0, v)) (option_and_then (value_in b o (entry_of plan o filler d i) (role d i.0)) f)) (form_of-code (item_form i.1))
-        ∙ ap (option_map (λ v. (i.0, v))) (value_is (role d i.0) i.1 (entry_of plan o filler d i) h.suits h.bounded (raw_is plan o filler b d i h) refl)
+    field_is =
+        ap (λ f. option_map (λ v. (i.0, v)) (option_and_then (value_in b o (entry_of plan o filler d i) (role d i.0)) f))
+        (form_of-code (item_form i.1))
+        ∙ ap (option_map (λ v. (i.0, v))) (value_is (role d i.0) i.1 (entry_of plan o filler d i) h.suits h.bounded
+        (raw_is plan o filler b d i h) refl)
 
     pub entry_in_order : IsEntry b o d (entry_of plan o filler d i)
     unfolding entry_of

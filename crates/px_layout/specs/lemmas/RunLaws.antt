@@ -30,7 +30,8 @@ run_none x (y ∷ ys) c h = cond-false (same_chunk y.0 c) (Some x) (running (x +
 -- behind a list that has it not
 pub run_behind : (x : ℕ) (xs ys : List (Chunk × ℕ)) (c : Chunk) → Without c xs → running x (xs ++ ys) c ≡ running (x + padded_size xs) ys c
 run_behind x [] ys c h = ap (λ n. running n ys c) (omega arith)
-run_behind x (y ∷ xs) ys c h = cond-false (same_chunk y.0 c) (Some x) (running (x + even y.1) (xs ++ ys) c) h.0 ∙ run_behind (x + even y.1) xs ys c h.1 ∙ ap (λ n. running n ys c) (omega arith)
+run_behind x (y ∷ xs) ys c h = cond-false (same_chunk y.0 c) (Some x) (running (x + even y.1) (xs ++ ys) c) h.0
+    ∙ run_behind (x + even y.1) xs ys c h.1 ∙ ap (λ n. running n ys c) (omega arith)
 
 -- before a list that has it not
 pub run_before : (x : ℕ) (xs ys : List (Chunk × ℕ)) (c : Chunk) → Without c ys → running x (xs ++ ys) c ≡ running x xs c
@@ -43,20 +44,24 @@ padded_append (x ∷ xs) ys = let e = padded_append xs ys in omega arith
 
 -- ---- which chunks a part has not
 
-pub without_dir : (c : Chunk) (e : Dir) → same_chunk (Table e) c ≡ false → ((u : ℕ) → same_chunk (Placed e u) c ≡ false) → (y : Option (List (ℕ × Item))) → Without c (chunks_of_dir e y)
+pub without_dir : (c : Chunk) (e : Dir) → same_chunk (Table e) c ≡ false → ((u : ℕ) → same_chunk (Placed e u) c ≡ false)
+    → (y : Option (List (ℕ × Item))) → Without c (chunks_of_dir e y)
 unfolding placed_chunk
 without_dir c e h k None = tt
 without_dir c e h k (Some xs) = (h, go xs)
   where
     go : (xs : List (ℕ × Item)) → Without c (filter_map (placed_chunk e) xs)
     go [] = tt
-    go (i ∷ xs) = cond_both (nat_lt 4 (item_size i.1)) (Some (Placed e i.0, item_size i.1)) None (λ o. Without c (cons_option o (filter_map (placed_chunk e) xs))) (λ _. (k i.0, go xs)) (λ _. go xs)
+    go (i ∷ xs) =
+        cond_both (nat_lt 4 (item_size i.1)) (Some (Placed e i.0, item_size i.1)) None
+        (λ o. Without c (cons_option o (filter_map (placed_chunk e) xs))) (λ _. (k i.0, go xs)) (λ _. go xs)
 
 without_strips : (c : Chunk) → ((i : ℕ) → same_chunk (Strip i) c ≡ false) → (n : ℕ) (s : List (List ℕ)) → Without c (strip_chunks n s)
 without_strips c k n [] = tt
 without_strips c k n (x ∷ s) = (k n, without_strips c k (n + 1) s)
 
-pub without_all_strips : (c : Chunk) → ((i : ℕ) → same_chunk (Strip i) c ≡ false) → (s : Option (List (List ℕ))) → Without c (all_strip_chunks s)
+pub without_all_strips : (c : Chunk) → ((i : ℕ) → same_chunk (Strip i) c ≡ false) → (s : Option (List (List ℕ)))
+    → Without c (all_strip_chunks s)
 without_all_strips c k None = tt
 without_all_strips c k (Some s) = without_strips c k 0 s
 
@@ -64,10 +69,13 @@ pub without_jpeg : (c : Chunk) → same_chunk Jpeg c ≡ false → (j : Option (
 without_jpeg c h None = tt
 without_jpeg c h (Some x) = (h, tt)
 
-pub without_thumb : (c : Chunk) → same_chunk Jpeg c ≡ false → ((i : ℕ) → same_chunk (Strip i) c ≡ false) → (t : Option Thumbnail) → Without c (thumb_chunks t)
+pub without_thumb : (c : Chunk) → same_chunk Jpeg c ≡ false → ((i : ℕ) → same_chunk (Strip i) c ≡ false) → (t : Option Thumbnail)
+    → Without c (thumb_chunks t)
 unfolding thumb_chunks
 without_thumb c h k None = tt
-without_thumb c h k (Some t) = each_append (λ (y : Chunk × ℕ). same_chunk y.0 c ≡ false) (jpeg_chunks t.jpeg) (all_strip_chunks t.strips) (without_jpeg c h t.jpeg) (without_all_strips c k t.strips)
+without_thumb c h k (Some t) =
+    each_append (λ (y : Chunk × ℕ). same_chunk y.0 c ≡ false) (jpeg_chunks t.jpeg) (all_strip_chunks t.strips) (without_jpeg c h t.jpeg)
+    (without_all_strips c k t.strips)
 
 -- a chunk that no other directory has, and that the thumbnail's bytes are not
 pub record IsOf (d : Dir) (c : Chunk) : Type 0 where
@@ -120,14 +128,18 @@ module _ (m : Meaning) where
 
   -- a directory's chunk stands where its directory has it
   in_dir : (d : Dir) (c : Chunk) → IsOf d c → running 8 (lines dirs) c ≡ running (start m d) (dir_line m d) c
-  in_dir Main c h = run_before 8 (dir_line m Main) (lines (Exif ∷ Interop ∷ Gps ∷ Thumb ∷ [])) c (others Main c h (Exif ∷ Interop ∷ Gps ∷ Thumb ∷ []) (refl, (refl, (refl, (refl, tt)))))
+  in_dir Main c h =
+      run_before 8 (dir_line m Main) (lines (Exif ∷ Interop ∷ Gps ∷ Thumb ∷ [])) c
+      (others Main c h (Exif ∷ Interop ∷ Gps ∷ Thumb ∷ []) (refl, (refl, (refl, (refl, tt)))))
   in_dir Exif c h =
       run_behind 8 (dir_line m Main) (lines (Exif ∷ Interop ∷ Gps ∷ Thumb ∷ [])) c (other Exif c h Main refl)
-      ∙ run_before (start m Exif) (dir_line m Exif) (lines (Interop ∷ Gps ∷ Thumb ∷ [])) c (others Exif c h (Interop ∷ Gps ∷ Thumb ∷ []) (refl, (refl, (refl, tt))))
+      ∙ run_before (start m Exif) (dir_line m Exif) (lines (Interop ∷ Gps ∷ Thumb ∷ [])) c
+      (others Exif c h (Interop ∷ Gps ∷ Thumb ∷ []) (refl, (refl, (refl, tt))))
   in_dir Interop c h =
       run_behind 8 (dir_line m Main) (lines (Exif ∷ Interop ∷ Gps ∷ Thumb ∷ [])) c (other Interop c h Main refl)
       ∙ run_behind (start m Exif) (dir_line m Exif) (lines (Interop ∷ Gps ∷ Thumb ∷ [])) c (other Interop c h Exif refl)
-      ∙ run_before (start m Interop) (dir_line m Interop) (lines (Gps ∷ Thumb ∷ [])) c (others Interop c h (Gps ∷ Thumb ∷ []) (refl, (refl, tt)))
+      ∙ run_before (start m Interop) (dir_line m Interop) (lines (Gps ∷ Thumb ∷ [])) c
+      (others Interop c h (Gps ∷ Thumb ∷ []) (refl, (refl, tt)))
   in_dir Gps c h =
       run_behind 8 (dir_line m Main) (lines (Exif ∷ Interop ∷ Gps ∷ Thumb ∷ [])) c (other Gps c h Main refl)
       ∙ run_behind (start m Exif) (dir_line m Exif) (lines (Interop ∷ Gps ∷ Thumb ∷ [])) c (other Gps c h Exif refl)
@@ -157,14 +169,19 @@ module _ (m : Meaning) where
   unfolding chunks
   all_end = let a = padded_append (lines dirs) (thumb_chunks m.thumb) in let b = lines_end in omega arith
 
-  no_dirs : (c : Chunk) → ((e : Dir) → same_chunk (Table e) c ≡ false) → ((e : Dir) (u : ℕ) → same_chunk (Placed e u) c ≡ false) → (ds : List Dir) → Without c (lines ds)
+  no_dirs : (c : Chunk) → ((e : Dir) → same_chunk (Table e) c ≡ false) → ((e : Dir) (u : ℕ) → same_chunk (Placed e u) c ≡ false)
+      → (ds : List Dir) → Without c (lines ds)
   no_dirs c h k [] = tt
-  no_dirs c h k (e ∷ ds) = each_append (λ (y : Chunk × ℕ). same_chunk y.0 c ≡ false) (dir_line m e) (lines ds) (without_dir c e (h e) (k e) (items m e)) (no_dirs c h k ds)
+  no_dirs c h k (e ∷ ds) =
+      each_append (λ (y : Chunk × ℕ). same_chunk y.0 c ≡ false) (dir_line m e) (lines ds) (without_dir c e (h e) (k e) (items m e))
+      (no_dirs c h k ds)
 
   -- the thumbnail's bytes stand behind all directories
-  pub thumb_found : (c : Chunk) → ((e : Dir) → same_chunk (Table e) c ≡ false) → ((e : Dir) (u : ℕ) → same_chunk (Placed e u) c ≡ false) → running 8 (chunks m) c ≡ running (thumb_start m) (thumb_chunks m.thumb) c
+  pub thumb_found : (c : Chunk) → ((e : Dir) → same_chunk (Table e) c ≡ false) → ((e : Dir) (u : ℕ) → same_chunk (Placed e u) c ≡ false)
+      → running 8 (chunks m) c ≡ running (thumb_start m) (thumb_chunks m.thumb) c
   unfolding chunks
-  thumb_found c h k = run_behind 8 (lines dirs) (thumb_chunks m.thumb) c (no_dirs c h k dirs) ∙ ap (λ n. running n (thumb_chunks m.thumb) c) lines_end
+  thumb_found c h k =
+      run_behind 8 (lines dirs) (thumb_chunks m.thumb) c (no_dirs c h k dirs) ∙ ap (λ n. running n (thumb_chunks m.thumb) c) lines_end
 
 -- ---- the values of a directory
 
@@ -183,7 +200,8 @@ values_padded d (x ∷ xs) =
     let rest : List (Chunk × ℕ) = filter_map (placed_chunk d) xs in
     let s : ℕ = item_size x.1 in
     let e : padded_size rest ≡ values_size xs = values_padded d xs in
-    elim (nat_lt 4 s) as (λ t. padded_size (cons_option (if t then Some (Placed d x.0, s) else None) rest) ≡ (if t then even s else 0) + values_size xs) [
+    elim (nat_lt 4 s) as (λ t. padded_size (cons_option (if t then Some (Placed d x.0, s) else None) rest) ≡ (if t then even s else
+    0) + values_size xs) [
       | true ↦ omega arith
       | false ↦ omega arith
     ]
@@ -195,13 +213,15 @@ values_split (x ∷ xs) zero = omega arith
 values_split (x ∷ xs) (suc i) = let e = values_split xs i in omega arith
 
 -- what holds of each tag holds of one that is read
-tag_at : (P : ℕ → Type 0) (xs : List (ℕ × Item)) (i : ℕ) (x : ℕ × Item) → AllByRecursion P (map (λ i. i.0) xs) → slice_get xs i ≡ Some x → P x.0
+tag_at : (P : ℕ → Type 0) (xs : List (ℕ × Item)) (i : ℕ) (x : ℕ × Item) → AllByRecursion P (map (λ i. i.0) xs) → slice_get xs i ≡ Some x
+    → P x.0
 tag_at P [] i x h e = cc
 tag_at P (y ∷ xs) zero x h e = let q : y ≡ x = cc in subst (λ (z : ℕ × Item). P z.0) q h.0
 tag_at P (y ∷ xs) (suc i) x h e = tag_at P xs i x h.1 e
 
 -- an entry's value stands behind the values of the entries before it
-value_behind : (d : Dir) (b : ℕ) (xs : List (ℕ × Item)) (i : ℕ) (x : ℕ × Item) → Rising (map (λ i. i.0) xs) → slice_get xs i ≡ Some x → 4 < item_size x.1 →
+value_behind : (d : Dir) (b : ℕ) (xs : List (ℕ × Item)) (i : ℕ) (x : ℕ × Item) → Rising (map (λ i. i.0) xs) → slice_get xs i ≡ Some x
+    → 4 < item_size x.1 →
     running b (filter_map (placed_chunk d) xs) (Placed d x.0) ≡ Some (b + padded_size (filter_map (placed_chunk d) (take i xs)))
 unfolding placed_chunk
 value_behind d b [] i x r e l = cc
@@ -209,20 +229,26 @@ value_behind d b (y ∷ xs) zero x r e l =
     let q : x ≡ y = cc in
     let rest : List (Chunk × ℕ) = filter_map (placed_chunk d) xs in
     subst (λ (z : ℕ × Item). running b (filter_map (placed_chunk d) (y ∷ xs)) (Placed d z.0) ≡ Some (b + 0)) (sym q)
-    (ap (λ (o : Option (Chunk × ℕ)). running b (cons_option o rest) (Placed d y.0)) (cond-true (nat_lt 4 (item_size y.1)) (Some (Placed d y.0, item_size y.1)) None (lt-ltb 4 (item_size y.1) (let s = ap (λ (z : ℕ × Item). item_size z.1) q in omega arith)))
-    ∙ cond-true (same_chunk (Placed d y.0) (Placed d y.0)) (Some b) (running (b + even (item_size y.1)) rest (Placed d y.0)) (same_chunk-self (Placed d y.0))
+    (ap (λ (o : Option (Chunk × ℕ)). running b (cons_option o rest) (Placed d y.0))
+    (cond-true (nat_lt 4 (item_size y.1)) (Some (Placed d y.0, item_size y.1)) None
+    (lt-ltb 4 (item_size y.1) (let s = ap (λ (z : ℕ × Item). item_size z.1) q in omega arith)))
+    ∙ cond-true (same_chunk (Placed d y.0) (Placed d y.0)) (Some b) (running (b + even (item_size y.1)) rest (Placed d y.0))
+    (same_chunk-self (Placed d y.0))
     ∙ ap (λ (n : ℕ). Some n) (omega arith))
 value_behind d b (y ∷ xs) (suc i) x r e l =
     let rest : List (Chunk × ℕ) = filter_map (placed_chunk d) xs in
     let before : List (Chunk × ℕ) = filter_map (placed_chunk d) (take i xs) in
     let k : y.0 < x.0 = tag_at (λ u. y.0 < u) xs i x r.0 e in
-    cond_both (nat_lt 4 (item_size y.1)) (Some (Placed d y.0, item_size y.1)) None (λ o. running b (cons_option o rest) (Placed d x.0) ≡ Some (b + padded_size (cons_option o before)))
-    (λ _. cond-false (same_chunk (Placed d y.0) (Placed d x.0)) (Some b) (running (b + even (item_size y.1)) rest (Placed d x.0)) (other_chunk (Placed d y.0) (Placed d x.0) (omega arith))
+    cond_both (nat_lt 4 (item_size y.1)) (Some (Placed d y.0, item_size y.1)) None
+    (λ o. running b (cons_option o rest) (Placed d x.0) ≡ Some (b + padded_size (cons_option o before)))
+    (λ _. cond-false (same_chunk (Placed d y.0) (Placed d x.0)) (Some b) (running (b + even (item_size y.1)) rest (Placed d x.0))
+    (other_chunk (Placed d y.0) (Placed d x.0) (omega arith))
     ∙ value_behind d (b + even (item_size y.1)) xs i x r.1 e l ∙ ap (λ (n : ℕ). Some n) (omega arith))
     (λ _. value_behind d b xs i x r.1 e l)
 
 -- the same, by what the values from that entry on take
-pub value_at : (d : Dir) (b at : ℕ) (xs : List (ℕ × Item)) (i : ℕ) (x : ℕ × Item) → Rising (map (λ i. i.0) xs) → slice_get xs i ≡ Some x → 4 < item_size x.1 →
+pub value_at : (d : Dir) (b at : ℕ) (xs : List (ℕ × Item)) (i : ℕ) (x : ℕ × Item) → Rising (map (λ i. i.0) xs) → slice_get xs i ≡ Some x
+    → 4 < item_size x.1 →
     at + values_size (drop i xs) ≡ b + values_size xs → running b (filter_map (placed_chunk d) xs) (Placed d x.0) ≡ Some at
 value_at d b at xs i x r e l h =
     let s = values_split xs i in
@@ -231,14 +257,17 @@ value_at d b at xs i x r e l h =
 
 -- ---- the strips
 
-pub strip_at : (b n i : ℕ) (s : List (List ℕ)) → i < length s → running b (strip_chunks n s) (Strip (n + i)) ≡ Some (b + padded_size (strip_chunks n (take i s)))
+pub strip_at : (b n i : ℕ) (s : List (List ℕ)) → i < length s
+    → running b (strip_chunks n s) (Strip (n + i)) ≡ Some (b + padded_size (strip_chunks n (take i s)))
 strip_at b n i [] l = absurd (omega arith)
 strip_at b n zero (x ∷ s) l =
-    cond-true (n == n + 0) (Some b) (running (b + even (length x)) (strip_chunks (n + 1) s) (Strip (n + 0))) (subst (λ (k : ℕ). (n == k) ≡ true) (omega arith) (same_chunk-self (Strip n)))
+    cond-true (n == n + 0) (Some b) (running (b + even (length x)) (strip_chunks (n + 1) s) (Strip (n + 0)))
+    (subst (λ (k : ℕ). (n == k) ≡ true) (omega arith) (same_chunk-self (Strip n)))
     ∙ ap (λ (k : ℕ). Some k) (omega arith)
 strip_at b n (suc i) (x ∷ s) l =
     let e : n + suc i ≡ n + 1 + i = omega arith in
-    cond-false (n == n + suc i) (Some b) (running (b + even (length x)) (strip_chunks (n + 1) s) (Strip (n + suc i))) (other_chunk (Strip n) (Strip (n + suc i)) (omega arith))
+    cond-false (n == n + suc i) (Some b) (running (b + even (length x)) (strip_chunks (n + 1) s) (Strip (n + suc i)))
+    (other_chunk (Strip n) (Strip (n + suc i)) (omega arith))
     ∙ ap (λ (k : ℕ). running (b + even (length x)) (strip_chunks (n + 1) s) (Strip k)) e
     ∙ strip_at (b + even (length x)) (n + 1) i s (omega arith)
     ∙ ap (λ (k : ℕ). Some k) (omega arith)
@@ -277,15 +306,18 @@ unfolding normal_plan
 table_place m d xs e =
     ap (λ o. unwrap_or o 0) (dir_found m d (Table d) (table_of d)
     ∙ ap (λ y. running (start m d) (chunks_of_dir d y) (Table d)) e
-    ∙ cond-true (same_chunk (Table d) (Table d)) (Some (start m d)) (running (start m d + even (table_size (length xs))) (filter_map (placed_chunk d) xs) (Table d)) (same_chunk-self (Table d)))
+    ∙ cond-true (same_chunk (Table d) (Table d)) (Some (start m d)) (running (start m d + even (table_size (length xs)))
+    (filter_map (placed_chunk d) xs) (Table d)) (same_chunk-self (Table d)))
 
 -- the table of a directory that isn't there has no place
 pub no_table_place : (m : Meaning) (d : Dir) → items m d ≡ None → place (normal_plan m) (Table d) ≡ 0
 unfolding normal_plan
-no_table_place m d e = ap (λ o. unwrap_or o 0) (dir_found m d (Table d) (table_of d) ∙ ap (λ y. running (start m d) (chunks_of_dir d y) (Table d)) e)
+no_table_place m d e =
+    ap (λ o. unwrap_or o 0) (dir_found m d (Table d) (table_of d) ∙ ap (λ y. running (start m d) (chunks_of_dir d y) (Table d)) e)
 
 -- a value stands behind its table and the values of the entries before it
-pub value_place : (m : Meaning) (d : Dir) (xs : List (ℕ × Item)) (i at : ℕ) (x : ℕ × Item) → items m d ≡ Some xs → Rising (map (λ i. i.0) xs) → slice_get xs i ≡ Some x → 4 < item_size x.1 →
+pub value_place : (m : Meaning) (d : Dir) (xs : List (ℕ × Item)) (i at : ℕ) (x : ℕ × Item) → items m d ≡ Some xs
+    → Rising (map (λ i. i.0) xs) → slice_get xs i ≡ Some x → 4 < item_size x.1 →
     at + values_size (drop i xs) ≡ start m d + even (table_size (length xs)) + values_size xs → place (normal_plan m) (Placed d x.0) ≡ at
 unfolding normal_plan
 value_place m d xs i at x e r g l h =
@@ -294,14 +326,17 @@ value_place m d xs i at x e r g l h =
     ∙ value_at d (start m d + even (table_size (length xs))) at xs i x r g l h)
 
 -- the JPEG stands behind all directories
-pub jpeg_place : (m : Meaning) (t : Thumbnail) (x : List ℕ) → m.thumb ≡ Some t → t.jpeg ≡ Some x → place (normal_plan m) Jpeg ≡ thumb_start m
+pub jpeg_place : (m : Meaning) (t : Thumbnail) (x : List ℕ) → m.thumb ≡ Some t → t.jpeg ≡ Some x
+    → place (normal_plan m) Jpeg ≡ thumb_start m
 unfolding normal_plan
 jpeg_place m t x e f =
     ap (λ o. unwrap_or o 0) (thumb_found m Jpeg (λ d. refl) (λ d u. refl)
-    ∙ ap (λ y. running (thumb_start m) y Jpeg) (thumb_parts m.thumb ∙ ap (λ y. jpeg_part y ++ strips_part y) e ∙ ap (λ y. jpeg_chunks y ++ all_strip_chunks t.strips) f))
+    ∙ ap (λ y. running (thumb_start m) y Jpeg) (thumb_parts m.thumb ∙ ap (λ y. jpeg_part y ++ strips_part y) e
+    ∙ ap (λ y. jpeg_chunks y ++ all_strip_chunks t.strips) f))
 
 -- a strip stands behind the JPEG and the strips before it
-pub strip_place : (m : Meaning) (t : Thumbnail) (s : List (List ℕ)) (i : ℕ) → m.thumb ≡ Some t → t.strips ≡ Some s → i < length s → place (normal_plan m) (Strip i) ≡ strips_start m + padded_size (strip_chunks 0 (take i s))
+pub strip_place : (m : Meaning) (t : Thumbnail) (s : List (List ℕ)) (i : ℕ) → m.thumb ≡ Some t → t.strips ≡ Some s → i < length s
+    → place (normal_plan m) (Strip i) ≡ strips_start m + padded_size (strip_chunks 0 (take i s))
 unfolding normal_plan
 strip_place m t s i e f l =
     let k : i ≡ 0 + i = omega arith in

@@ -27,7 +27,8 @@ use Rattle.px_layout.specs.lemmas.StandLaws.{Stands, piece_range, each_stands}
 use Rattle.px_layout.specs.lemmas.ItemLaws.{Suits, length_is, length_entry}
 use Rattle.px_layout.specs.lemmas.EntryLaws.{Good, good_items}
 
-pub filter_map-map : {X Y Z : Type 0} (g : Y → Z) (h : X → Option Y) (k : X → Option Z) (xs : List X) → AllByRecursion (λ x. option_map g (h x) ≡ k x) xs → map g (filter_map h xs) ≡ filter_map k xs
+pub filter_map-map : {X Y Z : Type 0} (g : Y → Z) (h : X → Option Y) (k : X → Option Z) (xs : List X)
+    → AllByRecursion (λ x. option_map g (h x) ≡ k x) xs → map g (filter_map h xs) ≡ filter_map k xs
 filter_map-map g h k [] e = refl
 filter_map-map g h k (x ∷ xs) e = moved (h x) (filter_map h xs) ∙ ap₂ cons_option e.0 (filter_map-map g h k xs e.1)
   where
@@ -35,7 +36,8 @@ filter_map-map g h k (x ∷ xs) e = moved (h x) (filter_map h xs) ∙ ap₂ cons
     moved None ys = refl
     moved (Some y) ys = refl
 
-map-flat_map : {X Y Z : Type 0} (g : Y → Z) (f : X → List Y) (k : X → List Z) (xs : List X) → AllByRecursion (λ x. map g (f x) ≡ k x) xs → map g (flat_map f xs) ≡ flat_map k xs
+map-flat_map : {X Y Z : Type 0} (g : Y → Z) (f : X → List Y) (k : X → List Z) (xs : List X) → AllByRecursion (λ x. map g (f x) ≡ k x) xs
+    → map g (flat_map f xs) ≡ flat_map k xs
 map-flat_map g f k [] e = refl
 map-flat_map g f k (x ∷ xs) e = map-append g (f x) (flat_map f xs) ∙ ap₂ (λ a b. a ++ b) e.0 (map-flat_map g f k xs e.1)
 
@@ -47,7 +49,8 @@ module _ (plan : Plan) (o : Order) (filler : ℕ) where
   pub length_next : (m : Meaning) (d : Dir) → length (next_bytes plan o filler m d) ≡ 4
   length_next m Main = main_next m.thumb
     where
-      main_next : (t : Option Thumbnail) → length (elim t as (λ _. List ℕ) [ Some t ↦ long_bytes o (place plan (Table Thumb)) | None ↦ long_bytes o 0 ]) ≡ 4
+      main_next : (t : Option Thumbnail) → length
+          (elim t as (λ _. List ℕ) [ Some t ↦ long_bytes o (place plan (Table Thumb)) | None ↦ long_bytes o 0 ]) ≡ 4
       main_next (Some t) = length-spelling o 4 (place plan (Table Thumb))
       main_next None = length-spelling o 4 0
   length_next m Thumb = length-spelling o 4 0
@@ -55,14 +58,16 @@ module _ (plan : Plan) (o : Order) (filler : ℕ) where
 
   module _ (d : Dir) (xs : List (ℕ × Item)) (suit : AllByRecursion (λ i. Suits (role d i.0) i.1) xs) where
     pub twelve : AllByRecursion (λ i. length (entry_bytes plan o filler d i) ≡ 12) xs
-    twelve = each_map (λ i. Suits (role d i.0) i.1) (λ i. length (entry_bytes plan o filler d i) ≡ 12) (λ i h. length_entry plan o filler d i h) xs suit
+    twelve = each_map (λ i. Suits (role d i.0) i.1) (λ i. length (entry_bytes plan o filler d i) ≡ 12)
+        (λ i h. length_entry plan o filler d i h) xs suit
 
     pub length_entries : length (flat_map (entry_bytes plan o filler d) xs) ≡ length xs * 12
     length_entries = length_joined 12 (entry_bytes plan o filler d) xs twelve
 
     pub length_table : (m : Meaning) → length (table_bytes plan o filler m d xs) ≡ table_size (length xs)
     unfolding table_bytes
-    length_table m = length-append (spelling o 2 (length xs)) (flat_map (entry_bytes plan o filler d) xs ++ next_bytes plan o filler m d) ∙ (
+    length_table m =
+        length-append (spelling o 2 (length xs)) (flat_map (entry_bytes plan o filler d) xs ++ next_bytes plan o filler m d) ∙ (
         let a = length-spelling o 2 (length xs) in
         let c = length-append (flat_map (entry_bytes plan o filler d) xs) (next_bytes plan o filler m d) in
         let e = length_entries in let n = length_next m d in omega arith)
@@ -73,7 +78,8 @@ module _ (plan : Plan) (o : Order) (filler : ℕ) where
         (each_map (λ i. Suits (role d i.0) i.1) (λ i. option_map sized (placed_content plan o filler d i) ≡ placed_chunk d i) (λ i h.
         elim (cases_Bool (nat_lt 4 (item_size i.1))) [
           | inl t ↦ ap (option_map sized) (cond-true (nat_lt 4 (item_size i.1)) (Some (Placed d i.0, item_bytes plan o filler i.1)) None t)
-              ∙ ap (λ n. Some (Placed d i.0, n)) (length_is plan o filler d i h) ∙ sym (cond-true (nat_lt 4 (item_size i.1)) (Some (Placed d i.0, item_size i.1)) None t)
+              ∙ ap (λ n. Some (Placed d i.0, n)) (length_is plan o filler d i h)
+              ∙ sym (cond-true (nat_lt 4 (item_size i.1)) (Some (Placed d i.0, item_size i.1)) None t)
           | inr f ↦ ap (option_map sized) (cond-false (nat_lt 4 (item_size i.1)) (Some (Placed d i.0, item_bytes plan o filler i.1)) None f)
               ∙ sym (cond-false (nat_lt 4 (item_size i.1)) (Some (Placed d i.0, item_size i.1)) None f)
         ]) xs suit)
@@ -81,7 +87,8 @@ module _ (plan : Plan) (o : Order) (filler : ℕ) where
     pub dir_sized : (m : Meaning) → map sized (contents_of_dir plan o filler m d (Some xs)) ≡ chunks_of_dir d (Some xs)
     dir_sized m = ap₂ (λ n ys. (Table d, n) ∷ ys) (length_table m) placed_sized
 
-  opt_sized : (m : Meaning) (d : Dir) (xs : Option (List (ℕ × Item))) → IfSome xs (Good d) → map sized (contents_of_dir plan o filler m d xs) ≡ chunks_of_dir d xs
+  opt_sized : (m : Meaning) (d : Dir) (xs : Option (List (ℕ × Item))) → IfSome xs (Good d)
+      → map sized (contents_of_dir plan o filler m d xs) ≡ chunks_of_dir d xs
   opt_sized m d None g = refl
   opt_sized m d (Some xs) g = dir_sized d xs g.suit m
 
@@ -92,7 +99,8 @@ module _ (plan : Plan) (o : Order) (filler : ℕ) where
   thumb_sized : (t : Option Thumbnail) → map sized (thumb_contents t) ≡ thumb_chunks t
   unfolding thumb_contents thumb_chunks
   thumb_sized None = refl
-  thumb_sized (Some t) = map-append sized (jpeg_contents t.jpeg) (all_strip_contents t.strips) ∙ ap₂ (λ a b. a ++ b) (jpeg t.jpeg) (strips t.strips)
+  thumb_sized (Some t) =
+      map-append sized (jpeg_contents t.jpeg) (all_strip_contents t.strips) ∙ ap₂ (λ a b. a ++ b) (jpeg t.jpeg) (strips t.strips)
     where
       jpeg : (j : Option (List ℕ)) → map sized (jpeg_contents j) ≡ jpeg_chunks j
       jpeg None = refl
@@ -106,7 +114,8 @@ module _ (plan : Plan) (o : Order) (filler : ℕ) where
   unfolding contents chunks
   contents_sized m f = map-append sized (flat_map (λ d. contents_of_dir plan o filler m d (items m d)) dirs) (thumb_contents m.thumb)
       ∙ ap₂ (λ a b. a ++ b)
-      (map-flat_map sized (λ d. contents_of_dir plan o filler m d (items m d)) (λ d. chunks_of_dir d (items m d)) dirs (here Main, (here Exif, (here Interop, (here Gps, (here Thumb, tt))))))
+      (map-flat_map sized (λ d. contents_of_dir plan o filler m d (items m d)) (λ d. chunks_of_dir d (items m d)) dirs
+      (here Main, (here Exif, (here Interop, (here Gps, (here Thumb, tt))))))
       (thumb_sized m.thumb)
     where
       here : (d : Dir) → map sized (contents_of_dir plan o filler m d (items m d)) ≡ chunks_of_dir d (items m d)
@@ -128,8 +137,10 @@ module _ (plan : Plan) (o : Order) (filler : ℕ) where
       ∙ ap (map (λ c. range (place plan c.0) c.1)) (contents_sized m f))
 
   -- each piece stands in the block
-  pub pieces_stand : (m : Meaning) → Fits m → Legal m plan → AllByRecursion (λ y. Stands (laid m plan o filler) y.0 y.1) (laid_pieces plan o filler m)
+  pub pieces_stand : (m : Meaning) → Fits m → Legal m plan → AllByRecursion (λ y. Stands (laid m plan o filler) y.0 y.1)
+      (laid_pieces plan o filler m)
   unfolding laid
   pieces_stand m f l = each_stands filler plan.length (laid_pieces plan o filler m)
       (subst AllApart (sym (ranges_are m f)) l.apart)
-      (each_in_map (λ r. r.start + r.size ≤ plan.length) piece_range (laid_pieces plan o filler m) (subst (AllByRecursion (λ r. r.start + r.size ≤ plan.length)) (sym (ranges_are m f)) l.inside))
+      (each_in_map (λ r. r.start + r.size ≤ plan.length) piece_range (laid_pieces plan o filler m)
+      (subst (AllByRecursion (λ r. r.start + r.size ≤ plan.length)) (sym (ranges_are m f)) l.inside))

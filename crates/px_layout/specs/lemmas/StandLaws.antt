@@ -18,7 +18,9 @@ pub record Stands (b : List ℕ) (x : ℕ) (y : List ℕ) : Type 0 where
   pub is : part b x (length y) ≡ y
 
 covered : (f p : ℕ) (x : ℕ × List ℕ) (xs : List (ℕ × List ℕ)) → IsIn p (piece_range x) → byte_at f (x ∷ xs) p ≡ slice_index x.1 (p - x.0)
-covered f p x xs h = cond-true (nat_le x.0 p && nat_lt p (x.0 + length x.1)) (slice_index x.1 (p - x.0)) (byte_at f xs p) (and_from _ _ (le-leb x.0 p h.0) (lt-ltb p (x.0 + length x.1) h.1))
+covered f p x xs h =
+    cond-true (nat_le x.0 p && nat_lt p (x.0 + length x.1)) (slice_index x.1 (p - x.0)) (byte_at f xs p)
+    (and_from _ _ (le-leb x.0 p h.0) (lt-ltb p (x.0 + length x.1) h.1))
 
 passed : (f p : ℕ) (x : ℕ × List ℕ) (xs : List (ℕ × List ℕ)) → (IsIn p (piece_range x) → ⊥) → byte_at f (x ∷ xs) p ≡ byte_at f xs p
 passed f p x xs h = cond-false (nat_le x.0 p && nat_lt p (x.0 + length x.1)) (slice_index x.1 (p - x.0)) (byte_at f xs p)
@@ -53,7 +55,8 @@ laid_at g n i d h =
     let l : i < length (range_with_len 0 n) = subst (λ k. i < k) (sym (length-range 0 n)) h in
     get_or-map g (range_with_len 0 n) i 0 d l ∙ ap g (get_or-range 0 n i 0 h ∙ omega arith)
 
-stands_from : (g : ℕ → ℕ) (n x : ℕ) (y : List ℕ) → x + length y ≤ n → ((p : ℕ) → IsIn p (range x (length y)) → g p ≡ slice_index y (p - x)) → Stands (map g (range_with_len 0 n)) x y
+stands_from : (g : ℕ → ℕ) (n x : ℕ) (y : List ℕ) → x + length y ≤ n → ((p : ℕ) → IsIn p (range x (length y)) → g p ≡ slice_index y (p - x))
+    → Stands (map g (range_with_len 0 n)) x y
 stands_from g n x y h s =
     let b = map g (range_with_len 0 n) in
     let lb : length b ≡ n = length-laid g n in

@@ -58,19 +58,24 @@ module _ {X : Type 0} where
 pub at_fields : (t : ℕ) (fs : Fields) → at_tag t (field_items fs) ≡ option_map (λ v. Field v) (at_tag t fs)
 at_fields t [] = refl
 at_fields t (p ∷ fs) = elim (cases_Bool (p.0 == t)) [
-  | inl q ↦ cond-true (p.0 == t) (Some (Field p.1)) (at_tag t (field_items fs)) q ∙ sym (ap (option_map (λ v. Field v)) (cond-true (p.0 == t) (Some p.1) (at_tag t fs) q))
-  | inr q ↦ cond-false (p.0 == t) (Some (Field p.1)) (at_tag t (field_items fs)) q ∙ at_fields t fs ∙ sym (ap (option_map (λ v. Field v)) (cond-false (p.0 == t) (Some p.1) (at_tag t fs) q))
+  | inl q ↦ cond-true (p.0 == t) (Some (Field p.1)) (at_tag t (field_items fs)) q
+      ∙ sym (ap (option_map (λ v. Field v)) (cond-true (p.0 == t) (Some p.1) (at_tag t fs) q))
+  | inr q ↦ cond-false (p.0 == t) (Some (Field p.1)) (at_tag t (field_items fs)) q ∙ at_fields t fs
+      ∙ sym (ap (option_map (λ v. Field v)) (cond-false (p.0 == t) (Some p.1) (at_tag t fs) q))
 ]
 
 -- ---- fields among items
 
-pub fields_put : (t : ℕ) (x : Item) (ys : List (ℕ × Item)) → item_value x ≡ None → filter_map item_field (put t x ys) ≡ filter_map item_field ys
+pub fields_put : (t : ℕ) (x : Item) (ys : List (ℕ × Item)) → item_value x ≡ None
+    → filter_map item_field (put t x ys) ≡ filter_map item_field ys
 fields_put t x [] n = ap (λ v. cons_option (option_map (λ v. (t, v)) v) []) n
-fields_put t x (y ∷ ys) n = cond_both (nat_lt t y.0) ((t, x) ∷ y ∷ ys) (y ∷ put t x ys) (λ zs. filter_map item_field zs ≡ filter_map item_field (y ∷ ys))
+fields_put t x (y ∷ ys) n =
+    cond_both (nat_lt t y.0) ((t, x) ∷ y ∷ ys) (y ∷ put t x ys) (λ zs. filter_map item_field zs ≡ filter_map item_field (y ∷ ys))
     (λ _. ap (λ v. cons_option (option_map (λ v. (t, v)) v) (filter_map item_field (y ∷ ys))) n)
     (λ _. ap (cons_option (item_field y)) (fields_put t x ys n))
 
-pub fields_some : (t : ℕ) (o : Option Item) (ys : List (ℕ × Item)) → IfSome o (λ x. item_value x ≡ None) → filter_map item_field (put_some t o ys) ≡ filter_map item_field ys
+pub fields_some : (t : ℕ) (o : Option Item) (ys : List (ℕ × Item)) → IfSome o (λ x. item_value x ≡ None)
+    → filter_map item_field (put_some t o ys) ≡ filter_map item_field ys
 fields_some t None ys n = refl
 fields_some t (Some x) ys n = fields_put t x ys n
 
@@ -81,7 +86,8 @@ fields_back (p ∷ fs) = ap (λ ys. p ∷ ys) (fields_back fs)
 -- ---- entries
 
 module _ (plan : Plan) (o : Order) (filler : ℕ) (d : Dir) where
-  pub entry_found : (t : ℕ) (xs : List (ℕ × Item)) → entry_with t (map (entry_of plan o filler d) xs) ≡ option_map (λ x. entry_of plan o filler d (t, x)) (at_tag t xs)
+  pub entry_found : (t : ℕ) (xs : List (ℕ × Item)) → entry_with t (map (entry_of plan o filler d) xs) ≡ option_map
+      (λ x. entry_of plan o filler d (t, x)) (at_tag t xs)
   unfolding entry_of
   entry_found t [] = refl
   entry_found t (x ∷ xs) = elim (cases_Bool (x.0 == t)) [
@@ -94,7 +100,8 @@ module _ (plan : Plan) (o : Order) (filler : ℕ) (d : Dir) where
   ]
 
   -- the offset of an entry that holds one number
-  pub offset_link : (t : ℕ) (e : Dir) → place plan (Table e) < 2 ^ 32 → offset o (entry_of plan o filler d (t, Link e)) ≡ place plan (Table e)
+  pub offset_link : (t : ℕ) (e : Dir) → place plan (Table e) < 2 ^ 32
+      → offset o (entry_of plan o filler d (t, Link e)) ≡ place plan (Table e)
   unfolding entry_of last_bytes item_size item_bytes
   offset_link t e h = ap (number o 4) (append-nil (spelling o 4 (place plan (Table e)))) ∙ number-spelling o 4 (place plan (Table e)) h
 
@@ -107,20 +114,25 @@ module _ (plan : Plan) (o : Order) (filler : ℕ) (d : Dir) where
   link_of e (AtStrips n) h = absurd h
   link_of e (StripSizes ns) h = absurd h
 
-  pub pointer_found : (t : ℕ) (e : Dir) (xs : List (ℕ × Item)) → role d t ≡ To e → ((x : Item) → at_tag t xs ≡ Some x → place plan (Table e) < 2 ^ 32) → AllByRecursion (λ i. Suits (role d i.0) i.1) xs →
+  pub pointer_found : (t : ℕ) (e : Dir) (xs : List (ℕ × Item)) → role d t ≡ To e
+      → ((x : Item) → at_tag t xs ≡ Some x → place plan (Table e) < 2 ^ 32) → AllByRecursion (λ i. Suits (role d i.0) i.1) xs →
       pointer o t (map (entry_of plan o filler d) xs) ≡ option_map (λ _. place plan (Table e)) (at_tag t xs)
   unfolding pointer entry_of
   pointer_found t e [] r h s = refl
   pointer_found t e (x ∷ xs) r h s = elim (cases_Bool (x.0 == t)) [
     | inl q ↦
         let k : Link e ≡ x.1 = link_of e x.1 (subst (λ (u : Role). Suits u x.1) (ap (role d) (eqb-true x.0 t q) ∙ r) s.0) in
-        let one : is_one_long (entry_of plan o filler d x) ≡ true = subst (λ (i : Item). is_one_long (entry_of plan o filler d (x.0, i)) ≡ true) k refl in
-        ap (option_map (offset o)) (cond-true ((x.0 == t) && is_one_long (entry_of plan o filler d x)) (Some (entry_of plan o filler d x)) (find (λ e. (e.tag == t) && is_one_long e) (map (entry_of plan o filler d) xs)) (ap₂ (λ a b. a && b) q one))
+        let one : is_one_long (entry_of plan o filler d x) ≡ true =
+        subst (λ (i : Item). is_one_long (entry_of plan o filler d (x.0, i)) ≡ true) k refl in
+        ap (option_map (offset o)) (cond-true ((x.0 == t) && is_one_long (entry_of plan o filler d x)) (Some (entry_of plan o filler d x))
+        (find (λ e. (e.tag == t) && is_one_long e) (map (entry_of plan o filler d) xs)) (ap₂ (λ a b. a && b) q one))
         ∙ ap (λ i. Some (offset o (entry_of plan o filler d (x.0, i)))) (sym k)
         ∙ ap (λ n. Some n) (offset_link x.0 e (h x.1 (cond-true (x.0 == t) (Some x.1) (at_tag t xs) q)))
         ∙ sym (ap (option_map (λ _. place plan (Table e))) (cond-true (x.0 == t) (Some x.1) (at_tag t xs) q))
     | inr q ↦
-        ap (option_map (offset o)) (cond-false ((x.0 == t) && is_one_long (entry_of plan o filler d x)) (Some (entry_of plan o filler d x)) (find (λ e. (e.tag == t) && is_one_long e) (map (entry_of plan o filler d) xs)) (ap (λ a. a && is_one_long (entry_of plan o filler d x)) q))
+        ap (option_map (offset o)) (cond-false ((x.0 == t) && is_one_long (entry_of plan o filler d x)) (Some (entry_of plan o filler d x))
+        (find (λ e. (e.tag == t) && is_one_long e) (map (entry_of plan o filler d) xs))
+        (ap (λ a. a && is_one_long (entry_of plan o filler d x)) q))
         ∙ pointer_found t e xs r (λ y p. h y (cond-false (x.0 == t) (Some x.1) (at_tag t xs) q ∙ p)) s.1
         ∙ sym (ap (option_map (λ _. place plan (Table e))) (cond-false (x.0 == t) (Some x.1) (at_tag t xs) q))
   ]

@@ -5,4 +5,5 @@ use Rattle.px_layout.proofs.building.lay_all_strips.Goals as goal
 
 pub returns-in-Some-clause-bytes : goal.returns-in-Some-clause-bytes
 returns-in-Some-clause-bytes c =
-    subst (λ (s : Option (List (List ℕ))). PutsOver c.args.block.now c.lay_strips.new.block (at_places c.args.layout.now (all_strip_contents s))) (sym c.in-Some.is) c.lay_strips.ensures.bytes
+    subst (λ (s : Option (List (List ℕ))). PutsOver c.args.block.now c.lay_strips.new.block
+    (at_places c.args.layout.now (all_strip_contents s))) (sym c.in-Some.is) c.lay_strips.ensures.bytes

@@ -7,19 +7,24 @@ use Rattle.px_layout.proofs.building.lay_dir.Goals as goal
 pub lay_values-requires : goal.lay_values-requires
 lay_values-requires c =
     subst (λ (n : ℕ). AreInside n (value_pieces c.args.layout.now c.args.dir c.in-Some.entries)) (sym c.requires.len)
-    (values_inside c.args.layout.now (meaning_of c.args.layout.now.m.now) c.requires.fits c.requires.legal c.args.dir c.in-Some.entries (sym c.in-Some.ensures))
+    (values_inside c.args.layout.now (meaning_of c.args.layout.now.m.now) c.requires.fits c.requires.legal c.args.dir c.in-Some.entries
+    (sym c.in-Some.ensures))
 
 pub lay_table-requires-clause-few : goal.lay_table-requires-clause-few
-lay_table-requires-clause-few c = few_entries c.args.layout.now (meaning_of c.args.layout.now.m.now) c.requires.fits c.requires.legal c.args.dir c.in-Some.entries (sym c.in-Some.ensures)
+lay_table-requires-clause-few c =
+    few_entries c.args.layout.now (meaning_of c.args.layout.now.m.now) c.requires.fits c.requires.legal c.args.dir c.in-Some.entries
+    (sym c.in-Some.ensures)
 
 pub lay_table-requires-clause-inside : goal.lay_table-requires-clause-inside
 lay_table-requires-clause-inside c =
-    let t = table_inside c.args.layout.now (meaning_of c.args.layout.now.m.now) c.requires.fits c.requires.legal c.args.dir c.in-Some.entries (sym c.in-Some.ensures) in
+    let t = table_inside c.args.layout.now (meaning_of c.args.layout.now.m.now) c.requires.fits c.requires.legal c.args.dir
+    c.in-Some.entries (sym c.in-Some.ensures) in
     let n = c.requires.len in
     let k = c.lay_values.ensures.len in
     omega arith
 
 pub returns-clause-bytes : goal.returns-clause-bytes
 returns-clause-bytes c =
-    on_ok c.lay_table.result _ _ (dir_over c.args.layout.now (meaning_of c.args.layout.now.m.now) c.args.dir c.in-Some.entries c.args.block.now c.lay_values.new.block c.lay_table.new.block
+    on_ok c.lay_table.result _ _ (dir_over c.args.layout.now (meaning_of c.args.layout.now.m.now) c.args.dir c.in-Some.entries
+    c.args.block.now c.lay_values.new.block c.lay_table.new.block
     (sym c.in-Some.ensures) c.lay_values.ensures.len c.in_ok-lay_values.ensures.bytes) c.lay_table.ensures.bytes

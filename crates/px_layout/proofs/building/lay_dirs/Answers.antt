@@ -9,5 +9,7 @@ returns-clause-bytes c =
     let d = c.lay_dir-2.ensures.len ∙ b in
     let e = c.lay_dir-3.ensures.len ∙ d in
     let g = c.lay_dir-4.ensures.len ∙ e in
-    on_ok c.lay_dir-5.result _ _ (five c.args.layout.now (meaning_of c.args.layout.now.m.now) c.args.block.now c.lay_dir.new.block c.lay_dir-2.new.block c.lay_dir-3.new.block c.lay_dir-4.new.block c.lay_dir-5.new.block
-    b d e g c.in_ok-lay_dir.ensures.bytes c.in_ok-lay_dir-2.ensures.bytes c.in_ok-lay_dir-3.ensures.bytes c.in_ok-lay_dir-4.ensures.bytes) c.lay_dir-5.ensures.bytes
+    on_ok c.lay_dir-5.result _ _ (five c.args.layout.now (meaning_of c.args.layout.now.m.now) c.args.block.now c.lay_dir.new.block
+    c.lay_dir-2.new.block c.lay_dir-3.new.block c.lay_dir-4.new.block c.lay_dir-5.new.block
+    b d e g c.in_ok-lay_dir.ensures.bytes c.in_ok-lay_dir-2.ensures.bytes c.in_ok-lay_dir-3.ensures.bytes c.in_ok-lay_dir-4.ensures.bytes)
+    c.lay_dir-5.ensures.bytes

@@ -13,4 +13,5 @@ put_at-requires c =
 
 pub returns-clause-bytes : goal.returns-clause-bytes
 returns-clause-bytes c =
-    one_as c.args.layout.now c.args.block.now c.put_at.new.block 0 0 c.deref.result.now _ refl (c.deref.ensures.value ∙ c.in_ok-bytes.ensures.bytes) c.put_at.ensures.bytes
+    one_as c.args.layout.now c.args.block.now c.put_at.new.block 0 0 c.deref.result.now _ refl (c.deref.ensures.value
+    ∙ c.in_ok-bytes.ensures.bytes) c.put_at.ensures.bytes

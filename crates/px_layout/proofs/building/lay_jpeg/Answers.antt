@@ -6,5 +6,7 @@ use Rattle.px_layout.proofs.building.lay_jpeg.Goals as goal
 
 pub returns-in-Some-clause-bytes : goal.returns-in-Some-clause-bytes
 returns-in-Some-clause-bytes c =
-    subst (λ (j : Option (List ℕ)). PutsOver c.args.block.now c.put_at.new.block (at_places c.args.layout.now (jpeg_contents j))) (sym (ap (option_map (λ x. x.now)) c.in-Some.is))
-    (one_as c.args.layout.now c.args.block.now c.put_at.new.block c.place_of.result _ c.in-Some.bytes.now c.in-Some.bytes.now c.place_of.ensures refl c.put_at.ensures.bytes)
+    subst (λ (j : Option (List ℕ)). PutsOver c.args.block.now c.put_at.new.block (at_places c.args.layout.now (jpeg_contents j)))
+    (sym (ap (option_map (λ x. x.now)) c.in-Some.is))
+    (one_as c.args.layout.now c.args.block.now c.put_at.new.block c.place_of.result _ c.in-Some.bytes.now c.in-Some.bytes.now
+    c.place_of.ensures refl c.put_at.ensures.bytes)

@@ -11,4 +11,5 @@ put_at-requires c =
 
 pub returns-clause-bytes : goal.returns-clause-bytes
 returns-clause-bytes c =
-    one_as c.args.layout.now c.args.block.now c.put_at.new.block c.place_of.result _ c.deref.result.now _ c.place_of.ensures (c.deref.ensures.value ∙ c.in_ok-bytes.ensures.bytes) c.put_at.ensures.bytes
+    one_as c.args.layout.now c.args.block.now c.put_at.new.block c.place_of.result _ c.deref.result.now _ c.place_of.ensures
+    (c.deref.ensures.value ∙ c.in_ok-bytes.ensures.bytes) c.put_at.ensures.bytes

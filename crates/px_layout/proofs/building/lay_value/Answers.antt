@@ -5,14 +5,18 @@ use Rattle.px_layout.proofs.building.lay_value.Goals as goal
 
 pub returns-then-size-le-INSIDE-clause-bytes : goal.returns-then-size-le-INSIDE-clause-bytes
 returns-then-size-le-INSIDE-clause-bytes c =
-    value_none c.args.layout.now c.args.block.now c.args.block.now c.args.dir (entry_of c.args.entry.now) (let s = c.size.ensures in let t = c.if-size-le-INSIDE.true in omega arith)
+    value_none c.args.layout.now c.args.block.now c.args.block.now c.args.dir (entry_of c.args.entry.now)
+    (let s = c.size.ensures in let t = c.if-size-le-INSIDE.true in omega arith)
 
 pub put_at-requires : goal.put_at-requires
 put_at-requires c =
-    value_room c.args.layout.now c.args.block.now c.args.block.now c.args.dir (entry_of c.args.entry.now) (let s = c.size.ensures in let t = c.if-size-le-INSIDE.false in omega arith)
+    value_room c.args.layout.now c.args.block.now c.args.block.now c.args.dir (entry_of c.args.entry.now)
+    (let s = c.size.ensures in let t = c.if-size-le-INSIDE.false in omega arith)
     c.place_of-at.result c.deref.result.now c.place_of-at.ensures (c.deref.ensures.value ∙ c.in_ok-bytes.ensures.bytes) c.requires.inside
 
 pub returns-clause-bytes : goal.returns-clause-bytes
 returns-clause-bytes c =
-    value_over c.args.layout.now c.args.block.now c.put_at.new.block c.args.dir (entry_of c.args.entry.now) (let s = c.size.ensures in let t = c.if-size-le-INSIDE.false in omega arith)
-    c.place_of-at.result c.deref.result.now c.place_of-at.ensures (c.deref.ensures.value ∙ c.in_ok-bytes.ensures.bytes) c.put_at.ensures.bytes
+    value_over c.args.layout.now c.args.block.now c.put_at.new.block c.args.dir (entry_of c.args.entry.now)
+    (let s = c.size.ensures in let t = c.if-size-le-INSIDE.false in omega arith)
+    c.place_of-at.result c.deref.result.now c.place_of-at.ensures (c.deref.ensures.value
+    ∙ c.in_ok-bytes.ensures.bytes) c.put_at.ensures.bytes

@@ -6,8 +6,10 @@ use Rattle.px_layout.proofs.entries.adds.Goals as goal
 
 pub returns-then-extra-tag-clause-added : goal.returns-then-extra-tag-clause-added
 returns-then-extra-tag-clause-added c = λ xs.
-    subst (λ o. rank c.args.tag (over o xs) ≡ rank c.args.tag xs + 1) (sym c.in-Some.is) (rank_put c.args.tag c.in-Some.extra.tag (item_of c.in-Some.extra.item) xs c.if-extra-tag.true)
+    subst (λ o. rank c.args.tag (over o xs) ≡ rank c.args.tag xs + 1) (sym c.in-Some.is)
+    (rank_put c.args.tag c.in-Some.extra.tag (item_of c.in-Some.extra.item) xs c.if-extra-tag.true)
 
 pub returns-clause-added : goal.returns-clause-added
 returns-clause-added c = λ xs.
-    subst (λ o. rank c.args.tag (over o xs) ≡ rank c.args.tag xs + 0) (sym c.in-Some.is) (rank_kept c.args.tag c.in-Some.extra.tag (item_of c.in-Some.extra.item) xs (let l = c.if-extra-tag.false in omega arith))
+    subst (λ o. rank c.args.tag (over o xs) ≡ rank c.args.tag xs + 0) (sym c.in-Some.is)
+    (rank_kept c.args.tag c.in-Some.extra.tag (item_of c.in-Some.extra.item) xs (let l = c.if-extra-tag.false in omega arith))

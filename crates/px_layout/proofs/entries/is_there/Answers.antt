@@ -6,7 +6,8 @@ use Rattle.px_layout.proofs.entries.is_there.Goals as goal
 
 pub returns-in-Exif : goal.returns-in-Exif
 returns-in-Exif c =
-    rw c.in-Exif.is (c.is_some.ensures ∙ sym (there exif_of c.args.m.now.exif) ∙ sym (there exif_items (option_map exif_of c.args.m.now.exif))
+    rw c.in-Exif.is (c.is_some.ensures ∙ sym (there exif_of c.args.m.now.exif)
+    ∙ sym (there exif_items (option_map exif_of c.args.m.now.exif))
     ∙ sym (ap is_some (items_are (meaning_of c.args.m.now)).1))
 
 pub returns-in-Interop : goal.returns-in-Interop
@@ -14,9 +15,11 @@ returns-in-Interop c = rw c.in-Interop.is (c.has_interop.ensures ∙ sym (ap is_
 
 pub returns-in-Gps : goal.returns-in-Gps
 returns-in-Gps c =
-    rw c.in-Gps.is (c.is_some-in-Gps.ensures ∙ sym (there field_items c.args.m.now.gps) ∙ sym (ap is_some (items_are (meaning_of c.args.m.now)).3))
+    rw c.in-Gps.is (c.is_some-in-Gps.ensures ∙ sym (there field_items c.args.m.now.gps)
+    ∙ sym (ap is_some (items_are (meaning_of c.args.m.now)).3))
 
 pub returns-in-Thumb : goal.returns-in-Thumb
 returns-in-Thumb c =
-    rw c.in-Thumb.is (c.is_some-in-Thumb.ensures ∙ sym (there thumb_of c.args.m.now.thumb) ∙ sym (there thumb_items (option_map thumb_of c.args.m.now.thumb))
+    rw c.in-Thumb.is (c.is_some-in-Thumb.ensures ∙ sym (there thumb_of c.args.m.now.thumb)
+    ∙ sym (there thumb_items (option_map thumb_of c.args.m.now.thumb))
     ∙ sym (ap is_some (items_are (meaning_of c.args.m.now)).4))

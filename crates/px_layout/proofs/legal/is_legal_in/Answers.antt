@@ -23,4 +23,5 @@ returns-clause-legal c =
     let least : 8 ≤ (plan_of c.args.plan.now).length = omega arith in
     let most : (plan_of c.args.plan.now).length ≤ limit = omega arith in
     let same : c.count.result ≡ length c.deref.result.now = omega arith in
-    verdicts (meaning_of c.args.m.now) c.requires (plan_of c.args.plan.now) c.count.result c.count.ensures c.are_apart.result c.deref.result.now least most same all c.are_apart.ensures.free
+    verdicts (meaning_of c.args.m.now) c.requires (plan_of c.args.plan.now) c.count.result c.count.ensures c.are_apart.result
+    c.deref.result.now least most same all c.are_apart.ensures.free

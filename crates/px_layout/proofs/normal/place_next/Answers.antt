@@ -6,4 +6,5 @@ pub returns-clause-next : goal.returns-clause-next
 returns-clause-next c =
     let e = c.in-Some.ensures in
     let p = c.in_ok-place_in.ensures in
-    next_placed (plan_of c.args.plan.now) (plan_of c.place_in.new.self) c.args.chunk c.args.size c.args.at c.in-Some.end c.in_ok-place_in.field-0 e.0 e.1 p.placed p.there p.after
+    next_placed (plan_of c.args.plan.now) (plan_of c.place_in.new.self) c.args.chunk c.args.size c.args.at c.in-Some.end
+    c.in_ok-place_in.field-0 e.0 e.1 p.placed p.there p.after

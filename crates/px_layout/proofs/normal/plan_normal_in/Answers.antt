@@ -12,7 +12,8 @@ pub returns-in_err-len-clause-plan : goal.returns-in_err-len-clause-plan
 returns-in_err-len-clause-plan c =
     let p = err_from_is_err_and c.from_residual-in_err-len.result c.from_residual-in_err-len.ensures.1 in
     let all : c.deref.result.now ≡ chunks (meaning_of c.args.m.now) = c.deref.ensures.value ∙ c.in_ok-chunks.ensures.chunks in
-    rw (p.1, p.2) (refused (meaning_of c.args.m.now) c.requires c.in_err-len.field-0.0 (plan_of c.place_all.new.plan) c.deref.result.now all c.in_err-len.ensures.all)
+    rw (p.1, p.2) (refused (meaning_of c.args.m.now) c.requires c.in_err-len.field-0.0 (plan_of c.place_all.new.plan) c.deref.result.now
+    all c.in_err-len.ensures.all)
 
 pub returns-clause-plan : goal.returns-clause-plan
 returns-clause-plan c =
@@ -23,4 +24,5 @@ returns-clause-plan c =
 pub returns-in_err-len-clause-memory : goal.returns-in_err-len-clause-memory
 returns-in_err-len-clause-memory c =
     let p = err_from_is_err_and c.from_residual-in_err-len.result c.from_residual-in_err-len.ensures.1 in
-    rw (p.1, p.2) (write_lacks ℕ held.Plan c.in_err-len.field-0.0 c.args.memory.now c.chunk_sizes.new.memory c.place_all.new.memory c.in_ok-chunks.ensures.memory c.in_err-len.ensures.memory)
+    rw (p.1, p.2) (write_lacks ℕ held.Plan c.in_err-len.field-0.0 c.args.memory.now c.chunk_sizes.new.memory c.place_all.new.memory
+    c.in_ok-chunks.ensures.memory c.in_err-len.ensures.memory)

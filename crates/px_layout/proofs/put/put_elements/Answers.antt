@@ -11,13 +11,16 @@ by_width n w s piece ys e h = ap (λ (k : ℕ). take (n * k) piece) e ∙ h
 pub returns-in_err-put-clause-bytes : goal.returns-in_err-put-clause-bytes
 returns-in_err-put-clause-bytes g c =
     let p = err_from_is_err_and c.from_residual.result c.from_residual.ensures.1 in
-    rw p.1 (stop_many g.W.Sink.bytes_taken (spell c.args.order) c.args.value.now.elements c.loop-i.i c.spell_many-count.result _ (by_width _ _ _ _ _ c.width-width.ensures c.spell_many-count.ensures.front)
+    rw p.1 (stop_many g.W.Sink.bytes_taken (spell c.args.order) c.args.value.now.elements c.loop-i.i c.spell_many-count.result _
+    (by_width _ _ _ _ _ c.width-width.ensures c.spell_many-count.ensures.front)
     _ _ _ c.args.pending.now c.loop-i.pending c.loop-i.invariant.put (c.in_err-put.ensures.bytes, c.in_err-put.ensures.waits))
 
 pub loop-i-preserved : goal.loop-i-preserved
 loop-i-preserved g c = record {
   inside = omega (arith, c.spell_many-count.ensures.count, c.loop-i.invariant.inside);
-  put = more_many g.W.Sink.bytes_taken (spell c.args.order) c.args.value.now.elements c.loop-i.i c.spell_many-count.result _ (by_width _ _ _ _ _ c.width-width.ensures c.spell_many-count.ensures.front)
-      _ _ _ c.args.pending.now c.loop-i.pending c.put.new.self c.loop-i.invariant.put (c.in_ok-put.ensures.bytes, c.in_ok-put.ensures.waits);
+  put = more_many g.W.Sink.bytes_taken (spell c.args.order) c.args.value.now.elements c.loop-i.i c.spell_many-count.result _
+      (by_width _ _ _ _ _ c.width-width.ensures c.spell_many-count.ensures.front)
+      _ _ _ c.args.pending.now c.loop-i.pending c.put.new.self c.loop-i.invariant.put
+      (c.in_ok-put.ensures.bytes, c.in_ok-put.ensures.waits);
   count = c.in_ok-put.ensures.count ∙ c.loop-i.invariant.count;
 }

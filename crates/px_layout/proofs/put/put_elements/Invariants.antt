@@ -7,7 +7,8 @@ use Rattle.px_layout.proofs.put.put_elements.Given as goal
 abbrev pub invariant-loop-i : goal.invariant-loop-i
 invariant-loop-i g l = record {
   inside : l.i ≤ length l.value.elements;
-  put : HasPut g.W.Sink.bytes_taken l.initial.writer l.writer l.initial.pending l.pending (flat_map (spell l.order) (take l.i l.value.elements));
+  put : HasPut g.W.Sink.bytes_taken l.initial.writer l.writer l.initial.pending l.pending
+      (flat_map (spell l.order) (take l.i l.value.elements));
   count : g.W.Device.failed l.writer ≡ g.W.Device.failed l.initial.writer;
 }
 

@@ -5,4 +5,5 @@ use Rattle.px_layout.specs.lemmas.EntryLaws.{Good, good_items}
 use Rattle.px_layout.proofs.put_form.put_any_dir.Goals as goal
 
 pub put_dir-requires-clause-good : goal.put_dir-requires-clause-good
-put_dir-requires-clause-good g c = subst (λ o. IfSome o (Good c.args.dir)) (sym c.in-Some.ensures) (good_items (said_in c.args.form.now) c.requires.form.0 c.args.dir)
+put_dir-requires-clause-good g c =
+    subst (λ o. IfSome o (Good c.args.dir)) (sym c.in-Some.ensures) (good_items (said_in c.args.form.now) c.requires.form.0 c.args.dir)

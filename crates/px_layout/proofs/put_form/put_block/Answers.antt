@@ -8,9 +8,11 @@ pub returns-in_err-put_running_header-clause-bytes : goal.returns-in_err-put_run
 unfolding normal_exif
 returns-in_err-put_running_header-clause-bytes g c =
     let p = err_from_is_err_and c.from_residual.result c.from_residual.ensures.1 in
-    rw p.1 (fails_first g.W.Sink.bytes_taken _ _ c.args.pending.now _ _ (c.in_err-put_running_header.ensures.bytes (said_in c.args.form.now)))
+    rw p.1 (fails_first g.W.Sink.bytes_taken _ _ c.args.pending.now _ _ (c.in_err-put_running_header.ensures.bytes
+    (said_in c.args.form.now)))
 
 pub returns-clause-bytes : goal.returns-clause-bytes
 unfolding normal_exif
 returns-clause-bytes g c =
-    puts_to_both g.W.Sink.bytes_taken c.put_contents.result _ _ _ c.args.pending.now c.put_running_header.new.pending c.put_contents.new.pending _ _ (c.in_ok-put_running_header.ensures.bytes (said_in c.args.form.now)) c.put_contents.ensures.bytes
+    puts_to_both g.W.Sink.bytes_taken c.put_contents.result _ _ _ c.args.pending.now c.put_running_header.new.pending
+    c.put_contents.new.pending _ _ (c.in_ok-put_running_header.ensures.bytes (said_in c.args.form.now)) c.put_contents.ensures.bytes

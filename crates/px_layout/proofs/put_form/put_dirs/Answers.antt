@@ -12,13 +12,16 @@ use Rattle.px_layout.proofs.put_form.put_dirs.Goals as goal
 pub returns-in_err-put_any_dir-clause-bytes : goal.returns-in_err-put_any_dir-clause-bytes
 returns-in_err-put_any_dir-clause-bytes g c =
     let p = err_from_is_err_and c.from_residual.result c.from_residual.ensures.1 in
-    rw p.1 (fails_as g.W.Sink.bytes_taken _ _ c.args.pending.now _ _ (dirs_as (normal_plan (said_in c.args.form.now)) (said_in c.args.form.now))
-    (loop_stop g.W.Sink.bytes_taken (dir_bytes (normal_plan (said_in c.args.form.now)) (said_in c.args.form.now)) dirs c.loop-dir.dir-index _ (slice_get-get_or dirs c.loop-dir.dir-index _ c.loop-dir-test.true)
+    rw p.1 (fails_as g.W.Sink.bytes_taken _ _ c.args.pending.now _ _ (dirs_as (normal_plan (said_in c.args.form.now))
+    (said_in c.args.form.now))
+    (loop_stop g.W.Sink.bytes_taken (dir_bytes (normal_plan (said_in c.args.form.now)) (said_in c.args.form.now)) dirs c.loop-dir.dir-index
+    _ (slice_get-get_or dirs c.loop-dir.dir-index _ c.loop-dir-test.true)
     _ _ _ c.args.pending.now c.loop-dir.pending c.loop-dir.invariant.put c.in_err-put_any_dir.ensures.bytes))
 
 pub loop-dir-preserved : goal.loop-dir-preserved
 loop-dir-preserved g c = record {
-  put = loop_more g.W.Sink.bytes_taken (dir_bytes (normal_plan (said_in c.args.form.now)) (said_in c.args.form.now)) dirs c.loop-dir.dir-index _ (slice_get-get_or dirs c.loop-dir.dir-index _ c.loop-dir-test.true)
+  put = loop_more g.W.Sink.bytes_taken (dir_bytes (normal_plan (said_in c.args.form.now)) (said_in c.args.form.now)) dirs
+      c.loop-dir.dir-index _ (slice_get-get_or dirs c.loop-dir.dir-index _ c.loop-dir-test.true)
       _ _ _ c.args.pending.now c.loop-dir.pending c.put_any_dir.new.pending c.loop-dir.invariant.put c.in_ok-put_any_dir.ensures.bytes;
   count = c.in_ok-put_any_dir.ensures.count ∙ c.loop-dir.invariant.count;
 }

@@ -9,6 +9,7 @@ use Rattle.px_layout.proofs.put_form.put_dirs.Given as goal
 -- the directories so far were put, and no call failed
 abbrev pub invariant-loop-dir : goal.invariant-loop-dir
 invariant-loop-dir g l = record {
-  put : HasPut g.W.Sink.bytes_taken l.initial.writer l.writer l.initial.pending l.pending (flat_map (dir_bytes (normal_plan (said_in l.form)) (said_in l.form)) (take l.dir-index dirs));
+  put : HasPut g.W.Sink.bytes_taken l.initial.writer l.writer l.initial.pending l.pending
+      (flat_map (dir_bytes (normal_plan (said_in l.form)) (said_in l.form)) (take l.dir-index dirs));
   count : g.W.Device.failed l.writer ≡ g.W.Device.failed l.initial.writer;
 }

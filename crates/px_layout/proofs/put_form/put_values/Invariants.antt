@@ -8,6 +8,7 @@ use Rattle.px_layout.proofs.put_form.put_values.Given as goal
 -- the values so far were put, and no call failed
 abbrev pub invariant-loop-i : goal.invariant-loop-i
 invariant-loop-i g l = record {
-  put : HasPut g.W.Sink.bytes_taken l.initial.writer l.writer l.initial.pending l.pending (flat_map (placed_bytes (normal_plan (said_in l.form))) (take l.i l.entries));
+  put : HasPut g.W.Sink.bytes_taken l.initial.writer l.writer l.initial.pending l.pending
+      (flat_map (placed_bytes (normal_plan (said_in l.form))) (take l.i l.entries));
   count : g.W.Device.failed l.writer ≡ g.W.Device.failed l.initial.writer;
 }

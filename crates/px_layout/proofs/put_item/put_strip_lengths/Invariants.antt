@@ -6,6 +6,7 @@ use Rattle.px_layout.proofs.put_item.put_strip_lengths.Given as goal
 -- the lengths so far were put, and no call failed
 abbrev pub invariant-loop-i : goal.invariant-loop-i
 invariant-loop-i g l = record {
-  put : HasPut g.W.Sink.bytes_taken l.initial.writer l.writer l.initial.pending l.pending (flat_map (long_bytes l.order) (take l.i (map (λ x. length x) l.strips)));
+  put : HasPut g.W.Sink.bytes_taken l.initial.writer l.writer l.initial.pending l.pending
+      (flat_map (long_bytes l.order) (take l.i (map (λ x. length x) l.strips)));
   count : g.W.Device.failed l.writer ≡ g.W.Device.failed l.initial.writer;
 }

@@ -15,14 +15,16 @@ pub returns-in_err-put_place-clause-bytes : goal.returns-in_err-put_place-clause
 returns-in_err-put_place-clause-bytes g c =
     let p = err_from_is_err_and c.from_residual.result c.from_residual.ensures.1 in
     let i = c.loop-i.i in
-    rw p.1 (loop_stop g.W.Sink.bytes_taken (λ i. long_bytes c.args.layout.now.order (place (said_plan c.args.layout.now) (Strip i))) (range_with_len 0 c.args.count) i i (slice_get-range c.args.count i (omega arith))
+    rw p.1 (loop_stop g.W.Sink.bytes_taken (λ i. long_bytes c.args.layout.now.order (place (said_plan c.args.layout.now) (Strip i)))
+    (range_with_len 0 c.args.count) i i (slice_get-range c.args.count i (omega arith))
     _ _ _ c.args.pending.now c.loop-i.pending c.loop-i.invariant.put c.in_err-put_place.ensures.bytes)
 
 pub loop-i-preserved : goal.loop-i-preserved
 loop-i-preserved g c =
     let i = c.loop-i.i in
     record {
-      put = loop_more g.W.Sink.bytes_taken (λ i. long_bytes c.args.layout.now.order (place (said_plan c.args.layout.now) (Strip i))) (range_with_len 0 c.args.count) i i (slice_get-range c.args.count i (omega arith))
+      put = loop_more g.W.Sink.bytes_taken (λ i. long_bytes c.args.layout.now.order (place (said_plan c.args.layout.now) (Strip i)))
+          (range_with_len 0 c.args.count) i i (slice_get-range c.args.count i (omega arith))
           _ _ _ c.args.pending.now c.loop-i.pending c.put_place.new.pending c.loop-i.invariant.put c.in_ok-put_place.ensures.bytes;
       count = c.in_ok-put_place.ensures.count ∙ c.loop-i.invariant.count;
     }
@@ -30,5 +32,7 @@ loop-i-preserved g c =
 pub returns-clause-bytes : goal.returns-clause-bytes
 returns-clause-bytes g c =
     let f = λ (i : ℕ). long_bytes c.args.layout.now.order (place (said_plan c.args.layout.now) (Strip i)) in
-    let all : take c.loop-i.i (range_with_len 0 c.args.count) ≡ range_with_len 0 c.args.count = take_all c.loop-i.i (range_with_len 0 c.args.count) (omega (arith, length-range 0 c.args.count)) in
-    subst (λ (xs : List ℕ). HasPut g.W.Sink.bytes_taken c.args.writer.now c.loop-i.writer c.args.pending.now c.loop-i.pending (flat_map f xs)) all c.loop-i.invariant.put
+    let all : take c.loop-i.i (range_with_len 0 c.args.count) ≡ range_with_len 0 c.args.count =
+    take_all c.loop-i.i (range_with_len 0 c.args.count) (omega (arith, length-range 0 c.args.count)) in
+    subst (λ (xs : List ℕ). HasPut g.W.Sink.bytes_taken c.args.writer.now c.loop-i.writer c.args.pending.now c.loop-i.pending
+    (flat_map f xs)) all c.loop-i.invariant.put

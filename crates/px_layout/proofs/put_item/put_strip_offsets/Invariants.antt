@@ -10,6 +10,7 @@ use Rattle.px_layout.proofs.put_item.put_strip_offsets.Given as goal
 -- the offsets so far were put, and no call failed
 abbrev pub invariant-loop-i : goal.invariant-loop-i
 invariant-loop-i g l = record {
-  put : HasPut g.W.Sink.bytes_taken l.initial.writer l.writer l.initial.pending l.pending (flat_map (λ i. long_bytes l.layout.order (place (said_plan l.layout) (Strip i))) (take l.i (range_with_len 0 l.count)));
+  put : HasPut g.W.Sink.bytes_taken l.initial.writer l.writer l.initial.pending l.pending
+      (flat_map (λ i. long_bytes l.layout.order (place (said_plan l.layout) (Strip i))) (take l.i (range_with_len 0 l.count)));
   count : g.W.Device.failed l.writer ≡ g.W.Device.failed l.initial.writer;
 }

@@ -31,31 +31,39 @@ overflow_add-at g c =
     let t = c.table_len.ensures in
     let k = ap table_size n in
     let s = c.start_of.ensures in
-    let v = values_most (said_in c.args.form.now) c.args.form.now.starts c.args.dir c.args.entries.now c.requires.form.1 c.requires.form.0 c.requires.there in
+    let v = values_most (said_in c.args.form.now) c.args.form.now.starts c.args.dir c.args.entries.now c.requires.form.1 c.requires.form.0
+    c.requires.there in
     omega arith
 
 pub put_given_entry-requires-clause-tells : goal.put_given_entry-requires-clause-tells
-put_given_entry-requires-clause-tells g c = tells_read (said_in c.args.form.now) c.args.dir c.args.entries.now c.loop-i.i _ c.requires.there c.at-entry.ensures.entry
+put_given_entry-requires-clause-tells g c =
+    tells_read (said_in c.args.form.now) c.args.dir c.args.entries.now c.loop-i.i _ c.requires.there c.at-entry.ensures.entry
 
 pub returns-in_err-put_given_entry-clause-bytes : goal.returns-in_err-put_given_entry-clause-bytes
 returns-in_err-put_given_entry-clause-bytes g c =
     let p = err_from_is_err_and c.from_residual.result c.from_residual.ensures.1 in
-    rw p.1 (stop_as g.W.Sink.bytes_taken (entry_bytes (normal_plan (said_in c.args.form.now)) Most 0 c.args.dir) c.args.entries.now c.loop-i.i _ c.at-entry.ensures.entry _
-    (entry_running (said_in c.args.form.now) c.args.dir c.args.entries.now c.loop-i.i c.loop-i.at _ c.requires.form.0 c.requires.there c.at-entry.ensures.entry c.loop-i.invariant.left)
+    rw p.1 (stop_as g.W.Sink.bytes_taken (entry_bytes (normal_plan (said_in c.args.form.now)) Most 0 c.args.dir) c.args.entries.now
+    c.loop-i.i _ c.at-entry.ensures.entry _
+    (entry_running (said_in c.args.form.now) c.args.dir c.args.entries.now c.loop-i.i c.loop-i.at _ c.requires.form.0 c.requires.there
+    c.at-entry.ensures.entry c.loop-i.invariant.left)
     _ _ _ c.args.pending.now c.loop-i.pending c.loop-i.invariant.put c.in_err-put_given_entry.ensures.bytes)
 
 pub next_at-at-requires-clause-most : goal.next_at-at-requires-clause-most
 next_at-at-requires-clause-most g c =
     let h = values_here c.args.entries.now c.loop-i.i _ c.at-entry.ensures.entry in
     let l = c.loop-i.invariant.left in
-    let v = values_most (said_in c.args.form.now) c.args.form.now.starts c.args.dir c.args.entries.now c.requires.form.1 c.requires.form.0 c.requires.there in
+    let v = values_most (said_in c.args.form.now) c.args.form.now.starts c.args.dir c.args.entries.now c.requires.form.1 c.requires.form.0
+    c.requires.there in
     omega arith
 
 pub loop-i-preserved : goal.loop-i-preserved
 loop-i-preserved g c = record {
-  put = more_as g.W.Sink.bytes_taken (entry_bytes (normal_plan (said_in c.args.form.now)) Most 0 c.args.dir) c.args.entries.now c.loop-i.i _ c.at-entry.ensures.entry _
-      (entry_running (said_in c.args.form.now) c.args.dir c.args.entries.now c.loop-i.i c.loop-i.at _ c.requires.form.0 c.requires.there c.at-entry.ensures.entry c.loop-i.invariant.left)
+  put = more_as g.W.Sink.bytes_taken (entry_bytes (normal_plan (said_in c.args.form.now)) Most 0 c.args.dir) c.args.entries.now c.loop-i.i
+      _ c.at-entry.ensures.entry _
+      (entry_running (said_in c.args.form.now) c.args.dir c.args.entries.now c.loop-i.i c.loop-i.at _ c.requires.form.0 c.requires.there
+      c.at-entry.ensures.entry c.loop-i.invariant.left)
       _ _ _ c.args.pending.now c.loop-i.pending c.put_given_entry.new.pending c.loop-i.invariant.put c.in_ok-put_given_entry.ensures.bytes;
   count = c.in_ok-put_given_entry.ensures.count ∙ c.loop-i.invariant.count;
-  left = (let h = values_here c.args.entries.now c.loop-i.i _ c.at-entry.ensures.entry in let l = c.loop-i.invariant.left in let n = c.next_at-at.ensures in omega arith);
+  left = (let h = values_here c.args.entries.now c.loop-i.i _ c.at-entry.ensures.entry in let l = c.loop-i.invariant.left in
+      let n = c.next_at-at.ensures in omega arith);
 }

@@ -11,7 +11,9 @@ use Rattle.px_layout.proofs.put_running.put_running_entries.Given as goal
 -- the entries so far were put, no call failed, and the next value stands behind those of these entries
 abbrev pub invariant-loop-i : goal.invariant-loop-i
 invariant-loop-i g l = record {
-  put : HasPut g.W.Sink.bytes_taken l.initial.writer l.writer l.initial.pending l.pending (flat_map (entry_bytes (normal_plan (said_in l.form)) Most 0 l.fn.dir) (take l.i l.entries));
+  put : HasPut g.W.Sink.bytes_taken l.initial.writer l.writer l.initial.pending l.pending
+      (flat_map (entry_bytes (normal_plan (said_in l.form)) Most 0 l.fn.dir) (take l.i l.entries));
   count : g.W.Device.failed l.writer ≡ g.W.Device.failed l.initial.writer;
-  left : l.at + values_size (drop l.i l.entries) ≡ start (said_in l.form) l.fn.dir + even (table_size (length l.entries)) + values_size l.entries;
+  left : l.at + values_size (drop l.i l.entries) ≡ start (said_in l.form) l.fn.dir + even
+      (table_size (length l.entries)) + values_size l.entries;
 }

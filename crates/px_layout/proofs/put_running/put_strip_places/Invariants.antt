@@ -8,7 +8,8 @@ use Rattle.px_layout.proofs.put_running.put_strip_places.Given as goal
 -- the offsets so far were put, no call failed, and the next strip stands behind those
 abbrev pub invariant-loop-i : goal.invariant-loop-i
 invariant-loop-i g l = record {
-  put : HasPut g.W.Sink.bytes_taken l.initial.writer l.writer l.initial.pending l.pending (flat_map (long_bytes Most) (take l.i (strip_places l.initial.at l.strips)));
+  put : HasPut g.W.Sink.bytes_taken l.initial.writer l.writer l.initial.pending l.pending
+      (flat_map (long_bytes Most) (take l.i (strip_places l.initial.at l.strips)));
   count : g.W.Device.failed l.writer ≡ g.W.Device.failed l.initial.writer;
   left : l.at + strips_size (drop l.i l.strips) ≡ l.initial.at + strips_size l.strips;
 }

@@ -25,4 +25,5 @@ pub returns-clause-bytes : goal.returns-clause-bytes
 returns-clause-bytes g c =
     let all : take c.loop-i.i c.args.strips.now ≡ c.args.strips.now = take_all c.loop-i.i c.args.strips.now (omega arith) in
     has_as g.W.Sink.bytes_taken _ _ c.args.pending.now c.loop-i.pending _ _ (strips_padded 0 c.args.strips.now)
-    (subst (λ (xs : List (List ℕ)). HasPut g.W.Sink.bytes_taken c.args.writer.now c.loop-i.writer c.args.pending.now c.loop-i.pending (flat_map padded xs)) all c.loop-i.invariant.put)
+    (subst (λ (xs : List (List ℕ)). HasPut g.W.Sink.bytes_taken c.args.writer.now c.loop-i.writer c.args.pending.now c.loop-i.pending
+    (flat_map padded xs)) all c.loop-i.invariant.put)
