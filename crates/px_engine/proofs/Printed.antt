@@ -1,25 +1,37 @@
 -- How runs that print end, from what their parts answer.
-use Rattle.std.proofs.Common.{◌≡◌, ℕ, Bool, Option, List, Result, Ok, Err, refl, subst, ◌∙◌}
-use Rattle.std.specs.Io.KnownBytes.{Appends}
-use Rattle.px_bytes.specs.Devices.{AppendsPrefix}
+use Rattle.std.proofs.Common.{◌≡◌, ◌++◌, ℕ, Bool, Option, List, [], Result, Ok, Err, refl, sym, subst}
+use Rattle.px_bytes.specs.Devices.{Counts, Writes}
 use Rattle.px_bytes.specs.Reading.{ReadsUpTo}
+use Rattle.px_bytes.specs.Waiting.{Owes}
+use Rattle.px_bytes.specs.lemmas.WaitingLaws.{from_none, owed_all, owed_prefix}
 use Rattle.px_engine.specs.declared.faults.Fault.{Fault}
 use Rattle.px_engine.specs.declared.faults.Fault.TheVariants.{Refused, NormalTooLong, OutOfMemory, ReadFailed, WriteFailed}
 use Rattle.px_engine.specs.Files.{Said}
-use Rattle.px_engine.specs.Input.{IsUnsaid}
+use Rattle.px_engine.specs.Input.{IsSaid, IsUnsaid}
 use Rattle.px_engine.specs.Lacking.{LacksRun}
-use Rattle.px_engine.specs.Prints.{IsTextOf, WritesText, Prints}
+use Rattle.px_engine.specs.Prints.{WritesText, Prints}
+use Rattle.px_engine.specs.calls.Faults.{told}
 use Rattle.px_engine.proofs.Judged.{known_said, known_stops}
 
--- the text `out` was made, and `sent` is it
-pub printed : {A : Type 0} (text : Said → List ℕ) (r : Result A Fault) (left left_now : Option (List ℕ)) (bytes out sent : List ℕ) (old new : Option (List ℕ)) (a b : ℕ)
-    → ReadsUpTo left left_now 16777223 bytes → IsTextOf text bytes out → sent ≡ out → WritesText r old new a b sent → Prints text r left old new
-printed text (Ok x) left left_now bytes out sent old new a b read h e w = (h.0, known_said left left_now bytes h.0 read h.1, subst (Appends old new) (e ∙ h.2) w.0)
-printed text (Err WriteFailed) left left_now bytes out sent old new a b read h e w = (h.0, known_said left left_now bytes h.0 read h.1, subst (AppendsPrefix old new) (e ∙ h.2) w.0)
-printed text (Err (Refused cause place)) left left_now bytes out sent old new a b read h e w = absurd w
-printed text (Err OutOfMemory) left left_now bytes out sent old new a b read h e w = absurd w
-printed text (Err ReadFailed) left left_now bytes out sent old new a b read h e w = absurd w
-printed text (Err NormalTooLong) left left_now bytes out sent old new a b read h e w = absurd w
+-- a text of which nothing waited at first, once what waits at last was sent
+pub sent : {A E : Type 0} (r : Result A E) (a b c : Option (List ℕ)) (none held out : List ℕ) → none ≡ [] → Owes a b held (none ++ out) → Writes r b c held → Writes r a c out
+sent (Ok x) a b c none held out e p q = owed_all a b c held out (from_none (Owes a b held) none out e p) q
+sent (Err x) a b c none held out e p q = owed_prefix a b c held out (from_none (Owes a b held) none out e p) q
+
+-- the answer of a writer of texts, as that of a run
+pub told_text : {A E : Type 0} (r : Result A E) (t : Result A Fault) (old new : Option (List ℕ)) (a b : ℕ) (out : List ℕ) → t ≡ told r → Writes r old new out → Counts r a b → WritesText t old new a b out
+told_text (Ok x) t old new a b out e w n = subst (λ z. WritesText z old new a b out) (sym e) (w, n)
+told_text (Err x) t old new a b out e w n = subst (λ z. WritesText z old new a b out) (sym e) (w, n)
+
+-- the text of what was said is `text s`
+pub printed : {A : Type 0} (text : Said → List ℕ) (r : Result A Fault) (left left_now : Option (List ℕ)) (bytes : List ℕ) (s : Said) (old new : Option (List ℕ)) (a b : ℕ)
+    → ReadsUpTo left left_now 16777223 bytes → IsSaid bytes s → WritesText r old new a b (text s) → Prints text r left old new
+printed text (Ok x) left left_now bytes s old new a b read h w = (s, known_said left left_now bytes s read h, w.0)
+printed text (Err WriteFailed) left left_now bytes s old new a b read h w = (s, known_said left left_now bytes s read h, w.0)
+printed text (Err (Refused cause place)) left left_now bytes s old new a b read h w = absurd w
+printed text (Err OutOfMemory) left left_now bytes s old new a b read h w = absurd w
+printed text (Err ReadFailed) left left_now bytes s old new a b read h w = absurd w
+printed text (Err NormalTooLong) left left_now bytes s old new a b read h w = absurd w
 
 -- the bytes that were read say nothing
 pub not_printed : (A : Type 0) (text : Said → List ℕ) (fault : Fault) (left left_now : Option (List ℕ)) (bytes : List ℕ) (lacking : Bool) (old : Option (List ℕ))

@@ -1,5 +1,3 @@
 -- Words of the contracts of single calls. What the promises rest on stands a folder above.
 pub mod Faults
 pub mod Seen
-pub mod Words
-pub mod CaptionView

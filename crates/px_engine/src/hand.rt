@@ -11,12 +11,11 @@ ghost use Rattle.px_engine.specs.Listing.{listing};
 ghost use Rattle.px_engine.specs.Prints.{IsTextOf};
 ghost use Rattle.px_engine.specs.calls.Seen.{said_of};
 
-use crate::caption_lines::caption_text;
 use crate::faults::{CompareFault, Fault, Side};
 use crate::judging::{judge, judge_side, kind_in};
 use crate::kinds::BlockKind;
-use crate::listing::listing;
 use crate::meanings::{Said, same};
+use crate::texts::{caption_text, listing};
 use crate::writing::write_said;
 use px_bytes::{Growing, Memory};
 use std::alloc::Global;

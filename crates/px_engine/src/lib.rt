@@ -20,28 +20,21 @@
 //! ```
 #![tactic(auto)]
 
-mod caption;
-mod caption_lines;
 #[cfg(test)]
 mod caption_tests;
-mod dataset_lines;
 mod faults;
-mod field_lines;
 #[cfg(test)]
 mod flush_tests;
-mod gather;
 mod hand;
 mod headline;
 mod input;
 mod judging;
 mod kinds;
-mod labels;
+mod labelled;
 pub mod laws;
-mod listing;
 #[cfg(test)]
 mod listing_tests;
 mod meanings;
-mod printing;
 mod runs;
 #[cfg(test)]
 mod tests;
@@ -49,9 +42,7 @@ mod texts;
 mod version;
 mod writing;
 
-pub use caption::{Caption, Captions};
 pub use faults::{CompareFault, Fault, Side};
-pub use gather::{captions_of, captions_of_in};
 pub use hand::{
     captions_text, captions_text_in, check_of, check_of_in, normal_form, normal_form_in, same_of,
     same_of_in, show_of, show_of_in,
@@ -59,8 +50,11 @@ pub use hand::{
 pub use headline::{NormalForms, normalise_both, normalise_both_in};
 pub use input::{read_all, read_all_in, read_any, read_any_in};
 pub use kinds::BlockKind;
-pub use labels::Label;
+pub use labelled::{captions_of, captions_of_in};
 pub use meanings::{Said, same};
-pub use printing::{captions, captions_in, show, show_in};
-pub use runs::{check, check_in, compare, compare_in, normalise, normalise_in};
+pub use px_text::{Caption, Captions, Label};
+pub use runs::{
+    captions, captions_in, check, check_in, compare, compare_in, normalise, normalise_in, show,
+    show_in,
+};
 pub use version::VERSION;

@@ -1,7 +1,10 @@
 // Whole runs over readers and writers.
 ghost use Rattle.std.specs.Prelude.{◌≡◌, ◌<◌, ◌+◌, ◌^◌};
 ghost use Rattle.px_bytes.specs.Reading.{ConsumesAtMost};
+ghost use Rattle.px_engine.specs.Captions.{caption_text};
 ghost use Rattle.px_engine.specs.Lacking.{LacksRun, LacksPair};
+ghost use Rattle.px_engine.specs.Listing.{listing};
+ghost use Rattle.px_engine.specs.Prints.{Prints};
 ghost use Rattle.px_engine.specs.Runs.{Checks, Normalises, Compares, CountsReads, CountsWrites, CountsSides, Untouched};
 
 use crate::faults::{CompareFault, Fault, Side};
@@ -10,6 +13,7 @@ use crate::input::{read_all_in, read_side};
 use crate::judging::{judge, judge_side};
 use crate::kinds::BlockKind;
 use crate::meanings::same;
+use crate::texts::{write_captions, write_listing};
 use crate::writing::write_said;
 use px_bytes::{Memory, Sink, Source};
 use std::alloc::Global;
@@ -80,6 +84,84 @@ pub fn check<R: Source>(alloc: Global, reader: &mut R) -> Result<BlockKind, Faul
     ensures reads { CountsReads result (R.failed reader.old) (R.failed reader.new) }
 {
     check_in(&mut Memory::new(alloc), reader)
+}
+
+/// Reads a file and writes the listing of what it says, a line for each directory, field and DataSet, in
+/// writes of up to 8,192 bytes, of which a shorter text needs one, and then flushes once.
+///
+/// Nothing is written before the file is read and judged: after every fault but `WriteFailed` the writer
+/// has taken nothing, after that a prefix of the text. `Refused` names the block's first fault;
+/// `ReadFailed` and `WriteFailed` come where a call of that device failed, which ends the run, and
+/// `OutOfMemory` exactly where a growth was refused. `NormalTooLong` never comes. It takes memory for the
+/// file and for what it says, and none for the text, which goes out as it is made.
+pub fn show_in<R: Source, W: Sink>(
+    memory: &mut Memory,
+    reader: &mut R,
+    writer: &mut W,
+) -> Result<(), Fault>
+    requires reading { R.failed reader.old + 1 < 2 ^ 64 }
+    requires writing { W.failed writer.old + 1 < 2 ^ 64 }
+    ensures done { Prints listing result (R.bytes_left reader.old) (W.bytes_taken writer.old) (W.bytes_taken writer.new) }
+    ensures lost { ConsumesAtMost (R.bytes_left reader.old) (R.bytes_left reader.new) 16777223 }
+    ensures reads { CountsReads result (R.failed reader.old) (R.failed reader.new) }
+    ensures writes { CountsWrites result (W.failed writer.old) (W.failed writer.new) }
+    ensures memory { LacksRun result memory.old memory.new }
+{
+    let file = read_all_in(memory, reader)?;
+    let said = judge(memory, &file)?;
+    write_listing(&said, writer)
+}
+
+/// The same with memory of its own.
+pub fn show<R: Source, W: Sink>(alloc: Global, reader: &mut R, writer: &mut W) -> Result<(), Fault>
+    requires reading { R.failed reader.old + 1 < 2 ^ 64 }
+    requires writing { W.failed writer.old + 1 < 2 ^ 64 }
+    ensures done { Prints listing result (R.bytes_left reader.old) (W.bytes_taken writer.old) (W.bytes_taken writer.new) }
+    ensures lost { ConsumesAtMost (R.bytes_left reader.old) (R.bytes_left reader.new) 16777223 }
+    ensures reads { CountsReads result (R.failed reader.old) (R.failed reader.new) }
+    ensures writes { CountsWrites result (W.failed writer.old) (W.failed writer.new) }
+{
+    show_in(&mut Memory::new(alloc), reader, writer)
+}
+
+/// Reads a file and writes its captions, one a line, in writes as those of `show`, and then flushes once.
+/// A byte from 20 to 7E stands for itself, but the backslash; each other one is a backslash and two
+/// hexadecimal digits.
+///
+/// Faults are those of `show`, and what was written after each. It takes memory as `show` does, and none
+/// for the text.
+pub fn captions_in<R: Source, W: Sink>(
+    memory: &mut Memory,
+    reader: &mut R,
+    writer: &mut W,
+) -> Result<(), Fault>
+    requires reading { R.failed reader.old + 1 < 2 ^ 64 }
+    requires writing { W.failed writer.old + 1 < 2 ^ 64 }
+    ensures done { Prints caption_text result (R.bytes_left reader.old) (W.bytes_taken writer.old) (W.bytes_taken writer.new) }
+    ensures lost { ConsumesAtMost (R.bytes_left reader.old) (R.bytes_left reader.new) 16777223 }
+    ensures reads { CountsReads result (R.failed reader.old) (R.failed reader.new) }
+    ensures writes { CountsWrites result (W.failed writer.old) (W.failed writer.new) }
+    ensures memory { LacksRun result memory.old memory.new }
+{
+    let file = read_all_in(memory, reader)?;
+    let said = judge(memory, &file)?;
+    write_captions(&said, writer)
+}
+
+/// The same with memory of its own.
+pub fn captions<R: Source, W: Sink>(
+    alloc: Global,
+    reader: &mut R,
+    writer: &mut W,
+) -> Result<(), Fault>
+    requires reading { R.failed reader.old + 1 < 2 ^ 64 }
+    requires writing { W.failed writer.old + 1 < 2 ^ 64 }
+    ensures done { Prints caption_text result (R.bytes_left reader.old) (W.bytes_taken writer.old) (W.bytes_taken writer.new) }
+    ensures lost { ConsumesAtMost (R.bytes_left reader.old) (R.bytes_left reader.new) 16777223 }
+    ensures reads { CountsReads result (R.failed reader.old) (R.failed reader.new) }
+    ensures writes { CountsWrites result (W.failed writer.old) (W.failed writer.new) }
+{
+    captions_in(&mut Memory::new(alloc), reader, writer)
 }
 
 /// Reads two files and answers whether they say the same: the same tree of directories, or the same

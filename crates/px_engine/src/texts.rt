@@ -1,86 +1,119 @@
-// What texts are made of: each call puts a part behind a text, in memory that tells where it lacks room.
-ghost use Rattle.std.specs.Prelude.{◌≡◌, ◌≤◌, ◌*◌, ◌++◌, length, OnOk};
-ghost use Rattle.hex.specs.Hex.{encode_lower};
+// The texts of what is said, written.
+ghost use Rattle.std.specs.Prelude.{◌≡◌, ◌<◌, ◌+◌, ◌^◌, IfOk};
+ghost use Rattle.px_bytes.specs.Devices.{Counts, Writes};
 ghost use Rattle.px_bytes.specs.Lacking.{Lacks};
-ghost use Rattle.px_engine.specs.calls.Words.{shown_bytes, sized_bytes};
+ghost use Rattle.px_bytes.specs.Waiting.{Puts};
+ghost use Rattle.px_engine.specs.Captions.{caption_text};
+ghost use Rattle.px_engine.specs.Listing.{listing};
+ghost use Rattle.px_engine.specs.Prints.{WritesText};
+ghost use Rattle.px_engine.specs.calls.Faults.{told};
+ghost use Rattle.px_engine.specs.calls.Seen.{said_of};
 
-use hex::encode_to_slice;
-use itoa::{Buffer, Integer};
-use px_bytes::{Memory, Refused};
+use crate::faults::Fault;
+use crate::meanings::Said;
+use px_bytes::{Failed, Growing, Memory, Pending, Refused, Sink};
+use px_text::{put_exif_captions, put_exif_listing, put_iim_captions, put_iim_listing};
 
-// How many bytes are turned into hexadecimal digits at a time.
-const PIECE: usize = 64;
-
-// Appends a number in decimal.
-pub(crate) fn push_decimal<I: Integer>(
-    memory: &mut Memory,
-    n: I,
-    out: &mut Vec<u8>,
-) -> Result<(), Refused>
-    ensures text { OnOk result (out.new.items ≡ out.old.items ++ I.text n) }
-    ensures memory { Lacks result memory.old memory.new }
+// Puts the listing of what is said behind the bytes that wait.
+fn put_listing<W: Sink>(pending: &mut Pending, writer: &mut W, said: &Said) -> Result<(), Failed>
+    requires { W.failed writer.old + 1 < 2 ^ 64 }
+    ensures bytes { Puts result (W.bytes_taken writer.old) (W.bytes_taken writer.new) pending.old pending.new (listing (said_of said.now)) }
+    ensures count { Counts result (W.failed writer.old) (W.failed writer.new) }
 {
-    let mut digits = Buffer::new();
-    memory.extend_from_slice(out, digits.format(n).as_bytes())
-}
-
-// Appends a few bytes in hexadecimal.
-fn push_piece(memory: &mut Memory, piece: &[u8], out: &mut Vec<u8>) -> Result<(), Refused>
-    requires { length piece.now ≤ 64 }
-    ensures text { OnOk result (out.new.items ≡ out.old.items ++ encode_lower piece.now) }
-    ensures memory { Lacks result memory.old memory.new }
-{
-    let mut digits = [0; 2 * PIECE];
-    let width = 2 * piece.len();
-    let Ok(()) = encode_to_slice(piece, &mut digits[..width]) else {
-        unreachable!()
-    };
-    memory.extend_from_slice(out, &digits[..width])
-}
-
-// Appends bytes in hexadecimal.
-pub(crate) fn push_hex(memory: &mut Memory, bytes: &[u8], out: &mut Vec<u8>) -> Result<(), Refused>
-    ensures text { OnOk result (out.new.items ≡ out.old.items ++ encode_lower bytes.now) }
-    ensures memory { Lacks result memory.old memory.new }
-{
-    let mut at = 0;
-    while at < bytes.len() {
-        let end = at + PIECE.min(bytes.len() - at);
-        push_piece(memory, &bytes[at..end], out)?;
-        at = end;
+    match said {
+        Said::Exif(meaning) => put_exif_listing(pending, writer, meaning),
+        Said::Iim(iim) => put_iim_listing(pending, writer, iim),
     }
-    Ok(())
 }
 
-// Appends bytes in hexadecimal behind one space, where there are any.
-pub(crate) fn push_shown(
-    memory: &mut Memory,
-    bytes: &[u8],
-    out: &mut Vec<u8>,
-) -> Result<(), Refused>
-    ensures text { OnOk result (out.new.items ≡ out.old.items ++ shown_bytes bytes.now) }
-    ensures memory { Lacks result memory.old memory.new }
+// Puts the captions of what is said so.
+fn put_captions<W: Sink>(pending: &mut Pending, writer: &mut W, said: &Said) -> Result<(), Failed>
+    requires { W.failed writer.old + 1 < 2 ^ 64 }
+    ensures bytes { Puts result (W.bytes_taken writer.old) (W.bytes_taken writer.new) pending.old pending.new (caption_text (said_of said.now)) }
+    ensures count { Counts result (W.failed writer.old) (W.failed writer.new) }
 {
-    if bytes.is_empty() {
-        return Ok(());
+    match said {
+        Said::Exif(meaning) => put_exif_captions(pending, writer, meaning),
+        Said::Iim(iim) => put_iim_captions(pending, writer, iim),
     }
-    memory.extend_from_slice(out, b" ")?;
-    push_hex(memory, bytes, out)
 }
 
-// Appends how many bytes there are, and the bytes, up to the end of the line.
-#[tactic(auto, unfolding(crate::specs::calls::Words::sized_bytes))]
-pub(crate) fn push_sized(
-    memory: &mut Memory,
-    bytes: &[u8],
-    out: &mut Vec<u8>,
-) -> Result<(), Refused>
-    ensures text { OnOk result (out.new.items ≡ out.old.items ++ sized_bytes bytes.now) }
+// Sends what waits, and flushes once.
+fn send_and_flush<W: Sink>(pending: &mut Pending, writer: &mut W) -> Result<(), Failed>
+    requires { W.failed writer.old + 1 < 2 ^ 64 }
+    ensures bytes { Writes result (W.bytes_taken writer.old) (W.bytes_taken writer.new) pending.old }
+    ensures count { Counts result (W.failed writer.old) (W.failed writer.new) }
+{
+    pending.send(writer)?;
+    writer.flush_all()
+}
+
+// Writes the listing of what is said, and flushes once.
+fn send_listing<W: Sink>(said: &Said, writer: &mut W) -> Result<(), Failed>
+    requires { W.failed writer.old + 1 < 2 ^ 64 }
+    ensures bytes { Writes result (W.bytes_taken writer.old) (W.bytes_taken writer.new) (listing (said_of said.now)) }
+    ensures count { Counts result (W.failed writer.old) (W.failed writer.new) }
+{
+    let mut pending = Pending::new();
+    put_listing(&mut pending, writer, said)?;
+    send_and_flush(&mut pending, writer)
+}
+
+// Writes the captions of what is said so.
+fn send_captions<W: Sink>(said: &Said, writer: &mut W) -> Result<(), Failed>
+    requires { W.failed writer.old + 1 < 2 ^ 64 }
+    ensures bytes { Writes result (W.bytes_taken writer.old) (W.bytes_taken writer.new) (caption_text (said_of said.now)) }
+    ensures count { Counts result (W.failed writer.old) (W.failed writer.new) }
+{
+    let mut pending = Pending::new();
+    put_captions(&mut pending, writer, said)?;
+    send_and_flush(&mut pending, writer)
+}
+
+// What a writer of texts answers, as the answer of a run.
+fn told(answer: Result<(), Failed>) -> Result<(), Fault>
+    ensures { result ≡ told answer }
+{
+    match answer {
+        Ok(()) => Ok(()),
+        Err(_) => Err(Fault::WriteFailed),
+    }
+}
+
+// Writes the listing of what is said, and flushes once. It takes no memory.
+pub(crate) fn write_listing<W: Sink>(said: &Said, writer: &mut W) -> Result<(), Fault>
+    requires { W.failed writer.old + 1 < 2 ^ 64 }
+    ensures { WritesText result (W.bytes_taken writer.old) (W.bytes_taken writer.new) (W.failed writer.old) (W.failed writer.new) (listing (said_of said.now)) }
+{
+    told(send_listing(said, writer))
+}
+
+// Writes the captions of what is said so.
+pub(crate) fn write_captions<W: Sink>(said: &Said, writer: &mut W) -> Result<(), Fault>
+    requires { W.failed writer.old + 1 < 2 ^ 64 }
+    ensures { WritesText result (W.bytes_taken writer.old) (W.bytes_taken writer.new) (W.failed writer.old) (W.failed writer.new) (caption_text (said_of said.now)) }
+{
+    told(send_captions(said, writer))
+}
+
+// The listing of what is said.
+pub(crate) fn listing(memory: &mut Memory, said: &Said) -> Result<Vec<u8>, Refused>
+    ensures text { IfOk result (λ text. text.items ≡ listing (said_of said.now)) }
     ensures memory { Lacks result memory.old memory.new }
 {
-    memory.extend_from_slice(out, b" ")?;
-    push_decimal(memory, bytes.len(), out)?;
-    memory.extend_from_slice(out, b":")?;
-    push_shown(memory, bytes, out)?;
-    memory.extend_from_slice(out, b"\n")
+    let mut writer = Growing::new(memory);
+    // A write fails where a growth is refused, which the writer tells at its end.
+    let _ = send_listing(said, &mut writer);
+    writer.finish_in(memory)
+}
+
+// The text of the captions of what is said.
+pub(crate) fn caption_text(memory: &mut Memory, said: &Said) -> Result<Vec<u8>, Refused>
+    ensures text { IfOk result (λ text. text.items ≡ caption_text (said_of said.now)) }
+    ensures memory { Lacks result memory.old memory.new }
+{
+    let mut writer = Growing::new(memory);
+    // A write fails where a growth is refused, which the writer tells at its end.
+    let _ = send_captions(said, &mut writer);
+    writer.finish_in(memory)
 }

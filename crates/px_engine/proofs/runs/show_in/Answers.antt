@@ -1,0 +1,25 @@
+use Rattle.std.proofs.Common.{◌∙◌}
+use Rattle.std.proofs.lemmas.Result.{err_from_is_err_and}
+use Rattle.px_engine.specs.Listing.{listing}
+use Rattle.px_engine.specs.calls.Seen.{said_of}
+use Rattle.px_engine.proofs.Judged.{read_as}
+use Rattle.px_engine.proofs.Ended.{lacks_later}
+use Rattle.px_engine.proofs.Printed.{printed, not_printed, lacks_no_text}
+use Rattle.px_engine.proofs.runs.show_in.Goals as goal
+
+pub returns-clause-done : goal.returns-clause-done
+returns-clause-done g c = printed listing c.write_listing.result _ _ c.deref.result.now (said_of c.in_ok-said.said) _ _ _ _
+    (read_as _ _ _ _ c.deref.ensures.value c.in_ok-file.ensures.found) c.in_ok-said.ensures.said c.write_listing.ensures
+
+pub returns-in_err-said-clause-done : goal.returns-in_err-said-clause-done
+returns-in_err-said-clause-done g c =
+    let p = err_from_is_err_and c.from_residual-in_err-said.result c.from_residual-in_err-said.ensures.1 in
+    rw (p.1, p.2) (not_printed (Unit {0}) listing c.in_err-said.field-0.0 _ _ c.deref.result.now _ _ (read_as _ _ _ _ c.deref.ensures.value c.in_ok-file.ensures.found) c.in_err-said.ensures.unsaid)
+
+pub returns-clause-memory : goal.returns-clause-memory
+returns-clause-memory g c = lacks_no_text c.write_listing.result _ _ _ _ _ _ _ (c.in_ok-said.ensures.memory ∙ c.in_ok-file.ensures.memory) c.write_listing.ensures
+
+pub returns-in_err-said-clause-memory : goal.returns-in_err-said-clause-memory
+returns-in_err-said-clause-memory g c =
+    let p = err_from_is_err_and c.from_residual-in_err-said.result c.from_residual-in_err-said.ensures.1 in
+    rw (p.1, p.2) (lacks_later c.in_err-said.field-0.0 _ _ _ c.in_ok-file.ensures.memory c.in_err-said.ensures.memory)

@@ -1,0 +1,40 @@
+use Rattle.std.proofs.Common.{◌++◌}
+use Rattle.std.specs.Prelude.{codes}
+use Rattle.std.proofs.lemmas.Result.{err_from_is_err_and}
+use Rattle.px_bytes.specs.lemmas.WaitingLaws.{puts_both, puts_first}
+use Rattle.px_text.specs.Captions.{label_word, escaped, caption_line}
+use Rattle.px_text.proofs.Chains.{next, owes_as, stop}
+use Rattle.px_text.proofs.caption_lines.put_line.Goals as goal
+
+pub returns-in_err-put-2-clause-bytes : goal.returns-in_err-put-2-clause-bytes
+unfolding caption_line
+returns-in_err-put-2-clause-bytes g c =
+    let p = err_from_is_err_and c.from_residual-in_err-put-2.result c.from_residual-in_err-put-2.ensures.1 in
+    let held = c.args.pending.now in
+    let first = label_word c.args.caption.label in
+    let third = escaped c.args.caption.text.now in
+    rw p.1 (puts_first _ _ held (first ++ codes ": " ++ third) (codes "\n") (puts_first _ _ held (first ++ codes ": ") third (stop _ _ _
+    held c.put.new.self first (codes ": ") (owes_as _ _ held c.put.new.self _ _ c.label_word.ensures c.in_ok-put.ensures.bytes)
+    c.in_err-put-2.ensures.bytes)))
+
+pub returns-in_err-put_escaped-clause-bytes : goal.returns-in_err-put_escaped-clause-bytes
+unfolding caption_line
+returns-in_err-put_escaped-clause-bytes g c =
+    let p = err_from_is_err_and c.from_residual-in_err-put_escaped.result c.from_residual-in_err-put_escaped.ensures.1 in
+    let held = c.args.pending.now in
+    let first = label_word c.args.caption.label in
+    let third = escaped c.args.caption.text.now in
+    rw p.1 (puts_first _ _ held (first ++ codes ": " ++ third) (codes "\n") (stop _ _ _ held c.put-2.new.self (first ++ codes ": ") third
+    (next _ _ _ held c.put.new.self c.put-2.new.self first (codes ": ") (owes_as _ _ held c.put.new.self _ _ c.label_word.ensures
+    c.in_ok-put.ensures.bytes) c.in_ok-put-2.ensures.bytes) c.in_err-put_escaped.ensures.bytes))
+
+pub returns-clause-bytes : goal.returns-clause-bytes
+unfolding caption_line
+returns-clause-bytes g c =
+    let held = c.args.pending.now in
+    let first = label_word c.args.caption.label in
+    let third = escaped c.args.caption.text.now in
+    puts_both c.put-3.result _ _ _ held c.put_escaped.new.pending c.put-3.new.self (first ++ codes ": " ++ third) (codes "\n") (next _ _
+    _ held c.put-2.new.self c.put_escaped.new.pending (first ++ codes ": ") third (next _ _ _ held c.put.new.self c.put-2.new.self first
+    (codes ": ") (owes_as _ _ held c.put.new.self _ _ c.label_word.ensures c.in_ok-put.ensures.bytes) c.in_ok-put-2.ensures.bytes)
+    c.in_ok-put_escaped.ensures.bytes) c.put-3.ensures.bytes

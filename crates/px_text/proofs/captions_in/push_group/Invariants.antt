@@ -1,0 +1,12 @@
+use Rattle.std.proofs.Common.{◌≡◌, ◌++◌, take, map}
+use Rattle.std.specs.Prelude.{filter_map}
+use Rattle.px_iim.specs.calls.View.{item_view}
+use Rattle.px_text.specs.Captions.{labelled}
+use Rattle.px_text.specs.calls.CaptionView.{caption_view}
+use Rattle.px_text.proofs.captions_in.push_group.Given as goal
+
+abbrev pub invariant-loop-item : goal.invariant-loop-item
+invariant-loop-item l = record {
+  list : map caption_view l.list.items ≡ map caption_view l.initial.list.items ++ filter_map labelled (take l.item-index (map item_view l.items));
+  memory : l.memory ≡ l.initial.memory;
+}

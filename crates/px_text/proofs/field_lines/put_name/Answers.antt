@@ -1,0 +1,39 @@
+use Rattle.std.proofs.Common.{◌++◌}
+use Rattle.std.specs.Prelude.{codes}
+use Rattle.std.proofs.lemmas.Result.{err_from_is_err_and}
+use Rattle.hex.specs.Hex.{encode_lower}
+use Rattle.px_bytes.specs.lemmas.WaitingLaws.{puts_both, puts_first}
+use Rattle.px_bytes.specs.declared.Order.TheVariants.{Most}
+use Rattle.px_bytes.specs.Numbers.{spelling}
+use Rattle.px_text.specs.Listing.{type_word}
+use Rattle.px_text.proofs.Chains.{next, owes_as, prefix_as, stop}
+use Rattle.px_text.proofs.field_lines.put_name.Goals as goal
+
+pub returns-in_err-put-clause-bytes : goal.returns-in_err-put-clause-bytes
+returns-in_err-put-clause-bytes g c =
+    let p = err_from_is_err_and c.from_residual-in_err-put.result c.from_residual-in_err-put.ensures.1 in
+    let held = c.args.pending.now in
+    let first = encode_lower (spelling Most 2 c.args.tag) in
+    let third = type_word c.args.kind in
+    rw p.1 (puts_first _ _ held (first ++ codes " " ++ third) (codes " ") (puts_first _ _ held (first ++ codes " ") third (stop _ _ _
+    held c.put_digits16.new.pending first (codes " ") c.in_ok-put_digits16.ensures.bytes c.in_err-put.ensures.bytes)))
+
+pub returns-in_err-put-2-clause-bytes : goal.returns-in_err-put-2-clause-bytes
+returns-in_err-put-2-clause-bytes g c =
+    let p = err_from_is_err_and c.from_residual-in_err-put-2.result c.from_residual-in_err-put-2.ensures.1 in
+    let held = c.args.pending.now in
+    let first = encode_lower (spelling Most 2 c.args.tag) in
+    let third = type_word c.args.kind in
+    rw p.1 (puts_first _ _ held (first ++ codes " " ++ third) (codes " ") (stop _ _ _ held c.put.new.self (first ++ codes " ") third
+    (next _ _ _ held c.put_digits16.new.pending c.put.new.self first (codes " ") c.in_ok-put_digits16.ensures.bytes
+    c.in_ok-put.ensures.bytes) (prefix_as _ _ c.put.new.self _ _ c.type_word.ensures c.in_err-put-2.ensures.bytes)))
+
+pub returns-clause-bytes : goal.returns-clause-bytes
+returns-clause-bytes g c =
+    let held = c.args.pending.now in
+    let first = encode_lower (spelling Most 2 c.args.tag) in
+    let third = type_word c.args.kind in
+    puts_both c.put-3.result _ _ _ held c.put-2.new.self c.put-3.new.self (first ++ codes " " ++ third) (codes " ") (next _ _ _ held
+    c.put.new.self c.put-2.new.self (first ++ codes " ") third (next _ _ _ held c.put_digits16.new.pending c.put.new.self first (codes
+    " ") c.in_ok-put_digits16.ensures.bytes c.in_ok-put.ensures.bytes) (owes_as _ _ c.put.new.self c.put-2.new.self _ _
+    c.type_word.ensures c.in_ok-put-2.ensures.bytes)) c.put-3.ensures.bytes

@@ -1,0 +1,146 @@
+-- What `captions` prints: the labelled texts of an Exif block's main directory, and those of a record.
+use Rattle.std.specs.Prelude.{ℕ, Bool, true, false, not, nat_le, ◌==◌, ◌&&◌, if◌then◌else◌, List, [], ◌∷◌, ◌++◌, codes, flat_map, filter_map, Option, Some, None, option_map, bytes_eq}
+use Rattle.hex.specs.Hex.{encode_lower}
+use Rattle.px_bytes.specs.declared.Order.TheVariants.{Most}
+use Rattle.px_field.specs.declared.Form.TheVariants.{Ascii, Utf8}
+use Rattle.px_field.specs.declared.Kind.{Kind}
+use Rattle.px_field.specs.declared.Kind.TheVariants.{Of}
+use Rattle.px_field.specs.Values.{Value, spelled}
+use Rattle.px_iim.specs.Group.{Record, named, items_at}
+use Rattle.px_tree.specs.Roles.{at_tag}
+use Rattle.px_tree.specs.Tree.{Fields, Meaning}
+use Rattle.px_text.specs.declared.labels.Label.{Label}
+use Rattle.px_text.specs.declared.labels.Label.TheVariants.{Title, Caption, Headline, Credit, Source, Copyright, ByLine, ByLineTitle, Keyword, Inventory, Description, Artist}
+
+-- a caption: its label, and its bytes
+abbrev pub Labelled : Type 0
+Labelled = Label × List ℕ
+
+-- ---- captions of a record. IIM 4.2, chapter 6.
+
+-- the label of a DataSet of record 2: 5 Object Name, 120 Caption/Abstract, 105 Headline, 110 Credit, 115 Source, 116
+-- Copyright Notice, 80 By-line, 85 By-line Title, 25 Keywords, and 103 Original Transmission Reference, whose use as the
+-- inventory number is this project's profile
+unfoldable pub label_of : ℕ → Option Label
+label_of n =
+    if n == 5 then Some Title
+    else if n == 120 then Some Caption
+    else if n == 105 then Some Headline
+    else if n == 110 then Some Credit
+    else if n == 115 then Some Source
+    else if n == 116 then Some Copyright
+    else if n == 80 then Some ByLine
+    else if n == 85 then Some ByLineTitle
+    else if n == 25 then Some Keyword
+    else if n == 103 then Some Inventory
+    else None
+
+-- a DataSet with its label, where it has one
+abbrev pub labelled : ℕ × List ℕ → Option Labelled
+labelled x = option_map (λ l. (l, x.1)) (label_of x.0)
+
+-- the groups of record 2 in the order of their captions; By-line Title is in the group of By-line
+abbrev pub caption_groups : List ℕ
+caption_groups = 5 ∷ 120 ∷ 105 ∷ 110 ∷ 115 ∷ 116 ∷ 80 ∷ 25 ∷ 103 ∷ []
+
+-- those of one group, in list order
+abbrev pub group_captions : Record → ℕ → List Labelled
+group_captions i n = filter_map labelled (items_at 2 (named 2 n) i)
+
+unfoldable pub iim_captions : Record → List Labelled
+iim_captions i = flat_map (group_captions i) caption_groups
+
+-- ESC % G, the escape sequence of UTF-8; 1:90 takes those of ISO 2022
+abbrev pub utf8_designation : List ℕ
+utf8_designation = 0x1B ∷ 0x25 ∷ 0x47 ∷ []
+
+abbrev pub is_designation : List (ℕ × List ℕ) → Bool
+is_designation (x ∷ []) = bytes_eq x.1 utf8_designation
+is_designation _ = false
+
+-- the list of 1:90, Coded Character Set, is exactly one DataSet, which designates UTF-8
+unfoldable pub declares_utf8 : Record → Bool
+declares_utf8 i = is_designation (items_at 1 (named 1 90) i)
+
+-- ---- captions of an Exif block
+
+abbrev pub is_text : Kind → Bool
+is_text (Of Ascii) = true
+is_text (Of Utf8) = true
+is_text _ = false
+
+-- a field's bytes, where it is there and is a text
+abbrev pub text_captions : Label → Option Value → List Labelled
+text_captions l None = []
+text_captions l (Some v) = if is_text v.kind then (l, spelled Most v) ∷ [] else []
+
+-- ImageDescription, Artist and Copyright in the main directory
+unfoldable pub exif_captions : Fields → List Labelled
+exif_captions fs =
+    text_captions Description (at_tag 0x010E fs) ++ text_captions Artist (at_tag 0x013B fs) ++ text_captions Copyright (at_tag 0x8298 fs)
+
+-- ---- all: whether UTF-8 is declared, and the captions, of what an Exif block means and of a record
+
+abbrev pub record_declares : Option Record → Bool
+record_declares None = false
+record_declares (Some i) = declares_utf8 i
+
+abbrev pub record_captions : Option Record → List Labelled
+record_captions None = []
+record_captions (Some i) = iim_captions i
+
+abbrev pub captions_of_exif : Meaning → Bool × List Labelled
+captions_of_exif m = (record_declares m.iptc, exif_captions m.main ++ record_captions m.iptc)
+
+abbrev pub captions_of_iim : Record → Bool × List Labelled
+captions_of_iim i = (declares_utf8 i, iim_captions i)
+
+-- ---- their text
+
+-- a byte from 20 to 7E but 5C stands for itself; each other one is a backslash and two hexadecimal digits
+abbrev pub is_plain : ℕ → Bool
+is_plain b = nat_le 0x20 b && nat_le b 0x7E && not (b == 0x5C)
+
+abbrev pub escaped_byte : ℕ → List ℕ
+escaped_byte b = if is_plain b then b ∷ [] else codes "\\" ++ encode_lower (b ∷ [])
+
+abbrev pub escaped : List ℕ → List ℕ
+escaped x = flat_map escaped_byte x
+
+abbrev pub label_word : Label → List ℕ
+label_word Title = codes "title"
+label_word Caption = codes "caption"
+label_word Headline = codes "headline"
+label_word Credit = codes "credit"
+label_word Source = codes "source"
+label_word Copyright = codes "copyright"
+label_word ByLine = codes "byline"
+label_word ByLineTitle = codes "byline-title"
+label_word Keyword = codes "keyword"
+label_word Inventory = codes "inventory"
+label_word Description = codes "description"
+label_word Artist = codes "artist"
+
+unfoldable pub caption_line : Labelled → List ℕ
+caption_line c = label_word c.0 ++ codes ": " ++ escaped c.1 ++ codes "\n"
+
+abbrev pub caption_lines : List Labelled → List ℕ
+caption_lines cs = flat_map caption_line cs
+
+abbrev pub charset_line : Bool → List ℕ
+charset_line declared = if declared then codes "charset: UTF-8\n" else codes "charset: not declared\n"
+
+-- the lines of a record
+abbrev pub iim_lines : Record → List ℕ
+iim_lines i = charset_line (declares_utf8 i) ++ caption_lines (iim_captions i)
+
+abbrev pub record_lines : Option Record → List ℕ
+record_lines None = []
+record_lines (Some i) = iim_lines i
+
+-- the whole text, of both
+abbrev pub exif_text : Meaning → List ℕ
+exif_text m = codes "exif\n" ++ caption_lines (exif_captions m.main) ++ record_lines m.iptc
+
+abbrev pub iim_text : Record → List ℕ
+iim_text i = codes "iim\n" ++ iim_lines i

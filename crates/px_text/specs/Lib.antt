@@ -1,0 +1,4 @@
+pub mod Listing
+pub mod Captions
+pub mod Words
+pub mod calls

@@ -1,0 +1,204 @@
+// The lines of captions, escaped, made group by group.
+ghost use Rattle.std.specs.Prelude.{◌≡◌, ◌<◌, ◌+◌, ◌^◌, [], ◌∷◌, map, filter_map};
+ghost use Rattle.px_bytes.specs.Devices.{Counts};
+ghost use Rattle.px_bytes.specs.Waiting.{Puts};
+ghost use Rattle.px_iim.specs.calls.View.{item_view};
+ghost use Rattle.px_tree.specs.Roles.{at_tag};
+ghost use Rattle.px_tree.specs.calls.Seen.{meaning_of};
+ghost use Rattle.px_text.specs.Captions.{is_plain, escaped_byte, escaped, labelled, text_captions, caption_line, caption_lines, charset_line, iim_captions, iim_lines, record_lines, exif_captions, exif_text, iim_text};
+ghost use Rattle.px_text.specs.calls.CaptionView.{caption_view};
+
+use crate::caption::Caption;
+use crate::captions_in::{GROUPS, declares_utf8, text_of};
+use crate::labels::{Label, label_of, label_word};
+use crate::texts::put_hex;
+use px_bytes::{Failed, Pending, Sink};
+use px_iim::{Iim, Item};
+use px_tree::{Fields, Meaning};
+
+// Whether a byte stands for itself.
+fn is_plain(byte: u8) -> bool
+    ensures { result ≡ is_plain byte }
+{
+    0x20 <= byte && byte <= 0x7E && byte != 0x5C
+}
+
+fn put_byte<W: Sink>(pending: &mut Pending, writer: &mut W, byte: u8) -> Result<(), Failed>
+    requires { W.failed writer.old + 1 < 2 ^ 64 }
+    ensures bytes { Puts result (W.bytes_taken writer.old) (W.bytes_taken writer.new) pending.old pending.new (escaped_byte byte) }
+    ensures count { Counts result (W.failed writer.old) (W.failed writer.new) }
+{
+    if is_plain(byte) {
+        return pending.put(writer, &[byte]);
+    }
+    pending.put(writer, b"\\")?;
+    put_hex(pending, writer, &[byte])
+}
+
+// Puts bytes in which each that isn't a plain character is escaped.
+fn put_escaped<W: Sink>(pending: &mut Pending, writer: &mut W, bytes: &[u8]) -> Result<(), Failed>
+    requires { W.failed writer.old + 1 < 2 ^ 64 }
+    ensures bytes { Puts result (W.bytes_taken writer.old) (W.bytes_taken writer.new) pending.old pending.new (escaped bytes.now) }
+    ensures count { Counts result (W.failed writer.old) (W.failed writer.new) }
+{
+    for i in 0..bytes.len() {
+        put_byte(pending, writer, bytes[i])?;
+    }
+    Ok(())
+}
+
+#[tactic(auto, unfolding(crate::specs::Captions::caption_line))]
+fn put_line<W: Sink>(pending: &mut Pending, writer: &mut W, caption: Caption) -> Result<(), Failed>
+    requires { W.failed writer.old + 1 < 2 ^ 64 }
+    ensures bytes { Puts result (W.bytes_taken writer.old) (W.bytes_taken writer.new) pending.old pending.new (caption_line (caption_view caption.entry)) }
+    ensures count { Counts result (W.failed writer.old) (W.failed writer.new) }
+{
+    pending.put(writer, label_word(caption.label))?;
+    pending.put(writer, b": ")?;
+    put_escaped(pending, writer, caption.text)?;
+    pending.put(writer, b"\n")
+}
+
+// Puts the line of a DataSet, where it has a label.
+fn put_item<W: Sink>(pending: &mut Pending, writer: &mut W, item: &Item) -> Result<(), Failed>
+    requires { W.failed writer.old + 1 < 2 ^ 64 }
+    ensures bytes { Puts result (W.bytes_taken writer.old) (W.bytes_taken writer.new) pending.old pending.new (caption_lines (filter_map labelled (item_view item.now ∷ []))) }
+    ensures count { Counts result (W.failed writer.old) (W.failed writer.new) }
+{
+    match label_of(item.number) {
+        Some(label) => put_line(
+            pending,
+            writer,
+            Caption {
+                label,
+                text: item.octets,
+            },
+        ),
+        None => Ok(()),
+    }
+}
+
+// Puts the lines of those DataSets of a group that have a label.
+fn put_group<W: Sink>(pending: &mut Pending, writer: &mut W, items: &[Item]) -> Result<(), Failed>
+    requires { W.failed writer.old + 1 < 2 ^ 64 }
+    ensures bytes { Puts result (W.bytes_taken writer.old) (W.bytes_taken writer.new) pending.old pending.new (caption_lines (filter_map labelled (map item_view items.now))) }
+    ensures count { Counts result (W.failed writer.old) (W.failed writer.new) }
+{
+    for item in items {
+        put_item(pending, writer, item)?;
+    }
+    Ok(())
+}
+
+// Puts the lines of a record's captions.
+fn put_groups<W: Sink>(pending: &mut Pending, writer: &mut W, iim: &Iim) -> Result<(), Failed>
+    requires { W.failed writer.old + 1 < 2 ^ 64 }
+    ensures bytes { Puts result (W.bytes_taken writer.old) (W.bytes_taken writer.new) pending.old pending.new (caption_lines (iim_captions iim.now)) }
+    ensures count { Counts result (W.failed writer.old) (W.failed writer.new) }
+{
+    for i in 0..GROUPS.len() {
+        put_group(pending, writer, iim.group(2, GROUPS[i]))?;
+    }
+    Ok(())
+}
+
+fn put_charset<W: Sink>(pending: &mut Pending, writer: &mut W, declared: bool) -> Result<(), Failed>
+    requires { W.failed writer.old + 1 < 2 ^ 64 }
+    ensures bytes { Puts result (W.bytes_taken writer.old) (W.bytes_taken writer.new) pending.old pending.new (charset_line declared) }
+    ensures count { Counts result (W.failed writer.old) (W.failed writer.new) }
+{
+    if declared {
+        return pending.put(writer, b"charset: UTF-8\n");
+    }
+    pending.put(writer, b"charset: not declared\n")
+}
+
+// Puts the lines of a record.
+fn put_iim<W: Sink>(pending: &mut Pending, writer: &mut W, iim: &Iim) -> Result<(), Failed>
+    requires { W.failed writer.old + 1 < 2 ^ 64 }
+    ensures bytes { Puts result (W.bytes_taken writer.old) (W.bytes_taken writer.new) pending.old pending.new (iim_lines iim.now) }
+    ensures count { Counts result (W.failed writer.old) (W.failed writer.new) }
+{
+    put_charset(pending, writer, declares_utf8(iim))?;
+    put_groups(pending, writer, iim)
+}
+
+// Puts the lines of the record in a main directory.
+fn put_record<W: Sink>(
+    pending: &mut Pending,
+    writer: &mut W,
+    iim: &Option<Iim>,
+) -> Result<(), Failed>
+    requires { W.failed writer.old + 1 < 2 ^ 64 }
+    ensures bytes { Puts result (W.bytes_taken writer.old) (W.bytes_taken writer.new) pending.old pending.new (record_lines iim.now) }
+    ensures count { Counts result (W.failed writer.old) (W.failed writer.new) }
+{
+    match iim {
+        Some(iim) => put_iim(pending, writer, iim),
+        None => Ok(()),
+    }
+}
+
+// Puts the line of the field at a tag, where it is a text.
+fn put_text<W: Sink>(
+    pending: &mut Pending,
+    writer: &mut W,
+    fields: &Fields,
+    tag: u16,
+    label: Label,
+) -> Result<(), Failed>
+    requires { W.failed writer.old + 1 < 2 ^ 64 }
+    ensures bytes { Puts result (W.bytes_taken writer.old) (W.bytes_taken writer.new) pending.old pending.new (caption_lines (text_captions label (at_tag tag fields.now))) }
+    ensures count { Counts result (W.failed writer.old) (W.failed writer.new) }
+{
+    let Some(value) = fields.get(tag) else {
+        return Ok(());
+    };
+    let Some(text) = text_of(value) else {
+        return Ok(());
+    };
+    put_line(pending, writer, Caption { label, text })
+}
+
+// Puts the lines of a main directory.
+fn put_exif<W: Sink>(pending: &mut Pending, writer: &mut W, fields: &Fields) -> Result<(), Failed>
+    requires { W.failed writer.old + 1 < 2 ^ 64 }
+    ensures bytes { Puts result (W.bytes_taken writer.old) (W.bytes_taken writer.new) pending.old pending.new (caption_lines (exif_captions fields.now)) }
+    ensures count { Counts result (W.failed writer.old) (W.failed writer.new) }
+{
+    put_text(pending, writer, fields, 0x010E, Label::Description)?;
+    put_text(pending, writer, fields, 0x013B, Label::Artist)?;
+    put_text(pending, writer, fields, 0x8298, Label::Copyright)
+}
+
+/// Puts the captions of what an Exif block means behind the bytes that wait, one a line. A byte from 20 to 7E
+/// stands for itself, but the backslash; each other one is a backslash and two hexadecimal digits. It takes no
+/// memory, and ends at the first call that fails: the writer has then taken a prefix of those that waited and
+/// of the lines behind them.
+pub fn put_exif_captions<W: Sink>(
+    pending: &mut Pending,
+    writer: &mut W,
+    meaning: &Meaning,
+) -> Result<(), Failed>
+    requires { W.failed writer.old + 1 < 2 ^ 64 }
+    ensures bytes { Puts result (W.bytes_taken writer.old) (W.bytes_taken writer.new) pending.old pending.new (exif_text (meaning_of meaning.now)) }
+    ensures count { Counts result (W.failed writer.old) (W.failed writer.new) }
+{
+    pending.put(writer, b"exif\n")?;
+    put_exif(pending, writer, &meaning.main)?;
+    put_record(pending, writer, &meaning.iptc)
+}
+
+/// Puts the captions of a record so.
+pub fn put_iim_captions<W: Sink>(
+    pending: &mut Pending,
+    writer: &mut W,
+    iim: &Iim,
+) -> Result<(), Failed>
+    requires { W.failed writer.old + 1 < 2 ^ 64 }
+    ensures bytes { Puts result (W.bytes_taken writer.old) (W.bytes_taken writer.new) pending.old pending.new (iim_text iim.now) }
+    ensures count { Counts result (W.failed writer.old) (W.failed writer.new) }
+{
+    pending.put(writer, b"iim\n")?;
+    put_iim(pending, writer, iim)
+}

@@ -1,0 +1,190 @@
+// Which texts of a file are captions.
+ghost use Rattle.std.specs.Prelude.{◌≡◌, [], ◌∷◌, ◌++◌, map, filter_map, option_map, if◌then◌else◌, Some, None, bytes_eq, OnOk, IfOk};
+ghost use Rattle.px_bytes.specs.Lacking.{Lacks};
+ghost use Rattle.px_bytes.specs.declared.Order.TheVariants.{Most};
+ghost use Rattle.px_field.specs.Values.{spelled};
+ghost use Rattle.px_iim.specs.calls.View.{item_view};
+ghost use Rattle.px_tree.specs.Roles.{at_tag};
+ghost use Rattle.px_tree.specs.calls.Seen.{meaning_of};
+ghost use Rattle.px_text.specs.Captions.{labelled, iim_captions, utf8_designation, declares_utf8, is_text, text_captions, exif_captions, captions_of_exif, captions_of_iim};
+ghost use Rattle.px_text.specs.calls.CaptionView.{caption_view};
+
+use crate::caption::{Caption, Captions};
+use crate::labels::{Label, label_of};
+use px_bytes::{Memory, Refused};
+use px_field::{Form, Kind, Value};
+use px_iim::{Iim, Item};
+use px_tree::{Fields, Meaning};
+
+// The groups of record 2 in the order of their captions.
+pub(crate) const GROUPS: [u8; 9] = [5, 120, 105, 110, 115, 116, 80, 25, 103];
+
+// ESC % G.
+const UTF8: [u8; 3] = [0x1B, 0x25, 0x47];
+
+// Appends a DataSet, where it has a label.
+fn push_item<'a>(
+    memory: &mut Memory,
+    item: Item<'a>,
+    list: &mut Vec<Caption<'a>>,
+) -> Result<(), Refused>
+    ensures list { OnOk result (map caption_view list.new.items ≡ map caption_view list.old.items ++ filter_map labelled (item_view item.entry ∷ [])) }
+    ensures memory { Lacks result memory.old memory.new }
+{
+    match label_of(item.number) {
+        Some(label) => {
+            memory.push(
+                list,
+                Caption {
+                    label,
+                    text: item.octets,
+                },
+            )
+        }
+        None => Ok(()),
+    }
+}
+
+// Appends those DataSets of a group that have a label.
+fn push_group<'a>(
+    memory: &mut Memory,
+    items: &[Item<'a>],
+    list: &mut Vec<Caption<'a>>,
+) -> Result<(), Refused>
+    ensures list { OnOk result (map caption_view list.new.items ≡ map caption_view list.old.items ++ filter_map labelled (map item_view items.now)) }
+    ensures memory { Lacks result memory.old memory.new }
+{
+    for item in items {
+        push_item(memory, *item, list)?;
+    }
+    Ok(())
+}
+
+// Appends the captions of a record.
+#[tactic(auto, unfolding(crate::specs::Captions::iim_captions))]
+fn push_record<'a>(
+    memory: &mut Memory,
+    iim: &Iim<'a>,
+    list: &mut Vec<Caption<'a>>,
+) -> Result<(), Refused>
+    ensures list { OnOk result (map caption_view list.new.items ≡ map caption_view list.old.items ++ iim_captions iim.now) }
+    ensures memory { Lacks result memory.old memory.new }
+{
+    for i in 0..GROUPS.len() {
+        push_group(memory, iim.group(2, GROUPS[i]), list)?;
+    }
+    Ok(())
+}
+
+// Whether the data designate UTF-8.
+fn is_utf8(octets: &[u8]) -> bool
+    ensures { result ≡ bytes_eq octets.now utf8_designation }
+{
+    octets == UTF8.as_slice()
+}
+
+// Whether a record declares UTF-8: by exactly one DataSet 1:90.
+#[tactic(auto, unfolding(crate::specs::Captions::declares_utf8))]
+pub(crate) fn declares_utf8(iim: &Iim) -> bool
+    ensures { result ≡ declares_utf8 iim.now }
+{
+    match iim.group(1, 90) {
+        [item] => is_utf8(item.octets),
+        _ => false,
+    }
+}
+
+// Whether a value is a text.
+fn is_text(kind: Kind) -> bool
+    ensures { result ≡ is_text kind }
+{
+    match kind {
+        Kind::Of(Form::Ascii | Form::Utf8) => true,
+        _ => false,
+    }
+}
+
+// The bytes of a text.
+pub(crate) fn text_of<'a>(value: &Value<'a>) -> Option<&'a [u8]>
+    ensures { option_map (λ x. x.now) result ≡ (if is_text value.now.kind then Some (spelled Most value.now) else None) }
+{
+    if !is_text(value.kind()) {
+        return None;
+    }
+    value.bytes()
+}
+
+// Appends the field at a tag, where it is a text.
+fn push_text<'a>(
+    memory: &mut Memory,
+    fields: &Fields<'a>,
+    tag: u16,
+    label: Label,
+    list: &mut Vec<Caption<'a>>,
+) -> Result<(), Refused>
+    ensures list { OnOk result (map caption_view list.new.items ≡ map caption_view list.old.items ++ text_captions label (at_tag tag fields.now)) }
+    ensures memory { Lacks result memory.old memory.new }
+{
+    let Some(value) = fields.get(tag) else {
+        return Ok(());
+    };
+    let Some(text) = text_of(value) else {
+        return Ok(());
+    };
+    memory.push(list, Caption { label, text })
+}
+
+// Appends the captions of a main directory.
+#[tactic(auto, unfolding(crate::specs::Captions::exif_captions))]
+fn push_fields<'a>(
+    memory: &mut Memory,
+    fields: &Fields<'a>,
+    list: &mut Vec<Caption<'a>>,
+) -> Result<(), Refused>
+    ensures list { OnOk result (map caption_view list.new.items ≡ map caption_view list.old.items ++ exif_captions fields.now) }
+    ensures memory { Lacks result memory.old memory.new }
+{
+    push_text(memory, fields, 0x010E, Label::Description, list)?;
+    push_text(memory, fields, 0x013B, Label::Artist, list)?;
+    push_text(memory, fields, 0x8298, Label::Copyright, list)
+}
+
+/// The captions of what an Exif block means: the fields ImageDescription, Artist and Copyright of its main
+/// directory, where they are of type ASCII or UTF-8, and then those of a record in it. The bytes are those
+/// that were read.
+///
+/// It takes memory for the list, and fails only where a growth of it was refused.
+pub fn exif_captions_in<'a>(
+    memory: &mut Memory,
+    meaning: &Meaning<'a>,
+) -> Result<Captions<'a>, Refused>
+    ensures memory { Lacks result memory.old memory.new }
+    ensures captions { IfOk result (λ c. c ≡ captions_of_exif (meaning_of meaning.now)) }
+{
+    let mut list = memory.list();
+    push_fields(memory, &meaning.main, &mut list)?;
+    match &meaning.iptc {
+        Some(iim) => {
+            push_record(memory, iim, &mut list)?;
+            Ok(Captions {
+                utf8: declares_utf8(iim),
+                list,
+            })
+        }
+        None => Ok(Captions { utf8: false, list }),
+    }
+}
+
+/// The captions of a record: its labelled DataSets, group by group, each in list order. Else as
+/// `exif_captions_in`.
+pub fn iim_captions_in<'a>(memory: &mut Memory, iim: &Iim<'a>) -> Result<Captions<'a>, Refused>
+    ensures memory { Lacks result memory.old memory.new }
+    ensures captions { IfOk result (λ c. c ≡ captions_of_iim iim.now) }
+{
+    let mut list = memory.list();
+    push_record(memory, iim, &mut list)?;
+    Ok(Captions {
+        utf8: declares_utf8(iim),
+        list,
+    })
+}

@@ -1,0 +1,79 @@
+// The lines of DataSets: record number, number, length and data.
+ghost use Rattle.std.specs.Prelude.{◌≡◌, ◌<◌, ◌+◌, ◌^◌, map, length, flat_map};
+ghost use Rattle.px_bytes.specs.Devices.{Counts};
+ghost use Rattle.px_bytes.specs.Waiting.{Puts};
+ghost use Rattle.px_iim.specs.calls.View.{item_view};
+ghost use Rattle.px_text.specs.Listing.{dataset_line, dataset_lines, dataset_count};
+
+use crate::texts::{put_decimal, put_sized};
+use px_bytes::{Failed, Pending, Sink};
+use px_iim::{Iim, Item};
+
+#[tactic(auto, unfolding(crate::specs::Listing::dataset_line))]
+fn put_dataset<W: Sink>(
+    pending: &mut Pending,
+    writer: &mut W,
+    rec: u8,
+    item: &Item,
+) -> Result<(), Failed>
+    requires { W.failed writer.old + 1 < 2 ^ 64 }
+    ensures bytes { Puts result (W.bytes_taken writer.old) (W.bytes_taken writer.new) pending.old pending.new (dataset_line rec (item_view item.now)) }
+    ensures count { Counts result (W.failed writer.old) (W.failed writer.new) }
+{
+    put_decimal(pending, writer, rec)?;
+    pending.put(writer, b":")?;
+    put_decimal(pending, writer, item.number)?;
+    put_sized(pending, writer, item.octets)
+}
+
+fn put_group<W: Sink>(
+    pending: &mut Pending,
+    writer: &mut W,
+    rec: u8,
+    items: &[Item],
+) -> Result<(), Failed>
+    requires { W.failed writer.old + 1 < 2 ^ 64 }
+    ensures bytes { Puts result (W.bytes_taken writer.old) (W.bytes_taken writer.new) pending.old pending.new (flat_map (dataset_line rec) (map item_view items.now)) }
+    ensures count { Counts result (W.failed writer.old) (W.failed writer.new) }
+{
+    for item in items {
+        put_dataset(pending, writer, rec, item)?;
+    }
+    Ok(())
+}
+
+// Puts a line for each DataSet: the groups in ascending order, each list in its order.
+pub(crate) fn put_datasets<W: Sink>(
+    pending: &mut Pending,
+    writer: &mut W,
+    iim: &Iim,
+) -> Result<(), Failed>
+    requires { W.failed writer.old + 1 < 2 ^ 64 }
+    ensures bytes { Puts result (W.bytes_taken writer.old) (W.bytes_taken writer.new) pending.old pending.new (dataset_lines iim.now) }
+    ensures count { Counts result (W.failed writer.old) (W.failed writer.new) }
+{
+    for (rec, _, items) in iim.iter() {
+        put_group(pending, writer, rec, items)?;
+    }
+    Ok(())
+}
+
+// How many DataSets a group has.
+fn count_group(items: &[Item]) -> u64
+    ensures { result ≡ length items.now }
+{
+    items.len() as u64
+}
+
+// How many DataSets there are; the sum is wide, so that no number of groups and DataSets passes it.
+pub(crate) fn count_datasets(iim: &Iim) -> u128
+    ensures { result ≡ dataset_count iim.now }
+{
+    // A u32 counts the groups, and a u64 the DataSets of each.
+    let _ = iim.groups();
+    let mut count = 0;
+    for (_, _, items) in iim.iter() {
+        count += count_group(items) as u128;
+    }
+    count
+}

@@ -1,0 +1,215 @@
+// The lines of fields: tag, type, count and elements.
+ghost use Rattle.std.specs.Prelude.{◌≡◌, ◌<◌, ◌+◌, ◌^◌, ◌++◌, codes, decimal, flat_map, length};
+ghost use Rattle.hex.specs.Hex.{encode_lower};
+ghost use Rattle.px_bytes.specs.Devices.{Counts};
+ghost use Rattle.px_bytes.specs.Waiting.{Puts};
+ghost use Rattle.px_bytes.specs.declared.Order.TheVariants.{Most};
+ghost use Rattle.px_bytes.specs.Numbers.{spelling};
+ghost use Rattle.px_field.specs.declared.Kind.{Kind};
+ghost use Rattle.px_text.specs.Listing.{type_word, element_text, shown_elements, field_line, field_lines};
+
+use crate::texts::{put_decimal, put_hex, put_shown};
+use itoa::Integer;
+use px_bytes::{Failed, Order, Pending, Sink};
+use px_field::{Element, Form, Kind, Value};
+use px_tree::Fields;
+
+fn form_word(form: Form) -> &'static [u8]
+    ensures { result.now ≡ type_word (Kind.Of form) }
+{
+    match form {
+        Form::Byte => b"BYTE",
+        Form::Ascii => b"ASCII",
+        Form::Short => b"SHORT",
+        Form::Long => b"LONG",
+        Form::Rational => b"RATIONAL",
+        Form::SByte => b"SBYTE",
+        Form::Undefined => b"UNDEFINED",
+        Form::SShort => b"SSHORT",
+        Form::SLong => b"SLONG",
+        Form::SRational => b"SRATIONAL",
+        Form::Float => b"FLOAT",
+        Form::Double => b"DOUBLE",
+        Form::Utf8 => b"UTF8",
+    }
+}
+
+// The name of a type.
+fn type_word(kind: Kind) -> &'static [u8]
+    ensures { result.now ≡ type_word kind }
+{
+    match kind {
+        Kind::Of(form) => form_word(form),
+        Kind::Whole => b"WHOLE",
+    }
+}
+
+// Puts the bytes of a number of two bytes in hexadecimal, the most significant first.
+fn put_digits16<W: Sink>(pending: &mut Pending, writer: &mut W, n: u16) -> Result<(), Failed>
+    requires { W.failed writer.old + 1 < 2 ^ 64 }
+    ensures bytes { Puts result (W.bytes_taken writer.old) (W.bytes_taken writer.new) pending.old pending.new (encode_lower (spelling Most 2 n)) }
+    ensures count { Counts result (W.failed writer.old) (W.failed writer.new) }
+{
+    let mut bytes = [0; 2];
+    Order::Most.put16(n, &mut bytes);
+    put_hex(pending, writer, &bytes)
+}
+
+// Puts the bytes of a number of four bytes so.
+fn put_digits32<W: Sink>(pending: &mut Pending, writer: &mut W, n: u32) -> Result<(), Failed>
+    requires { W.failed writer.old + 1 < 2 ^ 64 }
+    ensures bytes { Puts result (W.bytes_taken writer.old) (W.bytes_taken writer.new) pending.old pending.new (encode_lower (spelling Most 4 n)) }
+    ensures count { Counts result (W.failed writer.old) (W.failed writer.new) }
+{
+    let mut bytes = [0; 4];
+    Order::Most.put32(n, &mut bytes);
+    put_hex(pending, writer, &bytes)
+}
+
+// Puts the bytes of a number of eight bytes so.
+fn put_digits64<W: Sink>(pending: &mut Pending, writer: &mut W, n: u64) -> Result<(), Failed>
+    requires { W.failed writer.old + 1 < 2 ^ 64 }
+    ensures bytes { Puts result (W.bytes_taken writer.old) (W.bytes_taken writer.new) pending.old pending.new (encode_lower (spelling Most 8 n)) }
+    ensures count { Counts result (W.failed writer.old) (W.failed writer.new) }
+{
+    let mut bytes = [0; 8];
+    Order::Most.put64(n, &mut bytes);
+    put_hex(pending, writer, &bytes)
+}
+
+fn put_fraction<W: Sink, I: Integer>(
+    pending: &mut Pending,
+    writer: &mut W,
+    numerator: I,
+    denominator: I,
+) -> Result<(), Failed>
+    requires { W.failed writer.old + 1 < 2 ^ 64 }
+    ensures bytes { Puts result (W.bytes_taken writer.old) (W.bytes_taken writer.new) pending.old pending.new (I.text numerator ++ codes "/" ++ I.text denominator) }
+    ensures count { Counts result (W.failed writer.old) (W.failed writer.new) }
+{
+    put_decimal(pending, writer, numerator)?;
+    pending.put(writer, b"/")?;
+    put_decimal(pending, writer, denominator)
+}
+
+fn put_element<W: Sink>(
+    pending: &mut Pending,
+    writer: &mut W,
+    element: Element,
+) -> Result<(), Failed>
+    requires { W.failed writer.old + 1 < 2 ^ 64 }
+    ensures bytes { Puts result (W.bytes_taken writer.old) (W.bytes_taken writer.new) pending.old pending.new (element_text element) }
+    ensures count { Counts result (W.failed writer.old) (W.failed writer.new) }
+{
+    match element {
+        Element::Byte(n) => put_hex(pending, writer, &[n]),
+        Element::Short(n) => put_decimal(pending, writer, n),
+        Element::Long(n) => put_decimal(pending, writer, n),
+        Element::Rational(n, d) => put_fraction(pending, writer, n, d),
+        Element::SShort(n) => put_decimal(pending, writer, n),
+        Element::SLong(n) => put_decimal(pending, writer, n),
+        Element::SRational(n, d) => put_fraction(pending, writer, n, d),
+        Element::Float(n) => put_digits32(pending, writer, n),
+        Element::Double(n) => put_digits64(pending, writer, n),
+    }
+}
+
+// Puts an element behind one space.
+fn put_apart<W: Sink>(pending: &mut Pending, writer: &mut W, element: Element) -> Result<(), Failed>
+    requires { W.failed writer.old + 1 < 2 ^ 64 }
+    ensures bytes { Puts result (W.bytes_taken writer.old) (W.bytes_taken writer.new) pending.old pending.new (codes " " ++ element_text element) }
+    ensures count { Counts result (W.failed writer.old) (W.failed writer.new) }
+{
+    pending.put(writer, b" ")?;
+    put_element(pending, writer, element)
+}
+
+// Puts each element behind one space.
+fn put_elements<W: Sink>(pending: &mut Pending, writer: &mut W, value: &Value) -> Result<(), Failed>
+    requires { W.failed writer.old + 1 < 2 ^ 64 }
+    ensures bytes { Puts result (W.bytes_taken writer.old) (W.bytes_taken writer.new) pending.old pending.new (flat_map (λ e. codes " " ++ element_text e) value.now.elements) }
+    ensures count { Counts result (W.failed writer.old) (W.failed writer.new) }
+{
+    for i in 0..value.count() {
+        put_apart(pending, writer, value.element(i))?;
+    }
+    Ok(())
+}
+
+// Puts the elements behind one space, where there are any.
+fn put_value<W: Sink>(pending: &mut Pending, writer: &mut W, value: &Value) -> Result<(), Failed>
+    requires { W.failed writer.old + 1 < 2 ^ 64 }
+    ensures bytes { Puts result (W.bytes_taken writer.old) (W.bytes_taken writer.new) pending.old pending.new (shown_elements value.now.kind value.now.elements) }
+    ensures count { Counts result (W.failed writer.old) (W.failed writer.new) }
+{
+    match value.bytes() {
+        Some(bytes) => put_shown(pending, writer, bytes),
+        None => put_elements(pending, writer, value),
+    }
+}
+
+// Puts the tag and the type of a field.
+fn put_name<W: Sink>(
+    pending: &mut Pending,
+    writer: &mut W,
+    tag: u16,
+    kind: Kind,
+) -> Result<(), Failed>
+    requires { W.failed writer.old + 1 < 2 ^ 64 }
+    ensures bytes { Puts result (W.bytes_taken writer.old) (W.bytes_taken writer.new) pending.old pending.new (encode_lower (spelling Most 2 tag) ++ codes " " ++ type_word kind ++ codes " ") }
+    ensures count { Counts result (W.failed writer.old) (W.failed writer.new) }
+{
+    put_digits16(pending, writer, tag)?;
+    pending.put(writer, b" ")?;
+    pending.put(writer, type_word(kind))?;
+    pending.put(writer, b" ")
+}
+
+// Puts what stands in front of the elements.
+fn put_head<W: Sink>(
+    pending: &mut Pending,
+    writer: &mut W,
+    tag: u16,
+    value: &Value,
+) -> Result<(), Failed>
+    requires { W.failed writer.old + 1 < 2 ^ 64 }
+    ensures bytes { Puts result (W.bytes_taken writer.old) (W.bytes_taken writer.new) pending.old pending.new (encode_lower (spelling Most 2 tag) ++ codes " " ++ type_word value.now.kind ++ codes " " ++ decimal (length value.now.elements) ++ codes ":") }
+    ensures count { Counts result (W.failed writer.old) (W.failed writer.new) }
+{
+    put_name(pending, writer, tag, value.kind())?;
+    put_decimal(pending, writer, value.count())?;
+    pending.put(writer, b":")
+}
+
+#[tactic(auto, unfolding(crate::specs::Listing::field_line))]
+fn put_field<W: Sink>(
+    pending: &mut Pending,
+    writer: &mut W,
+    tag: u16,
+    value: &Value,
+) -> Result<(), Failed>
+    requires { W.failed writer.old + 1 < 2 ^ 64 }
+    ensures bytes { Puts result (W.bytes_taken writer.old) (W.bytes_taken writer.new) pending.old pending.new (field_line (tag, value.now)) }
+    ensures count { Counts result (W.failed writer.old) (W.failed writer.new) }
+{
+    put_head(pending, writer, tag, value)?;
+    put_value(pending, writer, value)?;
+    pending.put(writer, b"\n")
+}
+
+// Puts a line for each field, by ascending tag.
+pub(crate) fn put_fields<W: Sink>(
+    pending: &mut Pending,
+    writer: &mut W,
+    fields: &Fields,
+) -> Result<(), Failed>
+    requires { W.failed writer.old + 1 < 2 ^ 64 }
+    ensures bytes { Puts result (W.bytes_taken writer.old) (W.bytes_taken writer.new) pending.old pending.new (field_lines fields.now) }
+    ensures count { Counts result (W.failed writer.old) (W.failed writer.new) }
+{
+    for i in 0..fields.len() {
+        let (tag, value) = fields.at(i);
+        put_field(pending, writer, tag, value)?;
+    }
+    Ok(())
+}

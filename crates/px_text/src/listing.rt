@@ -1,0 +1,254 @@
+// The listing of what a block says.
+ghost use Rattle.std.specs.Prelude.{◌<◌, ◌+◌, ◌^◌, ◌++◌, Some, codes, flat_map, option_map};
+ghost use Rattle.px_bytes.specs.Devices.{Counts};
+ghost use Rattle.px_bytes.specs.Waiting.{Puts};
+ghost use Rattle.px_tree.specs.calls.Seen.{exif_of, thumb_of, meaning_of};
+ghost use Rattle.px_text.specs.Listing.{field_lines, jpeg_lines, strip_line, strips_lines, record_lines, directory_lines, exif_lines, thumb_lines, exif_listing, iim_listing};
+
+use crate::dataset_lines::{count_datasets, put_datasets};
+use crate::field_lines::put_fields;
+use crate::texts::{put_number, put_sized};
+use px_bytes::{Failed, Pending, Sink};
+use px_iim::Iim;
+use px_tree::{ExifPart, Fields, Meaning, Strips, Thumb};
+
+// Puts how many DataSets there are, and these.
+fn put_counted<W: Sink>(pending: &mut Pending, writer: &mut W, iim: &Iim) -> Result<(), Failed>
+    requires { W.failed writer.old + 1 < 2 ^ 64 }
+    ensures bytes { Puts result (W.bytes_taken writer.old) (W.bytes_taken writer.new) pending.old pending.new (record_lines (Some iim.now)) }
+    ensures count { Counts result (W.failed writer.old) (W.failed writer.new) }
+{
+    put_number(pending, writer, b"record ", count_datasets(iim), b":\n")?;
+    put_datasets(pending, writer, iim)
+}
+
+// Puts the record in the main directory.
+fn put_record<W: Sink>(
+    pending: &mut Pending,
+    writer: &mut W,
+    iim: &Option<Iim>,
+) -> Result<(), Failed>
+    requires { W.failed writer.old + 1 < 2 ^ 64 }
+    ensures bytes { Puts result (W.bytes_taken writer.old) (W.bytes_taken writer.new) pending.old pending.new (record_lines iim.now) }
+    ensures count { Counts result (W.failed writer.old) (W.failed writer.new) }
+{
+    match iim {
+        Some(iim) => put_counted(pending, writer, iim),
+        None => Ok(()),
+    }
+}
+
+// Puts the fields of a directory behind its name.
+fn put_titled<W: Sink>(
+    pending: &mut Pending,
+    writer: &mut W,
+    name: &[u8],
+    fields: &Fields,
+) -> Result<(), Failed>
+    requires { W.failed writer.old + 1 < 2 ^ 64 }
+    ensures bytes { Puts result (W.bytes_taken writer.old) (W.bytes_taken writer.new) pending.old pending.new (name.now ++ field_lines fields.now) }
+    ensures count { Counts result (W.failed writer.old) (W.failed writer.new) }
+{
+    pending.put(writer, name)?;
+    put_fields(pending, writer, fields)
+}
+
+// Puts a directory without parts of its own.
+fn put_directory<W: Sink>(
+    pending: &mut Pending,
+    writer: &mut W,
+    name: &[u8],
+    fields: &Option<Fields>,
+) -> Result<(), Failed>
+    requires { W.failed writer.old + 1 < 2 ^ 64 }
+    ensures bytes { Puts result (W.bytes_taken writer.old) (W.bytes_taken writer.new) pending.old pending.new (directory_lines name.now fields.now) }
+    ensures count { Counts result (W.failed writer.old) (W.failed writer.new) }
+{
+    match fields {
+        Some(fields) => put_titled(pending, writer, name, fields),
+        None => Ok(()),
+    }
+}
+
+fn put_exif_part<W: Sink>(
+    pending: &mut Pending,
+    writer: &mut W,
+    exif: &ExifPart,
+) -> Result<(), Failed>
+    requires { W.failed writer.old + 1 < 2 ^ 64 }
+    ensures bytes { Puts result (W.bytes_taken writer.old) (W.bytes_taken writer.new) pending.old pending.new (exif_lines (Some (exif_of exif.now))) }
+    ensures count { Counts result (W.failed writer.old) (W.failed writer.new) }
+{
+    put_titled(pending, writer, b"[exif]\n", &exif.fields)?;
+    put_directory(pending, writer, b"[interop]\n", &exif.interop)
+}
+
+fn put_exif<W: Sink>(
+    pending: &mut Pending,
+    writer: &mut W,
+    exif: &Option<ExifPart>,
+) -> Result<(), Failed>
+    requires { W.failed writer.old + 1 < 2 ^ 64 }
+    ensures bytes { Puts result (W.bytes_taken writer.old) (W.bytes_taken writer.new) pending.old pending.new (exif_lines (option_map exif_of exif.now)) }
+    ensures count { Counts result (W.failed writer.old) (W.failed writer.new) }
+{
+    match exif {
+        Some(exif) => put_exif_part(pending, writer, exif),
+        None => Ok(()),
+    }
+}
+
+fn put_image<W: Sink>(pending: &mut Pending, writer: &mut W, bytes: &[u8]) -> Result<(), Failed>
+    requires { W.failed writer.old + 1 < 2 ^ 64 }
+    ensures bytes { Puts result (W.bytes_taken writer.old) (W.bytes_taken writer.new) pending.old pending.new (jpeg_lines (Some bytes.now)) }
+    ensures count { Counts result (W.failed writer.old) (W.failed writer.new) }
+{
+    pending.put(writer, b"jpeg")?;
+    put_sized(pending, writer, bytes)
+}
+
+fn put_jpeg<W: Sink>(
+    pending: &mut Pending,
+    writer: &mut W,
+    jpeg: Option<&[u8]>,
+) -> Result<(), Failed>
+    requires { W.failed writer.old + 1 < 2 ^ 64 }
+    ensures bytes { Puts result (W.bytes_taken writer.old) (W.bytes_taken writer.new) pending.old pending.new (jpeg_lines (option_map (λ x. x.now) jpeg.entry)) }
+    ensures count { Counts result (W.failed writer.old) (W.failed writer.new) }
+{
+    match jpeg {
+        Some(bytes) => put_image(pending, writer, bytes),
+        None => Ok(()),
+    }
+}
+
+fn put_strip<W: Sink>(pending: &mut Pending, writer: &mut W, strip: &[u8]) -> Result<(), Failed>
+    requires { W.failed writer.old + 1 < 2 ^ 64 }
+    ensures bytes { Puts result (W.bytes_taken writer.old) (W.bytes_taken writer.new) pending.old pending.new (strip_line strip.now) }
+    ensures count { Counts result (W.failed writer.old) (W.failed writer.new) }
+{
+    pending.put(writer, b"strip")?;
+    put_sized(pending, writer, strip)
+}
+
+fn put_each_strip<W: Sink>(
+    pending: &mut Pending,
+    writer: &mut W,
+    strips: &Strips,
+) -> Result<(), Failed>
+    requires { W.failed writer.old + 1 < 2 ^ 64 }
+    ensures bytes { Puts result (W.bytes_taken writer.old) (W.bytes_taken writer.new) pending.old pending.new (flat_map strip_line strips.now) }
+    ensures count { Counts result (W.failed writer.old) (W.failed writer.new) }
+{
+    for i in 0..strips.len() {
+        put_strip(pending, writer, strips.at(i))?;
+    }
+    Ok(())
+}
+
+// Puts how many strips there are, and these.
+fn put_all_strips<W: Sink>(
+    pending: &mut Pending,
+    writer: &mut W,
+    strips: &Strips,
+) -> Result<(), Failed>
+    requires { W.failed writer.old + 1 < 2 ^ 64 }
+    ensures bytes { Puts result (W.bytes_taken writer.old) (W.bytes_taken writer.new) pending.old pending.new (strips_lines (Some strips.now)) }
+    ensures count { Counts result (W.failed writer.old) (W.failed writer.new) }
+{
+    put_number(pending, writer, b"strips ", strips.len(), b":\n")?;
+    put_each_strip(pending, writer, strips)
+}
+
+fn put_strips<W: Sink>(
+    pending: &mut Pending,
+    writer: &mut W,
+    strips: &Option<Strips>,
+) -> Result<(), Failed>
+    requires { W.failed writer.old + 1 < 2 ^ 64 }
+    ensures bytes { Puts result (W.bytes_taken writer.old) (W.bytes_taken writer.new) pending.old pending.new (strips_lines strips.now) }
+    ensures count { Counts result (W.failed writer.old) (W.failed writer.new) }
+{
+    match strips {
+        Some(strips) => put_all_strips(pending, writer, strips),
+        None => Ok(()),
+    }
+}
+
+fn put_thumb_part<W: Sink>(
+    pending: &mut Pending,
+    writer: &mut W,
+    thumb: &Thumb,
+) -> Result<(), Failed>
+    requires { W.failed writer.old + 1 < 2 ^ 64 }
+    ensures bytes { Puts result (W.bytes_taken writer.old) (W.bytes_taken writer.new) pending.old pending.new (thumb_lines (Some (thumb_of thumb.now))) }
+    ensures count { Counts result (W.failed writer.old) (W.failed writer.new) }
+{
+    put_titled(pending, writer, b"[thumb]\n", &thumb.fields)?;
+    put_jpeg(pending, writer, thumb.jpeg)?;
+    put_strips(pending, writer, &thumb.strips)
+}
+
+fn put_thumb<W: Sink>(
+    pending: &mut Pending,
+    writer: &mut W,
+    thumb: &Option<Thumb>,
+) -> Result<(), Failed>
+    requires { W.failed writer.old + 1 < 2 ^ 64 }
+    ensures bytes { Puts result (W.bytes_taken writer.old) (W.bytes_taken writer.new) pending.old pending.new (thumb_lines (option_map thumb_of thumb.now)) }
+    ensures count { Counts result (W.failed writer.old) (W.failed writer.new) }
+{
+    match thumb {
+        Some(thumb) => put_thumb_part(pending, writer, thumb),
+        None => Ok(()),
+    }
+}
+
+// Puts the first line, and the main directory with its record.
+fn put_main<W: Sink>(
+    pending: &mut Pending,
+    writer: &mut W,
+    fields: &Fields,
+    iim: &Option<Iim>,
+) -> Result<(), Failed>
+    requires { W.failed writer.old + 1 < 2 ^ 64 }
+    ensures bytes { Puts result (W.bytes_taken writer.old) (W.bytes_taken writer.new) pending.old pending.new (codes "exif\n[main]\n" ++ field_lines fields.now ++ record_lines iim.now) }
+    ensures count { Counts result (W.failed writer.old) (W.failed writer.new) }
+{
+    put_titled(pending, writer, b"exif\n[main]\n", fields)?;
+    put_record(pending, writer, iim)
+}
+
+/// Puts the listing of what an Exif block means behind the bytes that wait: a line for each directory, field
+/// and DataSet. It takes no memory, and ends at the first call that fails: the writer has then taken a prefix
+/// of those that waited and of the listing behind them.
+#[tactic(auto, unfolding(crate::specs::Listing::exif_listing))]
+pub fn put_exif_listing<W: Sink>(
+    pending: &mut Pending,
+    writer: &mut W,
+    meaning: &Meaning,
+) -> Result<(), Failed>
+    requires { W.failed writer.old + 1 < 2 ^ 64 }
+    ensures bytes { Puts result (W.bytes_taken writer.old) (W.bytes_taken writer.new) pending.old pending.new (exif_listing (meaning_of meaning.now)) }
+    ensures count { Counts result (W.failed writer.old) (W.failed writer.new) }
+{
+    put_main(pending, writer, &meaning.main, &meaning.iptc)?;
+    put_exif(pending, writer, &meaning.exif)?;
+    put_directory(pending, writer, b"[gps]\n", &meaning.gps)?;
+    put_thumb(pending, writer, &meaning.thumb)
+}
+
+/// Puts the listing of a record so: a line for each DataSet.
+#[tactic(auto, unfolding(crate::specs::Listing::iim_listing))]
+pub fn put_iim_listing<W: Sink>(
+    pending: &mut Pending,
+    writer: &mut W,
+    iim: &Iim,
+) -> Result<(), Failed>
+    requires { W.failed writer.old + 1 < 2 ^ 64 }
+    ensures bytes { Puts result (W.bytes_taken writer.old) (W.bytes_taken writer.new) pending.old pending.new (iim_listing iim.now) }
+    ensures count { Counts result (W.failed writer.old) (W.failed writer.new) }
+{
+    pending.put(writer, b"iim\n")?;
+    put_datasets(pending, writer, iim)
+}

@@ -1,0 +1,111 @@
+// What texts are made of: each call puts a part behind the bytes that wait for a writer.
+ghost use Rattle.std.specs.Prelude.{◌<◌, ◌≤◌, ◌+◌, ◌^◌, ◌++◌, length};
+ghost use Rattle.hex.specs.Hex.{encode_lower};
+ghost use Rattle.px_bytes.specs.Devices.{Counts};
+ghost use Rattle.px_bytes.specs.Waiting.{Puts};
+ghost use Rattle.px_text.specs.Words.{shown_bytes, sized_bytes};
+
+use hex::encode_to_slice;
+use itoa::{Buffer, Integer};
+use px_bytes::{Failed, Pending, Sink};
+
+// How many bytes are turned into hexadecimal digits at a time.
+const PIECE: usize = 64;
+
+// Puts a number in decimal.
+pub(crate) fn put_decimal<W: Sink, I: Integer>(
+    pending: &mut Pending,
+    writer: &mut W,
+    n: I,
+) -> Result<(), Failed>
+    requires { W.failed writer.old + 1 < 2 ^ 64 }
+    ensures bytes { Puts result (W.bytes_taken writer.old) (W.bytes_taken writer.new) pending.old pending.new (I.text n) }
+    ensures count { Counts result (W.failed writer.old) (W.failed writer.new) }
+{
+    let mut digits = Buffer::new();
+    pending.put(writer, digits.format(n).as_bytes())
+}
+
+// Puts a number in decimal between two words.
+pub(crate) fn put_number<W: Sink, I: Integer>(
+    pending: &mut Pending,
+    writer: &mut W,
+    before: &[u8],
+    n: I,
+    after: &[u8],
+) -> Result<(), Failed>
+    requires { W.failed writer.old + 1 < 2 ^ 64 }
+    ensures bytes { Puts result (W.bytes_taken writer.old) (W.bytes_taken writer.new) pending.old pending.new (before.now ++ I.text n ++ after.now) }
+    ensures count { Counts result (W.failed writer.old) (W.failed writer.new) }
+{
+    pending.put(writer, before)?;
+    put_decimal(pending, writer, n)?;
+    pending.put(writer, after)
+}
+
+// Puts a few bytes in hexadecimal.
+fn put_piece<W: Sink>(pending: &mut Pending, writer: &mut W, piece: &[u8]) -> Result<(), Failed>
+    requires few { W.failed writer.old + 1 < 2 ^ 64 }
+    requires short { length piece.now ≤ 64 }
+    ensures bytes { Puts result (W.bytes_taken writer.old) (W.bytes_taken writer.new) pending.old pending.new (encode_lower piece.now) }
+    ensures count { Counts result (W.failed writer.old) (W.failed writer.new) }
+{
+    let mut digits = [0; 2 * PIECE];
+    let width = 2 * piece.len();
+    let Ok(()) = encode_to_slice(piece, &mut digits[..width]) else {
+        unreachable!()
+    };
+    pending.put(writer, &digits[..width])
+}
+
+// Puts bytes in hexadecimal.
+pub(crate) fn put_hex<W: Sink>(
+    pending: &mut Pending,
+    writer: &mut W,
+    bytes: &[u8],
+) -> Result<(), Failed>
+    requires { W.failed writer.old + 1 < 2 ^ 64 }
+    ensures bytes { Puts result (W.bytes_taken writer.old) (W.bytes_taken writer.new) pending.old pending.new (encode_lower bytes.now) }
+    ensures count { Counts result (W.failed writer.old) (W.failed writer.new) }
+{
+    let mut at = 0;
+    while at < bytes.len() {
+        let end = at + PIECE.min(bytes.len() - at);
+        put_piece(pending, writer, &bytes[at..end])?;
+        at = end;
+    }
+    Ok(())
+}
+
+// Puts bytes in hexadecimal behind one space, where there are any.
+pub(crate) fn put_shown<W: Sink>(
+    pending: &mut Pending,
+    writer: &mut W,
+    bytes: &[u8],
+) -> Result<(), Failed>
+    requires { W.failed writer.old + 1 < 2 ^ 64 }
+    ensures bytes { Puts result (W.bytes_taken writer.old) (W.bytes_taken writer.new) pending.old pending.new (shown_bytes bytes.now) }
+    ensures count { Counts result (W.failed writer.old) (W.failed writer.new) }
+{
+    if bytes.is_empty() {
+        return Ok(());
+    }
+    pending.put(writer, b" ")?;
+    put_hex(pending, writer, bytes)
+}
+
+// Puts how many bytes there are, and the bytes, up to the end of the line.
+#[tactic(auto, unfolding(crate::specs::Words::sized_bytes))]
+pub(crate) fn put_sized<W: Sink>(
+    pending: &mut Pending,
+    writer: &mut W,
+    bytes: &[u8],
+) -> Result<(), Failed>
+    requires { W.failed writer.old + 1 < 2 ^ 64 }
+    ensures bytes { Puts result (W.bytes_taken writer.old) (W.bytes_taken writer.new) pending.old pending.new (sized_bytes bytes.now) }
+    ensures count { Counts result (W.failed writer.old) (W.failed writer.new) }
+{
+    put_number(pending, writer, b" ", bytes.len(), b":")?;
+    put_shown(pending, writer, bytes)?;
+    pending.put(writer, b"\n")
+}
