@@ -2,8 +2,9 @@
 //! the same. No copy of a block is made. Each call has one of the statuses of `statuses`, and its contract
 //! says of each status when it comes, what is then in the caller's places, and what stays there as it was.
 //! What these statuses say of a block excludes one another, but for `NO_MEMORY`, which says nothing of it:
-//! so each comes exactly where it holds, or where memory was refused `NO_MEMORY` does. Calls share nothing,
-//! so any number of threads may call at once.
+//! so each comes exactly where it holds, or where memory was refused `NO_MEMORY` does. Each call that takes
+//! memory is one line over its sister in `over_memory`, whose contract says that `NO_MEMORY` comes exactly
+//! where a growth was refused in that call. Calls share nothing, so any number of threads may call at once.
 //!
 //! `include/exifnorm.h` declares these calls for C: a slice is a pointer and a length, and a `Global` is
 //! nothing.
@@ -19,15 +20,17 @@ ghost use Rattle.px_c.specs.Outcomes.{Tells, IsSaying, Compares, PutsText, Needs
 mod faults;
 mod giving;
 mod names;
+mod over_memory;
 pub mod statuses;
 #[cfg(test)]
 mod tests;
 
 pub use faults::ExifnormFault;
-use faults::told;
-use giving::{give, give_text};
+use giving::give_text;
 use names::cause_name;
-use px_engine::{BlockKind, Fault, Side, VERSION};
+use over_memory::{captions_in, check_in, compare_in, normalise_in, show_in};
+use px_bytes::Memory;
+use px_engine::VERSION;
 use statuses::{DONE, NO_MEMORY, REFUSED, SECOND_REFUSED, TOO_LITTLE_ROOM, TOO_LONG};
 use std::alloc::Global;
 
@@ -49,21 +52,7 @@ pub extern "C" fn exifnorm_check(
     ensures kind { result ≢ DONE → kind.new ≡ kind.old }
     ensures fault { result ≢ REFUSED → fault.new ≡ fault.old }
 {
-    match px_engine::check_of(alloc, file) {
-        Ok(BlockKind::Exif) => {
-            *kind = 1;
-            DONE
-        }
-        Ok(BlockKind::Iim) => {
-            *kind = 2;
-            DONE
-        }
-        Err(Fault::Refused { cause, place }) => {
-            *fault = told(cause, place);
-            REFUSED
-        }
-        Err(_) => NO_MEMORY,
-    }
+    check_in(&mut Memory::new(alloc), file, kind, fault)
 }
 
 /// Puts the normal form of what a file says in front of `out`, and its length into `written`.
@@ -90,15 +79,7 @@ pub extern "C" fn exifnorm_normalise(
     ensures written { result ≢ DONE → result ≢ TOO_LITTLE_ROOM → written.new ≡ written.old }
     ensures fault { result ≢ REFUSED → fault.new ≡ fault.old }
 {
-    match px_engine::normal_form(alloc, file) {
-        Ok(form) => give(&form, out, written),
-        Err(Fault::Refused { cause, place }) => {
-            *fault = told(cause, place);
-            REFUSED
-        }
-        Err(Fault::NormalTooLong) => TOO_LONG,
-        Err(_) => NO_MEMORY,
-    }
+    normalise_in(&mut Memory::new(alloc), file, out, written, fault)
 }
 
 /// Answers whether two files say the same: 1 in `same` where they do, 0 where they don't. Whether their
@@ -123,27 +104,7 @@ pub extern "C" fn exifnorm_compare(
     ensures same { result ≢ DONE → same.new ≡ same.old }
     ensures fault { result ≢ REFUSED → result ≢ SECOND_REFUSED → fault.new ≡ fault.old }
 {
-    match px_engine::same_of(alloc, first, second) {
-        Ok(true) => {
-            *same = 1;
-            DONE
-        }
-        Ok(false) => {
-            *same = 0;
-            DONE
-        }
-        Err(e) => match (e.side, e.fault) {
-            (Side::First, Fault::Refused { cause, place }) => {
-                *fault = told(cause, place);
-                REFUSED
-            }
-            (Side::Second, Fault::Refused { cause, place }) => {
-                *fault = told(cause, place);
-                SECOND_REFUSED
-            }
-            _ => NO_MEMORY,
-        },
-    }
+    compare_in(&mut Memory::new(alloc), first, second, same, fault)
 }
 
 /// Puts the listing of what a file says in front of `out`, a line for each directory, field and DataSet, and
@@ -168,14 +129,7 @@ pub extern "C" fn exifnorm_show(
     ensures written { result ≢ DONE → result ≢ TOO_LITTLE_ROOM → written.new ≡ written.old }
     ensures fault { result ≢ REFUSED → fault.new ≡ fault.old }
 {
-    match px_engine::show_of(alloc, file) {
-        Ok(text) => give(&text, out, written),
-        Err(Fault::Refused { cause, place }) => {
-            *fault = told(cause, place);
-            REFUSED
-        }
-        Err(_) => NO_MEMORY,
-    }
+    show_in(&mut Memory::new(alloc), file, out, written, fault)
 }
 
 /// Puts the captions of what a file says in front of `out`, one a line, and the text's length into `written`.
@@ -200,14 +154,7 @@ pub extern "C" fn exifnorm_captions(
     ensures written { result ≢ DONE → result ≢ TOO_LITTLE_ROOM → written.new ≡ written.old }
     ensures fault { result ≢ REFUSED → fault.new ≡ fault.old }
 {
-    match px_engine::captions_text(alloc, file) {
-        Ok(text) => give(&text, out, written),
-        Err(Fault::Refused { cause, place }) => {
-            *fault = told(cause, place);
-            REFUSED
-        }
-        Err(_) => NO_MEMORY,
-    }
+    captions_in(&mut Memory::new(alloc), file, out, written, fault)
 }
 
 /// Puts the name of the cause with this number in front of `out`, with the zero that ends a text in C, and the

@@ -1,4 +1,5 @@
-// One caption, spelled in two ways, through each call; tests/library calls them all from C and from Python.
+// One caption, spelled in two ways, through each call. tests/library calls them all from C and from
+// Python.
 use crate::statuses::{DONE, REFUSED, SECOND_REFUSED, TOO_LITTLE_ROOM};
 use crate::{
     ExifnormFault, exifnorm_captions, exifnorm_cause_name, exifnorm_check, exifnorm_compare,

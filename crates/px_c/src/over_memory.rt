@@ -1,0 +1,170 @@
+// The calls over memory. Each answers `NO_MEMORY` exactly where memory refused a growth in that call.
+ghost use Rattle.std.specs.Prelude.{◌≡◌, ◌≢◌, ◌⊎◌, true};
+ghost use Rattle.px_engine.specs.Captions.{caption_text};
+ghost use Rattle.px_engine.specs.Listing.{listing};
+ghost use Rattle.px_c.specs.Outcomes.{Refuses, Gives, Lacks, GivesForm, LacksForm, IsTooLong};
+ghost use Rattle.px_c.specs.Outcomes.{Tells, IsSaying, Compares};
+
+use crate::faults::{ExifnormFault, told};
+use crate::giving::give;
+use crate::statuses::{DONE, NO_MEMORY, REFUSED, SECOND_REFUSED, TOO_LITTLE_ROOM, TOO_LONG};
+use px_bytes::Memory;
+use px_engine::{BlockKind, Fault, Side};
+
+// Answers the kind of the block in a file.
+pub(crate) fn check_in(
+    memory: &mut Memory,
+    file: &[u8],
+    kind: &mut u32,
+    fault: &mut ExifnormFault,
+) -> u32
+    ensures known { (result ≡ DONE) ⊎ (result ≡ REFUSED) ⊎ (result ≡ NO_MEMORY) }
+    ensures done { result ≡ DONE → Tells file.now kind.new }
+    ensures refused { result ≡ REFUSED → Refuses file.now fault.new }
+    ensures kind { result ≢ DONE → kind.new ≡ kind.old }
+    ensures fault { result ≢ REFUSED → fault.new ≡ fault.old }
+    ensures lacking { result ≡ NO_MEMORY → memory.new ≡ true }
+    ensures memory { result ≢ NO_MEMORY → memory.new ≡ memory.old }
+{
+    match px_engine::check_of_in(memory, file) {
+        Ok(BlockKind::Exif) => {
+            *kind = 1;
+            DONE
+        }
+        Ok(BlockKind::Iim) => {
+            *kind = 2;
+            DONE
+        }
+        Err(Fault::Refused { cause, place }) => {
+            *fault = told(cause, place);
+            REFUSED
+        }
+        Err(_) => NO_MEMORY,
+    }
+}
+
+// Puts the normal form of what a file says in front of `out`.
+pub(crate) fn normalise_in(
+    memory: &mut Memory,
+    file: &[u8],
+    out: &mut [u8],
+    written: &mut usize,
+    fault: &mut ExifnormFault,
+) -> u32
+    ensures known { (result ≡ DONE) ⊎ (result ≡ REFUSED) ⊎ (result ≡ TOO_LONG) ⊎ (result ≡ NO_MEMORY) ⊎ (result ≡ TOO_LITTLE_ROOM) }
+    ensures done { result ≡ DONE → GivesForm file.now out.old out.new written.new }
+    ensures refused { result ≡ REFUSED → Refuses file.now fault.new }
+    ensures long { result ≡ TOO_LONG → IsTooLong file.now }
+    ensures short { result ≡ TOO_LITTLE_ROOM → LacksForm file.now out.old written.new }
+    ensures out { result ≢ DONE → out.new ≡ out.old }
+    ensures written { result ≢ DONE → result ≢ TOO_LITTLE_ROOM → written.new ≡ written.old }
+    ensures fault { result ≢ REFUSED → fault.new ≡ fault.old }
+    ensures lacking { result ≡ NO_MEMORY → memory.new ≡ true }
+    ensures memory { result ≢ NO_MEMORY → memory.new ≡ memory.old }
+{
+    match px_engine::normal_form_in(memory, file) {
+        Ok(form) => give(&form, out, written),
+        Err(Fault::Refused { cause, place }) => {
+            *fault = told(cause, place);
+            REFUSED
+        }
+        Err(Fault::NormalTooLong) => TOO_LONG,
+        Err(_) => NO_MEMORY,
+    }
+}
+
+// Answers whether two files say the same.
+pub(crate) fn compare_in(
+    memory: &mut Memory,
+    first: &[u8],
+    second: &[u8],
+    same: &mut u32,
+    fault: &mut ExifnormFault,
+) -> u32
+    ensures known { (result ≡ DONE) ⊎ (result ≡ REFUSED) ⊎ (result ≡ NO_MEMORY) ⊎ (result ≡ SECOND_REFUSED) }
+    ensures done { result ≡ DONE → Compares first.now second.now same.new }
+    ensures refused { result ≡ REFUSED → Refuses first.now fault.new }
+    ensures second { result ≡ SECOND_REFUSED → IsSaying first.now × Refuses second.now fault.new }
+    ensures same { result ≢ DONE → same.new ≡ same.old }
+    ensures fault { result ≢ REFUSED → result ≢ SECOND_REFUSED → fault.new ≡ fault.old }
+    ensures lacking { result ≡ NO_MEMORY → memory.new ≡ true }
+    ensures memory { result ≢ NO_MEMORY → memory.new ≡ memory.old }
+{
+    match px_engine::same_of_in(memory, first, second) {
+        Ok(true) => {
+            *same = 1;
+            DONE
+        }
+        Ok(false) => {
+            *same = 0;
+            DONE
+        }
+        Err(e) => match (e.side, e.fault) {
+            (Side::First, Fault::Refused { cause, place }) => {
+                *fault = told(cause, place);
+                REFUSED
+            }
+            (Side::Second, Fault::Refused { cause, place }) => {
+                *fault = told(cause, place);
+                SECOND_REFUSED
+            }
+            _ => NO_MEMORY,
+        },
+    }
+}
+
+// Puts the listing of what a file says in front of `out`.
+pub(crate) fn show_in(
+    memory: &mut Memory,
+    file: &[u8],
+    out: &mut [u8],
+    written: &mut usize,
+    fault: &mut ExifnormFault,
+) -> u32
+    ensures known { (result ≡ DONE) ⊎ (result ≡ REFUSED) ⊎ (result ≡ NO_MEMORY) ⊎ (result ≡ TOO_LITTLE_ROOM) }
+    ensures done { result ≡ DONE → Gives listing file.now out.old out.new written.new }
+    ensures refused { result ≡ REFUSED → Refuses file.now fault.new }
+    ensures short { result ≡ TOO_LITTLE_ROOM → Lacks listing file.now out.old written.new }
+    ensures out { result ≢ DONE → out.new ≡ out.old }
+    ensures written { result ≢ DONE → result ≢ TOO_LITTLE_ROOM → written.new ≡ written.old }
+    ensures fault { result ≢ REFUSED → fault.new ≡ fault.old }
+    ensures lacking { result ≡ NO_MEMORY → memory.new ≡ true }
+    ensures memory { result ≢ NO_MEMORY → memory.new ≡ memory.old }
+{
+    match px_engine::show_of_in(memory, file) {
+        Ok(text) => give(&text, out, written),
+        Err(Fault::Refused { cause, place }) => {
+            *fault = told(cause, place);
+            REFUSED
+        }
+        Err(_) => NO_MEMORY,
+    }
+}
+
+// Puts the captions of what a file says in front of `out`.
+pub(crate) fn captions_in(
+    memory: &mut Memory,
+    file: &[u8],
+    out: &mut [u8],
+    written: &mut usize,
+    fault: &mut ExifnormFault,
+) -> u32
+    ensures known { (result ≡ DONE) ⊎ (result ≡ REFUSED) ⊎ (result ≡ NO_MEMORY) ⊎ (result ≡ TOO_LITTLE_ROOM) }
+    ensures done { result ≡ DONE → Gives caption_text file.now out.old out.new written.new }
+    ensures refused { result ≡ REFUSED → Refuses file.now fault.new }
+    ensures short { result ≡ TOO_LITTLE_ROOM → Lacks caption_text file.now out.old written.new }
+    ensures out { result ≢ DONE → out.new ≡ out.old }
+    ensures written { result ≢ DONE → result ≢ TOO_LITTLE_ROOM → written.new ≡ written.old }
+    ensures fault { result ≢ REFUSED → fault.new ≡ fault.old }
+    ensures lacking { result ≡ NO_MEMORY → memory.new ≡ true }
+    ensures memory { result ≢ NO_MEMORY → memory.new ≡ memory.old }
+{
+    match px_engine::captions_text_in(memory, file) {
+        Ok(text) => give(&text, out, written),
+        Err(Fault::Refused { cause, place }) => {
+            *fault = told(cause, place);
+            REFUSED
+        }
+        Err(_) => NO_MEMORY,
+    }
+}
