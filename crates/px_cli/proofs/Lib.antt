@@ -1,3 +1,5 @@
+pub mod EndLaws
 pub mod LineLaws
 pub mod TextLaws
 pub mod WordLaws
+pub mod matching

@@ -1,6 +1,6 @@
--- What the program does with its words.
+-- What the program does with its arguments, its words.
 use Rattle.std.specs.Prelude.{◌≡◌, ◌↔◌, ◌⊎◌, ℕ, Bool, false, List, [], Option, Some, None}
-use Rattle.clap.specs.Words.{Text, subcommand_of}
+use Rattle.clap.specs.Words.{Text, fault_of, subcommand_of}
 use Rattle.px_engine.specs.declared.Fault.{Fault}
 use Rattle.px_engine.specs.declared.Fault.TheVariants.{OutOfMemory, ReadFailed, WriteFailed}
 use Rattle.px_engine.specs.declared.Side.{Side}
@@ -13,7 +13,7 @@ use Rattle.px_cli.specs.declared.words.Words.{Words}
 use Rattle.px_cli.specs.declared.words.Words.TheVariants as words
 use Rattle.px_cli.specs.Lines.{Device, TellsFault, TellsWords}
 use Rattle.px_cli.specs.Endings.{Ends, EndsCompare}
-use Rattle.px_cli.specs.Words.{exifnorm, out_is_file, Asks, AsksFiles, AreTaken}
+use Rattle.px_cli.specs.Words.{exifnorm, out_is_file, Asks, AsksFiles, AreTaken, IsFor}
 
 -- the job that a command asks for
 abbrev pub job_of : One → Job
@@ -25,7 +25,7 @@ job_of one.Captions = job.Captions
 abbrev pub IsLacking : Fault → Fault → Type 0
 IsLacking due e = (e ≡ OutOfMemory) ⊎ (e ≡ due)
 
--- that is told
+-- a file that isn't there is told of
 abbrev pub TellsLacking : Fault → Option Side → ℕ → Device → Type 0
 TellsLacking due file status lines = (e : Fault) × IsLacking due e × TellsFault e file status lines
 
@@ -65,7 +65,7 @@ EndsWords words.NoMemory refused refused_now status lines = TellsFault OutOfMemo
 -- what these words ask for
 abbrev pub AskedBy : List Text → Words → Type 0
 AskedBy ws asked = (ws ≡ [] ↔ asked ≡ words.Filter) × Asks (subcommand_of exifnorm ws) asked
-    × (AreTaken ws → AsksFiles (subcommand_of exifnorm ws) asked)
+    × IsFor (fault_of exifnorm ws) asked × (AreTaken ws → AsksFiles (subcommand_of exifnorm ws) asked)
 
 -- whatever they ask for was done, with memory that had refused nothing
 abbrev pub Answers : List Text → ℕ → Device → Type 0

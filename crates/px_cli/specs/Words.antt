@@ -1,6 +1,6 @@
--- What the words of a command line ask for.
-use Rattle.std.specs.Prelude.{◌≡◌, ◌≢◌, ◌⊎◌, List, [], ◌∷◌, Option, Some, codes, true, is_some, ⊤}
-use Rattle.clap.specs.Words.{App, Row, Rule, Shape, Text, first_of, new_app, new_rule, subcommand_of, takes, with_rule, with_subcommand}
+-- What the arguments of the program, its words, ask for.
+use Rattle.std.specs.Prelude.{◌≡◌, ◌≢◌, ◌⊎◌, List, [], ◌∷◌, Option, Some, codes, true, ⊤}
+use Rattle.clap.specs.Words.{App, Row, Rule, Shape, Text, fault_of, first_of, new_app, new_rule, with_rule, with_subcommand}
 use Rattle.clap.specs.Kinds.{IsAmong, Kinds}
 use Rattle.clap.specs.declared.error.ErrorKind.{ErrorKind}
 use Rattle.clap.specs.declared.error.ErrorKind.TheVariants as kind
@@ -54,7 +54,7 @@ out_is_file = codes "refused words: OUT is FILE"
 abbrev pub Has : Option (Text × List Row) → Text → Text → Text → Type 0
 Has met name id word = (rows : List Row) × (met ≡ Some (name, rows)) × (first_of id rows ≡ Some word)
 
--- and with these two
+-- the match has this subcommand, with these words at two ids
 abbrev pub HasBoth : Option (Text × List Row) → Text → Text → Text → Text → Text → Type 0
 HasBoth met name id word other_id other =
     (rows : List Row) × (met ≡ Some (name, rows)) × (first_of id rows ≡ Some word) × (first_of other_id rows ≡ Some other)
@@ -74,9 +74,9 @@ AsksFiles met (words.Refused text) =
     (file : Text) × HasBoth met (codes "normalise") (codes "FILE") file (codes "OUT") file × (text ≡ out_is_file)
 AsksFiles met _ = ⊤
 
--- the command takes the words, and they name a subcommand
+-- nothing is wrong with the words, and they ask for no help
 abbrev pub AreTaken : List Text → Type 0
-AreTaken ws = (takes exifnorm ws ≡ true) × (is_some (subcommand_of exifnorm ws) ≡ true)
+AreTaken ws = fault_of exifnorm ws ≡ []
 
 -- so are the words that users write
 abbrev pub TakesCommands : Type 0
@@ -84,7 +84,7 @@ TakesCommands = AreTaken (codes "show" ∷ codes "a" ∷ []) × AreTaken (codes 
     × AreTaken (codes "captions" ∷ codes "a" ∷ []) × AreTaken (codes "normalise" ∷ codes "a" ∷ codes "b" ∷ [])
     × AreTaken (codes "compare" ∷ codes "a" ∷ codes "b" ∷ []) × AreTaken (codes "check" ∷ codes "--" ∷ codes "-a" ∷ [])
 
--- both of a match
+-- what a match asks for: the files that it names, and nothing but files, want of memory or that refusal
 abbrev pub AsksIn : Option (Text × List Row) → Words → Type 0
 AsksIn met w = Asks met w × AsksFiles met w
 
@@ -105,8 +105,13 @@ TellsKind k (words.Help text) = IsShown k
 TellsKind k (words.Refused text) = IsShown k → ⊥
 TellsKind k _ = ⊤
 
--- the same of the kinds that clap's error may have: a refusal is for a mistake, or for one word for both files of normalise
+-- the same of the kinds that clap's error may have: a refusal is for a mistake, or, where there is none, for one word for both
+-- files of normalise; files are worked on only where there is none
 abbrev pub IsFor : Kinds → Words → Type 0
 IsFor kinds (words.Help text) = (k : ErrorKind) × IsAmong k kinds × IsShown k
-IsFor kinds (words.Refused text) = (text ≡ out_is_file) ⊎ ((k : ErrorKind) × IsAmong k kinds × (IsShown k → ⊥))
-IsFor kinds _ = ⊤
+IsFor kinds (words.Refused text) = ((kinds ≡ []) × (text ≡ out_is_file)) ⊎ ((k : ErrorKind) × IsAmong k kinds × (IsShown k → ⊥))
+IsFor kinds (words.One what file) = kinds ≡ []
+IsFor kinds (words.Normalise file out) = kinds ≡ []
+IsFor kinds (words.Compare first second) = kinds ≡ []
+IsFor kinds words.Filter = ⊤
+IsFor kinds words.NoMemory = ⊤

@@ -91,7 +91,7 @@ fn compared(same: bool) -> &'static [u8]
     }
 }
 
-// Its status.
+// The status of two accepted blocks.
 fn compared_status(same: bool) -> u8
     ensures { result ≡ compared_status same }
 {
@@ -113,6 +113,7 @@ fn tell_compared<L: Sink>(lines: &mut L, same: Result<bool, CompareFault>) -> u8
 }
 
 // Writes the normal form to `out`, and a line of what went wrong to `lines`.
+#[tactic(auto, using(crate::proofs::EndLaws::ends_normalise))]
 fn run_normalise<R: Source, O: Sink, L: Sink>(
     memory: &mut Memory,
     reader: &mut R,
@@ -130,6 +131,7 @@ fn run_normalise<R: Source, O: Sink, L: Sink>(
 }
 
 // Tells of which kind the block is.
+#[tactic(auto, using(crate::proofs::EndLaws::ends_check))]
 fn run_check<R: Source, L: Sink>(memory: &mut Memory, reader: &mut R, lines: &mut L) -> u8
     requires reading { R.failed reader.old + 1 < 2 ^ 64 }
     requires telling { L.failed lines.old + 1 < 2 ^ 64 }
@@ -191,7 +193,7 @@ pub fn run_one_in<R: Source, O: Sink, L: Sink>(
     }
 }
 
-/// The same with memory of its own.
+/// Does a job on one file as `run_one_in` does, with memory of its own.
 pub fn run_one<R: Source, O: Sink, L: Sink>(
     alloc: Global,
     job: Job,
@@ -214,6 +216,7 @@ pub fn run_one<R: Source, O: Sink, L: Sink>(
 /// fault ends in ` in file 1` or ` in file 2`. The first file is read and judged wholly before the
 /// second is read. A line takes no memory. `failed: OutOfMemory` means that memory refused a growth: in
 /// this run, where it had refused none before.
+#[tactic(auto, using(crate::proofs::EndLaws::ends_compare))]
 pub fn run_compare_in<R: Source, S: Source, L: Sink>(
     memory: &mut Memory,
     first: &mut R,
@@ -230,7 +233,7 @@ pub fn run_compare_in<R: Source, S: Source, L: Sink>(
     tell_compared(lines, compare_in(memory, first, second))
 }
 
-/// The same with memory of its own.
+/// Tells whether two files say the same as `run_compare_in` does, with memory of its own.
 pub fn run_compare<R: Source, S: Source, L: Sink>(
     alloc: Global,
     first: &mut R,

@@ -15,6 +15,7 @@
 ghost use Rattle.std.specs.Prelude.{◌≡◌, drop};
 
 mod files;
+mod grammar;
 mod job;
 #[cfg(test)]
 mod line_tests;
@@ -32,7 +33,7 @@ use std::io::ErrorKind;
 use std::process::ExitCode;
 use std::{env, io};
 
-// The words behind the program's name.
+// The arguments: the words behind the program's name.
 fn behind_name(all: &[String]) -> &[String]
     ensures { result.now ≡ drop 1 all.now }
 {
@@ -42,7 +43,7 @@ fn behind_name(all: &[String]) -> &[String]
     &all[1..]
 }
 
-// Runs on the words that the system gives.
+// Runs on the arguments that the system gives.
 fn run_given(rt: &HostRuntime) -> u8 {
     let alloc = rt.alloc();
     let mut lines = Watched::new(io::writer(rt));

@@ -1,6 +1,5 @@
-// What the program does with its words.
-ghost use Rattle.std.specs.Prelude.{◌≡◌, ◌<◌, ◌+◌, ◌^◌, IfOk, map, None, Some};
-ghost use Rattle.px_engine.specs.declared.Fault.TheVariants.{ReadFailed};
+// What the program does with its arguments.
+ghost use Rattle.std.specs.Prelude.{◌≡◌, ◌<◌, ◌+◌, ◌^◌, map};
 ghost use Rattle.px_cli.specs.declared.job.Job.TheVariants.{Normalise};
 ghost use Rattle.px_cli.specs.Lines.{device};
 ghost use Rattle.px_cli.specs.Programs.{job_of, Answers, EndsFile, EndsFiles, EndsForm, EndsJob, EndsPair, EndsWords};
@@ -16,14 +15,14 @@ use std::convert::AsStr;
 use std::io;
 use std::rt::Files;
 
-/// Does what the words after the program's name ask for, and answers the exit status. All text goes to
+/// Does what the arguments ask for, and answers the exit status. All text goes to
 /// `lines`, and the normal form of standard input to standard output.
 ///
-/// It parses the words, opens the files that they name and runs: `FILE` is opened, then `OUT` is made
+/// It parses the arguments, opens the files that they name and runs: `FILE` is opened, then `OUT` is made
 /// or emptied, then `FILE` is read; where two files are compared, both are opened before either is
 /// read. A file that can't be opened is a failed read, one that can't be made a failed write. Where
-/// `OUT` is `FILE`, also by another name, the words are refused and the file is as it was. Without
-/// words standard input is normalised to standard output; else standard input is not read.
+/// `OUT` is `FILE`, also by another name, the arguments are refused and the file is as it was. Without
+/// arguments standard input is normalised to standard output; else standard input is not read.
 pub fn run_words<'a, S: AsStr, R: Files + Input + Print, L: Sink>(
     rt: &R,
     alloc: Global,

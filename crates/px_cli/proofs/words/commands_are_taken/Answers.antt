@@ -5,7 +5,7 @@ use Rattle.px_cli.proofs.words.commands_are_taken.Goals as goal
 
 all_taken : TakesCommands
 unfolding clap_on_literals
-all_taken = ((refl, refl), (refl, refl), (refl, refl), (refl, refl), (refl, refl), (refl, refl))
+all_taken = (refl, refl, refl, refl, refl, refl)
 
 pub returns : goal.returns
 returns c = all_taken

@@ -2,7 +2,7 @@ use Rattle.std.proofs.Common.{◌≡◌, ap₂, ◌∙◌, codes}
 use Rattle.std.proofs.lemmas.Result.{IfOk-weaker}
 use Rattle.clap.specs.Words.{App, app_of, with_subcommand}
 use Rattle.px_cli.specs.Words.{bare, of_one, of_two}
-use Rattle.px_cli.proofs.words.command.Goals as goal
+use Rattle.px_cli.proofs.grammar.command.Goals as goal
 
 abbrev with_show : App
 with_show = with_subcommand bare (of_one (codes "show"))

@@ -1,0 +1,4 @@
+-- What clap's match of the command holds.
+pub mod Rows
+pub mod Walked
+pub mod Whole

@@ -1,0 +1,110 @@
+// The command that clap is handed: its subcommands, and the words that each must have.
+ghost use Rattle.std.specs.Prelude.{◌≡◌, false, IfOk};
+ghost use Rattle.clap.specs.Words.{app_of, shape_of};
+ghost use Rattle.clap.specs.declared.builder.Command.TheViews.{out-Command};
+ghost use Rattle.px_cli.specs.Words.{bare, exifnorm, of_one, of_two};
+
+use clap::{Arg, Command};
+use px_engine::VERSION;
+use std::alloc::{AllocError, Global};
+
+const NAME: &str = "exifnorm";
+
+const ABOUT: &str =
+    "Reads a block of Exif or IPTC (IIM) metadata, and writes its normal form. Without words it normalises standard input to standard output.";
+
+const STATUSES: &str = "Statuses:
+  0  done (compare: the blocks say the same)
+  1  compare: the blocks say something different
+  2  a block is refused; the line tells the cause and the byte
+  3  the words are refused
+  4  a file, a stream or memory failed
+
+All text goes to standard output.";
+
+// A subcommand with one file.
+fn of_one<'a>(alloc: Global, name: &'a str, about: &'a str) -> Result<Command<'a>, AllocError>
+    ensures shape { IfOk result (λ c. shape_of c ≡ of_one name.entry.now) }
+    ensures local { IfOk result (λ c. (out-Command c).has_globals ≡ false) }
+{
+    let file = Arg::new(alloc, "FILE").required(true);
+    Command::new(alloc, name).about(about).arg(file)
+}
+
+// A subcommand with two files.
+fn of_two<'a>(
+    alloc: Global,
+    name: &'a str,
+    about: &'a str,
+    first: &'a str,
+    second: &'a str,
+) -> Result<Command<'a>, AllocError>
+    ensures shape { IfOk result (λ c. shape_of c ≡ of_two name.entry.now first.entry.now second.entry.now) }
+    ensures local { IfOk result (λ c. (out-Command c).has_globals ≡ false) }
+{
+    let first = Arg::new(alloc, first).required(true);
+    let second = Arg::new(alloc, second).required(true);
+    Command::new(alloc, name)
+        .about(about)
+        .arg(first)?
+        .arg(second)
+}
+
+// The command, as yet without its subcommands. Its name stands in usage lines whatever the program's
+// file is called.
+fn bare<'a>(alloc: Global) -> Result<Command<'a>, AllocError>
+    ensures shape { IfOk result (λ c. app_of c ≡ bare) }
+    ensures local { IfOk result (λ c. (out-Command c).has_globals ≡ false) }
+{
+    let named = Command::new(alloc, NAME).bin_name(NAME)?;
+    Ok(
+        named
+            .version(VERSION)
+            .about(ABOUT)
+            .after_help(STATUSES)
+            .no_binary_name(true)
+            .disable_help_subcommand(true)
+            .subcommand_required(true),
+    )
+}
+
+/// The command, whose words are those after the program's name.
+pub fn command<'a>(alloc: Global) -> Result<Command<'a>, AllocError>
+    ensures { IfOk result (λ c. app_of c ≡ exifnorm) }
+{
+    let show = of_one(
+        alloc,
+        "show",
+        "Print what the block says, a line for each field",
+    )?;
+    let check = of_one(
+        alloc,
+        "check",
+        "Print the block's kind, or why it is refused",
+    )?;
+    let captions = of_one(
+        alloc,
+        "captions",
+        "Print the captions, names, keywords and rights in the block",
+    )?;
+    let normalise = of_two(
+        alloc,
+        "normalise",
+        "Write the block's normal form to OUT, and print nothing",
+        "FILE",
+        "OUT",
+    )?;
+    let compare = of_two(
+        alloc,
+        "compare",
+        "Print whether two blocks say the same or something different",
+        "FIRST",
+        "SECOND",
+    )?;
+    let bare = bare(alloc)?;
+    bare.subcommand(show)?
+        .subcommand(check)?
+        .subcommand(captions)?
+        .subcommand(normalise)?
+        .subcommand(compare)
+}
