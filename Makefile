@@ -28,7 +28,7 @@ archive = crates/px_c/out/libpx_c.a
 # where ./exifnorm keeps the program that it built
 program = $$(ls out/exifnorm 2>/dev/null || ls crates/px_cli/out/px_cli)
 # of px_c and of the crates that it stands on
-folders = $(addprefix crates/px_,c engine layout tree iim field bytes)
+folders = $(addprefix crates/px_,c engine text layout tree iim field bytes)
 sources = crates.txt $(shell find $(folders) \
     -path '*/out' -prune -o -path '*/must-fail' -prune -o -type f \( -name '*.rt' -o -name '*.antt' \) -print)
 packages = $(notdir $(patsubst %/__init__.py,%,$(wildcard python/*/__init__.py)))
