@@ -32,8 +32,6 @@ mod judging;
 mod kinds;
 mod labelled;
 pub mod laws;
-#[cfg(test)]
-mod listing_tests;
 mod meanings;
 mod runs;
 #[cfg(test)]

@@ -14,13 +14,9 @@
 //! ```
 #![tactic(auto)]
 
-#[cfg(test)]
-mod edge_tests;
 mod entries;
 mod entry_values;
 pub mod fault_laws;
-#[cfg(test)]
-mod fault_tests;
 mod field_reading;
 mod fields;
 mod fitting;
@@ -29,8 +25,6 @@ mod holding;
 pub mod laws;
 mod links;
 mod meanings;
-#[cfg(test)]
-mod oracle_tests;
 mod parts;
 mod read;
 #[cfg(test)]
@@ -39,8 +33,6 @@ mod records;
 mod roles;
 mod same;
 mod strips;
-#[cfg(test)]
-mod sweep_tests;
 mod tables;
 mod tags;
 #[cfg(test)]

@@ -60,7 +60,7 @@ pub says_at : (v : Value) (s : List ℕ) (r : Bool) (f : Form) → v.elements �
     → IsTrue r ↔ (record_in (form_in v.kind) (spelled Least v) ≡ None → ⊥)
 says_at v s r f elements at test =
     let same : record_in (form_in v.kind) (spelled Least v) ≡ record_in f s =
-        ap (λ (k : Kind). record_in (form_in k) (spelled Least v)) at ∙ ap (record_in f) (spelled-bytes Least v s elements) in
+    ap (λ (k : Kind). record_in (form_in k) (spelled Least v)) at ∙ ap (record_in f) (spelled-bytes Least v s elements) in
     (λ h e. some_not_none (record_in f s) (sym test ∙ h) (sym same ∙ e), λ h. test ∙ not_none_some (record_in f s) (λ e. h (same ∙ e)))
 
 -- one field more fits
