@@ -8,10 +8,10 @@ ghost use Rattle.std.specs.Io.KnownBytes.{Appends};
 ghost use Rattle.px_tree.specs.Directory.{dirs};
 ghost use Rattle.px_tree.specs.Fits.{Fits, items};
 ghost use Rattle.px_tree.specs.calls.Seen.{thumb_of};
-ghost use Rattle.px_layout.specs.calls.Building.{AreInside, PutsOver, at_places, value_pieces, dir_pieces, piece_bytes, IsPiece};
+ghost use Rattle.px_layout.specs.calls.Building.{AreInside, PutsOver, at_places, contents_in, value_pieces, dir_pieces, piece_bytes, IsPiece};
 ghost use Rattle.px_layout.specs.calls.Items.{item_of, entry_of, IsCounted};
-ghost use Rattle.px_layout.specs.calls.Layouts.{said_plan, said_meaning};
-ghost use Rattle.px_layout.specs.Laid.{all_strip_contents, jpeg_contents, strip_contents, table_bytes, thumb_contents, header, contents_of_dir, laid};
+ghost use Rattle.px_layout.specs.calls.Layouts.{said_plan, said_meaning, header_in, table_in};
+ghost use Rattle.px_layout.specs.Laid.{all_strip_contents, jpeg_contents, strip_contents, thumb_contents, header, laid};
 ghost use Rattle.px_layout.specs.Plans.{Legal, place};
 
 use crate::chunks::Chunk;
@@ -197,16 +197,11 @@ fn lay_table(
     entries: &Entries,
 ) -> Result<(), Refused>
     requires few { length entries.now < 2 ^ 16 }
-    requires inside { place (said_plan layout.now) (Chunk.Table dir) + length
-        (table_bytes (said_plan layout.now) layout.now.order layout.now.filler (said_meaning layout.now) dir entries.now) ≤ length
-        block.old }
+    requires inside { place (said_plan layout.now) (Chunk.Table dir) + length (table_in layout.now dir entries.now) ≤ length block.old }
     ensures memory { Lacks result memory.old memory.new }
     ensures len { length block.new ≡ length block.old }
-    ensures bytes { OnOk result (PutsOver block.old block.new ((
-      place (said_plan layout.now) (Chunk.Table dir),
-      table_bytes
-          (said_plan layout.now) layout.now.order layout.now.filler (said_meaning layout.now) dir entries.now,
-    ) ∷ [])) }
+    ensures bytes { OnOk result (PutsOver block.old block.new
+        ((place (said_plan layout.now) (Chunk.Table dir), table_in layout.now dir entries.now) ∷ [])) }
 {
     let bytes = bytes_of(memory, layout, Piece::Table(dir, entries))?;
     put_at(block, place_of(layout.plan, Chunk::Table(dir)), &bytes);
@@ -236,9 +231,7 @@ fn lay_dirs(memory: &mut Memory, block: &mut [u8], layout: &Layout) -> Result<()
     requires len { length block.old ≡ (said_plan layout.now).length }
     ensures memory { Lacks result memory.old memory.new }
     ensures len { length block.new ≡ length block.old }
-    ensures bytes { OnOk result (PutsOver block.old block.new (at_places layout.now
-        (flat_map (λ d. contents_of_dir (said_plan layout.now) layout.now.order layout.now.filler (said_meaning layout.now) d
-        (items (said_meaning layout.now) d)) dirs))) }
+    ensures bytes { OnOk result (PutsOver block.old block.new (at_places layout.now (flat_map (contents_in layout.now) dirs))) }
 {
     lay_dir(memory, block, layout, Dir::Thumb)?;
     lay_dir(memory, block, layout, Dir::Gps)?;
@@ -251,7 +244,7 @@ fn lay_header(memory: &mut Memory, block: &mut [u8], layout: &Layout) -> Result<
     requires { 8 ≤ length block.old }
     ensures memory { Lacks result memory.old memory.new }
     ensures len { length block.new ≡ length block.old }
-    ensures bytes { OnOk result (PutsOver block.old block.new ((0, header (said_plan layout.now) layout.now.order layout.now.filler) ∷ [])) }
+    ensures bytes { OnOk result (PutsOver block.old block.new ((0, header_in layout.now) ∷ [])) }
 {
     let bytes = bytes_of(memory, layout, Piece::Header)?;
     put_at(block, 0, &bytes);

@@ -68,8 +68,8 @@ impl Plan {
     pub fn place(&mut self, chunk: Chunk, offset: u32) -> Result<bool, AllocError>
         ensures placed { IfOk result (λ placed. placed ≡ true → (plan_of self.old).offset chunk ≡ None) }
         ensures there { IfOk result (λ placed. placed ≡ false → IsSome ((plan_of self.old).offset chunk)) }
-        ensures after { IfOk result (λ placed. plan_of self.new ≡ (if placed then with_chunk (plan_of self.old) chunk offset else plan_of
-            self.old)) }
+        ensures after { IfOk result (λ placed. plan_of self.new
+            ≡ (if placed then with_chunk (plan_of self.old) chunk offset else plan_of self.old)) }
         ensures err { OnErr result (plan_of self.new ≡ plan_of self.old) }
         ensures unplaced { OnErr result ((plan_of self.old).offset chunk ≡ None) }
     {
@@ -87,8 +87,8 @@ impl Plan {
     ) -> Result<bool, Refused>
         ensures placed { IfOk result (λ placed. placed ≡ true → (plan_of self.old).offset chunk ≡ None) }
         ensures there { IfOk result (λ placed. placed ≡ false → IsSome ((plan_of self.old).offset chunk)) }
-        ensures after { IfOk result (λ placed. plan_of self.new ≡ (if placed then with_chunk (plan_of self.old) chunk offset else plan_of
-            self.old)) }
+        ensures after { IfOk result (λ placed. plan_of self.new
+            ≡ (if placed then with_chunk (plan_of self.old) chunk offset else plan_of self.old)) }
         ensures err { OnErr result (plan_of self.new ≡ plan_of self.old) }
         ensures unplaced { OnErr result ((plan_of self.old).offset chunk ≡ None) }
         ensures memory { Lacks result memory.old memory.new }

@@ -5,8 +5,8 @@ ghost use Rattle.px_bytes.specs.Devices.{Counts};
 ghost use Rattle.px_bytes.specs.Parts.{limit};
 ghost use Rattle.px_bytes.specs.Waiting.{PutsTo};
 ghost use Rattle.px_layout.specs.calls.Items.{item_of, entry_of, IsCounted};
-ghost use Rattle.px_layout.specs.calls.Layouts.{said_plan};
-ghost use Rattle.px_layout.specs.Laid.{long_bytes, item_bytes, last_bytes, entry_bytes};
+ghost use Rattle.px_layout.specs.calls.Layouts.{said_plan, item_in, last_in, entry_in};
+ghost use Rattle.px_layout.specs.Laid.{long_bytes, item_bytes, last_bytes};
 ghost use Rattle.px_layout.specs.calls.Planned.{plan_of};
 ghost use Rattle.px_layout.specs.Plans.{place};
 
@@ -87,8 +87,7 @@ pub(crate) fn put_item<W: Sink>(
 ) -> Result<(), Failed>
     requires few { W.failed writer.old + 1 < 2 ^ 64 }
     requires counted { IsCounted (item_of item) }
-    ensures bytes { PutsTo W.bytes_taken result writer.old writer.new pending.old pending.new
-        (item_bytes (said_plan layout.now) layout.now.order layout.now.filler (item_of item.entry)) }
+    ensures bytes { PutsTo W.bytes_taken result writer.old writer.new pending.old pending.new (item_in layout.now (item_of item.entry)) }
     ensures count { Counts result (W.failed writer.old) (W.failed writer.new) }
 {
     match item {
@@ -115,8 +114,7 @@ fn put_last<W: Sink>(
 ) -> Result<(), Failed>
     requires few { W.failed writer.old + 1 < 2 ^ 64 }
     requires counted { IsCounted (item_of entry.now.item) }
-    ensures bytes { PutsTo W.bytes_taken result writer.old writer.new pending.old pending.new
-        (last_bytes (said_plan layout.now) layout.now.order layout.now.filler dir (entry_of entry.now)) }
+    ensures bytes { PutsTo W.bytes_taken result writer.old writer.new pending.old pending.new (last_in layout.now dir (entry_of entry.now)) }
     ensures count { Counts result (W.failed writer.old) (W.failed writer.new) }
 {
     let Entry { tag, item } = *entry;
@@ -138,8 +136,7 @@ pub(crate) fn put_entry<W: Sink>(
 ) -> Result<(), Failed>
     requires few { W.failed writer.old + 1 < 2 ^ 64 }
     requires counted { IsCounted (item_of entry.now.item) }
-    ensures bytes { PutsTo W.bytes_taken result writer.old writer.new pending.old pending.new
-        (entry_bytes (said_plan layout.now) layout.now.order layout.now.filler dir (entry_of entry.now)) }
+    ensures bytes { PutsTo W.bytes_taken result writer.old writer.new pending.old pending.new (entry_in layout.now dir (entry_of entry.now)) }
     ensures count { Counts result (W.failed writer.old) (W.failed writer.new) }
 {
     pending.put(writer, &entry_head(layout.order, entry))?;

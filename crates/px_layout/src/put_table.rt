@@ -3,8 +3,7 @@ ghost use Rattle.std.specs.Prelude.{◌≡◌, ◌<◌, ◌+◌, ◌^◌, length
 ghost use Rattle.px_bytes.specs.Devices.{Counts};
 ghost use Rattle.px_bytes.specs.Waiting.{PutsTo};
 ghost use Rattle.px_tree.specs.Directory.{magic};
-ghost use Rattle.px_layout.specs.Laid.{entry_bytes, next_bytes, table_bytes, header};
-ghost use Rattle.px_layout.specs.calls.Layouts.{said_plan, said_meaning};
+ghost use Rattle.px_layout.specs.calls.Layouts.{header_in, entry_in, next_in, table_in};
 
 use crate::chunks::Chunk;
 use crate::entries::Entries;
@@ -31,7 +30,7 @@ pub(crate) fn put_header<W: Sink>(
 ) -> Result<(), Failed>
     requires { W.failed writer.old + 1 < 2 ^ 64 }
     ensures bytes { PutsTo W.bytes_taken result writer.old writer.new pending.old pending.new
-        (header (said_plan layout.now) layout.now.order layout.now.filler) }
+        (header_in layout.now) }
     ensures count { Counts result (W.failed writer.old) (W.failed writer.new) }
 {
     pending.put(writer, &magic_of(layout.order))?;
@@ -46,8 +45,7 @@ fn put_entries<W: Sink>(
     entries: &Entries,
 ) -> Result<(), Failed>
     requires { W.failed writer.old + 1 < 2 ^ 64 }
-    ensures bytes { PutsTo W.bytes_taken result writer.old writer.new pending.old pending.new (flat_map
-        (entry_bytes (said_plan layout.now) layout.now.order layout.now.filler dir) entries.now) }
+    ensures bytes { PutsTo W.bytes_taken result writer.old writer.new pending.old pending.new (flat_map (entry_in layout.now dir) entries.now) }
     ensures count { Counts result (W.failed writer.old) (W.failed writer.new) }
 {
     for i in 0..entries.len() {
@@ -64,8 +62,7 @@ fn put_next_of_main<W: Sink>(
     layout: &Layout,
 ) -> Result<(), Failed>
     requires { W.failed writer.old + 1 < 2 ^ 64 }
-    ensures bytes { PutsTo W.bytes_taken result writer.old writer.new pending.old pending.new
-        (next_bytes (said_plan layout.now) layout.now.order layout.now.filler (said_meaning layout.now) Dir.Main) }
+    ensures bytes { PutsTo W.bytes_taken result writer.old writer.new pending.old pending.new (next_in layout.now Dir.Main) }
     ensures count { Counts result (W.failed writer.old) (W.failed writer.new) }
 {
     match &layout.m.thumb {
@@ -82,8 +79,7 @@ fn put_next<W: Sink>(
     dir: Dir,
 ) -> Result<(), Failed>
     requires { W.failed writer.old + 1 < 2 ^ 64 }
-    ensures bytes { PutsTo W.bytes_taken result writer.old writer.new pending.old pending.new
-        (next_bytes (said_plan layout.now) layout.now.order layout.now.filler (said_meaning layout.now) dir) }
+    ensures bytes { PutsTo W.bytes_taken result writer.old writer.new pending.old pending.new (next_in layout.now dir) }
     ensures count { Counts result (W.failed writer.old) (W.failed writer.new) }
 {
     match dir {
@@ -103,8 +99,7 @@ pub(crate) fn put_table<W: Sink>(
 ) -> Result<(), Failed>
     requires few { W.failed writer.old + 1 < 2 ^ 64 }
     requires counted { length entries.now < 2 ^ 16 }
-    ensures bytes { PutsTo W.bytes_taken result writer.old writer.new pending.old pending.new
-        (table_bytes (said_plan layout.now) layout.now.order layout.now.filler (said_meaning layout.now) dir entries.now) }
+    ensures bytes { PutsTo W.bytes_taken result writer.old writer.new pending.old pending.new (table_in layout.now dir entries.now) }
     ensures count { Counts result (W.failed writer.old) (W.failed writer.new) }
 {
     put_short(pending, writer, layout.order, entries.len() as u16)?;

@@ -10,8 +10,8 @@ use Rattle.px_layout.specs.declared.building.Piece.{Piece}
 use Rattle.px_layout.specs.declared.building.Piece.TheVariants.{Header, Table, Value}
 use Rattle.px_layout.specs.calls.Items.{item_of, IsCounted}
 use Rattle.px_layout.specs.Plans.{place}
-use Rattle.px_layout.specs.calls.Layouts.{said_plan, said_meaning}
-use Rattle.px_layout.specs.Laid.{placed_content, contents_of_dir, byte_at, header, table_bytes, item_bytes}
+use Rattle.px_layout.specs.calls.Layouts.{said_plan, said_meaning, header_in, item_in, table_in}
+use Rattle.px_layout.specs.Laid.{placed_content, contents_of_dir, byte_at}
 
 -- the block of n bytes that pieces make
 abbrev pub made : ℕ → ℕ → List (ℕ × List ℕ) → List ℕ
@@ -27,9 +27,9 @@ PutsOver old new xs = (filler : ℕ) (ys : List (ℕ × List ℕ)) → old ≡ m
 
 -- the bytes of a piece
 abbrev pub piece_bytes : Layout → Piece → List ℕ
-piece_bytes l Header = header (said_plan l) l.order l.filler
-piece_bytes l (Table d xs) = table_bytes (said_plan l) l.order l.filler (said_meaning l) d xs.now
-piece_bytes l (Value x) = item_bytes (said_plan l) l.order l.filler (item_of x)
+piece_bytes l Header = header_in l
+piece_bytes l (Table d xs) = table_in l d xs.now
+piece_bytes l (Value x) = item_in l (item_of x)
 
 -- a table has fewer than 65,536 entries, and an item's counts are of four bytes
 abbrev pub IsPiece : Piece → Type 0
@@ -44,6 +44,10 @@ at_places l cs = map (λ c. (place (said_plan l) c.0, c.1)) cs
 -- the placed values of entries
 abbrev pub value_pieces : Layout → Dir → List (ℕ × Item) → List (ℕ × List ℕ)
 value_pieces l d xs = at_places l (filter_map (placed_content (said_plan l) l.order l.filler d) xs)
+
+-- the chunks of a directory, where it is there
+abbrev pub contents_in : Layout → Dir → List (Chunk × List ℕ)
+contents_in l d = contents_of_dir (said_plan l) l.order l.filler (said_meaning l) d (items (said_meaning l) d)
 
 -- a directory's table and its placed values
 abbrev pub dir_pieces : Layout → Meaning → Dir → List (ℕ × List ℕ)

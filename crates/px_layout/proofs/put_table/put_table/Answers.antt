@@ -1,4 +1,4 @@
-use Rattle.std.proofs.Common.{◌≡◌, List, ℕ, length, ap, subst}
+use Rattle.std.proofs.Common.{◌≡◌, length, ap, subst}
 use Rattle.std.proofs.lemmas.Result.{err_from_is_err_and}
 use Rattle.px_bytes.specs.Numbers.{spelling}
 use Rattle.px_bytes.specs.lemmas.WaitingLaws.{HasPut, puts_to_both}
@@ -25,8 +25,8 @@ returns-in_err-put_entries-clause-bytes g c =
     c.args.layout.now.filler (said_meaning c.args.layout.now) c.args.dir c.args.entries.now)
     (second_of g.W.Sink.bytes_taken _ _ _ c.args.pending.now c.put_short.new.pending
     (spelling c.args.layout.now.order 2 (length c.args.entries.now)) _ _
-    (subst (λ (x : List ℕ). HasPut g.W.Sink.bytes_taken c.args.writer.now c.put_short.new.writer c.args.pending.now c.put_short.new.pending
-    (x)) head c.in_ok-put_short.ensures.bytes)
+    (subst (HasPut g.W.Sink.bytes_taken c.args.writer.now c.put_short.new.writer c.args.pending.now c.put_short.new.pending) head
+    c.in_ok-put_short.ensures.bytes)
     c.in_err-put_entries.ensures.bytes))
 
 pub returns-clause-bytes : goal.returns-clause-bytes
@@ -38,7 +38,7 @@ returns-clause-bytes g c =
     c.args.dir c.args.entries.now)
     (puts_to_both g.W.Sink.bytes_taken c.put_next.result _ _ _ c.args.pending.now c.put_short.new.pending c.put_next.new.pending
     (spelling c.args.layout.now.order 2 (length c.args.entries.now)) _
-    (subst (λ (x : List ℕ). HasPut g.W.Sink.bytes_taken c.args.writer.now c.put_short.new.writer c.args.pending.now c.put_short.new.pending
-    (x)) head c.in_ok-put_short.ensures.bytes)
+    (subst (HasPut g.W.Sink.bytes_taken c.args.writer.now c.put_short.new.writer c.args.pending.now c.put_short.new.pending) head
+    c.in_ok-put_short.ensures.bytes)
     (puts_to_both g.W.Sink.bytes_taken c.put_next.result _ _ _ c.put_short.new.pending c.put_entries.new.pending c.put_next.new.pending _ _
     c.in_ok-put_entries.ensures.bytes c.put_next.ensures.bytes))
