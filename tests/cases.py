@@ -33,9 +33,9 @@ class Case:
     datasets: int = 0
 
     def is_judged(self):
-        """Whether something besides the status is due, or a status that says by itself what came."""
+        """Whether something besides the status is due. Where a device takes the output, status 4 says by itself what came."""
         dues = (self.output, self.lines, self.has or None, self.left or None, self.absent or None)
-        return any(it is not None for it in dues) or self.status in (3, 4)
+        return any(it is not None for it in dues) or (self.status == 4 and self.output_to != "")
 
 
 @dataclass

@@ -70,7 +70,10 @@ class Tables(unittest.TestCase):
         self.refused({"texts": [{"name": "n", "block": "1C"}]})
 
     def test_a_run_of_which_nothing_but_a_status_is_due(self):
-        self.refused({"runs": [{"name": "n", "words": ["check", "a"]}]})
+        for status in range(5):
+            self.refused({"runs": [{"name": "n", "words": ["check", "a"], "status": status}]})
+        self.refused({"runs": [{"name": "n", "words": ["check", "a"], "status": 3, "output to": "/dev/full"}]})
+        self.assertEqual(len(self.read({"runs": [{"name": "n", "words": ["check", "a"], "status": 4, "output to": "/dev/full"}]})), 1)
 
     def test_a_sweep_over_no_block(self):
         self.refused({"sweeps": [{"name": "n", "block": "", "each": "cut"}]})

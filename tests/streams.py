@@ -81,14 +81,30 @@ def links(program: str, folder: Path):
 
 
 def an_input_that_stays_open(program: str, folder: Path):
-    """Standard input is read by the filter alone."""
+    """Standard input is read by the filter alone: every other run ends while nothing comes there and nobody closes it."""
     reads, writes = os.pipe()
-    for words in (["check", "one"], ["--help"], ["--version"], ["chek"]):
+    for words, status in (
+        (["check", "one"], 0),
+        (["show", "one"], 0),
+        (["captions", "one"], 0),
+        (["normalise", "one", "OUT"], 0),
+        (["compare", "one", "one"], 0),
+        (["check", "loop"], 2),
+        (["compare", "loop", "one"], 2),
+        (["check", "absent"], 4),
+        (["normalise", "absent", "OUT"], 4),
+        (["normalise", "one", "one"], 3),
+        (["check"], 3),
+        (["chek"], 3),
+        (["-"], 3),
+        (["--help"], 0),
+        (["--version"], 0),
+    ):
         try:
-            status = run(program, folder, words, stdin=reads)[0]
+            came = run(program, folder, words, stdin=reads)[0]
         except subprocess.TimeoutExpired:
-            status = "no end"
-        yield f"{words} while standard input stays open", status in (0, 3), status
+            came = "no end"
+        yield f"{words} while standard input stays open", came == status, came
     os.close(reads)
     os.close(writes)
 
@@ -98,15 +114,42 @@ def a_file_that_may_not_be_read(program: str, folder: Path):
     for name in ("secret", "fixed"):
         (folder / name).write_bytes(ONE)
         (folder / name).chmod(0o000 if name == "secret" else 0o444)
+    (folder / "closed").mkdir()
+    (folder / "closed" / "one").write_bytes(ONE)
+    (folder / "closed").chmod(0o000)
     folder.chmod(0o755)
     how = {"user": NOBODY, "group": NOBODY} if os.getuid() == 0 else {}
     for words, line in (
         (["check", "secret"], b"failed: ReadFailed\n"),
+        (["show", "secret"], b"failed: ReadFailed\n"),
+        (["captions", "secret"], b"failed: ReadFailed\n"),
+        (["normalise", "secret", "OUT"], b"failed: ReadFailed\n"),
         (["compare", "one", "secret"], b"failed: ReadFailed in file 2\n"),
+        (["compare", "secret", "one"], b"failed: ReadFailed in file 1\n"),
+        (["check", "closed/one"], b"failed: ReadFailed\n"),
+        (["normalise", "one", "closed/OUT"], b"failed: WriteFailed\n"),
         (["normalise", "one", "fixed"], b"failed: WriteFailed\n"),
     ):
         came = run(program, folder, words, **how)
-        yield f"{words} as nobody", came == (4, line), came
+        left = [(folder / name).read_bytes() for name in ("one", "OUT", "fixed")]
+        yield f"{words} as nobody", (came, left) == ((4, line), [ONE, b"old", ONE]), (came, left)
+    (folder / "closed").chmod(0o755)
+
+
+def links_that_lead_nowhere(program: str, folder: Path):
+    """A link without an end is a failed read or write; one to a file that isn't there makes that file."""
+    os.symlink("round", folder / "round")
+    os.symlink("made", folder / "ahead")
+    for words, line in (
+        (["check", "round"], b"failed: ReadFailed\n"),
+        (["check", "ahead"], b"failed: ReadFailed\n"),
+        (["normalise", "one", "round"], b"failed: WriteFailed\n"),
+    ):
+        came = run(program, folder, words)
+        yield f"{words} through a link", came == (4, line), came
+    came = run(program, folder, ["normalise", "one", "ahead"])
+    left = (folder / "made").read_bytes()
+    yield "an output through a link", (came, left) == ((0, b""), ONE), (came, left)
 
 
 def main(words: list) -> int:
@@ -118,7 +161,7 @@ def main(words: list) -> int:
         program.write_bytes(Path(words[0]).read_bytes())
         program.chmod(0o755)
         Path(room).chmod(0o755)
-        for test in (closed_streams, links, an_input_that_stays_open, a_file_that_may_not_be_read):
+        for test in (closed_streams, links, an_input_that_stays_open, a_file_that_may_not_be_read, links_that_lead_nowhere):
             folder = Path(room) / test.__name__
             folder.mkdir()
             fill(folder)
