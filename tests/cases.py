@@ -40,11 +40,12 @@ class Case:
 
 @dataclass
 class Sweep:
-    """Many blocks that come of one. The normal form of each that is accepted is its own normal form, and the others are refused."""
+    """Many blocks that come of one, each of which is judged by the rules of the format."""
 
     name: str
     blocks: list
     normal: object = None  # the one normal form of them all, where each must be accepted
+    accepted: object = None  # how many of them say something, where that is told
 
 
 def fixed(line):
@@ -132,11 +133,13 @@ def sweeps(blocks, entry, ways):
     normal = blocks.bytes_of(entry["normal"]) if "normal" in entry else None
     if entry["each"] == "cut":
         made = [block[:n] for n in range(len(block))]
+    elif entry["each"] == "bit":
+        made = [bytes([*block[:at], block[at] ^ 1 << bit, *block[at + 1 :]]) for at in range(len(block)) for bit in range(8)]
     else:
         at, width = entry["at"], entry["width"]
         numbers = {"offset": [*range(len(block) + 1), 0xFFFFFFFF], "byte": range(256)}[entry["each"]]
         made = [block[:at] + n.to_bytes(width, "big") + block[at + width :] for n in numbers]
-    yield Sweep(entry["name"], made, normal)
+    yield Sweep(entry["name"], made, normal, entry.get("accepted"))
 
 
 @dataclass
@@ -162,7 +165,7 @@ TABLES = {
     "comparisons": Table(comparisons, {"first", "second", "same"}, ways={"commands"}),
     "texts": Table(texts, {"block"}, {"check", "show", "captions"}, ways={"commands"}),
     "runs": Table(runs, set(), STREAMS | {"status", "output", "line", "text", "lines", "has", "left", "absent"}),
-    "sweeps": Table(sweeps, {"block", "each"}, {"at", "width", "normal"}, ways={"filter"}),
+    "sweeps": Table(sweeps, {"block", "each"}, {"at", "width", "normal", "accepted"}, ways={"filter"}),
 }
 WAYS = {"filter", "commands"}
 

@@ -18,15 +18,18 @@ sys.dont_write_bytecode = True
 
 from blocks import Misspelled
 from cases import Case, Sweep, read_all
+from changed import changed
 from growths import complaints_under_refusals, every, sample
 from kinds import Kind, large_kinds, small_kinds
 from meanings import LIMIT, Record
 from program import run
+from reading import Fault, said
 from shims import NoShim, make_shim
 from watching import complaints_of_cost, complaints_of_failures
 
 HERE = os.path.dirname(os.path.abspath(__file__))
 SECONDS = 60  # what the longest run of a large block may take
+CHANGED = 40  # how many blocks are made of each layout of a kind
 
 
 def shown(octets):
@@ -59,21 +62,39 @@ def judge_case(program, case):
     return complaints_of(case, run(program, case, seconds=30 if case.endless else SECONDS))
 
 
-def judge_sweep(program, sweep):
+def case_of(file, command=""):
+    """What is due of any file from a command, or from the filter, by the rules of the format."""
+    how = {"words": [command, "a"], "files": {"a": file}} if command else {"input": file}
+    try:
+        meaning = said(file)
+    except Fault as why:
+        return Case("", status=2, output=f"refused: {why}\n".encode(), **how)
+    if not command:
+        return Case("", output=meaning.normal(), **how)
+    text = {"check": f"ok {meaning.kind}\n", "show": meaning.listing(), "captions": meaning.captions()}[command]
+    return Case("", output=text.encode(), **how)
+
+
+def judge_files(program, files, commands=("",)):
+    """What is wrong with what these files come to, each by the next of the commands."""
     bad = []
-    for block in sweep.blocks:
-        outcome = run(program, Case("", input=block))
-        if outcome.status == 0:
-            due = Case("", input=outcome.output, output=outcome.output)
-            wrong = complaints_of(due, run(program, due))
-            if sweep.normal is not None and outcome.output != sweep.normal:
-                wrong.append(f"the normal form {shown(sweep.normal)} was due, and {shown(outcome.output)} came")
-        elif outcome.status != 2 or sweep.normal is not None:
-            wrong = [f"status {outcome.status} came with the output {shown(outcome.output)}"]
-        else:
-            wrong = [] if outcome.output.startswith(b"refused: ") else [f"{shown(outcome.output)} came"]
-        bad += [f"for the block {block[:100].hex()} of {len(block)} bytes: {it}" for it in wrong]
-    return bad if len(bad) < 4 else [*bad[:3], f"and {len(bad) - 3} more such blocks"]
+    for i, file in enumerate(files):
+        due = case_of(file, commands[i % len(commands)])
+        bad += [f"for the file {file[:100].hex()} of {len(file)} bytes, by {due.words[:1]}: {it}" for it in complaints_of(due, run(program, due))]
+        if len(bad) > 3:
+            return [*bad[:3], "and no further ones were tried"]
+    return bad
+
+
+def judge_sweep(program, sweep):
+    bad = judge_files(program, sweep.blocks)
+    accepted = [block for block in sweep.blocks if case_of(block).status == 0]
+    if sweep.accepted is not None and len(accepted) != sweep.accepted:
+        bad.append(f"{sweep.accepted} blocks were to be accepted, and the rules accept {len(accepted)}")
+    forms = {case_of(block).output for block in accepted}
+    if sweep.normal is not None and (forms != {sweep.normal} or len(accepted) < len(sweep.blocks)):
+        bad.append(f"the one normal form {shown(sweep.normal)} was due, and there are {len(forms)}, of {len(accepted)} blocks")
+    return bad + judge_files(program, sorted(forms))
 
 
 def cases_of_kind(kind):
@@ -120,6 +141,7 @@ class Parts:
         yield "cases, with growths refused in turn", self.refusing([it for it in self.cases if isinstance(it, Case) and it.refuses_growths], every)
         yield "what the cases cost", self.costing([it for it in self.cases if is_counted(it)])
         small = self.chosen(small_kinds())
+        yield "blocks nearly in order", self.nearly(small_kinds())
         yield "blocks of every kind, and what they cost", self.costing(small)
         yield "blocks of every kind, with growths refused", self.refusing(small, sample)
         yield "devices that fail once", self.failing([it for it in small if len(it.output or b"") < 20_000 and "type" not in it.name])
@@ -137,6 +159,13 @@ class Parts:
         for case in self.cases:
             judge = judge_sweep if isinstance(case, Sweep) else judge_case
             yield case.name, lambda judge=judge, case=case: judge(self.program, case)
+
+    def nearly(self, kinds):
+        for kind in kinds:
+            for i, block in enumerate(kind.blocks):
+                name = f"{kind.name}, layout {i + 1}, changed by chance"
+                if self.only in name and len(block) < 10_000:
+                    yield name, lambda block=block: judge_files(self.program, changed(block, CHANGED), ("", "check", "show", "captions"))
 
     def refusing(self, cases, numbers):
         for case in cases:

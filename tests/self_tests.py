@@ -13,12 +13,14 @@ import unittest
 
 sys.dont_write_bytecode = True
 
-from blocks import Misspelled
+from blocks import Blocks, Misspelled
 from cases import Case, read_all
+from changed import changed
 from kinds import small_kinds
-from meanings import ASCII, SHORT, Exif, Layout, Record, Value, laid
+from meanings import ASCII, LIMIT, SHORT, Exif, Layout, Record, Value, laid
 from program import Outcome
-from run import complaints_of
+from reading import Fault, said
+from run import case_of, complaints_of
 from watching import Counts, complaints_of_cost, limits_of, says_failed
 
 HERE = os.path.dirname(os.path.abspath(__file__))
@@ -172,6 +174,61 @@ class Meanings(unittest.TestCase):
         for kind in small_kinds():
             self.assertTrue(all(kind.blocks), kind.name)
             self.assertTrue(isinstance(kind.meaning, Record) or kind.blocks[0] != kind.blocks[-1] or kind.name, kind.name)
+
+
+class Reading(unittest.TestCase):
+    """What reading.py tells of blocks: of those whose meaning is known, and of those of the cases, spelled by hand."""
+
+    def entries(self, table):
+        for name in sorted(os.listdir(os.path.join(HERE, "cases"))):
+            if name.endswith(".json"):
+                with open(os.path.join(HERE, "cases", name), encoding="utf-8") as it:
+                    yield from json.load(it).get(table, [])
+
+    def blocks(self):
+        with open(os.path.join(HERE, "cases", "blocks.json"), encoding="utf-8") as it:
+            return Blocks(json.load(it)["blocks"])
+
+    def test_each_layout_of_a_kind_says_its_meaning(self):
+        for kind in small_kinds():
+            for block in (*kind.blocks, kind.meaning.normal()):
+                found = said(block)
+                self.assertEqual((found.listing(), found.captions()), (kind.meaning.listing(), kind.meaning.captions()), kind.name)
+                self.assertEqual(found.normal(), kind.meaning.normal(), kind.name)
+
+    def test_each_refusal_of_the_cases(self):
+        blocks = self.blocks()
+        for entry in self.entries("refusals"):
+            with self.assertRaises(Fault) as told:
+                said(blocks.bytes_of(entry["block"]))
+            self.assertEqual(str(told.exception), entry["refused"], entry["name"])
+
+    def test_each_normal_form_and_each_text_of_the_cases(self):
+        blocks = self.blocks()
+        for entry in self.entries("normal forms"):
+            due = blocks.bytes_of(entry.get("normal", entry["block"]))
+            self.assertTrue(said(blocks.bytes_of(entry["block"])).normal() == due, entry["name"])
+        for entry in self.entries("texts"):
+            found = said(blocks.bytes_of(entry["block"]))
+            for word, text in (("check", f"ok {found.kind}\n"), ("show", found.listing()), ("captions", found.captions())):
+                due = entry.get(word)
+                lines = text.split("\n")[:-1]
+                if due is not None:
+                    self.assertEqual(len(lines) if isinstance(due, int) else lines, [due] if isinstance(due, str) else due, entry["name"])
+
+    def test_what_is_due_of_a_file(self):
+        one = bytes.fromhex("4D4D002A00000008 0001 0112000300000001 00010000 00000000")
+        self.assertEqual((case_of(one).output, case_of(one).status), (one, 0))
+        self.assertEqual(case_of(b"Exif\0\0" + one, "check").output, b"ok exif\n")
+        self.assertEqual((case_of(one[:25], "show").output, case_of(one[:25]).status), (b"refused: DirectoryOutside at 4\n", 2))
+        self.assertEqual(case_of(b"\x1c" + bytes(LIMIT)).output, f"refused: TooLong at {LIMIT}\n".encode())
+
+    def test_blocks_are_changed_the_same_way_in_every_run(self):
+        block = bytes(range(100))
+        first, second = list(changed(block, 50)), list(changed(block, 50))
+        self.assertEqual(first, second)
+        self.assertGreater(len(set(first)), 40)
+        self.assertTrue(all(first))
 
 
 class Running(unittest.TestCase):
