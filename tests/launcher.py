@@ -7,6 +7,7 @@ Each test that fails has a line. The last line is 'N passed, M failed', and the 
 """
 
 import os
+import re
 import shutil
 import signal
 import subprocess
@@ -186,6 +187,23 @@ def what_changes_behind_a_quick_look_is_noticed(room: Room) -> None:
     (room.main.parent / "further.rt").write_text("more")
     room.call()
     due(room.builds() == 3, room.log())
+
+
+def most_calls_start_one_process_besides_the_program(room: Room) -> None:
+    room.call()
+    time.sleep(1.1)
+    room.call()
+    for name in sorted(os.listdir("/usr/bin")):
+        if re.search(rf"(^|[^\w-]){re.escape(name)}($|[^\w-])", LAUNCHER.read_text()) and not (room.bin / name).exists():
+            (room.bin / name).write_text(f'#!/bin/sh\necho {name} >>"{room.folder}/started"\nexec /usr/bin/{name} "$@"\n')
+            (room.bin / name).chmod(0o755)
+    due({"find", "cmp", "cksum", "sort"} < set(os.listdir(room.bin)), "the launcher calls other commands")
+    ran = room.call("a")
+    due((ran.stdout, ran.stderr) == ("one: a\n", ""), ran)
+    started = (room.folder / "started").read_text().split()
+    due(started == ["find"], f"a call starts {started}")
+    room.main.write_text("two")
+    due(room.call("a").stdout == "two: a\n" and len((room.folder / "started").read_text().split()) > 10, "the commands are not counted")
 
 
 def a_source_that_is_taken_away_or_added_is_noticed(room: Room) -> None:
@@ -370,6 +388,7 @@ TESTS = [
     a_changed_source_is_built,
     an_older_source_in_its_place_is_built,
     what_changes_behind_a_quick_look_is_noticed,
+    most_calls_start_one_process_besides_the_program,
     a_source_that_is_taken_away_or_added_is_noticed,
     touched_and_copied_sources_are_not_built_again,
     another_toolchain_builds_again_and_the_same_elsewhere_does_not,
