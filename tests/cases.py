@@ -29,13 +29,27 @@ class Case:
     left: dict = field(default_factory=dict)  # files and the bytes that they hold afterwards
     absent: list = field(default_factory=list)  # files that must not be there afterwards
     refuses_growths: bool = False
-    groups: int = 0  # of a caption record: how many groups its DataSets are of, and how many they are
-    datasets: int = 0
+    holds: object = None  # what is held of what each of its files says, where that is told
+
+    @property
+    def out(self):
+        """The name of the file that a normal form goes to."""
+        names = [it for it in self.words[1:] if it != "--"]
+        return names[1] if self.words[:1] == ["normalise"] and len(names) == 2 else "OUT"
 
     def is_judged(self):
         """Whether something besides the status is due. Where a device takes the output, status 4 says by itself what came."""
         dues = (self.output, self.lines, self.has or None, self.left or None, self.absent or None)
         return any(it is not None for it in dues) or (self.status == 4 and self.output_to != "")
+
+
+@dataclass
+class Holds:
+    """How much a block says: how many fields, strips, and DataSets of each group."""
+
+    fields: int
+    strips: int
+    lists: list
 
 
 @dataclass

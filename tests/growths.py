@@ -31,14 +31,14 @@ def out_of_memory(case):
 
 def says_out_of_memory(case, outcome):
     """Whether the run says that memory was refused, wrote nothing else, and left the files as they were; OUT may be empty."""
-    kept = {name: octets for name, octets in outcome.files.items() if name != "OUT"}
-    were = {name: octets for name, octets in case.files.items() if name != "OUT"}
+    kept = {name: octets for name, octets in outcome.files.items() if name != case.out}
+    were = {name: octets for name, octets in case.files.items() if name != case.out}
     return (
         outcome.status == 4
         and outcome.output in out_of_memory(case)
         and outcome.complaints == b""
         and kept == were
-        and outcome.files.get("OUT", b"") in (b"", case.files.get("OUT", b""))
+        and outcome.files.get(case.out, b"") in (b"", case.files.get(case.out, b""))
     )
 
 

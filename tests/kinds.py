@@ -156,6 +156,13 @@ def many_strips():
         yield exif(f"400,000 strips, {name}", Exif(dict(ORIENTATION), thumb={}, strips=strips), layout)
 
 
+def strips_far_apart():
+    """The last range that is held below a strip is always far below it."""
+    count = 1_000_000
+    layout = Layout(">", shuffled=True, gap=14, chance=OfStrips(count, -1))
+    yield exif("a million strips far apart, descending", Exif(dict(ORIENTATION), thumb={}, strips=[b"x"] * count), layout)
+
+
 def many_datasets():
     many = Record([(2, 25, b"")] * 3_300_000)
     yield Kind("3.3 million empty keywords", many, [many.spelled()])
@@ -179,8 +186,11 @@ def long_values():
     numbers = {0xFD00: Value(SHORT, range(65_536)), 0xFD01: Value(DOUBLE, range(100_000)), 0xFD02: Value(SLONG, range(-50_000, 50_000))}
     yield exif("long values of SHORT, DOUBLE and SLONG", Exif(numbers))
     yield exif("four million SHORTs", Exif({0xFD00: Value(SHORT, [it % 65_536 for it in range(4_000_000)])}))
+    yield exif("two million widths", Exif({0x0100: Value(SHORT, [it % 65_536 for it in range(2_000_000)])}))
     captions = Record([(2, 25, b"0123456789" * 3000)] * 100)
     yield exif("a caption record of three million octets inside an Exif block", Exif({}, record=captions))
+    captions = Record([(2, 120, b"Z\xc3\xbcrich \\ " * 3000)] * 507)
+    yield Kind("a caption record of sixteen million octets", captions, [captions.spelled(), captions.spelled(extended=3, zeros=3)])
 
 
 class OfStrips(Random):
@@ -209,5 +219,5 @@ def small_kinds():
 
 def large_kinds():
     """Blocks in which anything that is quadratic would take hours, or that hold as much as a block may, one after the other."""
-    for make in (many_fields, placed_values, many_strips, many_datasets, many_groups, groups_in_turn, long_values):
+    for make in (many_fields, placed_values, many_strips, strips_far_apart, many_datasets, many_groups, groups_in_turn, long_values):
         yield from make()

@@ -25,6 +25,7 @@ sys.path.insert(0, PARTS)
 from answers import CAUSES, all_answers, blocks_of_cases, write_jobs
 
 BUILT = os.path.join(TOP, "out", "lib")
+LAUNCHER = os.path.join(TOP, "exifnorm")
 SHARED = os.path.join(BUILT, "libexifnorm.so.1")
 ARCHIVE = os.path.join(BUILT, "libexifnorm.a")
 HEADER = os.path.join(TOP, "crates", "px_c", "include")
@@ -65,6 +66,12 @@ def due(holds, why):
         raise Failed(why)
 
 
+def times():
+    """When each file was last written that make builds."""
+    paths = [*(os.path.join(BUILT, it) for it in os.listdir(BUILT)), os.path.join(TOP, "out", "exifnorm")]
+    return {it: os.stat(it).st_mtime_ns for it in paths}
+
+
 class Library:
     """The tests of the built library; each method is one."""
 
@@ -75,9 +82,18 @@ class Library:
 
     def is_built_once(self):
         run("make", "library", seconds=4 * 3600)  # from nothing it proves every crate below
-        were = {it: os.stat(os.path.join(BUILT, it)).st_mtime_ns for it in os.listdir(BUILT)}
+        run("make", seconds=4 * 3600)  # and the program, by the launcher
+        were = times()
         run("make")
-        due(were == {it: os.stat(os.path.join(BUILT, it)).st_mtime_ns for it in os.listdir(BUILT)}, "a second make built again")
+        due(were == times(), "a second make built again")
+
+    def has_the_program_that_the_launcher_built(self):
+        launched = os.path.join(os.path.realpath(TOP), "out", "exifnorm")
+        due(run(LAUNCHER, "--where", folder="/") == f"{launched}\n", "the launcher names another place")
+        with open(launched, "rb") as one, open(self.program, "rb") as other:
+            due(one.read() == other.read(), "the launcher built another program")
+        due(text_of("out", "built-with").split("\n")[0] == run("rt", "version").strip(), "it tells another toolchain")
+        due(run(LAUNCHER, "--version", folder="/") == run(self.program, "--version"), "a later call says more")
 
     def shows_its_calls_alone(self):
         shown = run("nm", "-D", "--defined-only", SHARED).split("\n")
@@ -152,6 +168,10 @@ class Library:
         for jobs in (self.small, self.large):
             self.python(os.path.join(PARTS, "python_calls.py"), jobs)
 
+    def answers_each_value_of_each_byte_in_python(self):
+        said = self.python(os.path.join(PARTS, "each_byte.py"))
+        due(re.fullmatch(r"[1-9]\d+ blocks were judged\n", said), f"it said {said[:2000]}")
+
     def python(self, *words):
         return run(sys.executable, "-B", *words, PYTHONPATH=os.path.join(TOP, "python"), EXIFNORM_LIBRARY=SHARED)
 
@@ -181,8 +201,11 @@ class Installed:
         self.packages = os.path.join(self.prefix, os.path.dirname(os.path.dirname(package[0])))
 
     def has_the_proved_program(self):
-        with open(os.path.join(self.prefix, "bin", "exifnorm"), "rb") as one, open(self.program, "rb") as other:
-            due(one.read() == other.read(), "bin/exifnorm is another program")
+        with open(os.path.join(self.prefix, "bin", "exifnorm"), "rb") as one:
+            installed = one.read()
+        for path in (self.program, os.path.join(TOP, "out", "exifnorm")):
+            with open(path, "rb") as other:
+                due(installed == other.read(), f"bin/exifnorm is another program than {path}")
 
     def has_pages_without_complaints(self):
         if shutil.which("man"):

@@ -93,8 +93,11 @@ LABELS = [
 ]
 
 
+ESCAPED = [chr(it) if 0x20 <= it <= 0x7E and it != 0x5C else f"\\{it:02x}" for it in range(256)]
+
+
 def escaped(octets):
-    return "".join(chr(it) if 0x20 <= it <= 0x7E and it != 0x5C else f"\\{it:02x}" for it in octets)
+    return "".join(map(ESCAPED.__getitem__, octets))
 
 
 @dataclass

@@ -17,7 +17,7 @@ from concurrent.futures import ThreadPoolExecutor
 sys.dont_write_bytecode = True
 
 from blocks import Misspelled
-from cases import Case, Sweep, read_all
+from cases import Case, Holds, Sweep, read_all
 from changed import changed
 from growths import complaints_under_refusals, every, sample
 from kinds import Kind, large_kinds, small_kinds
@@ -25,11 +25,12 @@ from meanings import LIMIT, Record
 from program import run
 from reading import Fault, said
 from shims import NoShim, make_shim
-from watching import complaints_of_cost, complaints_of_failures
+from watching import complaints_of_cost, complaints_of_failures, complaints_of_short_calls
 
 HERE = os.path.dirname(os.path.abspath(__file__))
 SECONDS = 60  # what the longest run of a large block may take
 CHANGED = 40  # how many blocks are made of each layout of a kind
+SHORT_AND_FAILING = ("four directories in another order", "four directories, by show", "two keywords with a caption", "four directories in two", "one SHORT, by check")
 
 
 def shown(octets):
@@ -118,13 +119,22 @@ def other(kind):
     return block if block != kind.meaning.normal() else b"\x1c\x02\x05\0\0"
 
 
+def holds(meaning):
+    """How much a meaning makes a reader hold. Room for the fields is asked for by the number of entries, of which six are no fields."""
+    record = meaning if isinstance(meaning, Record) else meaning.record
+    lists = [len(them) for them in record.groups().values()] if record else []
+    if meaning is record:
+        return Holds(0, 0, lists)
+    directories = meaning.directories()
+    return Holds(sum(len(fields) for _, fields in directories) + 6 * len(directories), len(meaning.strips or []), lists)
+
+
 def named(kind):
-    """The cases of a kind, with its name, and with how many groups a caption record has."""
-    record = kind.meaning if isinstance(kind.meaning, Record) else kind.meaning.record
-    groups, datasets = (len(record.groups()), len(record.datasets)) if record else (0, 0)
+    """The cases of a kind, with its name, and with what is held of its meaning."""
+    held = holds(kind.meaning)
     for case in cases_of_kind(kind):
         case.name = f"{kind.name}: {case.name}"
-        case.groups, case.datasets = groups, datasets
+        case.holds = [held, holds(said(case.files["c"])) if "c" in case.files else held]
         yield case
 
 
@@ -145,6 +155,9 @@ class Parts:
         yield "blocks of every kind, and what they cost", self.costing(small)
         yield "blocks of every kind, with growths refused", self.refusing(small, sample)
         yield "devices that fail once", self.failing([it for it in small if len(it.output or b"") < 20_000 and "type" not in it.name])
+        counted = [it for it in self.cases if is_counted(it) and "/dev/zero" not in it.words and len(it.input) + sum(map(len, it.files.values())) < 1000]
+        yield "devices that move one byte in a call", self.moving(counted)
+        yield "devices that move one byte in a call, and fail once", self.moving_and_failing(counted)
         if not self.only or "large" in self.only:
             yield "large blocks, and what they cost", (it for kind in large_kinds() for it in self.costing(named(kind)))
         if not self.only:
@@ -183,6 +196,18 @@ class Parts:
     def failing(self, cases):
         for case in cases:
             yield f"{case.name}, where a device fails once", lambda case=case: complaints_of_failures(self.program, self.watch, case)
+
+
+    def moving(self, cases):
+        for case in cases:
+            name = f"{case.name}, byte by byte"
+            yield name, lambda case=case: complaints_of_short_calls(self.program, self.watch, case, complaints_of)
+
+    def moving_and_failing(self, cases):
+        for case in cases:
+            if case.name.startswith(SHORT_AND_FAILING):
+                name = f"{case.name}, byte by byte, where a device fails once"
+                yield name, lambda case=case: complaints_of_failures(self.program, self.watch, case, short=1)
 
 
 def is_counted(case):

@@ -14,14 +14,14 @@ import unittest
 sys.dont_write_bytecode = True
 
 from blocks import Blocks, Misspelled
-from cases import Case, read_all
+from cases import Case, Holds, read_all
 from changed import changed
 from kinds import small_kinds
 from meanings import ASCII, LIMIT, SHORT, Exif, Layout, Record, Value, laid
 from program import Outcome
 from reading import Fault, said
 from run import case_of, complaints_of
-from watching import Counts, complaints_of_cost, limits_of, says_failed
+from watching import Counts, complaints_of_cost, growth, limits_of, says_failed
 
 HERE = os.path.dirname(os.path.abspath(__file__))
 GOOD = {"name": "a case", "block": "1C0205000141", "refused": "NoMarker at 0"}
@@ -133,11 +133,31 @@ class Judging(unittest.TestCase):
         self.assertFalse(says_failed(case, Outcome(0, b"exif\n[main]\n", b""), line, due))
         self.assertFalse(says_failed(case, Outcome(4, b"iim\nfailed: WriteFailed\n", b""), line, due))
         self.assertFalse(says_failed(case, Outcome(4, b"failed: ReadFailed\n", b""), line, due))
+        self.assertTrue(says_failed(case, Outcome(4, b"exif\n", b""), line, due, 5))
+        self.assertFalse(says_failed(case, Outcome(4, b"exif\n", b""), line, due, 6))
 
     def test_a_small_form_in_two_writes_costs_too_much(self):
         case = Case("", input_from="a", files={"a": bytes(100)})
         self.assertEqual(limits_of(case, Outcome(0, bytes(8192), b"")).writes, 1)
         self.assertEqual(limits_of(case, Outcome(0, bytes(8193), b"")).writes, 4)
+
+    def test_a_copy_of_what_is_read_costs_too_much(self):
+        """Where a file's bytes would be held twice, or asked for once more, the limits are passed: they leave less than that."""
+        size = LIMIT
+        most = limits_of(Case("", words=["check", "a"], files={"a": bytes(size)}, holds=[Holds(1, 0, [])]), Outcome(0, b"ok exif\n", b""))
+        judged = size // 4 + size // 100  # the bytes themselves, and marks for them
+        self.assertLess(most.held, size + judged + size)
+        self.assertLess(most.asked, 2 * size + judged + size)
+
+    def test_a_record_that_is_listed_twice_costs_too_much(self):
+        size, once = 5 * 3_000_000, growth(3_000_000)
+        most = limits_of(Case("", words=["check", "a"], files={"a": bytes(size)}, holds=[Holds(0, 0, [3_000_000])]), Outcome(0, b"ok iim\n", b""))
+        self.assertLess(most.asked, 24 * 2 * once.asked)
+        self.assertLess(most.calls, 2 * once.calls + 2 * 80)
+
+    def test_room_for_4096_in_each_group_costs_too_much(self):
+        most = limits_of(Case("", words=["check", "a"], files={"a": bytes(70)}, holds=[Holds(0, 0, [1, 1])]), Outcome(0, b"ok iim\n", b""))
+        self.assertLess(most.held, 24 * 2 * 4096)
 
     def test_a_run_that_tells_no_counts_is_a_complaint(self):
         case = Case("", input_from="a", files={"a": b""}, output=b"")
@@ -145,7 +165,7 @@ class Judging(unittest.TestCase):
         self.assertEqual(bad, ["the run told no counts"])
 
     def test_counts_are_compared_one_by_one(self):
-        self.assertEqual([name for name in vars(Counts(1, 2, 3, 4, 5, 6))], ["calls", "asked", "held", "reads", "writes", "failed"])
+        self.assertEqual(list(vars(Counts(1, 2, 3, 4, 5, 6, 7))), ["calls", "asked", "held", "reads", "writes", "spent", "failed"])
 
 
 class Meanings(unittest.TestCase):

@@ -3,8 +3,9 @@
  *
  * Compiled as a shared library and preloaded; only what happens from the program's main to its return counts. WATCH_TELLS=FD has
  * one line written to that open file at the end: the calls for memory, the bytes that they asked for, the most bytes held at
- * once, the reads, the writes, and whether a call was failed. FAIL_READ=N or FAIL_WRITE=N fails the Nth read or write: with the
- * error number FAIL_AS, or, where that is 0, with the answer 0. Every other call is the C library's own.
+ * once, the reads, the writes, the processor's milliseconds, and whether a call was failed. FAIL_READ=N or FAIL_WRITE=N fails the Nth read or write: with the
+ * error number FAIL_AS, or, where that is 0, with the answer 0. SHORT=N has each read and each write move N bytes at most. Every
+ * other call is the C library's own.
  */
 #define _GNU_SOURCE
 #include "main_only.h"
@@ -12,12 +13,14 @@
 #include <malloc.h>
 #include <stdint.h>
 #include <stdio.h>
+#include <sys/resource.h>
 #include <unistd.h>
 
 static int is_watching;
 static long calls, reads, writes, failed;
 static size_t asked, held, most;
 static long failed_read, failed_write, failed_as;
+static size_t longest;
 
 typedef ssize_t Write(int, const void *, size_t);
 typedef ssize_t Read(int, void *, size_t);
@@ -31,14 +34,22 @@ static void begins(void) {
     failed_read = number_in("FAIL_READ", 0);
     failed_write = number_in("FAIL_WRITE", 0);
     failed_as = number_in("FAIL_AS", EIO);
+    longest = (size_t)number_in("SHORT", 0);
     is_watching = 1;
+}
+
+/* The milliseconds of the processor that this process has used. */
+static long spent(void) {
+    struct rusage used;
+    getrusage(RUSAGE_SELF, &used);
+    return (used.ru_utime.tv_sec + used.ru_stime.tv_sec) * 1000 + (used.ru_utime.tv_usec + used.ru_stime.tv_usec) / 1000;
 }
 
 static void ends(void) {
     is_watching = 0;
     int tells = (int)number_in("WATCH_TELLS", -1);
     char line[200];
-    int size = snprintf(line, sizeof line, "%ld %zu %zu %ld %ld %ld\n", calls, asked, most, reads, writes, failed);
+    int size = snprintf(line, sizeof line, "%ld %zu %zu %ld %ld %ld %ld\n", calls, asked, most, reads, writes, spent(), failed);
     if (tells >= 0 && own_write(tells, line, (size_t)size) != size)
         _exit(99);
 }
@@ -104,11 +115,16 @@ static int is_failed(long count, long due) {
     return 1;
 }
 
+/* How many of these bytes a call moves. */
+static size_t moved(size_t size) {
+    return is_watching && longest && longest < size ? longest : size;
+}
+
 ssize_t write(int to, const void *from, size_t size) {
     writes += is_watching;
     if (is_failed(writes, failed_write))
         return failed_as ? -1 : 0;
-    return own_write(to, from, size);
+    return own_write(to, from, moved(size));
 }
 
 ssize_t read(int from, void *to, size_t size) {
@@ -116,5 +132,5 @@ ssize_t read(int from, void *to, size_t size) {
     reads += is_watching;
     if (is_failed(reads, failed_read))
         return failed_as ? -1 : 0;
-    return own(from, to, size);
+    return own(from, to, moved(size));
 }

@@ -4,6 +4,7 @@ where one read or write fails once and the device then goes on."""
 import errno
 import os
 from dataclasses import dataclass
+from functools import lru_cache
 
 from meanings import LIMIT
 from program import run
@@ -11,19 +12,76 @@ from program import run
 SECONDS = 60
 ROOM = 8192  # what waits for a writer at most
 CHUNK = 65536  # what is read at once at most
-WORDS = 48 * 1024  # what reading the command line takes at most
-ITEM = 24  # bytes of a DataSet that is held; a list of them has room for half as many more
+WORDS, CALLS = 48 * 1024, 140  # what reading the command line takes at most: bytes, and calls for memory
+SMALL, RECORDS = 4096, 12 * 1024  # what small lists take at most, and the list of the record numbers
+# a run takes a tenth of this at most, also on a busy machine; one that looks at all it holds again and again takes far more
+SPENT, BYTES_A_MILLISECOND = 300, 8000
+ITEM, GROUP, FIELD, STRIP = 24, 32, 32, 16  # bytes that are held of a DataSet, a group of them, a field and a strip
+
+
+@dataclass
+class Growth:
+    """What a list costs that grows until it has room for so many: calls for memory, the places that they ask for, and its room."""
+
+    calls: int = 0
+    asked: int = 0
+    room: int = 0
+
+
+@lru_cache(maxsize=None)
+def growth(count):
+    """Of a list of DataSets: it grows by half of what it has.
+
+    >>> growth(5)
+    Growth(calls=3, asked=12, room=7)
+    """
+    it = Growth()
+    while it.room < count:
+        it.room += max(3, it.room // 2) if it.room else 1
+        it.calls += 1
+        it.asked += it.room
+    return it
+
+
+def doubled(size):
+    """The room of a list that doubles, once it has room for so many bytes.
+
+    >>> doubled(65537), doubled(3)
+    (131072, 64)
+    """
+    return max(64, 1 << (size - 1).bit_length() if size else 0)
+
+
+def memory_of(held, size):
+    """What is held of what a file of so many bytes says, in calls for memory, bytes asked for and bytes held. Of a block whose
+    meaning isn't told it is in proportion to its bytes."""
+    if held is None:
+        return Growth(60, 16 * size + SMALL, 4 * size + SMALL)
+    lists = [growth(it) for it in held.lists]
+    fixed = FIELD * held.fields + STRIP * held.strips + SMALL + (RECORDS if lists else 0)
+    return Growth(
+        calls=40 + sum(it.calls for it in lists) + len(lists) // 8,
+        asked=fixed + ITEM * sum(it.asked for it in lists) + 4 * GROUP * len(lists),
+        room=fixed + ITEM * sum(it.room for it in lists) + 2 * GROUP * len(lists),
+    )
+
+
+def with_slack(count):
+    """A twentieth more than what lists come to that grow as they do now."""
+    return count * 21 // 20
 
 
 @dataclass
 class Counts:
-    """What a run asked of the system: calls for memory, bytes asked for, the most bytes held at once, reads, writes."""
+    """What a run asked of the system: calls for memory, bytes asked for, the most bytes held at once, reads, writes, and the
+    processor's milliseconds."""
 
     calls: int
     asked: int
     held: int
     reads: int
     writes: int
+    spent: int
     failed: int  # whether a read or a write was failed
 
 
@@ -45,25 +103,27 @@ def sizes_read(case):
     if not case.words:
         return [len(case.files[case.input_from] if case.input_from else case.input)]
     sizes = {**{name: len(block) for name, block in case.files.items()}, "/dev/zero": LIMIT + 7}
-    named = [sizes[name] for name in case.words[1:] if name in sizes]
+    named = [sizes[name] for name in map(os.path.normpath, case.words[1:]) if name in sizes]
     return named[:1] if case.words[0] == "normalise" else named
 
 
 def limits_of(case, outcome):
-    """The most that a run may cost. Memory is in proportion to what is read, beside one buffer a file and what the words take; a
-    group of DataSets has a list of its own, which grows by halves, and a text is made whole. A file is read in whole buffers; a text
-    goes out in one write, and a normal form in one where it fits into what waits, else in writes of which any two make up more than that."""
+    """The most that a run may cost. A file is read in whole buffers of one size, into a list that doubles, and each of its bytes takes
+    some quarter of a byte more while it is judged; beside that there is what it says, and a text is made whole. A text goes out in
+    one write, and a normal form in one where it fits into what waits, else in writes of which any two make up more than that."""
     sizes = sizes_read(case)
-    size, files = sum(sizes), len(sizes)
-    form = outcome.files.get("OUT", b"") if case.words[:1] == ["normalise"] and not outcome.status else outcome.output if not case.words else b""
+    form = outcome.files.get(case.out, b"") if case.words[:1] == ["normalise"] and not outcome.status else outcome.output if not case.words else b""
     text = len(outcome.output) if case.words[:1] in (["show"], ["captions"]) else 0  # made whole, in a list that doubles
-    depth = 4 + 2 * (case.datasets // case.groups).bit_length() if case.groups else 0
+    said = [memory_of(held, size) for held, size in zip(case.holds or [None] * len(sizes), sizes)]
+    judged = sum(sizes) * 26 // 100 + CHUNK * len(sizes)
+    words = WORDS if case.words else 0
     return Counts(
-        calls=130 + 40 * files + files * case.groups * depth,
-        asked=18 * size + files * (3 * CHUNK + 400 * case.groups + 2 * ITEM * case.datasets) + WORDS + 4 * text,
-        held=6 * size + files * (2 * CHUNK + 160 * case.groups + ITEM // 2 * case.datasets) + WORDS + 2 * text,
-        reads=size // CHUNK + 3 * files if not case.input else size + 2,  # a pipe gives as much as it likes
+        calls=(CALLS if case.words else 0) + (30 if text else 0) + sum(it.calls for it in said),
+        asked=with_slack(2 * sum(map(doubled, sizes)) + judged + sum(it.asked for it in said) + words + 4 * text),
+        held=with_slack(sum(map(doubled, sizes)) + judged + sum(it.room for it in said) + words + 2 * text),
+        reads=sum(it // CHUNK + 2 for it in sizes) if not case.input else sum(sizes) + 2,  # a pipe gives as much as it likes
         writes=(1 if len(form) <= ROOM else 2 * len(form) // ROOM + 2) + (outcome.status == 4),  # one that failed, and the line
+        spent=SPENT + sum(sizes) // BYTES_A_MILLISECOND,
         failed=0,
     )
 
@@ -74,7 +134,7 @@ def complaints_of_cost(program, shim, case, complaints_of):
     if counts is None:
         return [*bad, "the run told no counts"]
     most = limits_of(case, outcome)
-    for name in ("calls", "asked", "held", "reads", "writes"):
+    for name in ("calls", "asked", "held", "reads", "writes", "spent"):
         came, due = getattr(counts, name), getattr(most, name)
         if came > due:
             bad.append(f"{name}: at most {due} were due, and {came} came")
@@ -89,34 +149,49 @@ def failures_of(case):
         yield "FAIL_WRITE", error, b"failed: WriteFailed"
 
 
-def says_failed(case, outcome, line, due):
+def says_failed(case, outcome, line, due, taken=None):
     """Whether a run tells the failure, and left no more than a prefix of what was due: of the normal form in OUT and of what stands
-    on standard output. A line that could not be written is not told again there."""
-    out = due.files.get("OUT", b"")
+    on standard output, so many bytes of it where that is told. A line that could not be written is not told again there."""
+    out, left = due.files.get(case.out, b""), outcome.files.get(case.out, b"")
     lines = [b"", *(line + side + b"\n" for side in (b"", b" in file 1", b" in file 2"))]
     starts = [outcome.output[: len(outcome.output) - len(it)] for it in lines if outcome.output.endswith(it)]
     return (
         outcome.status == 4
         and outcome.complaints == b""
-        and out.startswith(outcome.files.get("OUT", b""))
-        and any(due.output.startswith(it) for it in starts)
+        and out.startswith(left)
+        and any(due.output.startswith(it) and taken in (None, len(left + it)) for it in starts)
     )
 
 
-def complaints_of_failures(program, shim, case):
-    """What is wrong where each read and each write in turn fails once."""
+def complaints_of_failures(program, shim, case, short=0):
+    """What is wrong where each read and each write in turn fails once. Where calls are short, as many bytes as there were writes
+    before the one that failed have been written."""
     due, _ = watched(program, shim, case)
     bad = []
     for call, error, line in failures_of(case):
-        for number in range(1, 100):
-            outcome, counts = watched(program, shim, case, **{call: number, "FAIL_AS": error})
+        for number in range(1, 500):
+            outcome, counts = watched(program, shim, case, **{call: number, "FAIL_AS": error, "SHORT": short})
             if counts is None:
                 bad.append(f"{call} {number} as {error}: the run came to no end")
                 break
             if not counts.failed:
                 break
-            if not says_failed(case, outcome, line, due):
+            taken = number - 1 if short == 1 and call == "FAIL_WRITE" else None
+            if not says_failed(case, outcome, line, due, taken):
                 bad.append(f"{call} {number} as {error}: status {outcome.status} with {outcome.output[:80]!r}")
         else:
-            bad.append(f"{call}: more than 99 calls")
+            bad.append(f"{call}: more than 499 calls")
+    return bad[:5]
+
+
+def complaints_of_short_calls(program, shim, case, complaints_of):
+    """What is wrong where each read and each write moves a single byte: as much is due as where they move all."""
+    outcome, counts = watched(program, shim, case, SHORT=1)
+    bad = complaints_of(case, outcome)
+    if counts is None:
+        return [*bad, "the run told no counts"]
+    written = sum(len(octets) for name, octets in outcome.files.items() if octets != case.files.get(name))
+    least = len(outcome.output) + written
+    if not least <= counts.writes <= least + (outcome.status == 4):  # one that failed
+        bad.append(f"writes: {least} were due, and {counts.writes} came")
     return bad
