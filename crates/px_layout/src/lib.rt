@@ -1,7 +1,7 @@
 //! Layouts of an Exif meaning: the normal form, which is one block for each meaning, and every other
-//! block that says it. `write_normal` hands the normal form to a writer, `plan_normal` tells where its
-//! chunks stand, `is_legal` judges a plan of one's own, and `write_with` lays it out in either byte order.
-//! It reads no block, opens no file and changes no value.
+//! block that says it. `write_normal` hands the normal form to a writer, `put_normal` puts it behind bytes
+//! that wait for one, `plan_normal` tells where its chunks stand, `is_legal` judges a plan of one's own, and
+//! `write_with` lays it out in either byte order. It reads no block, opens no file and changes no value.
 //!
 //! ```
 //! let bytes = b"II\x2a\x00\x08\x00\x00\x00\x01\x00\x12\x01\x03\x00\x01\x00\x00\x00\x01\x00\x00\x00\x00\x00\x00\x00";
