@@ -1,5 +1,5 @@
 // A writer that keeps what it takes.
-ghost use Rattle.std.specs.Prelude.{◌≡◌, ◌<◌, ◌≤◌, ◌+◌, [], IfOk, IsErr, IsTrue, ◌↔◌};
+ghost use Rattle.std.specs.Prelude.{◌≡◌, ◌<◌, ◌+◌, [], IfOk, IsErr, ◌↔◌};
 ghost use Rattle.px_bytes.specs.Lacking.{Lacks, MayAsk};
 
 use crate::devices::{Device, Failed, Sink};

@@ -1,12 +1,11 @@
 // One entry of a table, judged. TIFF 6.0 section 2, "IFD Entry", "Sort Order", "Types" and "Value/Offset".
-ghost use Rattle.std.specs.Prelude.{◌≡◌, ◌≤◌, ◌<◌, ◌+◌, ◌*◌, ◌^◌, List, [], ◌∷◌, ◌++◌, length, option_to_list, IfOk, Some};
-ghost use Rattle.px_bytes.specs.declared.Cause.TheVariants.{Overlap};
+ghost use Rattle.std.specs.Prelude.{◌≡◌, ◌≤◌, ◌<◌, ◌+◌, ◌*◌, ◌^◌, List, ◌++◌, length, option_to_list, IfOk, Some};
 ghost use Rattle.px_bytes.specs.Parts.{limit, part};
-ghost use Rattle.px_bytes.specs.Range.{Range, range, is_free, Agrees};
-ghost use Rattle.px_bytes.specs.Checks.{ContentOnly, LacksBlock, Judges, check};
+ghost use Rattle.px_bytes.specs.Range.{Range, Agrees};
+ghost use Rattle.px_bytes.specs.Checks.{ContentOnly, LacksBlock, Judges};
 ghost use Rattle.px_field.specs.Forms.{form_of, size};
 ghost use Rattle.px_tree.specs.Roles.{role};
-ghost use Rattle.px_tree.specs.Entry.{entry, short, long, has_form};
+ghost use Rattle.px_tree.specs.Entry.{entry, has_form};
 ghost use Rattle.px_tree.specs.Footprint.{placed_range};
 ghost use Rattle.px_tree.specs.Checks.{shape_checks, entry_checks};
 ghost use Rattle.px_tree.specs.calls.Reading.{Shows, bare, IsShape, Follows, span, span_checks};

@@ -1,12 +1,11 @@
 // The fields of a directory, read from its entries. TIFF 6.0 section 2, "IFD Entry" and "Value/Offset".
-ghost use Rattle.std.specs.Prelude.{◌≡◌, ◌≤◌, ◌<◌, ◌+◌, ◌*◌, ◌++◌, List, length, filter_map, option_map, option_to_list, is_some, Some, None, IfOk, IfErr};
+ghost use Rattle.std.specs.Prelude.{◌≡◌, ◌≤◌, ◌<◌, ◌+◌, ◌*◌, ◌++◌, List, length, filter_map, option_map, option_to_list, Some, None, IfOk, IfErr};
 ghost use Rattle.std.specs.List.{AllByRecursion};
 ghost use Rattle.px_bytes.specs.declared.Refusal.TheVariants.{OutOfMemory};
 ghost use Rattle.px_bytes.specs.Parts.{limit, part};
 ghost use Rattle.px_bytes.specs.Range.{Range, Agrees};
 ghost use Rattle.px_bytes.specs.Checks.{LacksBlock, Judges};
 ghost use Rattle.px_field.specs.declared.Kind.TheVariants.{Of};
-ghost use Rattle.px_field.specs.Forms.{size};
 ghost use Rattle.px_tree.specs.Entry.{entry, raw, entry_elements, widened_value, record_in, unless_record, value_in, field, Rising};
 ghost use Rattle.px_tree.specs.Footprint.{placed_range};
 ghost use Rattle.px_tree.specs.Checks.{entries_checks};

@@ -1,5 +1,5 @@
 // Ranges of a block, held for what names them. TIFF 6.0 section 7, "No Duplicate Pointers".
-ghost use Rattle.std.specs.Prelude.{◌≡◌, ◌≤◌, ◌+◌, List, [], ◌∷◌};
+ghost use Rattle.std.specs.Prelude.{◌≤◌, ◌+◌, List, [], ◌∷◌};
 ghost use Rattle.px_bytes.specs.declared.Cause.TheVariants.{Overlap};
 ghost use Rattle.px_bytes.specs.Parts.{limit};
 ghost use Rattle.px_bytes.specs.Range.{Range, range, is_free, Agrees};

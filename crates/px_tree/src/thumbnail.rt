@@ -105,19 +105,18 @@ fn hold_jpeg<'a>(
     memory: &mut Memory,
     block: &'a [u8],
     held: &mut Ranges,
-    offset: Option<Found>,
-    size: Option<Found>,
+    parts: Uses,
 ) -> Result<Option<&'a [u8]>, Refusal>
     requires { length block.now ≤ limit }
-    ensures judged { let rs = option_to_list (jpeg_of offset size) in
+    ensures judged { let rs = option_to_list (jpeg_of parts.jpeg_offset parts.jpeg_length) in
         (taken : List Range) → Agrees taken held.old →
-        Judges result (range_checks block.now (place_in offset) taken rs)
+        Judges result (range_checks block.now (place_in parts.jpeg_offset) taken rs)
         (λ _. Agrees (rs ++ taken) held.new) }
     ensures part { IfOk result (λ j. option_map
-        (λ s. s.now) j ≡ option_map (bytes_of block.now) (jpeg_of offset size)) }
+        (λ s. s.now) j ≡ option_map (bytes_of block.now) (jpeg_of parts.jpeg_offset parts.jpeg_length)) }
     ensures memory { LacksBlock result memory.old memory.new }
 {
-    match (offset, size) {
+    match (parts.jpeg_offset, parts.jpeg_length) {
         (Some(offset), Some(size)) => {
             let jpeg = hold_part(
                 memory,
@@ -217,19 +216,18 @@ fn hold_strips<'a>(
     block: &'a [u8],
     order: Order,
     held: &mut Ranges,
-    offsets: Option<Found>,
-    lengths: Option<Found>,
+    parts: Uses,
 ) -> Result<Option<Strips<'a>>, Refusal>
     requires bounded { length block.now ≤ limit }
-    requires numbers { HaveNumbers block.now order offsets × HaveNumbers block.now order lengths }
-    requires even { AreEven offsets lengths }
-    ensures judged { let rs = strips_of block.now order offsets lengths in
+    requires numbers { HaveNumbers block.now order parts.strip_offsets × HaveNumbers block.now order parts.strip_lengths }
+    requires even { AreEven parts.strip_offsets parts.strip_lengths }
+    ensures judged { let rs = strips_of block.now order parts.strip_offsets parts.strip_lengths in
         (taken : List Range) → Agrees taken held.old →
-        Judges result (range_checks block.now (place_in offsets) taken (listed rs))
+        Judges result (range_checks block.now (place_in parts.strip_offsets) taken (listed rs))
         (λ s. s ≡ option_map (map (bytes_of block.now)) rs) }
     ensures memory { LacksBlock result memory.old memory.new }
 {
-    match (offsets, lengths) {
+    match (parts.strip_offsets, parts.strip_lengths) {
         (Some(offsets), Some(lengths)) => {
             let starts = numbers_at(block, order, offsets);
             let sizes = numbers_at(block, order, lengths);
@@ -263,15 +261,8 @@ pub fn read_thumbnail<'a>(
     } = directory;
     judge_pairs(parts)?;
     judge_end(block, order, at, count)?;
-    let jpeg = hold_jpeg(memory, block, held, parts.jpeg_offset, parts.jpeg_length)?;
-    let strips = hold_strips(
-        memory,
-        block,
-        order,
-        held,
-        parts.strip_offsets,
-        parts.strip_lengths,
-    )?;
+    let jpeg = hold_jpeg(memory, block, held, parts)?;
+    let strips = hold_strips(memory, block, order, held, parts)?;
     Ok(Thumb {
         fields,
         jpeg,

@@ -1,5 +1,5 @@
 -- Only the footprint counts: a block that agrees on it says the same.
-use Rattle.std.proofs.Common.{◌≡◌, ℕ, ◌+◌, ◌<◌, ◌≤◌, ◌==◌, nat_le, inl, inr, true, false, Option, Some, None, option_map, option_and_then, List, [], ◌∷◌, ◌++◌, map, filter_map, flat_map, length, take, drop, get_or, slice_index, refl, sym, ◌∙◌, ap, ap₂, subst, arith, le-leb, leb-true, length-drop, get_or-take, get_or-drop}
+use Rattle.std.proofs.Common.{◌≡◌, ℕ, ◌+◌, ◌<◌, ◌≤◌, ◌==◌, nat_le, inl, inr, true, false, Option, Some, None, option_map, option_and_then, List, [], ◌∷◌, ◌++◌, map, filter_map, flat_map, length, take, drop, slice_index, refl, sym, ◌∙◌, ap, ap₂, subst, arith, le-leb, leb-true, length-drop, get_or-take, get_or-drop}
 use Rattle.std.specs.Prelude.{IfSome, option_to_list}
 use Rattle.std.specs.List.{AllByRecursion, cons_option}
 use Rattle.std.proofs.lemmas.Grind.{get_or_default_zero}
