@@ -25,6 +25,7 @@ import exifnorm
 from answers import CAUSES, KINDS, REFUSED, TOO_LONG, Answer, Pair
 
 FAILURES = []
+LITTLE_MEMORY = "--little-memory"
 
 
 def due(holds, *what):
@@ -213,20 +214,22 @@ def try_objects():
 
 
 def try_memory():
-    """MemoryError where the system gives no more memory."""
+    """MemoryError where the system gives no more memory: told by a process of its own, since one that has run threads has room set
+    aside for them, which no limit takes back."""
+    ran = subprocess.run([sys.executable, "-B", os.path.abspath(__file__), LITTLE_MEMORY], capture_output=True, text=True, check=False)
+    due(ran.stdout == "MemoryError\n", "where there is no memory:", ran.stdout, ran.stderr)
+
+
+def call_with_little_memory():
     block = b"\x1c\x02\x19\x00\x01k" * 2_000_000
+    exifnorm.kind(block[:6])
     with open("/proc/self/statm", encoding="ascii") as it:
         used = int(it.read().split()[0]) * resource.getpagesize()
-    limits = resource.getrlimit(resource.RLIMIT_AS)
-    resource.setrlimit(resource.RLIMIT_AS, (used + 8_000_000, limits[1]))
+    resource.setrlimit(resource.RLIMIT_AS, (used + 8_000_000, resource.getrlimit(resource.RLIMIT_AS)[1]))
     try:
-        exifnorm.kind(block)
-        came = "an answer"
+        print("the answer", exifnorm.kind(block))
     except MemoryError:
-        came = None
-    finally:
-        resource.setrlimit(resource.RLIMIT_AS, limits)
-    due(came is None, came, "where there is no memory")
+        print("MemoryError")
 
 
 def try_missing(named, words):
@@ -248,6 +251,9 @@ def run_doctests():
 
 
 def main(path):
+    if path == LITTLE_MEMORY:
+        call_with_little_memory()
+        return 0
     answers, pairs = read_jobs(path)
     for at, answer in enumerate(answers):
         try_block(at, answer)
