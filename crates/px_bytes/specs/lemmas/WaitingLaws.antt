@@ -70,6 +70,23 @@ module _ {X : Type 0} (f : X → List ℕ) (xs : List X) (i : ℕ) (x : X) (read
       ∙ ap (λ (ys : List X). flat_map f (take i xs) ++ flat_map f ys) (drop_more xs i x within)
       ∙ ap (λ (y : X). flat_map f (take i xs) ++ (f y ++ flat_map f (drop (i + 1) xs))) element
 
+  -- one more part, where no more is told than what is owed
+  pub owed_more : (a b c : Option (List ℕ)) (h k m : List ℕ) → Owes a b k (h ++ flat_map f (take i xs)) → Owes b c m (k ++ f x)
+      → Owes a c m (h ++ flat_map f (take (i + 1) xs))
+  owed_more a b c h k m p q =
+      subst (Owes a c m) (append_assoc h (flat_map f (take i xs)) (f x) ∙ ap (λ (l : List ℕ). h ++ l) (sym parts_more))
+      (owes_more a b c k m (h ++ flat_map f (take i xs)) (f x) p q)
+
+  pub owed_stop : (a b c : Option (List ℕ)) (h k : List ℕ) → Owes a b k (h ++ flat_map f (take i xs)) → AppendsPrefix b c (k ++ f x)
+      → AppendsPrefix a c (h ++ flat_map f xs)
+  owed_stop a b c h k p q =
+      let stop = owes_stop a b c k (h ++ flat_map f (take i xs)) (f x) p q in
+      let rest = flat_map f (drop (i + 1) xs) in
+      let out : h ++ flat_map f (take i xs) ++ f x ++ rest ≡ h ++ flat_map f xs =
+      append_assoc (h ++ flat_map f (take i xs)) (f x) rest ∙ append_assoc h (flat_map f (take i xs)) (f x ++ rest)
+      ∙ ap (λ (l : List ℕ). h ++ l) (sym parts_all) in
+      subst (AppendsPrefix a c) out (prefix_first a c (h ++ flat_map f (take i xs) ++ f x) rest stop)
+
 -- ---- parts that wait where they can
 
 -- what can't wait together
@@ -101,9 +118,9 @@ module _ {W : Type 0} (taken : W → Option (List ℕ)) where
   pub put_both : (a b c : W) (h k m xs ys : List ℕ) → HasPut a b h k xs → HasPut b c k m ys → HasPut a c h m (xs ++ ys)
   put_both a b c h k m xs ys p q =
       let waits : Fits h (xs ++ ys) → (m ≡ h ++ (xs ++ ys)) × (c ≡ a) = λ f.
-          let first = p.1 (fits_first h xs ys f) in
-          let second = q.1 (fits_second h k xs ys first.0 f) in
-          (second.0 ∙ ap (λ (l : List ℕ). l ++ ys) first.0 ∙ append_assoc h xs ys, second.1 ∙ first.1) in
+      let first = p.1 (fits_first h xs ys f) in
+      let second = q.1 (fits_second h k xs ys first.0 f) in
+      (second.0 ∙ ap (λ (l : List ℕ). l ++ ys) first.0 ∙ append_assoc h xs ys, second.1 ∙ first.1) in
       (subst (Owes (taken a) (taken c) m) (append_assoc h xs ys) (owes_more (taken a) (taken b) (taken c) k m (h ++ xs) ys p.0 q.0), waits)
 
   -- the second of two parts failed

@@ -3,7 +3,7 @@ use Rattle.std.specs.List.{flat_map}
 use Rattle.std.proofs.lemmas.List.{take_all, length-map}
 use Rattle.std.proofs.lemmas.Result.{err_from_is_err_and}
 use Rattle.px_bytes.specs.Waiting.{Owes}
-use Rattle.px_bytes.specs.lemmas.WaitingLaws.{loop_more, loop_stop}
+use Rattle.px_bytes.specs.lemmas.WaitingLaws.{owed_more, owed_stop}
 use Rattle.px_iim.specs.calls.View.{item_view}
 use Rattle.px_text.proofs.Chains.{owes_as, prefix_as}
 use Rattle.px_text.proofs.Parts.{read_at, item_lines, lines_items}
@@ -12,13 +12,13 @@ use Rattle.px_text.proofs.caption_lines.put_group.Goals as goal
 pub returns-in_err-put_item-clause-bytes : goal.returns-in_err-put_item-clause-bytes
 returns-in_err-put_item-clause-bytes g c =
     let p = err_from_is_err_and c.from_residual.result c.from_residual.ensures.1 in
-    rw p.1 (prefix_as _ _ c.args.pending.now _ _ (lines_items (map item_view c.args.items.now)) (loop_stop item_lines (map item_view
+    rw p.1 (prefix_as _ _ c.args.pending.now _ _ (lines_items (map item_view c.args.items.now)) (owed_stop item_lines (map item_view
     c.args.items.now) c.loop-item.item-index _ (read_at item_view c.args.items.now c.loop-item.item-index _ c.loop-item-test.true)
     _ _ _ c.args.pending.now c.loop-item.pending c.loop-item.invariant.owes c.in_err-put_item.ensures.bytes))
 
 pub loop-item-preserved : goal.loop-item-preserved
 loop-item-preserved g c = record {
-  owes = loop_more item_lines (map item_view c.args.items.now) c.loop-item.item-index _ (read_at item_view c.args.items.now
+  owes = owed_more item_lines (map item_view c.args.items.now) c.loop-item.item-index _ (read_at item_view c.args.items.now
       c.loop-item.item-index _ c.loop-item-test.true)
       _ _ _ c.args.pending.now c.loop-item.pending c.put_item.new.pending c.loop-item.invariant.owes c.in_ok-put_item.ensures.bytes;
   count = c.in_ok-put_item.ensures.count ∙ c.loop-item.invariant.count;

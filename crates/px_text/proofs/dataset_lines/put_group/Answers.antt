@@ -1,6 +1,6 @@
 use Rattle.std.proofs.Common.{◌∙◌, map}
 use Rattle.std.proofs.lemmas.Result.{err_from_is_err_and}
-use Rattle.px_bytes.specs.lemmas.WaitingLaws.{loop_more, loop_stop}
+use Rattle.px_bytes.specs.lemmas.WaitingLaws.{owed_more, owed_stop}
 use Rattle.px_iim.specs.calls.View.{item_view}
 use Rattle.px_text.specs.Listing.{dataset_line}
 use Rattle.px_text.proofs.Parts.{read_at}
@@ -9,13 +9,13 @@ use Rattle.px_text.proofs.dataset_lines.put_group.Goals as goal
 pub returns-in_err-put_dataset-clause-bytes : goal.returns-in_err-put_dataset-clause-bytes
 returns-in_err-put_dataset-clause-bytes g c =
     let p = err_from_is_err_and c.from_residual.result c.from_residual.ensures.1 in
-    rw p.1 (loop_stop (dataset_line c.args.rec) (map item_view c.args.items.now) c.loop-item.item-index _ (read_at item_view
+    rw p.1 (owed_stop (dataset_line c.args.rec) (map item_view c.args.items.now) c.loop-item.item-index _ (read_at item_view
     c.args.items.now c.loop-item.item-index _ c.loop-item-test.true)
     _ _ _ c.args.pending.now c.loop-item.pending c.loop-item.invariant.owes c.in_err-put_dataset.ensures.bytes)
 
 pub loop-item-preserved : goal.loop-item-preserved
 loop-item-preserved g c = record {
-  owes = loop_more (dataset_line c.args.rec) (map item_view c.args.items.now) c.loop-item.item-index _ (read_at item_view
+  owes = owed_more (dataset_line c.args.rec) (map item_view c.args.items.now) c.loop-item.item-index _ (read_at item_view
       c.args.items.now c.loop-item.item-index _ c.loop-item-test.true)
       _ _ _ c.args.pending.now c.loop-item.pending c.put_dataset.new.pending c.loop-item.invariant.owes c.in_ok-put_dataset.ensures.bytes;
   count = c.in_ok-put_dataset.ensures.count ∙ c.loop-item.invariant.count;

@@ -1,7 +1,7 @@
 use Rattle.std.proofs.Common.{◌∙◌, ◌++◌}
 use Rattle.std.proofs.lemmas.Result.{err_from_is_err_and}
 use Rattle.std.specs.Prelude.{codes}
-use Rattle.px_bytes.specs.lemmas.WaitingLaws.{loop_more, loop_stop}
+use Rattle.px_bytes.specs.lemmas.WaitingLaws.{owed_more, owed_stop}
 use Rattle.px_field.specs.declared.Element.{Element}
 use Rattle.px_text.specs.Listing.{element_text}
 use Rattle.px_text.proofs.field_lines.put_elements.Goals as goal
@@ -9,13 +9,13 @@ use Rattle.px_text.proofs.field_lines.put_elements.Goals as goal
 pub returns-in_err-put_apart-clause-bytes : goal.returns-in_err-put_apart-clause-bytes
 returns-in_err-put_apart-clause-bytes g c =
     let p = err_from_is_err_and c.from_residual.result c.from_residual.ensures.1 in
-    rw p.1 (loop_stop (λ (e : Element). codes " " ++ element_text e) c.args.value.now.elements c.loop-i.i c.element.result
+    rw p.1 (owed_stop (λ (e : Element). codes " " ++ element_text e) c.args.value.now.elements c.loop-i.i c.element.result
     c.element.ensures.element
     _ _ _ c.args.pending.now c.loop-i.pending c.loop-i.invariant.owes c.in_err-put_apart.ensures.bytes)
 
 pub loop-i-preserved : goal.loop-i-preserved
 loop-i-preserved g c = record {
-  owes = loop_more (λ (e : Element). codes " " ++ element_text e) c.args.value.now.elements c.loop-i.i c.element.result
+  owes = owed_more (λ (e : Element). codes " " ++ element_text e) c.args.value.now.elements c.loop-i.i c.element.result
       c.element.ensures.element
       _ _ _ c.args.pending.now c.loop-i.pending c.put_apart.new.pending c.loop-i.invariant.owes c.in_ok-put_apart.ensures.bytes;
   count = c.in_ok-put_apart.ensures.count ∙ c.loop-i.invariant.count;

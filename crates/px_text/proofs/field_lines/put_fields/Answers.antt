@@ -1,6 +1,6 @@
 use Rattle.std.proofs.Common.{◌∙◌, ℕ}
 use Rattle.std.proofs.lemmas.Result.{err_from_is_err_and}
-use Rattle.px_bytes.specs.lemmas.WaitingLaws.{loop_more, loop_stop}
+use Rattle.px_bytes.specs.lemmas.WaitingLaws.{owed_more, owed_stop}
 use Rattle.px_field.specs.Values.{Value}
 use Rattle.px_text.specs.Listing.{field_line}
 use Rattle.px_text.proofs.field_lines.put_fields.Goals as goal
@@ -8,12 +8,12 @@ use Rattle.px_text.proofs.field_lines.put_fields.Goals as goal
 pub returns-in_err-put_field-clause-bytes : goal.returns-in_err-put_field-clause-bytes
 returns-in_err-put_field-clause-bytes g c =
     let p = err_from_is_err_and c.from_residual.result c.from_residual.ensures.1 in
-    rw p.1 (loop_stop {X = ℕ × Value} field_line c.args.fields.now c.loop-i.i (c.at-tag.result.0, c.at-tag.result.1.now) c.at-tag.ensures
+    rw p.1 (owed_stop {X = ℕ × Value} field_line c.args.fields.now c.loop-i.i (c.at-tag.result.0, c.at-tag.result.1.now) c.at-tag.ensures
     _ _ _ c.args.pending.now c.loop-i.pending c.loop-i.invariant.owes c.in_err-put_field.ensures.bytes)
 
 pub loop-i-preserved : goal.loop-i-preserved
 loop-i-preserved g c = record {
-  owes = loop_more {X = ℕ × Value} field_line c.args.fields.now c.loop-i.i (c.at-tag.result.0, c.at-tag.result.1.now) c.at-tag.ensures
+  owes = owed_more {X = ℕ × Value} field_line c.args.fields.now c.loop-i.i (c.at-tag.result.0, c.at-tag.result.1.now) c.at-tag.ensures
       _ _ _ c.args.pending.now c.loop-i.pending c.put_field.new.pending c.loop-i.invariant.owes c.in_ok-put_field.ensures.bytes;
   count = c.in_ok-put_field.ensures.count ∙ c.loop-i.invariant.count;
 }

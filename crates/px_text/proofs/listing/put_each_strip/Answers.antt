@@ -1,18 +1,18 @@
 use Rattle.std.proofs.Common.{◌∙◌}
 use Rattle.std.proofs.lemmas.Result.{err_from_is_err_and}
-use Rattle.px_bytes.specs.lemmas.WaitingLaws.{loop_more, loop_stop}
+use Rattle.px_bytes.specs.lemmas.WaitingLaws.{owed_more, owed_stop}
 use Rattle.px_text.specs.Listing.{strip_line}
 use Rattle.px_text.proofs.listing.put_each_strip.Goals as goal
 
 pub returns-in_err-put_strip-clause-bytes : goal.returns-in_err-put_strip-clause-bytes
 returns-in_err-put_strip-clause-bytes g c =
     let p = err_from_is_err_and c.from_residual.result c.from_residual.ensures.1 in
-    rw p.1 (loop_stop strip_line c.args.strips.now c.loop-i.i c.at.result.now c.at.ensures
+    rw p.1 (owed_stop strip_line c.args.strips.now c.loop-i.i c.at.result.now c.at.ensures
     _ _ _ c.args.pending.now c.loop-i.pending c.loop-i.invariant.owes c.in_err-put_strip.ensures.bytes)
 
 pub loop-i-preserved : goal.loop-i-preserved
 loop-i-preserved g c = record {
-  owes = loop_more strip_line c.args.strips.now c.loop-i.i c.at.result.now c.at.ensures
+  owes = owed_more strip_line c.args.strips.now c.loop-i.i c.at.result.now c.at.ensures
       _ _ _ c.args.pending.now c.loop-i.pending c.put_strip.new.pending c.loop-i.invariant.owes c.in_ok-put_strip.ensures.bytes;
   count = c.in_ok-put_strip.ensures.count ∙ c.loop-i.invariant.count;
 }
