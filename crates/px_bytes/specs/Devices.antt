@@ -1,6 +1,10 @@
 -- What calls of devices do.
-use Rattle.std.specs.Prelude.{◌≡◌, ◌<◌, ◌≤◌, ◌+◌, ℕ, List, Option, Result, Ok, Err, length, take, IfOk}
+use Rattle.std.specs.Prelude.{◌≡◌, ◌<◌, ◌≤◌, ◌+◌, ◌^◌, ℕ, List, Option, Result, Ok, Err, length, take, IfOk}
 use Rattle.std.specs.Io.KnownBytes.{Appends}
+
+-- one more failure can be counted: fewer than u64::MAX calls have failed
+abbrev pub CanFail : ℕ → Type 0
+CanFail failed = failed + 1 < 2 ^ 64
 
 -- a call that failed raised the count by one, and no other did
 abbrev pub Counts : {A E : Type 0} → Result A E → ℕ → ℕ → Type 0

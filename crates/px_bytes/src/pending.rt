@@ -1,6 +1,6 @@
 // Bytes on their way to a writer, which gets them in large writes.
-ghost use Rattle.std.specs.Prelude.{◌≡◌, ◌≤◌, ◌<◌, ◌+◌, ◌^◌, ◌++◌, [], ℕ, length, take, OnOk, IsOk};
-ghost use Rattle.px_bytes.specs.Devices.{Counts, Writes};
+ghost use Rattle.std.specs.Prelude.{◌≡◌, ◌≤◌, ◌+◌, ◌++◌, [], ℕ, length, take, OnOk, IsOk};
+ghost use Rattle.px_bytes.specs.Devices.{CanFail, Counts, Writes};
 ghost use Rattle.px_bytes.specs.Waiting.{Fits, Puts, Waits};
 
 use crate::devices::{Failed, Sink};
@@ -61,7 +61,7 @@ impl Pending {
     /// Writes those that wait; where none does, it calls nothing. It ends at the first call that fails: the writer has then
     /// taken a prefix of them, and nothing is promised of what waits.
     pub fn send<W: Sink>(&mut self, writer: &mut W) -> Result<(), Failed>
-        requires { W.failed writer.old + 1 < 2 ^ 64 }
+        requires { CanFail (W.failed writer.old) }
         ensures bytes { Writes result (W.bytes_taken writer.old) (W.bytes_taken writer.new) self.old }
         ensures count { Counts result (W.failed writer.old) (W.failed writer.new) }
         ensures none { OnOk result (self.new ≡ []) }
@@ -77,7 +77,7 @@ impl Pending {
     /// at once. It ends at the first call that fails: the writer has then taken a prefix of those that waited and of these
     /// behind them.
     pub fn put<W: Sink>(&mut self, writer: &mut W, bytes: &[u8]) -> Result<(), Failed>
-        requires { W.failed writer.old + 1 < 2 ^ 64 }
+        requires { CanFail (W.failed writer.old) }
         ensures bytes { Puts result (W.bytes_taken writer.old) (W.bytes_taken writer.new) self.old self.new bytes.now }
         ensures count { Counts result (W.failed writer.old) (W.failed writer.new) }
         ensures waits { Waits result writer.old writer.new self.old self.new bytes.now }

@@ -1,11 +1,12 @@
 // What the program does with readers and writers.
-ghost use Rattle.std.specs.Prelude.{◌≡◌, ◌≢◌, ◌<◌, ◌+◌, ◌^◌, Bool, false, Err};
+ghost use Rattle.std.specs.Prelude.{◌≡◌, ◌≢◌, Bool, false, Err};
 ghost use Rattle.px_engine.specs.declared.Fault.{Fault};
 ghost use Rattle.px_engine.specs.declared.Fault.TheVariants.{WriteFailed};
 ghost use Rattle.px_engine.specs.Captions.{caption_text};
 ghost use Rattle.px_engine.specs.Listing.{listing};
 ghost use Rattle.px_cli.specs.Endings.{accepted, compared, compared_status, Ends, EndsCheck, EndsCompare, EndsNormalise, EndsText, TellsBehind, TellsChecked, TellsCompared, TellsPrinted, TellsWritten};
 ghost use Rattle.px_cli.specs.Lines.{device};
+ghost use Rattle.px_bytes.specs.Devices.{CanFail};
 
 use crate::lines::{say, tell};
 use px_bytes::{Memory, Sink, Source};
@@ -29,7 +30,7 @@ pub enum Job {
 
 // Tells of a normal form, of which nothing is said where it was written.
 fn tell_written<L: Sink>(lines: &mut L, written: Result<u64, Fault>) -> u8
-    requires { L.failed lines.old + 1 < 2 ^ 64 }
+    requires { CanFail (L.failed lines.old) }
     ensures { TellsWritten written result (device (L.failed lines.old) (L.failed lines.new) (L.bytes_taken lines.old) (L.bytes_taken lines.new)) }
 {
     match written {
@@ -50,7 +51,7 @@ fn accepted(kind: BlockKind) -> &'static [u8]
 
 // Tells of which kind a block is.
 fn tell_checked<L: Sink>(lines: &mut L, checked: Result<BlockKind, Fault>) -> u8
-    requires { L.failed lines.old + 1 < 2 ^ 64 }
+    requires { CanFail (L.failed lines.old) }
     ensures { TellsChecked checked result (device (L.failed lines.old) (L.failed lines.new) (L.bytes_taken lines.old) (L.bytes_taken lines.new)) }
 {
     match checked {
@@ -61,7 +62,7 @@ fn tell_checked<L: Sink>(lines: &mut L, checked: Result<BlockKind, Fault>) -> u8
 
 // Tells of the fault of a text. Where the lines failed, nothing more is asked of them.
 fn tell_behind<L: Sink>(lines: &mut L, fault: Fault) -> u8
-    requires { fault ≢ WriteFailed → L.failed lines.old + 1 < 2 ^ 64 }
+    requires { fault ≢ WriteFailed → CanFail (L.failed lines.old) }
     ensures { TellsBehind fault result (device (L.failed lines.old) (L.failed lines.new) (L.bytes_taken lines.old) (L.bytes_taken lines.new)) }
 {
     if fault == Fault::WriteFailed {
@@ -72,7 +73,7 @@ fn tell_behind<L: Sink>(lines: &mut L, fault: Fault) -> u8
 
 // Tells of a text, of which nothing more is said where it was written.
 fn tell_printed<L: Sink>(lines: &mut L, printed: Result<(), Fault>) -> u8
-    requires { (e : Fault) → printed ≡ Err e → e ≢ WriteFailed → L.failed lines.old + 1 < 2 ^ 64 }
+    requires { (e : Fault) → printed ≡ Err e → e ≢ WriteFailed → CanFail (L.failed lines.old) }
     ensures { TellsPrinted printed result (device (L.failed lines.old) (L.failed lines.new) (L.bytes_taken lines.old) (L.bytes_taken lines.new)) }
 {
     match printed {
@@ -103,7 +104,7 @@ fn compared_status(same: bool) -> u8
 
 // Tells whether two blocks say the same.
 fn tell_compared<L: Sink>(lines: &mut L, same: Result<bool, CompareFault>) -> u8
-    requires { L.failed lines.old + 1 < 2 ^ 64 }
+    requires { CanFail (L.failed lines.old) }
     ensures { TellsCompared same result (device (L.failed lines.old) (L.failed lines.new) (L.bytes_taken lines.old) (L.bytes_taken lines.new)) }
 {
     match same {
@@ -120,9 +121,9 @@ fn run_normalise<R: Source, O: Sink, L: Sink>(
     out: &mut O,
     lines: &mut L,
 ) -> u8
-    requires reading { R.failed reader.old + 1 < 2 ^ 64 }
-    requires writing { O.failed out.old + 1 < 2 ^ 64 }
-    requires telling { L.failed lines.old + 1 < 2 ^ 64 }
+    requires reading { CanFail (R.failed reader.old) }
+    requires writing { CanFail (O.failed out.old) }
+    requires telling { CanFail (L.failed lines.old) }
     ensures { EndsNormalise (device (R.failed reader.old) (R.failed reader.new) (R.bytes_left reader.old) (R.bytes_left reader.new))
         (device (O.failed out.old) (O.failed out.new) (O.bytes_taken out.old) (O.bytes_taken out.new))
         (device (L.failed lines.old) (L.failed lines.new) (L.bytes_taken lines.old) (L.bytes_taken lines.new)) memory.old memory.new result }
@@ -133,8 +134,8 @@ fn run_normalise<R: Source, O: Sink, L: Sink>(
 // Tells of which kind the block is.
 #[tactic(auto, using(crate::proofs::EndLaws::ends_check))]
 fn run_check<R: Source, L: Sink>(memory: &mut Memory, reader: &mut R, lines: &mut L) -> u8
-    requires reading { R.failed reader.old + 1 < 2 ^ 64 }
-    requires telling { L.failed lines.old + 1 < 2 ^ 64 }
+    requires reading { CanFail (R.failed reader.old) }
+    requires telling { CanFail (L.failed lines.old) }
     ensures { EndsCheck (device (R.failed reader.old) (R.failed reader.new) (R.bytes_left reader.old) (R.bytes_left reader.new))
         (device (L.failed lines.old) (L.failed lines.new) (L.bytes_taken lines.old) (L.bytes_taken lines.new)) memory.old memory.new result }
 {
@@ -143,8 +144,8 @@ fn run_check<R: Source, L: Sink>(memory: &mut Memory, reader: &mut R, lines: &mu
 
 // Writes what the block says.
 fn run_show<R: Source, L: Sink>(memory: &mut Memory, reader: &mut R, lines: &mut L) -> u8
-    requires reading { R.failed reader.old + 1 < 2 ^ 64 }
-    requires telling { L.failed lines.old + 1 < 2 ^ 64 }
+    requires reading { CanFail (R.failed reader.old) }
+    requires telling { CanFail (L.failed lines.old) }
     ensures { EndsText listing (device (R.failed reader.old) (R.failed reader.new) (R.bytes_left reader.old) (R.bytes_left reader.new))
         (device (L.failed lines.old) (L.failed lines.new) (L.bytes_taken lines.old) (L.bytes_taken lines.new)) memory.old memory.new result }
 {
@@ -154,8 +155,8 @@ fn run_show<R: Source, L: Sink>(memory: &mut Memory, reader: &mut R, lines: &mut
 
 // Writes the captions of the block.
 fn run_captions<R: Source, L: Sink>(memory: &mut Memory, reader: &mut R, lines: &mut L) -> u8
-    requires reading { R.failed reader.old + 1 < 2 ^ 64 }
-    requires telling { L.failed lines.old + 1 < 2 ^ 64 }
+    requires reading { CanFail (R.failed reader.old) }
+    requires telling { CanFail (L.failed lines.old) }
     ensures { EndsText caption_text (device (R.failed reader.old) (R.failed reader.new) (R.bytes_left reader.old) (R.bytes_left reader.new))
         (device (L.failed lines.old) (L.failed lines.new) (L.bytes_taken lines.old) (L.bytes_taken lines.new)) memory.old memory.new result }
 {
@@ -178,9 +179,9 @@ pub fn run_one_in<R: Source, O: Sink, L: Sink>(
     out: &mut O,
     lines: &mut L,
 ) -> u8
-    requires reading { R.failed reader.old + 1 < 2 ^ 64 }
-    requires writing { O.failed out.old + 1 < 2 ^ 64 }
-    requires telling { L.failed lines.old + 1 < 2 ^ 64 }
+    requires reading { CanFail (R.failed reader.old) }
+    requires writing { CanFail (O.failed out.old) }
+    requires telling { CanFail (L.failed lines.old) }
     ensures { Ends job (device (R.failed reader.old) (R.failed reader.new) (R.bytes_left reader.old) (R.bytes_left reader.new))
         (device (O.failed out.old) (O.failed out.new) (O.bytes_taken out.old) (O.bytes_taken out.new))
         (device (L.failed lines.old) (L.failed lines.new) (L.bytes_taken lines.old) (L.bytes_taken lines.new)) memory.old memory.new result }
@@ -201,9 +202,9 @@ pub fn run_one<R: Source, O: Sink, L: Sink>(
     out: &mut O,
     lines: &mut L,
 ) -> u8
-    requires reading { R.failed reader.old + 1 < 2 ^ 64 }
-    requires writing { O.failed out.old + 1 < 2 ^ 64 }
-    requires telling { L.failed lines.old + 1 < 2 ^ 64 }
+    requires reading { CanFail (R.failed reader.old) }
+    requires writing { CanFail (O.failed out.old) }
+    requires telling { CanFail (L.failed lines.old) }
     ensures { (refused : Bool) × Ends job (device (R.failed reader.old) (R.failed reader.new) (R.bytes_left reader.old) (R.bytes_left reader.new))
         (device (O.failed out.old) (O.failed out.new) (O.bytes_taken out.old) (O.bytes_taken out.new))
         (device (L.failed lines.old) (L.failed lines.new) (L.bytes_taken lines.old) (L.bytes_taken lines.new)) false refused result }
@@ -223,9 +224,9 @@ pub fn run_compare_in<R: Source, S: Source, L: Sink>(
     second: &mut S,
     lines: &mut L,
 ) -> u8
-    requires first { R.failed first.old + 1 < 2 ^ 64 }
-    requires second { S.failed second.old + 1 < 2 ^ 64 }
-    requires telling { L.failed lines.old + 1 < 2 ^ 64 }
+    requires first { CanFail (R.failed first.old) }
+    requires second { CanFail (S.failed second.old) }
+    requires telling { CanFail (L.failed lines.old) }
     ensures { EndsCompare (device (R.failed first.old) (R.failed first.new) (R.bytes_left first.old) (R.bytes_left first.new))
         (device (S.failed second.old) (S.failed second.new) (S.bytes_left second.old) (S.bytes_left second.new))
         (device (L.failed lines.old) (L.failed lines.new) (L.bytes_taken lines.old) (L.bytes_taken lines.new)) memory.old memory.new result }
@@ -240,9 +241,9 @@ pub fn run_compare<R: Source, S: Source, L: Sink>(
     second: &mut S,
     lines: &mut L,
 ) -> u8
-    requires first { R.failed first.old + 1 < 2 ^ 64 }
-    requires second { S.failed second.old + 1 < 2 ^ 64 }
-    requires telling { L.failed lines.old + 1 < 2 ^ 64 }
+    requires first { CanFail (R.failed first.old) }
+    requires second { CanFail (S.failed second.old) }
+    requires telling { CanFail (L.failed lines.old) }
     ensures { (refused : Bool) × EndsCompare (device (R.failed first.old) (R.failed first.new) (R.bytes_left first.old) (R.bytes_left first.new))
         (device (S.failed second.old) (S.failed second.new) (S.bytes_left second.old) (S.bytes_left second.new))
         (device (L.failed lines.old) (L.failed lines.new) (L.bytes_taken lines.old) (L.bytes_taken lines.new)) false refused result }

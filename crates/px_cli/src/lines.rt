@@ -1,6 +1,6 @@
 // Lines and exit statuses.
-ghost use Rattle.std.specs.Prelude.{◌≡◌, ◌<◌, ◌+◌, ◌++◌, ◌^◌, None};
-ghost use Rattle.px_bytes.specs.Devices.{Counts, Writes};
+ghost use Rattle.std.specs.Prelude.{◌≡◌, ◌++◌, None};
+ghost use Rattle.px_bytes.specs.Devices.{CanFail, Counts, Writes};
 ghost use Rattle.px_bytes.specs.Waiting.{Puts};
 ghost use Rattle.px_engine.specs.declared.Fault.TheVariants.{Refused};
 ghost use Rattle.px_cli.specs.Lines.{name_of, end_of, line_of, status_of, device, Flushes, Tells, TellsFault, TellsWords, is_ended};
@@ -55,7 +55,7 @@ fn put_refusal<L: Sink>(
     place: u32,
     file: Option<Side>,
 ) -> Result<(), Failed>
-    requires { L.failed lines.old + 1 < 2 ^ 64 }
+    requires { CanFail (L.failed lines.old) }
     ensures bytes { Puts result (L.bytes_taken lines.old) (L.bytes_taken lines.new) pending.old pending.new (line_of (Refused cause place) file) }
     ensures count { Counts result (L.failed lines.old) (L.failed lines.new) }
 {
@@ -74,7 +74,7 @@ fn put_ended<L: Sink>(
     text: &[u8],
     file: Option<Side>,
 ) -> Result<(), Failed>
-    requires { L.failed lines.old + 1 < 2 ^ 64 }
+    requires { CanFail (L.failed lines.old) }
     ensures bytes { Puts result (L.bytes_taken lines.old) (L.bytes_taken lines.new) pending.old pending.new (text.now ++ end_of file) }
     ensures count { Counts result (L.failed lines.old) (L.failed lines.new) }
 {
@@ -89,7 +89,7 @@ fn put_line<L: Sink>(
     fault: Fault,
     file: Option<Side>,
 ) -> Result<(), Failed>
-    requires { L.failed lines.old + 1 < 2 ^ 64 }
+    requires { CanFail (L.failed lines.old) }
     ensures bytes { Puts result (L.bytes_taken lines.old) (L.bytes_taken lines.new) pending.old pending.new (line_of fault file) }
     ensures count { Counts result (L.failed lines.old) (L.failed lines.new) }
 {
@@ -104,7 +104,7 @@ fn put_line<L: Sink>(
 
 // Writes the line of a fault, in one write where the writer takes it.
 fn write_line<L: Sink>(lines: &mut L, fault: Fault, file: Option<Side>) -> Result<(), Failed>
-    requires { L.failed lines.old + 1 < 2 ^ 64 }
+    requires { CanFail (L.failed lines.old) }
     ensures bytes { Writes result (L.bytes_taken lines.old) (L.bytes_taken lines.new) (line_of fault file) }
     ensures count { Counts result (L.failed lines.old) (L.failed lines.new) }
 {
@@ -115,7 +115,7 @@ fn write_line<L: Sink>(lines: &mut L, fault: Fault, file: Option<Side>) -> Resul
 
 // Writes a text and the end of its line, in one write where the writer takes it and both are short.
 fn write_ended<L: Sink>(lines: &mut L, text: &[u8], file: Option<Side>) -> Result<(), Failed>
-    requires { L.failed lines.old + 1 < 2 ^ 64 }
+    requires { CanFail (L.failed lines.old) }
     ensures bytes { Writes result (L.bytes_taken lines.old) (L.bytes_taken lines.new) (text.now ++ end_of file) }
     ensures count { Counts result (L.failed lines.old) (L.failed lines.new) }
 {
@@ -136,7 +136,7 @@ fn status(fault: Fault) -> u8
 
 // Flushes behind what was written, and answers the exit status: `due`, or 4 where that fails.
 fn flushed<L: Sink>(lines: &mut L, due: u8) -> u8
-    requires { L.failed lines.old + 1 < 2 ^ 64 }
+    requires { CanFail (L.failed lines.old) }
     ensures { Flushes due result (device (L.failed lines.old) (L.failed lines.new) (L.bytes_taken lines.old) (L.bytes_taken lines.new)) }
 {
     match lines.flush_all() {
@@ -149,7 +149,7 @@ fn flushed<L: Sink>(lines: &mut L, due: u8) -> u8
 /// fails. `file` is the side that the fault is of, where two files are compared. It takes no memory.
 #[tactic(auto, using(crate::proofs::LineLaws::told))]
 pub fn tell<L: Sink>(lines: &mut L, fault: Fault, file: Option<Side>) -> u8
-    requires { L.failed lines.old + 1 < 2 ^ 64 }
+    requires { CanFail (L.failed lines.old) }
     ensures { TellsFault fault file result (device (L.failed lines.old) (L.failed lines.new) (L.bytes_taken lines.old) (L.bytes_taken lines.new)) }
 {
     match write_line(lines, fault, file) {
@@ -162,7 +162,7 @@ pub fn tell<L: Sink>(lines: &mut L, fault: Fault, file: Option<Side>) -> u8
 /// memory.
 #[tactic(auto, using(crate::proofs::LineLaws::told))]
 pub fn say<L: Sink>(lines: &mut L, line: &[u8], due: u8) -> u8
-    requires { L.failed lines.old + 1 < 2 ^ 64 }
+    requires { CanFail (L.failed lines.old) }
     ensures { Tells due line.now result (device (L.failed lines.old) (L.failed lines.new) (L.bytes_taken lines.old) (L.bytes_taken lines.new)) }
 {
     match write_whole(lines, line) {
@@ -184,7 +184,7 @@ fn is_ended(text: &[u8]) -> bool
 // Writes a text and a line feed, and flushes, and answers the exit status.
 #[tactic(auto, using(crate::proofs::LineLaws::told))]
 fn say_ended<L: Sink>(lines: &mut L, text: &str, due: u8) -> u8
-    requires { L.failed lines.old + 1 < 2 ^ 64 }
+    requires { CanFail (L.failed lines.old) }
     ensures { Tells due (text.now ++ end_of None) result (device (L.failed lines.old) (L.failed lines.new) (L.bytes_taken lines.old) (L.bytes_taken lines.new)) }
 {
     match write_ended(lines, text.as_bytes(), None) {
@@ -196,7 +196,7 @@ fn say_ended<L: Sink>(lines: &mut L, text: &str, due: u8) -> u8
 /// Writes a text, with a line feed behind it where it has none, and flushes, and answers the exit
 /// status: `due`, or 4 where that fails. It takes no memory.
 pub fn say_text<L: Sink>(lines: &mut L, text: &str, due: u8) -> u8
-    requires { L.failed lines.old + 1 < 2 ^ 64 }
+    requires { CanFail (L.failed lines.old) }
     ensures { TellsWords due text.now result (device (L.failed lines.old) (L.failed lines.new) (L.bytes_taken lines.old) (L.bytes_taken lines.new)) }
 {
     if is_ended(text.as_bytes()) {

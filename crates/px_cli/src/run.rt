@@ -1,8 +1,9 @@
 // What the program does with its arguments.
-ghost use Rattle.std.specs.Prelude.{◌≡◌, ◌<◌, ◌+◌, ◌^◌, map};
+ghost use Rattle.std.specs.Prelude.{◌≡◌, map};
 ghost use Rattle.px_cli.specs.declared.job.Job.TheVariants.{Normalise};
 ghost use Rattle.px_cli.specs.Lines.{device};
 ghost use Rattle.px_cli.specs.Programs.{job_of, Answers, EndsFile, EndsFiles, EndsForm, EndsJob, EndsPair, EndsWords};
+ghost use Rattle.px_bytes.specs.Devices.{CanFail};
 
 use crate::files::{make_beside, open};
 use crate::job::{Job, run_compare_in, run_one_in};
@@ -29,7 +30,7 @@ pub fn run_words<'a, S: AsStr, R: Files + Input + Print, L: Sink>(
     words: &'a [S],
     lines: &mut L,
 ) -> u8
-    requires { L.failed lines.old + 1 < 2 ^ 64 }
+    requires { CanFail (L.failed lines.old) }
     ensures { Answers (map S.text words.entry.now) result (device (L.failed lines.old) (L.failed lines.new) (L.bytes_taken lines.old) (L.bytes_taken lines.new)) }
 {
     run_asked(rt, &mut Memory::new(alloc), parse(alloc, words), lines)
@@ -42,7 +43,7 @@ fn run_asked<R: Files + Input + Print, L: Sink>(
     asked: Words,
     lines: &mut L,
 ) -> u8
-    requires { L.failed lines.old + 1 < 2 ^ 64 }
+    requires { CanFail (L.failed lines.old) }
     ensures { EndsWords asked memory.old memory.new result (device (L.failed lines.old) (L.failed lines.new) (L.bytes_taken lines.old) (L.bytes_taken lines.new)) }
 {
     match asked {
@@ -79,9 +80,9 @@ fn run_job<F: Source + Drop, O: Sink + Drop, L: Sink>(
     mut out: O,
     lines: &mut L,
 ) -> u8
-    requires reading { F.failed reader + 1 < 2 ^ 64 }
-    requires writing { O.failed out + 1 < 2 ^ 64 }
-    requires telling { L.failed lines.old + 1 < 2 ^ 64 }
+    requires reading { CanFail (F.failed reader) }
+    requires writing { CanFail (O.failed out) }
+    requires telling { CanFail (L.failed lines.old) }
     ensures { EndsJob job memory.old memory.new result (device (L.failed lines.old) (L.failed lines.new) (L.bytes_taken lines.old) (L.bytes_taken lines.new)) }
 {
     run_one_in(memory, job, &mut reader, &mut out, lines)
@@ -94,9 +95,9 @@ fn run_pair<F: Source + Drop, S: Source + Drop, L: Sink>(
     mut second: S,
     lines: &mut L,
 ) -> u8
-    requires first { F.failed first + 1 < 2 ^ 64 }
-    requires second { S.failed second + 1 < 2 ^ 64 }
-    requires telling { L.failed lines.old + 1 < 2 ^ 64 }
+    requires first { CanFail (F.failed first) }
+    requires second { CanFail (S.failed second) }
+    requires telling { CanFail (L.failed lines.old) }
     ensures { EndsPair memory.old memory.new result (device (L.failed lines.old) (L.failed lines.new) (L.bytes_taken lines.old) (L.bytes_taken lines.new)) }
 {
     run_compare_in(memory, &mut first, &mut second, lines)
@@ -104,7 +105,7 @@ fn run_pair<F: Source + Drop, S: Source + Drop, L: Sink>(
 
 // Standard input to standard output.
 fn run_filter<R: Input + Print, L: Sink>(rt: &R, memory: &mut Memory, lines: &mut L) -> u8
-    requires { L.failed lines.old + 1 < 2 ^ 64 }
+    requires { CanFail (L.failed lines.old) }
     ensures { EndsJob Normalise memory.old memory.new result (device (L.failed lines.old) (L.failed lines.new) (L.bytes_taken lines.old) (L.bytes_taken lines.new)) }
 {
     let reader = Watched::new(rt.reader());
@@ -120,7 +121,7 @@ fn run_file<R: Files, L: Sink>(
     name: &str,
     lines: &mut L,
 ) -> u8
-    requires { L.failed lines.old + 1 < 2 ^ 64 }
+    requires { CanFail (L.failed lines.old) }
     ensures { EndsFile (job_of what) memory.old memory.new result (device (L.failed lines.old) (L.failed lines.new) (L.bytes_taken lines.old) (L.bytes_taken lines.new)) }
 {
     match open(rt, name) {
@@ -140,7 +141,7 @@ fn run_beside<R: Files, L: Sink>(
     out_name: &str,
     lines: &mut L,
 ) -> u8
-    requires { L.failed lines.old + 1 < 2 ^ 64 }
+    requires { CanFail (L.failed lines.old) }
     ensures { EndsForm memory.old memory.new result (device (L.failed lines.old) (L.failed lines.new) (L.bytes_taken lines.old) (L.bytes_taken lines.new)) }
 {
     match make_beside(rt, out_name, &file) {
@@ -161,7 +162,7 @@ fn run_form<R: Files, L: Sink>(
     out_name: &str,
     lines: &mut L,
 ) -> u8
-    requires { L.failed lines.old + 1 < 2 ^ 64 }
+    requires { CanFail (L.failed lines.old) }
     ensures { EndsForm memory.old memory.new result (device (L.failed lines.old) (L.failed lines.new) (L.bytes_taken lines.old) (L.bytes_taken lines.new)) }
 {
     match open(rt, name) {
@@ -178,7 +179,7 @@ fn run_files<R: Files, L: Sink>(
     second: &str,
     lines: &mut L,
 ) -> u8
-    requires { L.failed lines.old + 1 < 2 ^ 64 }
+    requires { CanFail (L.failed lines.old) }
     ensures { EndsFiles memory.old memory.new result (device (L.failed lines.old) (L.failed lines.new) (L.bytes_taken lines.old) (L.bytes_taken lines.new)) }
 {
     let first = match open(rt, first) {

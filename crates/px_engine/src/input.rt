@@ -1,5 +1,5 @@
 // A file, read whole and judged.
-ghost use Rattle.std.specs.Prelude.{◌≡◌, ◌<◌, ◌+◌, ◌^◌, Bool, IfOk, IfErr};
+ghost use Rattle.std.specs.Prelude.{◌≡◌, Bool, IfOk, IfErr};
 ghost use Rattle.px_bytes.specs.Checks.{LacksBlock};
 ghost use Rattle.px_bytes.specs.Reading.{ReadsUpTo, ConsumesAtMost};
 ghost use Rattle.px_tree.specs.calls.Seen.{meaning_of};
@@ -8,6 +8,7 @@ ghost use Rattle.px_engine.specs.Files as said;
 ghost use Rattle.px_engine.specs.Input.{IsSaidIn, IsRefusedIn, IsSaid, IsRefused, CountsRead, CountsReadOf};
 ghost use Rattle.px_engine.specs.Lacking.{LacksRun, LacksPair};
 ghost use Rattle.px_engine.specs.calls.Seen.{said_of};
+ghost use Rattle.px_bytes.specs.Devices.{CanFail};
 
 use crate::faults::{CompareFault, Fault, Side};
 use crate::kinds::{BlockKind, block_of, kind_of};
@@ -22,7 +23,7 @@ use std::alloc::Global;
 /// bytes is the end. It takes memory for the bytes and for one buffer; OutOfMemory comes exactly where
 /// a growth was refused.
 pub fn read_all_in<R: Source>(memory: &mut Memory, reader: &mut R) -> Result<Vec<u8>, Fault>
-    requires { R.failed reader.old + 1 < 2 ^ 64 }
+    requires { CanFail (R.failed reader.old) }
     ensures found { IfOk result (λ v. ReadsUpTo (R.bytes_left reader.old) (R.bytes_left reader.new) 16777223 v.items) }
     ensures lost { ConsumesAtMost (R.bytes_left reader.old) (R.bytes_left reader.new) 16777223 }
     ensures count { CountsRead result (R.failed reader.old) (R.failed reader.new) }
@@ -33,7 +34,7 @@ pub fn read_all_in<R: Source>(memory: &mut Memory, reader: &mut R) -> Result<Vec
 
 /// The same with memory of its own.
 pub fn read_all<R: Source>(alloc: Global, reader: &mut R) -> Result<Vec<u8>, Fault>
-    requires { R.failed reader.old + 1 < 2 ^ 64 }
+    requires { CanFail (R.failed reader.old) }
     ensures found { IfOk result (λ v. ReadsUpTo (R.bytes_left reader.old) (R.bytes_left reader.new) 16777223 v.items) }
     ensures lost { ConsumesAtMost (R.bytes_left reader.old) (R.bytes_left reader.new) 16777223 }
     ensures count { CountsRead result (R.failed reader.old) (R.failed reader.new) }
@@ -47,7 +48,7 @@ pub(crate) fn read_side<R: Source>(
     reader: &mut R,
     side: Side,
 ) -> Result<Vec<u8>, CompareFault>
-    requires { R.failed reader.old + 1 < 2 ^ 64 }
+    requires { CanFail (R.failed reader.old) }
     ensures found { IfOk result (λ v. ReadsUpTo (R.bytes_left reader.old) (R.bytes_left reader.new) 16777223 v.items) }
     ensures side { IfErr result (λ e. e.side ≡ side) }
     ensures lost { ConsumesAtMost (R.bytes_left reader.old) (R.bytes_left reader.new) 16777223 }

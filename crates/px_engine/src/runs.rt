@@ -1,11 +1,12 @@
 // Whole runs over readers and writers.
-ghost use Rattle.std.specs.Prelude.{◌≡◌, ◌<◌, ◌+◌, ◌^◌};
+ghost use Rattle.std.specs.Prelude.{◌≡◌};
 ghost use Rattle.px_bytes.specs.Reading.{ConsumesAtMost};
 ghost use Rattle.px_engine.specs.Captions.{caption_text};
 ghost use Rattle.px_engine.specs.Lacking.{LacksRun, LacksPair};
 ghost use Rattle.px_engine.specs.Listing.{listing};
 ghost use Rattle.px_engine.specs.Prints.{Prints};
 ghost use Rattle.px_engine.specs.Runs.{Checks, Normalises, Compares, CountsReads, CountsWrites, CountsSides, Untouched};
+ghost use Rattle.px_bytes.specs.Devices.{CanFail};
 
 use crate::faults::{CompareFault, Fault, Side};
 use crate::hand::check_of_in;
@@ -32,8 +33,8 @@ pub fn normalise_in<R: Source, W: Sink>(
     reader: &mut R,
     writer: &mut W,
 ) -> Result<u64, Fault>
-    requires reading { R.failed reader.old + 1 < 2 ^ 64 }
-    requires writing { W.failed writer.old + 1 < 2 ^ 64 }
+    requires reading { CanFail (R.failed reader.old) }
+    requires writing { CanFail (W.failed writer.old) }
     ensures done { Normalises result (R.bytes_left reader.old) (W.bytes_taken writer.old) (W.bytes_taken writer.new) }
     ensures lost { ConsumesAtMost (R.bytes_left reader.old) (R.bytes_left reader.new) 16777223 }
     ensures reads { CountsReads result (R.failed reader.old) (R.failed reader.new) }
@@ -51,8 +52,8 @@ pub fn normalise<R: Source, W: Sink>(
     reader: &mut R,
     writer: &mut W,
 ) -> Result<u64, Fault>
-    requires reading { R.failed reader.old + 1 < 2 ^ 64 }
-    requires writing { W.failed writer.old + 1 < 2 ^ 64 }
+    requires reading { CanFail (R.failed reader.old) }
+    requires writing { CanFail (W.failed writer.old) }
     ensures done { Normalises result (R.bytes_left reader.old) (W.bytes_taken writer.old) (W.bytes_taken writer.new) }
     ensures lost { ConsumesAtMost (R.bytes_left reader.old) (R.bytes_left reader.new) 16777223 }
     ensures reads { CountsReads result (R.failed reader.old) (R.failed reader.new) }
@@ -66,7 +67,7 @@ pub fn normalise<R: Source, W: Sink>(
 /// `OutOfMemory` exactly where a growth was refused.
 /// It takes memory for the file and for what it says.
 pub fn check_in<R: Source>(memory: &mut Memory, reader: &mut R) -> Result<BlockKind, Fault>
-    requires { R.failed reader.old + 1 < 2 ^ 64 }
+    requires { CanFail (R.failed reader.old) }
     ensures done { Checks result (R.bytes_left reader.old) }
     ensures lost { ConsumesAtMost (R.bytes_left reader.old) (R.bytes_left reader.new) 16777223 }
     ensures reads { CountsReads result (R.failed reader.old) (R.failed reader.new) }
@@ -78,7 +79,7 @@ pub fn check_in<R: Source>(memory: &mut Memory, reader: &mut R) -> Result<BlockK
 
 /// The same with memory of its own.
 pub fn check<R: Source>(alloc: Global, reader: &mut R) -> Result<BlockKind, Fault>
-    requires { R.failed reader.old + 1 < 2 ^ 64 }
+    requires { CanFail (R.failed reader.old) }
     ensures done { Checks result (R.bytes_left reader.old) }
     ensures lost { ConsumesAtMost (R.bytes_left reader.old) (R.bytes_left reader.new) 16777223 }
     ensures reads { CountsReads result (R.failed reader.old) (R.failed reader.new) }
@@ -99,8 +100,8 @@ pub fn show_in<R: Source, W: Sink>(
     reader: &mut R,
     writer: &mut W,
 ) -> Result<(), Fault>
-    requires reading { R.failed reader.old + 1 < 2 ^ 64 }
-    requires writing { W.failed writer.old + 1 < 2 ^ 64 }
+    requires reading { CanFail (R.failed reader.old) }
+    requires writing { CanFail (W.failed writer.old) }
     ensures done { Prints listing result (R.bytes_left reader.old) (W.bytes_taken writer.old) (W.bytes_taken writer.new) }
     ensures lost { ConsumesAtMost (R.bytes_left reader.old) (R.bytes_left reader.new) 16777223 }
     ensures reads { CountsReads result (R.failed reader.old) (R.failed reader.new) }
@@ -114,8 +115,8 @@ pub fn show_in<R: Source, W: Sink>(
 
 /// The same with memory of its own.
 pub fn show<R: Source, W: Sink>(alloc: Global, reader: &mut R, writer: &mut W) -> Result<(), Fault>
-    requires reading { R.failed reader.old + 1 < 2 ^ 64 }
-    requires writing { W.failed writer.old + 1 < 2 ^ 64 }
+    requires reading { CanFail (R.failed reader.old) }
+    requires writing { CanFail (W.failed writer.old) }
     ensures done { Prints listing result (R.bytes_left reader.old) (W.bytes_taken writer.old) (W.bytes_taken writer.new) }
     ensures lost { ConsumesAtMost (R.bytes_left reader.old) (R.bytes_left reader.new) 16777223 }
     ensures reads { CountsReads result (R.failed reader.old) (R.failed reader.new) }
@@ -135,8 +136,8 @@ pub fn captions_in<R: Source, W: Sink>(
     reader: &mut R,
     writer: &mut W,
 ) -> Result<(), Fault>
-    requires reading { R.failed reader.old + 1 < 2 ^ 64 }
-    requires writing { W.failed writer.old + 1 < 2 ^ 64 }
+    requires reading { CanFail (R.failed reader.old) }
+    requires writing { CanFail (W.failed writer.old) }
     ensures done { Prints caption_text result (R.bytes_left reader.old) (W.bytes_taken writer.old) (W.bytes_taken writer.new) }
     ensures lost { ConsumesAtMost (R.bytes_left reader.old) (R.bytes_left reader.new) 16777223 }
     ensures reads { CountsReads result (R.failed reader.old) (R.failed reader.new) }
@@ -154,8 +155,8 @@ pub fn captions<R: Source, W: Sink>(
     reader: &mut R,
     writer: &mut W,
 ) -> Result<(), Fault>
-    requires reading { R.failed reader.old + 1 < 2 ^ 64 }
-    requires writing { W.failed writer.old + 1 < 2 ^ 64 }
+    requires reading { CanFail (R.failed reader.old) }
+    requires writing { CanFail (W.failed writer.old) }
     ensures done { Prints caption_text result (R.bytes_left reader.old) (W.bytes_taken writer.old) (W.bytes_taken writer.new) }
     ensures lost { ConsumesAtMost (R.bytes_left reader.old) (R.bytes_left reader.new) 16777223 }
     ensures reads { CountsReads result (R.failed reader.old) (R.failed reader.new) }
@@ -175,8 +176,8 @@ pub fn compare_in<R: Source, S: Source>(
     first: &mut R,
     second: &mut S,
 ) -> Result<bool, CompareFault>
-    requires first { R.failed first.old + 1 < 2 ^ 64 }
-    requires second { S.failed second.old + 1 < 2 ^ 64 }
+    requires first { CanFail (R.failed first.old) }
+    requires second { CanFail (S.failed second.old) }
     ensures done { Compares result (R.bytes_left first.old) (S.bytes_left second.old) }
     ensures untouched { Untouched result second.old second.new }
     ensures lost { ConsumesAtMost (R.bytes_left first.old) (R.bytes_left first.new) 16777223 }
@@ -197,8 +198,8 @@ pub fn compare<R: Source, S: Source>(
     first: &mut R,
     second: &mut S,
 ) -> Result<bool, CompareFault>
-    requires first { R.failed first.old + 1 < 2 ^ 64 }
-    requires second { S.failed second.old + 1 < 2 ^ 64 }
+    requires first { CanFail (R.failed first.old) }
+    requires second { CanFail (S.failed second.old) }
     ensures done { Compares result (R.bytes_left first.old) (S.bytes_left second.old) }
     ensures untouched { Untouched result second.old second.new }
     ensures lost { ConsumesAtMost (R.bytes_left first.old) (R.bytes_left first.new) 16777223 }

@@ -1,6 +1,6 @@
 // The texts of what is said, written.
-ghost use Rattle.std.specs.Prelude.{◌≡◌, ◌<◌, ◌+◌, ◌^◌, IfOk};
-ghost use Rattle.px_bytes.specs.Devices.{Counts, Writes};
+ghost use Rattle.std.specs.Prelude.{◌≡◌, IfOk};
+ghost use Rattle.px_bytes.specs.Devices.{CanFail, Counts, Writes};
 ghost use Rattle.px_bytes.specs.Lacking.{Lacks};
 ghost use Rattle.px_bytes.specs.Waiting.{Puts};
 ghost use Rattle.px_engine.specs.Captions.{caption_text};
@@ -16,7 +16,7 @@ use px_text::{put_exif_captions, put_exif_listing, put_iim_captions, put_iim_lis
 
 // Puts the listing of what is said behind the bytes that wait.
 fn put_listing<W: Sink>(pending: &mut Pending, writer: &mut W, said: &Said) -> Result<(), Failed>
-    requires { W.failed writer.old + 1 < 2 ^ 64 }
+    requires { CanFail (W.failed writer.old) }
     ensures bytes { Puts result (W.bytes_taken writer.old) (W.bytes_taken writer.new) pending.old pending.new (listing (said_of said.now)) }
     ensures count { Counts result (W.failed writer.old) (W.failed writer.new) }
 {
@@ -28,7 +28,7 @@ fn put_listing<W: Sink>(pending: &mut Pending, writer: &mut W, said: &Said) -> R
 
 // Puts the captions of what is said so.
 fn put_captions<W: Sink>(pending: &mut Pending, writer: &mut W, said: &Said) -> Result<(), Failed>
-    requires { W.failed writer.old + 1 < 2 ^ 64 }
+    requires { CanFail (W.failed writer.old) }
     ensures bytes { Puts result (W.bytes_taken writer.old) (W.bytes_taken writer.new) pending.old pending.new (caption_text (said_of said.now)) }
     ensures count { Counts result (W.failed writer.old) (W.failed writer.new) }
 {
@@ -40,7 +40,7 @@ fn put_captions<W: Sink>(pending: &mut Pending, writer: &mut W, said: &Said) -> 
 
 // Sends what waits, and flushes once.
 fn send_and_flush<W: Sink>(pending: &mut Pending, writer: &mut W) -> Result<(), Failed>
-    requires { W.failed writer.old + 1 < 2 ^ 64 }
+    requires { CanFail (W.failed writer.old) }
     ensures bytes { Writes result (W.bytes_taken writer.old) (W.bytes_taken writer.new) pending.old }
     ensures count { Counts result (W.failed writer.old) (W.failed writer.new) }
 {
@@ -50,7 +50,7 @@ fn send_and_flush<W: Sink>(pending: &mut Pending, writer: &mut W) -> Result<(), 
 
 // Writes the listing of what is said, and flushes once.
 fn send_listing<W: Sink>(said: &Said, writer: &mut W) -> Result<(), Failed>
-    requires { W.failed writer.old + 1 < 2 ^ 64 }
+    requires { CanFail (W.failed writer.old) }
     ensures bytes { Writes result (W.bytes_taken writer.old) (W.bytes_taken writer.new) (listing (said_of said.now)) }
     ensures count { Counts result (W.failed writer.old) (W.failed writer.new) }
 {
@@ -61,7 +61,7 @@ fn send_listing<W: Sink>(said: &Said, writer: &mut W) -> Result<(), Failed>
 
 // Writes the captions of what is said so.
 fn send_captions<W: Sink>(said: &Said, writer: &mut W) -> Result<(), Failed>
-    requires { W.failed writer.old + 1 < 2 ^ 64 }
+    requires { CanFail (W.failed writer.old) }
     ensures bytes { Writes result (W.bytes_taken writer.old) (W.bytes_taken writer.new) (caption_text (said_of said.now)) }
     ensures count { Counts result (W.failed writer.old) (W.failed writer.new) }
 {
@@ -82,7 +82,7 @@ fn told(answer: Result<(), Failed>) -> Result<(), Fault>
 
 // Writes the listing of what is said, and flushes once. It takes no memory.
 pub(crate) fn write_listing<W: Sink>(said: &Said, writer: &mut W) -> Result<(), Fault>
-    requires { W.failed writer.old + 1 < 2 ^ 64 }
+    requires { CanFail (W.failed writer.old) }
     ensures { WritesText result (W.bytes_taken writer.old) (W.bytes_taken writer.new) (W.failed writer.old) (W.failed writer.new) (listing (said_of said.now)) }
 {
     told(send_listing(said, writer))
@@ -90,7 +90,7 @@ pub(crate) fn write_listing<W: Sink>(said: &Said, writer: &mut W) -> Result<(), 
 
 // Writes the captions of what is said so.
 pub(crate) fn write_captions<W: Sink>(said: &Said, writer: &mut W) -> Result<(), Fault>
-    requires { W.failed writer.old + 1 < 2 ^ 64 }
+    requires { CanFail (W.failed writer.old) }
     ensures { WritesText result (W.bytes_taken writer.old) (W.bytes_taken writer.new) (W.failed writer.old) (W.failed writer.new) (caption_text (said_of said.now)) }
 {
     told(send_captions(said, writer))

@@ -1,9 +1,10 @@
 // The normal form of what is said, written.
-ghost use Rattle.std.specs.Prelude.{◌≡◌, ◌<◌, ◌+◌, ◌^◌};
+ghost use Rattle.std.specs.Prelude.{◌≡◌};
 ghost use Rattle.px_engine.specs.calls.Faults.{written};
 ghost use Rattle.px_engine.specs.Files.{CanBeWritten};
 ghost use Rattle.px_engine.specs.Runs.{WritesSaid};
 ghost use Rattle.px_engine.specs.calls.Seen.{said_of};
+ghost use Rattle.px_bytes.specs.Devices.{CanFail};
 
 use crate::faults::Fault;
 use crate::meanings::Said;
@@ -23,7 +24,7 @@ fn written(answer: Result<u64, WriteRefusal>) -> Result<u64, Fault>
 
 // Writes the normal form of what is said. It takes no memory.
 pub(crate) fn write_said<W: Sink>(said: &Said, writer: &mut W) -> Result<u64, Fault>
-    requires few { W.failed writer.old + 1 < 2 ^ 64 }
+    requires few { CanFail (W.failed writer.old) }
     requires fits { CanBeWritten (said_of said.now) }
     ensures { WritesSaid result (W.bytes_taken writer.old) (W.bytes_taken writer.new) (W.failed writer.old) (W.failed writer.new) (said_of said.now) }
 {

@@ -1,7 +1,7 @@
 // The normal form, written and measured.
-ghost use Rattle.std.specs.Prelude.{◌≡◌, ◌≤◌, ◌<◌, ◌+◌, ◌^◌, ◌++◌, length, map, OnOk, OnErr};
+ghost use Rattle.std.specs.Prelude.{◌≡◌, ◌≤◌, ◌<◌, ◌++◌, length, map, OnOk, OnErr};
 ghost use Rattle.std.specs.List.{flat_map};
-ghost use Rattle.px_bytes.specs.Devices.{Counts};
+ghost use Rattle.px_bytes.specs.Devices.{CanFail, Counts};
 ghost use Rattle.px_bytes.specs.Lacking.{Lacks};
 ghost use Rattle.px_bytes.specs.Parts.{limit};
 ghost use Rattle.px_bytes.specs.Waiting.{Puts, Waits, PutsTo};
@@ -21,7 +21,7 @@ fn put_item<W: Sink>(
     rec: u8,
     item: &Item,
 ) -> Result<(), Failed>
-    requires few { W.failed writer.old + 1 < 2 ^ 64 }
+    requires few { CanFail (W.failed writer.old) }
     requires short { length item.now.octets.now ≤ limit }
     ensures bytes { PutsTo W.bytes_taken result writer.old writer.new pending.old pending.new (normal_dataset rec (item_view item.now)) }
     ensures count { Counts result (W.failed writer.old) (W.failed writer.new) }
@@ -37,7 +37,7 @@ fn put_group<W: Sink>(
     rec: u8,
     items: &[Item],
 ) -> Result<(), Failed>
-    requires few { W.failed writer.old + 1 < 2 ^ 64 }
+    requires few { CanFail (W.failed writer.old) }
     requires short { AreShort (map item_view items.now) }
     ensures bytes { PutsTo W.bytes_taken result writer.old writer.new pending.old pending.new (flat_map (normal_dataset rec) (map item_view items.now)) }
     ensures count { Counts result (W.failed writer.old) (W.failed writer.new) }
@@ -53,7 +53,7 @@ fn put_group<W: Sink>(
 /// that fails: the writer has then taken a prefix of those that waited and of the form behind them. A record
 /// that isn't empty gives at least five octets.
 pub fn put_iim<W: Sink>(pending: &mut Pending, writer: &mut W, iim: &Iim) -> Result<(), Failed>
-    requires { W.failed writer.old + 1 < 2 ^ 64 }
+    requires { CanFail (W.failed writer.old) }
     ensures bytes { Puts result (W.bytes_taken writer.old) (W.bytes_taken writer.new) pending.old pending.new (normal_iim iim.now) }
     ensures count { Counts result (W.failed writer.old) (W.failed writer.new) }
     ensures waits { Waits result writer.old writer.new pending.old pending.new (normal_iim iim.now) }
@@ -82,7 +82,7 @@ pub fn normal_len(iim: &Iim) -> Option<u32>
 /// of a longer one go out in writes of up to 8,192, longer data at once; no memory is taken, but for such a
 /// buffer on the stack.
 pub fn write_iim_part<W: Sink>(iim: &Iim, writer: &mut W) -> Result<u64, WriteRefusal>
-    requires few { W.failed writer.old + 1 < 2 ^ 64 }
+    requires few { CanFail (W.failed writer.old) }
     requires some { 0 < length iim.now }
     ensures { WritesIim result (W.bytes_taken writer.old) (W.bytes_taken writer.new) (W.failed writer.old) (W.failed writer.new) iim.now }
 {
@@ -99,7 +99,7 @@ pub fn write_iim_part<W: Sink>(iim: &Iim, writer: &mut W) -> Result<u64, WriteRe
 /// Writes the normal form as `write_iim_part` does, and flushes once behind the last octet. A failed
 /// flush is WriteFailed.
 pub fn write_iim<W: Sink>(iim: &Iim, writer: &mut W) -> Result<u64, WriteRefusal>
-    requires few { W.failed writer.old + 1 < 2 ^ 64 }
+    requires few { CanFail (W.failed writer.old) }
     requires some { 0 < length iim.now }
     ensures { WritesIim result (W.bytes_taken writer.old) (W.bytes_taken writer.new) (W.failed writer.old) (W.failed writer.new) iim.now }
 {

@@ -1,6 +1,6 @@
 // The pieces of a block, put at their places: from the last to the first, so that a piece is put over those behind it.
 ghost use Rattle.std.specs.Prelude.{◌≡◌, ◌≤◌, ◌<◌, ◌+◌, ◌^◌, [], ◌∷◌, length, replicate, Some, option_map, flat_map, IfSome, OnOk, IfOk};
-ghost use Rattle.px_bytes.specs.Devices.{Counts};
+ghost use Rattle.px_bytes.specs.Devices.{CanFail, Counts};
 ghost use Rattle.px_bytes.specs.Lacking.{Lacks};
 ghost use Rattle.px_bytes.specs.Parts.{limit};
 ghost use Rattle.px_bytes.specs.Waiting.{PutsTo};
@@ -49,7 +49,7 @@ fn put_piece<W: Sink>(
     layout: &Layout,
     piece: Piece,
 ) -> Result<(), Failed>
-    requires few { W.failed writer.old + 1 < 2 ^ 64 }
+    requires few { CanFail (W.failed writer.old) }
     requires piece { IsPiece piece }
     ensures bytes { PutsTo W.bytes_taken result writer.old writer.new pending.old pending.new (piece_bytes layout.now piece.entry) }
     ensures count { Counts result (W.failed writer.old) (W.failed writer.new) }
@@ -62,7 +62,7 @@ fn put_piece<W: Sink>(
 }
 
 fn write_piece<W: Sink>(writer: &mut W, layout: &Layout, piece: Piece) -> Result<(), Failed>
-    requires few { W.failed writer.old + 1 < 2 ^ 64 }
+    requires few { CanFail (W.failed writer.old) }
     requires piece { IsPiece piece }
     ensures bytes { OnOk result (Appends (W.bytes_taken writer.old) (W.bytes_taken writer.new) (piece_bytes layout.now piece.entry)) }
     ensures count { Counts result (W.failed writer.old) (W.failed writer.new) }

@@ -1,6 +1,6 @@
 // Numbers, values and filler, put behind the bytes that wait for a writer.
-ghost use Rattle.std.specs.Prelude.{◌≡◌, ◌≤◌, ◌<◌, ◌+◌, ◌^◌, ◌%◌, replicate, flat_map};
-ghost use Rattle.px_bytes.specs.Devices.{Counts};
+ghost use Rattle.std.specs.Prelude.{◌≡◌, ◌≤◌, ◌%◌, replicate, flat_map};
+ghost use Rattle.px_bytes.specs.Devices.{CanFail, Counts};
 ghost use Rattle.px_bytes.specs.Numbers.{spelling};
 ghost use Rattle.px_bytes.specs.Waiting.{PutsTo};
 ghost use Rattle.px_field.specs.Values.{spell, spelled};
@@ -19,7 +19,7 @@ pub(crate) fn put_short<W: Sink>(
     order: Order,
     n: u16,
 ) -> Result<(), Failed>
-    requires { W.failed writer.old + 1 < 2 ^ 64 }
+    requires { CanFail (W.failed writer.old) }
     ensures bytes { PutsTo W.bytes_taken result writer.old writer.new pending.old pending.new (spelling order 2 n) }
     ensures count { Counts result (W.failed writer.old) (W.failed writer.new) }
 {
@@ -35,7 +35,7 @@ pub(crate) fn put_long<W: Sink>(
     order: Order,
     n: u32,
 ) -> Result<(), Failed>
-    requires { W.failed writer.old + 1 < 2 ^ 64 }
+    requires { CanFail (W.failed writer.old) }
     ensures bytes { PutsTo W.bytes_taken result writer.old writer.new pending.old pending.new (long_bytes order n) }
     ensures count { Counts result (W.failed writer.old) (W.failed writer.new) }
 {
@@ -51,7 +51,7 @@ pub(crate) fn put_filler<W: Sink>(
     filler: u8,
     count: usize,
 ) -> Result<(), Failed>
-    requires few { W.failed writer.old + 1 < 2 ^ 64 }
+    requires few { CanFail (W.failed writer.old) }
     requires most { count ≤ 4 }
     ensures bytes { PutsTo W.bytes_taken result writer.old writer.new pending.old pending.new (replicate count filler) }
     ensures count { Counts result (W.failed writer.old) (W.failed writer.new) }
@@ -65,7 +65,7 @@ pub(crate) fn put_padding<W: Sink>(
     writer: &mut W,
     len: u64,
 ) -> Result<(), Failed>
-    requires { W.failed writer.old + 1 < 2 ^ 64 }
+    requires { CanFail (W.failed writer.old) }
     ensures bytes { PutsTo W.bytes_taken result writer.old writer.new pending.old pending.new (replicate (len % 2) 0) }
     ensures count { Counts result (W.failed writer.old) (W.failed writer.new) }
 {
@@ -82,7 +82,7 @@ fn put_elements<W: Sink>(
     order: Order,
     value: &Value,
 ) -> Result<(), Failed>
-    requires { W.failed writer.old + 1 < 2 ^ 64 }
+    requires { CanFail (W.failed writer.old) }
     ensures bytes { PutsTo W.bytes_taken result writer.old writer.new pending.old pending.new (flat_map (spell order) value.now.elements) }
     ensures count { Counts result (W.failed writer.old) (W.failed writer.new) }
 {
@@ -104,7 +104,7 @@ pub(crate) fn put_value<W: Sink>(
     order: Order,
     value: &Value,
 ) -> Result<(), Failed>
-    requires { W.failed writer.old + 1 < 2 ^ 64 }
+    requires { CanFail (W.failed writer.old) }
     ensures bytes { PutsTo W.bytes_taken result writer.old writer.new pending.old pending.new (spelled order value.now) }
     ensures count { Counts result (W.failed writer.old) (W.failed writer.new) }
 {

@@ -1,7 +1,7 @@
 // The parts of a normal form, put behind the bytes that wait for a writer: each is padded to an even number of bytes. TIFF 6.0
 // section 2, "IFD Entry".
-ghost use Rattle.std.specs.Prelude.{◌≡◌, ◌<◌, ◌+◌, ◌^◌, Some, flat_map};
-ghost use Rattle.px_bytes.specs.Devices.{Counts};
+ghost use Rattle.std.specs.Prelude.{◌≡◌, Some, flat_map};
+ghost use Rattle.px_bytes.specs.Devices.{CanFail, Counts};
 ghost use Rattle.px_bytes.specs.Waiting.{Puts, Waits, PutsTo};
 ghost use Rattle.px_tree.specs.Roles.{role};
 ghost use Rattle.px_tree.specs.Directory.{dirs};
@@ -32,7 +32,7 @@ fn put_padded_item<W: Sink>(
     dir: Dir,
     entry: &Entry,
 ) -> Result<(), Failed>
-    requires few { W.failed writer.old + 1 < 2 ^ 64 }
+    requires few { CanFail (W.failed writer.old) }
     requires form { IsForm form.now }
     requires counted { IsCounted (item_of entry.now.item) }
     requires suits { Suits (role dir entry.now.tag) (item_of entry.now.item) }
@@ -54,7 +54,7 @@ fn put_placed<W: Sink>(
     dir: Dir,
     entry: &Entry,
 ) -> Result<(), Failed>
-    requires few { W.failed writer.old + 1 < 2 ^ 64 }
+    requires few { CanFail (W.failed writer.old) }
     requires form { IsForm form.now }
     requires counted { IsCounted (item_of entry.now.item) }
     requires suits { Suits (role dir entry.now.tag) (item_of entry.now.item) }
@@ -77,7 +77,7 @@ fn put_values<W: Sink>(
     dir: Dir,
     entries: &Entries,
 ) -> Result<(), Failed>
-    requires few { W.failed writer.old + 1 < 2 ^ 64 }
+    requires few { CanFail (W.failed writer.old) }
     requires form { IsForm form.now }
     requires good { Good dir entries.now }
     requires there { items (said_in form.now) dir ≡ Some entries.now }
@@ -100,7 +100,7 @@ fn put_dir<W: Sink>(
     dir: Dir,
     entries: &Entries,
 ) -> Result<(), Failed>
-    requires few { W.failed writer.old + 1 < 2 ^ 64 }
+    requires few { CanFail (W.failed writer.old) }
     requires form { IsForm form.now }
     requires good { Good dir entries.now }
     requires there { items (said_in form.now) dir ≡ Some entries.now }
@@ -120,7 +120,7 @@ fn put_any_dir<W: Sink>(
     form: &NormalForm,
     dir: Dir,
 ) -> Result<(), Failed>
-    requires few { W.failed writer.old + 1 < 2 ^ 64 }
+    requires few { CanFail (W.failed writer.old) }
     requires form { IsForm form.now }
     ensures bytes { PutsTo W.bytes_taken result writer.old writer.new pending.old pending.new (flat_map
         (λ c. padded c.1) (contents_of_dir (plan_in form.now) Order.Most 0 (said_in form.now) dir
@@ -137,7 +137,7 @@ const DIRS: [Dir; 5] = [Dir::Main, Dir::Exif, Dir::Interop, Dir::Gps, Dir::Thumb
 
 // The directories that are there, each with its placed values.
 fn put_dirs<W: Sink>(pending: &mut Pending, writer: &mut W, form: &NormalForm) -> Result<(), Failed>
-    requires few { W.failed writer.old + 1 < 2 ^ 64 }
+    requires few { CanFail (W.failed writer.old) }
     requires form { IsForm form.now }
     ensures bytes { PutsTo W.bytes_taken result writer.old writer.new pending.old pending.new (flat_map
         (λ c. padded c.1) (flat_map
@@ -157,7 +157,7 @@ fn put_contents<W: Sink>(
     writer: &mut W,
     form: &NormalForm,
 ) -> Result<(), Failed>
-    requires few { W.failed writer.old + 1 < 2 ^ 64 }
+    requires few { CanFail (W.failed writer.old) }
     requires form { IsForm form.now }
     ensures bytes { PutsTo W.bytes_taken result writer.old writer.new pending.old pending.new (flat_map
         (λ c. padded c.1) (contents (plan_in form.now) Order.Most 0 (said_in form.now))) }
@@ -174,7 +174,7 @@ fn put_block<W: Sink>(
     writer: &mut W,
     form: &NormalForm,
 ) -> Result<(), Failed>
-    requires few { W.failed writer.old + 1 < 2 ^ 64 }
+    requires few { CanFail (W.failed writer.old) }
     requires form { IsForm form.now }
     ensures bytes { PutsTo W.bytes_taken result writer.old writer.new pending.old pending.new (normal_exif (said_in form.now)) }
     ensures count { Counts result (W.failed writer.old) (W.failed writer.new) }
@@ -191,7 +191,7 @@ pub fn put_normal<W: Sink>(
     writer: &mut W,
     form: &NormalForm,
 ) -> Result<(), Failed>
-    requires few { W.failed writer.old + 1 < 2 ^ 64 }
+    requires few { CanFail (W.failed writer.old) }
     requires form { IsForm form.now }
     ensures bytes { Puts result (W.bytes_taken writer.old) (W.bytes_taken writer.new) pending.old pending.new
         (normal_exif (said_in form.now)) }

@@ -1,7 +1,7 @@
 // What an entry says, put behind the bytes that wait for a writer. TIFF 6.0 section 2, "IFD Entry" and "Value/Offset".
-ghost use Rattle.std.specs.Prelude.{◌≡◌, ◌≤◌, ◌<◌, ◌+◌, ◌^◌, length, map, flat_map};
+ghost use Rattle.std.specs.Prelude.{◌≡◌, ◌≤◌, length, map, flat_map};
 ghost use Rattle.std.specs.List.{AllByRecursion, range_with_len};
-ghost use Rattle.px_bytes.specs.Devices.{Counts};
+ghost use Rattle.px_bytes.specs.Devices.{CanFail, Counts};
 ghost use Rattle.px_bytes.specs.Parts.{limit};
 ghost use Rattle.px_bytes.specs.Waiting.{PutsTo};
 ghost use Rattle.px_layout.specs.calls.Items.{item_of, entry_of, IsCounted};
@@ -33,7 +33,7 @@ pub(crate) fn put_place<W: Sink>(
     layout: &Layout,
     chunk: Chunk,
 ) -> Result<(), Failed>
-    requires { W.failed writer.old + 1 < 2 ^ 64 }
+    requires { CanFail (W.failed writer.old) }
     ensures bytes { PutsTo W.bytes_taken result writer.old writer.new pending.old pending.new
         (long_bytes layout.now.order (place (said_plan layout.now) chunk)) }
     ensures count { Counts result (W.failed writer.old) (W.failed writer.new) }
@@ -48,7 +48,7 @@ fn put_strip_offsets<W: Sink>(
     layout: &Layout,
     count: u32,
 ) -> Result<(), Failed>
-    requires { W.failed writer.old + 1 < 2 ^ 64 }
+    requires { CanFail (W.failed writer.old) }
     ensures bytes { PutsTo W.bytes_taken result writer.old writer.new pending.old pending.new (flat_map
         (λ i. long_bytes layout.now.order (place (said_plan layout.now) (Chunk.Strip i))) (range_with_len 0 count)) }
     ensures count { Counts result (W.failed writer.old) (W.failed writer.new) }
@@ -65,7 +65,7 @@ pub(crate) fn put_strip_lengths<W: Sink>(
     order: Order,
     strips: &Strips,
 ) -> Result<(), Failed>
-    requires few { W.failed writer.old + 1 < 2 ^ 64 }
+    requires few { CanFail (W.failed writer.old) }
     requires short { AllByRecursion (λ n. n ≤ limit) (map (λ x. length x) strips.now) }
     ensures bytes { PutsTo W.bytes_taken result writer.old writer.new pending.old pending.new (flat_map
         (long_bytes order) (map (λ x. length x) strips.now)) }
@@ -85,7 +85,7 @@ pub(crate) fn put_item<W: Sink>(
     layout: &Layout,
     item: Item,
 ) -> Result<(), Failed>
-    requires few { W.failed writer.old + 1 < 2 ^ 64 }
+    requires few { CanFail (W.failed writer.old) }
     requires counted { IsCounted (item_of item) }
     ensures bytes { PutsTo W.bytes_taken result writer.old writer.new pending.old pending.new (item_in layout.now (item_of item.entry)) }
     ensures count { Counts result (W.failed writer.old) (W.failed writer.new) }
@@ -112,7 +112,7 @@ fn put_last<W: Sink>(
     dir: Dir,
     entry: &Entry,
 ) -> Result<(), Failed>
-    requires few { W.failed writer.old + 1 < 2 ^ 64 }
+    requires few { CanFail (W.failed writer.old) }
     requires counted { IsCounted (item_of entry.now.item) }
     ensures bytes { PutsTo W.bytes_taken result writer.old writer.new pending.old pending.new (last_in layout.now dir (entry_of entry.now)) }
     ensures count { Counts result (W.failed writer.old) (W.failed writer.new) }
@@ -134,7 +134,7 @@ pub(crate) fn put_entry<W: Sink>(
     dir: Dir,
     entry: &Entry,
 ) -> Result<(), Failed>
-    requires few { W.failed writer.old + 1 < 2 ^ 64 }
+    requires few { CanFail (W.failed writer.old) }
     requires counted { IsCounted (item_of entry.now.item) }
     ensures bytes { PutsTo W.bytes_taken result writer.old writer.new pending.old pending.new (entry_in layout.now dir (entry_of entry.now)) }
     ensures count { Counts result (W.failed writer.old) (W.failed writer.new) }

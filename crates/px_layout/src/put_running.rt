@@ -1,6 +1,6 @@
 // The entries of a normal form, put behind the bytes that wait for a writer: offsets run along, so that no plan is kept.
 ghost use Rattle.std.specs.Prelude.{◌≡◌, ◌<◌, ◌≤◌, ◌+◌, ◌^◌, Some, None, length, flat_map, unwrap_or, []};
-ghost use Rattle.px_bytes.specs.Devices.{Counts};
+ghost use Rattle.px_bytes.specs.Devices.{CanFail, Counts};
 ghost use Rattle.px_bytes.specs.Parts.{limit};
 ghost use Rattle.px_bytes.specs.Waiting.{PutsTo};
 ghost use Rattle.px_tree.specs.Tree as said;
@@ -70,7 +70,7 @@ fn put_strip_places<W: Sink>(
     at: u32,
     strips: &Strips,
 ) -> Result<(), Failed>
-    requires few { W.failed writer.old + 1 < 2 ^ 64 }
+    requires few { CanFail (W.failed writer.old) }
     requires most { at + strips_size strips.now ≤ limit }
     ensures bytes { PutsTo W.bytes_taken result writer.old writer.new pending.old pending.new (flat_map
         (long_bytes Order.Most) (strip_places at strips.now)) }
@@ -91,7 +91,7 @@ fn put_any_places<W: Sink>(
     at: u32,
     strips: &Option<Strips>,
 ) -> Result<(), Failed>
-    requires few { W.failed writer.old + 1 < 2 ^ 64 }
+    requires few { CanFail (W.failed writer.old) }
     requires most { at + strips_size (unwrap_or strips.now []) ≤ limit }
     ensures bytes { PutsTo W.bytes_taken result writer.old writer.new pending.old pending.new (flat_map
         (long_bytes Order.Most) (strip_places at (unwrap_or strips.now []))) }
@@ -109,7 +109,7 @@ fn put_strips_told<W: Sink>(
     writer: &mut W,
     form: &NormalForm,
 ) -> Result<(), Failed>
-    requires few { W.failed writer.old + 1 < 2 ^ 64 }
+    requires few { CanFail (W.failed writer.old) }
     requires form { IsForm form.now }
     ensures bytes { PutsTo W.bytes_taken result writer.old writer.new pending.old pending.new (flat_map
         (long_bytes Order.Most) (strip_places (strips_start (said_in form.now)) (strip_list (said_in form.now).thumb))) }
@@ -129,7 +129,7 @@ pub(crate) fn put_told_item<W: Sink>(
     form: &NormalForm,
     item: Item,
 ) -> Result<(), Failed>
-    requires few { W.failed writer.old + 1 < 2 ^ 64 }
+    requires few { CanFail (W.failed writer.old) }
     requires form { IsForm form.now }
     requires counted { IsCounted (item_of item) }
     requires tells { TellsAll (said_in form.now) (item_of item) }
@@ -156,7 +156,7 @@ fn put_given_last<W: Sink>(
     at: u32,
     item: Item,
 ) -> Result<(), Failed>
-    requires few { W.failed writer.old + 1 < 2 ^ 64 }
+    requires few { CanFail (W.failed writer.old) }
     requires form { IsForm form.now }
     requires counted { IsCounted (item_of item) }
     requires tells { TellsAll (said_in form.now) (item_of item) }
@@ -180,7 +180,7 @@ fn put_given_entry<W: Sink>(
     at: u32,
     entry: &Entry,
 ) -> Result<(), Failed>
-    requires few { W.failed writer.old + 1 < 2 ^ 64 }
+    requires few { CanFail (W.failed writer.old) }
     requires form { IsForm form.now }
     requires counted { IsCounted (item_of entry.now.item) }
     requires tells { TellsAll (said_in form.now) (item_of entry.now.item) }
@@ -213,7 +213,7 @@ fn put_running_entries<W: Sink>(
     dir: Dir,
     entries: &Entries,
 ) -> Result<(), Failed>
-    requires few { W.failed writer.old + 1 < 2 ^ 64 }
+    requires few { CanFail (W.failed writer.old) }
     requires form { IsForm form.now }
     requires there { items (said_in form.now) dir ≡ Some entries.now }
     ensures bytes { PutsTo W.bytes_taken result writer.old writer.new pending.old pending.new (flat_map
@@ -236,7 +236,7 @@ fn put_running_next<W: Sink>(
     form: &NormalForm,
     dir: Dir,
 ) -> Result<(), Failed>
-    requires few { W.failed writer.old + 1 < 2 ^ 64 }
+    requires few { CanFail (W.failed writer.old) }
     requires form { IsForm form.now }
     ensures bytes { PutsTo W.bytes_taken result writer.old writer.new pending.old pending.new
         (next_bytes (plan_in form.now) Order.Most 0 (said_in form.now) dir) }
@@ -255,7 +255,7 @@ fn put_next_of_main<W: Sink>(
     writer: &mut W,
     form: &NormalForm,
 ) -> Result<(), Failed>
-    requires few { W.failed writer.old + 1 < 2 ^ 64 }
+    requires few { CanFail (W.failed writer.old) }
     requires form { IsForm form.now }
     ensures bytes { PutsTo W.bytes_taken result writer.old writer.new pending.old pending.new
         (next_bytes (plan_in form.now) Order.Most 0 (said_in form.now) Dir.Main) }
@@ -278,7 +278,7 @@ pub(crate) fn put_running_table<W: Sink>(
     dir: Dir,
     entries: &Entries,
 ) -> Result<(), Failed>
-    requires few { W.failed writer.old + 1 < 2 ^ 64 }
+    requires few { CanFail (W.failed writer.old) }
     requires form { IsForm form.now }
     requires counted { length entries.now < 2 ^ 16 }
     requires there { items (said_in form.now) dir ≡ Some entries.now }
@@ -296,7 +296,7 @@ pub(crate) fn put_running_header<W: Sink>(
     pending: &mut Pending,
     writer: &mut W,
 ) -> Result<(), Failed>
-    requires few { W.failed writer.old + 1 < 2 ^ 64 }
+    requires few { CanFail (W.failed writer.old) }
     ensures bytes { (m : said.Meaning) → PutsTo W.bytes_taken result writer.old writer.new pending.old pending.new
         (header (normal_plan m) Order.Most 0) }
     ensures count { Counts result (W.failed writer.old) (W.failed writer.new) }

@@ -1,6 +1,6 @@
 // The header and the tables of directories. TIFF 6.0 section 2, "Image File Header" and "Image File Directory".
-ghost use Rattle.std.specs.Prelude.{◌≡◌, ◌<◌, ◌+◌, ◌^◌, length, flat_map};
-ghost use Rattle.px_bytes.specs.Devices.{Counts};
+ghost use Rattle.std.specs.Prelude.{◌≡◌, ◌<◌, ◌^◌, length, flat_map};
+ghost use Rattle.px_bytes.specs.Devices.{CanFail, Counts};
 ghost use Rattle.px_bytes.specs.Waiting.{PutsTo};
 ghost use Rattle.px_tree.specs.Directory.{magic};
 ghost use Rattle.px_layout.specs.calls.Layouts.{header_in, entry_in, next_in, table_in};
@@ -28,7 +28,7 @@ pub(crate) fn put_header<W: Sink>(
     writer: &mut W,
     layout: &Layout,
 ) -> Result<(), Failed>
-    requires { W.failed writer.old + 1 < 2 ^ 64 }
+    requires { CanFail (W.failed writer.old) }
     ensures bytes { PutsTo W.bytes_taken result writer.old writer.new pending.old pending.new
         (header_in layout.now) }
     ensures count { Counts result (W.failed writer.old) (W.failed writer.new) }
@@ -44,7 +44,7 @@ fn put_entries<W: Sink>(
     dir: Dir,
     entries: &Entries,
 ) -> Result<(), Failed>
-    requires { W.failed writer.old + 1 < 2 ^ 64 }
+    requires { CanFail (W.failed writer.old) }
     ensures bytes { PutsTo W.bytes_taken result writer.old writer.new pending.old pending.new (flat_map (entry_in layout.now dir) entries.now) }
     ensures count { Counts result (W.failed writer.old) (W.failed writer.new) }
 {
@@ -61,7 +61,7 @@ fn put_next_of_main<W: Sink>(
     writer: &mut W,
     layout: &Layout,
 ) -> Result<(), Failed>
-    requires { W.failed writer.old + 1 < 2 ^ 64 }
+    requires { CanFail (W.failed writer.old) }
     ensures bytes { PutsTo W.bytes_taken result writer.old writer.new pending.old pending.new (next_in layout.now Dir.Main) }
     ensures count { Counts result (W.failed writer.old) (W.failed writer.new) }
 {
@@ -78,7 +78,7 @@ fn put_next<W: Sink>(
     layout: &Layout,
     dir: Dir,
 ) -> Result<(), Failed>
-    requires { W.failed writer.old + 1 < 2 ^ 64 }
+    requires { CanFail (W.failed writer.old) }
     ensures bytes { PutsTo W.bytes_taken result writer.old writer.new pending.old pending.new (next_in layout.now dir) }
     ensures count { Counts result (W.failed writer.old) (W.failed writer.new) }
 {
@@ -97,7 +97,7 @@ pub(crate) fn put_table<W: Sink>(
     dir: Dir,
     entries: &Entries,
 ) -> Result<(), Failed>
-    requires few { W.failed writer.old + 1 < 2 ^ 64 }
+    requires few { CanFail (W.failed writer.old) }
     requires counted { length entries.now < 2 ^ 16 }
     ensures bytes { PutsTo W.bytes_taken result writer.old writer.new pending.old pending.new (table_in layout.now dir entries.now) }
     ensures count { Counts result (W.failed writer.old) (W.failed writer.new) }

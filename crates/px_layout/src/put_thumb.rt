@@ -1,7 +1,7 @@
 // The thumbnail's bytes, behind all directories: the JPEG, then the strips, each padded to an even number. CIPA DC-008 4.5.5;
 // TIFF 6.0 section 8.
-ghost use Rattle.std.specs.Prelude.{◌<◌, ◌+◌, ◌^◌, Some, option_map, flat_map};
-ghost use Rattle.px_bytes.specs.Devices.{Counts};
+ghost use Rattle.std.specs.Prelude.{Some, option_map, flat_map};
+ghost use Rattle.px_bytes.specs.Devices.{CanFail, Counts};
 ghost use Rattle.px_bytes.specs.Waiting.{PutsTo};
 ghost use Rattle.px_tree.specs.calls.Seen.{thumb_of};
 ghost use Rattle.px_layout.specs.Laid.{jpeg_contents, strip_contents, all_strip_contents, thumb_contents};
@@ -12,7 +12,7 @@ use px_bytes::{Failed, Pending, Sink};
 use px_tree::{Strips, Thumb};
 
 fn put_padded<W: Sink>(pending: &mut Pending, writer: &mut W, bytes: &[u8]) -> Result<(), Failed>
-    requires { W.failed writer.old + 1 < 2 ^ 64 }
+    requires { CanFail (W.failed writer.old) }
     ensures bytes { PutsTo W.bytes_taken result writer.old writer.new pending.old pending.new (padded bytes.now) }
     ensures count { Counts result (W.failed writer.old) (W.failed writer.new) }
 {
@@ -21,7 +21,7 @@ fn put_padded<W: Sink>(pending: &mut Pending, writer: &mut W, bytes: &[u8]) -> R
 }
 
 fn put_strips<W: Sink>(pending: &mut Pending, writer: &mut W, strips: &Strips) -> Result<(), Failed>
-    requires { W.failed writer.old + 1 < 2 ^ 64 }
+    requires { CanFail (W.failed writer.old) }
     ensures bytes { PutsTo W.bytes_taken result writer.old writer.new pending.old pending.new (flat_map
         (λ c. padded c.1) (strip_contents 0 strips.now)) }
     ensures count { Counts result (W.failed writer.old) (W.failed writer.new) }
@@ -37,7 +37,7 @@ fn put_all_strips<W: Sink>(
     writer: &mut W,
     strips: &Option<Strips>,
 ) -> Result<(), Failed>
-    requires { W.failed writer.old + 1 < 2 ^ 64 }
+    requires { CanFail (W.failed writer.old) }
     ensures bytes { PutsTo W.bytes_taken result writer.old writer.new pending.old pending.new (flat_map
         (λ c. padded c.1) (all_strip_contents strips.now)) }
     ensures count { Counts result (W.failed writer.old) (W.failed writer.new) }
@@ -53,7 +53,7 @@ fn put_jpeg<W: Sink>(
     writer: &mut W,
     jpeg: Option<&[u8]>,
 ) -> Result<(), Failed>
-    requires { W.failed writer.old + 1 < 2 ^ 64 }
+    requires { CanFail (W.failed writer.old) }
     ensures bytes { PutsTo W.bytes_taken result writer.old writer.new pending.old pending.new (flat_map
         (λ c. padded c.1) (jpeg_contents (option_map (λ x. x.now) jpeg.entry))) }
     ensures count { Counts result (W.failed writer.old) (W.failed writer.new) }
@@ -65,7 +65,7 @@ fn put_jpeg<W: Sink>(
 }
 
 fn put_parts<W: Sink>(pending: &mut Pending, writer: &mut W, thumb: &Thumb) -> Result<(), Failed>
-    requires { W.failed writer.old + 1 < 2 ^ 64 }
+    requires { CanFail (W.failed writer.old) }
     ensures bytes { PutsTo W.bytes_taken result writer.old writer.new pending.old pending.new (flat_map
         (λ c. padded c.1) (thumb_contents (Some (thumb_of thumb.now)))) }
     ensures count { Counts result (W.failed writer.old) (W.failed writer.new) }
@@ -81,7 +81,7 @@ pub(crate) fn put_thumb<W: Sink>(
     writer: &mut W,
     thumb: &Option<Thumb>,
 ) -> Result<(), Failed>
-    requires { W.failed writer.old + 1 < 2 ^ 64 }
+    requires { CanFail (W.failed writer.old) }
     ensures bytes { PutsTo W.bytes_taken result writer.old writer.new pending.old pending.new (flat_map
         (λ c. padded c.1) (thumb_contents (option_map thumb_of thumb.now))) }
     ensures count { Counts result (W.failed writer.old) (W.failed writer.new) }

@@ -1,9 +1,10 @@
 // The normal form, written.
-ghost use Rattle.std.specs.Prelude.{◌≡◌, ◌<◌, ◌+◌, ◌^◌, IfErr};
+ghost use Rattle.std.specs.Prelude.{◌≡◌, IfErr};
 ghost use Rattle.px_bytes.specs.declared.causes.WriteRefusal.TheVariants.{NormalTooLong};
 ghost use Rattle.px_tree.specs.Fits.{Fits};
 ghost use Rattle.px_tree.specs.calls.Seen.{meaning_of};
 ghost use Rattle.px_layout.specs.Writing.{WritesExif};
+ghost use Rattle.px_bytes.specs.Devices.{CanFail};
 
 use crate::form::NormalForm;
 use crate::put_form::put_normal;
@@ -30,7 +31,7 @@ pub fn write_normal<W: Sink>(
     m: &Meaning,
     writer: &mut W,
 ) -> Result<u64, WriteRefusal>
-    requires few { W.failed writer.old + 1 < 2 ^ 64 }
+    requires few { CanFail (W.failed writer.old) }
     requires fits { Fits (meaning_of m.now) }
     ensures form { WritesExif result (W.bytes_taken writer.old) (W.bytes_taken writer.new) (W.failed writer.old) (W.failed writer.new)
         (meaning_of m.now) }
@@ -41,7 +42,7 @@ pub fn write_normal<W: Sink>(
 
 /// As `write_normal`, which takes no memory either.
 pub fn write_normal_in<W: Sink>(m: &Meaning, writer: &mut W) -> Result<u64, WriteRefusal>
-    requires few { W.failed writer.old + 1 < 2 ^ 64 }
+    requires few { CanFail (W.failed writer.old) }
     requires fits { Fits (meaning_of m.now) }
     ensures form { WritesExif result (W.bytes_taken writer.old) (W.bytes_taken writer.new) (W.failed writer.old) (W.failed writer.new)
         (meaning_of m.now) }

@@ -1,6 +1,6 @@
 // The lines of captions, escaped, made group by group.
-ghost use Rattle.std.specs.Prelude.{◌≡◌, ◌<◌, ◌+◌, ◌^◌, [], ◌∷◌, map, filter_map};
-ghost use Rattle.px_bytes.specs.Devices.{Counts};
+ghost use Rattle.std.specs.Prelude.{◌≡◌, [], ◌∷◌, map, filter_map};
+ghost use Rattle.px_bytes.specs.Devices.{CanFail, Counts};
 ghost use Rattle.px_bytes.specs.Waiting.{Puts};
 ghost use Rattle.px_iim.specs.calls.View.{item_view};
 ghost use Rattle.px_tree.specs.Roles.{at_tag};
@@ -24,7 +24,7 @@ fn is_plain(byte: u8) -> bool
 }
 
 fn put_byte<W: Sink>(pending: &mut Pending, writer: &mut W, byte: u8) -> Result<(), Failed>
-    requires { W.failed writer.old + 1 < 2 ^ 64 }
+    requires { CanFail (W.failed writer.old) }
     ensures bytes { Puts result (W.bytes_taken writer.old) (W.bytes_taken writer.new) pending.old pending.new (escaped_byte byte) }
     ensures count { Counts result (W.failed writer.old) (W.failed writer.new) }
 {
@@ -37,7 +37,7 @@ fn put_byte<W: Sink>(pending: &mut Pending, writer: &mut W, byte: u8) -> Result<
 
 // Puts bytes in which each that isn't a plain character is escaped.
 fn put_escaped<W: Sink>(pending: &mut Pending, writer: &mut W, bytes: &[u8]) -> Result<(), Failed>
-    requires { W.failed writer.old + 1 < 2 ^ 64 }
+    requires { CanFail (W.failed writer.old) }
     ensures bytes { Puts result (W.bytes_taken writer.old) (W.bytes_taken writer.new) pending.old pending.new (escaped bytes.now) }
     ensures count { Counts result (W.failed writer.old) (W.failed writer.new) }
 {
@@ -49,7 +49,7 @@ fn put_escaped<W: Sink>(pending: &mut Pending, writer: &mut W, bytes: &[u8]) -> 
 
 #[tactic(auto, unfolding(crate::specs::Captions::caption_line))]
 fn put_line<W: Sink>(pending: &mut Pending, writer: &mut W, caption: Caption) -> Result<(), Failed>
-    requires { W.failed writer.old + 1 < 2 ^ 64 }
+    requires { CanFail (W.failed writer.old) }
     ensures bytes { Puts result (W.bytes_taken writer.old) (W.bytes_taken writer.new) pending.old pending.new (caption_line (caption_view caption.entry)) }
     ensures count { Counts result (W.failed writer.old) (W.failed writer.new) }
 {
@@ -61,7 +61,7 @@ fn put_line<W: Sink>(pending: &mut Pending, writer: &mut W, caption: Caption) ->
 
 // Puts the line of a DataSet, where it has a label.
 fn put_item<W: Sink>(pending: &mut Pending, writer: &mut W, item: &Item) -> Result<(), Failed>
-    requires { W.failed writer.old + 1 < 2 ^ 64 }
+    requires { CanFail (W.failed writer.old) }
     ensures bytes { Puts result (W.bytes_taken writer.old) (W.bytes_taken writer.new) pending.old pending.new (caption_lines (filter_map labelled (item_view item.now ∷ []))) }
     ensures count { Counts result (W.failed writer.old) (W.failed writer.new) }
 {
@@ -80,7 +80,7 @@ fn put_item<W: Sink>(pending: &mut Pending, writer: &mut W, item: &Item) -> Resu
 
 // Puts the lines of those DataSets of a group that have a label.
 fn put_group<W: Sink>(pending: &mut Pending, writer: &mut W, items: &[Item]) -> Result<(), Failed>
-    requires { W.failed writer.old + 1 < 2 ^ 64 }
+    requires { CanFail (W.failed writer.old) }
     ensures bytes { Puts result (W.bytes_taken writer.old) (W.bytes_taken writer.new) pending.old pending.new (caption_lines (filter_map labelled (map item_view items.now))) }
     ensures count { Counts result (W.failed writer.old) (W.failed writer.new) }
 {
@@ -92,7 +92,7 @@ fn put_group<W: Sink>(pending: &mut Pending, writer: &mut W, items: &[Item]) -> 
 
 // Puts the lines of a record's captions.
 fn put_groups<W: Sink>(pending: &mut Pending, writer: &mut W, iim: &Iim) -> Result<(), Failed>
-    requires { W.failed writer.old + 1 < 2 ^ 64 }
+    requires { CanFail (W.failed writer.old) }
     ensures bytes { Puts result (W.bytes_taken writer.old) (W.bytes_taken writer.new) pending.old pending.new (caption_lines (iim_captions iim.now)) }
     ensures count { Counts result (W.failed writer.old) (W.failed writer.new) }
 {
@@ -103,7 +103,7 @@ fn put_groups<W: Sink>(pending: &mut Pending, writer: &mut W, iim: &Iim) -> Resu
 }
 
 fn put_charset<W: Sink>(pending: &mut Pending, writer: &mut W, declared: bool) -> Result<(), Failed>
-    requires { W.failed writer.old + 1 < 2 ^ 64 }
+    requires { CanFail (W.failed writer.old) }
     ensures bytes { Puts result (W.bytes_taken writer.old) (W.bytes_taken writer.new) pending.old pending.new (charset_line declared) }
     ensures count { Counts result (W.failed writer.old) (W.failed writer.new) }
 {
@@ -115,7 +115,7 @@ fn put_charset<W: Sink>(pending: &mut Pending, writer: &mut W, declared: bool) -
 
 // Puts the lines of a record.
 fn put_iim<W: Sink>(pending: &mut Pending, writer: &mut W, iim: &Iim) -> Result<(), Failed>
-    requires { W.failed writer.old + 1 < 2 ^ 64 }
+    requires { CanFail (W.failed writer.old) }
     ensures bytes { Puts result (W.bytes_taken writer.old) (W.bytes_taken writer.new) pending.old pending.new (iim_lines iim.now) }
     ensures count { Counts result (W.failed writer.old) (W.failed writer.new) }
 {
@@ -129,7 +129,7 @@ fn put_record<W: Sink>(
     writer: &mut W,
     iim: &Option<Iim>,
 ) -> Result<(), Failed>
-    requires { W.failed writer.old + 1 < 2 ^ 64 }
+    requires { CanFail (W.failed writer.old) }
     ensures bytes { Puts result (W.bytes_taken writer.old) (W.bytes_taken writer.new) pending.old pending.new (record_lines iim.now) }
     ensures count { Counts result (W.failed writer.old) (W.failed writer.new) }
 {
@@ -147,7 +147,7 @@ fn put_text<W: Sink>(
     tag: u16,
     label: Label,
 ) -> Result<(), Failed>
-    requires { W.failed writer.old + 1 < 2 ^ 64 }
+    requires { CanFail (W.failed writer.old) }
     ensures bytes { Puts result (W.bytes_taken writer.old) (W.bytes_taken writer.new) pending.old pending.new (caption_lines (text_captions label (at_tag tag fields.now))) }
     ensures count { Counts result (W.failed writer.old) (W.failed writer.new) }
 {
@@ -162,7 +162,7 @@ fn put_text<W: Sink>(
 
 // Puts the lines of a main directory.
 fn put_exif<W: Sink>(pending: &mut Pending, writer: &mut W, fields: &Fields) -> Result<(), Failed>
-    requires { W.failed writer.old + 1 < 2 ^ 64 }
+    requires { CanFail (W.failed writer.old) }
     ensures bytes { Puts result (W.bytes_taken writer.old) (W.bytes_taken writer.new) pending.old pending.new (caption_lines (exif_captions fields.now)) }
     ensures count { Counts result (W.failed writer.old) (W.failed writer.new) }
 {
@@ -180,7 +180,7 @@ pub fn put_exif_captions<W: Sink>(
     writer: &mut W,
     meaning: &Meaning,
 ) -> Result<(), Failed>
-    requires { W.failed writer.old + 1 < 2 ^ 64 }
+    requires { CanFail (W.failed writer.old) }
     ensures bytes { Puts result (W.bytes_taken writer.old) (W.bytes_taken writer.new) pending.old pending.new (exif_text (meaning_of meaning.now)) }
     ensures count { Counts result (W.failed writer.old) (W.failed writer.new) }
 {
@@ -195,7 +195,7 @@ pub fn put_iim_captions<W: Sink>(
     writer: &mut W,
     iim: &Iim,
 ) -> Result<(), Failed>
-    requires { W.failed writer.old + 1 < 2 ^ 64 }
+    requires { CanFail (W.failed writer.old) }
     ensures bytes { Puts result (W.bytes_taken writer.old) (W.bytes_taken writer.new) pending.old pending.new (iim_text iim.now) }
     ensures count { Counts result (W.failed writer.old) (W.failed writer.new) }
 {

@@ -1,6 +1,6 @@
 // The lines of DataSets: record number, number, length and data.
-ghost use Rattle.std.specs.Prelude.{◌≡◌, ◌<◌, ◌+◌, ◌^◌, map, length, flat_map};
-ghost use Rattle.px_bytes.specs.Devices.{Counts};
+ghost use Rattle.std.specs.Prelude.{◌≡◌, map, length, flat_map};
+ghost use Rattle.px_bytes.specs.Devices.{CanFail, Counts};
 ghost use Rattle.px_bytes.specs.Waiting.{Puts};
 ghost use Rattle.px_iim.specs.calls.View.{item_view};
 ghost use Rattle.px_text.specs.Listing.{dataset_line, dataset_lines, dataset_count};
@@ -16,7 +16,7 @@ fn put_dataset<W: Sink>(
     rec: u8,
     item: &Item,
 ) -> Result<(), Failed>
-    requires { W.failed writer.old + 1 < 2 ^ 64 }
+    requires { CanFail (W.failed writer.old) }
     ensures bytes { Puts result (W.bytes_taken writer.old) (W.bytes_taken writer.new) pending.old pending.new (dataset_line rec (item_view item.now)) }
     ensures count { Counts result (W.failed writer.old) (W.failed writer.new) }
 {
@@ -32,7 +32,7 @@ fn put_group<W: Sink>(
     rec: u8,
     items: &[Item],
 ) -> Result<(), Failed>
-    requires { W.failed writer.old + 1 < 2 ^ 64 }
+    requires { CanFail (W.failed writer.old) }
     ensures bytes { Puts result (W.bytes_taken writer.old) (W.bytes_taken writer.new) pending.old pending.new (flat_map (dataset_line rec) (map item_view items.now)) }
     ensures count { Counts result (W.failed writer.old) (W.failed writer.new) }
 {
@@ -48,7 +48,7 @@ pub(crate) fn put_datasets<W: Sink>(
     writer: &mut W,
     iim: &Iim,
 ) -> Result<(), Failed>
-    requires { W.failed writer.old + 1 < 2 ^ 64 }
+    requires { CanFail (W.failed writer.old) }
     ensures bytes { Puts result (W.bytes_taken writer.old) (W.bytes_taken writer.new) pending.old pending.new (dataset_lines iim.now) }
     ensures count { Counts result (W.failed writer.old) (W.failed writer.new) }
 {

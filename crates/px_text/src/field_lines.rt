@@ -1,7 +1,7 @@
 // The lines of fields: tag, type, count and elements.
-ghost use Rattle.std.specs.Prelude.{◌≡◌, ◌<◌, ◌+◌, ◌^◌, ◌++◌, codes, decimal, flat_map, length};
+ghost use Rattle.std.specs.Prelude.{◌≡◌, ◌++◌, codes, decimal, flat_map, length};
 ghost use Rattle.hex.specs.Hex.{encode_lower};
-ghost use Rattle.px_bytes.specs.Devices.{Counts};
+ghost use Rattle.px_bytes.specs.Devices.{CanFail, Counts};
 ghost use Rattle.px_bytes.specs.Waiting.{Puts};
 ghost use Rattle.px_bytes.specs.declared.Order.TheVariants.{Most};
 ghost use Rattle.px_bytes.specs.Numbers.{spelling};
@@ -46,7 +46,7 @@ fn type_word(kind: Kind) -> &'static [u8]
 
 // Puts the bytes of a number of two bytes in hexadecimal, the most significant first.
 fn put_digits16<W: Sink>(pending: &mut Pending, writer: &mut W, n: u16) -> Result<(), Failed>
-    requires { W.failed writer.old + 1 < 2 ^ 64 }
+    requires { CanFail (W.failed writer.old) }
     ensures bytes { Puts result (W.bytes_taken writer.old) (W.bytes_taken writer.new) pending.old pending.new (encode_lower (spelling Most 2 n)) }
     ensures count { Counts result (W.failed writer.old) (W.failed writer.new) }
 {
@@ -57,7 +57,7 @@ fn put_digits16<W: Sink>(pending: &mut Pending, writer: &mut W, n: u16) -> Resul
 
 // Puts the bytes of a number of four bytes so.
 fn put_digits32<W: Sink>(pending: &mut Pending, writer: &mut W, n: u32) -> Result<(), Failed>
-    requires { W.failed writer.old + 1 < 2 ^ 64 }
+    requires { CanFail (W.failed writer.old) }
     ensures bytes { Puts result (W.bytes_taken writer.old) (W.bytes_taken writer.new) pending.old pending.new (encode_lower (spelling Most 4 n)) }
     ensures count { Counts result (W.failed writer.old) (W.failed writer.new) }
 {
@@ -68,7 +68,7 @@ fn put_digits32<W: Sink>(pending: &mut Pending, writer: &mut W, n: u32) -> Resul
 
 // Puts the bytes of a number of eight bytes so.
 fn put_digits64<W: Sink>(pending: &mut Pending, writer: &mut W, n: u64) -> Result<(), Failed>
-    requires { W.failed writer.old + 1 < 2 ^ 64 }
+    requires { CanFail (W.failed writer.old) }
     ensures bytes { Puts result (W.bytes_taken writer.old) (W.bytes_taken writer.new) pending.old pending.new (encode_lower (spelling Most 8 n)) }
     ensures count { Counts result (W.failed writer.old) (W.failed writer.new) }
 {
@@ -83,7 +83,7 @@ fn put_fraction<W: Sink, I: Integer>(
     numerator: I,
     denominator: I,
 ) -> Result<(), Failed>
-    requires { W.failed writer.old + 1 < 2 ^ 64 }
+    requires { CanFail (W.failed writer.old) }
     ensures bytes { Puts result (W.bytes_taken writer.old) (W.bytes_taken writer.new) pending.old pending.new (I.text numerator ++ codes "/" ++ I.text denominator) }
     ensures count { Counts result (W.failed writer.old) (W.failed writer.new) }
 {
@@ -97,7 +97,7 @@ fn put_element<W: Sink>(
     writer: &mut W,
     element: Element,
 ) -> Result<(), Failed>
-    requires { W.failed writer.old + 1 < 2 ^ 64 }
+    requires { CanFail (W.failed writer.old) }
     ensures bytes { Puts result (W.bytes_taken writer.old) (W.bytes_taken writer.new) pending.old pending.new (element_text element) }
     ensures count { Counts result (W.failed writer.old) (W.failed writer.new) }
 {
@@ -116,7 +116,7 @@ fn put_element<W: Sink>(
 
 // Puts an element behind one space.
 fn put_apart<W: Sink>(pending: &mut Pending, writer: &mut W, element: Element) -> Result<(), Failed>
-    requires { W.failed writer.old + 1 < 2 ^ 64 }
+    requires { CanFail (W.failed writer.old) }
     ensures bytes { Puts result (W.bytes_taken writer.old) (W.bytes_taken writer.new) pending.old pending.new (codes " " ++ element_text element) }
     ensures count { Counts result (W.failed writer.old) (W.failed writer.new) }
 {
@@ -126,7 +126,7 @@ fn put_apart<W: Sink>(pending: &mut Pending, writer: &mut W, element: Element) -
 
 // Puts each element behind one space.
 fn put_elements<W: Sink>(pending: &mut Pending, writer: &mut W, value: &Value) -> Result<(), Failed>
-    requires { W.failed writer.old + 1 < 2 ^ 64 }
+    requires { CanFail (W.failed writer.old) }
     ensures bytes { Puts result (W.bytes_taken writer.old) (W.bytes_taken writer.new) pending.old pending.new (flat_map (λ e. codes " " ++ element_text e) value.now.elements) }
     ensures count { Counts result (W.failed writer.old) (W.failed writer.new) }
 {
@@ -138,7 +138,7 @@ fn put_elements<W: Sink>(pending: &mut Pending, writer: &mut W, value: &Value) -
 
 // Puts the elements behind one space, where there are any.
 fn put_value<W: Sink>(pending: &mut Pending, writer: &mut W, value: &Value) -> Result<(), Failed>
-    requires { W.failed writer.old + 1 < 2 ^ 64 }
+    requires { CanFail (W.failed writer.old) }
     ensures bytes { Puts result (W.bytes_taken writer.old) (W.bytes_taken writer.new) pending.old pending.new (shown_elements value.now.kind value.now.elements) }
     ensures count { Counts result (W.failed writer.old) (W.failed writer.new) }
 {
@@ -155,7 +155,7 @@ fn put_name<W: Sink>(
     tag: u16,
     kind: Kind,
 ) -> Result<(), Failed>
-    requires { W.failed writer.old + 1 < 2 ^ 64 }
+    requires { CanFail (W.failed writer.old) }
     ensures bytes { Puts result (W.bytes_taken writer.old) (W.bytes_taken writer.new) pending.old pending.new (encode_lower (spelling Most 2 tag) ++ codes " " ++ type_word kind ++ codes " ") }
     ensures count { Counts result (W.failed writer.old) (W.failed writer.new) }
 {
@@ -172,7 +172,7 @@ fn put_head<W: Sink>(
     tag: u16,
     value: &Value,
 ) -> Result<(), Failed>
-    requires { W.failed writer.old + 1 < 2 ^ 64 }
+    requires { CanFail (W.failed writer.old) }
     ensures bytes { Puts result (W.bytes_taken writer.old) (W.bytes_taken writer.new) pending.old pending.new (encode_lower (spelling Most 2 tag) ++ codes " " ++ type_word value.now.kind ++ codes " " ++ decimal (length value.now.elements) ++ codes ":") }
     ensures count { Counts result (W.failed writer.old) (W.failed writer.new) }
 {
@@ -188,7 +188,7 @@ fn put_field<W: Sink>(
     tag: u16,
     value: &Value,
 ) -> Result<(), Failed>
-    requires { W.failed writer.old + 1 < 2 ^ 64 }
+    requires { CanFail (W.failed writer.old) }
     ensures bytes { Puts result (W.bytes_taken writer.old) (W.bytes_taken writer.new) pending.old pending.new (field_line (tag, value.now)) }
     ensures count { Counts result (W.failed writer.old) (W.failed writer.new) }
 {
@@ -203,7 +203,7 @@ pub(crate) fn put_fields<W: Sink>(
     writer: &mut W,
     fields: &Fields,
 ) -> Result<(), Failed>
-    requires { W.failed writer.old + 1 < 2 ^ 64 }
+    requires { CanFail (W.failed writer.old) }
     ensures bytes { Puts result (W.bytes_taken writer.old) (W.bytes_taken writer.new) pending.old pending.new (field_lines fields.now) }
     ensures count { Counts result (W.failed writer.old) (W.failed writer.new) }
 {

@@ -1,6 +1,6 @@
 // The listing of what a block says.
-ghost use Rattle.std.specs.Prelude.{◌<◌, ◌+◌, ◌^◌, ◌++◌, Some, codes, flat_map, option_map};
-ghost use Rattle.px_bytes.specs.Devices.{Counts};
+ghost use Rattle.std.specs.Prelude.{◌++◌, Some, codes, flat_map, option_map};
+ghost use Rattle.px_bytes.specs.Devices.{CanFail, Counts};
 ghost use Rattle.px_bytes.specs.Waiting.{Puts};
 ghost use Rattle.px_tree.specs.calls.Seen.{exif_of, thumb_of, meaning_of};
 ghost use Rattle.px_text.specs.Listing.{field_lines, jpeg_lines, strip_line, strips_lines, record_lines, directory_lines, exif_lines, thumb_lines, exif_listing, iim_listing};
@@ -14,7 +14,7 @@ use px_tree::{ExifPart, Fields, Meaning, Strips, Thumb};
 
 // Puts how many DataSets there are, and these.
 fn put_counted<W: Sink>(pending: &mut Pending, writer: &mut W, iim: &Iim) -> Result<(), Failed>
-    requires { W.failed writer.old + 1 < 2 ^ 64 }
+    requires { CanFail (W.failed writer.old) }
     ensures bytes { Puts result (W.bytes_taken writer.old) (W.bytes_taken writer.new) pending.old pending.new (record_lines (Some iim.now)) }
     ensures count { Counts result (W.failed writer.old) (W.failed writer.new) }
 {
@@ -28,7 +28,7 @@ fn put_record<W: Sink>(
     writer: &mut W,
     iim: &Option<Iim>,
 ) -> Result<(), Failed>
-    requires { W.failed writer.old + 1 < 2 ^ 64 }
+    requires { CanFail (W.failed writer.old) }
     ensures bytes { Puts result (W.bytes_taken writer.old) (W.bytes_taken writer.new) pending.old pending.new (record_lines iim.now) }
     ensures count { Counts result (W.failed writer.old) (W.failed writer.new) }
 {
@@ -45,7 +45,7 @@ fn put_titled<W: Sink>(
     name: &[u8],
     fields: &Fields,
 ) -> Result<(), Failed>
-    requires { W.failed writer.old + 1 < 2 ^ 64 }
+    requires { CanFail (W.failed writer.old) }
     ensures bytes { Puts result (W.bytes_taken writer.old) (W.bytes_taken writer.new) pending.old pending.new (name.now ++ field_lines fields.now) }
     ensures count { Counts result (W.failed writer.old) (W.failed writer.new) }
 {
@@ -60,7 +60,7 @@ fn put_directory<W: Sink>(
     name: &[u8],
     fields: &Option<Fields>,
 ) -> Result<(), Failed>
-    requires { W.failed writer.old + 1 < 2 ^ 64 }
+    requires { CanFail (W.failed writer.old) }
     ensures bytes { Puts result (W.bytes_taken writer.old) (W.bytes_taken writer.new) pending.old pending.new (directory_lines name.now fields.now) }
     ensures count { Counts result (W.failed writer.old) (W.failed writer.new) }
 {
@@ -75,7 +75,7 @@ fn put_exif_part<W: Sink>(
     writer: &mut W,
     exif: &ExifPart,
 ) -> Result<(), Failed>
-    requires { W.failed writer.old + 1 < 2 ^ 64 }
+    requires { CanFail (W.failed writer.old) }
     ensures bytes { Puts result (W.bytes_taken writer.old) (W.bytes_taken writer.new) pending.old pending.new (exif_lines (Some (exif_of exif.now))) }
     ensures count { Counts result (W.failed writer.old) (W.failed writer.new) }
 {
@@ -88,7 +88,7 @@ fn put_exif<W: Sink>(
     writer: &mut W,
     exif: &Option<ExifPart>,
 ) -> Result<(), Failed>
-    requires { W.failed writer.old + 1 < 2 ^ 64 }
+    requires { CanFail (W.failed writer.old) }
     ensures bytes { Puts result (W.bytes_taken writer.old) (W.bytes_taken writer.new) pending.old pending.new (exif_lines (option_map exif_of exif.now)) }
     ensures count { Counts result (W.failed writer.old) (W.failed writer.new) }
 {
@@ -99,7 +99,7 @@ fn put_exif<W: Sink>(
 }
 
 fn put_image<W: Sink>(pending: &mut Pending, writer: &mut W, bytes: &[u8]) -> Result<(), Failed>
-    requires { W.failed writer.old + 1 < 2 ^ 64 }
+    requires { CanFail (W.failed writer.old) }
     ensures bytes { Puts result (W.bytes_taken writer.old) (W.bytes_taken writer.new) pending.old pending.new (jpeg_lines (Some bytes.now)) }
     ensures count { Counts result (W.failed writer.old) (W.failed writer.new) }
 {
@@ -112,7 +112,7 @@ fn put_jpeg<W: Sink>(
     writer: &mut W,
     jpeg: Option<&[u8]>,
 ) -> Result<(), Failed>
-    requires { W.failed writer.old + 1 < 2 ^ 64 }
+    requires { CanFail (W.failed writer.old) }
     ensures bytes { Puts result (W.bytes_taken writer.old) (W.bytes_taken writer.new) pending.old pending.new (jpeg_lines (option_map (λ x. x.now) jpeg.entry)) }
     ensures count { Counts result (W.failed writer.old) (W.failed writer.new) }
 {
@@ -123,7 +123,7 @@ fn put_jpeg<W: Sink>(
 }
 
 fn put_strip<W: Sink>(pending: &mut Pending, writer: &mut W, strip: &[u8]) -> Result<(), Failed>
-    requires { W.failed writer.old + 1 < 2 ^ 64 }
+    requires { CanFail (W.failed writer.old) }
     ensures bytes { Puts result (W.bytes_taken writer.old) (W.bytes_taken writer.new) pending.old pending.new (strip_line strip.now) }
     ensures count { Counts result (W.failed writer.old) (W.failed writer.new) }
 {
@@ -136,7 +136,7 @@ fn put_each_strip<W: Sink>(
     writer: &mut W,
     strips: &Strips,
 ) -> Result<(), Failed>
-    requires { W.failed writer.old + 1 < 2 ^ 64 }
+    requires { CanFail (W.failed writer.old) }
     ensures bytes { Puts result (W.bytes_taken writer.old) (W.bytes_taken writer.new) pending.old pending.new (flat_map strip_line strips.now) }
     ensures count { Counts result (W.failed writer.old) (W.failed writer.new) }
 {
@@ -152,7 +152,7 @@ fn put_all_strips<W: Sink>(
     writer: &mut W,
     strips: &Strips,
 ) -> Result<(), Failed>
-    requires { W.failed writer.old + 1 < 2 ^ 64 }
+    requires { CanFail (W.failed writer.old) }
     ensures bytes { Puts result (W.bytes_taken writer.old) (W.bytes_taken writer.new) pending.old pending.new (strips_lines (Some strips.now)) }
     ensures count { Counts result (W.failed writer.old) (W.failed writer.new) }
 {
@@ -165,7 +165,7 @@ fn put_strips<W: Sink>(
     writer: &mut W,
     strips: &Option<Strips>,
 ) -> Result<(), Failed>
-    requires { W.failed writer.old + 1 < 2 ^ 64 }
+    requires { CanFail (W.failed writer.old) }
     ensures bytes { Puts result (W.bytes_taken writer.old) (W.bytes_taken writer.new) pending.old pending.new (strips_lines strips.now) }
     ensures count { Counts result (W.failed writer.old) (W.failed writer.new) }
 {
@@ -180,7 +180,7 @@ fn put_thumb_part<W: Sink>(
     writer: &mut W,
     thumb: &Thumb,
 ) -> Result<(), Failed>
-    requires { W.failed writer.old + 1 < 2 ^ 64 }
+    requires { CanFail (W.failed writer.old) }
     ensures bytes { Puts result (W.bytes_taken writer.old) (W.bytes_taken writer.new) pending.old pending.new (thumb_lines (Some (thumb_of thumb.now))) }
     ensures count { Counts result (W.failed writer.old) (W.failed writer.new) }
 {
@@ -194,7 +194,7 @@ fn put_thumb<W: Sink>(
     writer: &mut W,
     thumb: &Option<Thumb>,
 ) -> Result<(), Failed>
-    requires { W.failed writer.old + 1 < 2 ^ 64 }
+    requires { CanFail (W.failed writer.old) }
     ensures bytes { Puts result (W.bytes_taken writer.old) (W.bytes_taken writer.new) pending.old pending.new (thumb_lines (option_map thumb_of thumb.now)) }
     ensures count { Counts result (W.failed writer.old) (W.failed writer.new) }
 {
@@ -211,7 +211,7 @@ fn put_main<W: Sink>(
     fields: &Fields,
     iim: &Option<Iim>,
 ) -> Result<(), Failed>
-    requires { W.failed writer.old + 1 < 2 ^ 64 }
+    requires { CanFail (W.failed writer.old) }
     ensures bytes { Puts result (W.bytes_taken writer.old) (W.bytes_taken writer.new) pending.old pending.new (codes "exif\n[main]\n" ++ field_lines fields.now ++ record_lines iim.now) }
     ensures count { Counts result (W.failed writer.old) (W.failed writer.new) }
 {
@@ -228,7 +228,7 @@ pub fn put_exif_listing<W: Sink>(
     writer: &mut W,
     meaning: &Meaning,
 ) -> Result<(), Failed>
-    requires { W.failed writer.old + 1 < 2 ^ 64 }
+    requires { CanFail (W.failed writer.old) }
     ensures bytes { Puts result (W.bytes_taken writer.old) (W.bytes_taken writer.new) pending.old pending.new (exif_listing (meaning_of meaning.now)) }
     ensures count { Counts result (W.failed writer.old) (W.failed writer.new) }
 {
@@ -245,7 +245,7 @@ pub fn put_iim_listing<W: Sink>(
     writer: &mut W,
     iim: &Iim,
 ) -> Result<(), Failed>
-    requires { W.failed writer.old + 1 < 2 ^ 64 }
+    requires { CanFail (W.failed writer.old) }
     ensures bytes { Puts result (W.bytes_taken writer.old) (W.bytes_taken writer.new) pending.old pending.new (iim_listing iim.now) }
     ensures count { Counts result (W.failed writer.old) (W.failed writer.new) }
 {

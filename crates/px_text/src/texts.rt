@@ -1,7 +1,7 @@
 // What texts are made of: each call puts a part behind the bytes that wait for a writer.
-ghost use Rattle.std.specs.Prelude.{◌<◌, ◌≤◌, ◌+◌, ◌^◌, ◌++◌, length};
+ghost use Rattle.std.specs.Prelude.{◌≤◌, ◌++◌, length};
 ghost use Rattle.hex.specs.Hex.{encode_lower};
-ghost use Rattle.px_bytes.specs.Devices.{Counts};
+ghost use Rattle.px_bytes.specs.Devices.{CanFail, Counts};
 ghost use Rattle.px_bytes.specs.Waiting.{Puts};
 ghost use Rattle.px_text.specs.Words.{shown_bytes, sized_bytes};
 
@@ -18,7 +18,7 @@ pub(crate) fn put_decimal<W: Sink, I: Integer>(
     writer: &mut W,
     n: I,
 ) -> Result<(), Failed>
-    requires { W.failed writer.old + 1 < 2 ^ 64 }
+    requires { CanFail (W.failed writer.old) }
     ensures bytes { Puts result (W.bytes_taken writer.old) (W.bytes_taken writer.new) pending.old pending.new (I.text n) }
     ensures count { Counts result (W.failed writer.old) (W.failed writer.new) }
 {
@@ -34,7 +34,7 @@ pub(crate) fn put_number<W: Sink, I: Integer>(
     n: I,
     after: &[u8],
 ) -> Result<(), Failed>
-    requires { W.failed writer.old + 1 < 2 ^ 64 }
+    requires { CanFail (W.failed writer.old) }
     ensures bytes { Puts result (W.bytes_taken writer.old) (W.bytes_taken writer.new) pending.old pending.new (before.now ++ I.text n ++ after.now) }
     ensures count { Counts result (W.failed writer.old) (W.failed writer.new) }
 {
@@ -45,7 +45,7 @@ pub(crate) fn put_number<W: Sink, I: Integer>(
 
 // Puts a few bytes in hexadecimal.
 fn put_piece<W: Sink>(pending: &mut Pending, writer: &mut W, piece: &[u8]) -> Result<(), Failed>
-    requires few { W.failed writer.old + 1 < 2 ^ 64 }
+    requires few { CanFail (W.failed writer.old) }
     requires short { length piece.now ≤ 64 }
     ensures bytes { Puts result (W.bytes_taken writer.old) (W.bytes_taken writer.new) pending.old pending.new (encode_lower piece.now) }
     ensures count { Counts result (W.failed writer.old) (W.failed writer.new) }
@@ -64,7 +64,7 @@ pub(crate) fn put_hex<W: Sink>(
     writer: &mut W,
     bytes: &[u8],
 ) -> Result<(), Failed>
-    requires { W.failed writer.old + 1 < 2 ^ 64 }
+    requires { CanFail (W.failed writer.old) }
     ensures bytes { Puts result (W.bytes_taken writer.old) (W.bytes_taken writer.new) pending.old pending.new (encode_lower bytes.now) }
     ensures count { Counts result (W.failed writer.old) (W.failed writer.new) }
 {
@@ -83,7 +83,7 @@ pub(crate) fn put_shown<W: Sink>(
     writer: &mut W,
     bytes: &[u8],
 ) -> Result<(), Failed>
-    requires { W.failed writer.old + 1 < 2 ^ 64 }
+    requires { CanFail (W.failed writer.old) }
     ensures bytes { Puts result (W.bytes_taken writer.old) (W.bytes_taken writer.new) pending.old pending.new (shown_bytes bytes.now) }
     ensures count { Counts result (W.failed writer.old) (W.failed writer.new) }
 {
@@ -101,7 +101,7 @@ pub(crate) fn put_sized<W: Sink>(
     writer: &mut W,
     bytes: &[u8],
 ) -> Result<(), Failed>
-    requires { W.failed writer.old + 1 < 2 ^ 64 }
+    requires { CanFail (W.failed writer.old) }
     ensures bytes { Puts result (W.bytes_taken writer.old) (W.bytes_taken writer.new) pending.old pending.new (sized_bytes bytes.now) }
     ensures count { Counts result (W.failed writer.old) (W.failed writer.new) }
 {
