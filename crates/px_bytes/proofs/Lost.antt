@@ -5,7 +5,8 @@ use Rattle.std.specs.Io.KnownBytes.{Consumes}
 use Rattle.px_bytes.specs.Reading.{ConsumesAtMost}
 
 -- what was given, and what a failed call lost behind it
-pub lost_after : (a b c : Option (List ℕ)) (bs : List ℕ) (room most : ℕ) → Consumes a b bs → ConsumesAtMost b c room → length bs + room ≤ most → ConsumesAtMost a c most
+pub lost_after : (a b c : Option (List ℕ)) (bs : List ℕ) (room most : ℕ) → Consumes a b bs → ConsumesAtMost b c room
+    → length bs + room ≤ most → ConsumesAtMost a c most
 lost_after None b c bs room most p q e = tt
 lost_after (Some xs) None c bs room most p q e = absurd p
 lost_after (Some xs) (Some ys) c bs room most p (n, small, left) e =

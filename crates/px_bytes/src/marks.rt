@@ -1,5 +1,6 @@
 // Sets of numbers as bits, which tell the greatest number below another.
-ghost use Rattle.std.specs.Prelude.{◌≡◌, ◌≢◌, ℕ, ◌+◌, ◌*◌, ◌/◌, ◌<◌, ◌≤◌, List, [], false, length, get_or, max, IfSome, IfNone, OnOk, OnErr};
+ghost use Rattle.std.specs.Prelude.{◌≡◌, ◌≢◌, ℕ, ◌+◌, ◌*◌, ◌/◌, ◌<◌, ◌≤◌, List, [], false, length, get_or, max, IfSome, IfNone, OnOk};
+ghost use Rattle.std.specs.Prelude.{OnErr};
 ghost use Rattle.std.specs.Int.{bit_at};
 ghost use Rattle.px_bytes.specs.Lacking.{Lacks, MayAsk};
 ghost use Rattle.px_bytes.specs.calls.Marks.{Has, Sums, IsLast, HasNone, IsLastWord, HasNoWord, SameMarks, MarkedAt};

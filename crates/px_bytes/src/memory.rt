@@ -1,5 +1,7 @@
 // Memory, which tells whether it has refused a growth.
-ghost use Rattle.std.specs.Prelude.{◌≡◌, ◌≤◌, ◌<◌, ◌+◌, ◌-◌, ◌++◌, ◌∷◌, [], true, false, length, take, replicate, insert, max, vec_len, vec_capacity, string_bytes, string_len, string_capacity, is_ok, is_some, if◌then◌else◌, IfOk, OnOk, OnErr, IsOk, IsErr, ◌↔◌, None, Some};
+ghost use Rattle.std.specs.Prelude.{◌≡◌, ◌≤◌, ◌<◌, ◌+◌, ◌-◌, ◌++◌, ◌∷◌, [], true, false, length, take, replicate, insert, max, vec_len};
+ghost use Rattle.std.specs.Prelude.{vec_capacity, string_bytes, string_len, string_capacity, is_ok, is_some, if◌then◌else◌, IfOk, OnOk};
+ghost use Rattle.std.specs.Prelude.{OnErr, IsOk, IsErr, ◌↔◌, None, Some};
 ghost use Rattle.std.specs.BTreeMap.{get, insert_entry, btree_map_len, IsUnchanged, Updates};
 ghost use Rattle.px_bytes.specs.Lacking.{Lacks, MayAsk};
 
@@ -197,7 +199,8 @@ impl Memory {
     /// are as they were, and there was no room for `n`.
     pub fn resize<T: Copy>(&mut self, list: &mut Vec<T>, n: usize, x: T) -> Result<(), Refused>
         requires { MayAsk n }
-        ensures items { list.new.items ≡ (if is_ok result then take n list.old.items ++ replicate (n - vec_len list.old) x else list.old.items) }
+        ensures items { list.new.items ≡ (if is_ok result then take n list.old.items ++ replicate (n - vec_len list.old) x else
+            list.old.items) }
         ensures len { vec_len list.new ≡ (if is_ok result then n else vec_len list.old) }
         ensures full { OnErr result (vec_capacity list.old < n) }
         ensures memory { Lacks result self.old self.new }

@@ -18,7 +18,8 @@ moved e status failed mid now old shown new count same t =
     subst (λ (x : ℕ). TellsFault e None status (device x now old new)) count
     (subst (λ (z : Option (List ℕ)). TellsFault e None status (device mid now z new)) same t)
 
-pub text_told : (text : Said → List ℕ) (r : Result ⊤ Fault) (file : Option (List ℕ)) (status failed mid now : ℕ) (old shown new : Option (List ℕ))
+pub text_told : (text : Said → List ℕ) (r : Result ⊤ Fault) (file : Option (List ℕ)) (status failed mid now : ℕ)
+    (old shown new : Option (List ℕ))
     → Prints text r file old shown → CountsWrites r failed mid → TellsPrinted r status (device mid now shown new)
     → TellsText text r file status (device failed now old new)
 text_told text (Ok x) file status failed mid now old shown new p w t =

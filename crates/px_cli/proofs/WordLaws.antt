@@ -19,7 +19,8 @@ of_match kinds met (words.Refused text) none h = inl (none, h.2)
 of_match kinds met words.NoMemory none h = tt
 
 -- an error gives a text of its kind, which is among the kinds that there may be, or want of memory
-pub of_error : (kinds : Kinds) (e : Error) (w : Words) → HasKind kinds e → (kind_of e ≡ kind.OutOfMemory → w ≡ words.NoMemory) → IsTold w → TellsKind (kind_of e) w → IsFor kinds w
+pub of_error : (kinds : Kinds) (e : Error) (w : Words) → HasKind kinds e → (kind_of e ≡ kind.OutOfMemory → w ≡ words.NoMemory) → IsTold w
+    → TellsKind (kind_of e) w → IsFor kinds w
 of_error kinds e words.Filter h memory told k = tt
 of_error kinds e (words.One what file) h memory told k = absurd told
 of_error kinds e (words.Normalise file out) h memory told k = absurd told
@@ -27,7 +28,8 @@ of_error kinds e (words.Compare first second) h memory told k = absurd told
 of_error kinds e words.NoMemory h memory told k = tt
 of_error kinds e (words.Help text) (inl lacking) memory told k = let bad : words.Help text ≡ words.NoMemory = memory lacking in absurd (cc)
 of_error kinds e (words.Help text) (inr among) memory told k = (kind_of e, among, k)
-of_error kinds e (words.Refused text) (inl lacking) memory told k = let bad : words.Refused text ≡ words.NoMemory = memory lacking in absurd (cc)
+of_error kinds e (words.Refused text) (inl lacking) memory told k =
+    let bad : words.Refused text ≡ words.NoMemory = memory lacking in absurd (cc)
 of_error kinds e (words.Refused text) (inr among) memory told k = inr (kind_of e, among, k)
 
 -- where there is no kind, memory was refused

@@ -60,8 +60,10 @@ TellsPrinted (Err e) status lines = TellsBehind e status lines
 -- fault that comes before the text
 abbrev pub TellsText : (Said → List ℕ) → Result ⊤ Fault → Option (List ℕ) → ℕ → Device → Type 0
 TellsText text (Ok x) file status lines = (s : Said) × KnownSaid file s × (status ≡ 0) × IsWell lines × Took lines (text s)
-TellsText text (Err WriteFailed) file status lines = (s : Said) × KnownSaid file s × (status ≡ 4) × IsFailed lines × TookPrefix lines (text s)
-TellsText text (Err (Refused cause place)) file status lines = Stops (Refused cause place) file × TellsFault (Refused cause place) None status lines
+TellsText text (Err WriteFailed) file status lines =
+    (s : Said) × KnownSaid file s × (status ≡ 4) × IsFailed lines × TookPrefix lines (text s)
+TellsText text (Err (Refused cause place)) file status lines =
+    Stops (Refused cause place) file × TellsFault (Refused cause place) None status lines
 TellsText text (Err OutOfMemory) file status lines = TellsFault OutOfMemory None status lines
 TellsText text (Err ReadFailed) file status lines = TellsFault ReadFailed None status lines
 TellsText text (Err NormalTooLong) file status lines = ⊥

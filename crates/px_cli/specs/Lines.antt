@@ -1,5 +1,6 @@
 -- Lines and exit statuses.
-use Rattle.std.specs.Prelude.{◌≡◌, ◌⊎◌, ◌+◌, ◌-◌, ◌==◌, ◌++◌, ℕ, Bool, false, if◌then◌else◌, List, length, slice_get, Option, Some, None, codes, decimal}
+use Rattle.std.specs.Prelude.{◌≡◌, ◌⊎◌, ◌+◌, ◌-◌, ◌==◌, ◌++◌, ℕ, Bool, false, if◌then◌else◌, List, length, slice_get, Option, Some, None}
+use Rattle.std.specs.Prelude.{codes, decimal}
 use Rattle.std.specs.Io.KnownBytes.{Appends, Keeps}
 use Rattle.px_bytes.specs.Devices.{AppendsPrefix}
 use Rattle.px_bytes.specs.declared.Cause.{Cause}

@@ -4,7 +4,8 @@ ghost use Rattle.px_engine.specs.declared.Fault.{Fault};
 ghost use Rattle.px_engine.specs.declared.Fault.TheVariants.{WriteFailed};
 ghost use Rattle.px_engine.specs.Captions.{caption_text};
 ghost use Rattle.px_engine.specs.Listing.{listing};
-ghost use Rattle.px_cli.specs.Endings.{accepted, compared, compared_status, Ends, EndsCheck, EndsCompare, EndsNormalise, EndsText, TellsBehind, TellsChecked, TellsCompared, TellsPrinted, TellsWritten};
+ghost use Rattle.px_cli.specs.Endings.{accepted, compared, compared_status, Ends, EndsCheck, EndsCompare, EndsNormalise, EndsText};
+ghost use Rattle.px_cli.specs.Endings.{TellsBehind, TellsChecked, TellsCompared, TellsPrinted, TellsWritten};
 ghost use Rattle.px_cli.specs.Lines.{device};
 ghost use Rattle.px_bytes.specs.Devices.{CanFail};
 
@@ -31,7 +32,8 @@ pub enum Job {
 // Tells of a normal form, of which nothing is said where it was written.
 fn tell_written<L: Sink>(lines: &mut L, written: Result<u64, Fault>) -> u8
     requires { CanFail (L.failed lines.old) }
-    ensures { TellsWritten written result (device (L.failed lines.old) (L.failed lines.new) (L.bytes_taken lines.old) (L.bytes_taken lines.new)) }
+    ensures { TellsWritten written result (device (L.failed lines.old) (L.failed lines.new) (L.bytes_taken lines.old)
+        (L.bytes_taken lines.new)) }
 {
     match written {
         Ok(_) => 0,
@@ -52,7 +54,8 @@ fn accepted(kind: BlockKind) -> &'static [u8]
 // Tells of which kind a block is.
 fn tell_checked<L: Sink>(lines: &mut L, checked: Result<BlockKind, Fault>) -> u8
     requires { CanFail (L.failed lines.old) }
-    ensures { TellsChecked checked result (device (L.failed lines.old) (L.failed lines.new) (L.bytes_taken lines.old) (L.bytes_taken lines.new)) }
+    ensures { TellsChecked checked result (device (L.failed lines.old) (L.failed lines.new) (L.bytes_taken lines.old)
+        (L.bytes_taken lines.new)) }
 {
     match checked {
         Ok(kind) => say(lines, accepted(kind), 0),
@@ -63,7 +66,8 @@ fn tell_checked<L: Sink>(lines: &mut L, checked: Result<BlockKind, Fault>) -> u8
 // Tells of the fault of a text. Where the lines failed, nothing more is asked of them.
 fn tell_behind<L: Sink>(lines: &mut L, fault: Fault) -> u8
     requires { fault ≢ WriteFailed → CanFail (L.failed lines.old) }
-    ensures { TellsBehind fault result (device (L.failed lines.old) (L.failed lines.new) (L.bytes_taken lines.old) (L.bytes_taken lines.new)) }
+    ensures { TellsBehind fault result (device (L.failed lines.old) (L.failed lines.new) (L.bytes_taken lines.old)
+        (L.bytes_taken lines.new)) }
 {
     if fault == Fault::WriteFailed {
         return 4;
@@ -74,7 +78,8 @@ fn tell_behind<L: Sink>(lines: &mut L, fault: Fault) -> u8
 // Tells of a text, of which nothing more is said where it was written.
 fn tell_printed<L: Sink>(lines: &mut L, printed: Result<(), Fault>) -> u8
     requires { (e : Fault) → printed ≡ Err e → e ≢ WriteFailed → CanFail (L.failed lines.old) }
-    ensures { TellsPrinted printed result (device (L.failed lines.old) (L.failed lines.new) (L.bytes_taken lines.old) (L.bytes_taken lines.new)) }
+    ensures { TellsPrinted printed result (device (L.failed lines.old) (L.failed lines.new) (L.bytes_taken lines.old)
+        (L.bytes_taken lines.new)) }
 {
     match printed {
         Ok(()) => 0,
@@ -105,7 +110,8 @@ fn compared_status(same: bool) -> u8
 // Tells whether two blocks say the same.
 fn tell_compared<L: Sink>(lines: &mut L, same: Result<bool, CompareFault>) -> u8
     requires { CanFail (L.failed lines.old) }
-    ensures { TellsCompared same result (device (L.failed lines.old) (L.failed lines.new) (L.bytes_taken lines.old) (L.bytes_taken lines.new)) }
+    ensures { TellsCompared same result (device (L.failed lines.old) (L.failed lines.new) (L.bytes_taken lines.old)
+        (L.bytes_taken lines.new)) }
 {
     match same {
         Ok(same) => say(lines, compared(same), compared_status(same)),
@@ -205,7 +211,8 @@ pub fn run_one<R: Source, O: Sink, L: Sink>(
     requires reading { CanFail (R.failed reader.old) }
     requires writing { CanFail (O.failed out.old) }
     requires telling { CanFail (L.failed lines.old) }
-    ensures { (refused : Bool) × Ends job (device (R.failed reader.old) (R.failed reader.new) (R.bytes_left reader.old) (R.bytes_left reader.new))
+    ensures { (refused : Bool) × Ends job (device (R.failed reader.old) (R.failed reader.new) (R.bytes_left reader.old)
+        (R.bytes_left reader.new))
         (device (O.failed out.old) (O.failed out.new) (O.bytes_taken out.old) (O.bytes_taken out.new))
         (device (L.failed lines.old) (L.failed lines.new) (L.bytes_taken lines.old) (L.bytes_taken lines.new)) false refused result }
 {
@@ -244,7 +251,8 @@ pub fn run_compare<R: Source, S: Source, L: Sink>(
     requires first { CanFail (R.failed first.old) }
     requires second { CanFail (S.failed second.old) }
     requires telling { CanFail (L.failed lines.old) }
-    ensures { (refused : Bool) × EndsCompare (device (R.failed first.old) (R.failed first.new) (R.bytes_left first.old) (R.bytes_left first.new))
+    ensures { (refused : Bool) × EndsCompare (device (R.failed first.old) (R.failed first.new) (R.bytes_left first.old)
+        (R.bytes_left first.new))
         (device (S.failed second.old) (S.failed second.new) (S.bytes_left second.old) (S.bytes_left second.new))
         (device (L.failed lines.old) (L.failed lines.new) (L.bytes_taken lines.old) (L.bytes_taken lines.new)) false refused result }
 {

@@ -56,7 +56,8 @@ fn put_refusal<L: Sink>(
     file: Option<Side>,
 ) -> Result<(), Failed>
     requires { CanFail (L.failed lines.old) }
-    ensures bytes { Puts result (L.bytes_taken lines.old) (L.bytes_taken lines.new) pending.old pending.new (line_of (Refused cause place) file) }
+    ensures bytes { Puts result (L.bytes_taken lines.old) (L.bytes_taken lines.new) pending.old pending.new
+        (line_of (Refused cause place) file) }
     ensures count { Counts result (L.failed lines.old) (L.failed lines.new) }
 {
     let mut digits = Buffer::new();
@@ -150,7 +151,8 @@ fn flushed<L: Sink>(lines: &mut L, due: u8) -> u8
 #[tactic(auto, using(crate::proofs::LineLaws::told))]
 pub fn tell<L: Sink>(lines: &mut L, fault: Fault, file: Option<Side>) -> u8
     requires { CanFail (L.failed lines.old) }
-    ensures { TellsFault fault file result (device (L.failed lines.old) (L.failed lines.new) (L.bytes_taken lines.old) (L.bytes_taken lines.new)) }
+    ensures { TellsFault fault file result (device (L.failed lines.old) (L.failed lines.new) (L.bytes_taken lines.old)
+        (L.bytes_taken lines.new)) }
 {
     match write_line(lines, fault, file) {
         Ok(()) => flushed(lines, status(fault)),
@@ -163,7 +165,8 @@ pub fn tell<L: Sink>(lines: &mut L, fault: Fault, file: Option<Side>) -> u8
 #[tactic(auto, using(crate::proofs::LineLaws::told))]
 pub fn say<L: Sink>(lines: &mut L, line: &[u8], due: u8) -> u8
     requires { CanFail (L.failed lines.old) }
-    ensures { Tells due line.now result (device (L.failed lines.old) (L.failed lines.new) (L.bytes_taken lines.old) (L.bytes_taken lines.new)) }
+    ensures { Tells due line.now result (device (L.failed lines.old) (L.failed lines.new) (L.bytes_taken lines.old)
+        (L.bytes_taken lines.new)) }
 {
     match write_whole(lines, line) {
         Ok(()) => flushed(lines, due),
@@ -185,7 +188,8 @@ fn is_ended(text: &[u8]) -> bool
 #[tactic(auto, using(crate::proofs::LineLaws::told))]
 fn say_ended<L: Sink>(lines: &mut L, text: &str, due: u8) -> u8
     requires { CanFail (L.failed lines.old) }
-    ensures { Tells due (text.now ++ end_of None) result (device (L.failed lines.old) (L.failed lines.new) (L.bytes_taken lines.old) (L.bytes_taken lines.new)) }
+    ensures { Tells due (text.now ++ end_of None) result (device (L.failed lines.old) (L.failed lines.new) (L.bytes_taken lines.old)
+        (L.bytes_taken lines.new)) }
 {
     match write_ended(lines, text.as_bytes(), None) {
         Ok(()) => flushed(lines, due),
@@ -197,7 +201,8 @@ fn say_ended<L: Sink>(lines: &mut L, text: &str, due: u8) -> u8
 /// status: `due`, or 4 where that fails. It takes no memory.
 pub fn say_text<L: Sink>(lines: &mut L, text: &str, due: u8) -> u8
     requires { CanFail (L.failed lines.old) }
-    ensures { TellsWords due text.now result (device (L.failed lines.old) (L.failed lines.new) (L.bytes_taken lines.old) (L.bytes_taken lines.new)) }
+    ensures { TellsWords due text.now result (device (L.failed lines.old) (L.failed lines.new) (L.bytes_taken lines.old)
+        (L.bytes_taken lines.new)) }
 {
     if is_ended(text.as_bytes()) {
         return say(lines, text.as_bytes(), due);

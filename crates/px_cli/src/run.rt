@@ -31,7 +31,8 @@ pub fn run_words<'a, S: AsStr, R: Files + Input + Print, L: Sink>(
     lines: &mut L,
 ) -> u8
     requires { CanFail (L.failed lines.old) }
-    ensures { Answers (map S.text words.entry.now) result (device (L.failed lines.old) (L.failed lines.new) (L.bytes_taken lines.old) (L.bytes_taken lines.new)) }
+    ensures { Answers (map S.text words.entry.now) result (device (L.failed lines.old) (L.failed lines.new) (L.bytes_taken lines.old)
+        (L.bytes_taken lines.new)) }
 {
     run_asked(rt, &mut Memory::new(alloc), parse(alloc, words), lines)
 }
@@ -44,7 +45,8 @@ fn run_asked<R: Files + Input + Print, L: Sink>(
     lines: &mut L,
 ) -> u8
     requires { CanFail (L.failed lines.old) }
-    ensures { EndsWords asked memory.old memory.new result (device (L.failed lines.old) (L.failed lines.new) (L.bytes_taken lines.old) (L.bytes_taken lines.new)) }
+    ensures { EndsWords asked memory.old memory.new result (device (L.failed lines.old) (L.failed lines.new) (L.bytes_taken lines.old)
+        (L.bytes_taken lines.new)) }
 {
     match asked {
         Words::Filter => run_filter(rt, memory, lines),
@@ -83,7 +85,8 @@ fn run_job<F: Source + Drop, O: Sink + Drop, L: Sink>(
     requires reading { CanFail (F.failed reader) }
     requires writing { CanFail (O.failed out) }
     requires telling { CanFail (L.failed lines.old) }
-    ensures { EndsJob job memory.old memory.new result (device (L.failed lines.old) (L.failed lines.new) (L.bytes_taken lines.old) (L.bytes_taken lines.new)) }
+    ensures { EndsJob job memory.old memory.new result (device (L.failed lines.old) (L.failed lines.new) (L.bytes_taken lines.old)
+        (L.bytes_taken lines.new)) }
 {
     run_one_in(memory, job, &mut reader, &mut out, lines)
 }
@@ -98,7 +101,8 @@ fn run_pair<F: Source + Drop, S: Source + Drop, L: Sink>(
     requires first { CanFail (F.failed first) }
     requires second { CanFail (S.failed second) }
     requires telling { CanFail (L.failed lines.old) }
-    ensures { EndsPair memory.old memory.new result (device (L.failed lines.old) (L.failed lines.new) (L.bytes_taken lines.old) (L.bytes_taken lines.new)) }
+    ensures { EndsPair memory.old memory.new result (device (L.failed lines.old) (L.failed lines.new) (L.bytes_taken lines.old)
+        (L.bytes_taken lines.new)) }
 {
     run_compare_in(memory, &mut first, &mut second, lines)
 }
@@ -106,7 +110,8 @@ fn run_pair<F: Source + Drop, S: Source + Drop, L: Sink>(
 // Standard input to standard output.
 fn run_filter<R: Input + Print, L: Sink>(rt: &R, memory: &mut Memory, lines: &mut L) -> u8
     requires { CanFail (L.failed lines.old) }
-    ensures { EndsJob Normalise memory.old memory.new result (device (L.failed lines.old) (L.failed lines.new) (L.bytes_taken lines.old) (L.bytes_taken lines.new)) }
+    ensures { EndsJob Normalise memory.old memory.new result (device (L.failed lines.old) (L.failed lines.new) (L.bytes_taken lines.old)
+        (L.bytes_taken lines.new)) }
 {
     let reader = Watched::new(rt.reader());
     let out = Watched::new(io::writer(rt));
@@ -122,7 +127,8 @@ fn run_file<R: Files, L: Sink>(
     lines: &mut L,
 ) -> u8
     requires { CanFail (L.failed lines.old) }
-    ensures { EndsFile (job_of what) memory.old memory.new result (device (L.failed lines.old) (L.failed lines.new) (L.bytes_taken lines.old) (L.bytes_taken lines.new)) }
+    ensures { EndsFile (job_of what) memory.old memory.new result (device (L.failed lines.old) (L.failed lines.new)
+        (L.bytes_taken lines.old) (L.bytes_taken lines.new)) }
 {
     match open(rt, name) {
         Ok(file) => {
@@ -142,7 +148,8 @@ fn run_beside<R: Files, L: Sink>(
     lines: &mut L,
 ) -> u8
     requires { CanFail (L.failed lines.old) }
-    ensures { EndsForm memory.old memory.new result (device (L.failed lines.old) (L.failed lines.new) (L.bytes_taken lines.old) (L.bytes_taken lines.new)) }
+    ensures { EndsForm memory.old memory.new result (device (L.failed lines.old) (L.failed lines.new) (L.bytes_taken lines.old)
+        (L.bytes_taken lines.new)) }
 {
     match make_beside(rt, out_name, &file) {
         Ok(Some(out)) => {
@@ -163,7 +170,8 @@ fn run_form<R: Files, L: Sink>(
     lines: &mut L,
 ) -> u8
     requires { CanFail (L.failed lines.old) }
-    ensures { EndsForm memory.old memory.new result (device (L.failed lines.old) (L.failed lines.new) (L.bytes_taken lines.old) (L.bytes_taken lines.new)) }
+    ensures { EndsForm memory.old memory.new result (device (L.failed lines.old) (L.failed lines.new) (L.bytes_taken lines.old)
+        (L.bytes_taken lines.new)) }
 {
     match open(rt, name) {
         Ok(file) => run_beside(rt, memory, file, out_name, lines),
@@ -180,7 +188,8 @@ fn run_files<R: Files, L: Sink>(
     lines: &mut L,
 ) -> u8
     requires { CanFail (L.failed lines.old) }
-    ensures { EndsFiles memory.old memory.new result (device (L.failed lines.old) (L.failed lines.new) (L.bytes_taken lines.old) (L.bytes_taken lines.new)) }
+    ensures { EndsFiles memory.old memory.new result (device (L.failed lines.old) (L.failed lines.new) (L.bytes_taken lines.old)
+        (L.bytes_taken lines.new)) }
 {
     let first = match open(rt, first) {
         Ok(first) => Watched::new(first),

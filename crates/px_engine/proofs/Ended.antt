@@ -1,5 +1,6 @@
 -- How a run that writes ends, from what its parts answer.
-use Rattle.std.proofs.Common.{◌≡◌, ◌<◌, ◌≤◌, ◌*◌, ℕ, Bool, Option, Some, None, List, length, Result, Ok, Err, IfOk, IfErr, IfSome, refl, sym, subst, arith}
+use Rattle.std.proofs.Common.{◌≡◌, ◌<◌, ◌≤◌, ◌*◌, ℕ, Bool, Option, Some, None, List, length, Result, Ok, Err, IfOk, IfErr, IfSome, refl}
+use Rattle.std.proofs.Common.{sym, subst, arith}
 use Rattle.px_bytes.specs.Parts.{limit}
 use Rattle.px_bytes.specs.Reading.{ReadsUpTo}
 use Rattle.px_engine.specs.declared.faults.Fault.{Fault}
@@ -15,7 +16,8 @@ use Rattle.px_engine.specs.Input.{IsSaid, IsUnsaid}
 use Rattle.px_engine.specs.Runs.{KnownSaid, Stops, Checks, Normalises, WritesSaid, StopsAt, Compares}
 use Rattle.px_engine.proofs.Judged.{known_said, known_stops}
 
-half : (file : Option (List ℕ)) (s : Said) → KnownSaid file s → limit < length (normal s) → IfSome file (λ f. limit < 2 * length (block_of f))
+half : (file : Option (List ℕ)) (s : Said) → KnownSaid file s → limit < length (normal s)
+    → IfSome file (λ f. limit < 2 * length (block_of f))
 half None s h l = tt
 half (Some f) s h l = let b = h.bounded in omega arith
 
@@ -30,7 +32,8 @@ normalised (Err ReadFailed) left left_now bytes s old new a b x h w = absurd w
 normalised (Err (Refused cause place)) left left_now bytes s old new a b x h w = absurd w
 
 -- a writer takes no memory
-pub lacks_nothing : (r : Result ℕ Fault) (old new : Option (List ℕ)) (a b : ℕ) (s : Said) (first last : Bool) → last ≡ first → WritesSaid r old new a b s → LacksRun r first last
+pub lacks_nothing : (r : Result ℕ Fault) (old new : Option (List ℕ)) (a b : ℕ) (s : Said) (first last : Bool) → last ≡ first
+    → WritesSaid r old new a b s → LacksRun r first last
 lacks_nothing (Ok n) old new a b s first last q w = q
 lacks_nothing (Err NormalTooLong) old new a b s first last q w = q
 lacks_nothing (Err WriteFailed) old new a b s first last q w = q
@@ -45,13 +48,15 @@ lacks_later fault first mid last q h = subst (λ z. LacksFault fault z last) q h
 -- the bytes that were read say nothing
 pub not_normalised : (fault : Fault) (left left_now : Option (List ℕ)) (bytes : List ℕ) (lacking : Bool) (old : Option (List ℕ)) →
     ReadsUpTo left left_now 16777223 bytes → IsUnsaid bytes lacking fault → Normalises (Err fault) left old old
-not_normalised (Refused cause place) left left_now bytes lacking old x h = (known_stops left left_now bytes lacking (Refused cause place) x h, refl)
+not_normalised (Refused cause place) left left_now bytes lacking old x h =
+    (known_stops left left_now bytes lacking (Refused cause place) x h, refl)
 not_normalised OutOfMemory left left_now bytes lacking old x h = (tt, refl)
 not_normalised ReadFailed left left_now bytes lacking old x h = absurd h
 not_normalised NormalTooLong left left_now bytes lacking old x h = absurd h
 not_normalised WriteFailed left left_now bytes lacking old x h = absurd h
 
-pub checked : (r : Result BlockKind Fault) (left left_now : Option (List ℕ)) (bytes : List ℕ) (lacking : Bool) → ReadsUpTo left left_now 16777223 bytes
+pub checked : (r : Result BlockKind Fault) (left left_now : Option (List ℕ)) (bytes : List ℕ) (lacking : Bool)
+    → ReadsUpTo left left_now 16777223 bytes
     → IfOk r (IsKindOf bytes) → IfErr r (IsUnsaid bytes lacking) → Checks r left
 checked (Ok kind) left left_now bytes lacking x h k = (h.0, known_said left left_now bytes h.0 x h.1, h.2)
 checked (Err fault) left left_now bytes lacking x h k = known_stops left left_now bytes lacking fault x k
@@ -62,7 +67,8 @@ pub form_formed : {V : Type 0} (items : V → List ℕ) (r : Result V Fault) (f 
 form_formed items (Ok v) f s h k = (s, (h, k.0, k.1))
 form_formed items (Err e) f s h k = tt
 
-pub form_unwritten : {V : Type 0} (r : Result V Fault) (f : List ℕ) (s : Said) (lacking : Bool) → IsSaid f s → IfErr r (IsUnformed s lacking) → IfErr r (IsUnwritten f lacking)
+pub form_unwritten : {V : Type 0} (r : Result V Fault) (f : List ℕ) (s : Said) (lacking : Bool) → IsSaid f s
+    → IfErr r (IsUnformed s lacking) → IfErr r (IsUnwritten f lacking)
 form_unwritten (Ok v) f s lacking h k = tt
 form_unwritten (Err NormalTooLong) f s lacking h k = (s, h, k, half (Some f) s h k)
 form_unwritten (Err OutOfMemory) f s lacking h k = k
@@ -71,7 +77,8 @@ form_unwritten (Err ReadFailed) f s lacking h k = absurd k
 form_unwritten (Err WriteFailed) f s lacking h k = absurd k
 
 -- a call with memory of its own
-pub own_memory : {A E : Type 0} (P : Bool → E → Type 0) (r : Result A E) (lacking : Bool) → IfErr r (P lacking) → IfErr r (λ e. (refused : Bool) × P refused e)
+pub own_memory : {A E : Type 0} (P : Bool → E → Type 0) (r : Result A E) (lacking : Bool) → IfErr r (P lacking)
+    → IfErr r (λ e. (refused : Bool) × P refused e)
 own_memory P (Ok x) lacking h = tt
 own_memory P (Err e) lacking h = (lacking, h)
 
@@ -79,5 +86,6 @@ own_memory P (Err e) lacking h = (lacking, h)
 pub first_stops : (e : CompareFault) (first second : Option (List ℕ)) → e.side ≡ First → Stops e.fault first → Compares (Err e) first second
 first_stops e first second q h = subst (λ z. StopsAt z e.fault first second) (sym q) h
 
-pub second_stops : (e : CompareFault) (first second : Option (List ℕ)) (s : Said) → e.side ≡ Second → KnownSaid first s → Stops e.fault second → Compares (Err e) first second
+pub second_stops : (e : CompareFault) (first second : Option (List ℕ)) (s : Said) → e.side ≡ Second → KnownSaid first s
+    → Stops e.fault second → Compares (Err e) first second
 second_stops e first second s q k h = subst (λ z. StopsAt z e.fault first second) (sym q) ((s, k), h)

@@ -14,17 +14,20 @@ use Rattle.px_engine.specs.calls.Faults.{told}
 use Rattle.px_engine.proofs.Judged.{known_said, known_stops}
 
 -- a text of which nothing waited at first, once what waits at last was sent
-pub sent : {A E : Type 0} (r : Result A E) (a b c : Option (List ℕ)) (none held out : List ℕ) → none ≡ [] → Owes a b held (none ++ out) → Writes r b c held → Writes r a c out
+pub sent : {A E : Type 0} (r : Result A E) (a b c : Option (List ℕ)) (none held out : List ℕ) → none ≡ [] → Owes a b held (none ++ out)
+    → Writes r b c held → Writes r a c out
 sent (Ok x) a b c none held out e p q = owed_all a b c held out (from_none (Owes a b held) none out e p) q
 sent (Err x) a b c none held out e p q = owed_prefix a b c held out (from_none (Owes a b held) none out e p) q
 
 -- the answer of a writer of texts, as that of a run
-pub told_text : {A E : Type 0} (r : Result A E) (t : Result A Fault) (old new : Option (List ℕ)) (a b : ℕ) (out : List ℕ) → t ≡ told r → Writes r old new out → Counts r a b → WritesText t old new a b out
+pub told_text : {A E : Type 0} (r : Result A E) (t : Result A Fault) (old new : Option (List ℕ)) (a b : ℕ) (out : List ℕ) → t ≡ told r
+    → Writes r old new out → Counts r a b → WritesText t old new a b out
 told_text (Ok x) t old new a b out e w n = subst (λ z. WritesText z old new a b out) (sym e) (w, n)
 told_text (Err x) t old new a b out e w n = subst (λ z. WritesText z old new a b out) (sym e) (w, n)
 
 -- the text of what was said is `text s`
-pub printed : {A : Type 0} (text : Said → List ℕ) (r : Result A Fault) (left left_now : Option (List ℕ)) (bytes : List ℕ) (s : Said) (old new : Option (List ℕ)) (a b : ℕ)
+pub printed : {A : Type 0} (text : Said → List ℕ) (r : Result A Fault) (left left_now : Option (List ℕ)) (bytes : List ℕ) (s : Said)
+    (old new : Option (List ℕ)) (a b : ℕ)
     → ReadsUpTo left left_now 16777223 bytes → IsSaid bytes s → WritesText r old new a b (text s) → Prints text r left old new
 printed text (Ok x) left left_now bytes s old new a b read h w = (s, known_said left left_now bytes s read h, w.0)
 printed text (Err WriteFailed) left left_now bytes s old new a b read h w = (s, known_said left left_now bytes s read h, w.0)
@@ -34,16 +37,19 @@ printed text (Err ReadFailed) left left_now bytes s old new a b read h w = absur
 printed text (Err NormalTooLong) left left_now bytes s old new a b read h w = absurd w
 
 -- the bytes that were read say nothing
-pub not_printed : (A : Type 0) (text : Said → List ℕ) (fault : Fault) (left left_now : Option (List ℕ)) (bytes : List ℕ) (lacking : Bool) (old : Option (List ℕ))
+pub not_printed : (A : Type 0) (text : Said → List ℕ) (fault : Fault) (left left_now : Option (List ℕ)) (bytes : List ℕ) (lacking : Bool)
+    (old : Option (List ℕ))
     → ReadsUpTo left left_now 16777223 bytes → IsUnsaid bytes lacking fault → Prints {A = A} text (Err fault) left old old
-not_printed A text (Refused cause place) left left_now bytes lacking old x h = (known_stops left left_now bytes lacking (Refused cause place) x h, refl)
+not_printed A text (Refused cause place) left left_now bytes lacking old x h =
+    (known_stops left left_now bytes lacking (Refused cause place) x h, refl)
 not_printed A text OutOfMemory left left_now bytes lacking old x h = refl
 not_printed A text ReadFailed left left_now bytes lacking old x h = absurd h
 not_printed A text NormalTooLong left left_now bytes lacking old x h = absurd h
 not_printed A text WriteFailed left left_now bytes lacking old x h = absurd h
 
 -- nor does a writer of texts take memory
-pub lacks_no_text : {A : Type 0} (r : Result A Fault) (old new : Option (List ℕ)) (a b : ℕ) (sent : List ℕ) (first last : Bool) → last ≡ first → WritesText r old new a b sent → LacksRun r first last
+pub lacks_no_text : {A : Type 0} (r : Result A Fault) (old new : Option (List ℕ)) (a b : ℕ) (sent : List ℕ) (first last : Bool)
+    → last ≡ first → WritesText r old new a b sent → LacksRun r first last
 lacks_no_text (Ok x) old new a b sent first last q w = q
 lacks_no_text (Err WriteFailed) old new a b sent first last q w = q
 lacks_no_text (Err (Refused cause place)) old new a b sent first last q w = absurd w

@@ -15,7 +15,9 @@ module _ (one : OneSaid) (says : NormalSays) where
   form_said s n f h = record {
     says = form_says s n f h;
     fits = h.0.fits;
-    bounded = subst (λ z. length (normal s) ≤ 2 * length (block_of z)) (sym h.1) (let e = ap (λ z. length z) (own_block s h.0.fits) in omega arith);
+    bounded =
+        subst (λ z. length (normal s) ≤ 2 * length (block_of z)) (sym h.1) (let e = ap (λ z. length z) (own_block s h.0.fits) in omega
+        arith);
   }
 
   its_own : (s : Said) (n : List ℕ) (f : List ℕ) → IsFormOf f s n → IsItsOwn n s

@@ -19,7 +19,8 @@ NormalSays = (s : Said) → CanBeWritten s → length (normal s) ≤ limit → S
 
 -- Normal forms are equal exactly if the same is said, of either kind.
 abbrev pub NormalTells : Type 0
-NormalTells = (s t : Said) → CanBeWritten s → CanBeWritten t → length (normal s) ≤ limit → length (normal t) ≤ limit → (normal s ≡ normal t) ↔ (s ≡ t)
+NormalTells = (s t : Said) → CanBeWritten s → CanBeWritten t → length (normal s) ≤ limit → length (normal t) ≤ limit
+    → (normal s ≡ normal t) ↔ (s ≡ t)
 
 -- A normal form, as a file, says one thing, whose normal form it is.
 abbrev pub NormalIsItsOwn : Type 0

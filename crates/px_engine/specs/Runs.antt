@@ -48,7 +48,8 @@ Checks (Err fault) file = Stops fault file
 -- is longer than half of it. A failed write: a prefix of that form. Every other fault: nothing.
 abbrev pub Normalises : Result ℕ Fault → Option (List ℕ) → Option (List ℕ) → Option (List ℕ) → Type 0
 Normalises (Ok n) file old new = (s : Said) × KnownSaid file s × Appends old new (normal s) × (n ≡ length (normal s)) × (n ≤ limit)
-Normalises (Err NormalTooLong) file old new = (s : Said) × KnownSaid file s × (limit < length (normal s)) × IfSome file (λ f. limit < 2 * length (block_of f)) × (new ≡ old)
+Normalises (Err NormalTooLong) file old new =
+    (s : Said) × KnownSaid file s × (limit < length (normal s)) × IfSome file (λ f. limit < 2 * length (block_of f)) × (new ≡ old)
 Normalises (Err WriteFailed) file old new = (s : Said) × KnownSaid file s × AppendsPrefix old new (normal s) × (length (normal s) ≤ limit)
 Normalises (Err fault) file old new = Stops fault file × (new ≡ old)
 
@@ -57,7 +58,8 @@ abbrev pub WritesSaid : Result ℕ Fault → Option (List ℕ) → Option (List 
 WritesSaid (Ok n) old new failed failed_now s = Appends old new (normal s) × (n ≡ length (normal s)) × (n ≤ limit) × (failed_now ≡ failed)
 WritesSaid (Err NormalTooLong) old new failed failed_now s = (limit < length (normal s)) × (new ≡ old) × (failed_now ≡ failed)
 WritesSaid (Err OutOfMemory) old new failed failed_now s = ⊥
-WritesSaid (Err WriteFailed) old new failed failed_now s = AppendsPrefix old new (normal s) × (length (normal s) ≤ limit) × (failed_now ≡ failed + 1)
+WritesSaid (Err WriteFailed) old new failed failed_now s =
+    AppendsPrefix old new (normal s) × (length (normal s) ≤ limit) × (failed_now ≡ failed + 1)
 WritesSaid (Err (Refused cause place)) old new failed failed_now s = ⊥
 WritesSaid (Err ReadFailed) old new failed failed_now s = ⊥
 

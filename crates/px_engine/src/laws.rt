@@ -1,7 +1,8 @@
 //! The laws of files: what the definitions promise by themselves, each the contract of a function that does nothing. Each law
 //! stands beside these as a lemma in this crate's definitions (`FileLaws`), where proofs of other crates cite it. Together with
 //! what reading and writing promise they are the headline: see `normalise_both`.
-ghost use Rattle.px_engine.specs.Laws.{OneSaid, SaidCanBeWritten, NormalSays, NormalTells, NormalIsItsOwn, NormalBound, FaultsTell, TakenTells};
+ghost use Rattle.px_engine.specs.Laws.{OneSaid, SaidCanBeWritten, NormalSays, NormalTells, NormalIsItsOwn, NormalBound, FaultsTell};
+ghost use Rattle.px_engine.specs.Laws.{TakenTells};
 
 /// A file says at most one thing.
 pub fn one_said()

@@ -29,7 +29,8 @@ fn put_listing<W: Sink>(pending: &mut Pending, writer: &mut W, said: &Said) -> R
 // Puts the captions of what is said so.
 fn put_captions<W: Sink>(pending: &mut Pending, writer: &mut W, said: &Said) -> Result<(), Failed>
     requires { CanFail (W.failed writer.old) }
-    ensures bytes { Puts result (W.bytes_taken writer.old) (W.bytes_taken writer.new) pending.old pending.new (caption_text (said_of said.now)) }
+    ensures bytes { Puts result (W.bytes_taken writer.old) (W.bytes_taken writer.new) pending.old pending.new
+        (caption_text (said_of said.now)) }
     ensures count { Counts result (W.failed writer.old) (W.failed writer.new) }
 {
     match said {
@@ -83,7 +84,8 @@ fn told(answer: Result<(), Failed>) -> Result<(), Fault>
 // Writes the listing of what is said, and flushes once. It takes no memory.
 pub(crate) fn write_listing<W: Sink>(said: &Said, writer: &mut W) -> Result<(), Fault>
     requires { CanFail (W.failed writer.old) }
-    ensures { WritesText result (W.bytes_taken writer.old) (W.bytes_taken writer.new) (W.failed writer.old) (W.failed writer.new) (listing (said_of said.now)) }
+    ensures { WritesText result (W.bytes_taken writer.old) (W.bytes_taken writer.new) (W.failed writer.old) (W.failed writer.new)
+        (listing (said_of said.now)) }
 {
     told(send_listing(said, writer))
 }
@@ -91,7 +93,8 @@ pub(crate) fn write_listing<W: Sink>(said: &Said, writer: &mut W) -> Result<(), 
 // Writes the captions of what is said so.
 pub(crate) fn write_captions<W: Sink>(said: &Said, writer: &mut W) -> Result<(), Fault>
     requires { CanFail (W.failed writer.old) }
-    ensures { WritesText result (W.bytes_taken writer.old) (W.bytes_taken writer.new) (W.failed writer.old) (W.failed writer.new) (caption_text (said_of said.now)) }
+    ensures { WritesText result (W.bytes_taken writer.old) (W.bytes_taken writer.new) (W.failed writer.old) (W.failed writer.new)
+        (caption_text (said_of said.now)) }
 {
     told(send_captions(said, writer))
 }

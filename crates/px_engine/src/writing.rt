@@ -26,7 +26,8 @@ fn written(answer: Result<u64, WriteRefusal>) -> Result<u64, Fault>
 pub(crate) fn write_said<W: Sink>(said: &Said, writer: &mut W) -> Result<u64, Fault>
     requires few { CanFail (W.failed writer.old) }
     requires fits { CanBeWritten (said_of said.now) }
-    ensures { WritesSaid result (W.bytes_taken writer.old) (W.bytes_taken writer.new) (W.failed writer.old) (W.failed writer.new) (said_of said.now) }
+    ensures { WritesSaid result (W.bytes_taken writer.old) (W.bytes_taken writer.new) (W.failed writer.old) (W.failed writer.new)
+        (said_of said.now) }
 {
     match said {
         Said::Exif(meaning) => written(write_normal_in(meaning, writer)),

@@ -1,5 +1,6 @@
 -- Elements turned round one after another.
-use Rattle.std.proofs.Common.{◌≡◌, ℕ, zero, suc, ◌+◌, ◌*◌, ◌/◌, ◌-◌, ◌≤◌, Bool, true, false, List, [], ◌∷◌, ◌++◌, map, flat_map, length, take, drop, refl, sym, ◌∙◌, ap, ap₂, arith, append_assoc, append-nil, length-append, length-drop}
+use Rattle.std.proofs.Common.{◌≡◌, ℕ, zero, suc, ◌+◌, ◌*◌, ◌/◌, ◌-◌, ◌≤◌, Bool, true, false, List, [], ◌∷◌, ◌++◌, map, flat_map, length}
+use Rattle.std.proofs.Common.{take, drop, refl, sym, ◌∙◌, ap, ap₂, arith, append_assoc, append-nil, length-append, length-drop}
 use Rattle.std.specs.Int.{w16, w32}
 use Rattle.std.proofs.lemmas.Grind.{common_steps}
 use Rattle.std.proofs.lemmas.Int.{of_z-to_z}
@@ -30,7 +31,8 @@ pieces_first zero c k x h = refl
 pieces_first (suc n) zero k x h = absurd (omega arith)
 pieces_first (suc n) (suc c) k x h = ap (λ ps. take k x ∷ ps) (pieces_first n c k (drop k x) (omega arith))
 
-pub pieces_part : {A : Type 0} (n i c k at : ℕ) (x : List A) → at ≡ i * k → i + n ≤ c → take n (drop i (pieces c k x)) ≡ pieces n k (drop at x)
+pub pieces_part : {A : Type 0} (n i c k at : ℕ) (x : List A) → at ≡ i * k → i + n ≤ c
+    → take n (drop i (pieces c k x)) ≡ pieces n k (drop at x)
 pieces_part n zero c k at x e h =
     let none : at ≡ 0 = omega (arith, e) in
     rw none (pieces_first n c k x (omega arith))
@@ -40,22 +42,26 @@ pieces_part {A} n (suc i) (suc c) k at x e h =
     pieces_part n i c k (i * k) (drop k x) refl (omega arith) ∙ ap (pieces n k) moved
 
 -- one piece more
-flat_more : {A B : Type 0} (f : List A → List B) (i k at : ℕ) (x : List A) → at ≡ i * k → flat_map f (pieces (suc i) k x) ≡ flat_map f (pieces i k x) ++ f (take k (drop at x))
+flat_more : {A B : Type 0} (f : List A → List B) (i k at : ℕ) (x : List A) → at ≡ i * k
+    → flat_map f (pieces (suc i) k x) ≡ flat_map f (pieces i k x) ++ f (take k (drop at x))
 flat_more f zero k at x e =
     let none : at ≡ 0 = omega (arith, e) in
     rw none (append-nil (f (take k x)))
 flat_more {A} f (suc i) k at x e =
     let moved : drop (i * k) (drop k x) ≡ drop at x = grind (arith, common_steps, drop-drop {A = A}, e) in
-    ap (λ l. f (take k x) ++ l) (flat_more f i k (i * k) (drop k x) refl ∙ ap (λ y. flat_map f (pieces i k (drop k x)) ++ f (take k y)) moved)
+    ap (λ l. f (take k x) ++ l) (flat_more f i k (i * k) (drop k x) refl
+    ∙ ap (λ y. flat_map f (pieces i k (drop k x)) ++ f (take k y)) moved)
     ∙ sym (append_assoc (f (take k x)) (flat_map f (pieces i k (drop k x))) (f (take k (drop at x))))
 
 -- ---- loops over pieces
 
 -- one piece more is written
-pub turn_more : (f : List ℕ → List ℕ) (k i at a m n j : ℕ) (from to ys : List ℕ) → at ≡ i * k → ys ≡ f (take k (drop at from)) → take a to ≡ flat_map f (pieces i k from)
+pub turn_more : (f : List ℕ → List ℕ) (k i at a m n j : ℕ) (from to ys : List ℕ) → at ≡ i * k → ys ≡ f (take k (drop at from))
+    → take a to ≡ flat_map f (pieces i k from)
     → n ≡ a + length ys → a ≤ length to → j ≡ suc i → take n (put_mid a m to ys) ≡ flat_map f (pieces j k from)
 turn_more f k i at a m n j from to ys e y h p l s =
-    take-put_mid a m to ys n p l ∙ ap₂ (λ u v. u ++ v) h y ∙ sym (flat_more f i k at from e) ∙ ap (λ t. flat_map f (pieces t k from)) (sym s)
+    take-put_mid a m to ys n p l ∙ ap₂ (λ u v. u ++ v) h y ∙ sym (flat_more f i k at from e)
+    ∙ ap (λ t. flat_map f (pieces t k from)) (sym s)
 
 pub length_pair : (o : Order) (n d : ℕ) → length (spelling o 4 n ++ spelling o 4 d) ≡ 8
 length_pair o n d = length-append (spelling o 4 n) (spelling o 4 d) ∙ ap₂ (λ x y. x + y) (length-spelling o 4 n) (length-spelling o 4 d)
@@ -68,7 +74,8 @@ ones r o (suc n) (b ∷ x) h = ap (λ l. b ∷ l) (ones r o n x (omega arith))
 
 -- ---- elements by their bytes
 
-turned_piece : (r o : Order) (f : Form) (p : List ℕ) → length p ≡ size f → AreBytes p → spell o (element_of r f p) ≡ turned (width_of false f) r o p
+turned_piece : (r o : Order) (f : Form) (p : List ℕ) → length p ≡ size f → AreBytes p
+    → spell o (element_of r f p) ≡ turned (width_of false f) r o p
 turned_piece r o form.Short p l h = refl
 turned_piece r o form.Long p l h = refl
 turned_piece r o form.Float p l h = refl
@@ -99,7 +106,8 @@ turned_all r o f (suc n) x l h =
     (turned_all r o f n (drop (size f) x) (let d = length-drop (size f) x in omega arith) (bytes_drop (size f) x h))
 
 wide_all : (r o : Order) (f : Form) (n : ℕ) (x : List ℕ) → IsWhole f
-    → flat_map (spell o) (map widened (map (element_of r f) (pieces n (size f) x))) ≡ flat_map (turned (width_of true f) r o) (pieces n (size f) x)
+    → flat_map (spell o) (map widened (map (element_of r f) (pieces n (size f) x))) ≡ flat_map (turned (width_of true f) r o)
+    (pieces n (size f) x)
 wide_all r o f zero x h = refl
 wide_all r o f (suc n) x h = ap₂ (λ u v. u ++ v) (wide_piece r o f (take (size f) x) h) (wide_all r o f n (drop (size f) x) h)
 
@@ -119,7 +127,8 @@ part_map g n i xs = ap (take n) (from g i xs) ∙ front g n (drop i xs)
 -- n elements of what is shown, from i on
 pub part_shown : (w : Bool) (r o : Order) (f : Form) (raw : List ℕ) (n i at : ℕ) → (w ≡ true → IsWhole f) → AreBytes raw → at ≡ i * size f
     → i + n ≤ count_in f raw → n * size f ≤ length (drop at raw)
-    → flat_map (spell o) (take n (drop i (shown w r f raw).elements)) ≡ flat_map (turned (width_of w f) r o) (pieces n (size f) (drop at raw))
+    → flat_map (spell o) (take n (drop i (shown w r f raw).elements)) ≡ flat_map (turned (width_of w f) r o)
+    (pieces n (size f) (drop at raw))
 unfolding elements
 part_shown true r o f raw n i at whole are e inside fits =
     ap (flat_map (spell o)) (part_map widened n i (map (element_of r f) (pieces (count_in f raw) (size f) raw))

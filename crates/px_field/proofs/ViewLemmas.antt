@@ -1,5 +1,6 @@
 -- What is seen of a value.
-use Rattle.std.proofs.Common.{◌≡◌, ◌<◌, ◌≤◌, ◌+◌, ◌*◌, ◌/◌, ◌%◌, ℕ, Bool, true, false, List, length, map, flat_map, slice_get, Some, ap, subst, sym, ◌∙◌, refl, arith}
+use Rattle.std.proofs.Common.{◌≡◌, ◌<◌, ◌≤◌, ◌+◌, ◌*◌, ◌/◌, ◌%◌, ℕ, Bool, true, false, List, length, map, flat_map, slice_get, Some, ap}
+use Rattle.std.proofs.Common.{subst, sym, ◌∙◌, refl, arith}
 use Rattle.std.specs.Option.{option_map}
 use Rattle.std.proofs.Math.Nat.{div-mul-le_self, mul-le-mul_right}
 use Rattle.std.proofs.lemmas.List.{length-map}
@@ -14,8 +15,10 @@ use Rattle.px_field.specs.declared.forms.Kind.TheVariants as kind
 use Rattle.px_field.specs.declared.forms.Element.{Element}
 use Rattle.px_field.specs.declared.forms.Element.TheVariants as element
 use Rattle.px_field.specs.Forms.{size}
-use Rattle.px_field.specs.Values.{elements, widened, count_in, form_in, IsValue, IsWhole, IsOf, Value, is_bytes, spell, spelled, value_in, whole_in}
-use Rattle.px_field.specs.lemmas.ValueLaws.{length-elements, IsValue-value_in, IsValue-whole_in, count_in-whole, elements-bytes, spell-bytes, spelled-value_in, spelled-whole_in, value_in-spelled, whole_in-spelled}
+use Rattle.px_field.specs.Values.{elements, widened, count_in, form_in, IsValue, IsWhole, IsOf, Value, is_bytes, spell, spelled, value_in}
+use Rattle.px_field.specs.Values.{whole_in}
+use Rattle.px_field.specs.lemmas.ValueLaws.{length-elements, IsValue-value_in, IsValue-whole_in, count_in-whole, elements-bytes}
+use Rattle.px_field.specs.lemmas.ValueLaws.{spell-bytes, spelled-value_in, spelled-whole_in, value_in-spelled, whole_in-spelled}
 use Rattle.px_field.specs.calls.Views.{shown}
 
 -- an element lies inside
@@ -36,11 +39,13 @@ IsValue-shown true o f raw whole are = IsValue-whole_in o f raw (whole refl) are
 IsValue-shown false o f raw whole are = IsValue-value_in o f raw are
 
 -- the element at i, where it is widened and where it isn't
-pub get-whole : (o : Order) (f : Form) (raw : List ℕ) (i : ℕ) (e : Element) → slice_get (elements o f (count_in f raw) raw) i ≡ Some e → slice_get (shown true o f raw).elements i ≡ Some (widened e)
+pub get-whole : (o : Order) (f : Form) (raw : List ℕ) (i : ℕ) (e : Element) → slice_get (elements o f (count_in f raw) raw) i ≡ Some e
+    → slice_get (shown true o f raw).elements i ≡ Some (widened e)
 get-whole o f raw i e h = slice_get-map widened (elements o f (count_in f raw) raw) i ∙ ap (option_map widened) h
 
 -- the size of what is seen
-pub size-shown : (w : Bool) (o : Order) (f : Form) (raw : List ℕ) → length raw % size f ≡ 0 → w ≡ false → length (shown w o f raw).elements * size (form_in (shown w o f raw).kind) ≡ length raw
+pub size-shown : (w : Bool) (o : Order) (f : Form) (raw : List ℕ) → length raw % size f ≡ 0 → w ≡ false
+    → length (shown w o f raw).elements * size (form_in (shown w o f raw).kind) ≡ length raw
 size-shown true o f raw whole e = absurd (cc)
 size-shown false o f raw whole e = ap (λ (n : ℕ). n * size f) (length-elements o f (count_in f raw) raw) ∙ count_in-whole f raw whole
 
@@ -49,14 +54,16 @@ size-whole true o f raw e = refl
 size-whole false o f raw e = absurd (cc)
 
 -- a byte type is not widened, and its elements are the bytes
-pub bytes_shown : (w : Bool) (o : Order) (f : Form) (raw : List ℕ) → (w ≡ true → IsWhole f) → is_bytes (kind.Of f) ≡ true → (shown w o f raw).elements ≡ map element.Byte raw
+pub bytes_shown : (w : Bool) (o : Order) (f : Form) (raw : List ℕ) → (w ≡ true → IsWhole f) → is_bytes (kind.Of f) ≡ true
+    → (shown w o f raw).elements ≡ map element.Byte raw
 bytes_shown true o form.Short raw whole b = absurd (cc)
 bytes_shown true o form.Long raw whole b = absurd (cc)
 bytes_shown true o _ raw whole b = absurd (whole refl)
 bytes_shown false o f raw whole b = elements-bytes o f raw b
 
 -- an element that is seen is of its kind
-pub IsOf-shown : (w : Bool) (o : Order) (f : Form) (raw : List ℕ) (v : Value) (i : ℕ) (e : Element) → (w ≡ true → IsWhole f) → AreBytes raw → shown w o f raw ≡ v → slice_get v.elements i ≡ Some e → IsOf (form_in v.kind) e
+pub IsOf-shown : (w : Bool) (o : Order) (f : Form) (raw : List ℕ) (v : Value) (i : ℕ) (e : Element) → (w ≡ true → IsWhole f) → AreBytes raw
+    → shown w o f raw ≡ v → slice_get v.elements i ≡ Some e → IsOf (form_in v.kind) e
 IsOf-shown w o f raw v i e whole are seen here =
     let is : IsValue v = rw (← seen) (IsValue-shown w o f raw whole are) in
     all_at (IsOf (form_in v.kind)) v.elements i e is here
@@ -64,7 +71,8 @@ IsOf-shown w o f raw v i e whole are seen here =
 -- ---- what is read of the bytes spells them
 
 -- in either order, where an element is one byte
-pub spelled-one : (w : Bool) (o p : Order) (f : Form) (raw : List ℕ) → (w ≡ true → IsWhole f) → size f ≡ 1 → spelled p (shown w o f raw) ≡ raw
+pub spelled-one : (w : Bool) (o p : Order) (f : Form) (raw : List ℕ) → (w ≡ true → IsWhole f) → size f ≡ 1
+    → spelled p (shown w o f raw) ≡ raw
 unfolding spelled
 spelled-one w o p f raw whole one =
     ap (λ (es : List Element). flat_map (spell p) es) (bytes_shown w o f raw whole (bytes_from_size f one)) ∙ spell-bytes p raw
@@ -78,13 +86,16 @@ spelled-one w o p f raw whole one =
     bytes_from_size _ e = absurd (omega arith)
 
 -- in the order of the reading, where they aren't widened
-pub spelled-plain : (w : Bool) (o p : Order) (f : Form) (raw : List ℕ) → w ≡ false → o ≡ p → length raw % size f ≡ 0 → AreBytes raw → spelled p (shown w o f raw) ≡ raw
+pub spelled-plain : (w : Bool) (o p : Order) (f : Form) (raw : List ℕ) → w ≡ false → o ≡ p → length raw % size f ≡ 0 → AreBytes raw
+    → spelled p (shown w o f raw) ≡ raw
 spelled-plain true o p f raw plain same whole are = absurd (cc)
 spelled-plain false o p f raw plain same whole are = rw same (spelled-value_in p f raw whole are)
 
 -- and of LONGs, widened or not
-pub spelled-long : (w : Bool) (o p : Order) (f : Form) (raw : List ℕ) → f ≡ form.Long → o ≡ p → length raw % size f ≡ 0 → AreBytes raw → spelled p (shown w o f raw) ≡ raw
-spelled-long true o p f raw long same whole are = rw (same, long) (spelled-whole_in p raw (subst (λ (g : Form). length raw % size g ≡ 0) long whole) are)
+pub spelled-long : (w : Bool) (o p : Order) (f : Form) (raw : List ℕ) → f ≡ form.Long → o ≡ p → length raw % size f ≡ 0 → AreBytes raw
+    → spelled p (shown w o f raw) ≡ raw
+spelled-long true o p f raw long same whole are =
+    rw (same, long) (spelled-whole_in p raw (subst (λ (g : Form). length raw % size g ≡ 0) long whole) are)
 spelled-long false o p f raw long same whole are = spelled-plain false o p f raw refl same whole are
 
 -- values of one kind that are spelled by the same bytes are the same

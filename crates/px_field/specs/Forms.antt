@@ -1,7 +1,8 @@
 -- Types. TIFF 6.0 section 2, "Types": twelve; Exif 3.0 adds 129, UTF-8.
 use Rattle.std.specs.Prelude.{ℕ, ◌==◌, Option, List, [], ◌∷◌, find}
 use Rattle.px_field.specs.declared.forms.Form.{Form}
-use Rattle.px_field.specs.declared.forms.Form.TheVariants.{Byte, Ascii, Short, Long, Rational, SByte, Undefined, SShort, SLong, SRational, Float, Double, Utf8}
+use Rattle.px_field.specs.declared.forms.Form.TheVariants.{Byte, Ascii, Short, Long, Rational, SByte, Undefined, SShort, SLong, SRational}
+use Rattle.px_field.specs.declared.forms.Form.TheVariants.{Float, Double, Utf8}
 
 -- the number of a type in an entry
 abbrev pub code : Form → ℕ

@@ -1,5 +1,6 @@
 -- Values: the elements that bytes spell. TIFF 6.0 section 2, "Types".
-use Rattle.std.specs.Prelude.{ℕ, ◌^◌, ◌/◌, ◌<◌, Bool, true, false, List, [], ◌∷◌, ◌++◌, length, map, take, drop, flat_map, slice_index, FitsSigned}
+use Rattle.std.specs.Prelude.{ℕ, ◌^◌, ◌/◌, ◌<◌, Bool, true, false, List, [], ◌∷◌, ◌++◌, length, map, take, drop, flat_map, slice_index}
+use Rattle.std.specs.Prelude.{FitsSigned}
 use Rattle.std.specs.List.{AllByRecursion}
 use Rattle.std.specs.Int.{w16, w32, cast_signed, cast_unsigned}
 use Rattle.px_bytes.specs.declared.Order.{Order}

@@ -1,5 +1,6 @@
 // Values as bytes, in either order.
-ghost use Rattle.std.specs.Prelude.{◌≡◌, ◌<◌, ◌≤◌, ◌+◌, ◌++◌, ◌*◌, length, take, drop, Some, slice_get, OnOk, OnErr, IsOk, vec_len, vec_capacity};
+ghost use Rattle.std.specs.Prelude.{◌≡◌, ◌<◌, ◌≤◌, ◌+◌, ◌++◌, ◌*◌, length, take, drop, Some, slice_get, OnOk, OnErr, IsOk, vec_len};
+ghost use Rattle.std.specs.Prelude.{vec_capacity};
 ghost use Rattle.px_bytes.specs.Lacking.{Lacks};
 ghost use Rattle.px_field.specs.declared.forms.Element.{Element};
 ghost use Rattle.px_bytes.specs.Numbers.{spelling};

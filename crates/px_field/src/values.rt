@@ -1,9 +1,11 @@
 // A value: bytes in some order, seen as the elements that they spell.
-ghost use Rattle.std.specs.Prelude.{◌≡◌, ◌<◌, ◌≤◌, ◌+◌, ◌-◌, ◌*◌, ◌/◌, ◌%◌, length, map, flat_map, take, drop, min, Some, slice_get, IsTrue, ◌↔◌, IsSome, IfSome};
+ghost use Rattle.std.specs.Prelude.{◌≡◌, ◌<◌, ◌≤◌, ◌+◌, ◌-◌, ◌*◌, ◌/◌, ◌%◌, length, map, flat_map, take, drop, min, Some, slice_get};
+ghost use Rattle.std.specs.Prelude.{IsTrue, ◌↔◌, IsSome, IfSome};
 ghost use Rattle.px_bytes.specs.declared.Order.{Order};
 ghost use Rattle.px_bytes.specs.Parts.{limit};
 ghost use Rattle.px_field.specs.Forms.{size};
-ghost use Rattle.px_field.specs.Values.{count_in, element_of, elements, form_in, is_bytes, spell, spelled, value_in, whole_in, widened, IsOf, IsValue, IsWhole};
+ghost use Rattle.px_field.specs.Values.{count_in, element_of, elements, form_in, is_bytes, spell, spelled, value_in, whole_in, widened};
+ghost use Rattle.px_field.specs.Values.{IsOf, IsValue, IsWhole};
 
 use crate::forms::{Element, Form, Kind};
 use crate::turning::{Way, Width, turn};

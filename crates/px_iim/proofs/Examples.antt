@@ -54,11 +54,13 @@ byline o = 0x1C ∷ 2 ∷ 80 ∷ 0 ∷ 1 ∷ o ∷ []
 abbrev title : List ℕ
 title = 0x1C ∷ 2 ∷ 85 ∷ 0 ∷ 1 ∷ 88 ∷ []
 
-title_between : iim_of (byline 65 ++ title ++ byline 66) ≡ Some (record { rec = 2; number = 80; items = (80, 65 ∷ []) ∷ (85, 88 ∷ []) ∷ (80, 66 ∷ []) ∷ [] } ∷ [])
+title_between : iim_of (byline 65 ++ title ++ byline 66) ≡ Some
+    (record { rec = 2; number = 80; items = (80, 65 ∷ []) ∷ (85, 88 ∷ []) ∷ (80, 66 ∷ []) ∷ [] } ∷ [])
 unfolding opened
 title_between = refl
 
-title_behind : iim_of (byline 65 ++ byline 66 ++ title) ≡ Some (record { rec = 2; number = 80; items = (80, 65 ∷ []) ∷ (80, 66 ∷ []) ∷ (85, 88 ∷ []) ∷ [] } ∷ [])
+title_behind : iim_of (byline 65 ++ byline 66 ++ title) ≡ Some
+    (record { rec = 2; number = 80; items = (80, 65 ∷ []) ∷ (80, 66 ∷ []) ∷ (85, 88 ∷ []) ∷ [] } ∷ [])
 unfolding opened
 title_behind = refl
 

@@ -1,5 +1,6 @@
 -- What is checked in a block, in order, and what is wrong where a check is false.
-use Rattle.std.specs.Prelude.{◌≡◌, ◌⊎◌, ◌<◌, ◌≤◌, ◌+◌, ℕ, zero, suc, nat_le, true, false, if◌then◌else◌, Some, List, [], ◌∷◌, ◌++◌, length, drop}
+use Rattle.std.specs.Prelude.{◌≡◌, ◌⊎◌, ◌<◌, ◌≤◌, ◌+◌, ℕ, zero, suc, nat_le, true, false, if◌then◌else◌, Some, List, [], ◌∷◌, ◌++◌, length}
+use Rattle.std.specs.Prelude.{drop}
 use Rattle.px_bytes.specs.declared.Cause.{Cause}
 use Rattle.px_bytes.specs.declared.Cause.TheVariants.{TooLong, NoMarker, LengthForm, DataSetCut}
 use Rattle.px_bytes.specs.Checks.{Check, check, first_false}
@@ -45,9 +46,13 @@ pub record Behind (x : List ℕ) (sequence : List DataSet) (rest : List ℕ) (p 
 abbrev pub Fault : List ℕ → Cause → ℕ → Type 0
 Fault x TooLong p = (p ≡ limit) × (limit < length x)
 -- no marker where a DataSet must begin: before the first, and wherever the block doesn't end
-Fault x NoMarker p = (sequence : List DataSet) × (rest : List ℕ) × Behind x sequence rest p × ((sequence ≡ []) ⊎ (is_end rest ≡ false)) × (is_marked rest ≡ false)
+Fault x NoMarker p =
+    (sequence : List DataSet) × (rest : List ℕ) × Behind x sequence rest p × ((sequence ≡ []) ⊎ (is_end rest ≡ false)) × (is_marked
+    rest ≡ false)
 -- an extended count of no octets, or of more than four
-Fault x LengthForm p = (sequence : List DataSet) × (rest : List ℕ) × Behind x sequence rest p × (is_marked rest ≡ true) × (5 ≤ length rest) × (top_bit ≤ form rest) × ((extra rest ≡ 0) ⊎ (4 < extra rest))
+Fault x LengthForm p =
+    (sequence : List DataSet) × (rest : List ℕ) × Behind x sequence rest p × (is_marked rest ≡ true) × (5 ≤ length rest) × (top_bit ≤ form
+    rest) × ((extra rest ≡ 0) ⊎ (4 < extra rest))
 -- the DataSet passes the end: its five octets, its count, or its data
 Fault x DataSetCut p = (sequence : List DataSet) × (rest : List ℕ) × Behind x sequence rest p × (is_marked rest ≡ true)
     × ((length rest < 5) ⊎ ((has_form rest ≡ true) × ((length rest < 5 + extra rest) ⊎ (length rest < size rest))))

@@ -31,7 +31,8 @@ IsExtendedCount n count =
 -- x is a spelling of the DataSet
 abbrev pub IsSpelling : DataSet → List ℕ → Type 0
 IsSpelling d x =
-    (count : List ℕ) × (x ≡ marker ∷ d.rec ∷ d.number ∷ (count ++ d.octets)) × (IsStandardCount (length d.octets) count ⊎ IsExtendedCount (length d.octets) count)
+    (count : List ℕ) × (x ≡ marker ∷ d.rec ∷ d.number ∷ (count ++ d.octets)) × (IsStandardCount (length d.octets) count ⊎ IsExtendedCount
+    (length d.octets) count)
 
 -- x is a spelling of each DataSet, one behind another
 abbrev pub Spells : List DataSet → List ℕ → Type 0

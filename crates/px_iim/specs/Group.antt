@@ -1,6 +1,7 @@
 -- Groups of DataSets. The order of DataSets counts inside a group alone; IIM 4.2, chapter 6, ties some DataSets of
 -- record 2 to others by their order.
-use Rattle.std.specs.Prelude.{◌≡◌, ◌<◌, ◌≤◌, ◌==◌, ℕ, nat_lt, Bool, true, ◌&&◌, ◌||◌, if◌then◌else◌, Option, Some, None, List, [], ◌∷◌, ◌++◌, length, filter_map, ⊤}
+use Rattle.std.specs.Prelude.{◌≡◌, ◌<◌, ◌≤◌, ◌==◌, ℕ, nat_lt, Bool, true, ◌&&◌, ◌||◌, if◌then◌else◌, Option, Some, None, List, [], ◌∷◌}
+use Rattle.std.specs.Prelude.{◌++◌, length, filter_map, ⊤}
 use Rattle.std.specs.List.{AllByRecursion}
 use Rattle.px_bytes.specs.Numbers.{AreBytes}
 use Rattle.px_bytes.specs.Parts.{limit}
@@ -20,7 +21,8 @@ Record = List Group
 -- (date and number of a reference) with 2:45 (its service), 2:85 (by-line title) with 2:80 (by-line)
 unfoldable pub named : ℕ → ℕ → ℕ
 named rec number =
-    if rec == 2 then (if number == 27 then 26 else if (number == 47) || (number == 50) then 45 else if number == 85 then 80 else number) else number
+    if rec == 2 then (if number == 27 then 26 else if (number == 47) || (number == 50) then 45 else if number == 85 then 80 else number)
+    else number
 
 -- by record, then number
 abbrev pub is_before : ℕ → ℕ → ℕ → ℕ → Bool
@@ -52,8 +54,14 @@ pub record Gathers (sequence : List DataSet) (i : Record) : Type 0 where
 unfoldable pub put : DataSet → Record → Record
 put d [] = record { rec = d.rec; number = named d.rec d.number; items = (d.number, d.octets) ∷ [] } ∷ []
 put d (g ∷ gs) =
-    if is_at d.rec (named d.rec d.number) g then record { rec = g.rec; number = g.number; items = g.items ++ (d.number, d.octets) ∷ [] } ∷ gs
-    else if is_before d.rec (named d.rec d.number) g.rec g.number then record { rec = d.rec; number = named d.rec d.number; items = (d.number, d.octets) ∷ [] } ∷ g ∷ gs
+    if is_at d.rec (named d.rec d.number) g then record {
+      rec = g.rec;
+      number = g.number;
+      items = g.items
+          ++ (d.number, d.octets) ∷ [];
+    } ∷ gs
+    else if is_before d.rec (named d.rec d.number) g.rec g.number then record
+    { rec = d.rec; number = named d.rec d.number; items = (d.number, d.octets) ∷ [] } ∷ g ∷ gs
     else g ∷ put d gs
 
 -- the DataSets of a sequence, put one after another

@@ -19,7 +19,8 @@ Computes = (x : List ℕ) (i : Record) → SaysIim x i ↔ (iim_of x ≡ Some i)
 -- One more DataSet stands at the end of its group's list, and no other list changes.
 abbrev pub PutAppends : Type 0
 PutAppends = (d : DataSet) (i : Record) → IsAscending i →
-    IsAscending (put d i) × ((rec number : ℕ) → items_at rec number (put d i) ≡ items_at rec number i ++ filter_map (item_in rec number) (d ∷ []))
+    IsAscending (put d i) × ((rec number : ℕ) → items_at rec number (put d i) ≡ items_at rec number i
+    ++ filter_map (item_in rec number) (d ∷ []))
 
 -- A sequence is gathered by putting its DataSets one after another.
 abbrev pub GatherGathers : Type 0
@@ -31,11 +32,14 @@ SaidIsRecord = (x : List ℕ) (i : Record) → AreBytes x → SaysIim x i → Is
 
 -- A normal form is of octets, five or more, and says its record.
 abbrev pub NormalSays : Type 0
-NormalSays = (i : Record) → IsRecord i → AreBytes (normal_iim i) × (5 ≤ length (normal_iim i)) × (length (normal_iim i) ≤ limit → SaysIim (normal_iim i) i)
+NormalSays =
+    (i : Record) → IsRecord i → AreBytes (normal_iim i) × (5 ≤ length (normal_iim i)) × (length (normal_iim i) ≤ limit → SaysIim
+    (normal_iim i) i)
 
 -- Records have one normal form exactly if they are one.
 abbrev pub NormalTells : Type 0
-NormalTells = (i j : Record) → IsRecord i → IsRecord j → length (normal_iim i) ≤ limit → length (normal_iim j) ≤ limit → (normal_iim i ≡ normal_iim j) ↔ (i ≡ j)
+NormalTells = (i j : Record) → IsRecord i → IsRecord j → length (normal_iim i) ≤ limit → length (normal_iim j) ≤ limit
+    → (normal_iim i ≡ normal_iim j) ↔ (i ≡ j)
 
 -- A normal form is at most twice as long as any block that says its record.
 abbrev pub NormalBound : Type 0

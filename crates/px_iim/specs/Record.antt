@@ -1,5 +1,6 @@
 -- What a block says, and its normal form.
-use Rattle.std.specs.Prelude.{◌≡◌, ◌≤◌, ◌+◌, ◌-◌, ◌==◌, ℕ, zero, suc, nat_lt, nat_le, Bool, ◌&&◌, ◌||◌, if◌then◌else◌, Option, Some, None, option_map, List, [], ◌∷◌, ◌++◌, length, drop, slice_index, flat_map}
+use Rattle.std.specs.Prelude.{◌≡◌, ◌≤◌, ◌+◌, ◌-◌, ◌==◌, ℕ, zero, suc, nat_lt, nat_le, Bool, ◌&&◌, ◌||◌, if◌then◌else◌, Option, Some, None}
+use Rattle.std.specs.Prelude.{option_map, List, [], ◌∷◌, ◌++◌, length, drop, slice_index, flat_map}
 use Rattle.std.specs.List.{AllByRecursion, list_all}
 use Rattle.px_bytes.specs.declared.Order.TheVariants.{Most}
 use Rattle.px_bytes.specs.Numbers.{number, spelling}

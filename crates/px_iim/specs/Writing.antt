@@ -1,5 +1,6 @@
 -- What writing a record does.
-use Rattle.std.specs.Prelude.{◌≡◌, ◌<◌, ◌≤◌, ◌+◌, ℕ, nat_le, if◌then◌else◌, List, ◌∷◌, ◌++◌, length, take, Option, Some, None, Result, Ok, Err}
+use Rattle.std.specs.Prelude.{◌≡◌, ◌<◌, ◌≤◌, ◌+◌, ℕ, nat_le, if◌then◌else◌, List, ◌∷◌, ◌++◌, length, take, Option, Some, None, Result, Ok}
+use Rattle.std.specs.Prelude.{Err}
 use Rattle.std.specs.List.{AllByRecursion}
 use Rattle.std.specs.Io.KnownBytes.{Appends}
 use Rattle.px_bytes.specs.declared.WriteRefusal.{WriteRefusal}
@@ -29,9 +30,11 @@ normal_head rec number n = marker ∷ rec ∷ number ∷ normal_count n
 -- the writer has taken the record's normal form, whose length is answered; a form that is too long leaves the writer as it
 -- was; where a call failed, the writer has taken a prefix of the form
 abbrev pub WritesIim : Result ℕ WriteRefusal → Option (List ℕ) → Option (List ℕ) → ℕ → ℕ → Record → Type 0
-WritesIim (Ok n) old new failed failed_now i = Appends old new (normal_iim i) × (n ≡ length (normal_iim i)) × (n ≤ limit) × (failed_now ≡ failed)
+WritesIim (Ok n) old new failed failed_now i =
+    Appends old new (normal_iim i) × (n ≡ length (normal_iim i)) × (n ≤ limit) × (failed_now ≡ failed)
 WritesIim (Err NormalTooLong) old new failed failed_now i = (limit < length (normal_iim i)) × (new ≡ old) × (failed_now ≡ failed)
-WritesIim (Err WriteFailed) old new failed failed_now i = (length (normal_iim i) ≤ limit) × AppendsPrefix old new (normal_iim i) × (failed_now ≡ failed + 1)
+WritesIim (Err WriteFailed) old new failed failed_now i =
+    (length (normal_iim i) ≤ limit) × AppendsPrefix old new (normal_iim i) × (failed_now ≡ failed + 1)
 WritesIim (Err OutOfMemory) old new failed failed_now i = ⊥
 
 -- the octets stand behind the old ones; where a growth was refused, some of them may

@@ -3,7 +3,8 @@ ghost use Rattle.std.specs.Prelude.{◌≡◌, ◌+◌, ◌/◌, ◌<◌, ◌≤
 ghost use Rattle.px_bytes.specs.Lacking.{Lacks};
 ghost use Rattle.px_bytes.specs.Parts.{limit};
 ghost use Rattle.px_iim.specs.Group.{named, put};
-ghost use Rattle.px_iim.specs.calls.View.{item_view, groups_view, numbers, Rises, Found, Missing, MissingIn, Holds, Appended, Inserted, octets_left};
+ghost use Rattle.px_iim.specs.calls.View.{item_view, groups_view, numbers, Rises, Found, Missing, MissingIn, Holds, Appended, Inserted};
+ghost use Rattle.px_iim.specs.calls.View.{octets_left};
 
 use px_bytes::{LIMIT, Memory, Refused};
 
@@ -129,7 +130,8 @@ pub(crate) fn add<'a>(
     item: Item<'a>,
 ) -> Result<(), Refused>
     requires { Rises (numbers groups.old.items) }
-    ensures done { OnOk result (groups_view rec groups.new.items ≡ put (record { rec = rec; number = item.entry.number; octets = item.entry.octets.now }) (groups_view rec groups.old.items)) }
+    ensures done { OnOk result (groups_view rec groups.new.items ≡ put (record
+        { rec = rec; number = item.entry.number; octets = item.entry.octets.now }) (groups_view rec groups.old.items)) }
     ensures failed { OnErr result ((r : ℕ) → groups_view r groups.new.items ≡ groups_view r groups.old.items) }
     ensures memory { Lacks result memory.old memory.new }
 {

@@ -1,7 +1,8 @@
 //! The laws of caption records: what the definitions promise by themselves, each the contract of a function that does nothing.
 //! Each law stands beside these as a lemma in this crate's definitions (`GatherLaws`, `RecordLaws`, `NormalLaws`, `BoundLaws`,
 //! `FaultLaws`), where proofs of other crates cite it.
-ghost use Rattle.px_iim.specs.Laws.{OneRecord, Computes, PutAppends, GatherGathers, SaidIsRecord, NormalSays, NormalTells, NormalBound, FaultsTell};
+ghost use Rattle.px_iim.specs.Laws.{OneRecord, Computes, PutAppends, GatherGathers, SaidIsRecord, NormalSays, NormalTells, NormalBound};
+ghost use Rattle.px_iim.specs.Laws.{FaultsTell};
 
 /// A block says at most one record: no octets can be read as DataSets in two ways, and DataSets are gathered in one way alone.
 pub fn one_record()

@@ -18,7 +18,8 @@ fn same_item(first: &Item, second: &Item) -> bool
 }
 
 fn same_items(first: &[Item], second: &[Item]) -> bool
-    ensures { MatchBool result (map item_view first.now ≡ map item_view second.now) (map item_view first.now ≡ map item_view second.now → ⊥) }
+    ensures { MatchBool result (map item_view first.now ≡ map item_view second.now)
+        (map item_view first.now ≡ map item_view second.now → ⊥) }
 {
     if first.len() != second.len() {
         return false;

@@ -39,7 +39,8 @@ fn put_group<W: Sink>(
 ) -> Result<(), Failed>
     requires few { CanFail (W.failed writer.old) }
     requires short { AreShort (map item_view items.now) }
-    ensures bytes { PutsTo W.bytes_taken result writer.old writer.new pending.old pending.new (flat_map (normal_dataset rec) (map item_view items.now)) }
+    ensures bytes { PutsTo W.bytes_taken result writer.old writer.new pending.old pending.new
+        (flat_map (normal_dataset rec) (map item_view items.now)) }
     ensures count { Counts result (W.failed writer.old) (W.failed writer.new) }
 {
     for item in items {

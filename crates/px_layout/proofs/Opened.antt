@@ -11,7 +11,8 @@ use Rattle.px_tree.specs.Thumbnail.{numbers, jpeg_range, strip_ranges}
 use Rattle.px_tree.specs.Says.{record_at, exif_part, thumbnail, meaning}
 use Rattle.px_tree.specs.Fits.{item_size, items}
 use Rattle.px_layout.specs.Chunks.{placed_chunk, thumb_chunks, chunks}
-use Rattle.px_layout.specs.Laid.{item_bytes, last_bytes, entry_bytes, table_bytes, placed_content, thumb_contents, contents, header, laid_pieces, laid}
+use Rattle.px_layout.specs.Laid.{item_bytes, last_bytes, entry_bytes, table_bytes, placed_content, thumb_contents, contents, header}
+use Rattle.px_layout.specs.Laid.{laid_pieces, laid}
 use Rattle.px_layout.specs.Normal.{normal_plan, normal_exif}
 
 unfoldable pub opened : ℕ

@@ -1,6 +1,7 @@
 -- The chunks of a meaning: what stands at an offset of its own, each with its size in bytes. TIFF 6.0 section 2, "Image File
 -- Directory" and "Value/Offset"; section 8, "StripOffsets"; CIPA DC-008 4.5.5 (the thumbnail).
-use Rattle.std.specs.Prelude.{ℕ, ◌+◌, ◌==◌, ◌&&◌, Bool, true, false, nat_lt, if◌then◌else◌, Option, Some, None, List, [], ◌∷◌, ◌++◌, length, filter_map, flat_map}
+use Rattle.std.specs.Prelude.{ℕ, ◌+◌, ◌==◌, ◌&&◌, Bool, true, false, nat_lt, if◌then◌else◌, Option, Some, None, List, [], ◌∷◌, ◌++◌, length}
+use Rattle.std.specs.Prelude.{filter_map, flat_map}
 use Rattle.px_tree.specs.declared.Dir.{Dir}
 use Rattle.px_tree.specs.Tree.{Thumbnail, Meaning}
 use Rattle.px_tree.specs.Entry.{table_size}

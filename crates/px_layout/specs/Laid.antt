@@ -1,6 +1,7 @@
 -- The block that a plan lays out. TIFF 6.0 section 2, "Image File Header", "Image File Directory", "IFD Entry" and
 -- "Value/Offset".
-use Rattle.std.specs.Prelude.{ℕ, ◌+◌, ◌-◌, nat_lt, nat_le, ◌&&◌, if◌then◌else◌, Option, Some, None, List, [], ◌∷◌, ◌++◌, length, map, replicate, filter_map, flat_map, slice_index}
+use Rattle.std.specs.Prelude.{ℕ, ◌+◌, ◌-◌, nat_lt, nat_le, ◌&&◌, if◌then◌else◌, Option, Some, None, List, [], ◌∷◌, ◌++◌, length, map}
+use Rattle.std.specs.Prelude.{replicate, filter_map, flat_map, slice_index}
 use Rattle.std.specs.List.{range_with_len}
 use Rattle.px_bytes.specs.declared.Order.{Order}
 use Rattle.px_bytes.specs.Numbers.{spelling}

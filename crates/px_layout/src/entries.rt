@@ -1,11 +1,13 @@
 // The entries of a directory by ascending tag, without a list of them: its fields, with at most four
 // further entries put between. TIFF 6.0 section 2, "Sort Order".
-ghost use Rattle.std.specs.Prelude.{◌≡◌, ◌<◌, ◌≤◌, ◌+◌, ◌*◌, ◌^◌, ℕ, List, length, map, slice_get, option_map, option_and_then, is_some, Some, None, IfSome};
+ghost use Rattle.std.specs.Prelude.{◌≡◌, ◌<◌, ◌≤◌, ◌+◌, ◌*◌, ◌^◌, ℕ, List, length, map, slice_get, option_map, option_and_then, is_some};
+ghost use Rattle.std.specs.Prelude.{Some, None, IfSome};
 ghost use Rattle.std.specs.List.{AllByRecursion};
 ghost use Rattle.px_bytes.specs.Parts.{limit};
 ghost use Rattle.px_tree.specs.calls.Iim.{normal_iim};
 ghost use Rattle.px_tree.specs.Fits as said;
-ghost use Rattle.px_tree.specs.Fits.{Fits, FitsThumb, IsBytes, AtJpeg, JpegSize, AtStrips, StripSizes, Iptc, items, link, put_some, main_items, exif_items, thumb_items, field_items};
+ghost use Rattle.px_tree.specs.Fits.{Fits, FitsThumb, IsBytes, AtJpeg, JpegSize, AtStrips, StripSizes, Iptc, items, link, put_some};
+ghost use Rattle.px_tree.specs.Fits.{main_items, exif_items, thumb_items, field_items};
 ghost use Rattle.px_tree.specs.calls.Seen.{exif_of, thumb_of, meaning_of};
 ghost use Rattle.px_layout.specs.calls.Items.{item_of, entry_of, IsCounted, rank};
 ghost use Rattle.px_layout.specs.calls.Layers.{Stands, Tells, over};

@@ -114,7 +114,8 @@ fn put_last<W: Sink>(
 ) -> Result<(), Failed>
     requires few { CanFail (W.failed writer.old) }
     requires counted { IsCounted (item_of entry.now.item) }
-    ensures bytes { PutsTo W.bytes_taken result writer.old writer.new pending.old pending.new (last_in layout.now dir (entry_of entry.now)) }
+    ensures bytes { PutsTo W.bytes_taken result writer.old writer.new pending.old pending.new
+        (last_in layout.now dir (entry_of entry.now)) }
     ensures count { Counts result (W.failed writer.old) (W.failed writer.new) }
 {
     let Entry { tag, item } = *entry;
@@ -136,7 +137,8 @@ pub(crate) fn put_entry<W: Sink>(
 ) -> Result<(), Failed>
     requires few { CanFail (W.failed writer.old) }
     requires counted { IsCounted (item_of entry.now.item) }
-    ensures bytes { PutsTo W.bytes_taken result writer.old writer.new pending.old pending.new (entry_in layout.now dir (entry_of entry.now)) }
+    ensures bytes { PutsTo W.bytes_taken result writer.old writer.new pending.old pending.new
+        (entry_in layout.now dir (entry_of entry.now)) }
     ensures count { Counts result (W.failed writer.old) (W.failed writer.new) }
 {
     pending.put(writer, &entry_head(layout.order, entry))?;

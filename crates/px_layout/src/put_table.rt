@@ -45,7 +45,8 @@ fn put_entries<W: Sink>(
     entries: &Entries,
 ) -> Result<(), Failed>
     requires { CanFail (W.failed writer.old) }
-    ensures bytes { PutsTo W.bytes_taken result writer.old writer.new pending.old pending.new (flat_map (entry_in layout.now dir) entries.now) }
+    ensures bytes { PutsTo W.bytes_taken result writer.old writer.new pending.old pending.new
+        (flat_map (entry_in layout.now dir) entries.now) }
     ensures count { Counts result (W.failed writer.old) (W.failed writer.new) }
 {
     for i in 0..entries.len() {

@@ -12,7 +12,8 @@ pub next : (a b c : Option (List ℕ)) (h k m xs ys : List ℕ) → Owes a b k (
 next a b c h k m xs ys p q = subst (Owes a c m) (append_assoc h xs ys) (owes_more a b c k m (h ++ xs) ys p q)
 
 -- the last part failed
-pub stop : (a b c : Option (List ℕ)) (h k xs ys : List ℕ) → Owes a b k (h ++ xs) → AppendsPrefix b c (k ++ ys) → AppendsPrefix a c (h ++ (xs ++ ys))
+pub stop : (a b c : Option (List ℕ)) (h k xs ys : List ℕ) → Owes a b k (h ++ xs) → AppendsPrefix b c (k ++ ys)
+    → AppendsPrefix a c (h ++ (xs ++ ys))
 stop a b c h k xs ys p q = subst (AppendsPrefix a c) (append_assoc h xs ys) (owes_stop a b c k (h ++ xs) ys p q)
 
 -- ---- the same bytes
@@ -39,8 +40,10 @@ module _ {X : Type 0} (f : X → List ℕ) (xs left : List X) (x : X) (step : xs
   walk_next a b c k m out p e q = (out ++ f x, owes_more a b c k m out (f x) p q, rest_next out e)
 
   -- the put of x failed
-  pub walk_stop : (a b c : Option (List ℕ)) (k out : List ℕ) → Owes a b k out → out ++ flat_map f xs ≡ all → AppendsPrefix b c (k ++ f x) → AppendsPrefix a c all
-  walk_stop a b c k out p e q = subst (AppendsPrefix a c) (rest_next out e) (prefix_first a c (out ++ f x) (flat_map f left) (owes_stop a b c k out (f x) p q))
+  pub walk_stop : (a b c : Option (List ℕ)) (k out : List ℕ) → Owes a b k out → out ++ flat_map f xs ≡ all → AppendsPrefix b c (k ++ f x)
+      → AppendsPrefix a c all
+  walk_stop a b c k out p e q =
+      subst (AppendsPrefix a c) (rest_next out e) (prefix_first a c (out ++ f x) (flat_map f left) (owes_stop a b c k out (f x) p q))
 
 -- none is left
 pub walk_done : {X : Type 0} (f : X → List ℕ) (xs : List X) (out all : List ℕ) → xs ≡ [] → out ++ flat_map f xs ≡ all → out ≡ all

@@ -1,5 +1,6 @@
 -- Texts and lists that are made part by part.
-use Rattle.std.proofs.Common.{◌≡◌, ℕ, ◌+◌, ◌-◌, ◌<◌, ◌≤◌, ◌++◌, List, [], ◌∷◌, length, take, drop, map, slice_index, slice_get, get_or, Option, Some, option_map, ◌/◌, ◌%◌, refl, sym, ap, ◌∙◌, arith, append_assoc, length-append, take-append-drop}
+use Rattle.std.proofs.Common.{◌≡◌, ℕ, ◌+◌, ◌-◌, ◌<◌, ◌≤◌, ◌++◌, List, [], ◌∷◌, length, take, drop, map, slice_index, slice_get, get_or}
+use Rattle.std.proofs.Common.{Option, Some, option_map, ◌/◌, ◌%◌, refl, sym, ap, ◌∙◌, arith, append_assoc, length-append, take-append-drop}
 use Rattle.std.specs.List.{flat_map, filter_map}
 use Rattle.std.proofs.Math.Seq.{take-add}
 use Rattle.px_bytes.specs.Devices.{AppendsPrefix}
@@ -31,7 +32,8 @@ unfolding encode_with
 encode_none = refl
 
 -- the piece from i to e follows the first i bytes
-piece_behind : (xs : List ℕ) (i e : ℕ) → i ≤ e → encode_lower (take i xs) ++ encode_lower (take (e - i) (drop i xs)) ≡ encode_lower (take e xs)
+piece_behind : (xs : List ℕ) (i e : ℕ) → i ≤ e → encode_lower (take i xs) ++ encode_lower (take (e - i) (drop i xs)) ≡ encode_lower
+    (take e xs)
 piece_behind xs i e le =
     let end : e ≡ i + (e - i) = omega (arith, le) in
     let cut : take e xs ≡ take i xs ++ take (e - i) (drop i xs) = ap (λ n. take n xs) end ∙ take-add i (e - i) xs in
@@ -41,16 +43,19 @@ piece_behind xs i e le =
 rest_behind : (xs : List ℕ) (e : ℕ) → encode_lower (take e xs) ++ encode_lower (drop e xs) ≡ encode_lower xs
 rest_behind xs e = sym (encode_append lower_digits (take e xs) (drop e xs)) ∙ ap encode_lower (take-append-drop e xs)
 
-pub hex_next : (a b c : Option (List ℕ)) (h k m xs : List ℕ) (i e : ℕ) → i ≤ e → Owes a b k (h ++ encode_lower (take i xs)) → Owes b c m (k ++ encode_lower (take (e - i) (drop i xs)))
+pub hex_next : (a b c : Option (List ℕ)) (h k m xs : List ℕ) (i e : ℕ) → i ≤ e → Owes a b k (h ++ encode_lower (take i xs))
+    → Owes b c m (k ++ encode_lower (take (e - i) (drop i xs)))
     → Owes a c m (h ++ encode_lower (take e xs))
 hex_next a b c h k m xs i e le p q =
     owes_as a c h m _ _ (piece_behind xs i e le) (next a b c h k m (encode_lower (take i xs)) (encode_lower (take (e - i) (drop i xs))) p q)
 
-pub hex_stop : (a b c : Option (List ℕ)) (h k xs : List ℕ) (i e : ℕ) → i ≤ e → Owes a b k (h ++ encode_lower (take i xs)) → AppendsPrefix b c (k ++ encode_lower (take (e - i) (drop i xs)))
+pub hex_stop : (a b c : Option (List ℕ)) (h k xs : List ℕ) (i e : ℕ) → i ≤ e → Owes a b k (h ++ encode_lower (take i xs))
+    → AppendsPrefix b c (k ++ encode_lower (take (e - i) (drop i xs)))
     → AppendsPrefix a c (h ++ encode_lower xs)
 hex_stop a b c h k xs i e le p q =
     prefix_as a c h _ _ (rest_behind xs e) (puts_first a c h (encode_lower (take e xs)) (encode_lower (drop e xs))
-    (prefix_as a c h _ _ (piece_behind xs i e le) (stop a b c h k (encode_lower (take i xs)) (encode_lower (take (e - i) (drop i xs))) p q)))
+    (prefix_as a c h _ _ (piece_behind xs i e le) (stop a b c h k (encode_lower (take i xs)) (encode_lower (take (e - i) (drop i xs))) p
+    q)))
 
 -- ---- the parts of a list's elements
 
@@ -63,21 +68,27 @@ one_more xs i x read = take_more xs i x (slice_get_within xs i x read) ∙ ap (�
 
 module _ {X A : Type 0} (xs : List X) (i : ℕ) (x : X) (read : slice_get xs i ≡ Some x) where
   -- the part of the element at i follows those before it
-  pub parts_more : (f : X → List A) (old now new : List A) → now ≡ old ++ flat_map f (take i xs) → new ≡ now ++ f x → new ≡ old ++ flat_map f (take (i + 1) xs)
+  pub parts_more : (f : X → List A) (old now new : List A) → now ≡ old ++ flat_map f (take i xs) → new ≡ now ++ f x
+      → new ≡ old ++ flat_map f (take (i + 1) xs)
   parts_more f old now new e h =
-      let more : flat_map f (take (i + 1) xs) ≡ flat_map f (take i xs) ++ f x = ap (flat_map f) (one_more xs i x read) ∙ sym (flat_map_more f [] (take i xs) x) in
+      let more : flat_map f (take (i + 1) xs) ≡ flat_map f (take i xs) ++ f x =
+      ap (flat_map f) (one_more xs i x read) ∙ sym (flat_map_more f [] (take i xs) x) in
       h ∙ ap (λ (l : List A). l ++ f x) e ∙ append_assoc old (flat_map f (take i xs)) (f x) ∙ ap (λ (l : List A). old ++ l) (sym more)
 
   -- what it gives, if anything, follows what those before it gave
-  pub given_more : (f : X → Option A) (old now new : List A) → now ≡ old ++ filter_map f (take i xs) → new ≡ now ++ filter_map f (x ∷ []) → new ≡ old ++ filter_map f (take (i + 1) xs)
+  pub given_more : (f : X → Option A) (old now new : List A) → now ≡ old ++ filter_map f (take i xs) → new ≡ now ++ filter_map f (x ∷ [])
+      → new ≡ old ++ filter_map f (take (i + 1) xs)
   given_more f old now new e h =
-      let more : filter_map f (take (i + 1) xs) ≡ filter_map f (take i xs) ++ filter_map f (x ∷ []) = ap (filter_map f) (one_more xs i x read) ∙ filter_map-append f (take i xs) (x ∷ []) in
-      h ∙ ap (λ (l : List A). l ++ filter_map f (x ∷ [])) e ∙ append_assoc old (filter_map f (take i xs)) (filter_map f (x ∷ [])) ∙ ap (λ (l : List A). old ++ l) (sym more)
+      let more : filter_map f (take (i + 1) xs) ≡ filter_map f (take i xs) ++ filter_map f (x ∷ []) =
+      ap (filter_map f) (one_more xs i x read) ∙ filter_map-append f (take i xs) (x ∷ []) in
+      h ∙ ap (λ (l : List A). l ++ filter_map f (x ∷ [])) e ∙ append_assoc old (filter_map f (take i xs)) (filter_map f (x ∷ []))
+      ∙ ap (λ (l : List A). old ++ l) (sym more)
 
 -- ---- how many DataSets there are
 
 -- the DataSets of the next group
-pub count_next : (i left : Record) (g : Group) → i ≡ g ∷ left → (n count all : ℕ) → count + dataset_count i ≡ all → n ≡ length g.items → count + n + dataset_count left ≡ all
+pub count_next : (i left : Record) (g : Group) → i ≡ g ∷ left → (n count all : ℕ) → count + dataset_count i ≡ all → n ≡ length g.items
+    → count + n + dataset_count left ≡ all
 count_next i left g step n count all e h =
     let f : Group → List (ℕ × List ℕ) = λ y. y.items in
     omega (arith, e, h, ap dataset_count step, length-append g.items (flat_map f left))
@@ -98,11 +109,14 @@ lines_items (x ∷ xs) =
     ∙ ap caption_lines (sym (filter_map-append labelled (x ∷ []) xs))
 
 -- group by group, or all at once
-lines_each : (i : Record) (ns : List ℕ) → flat_map (λ (n : ℕ). caption_lines (group_captions i n)) ns ≡ caption_lines (flat_map (group_captions i) ns)
+lines_each : (i : Record) (ns : List ℕ) → flat_map (λ (n : ℕ). caption_lines (group_captions i n)) ns ≡ caption_lines
+    (flat_map (group_captions i) ns)
 lines_each i [] = refl
-lines_each i (n ∷ ns) = ap (λ (l : List ℕ). caption_lines (group_captions i n) ++ l) (lines_each i ns) ∙ sym (lines_append (group_captions i n) (flat_map (group_captions i) ns))
+lines_each i (n ∷ ns) = ap (λ (l : List ℕ). caption_lines (group_captions i n) ++ l) (lines_each i ns)
+    ∙ sym (lines_append (group_captions i n) (flat_map (group_captions i) ns))
 
-pub group_lines_whole : (i : Record) → flat_map (λ (n : ℕ). caption_lines (group_captions i n)) caption_groups ≡ caption_lines (iim_captions i)
+pub group_lines_whole : (i : Record) → flat_map (λ (n : ℕ). caption_lines (group_captions i n)) caption_groups ≡ caption_lines
+    (iim_captions i)
 unfolding iim_captions
 group_lines_whole i = lines_each i caption_groups
 

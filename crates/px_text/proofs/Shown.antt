@@ -1,5 +1,6 @@
 -- Values as texts, and as bytes.
-use Rattle.std.proofs.Common.{◌≡◌, ℕ, Bool, ◌++◌, List, length, [], ◌∷◌, map, true, false, Option, Some, None, option_map, if◌then◌else◌, refl, sym, ap, ◌∙◌, append_assoc}
+use Rattle.std.proofs.Common.{◌≡◌, ℕ, Bool, ◌++◌, List, length, [], ◌∷◌, map, true, false, Option, Some, None, option_map, if◌then◌else◌}
+use Rattle.std.proofs.Common.{refl, sym, ap, ◌∙◌, append_assoc}
 use Rattle.std.specs.Prelude.{◌==◌, codes, IsSome, IfSome, IsTrue, ◌↔◌, is_some}
 use Rattle.std.specs.List.{flat_map}
 use Rattle.std.specs.Borrow.{Bor}
@@ -40,7 +41,8 @@ byte_elements k (b ∷ bs) h =
     ∙ ap (λ (l : List ℕ). codes " " ++ l) (sym (encode_cons b bs))
 
 -- a value of bytes
-pub shown_as_bytes : (k : Kind) (es : List Element) (bs : List ℕ) → is_bytes k ≡ true → es ≡ map element.Byte bs → shown_elements k es ≡ shown_bytes bs
+pub shown_as_bytes : (k : Kind) (es : List Element) (bs : List ℕ) → is_bytes k ≡ true → es ≡ map element.Byte bs
+    → shown_elements k es ≡ shown_bytes bs
 shown_as_bytes k es bs h e = ap (shown_elements k) e ∙ byte_elements k bs h
 
 -- each other value: every element behind one space
@@ -69,7 +71,8 @@ text_is_bytes (Of form.Double) h = absurd (cc)
 text_is_bytes Whole h = absurd (cc)
 
 -- the bytes of a text
-pub text_bytes : (v : Value) (r : Option (Bor (List ℕ))) → is_text v.kind ≡ true → (IsSome r ↔ IsTrue (is_bytes v.kind)) → IfSome r (λ s. v.elements ≡ map element.Byte s.now)
+pub text_bytes : (v : Value) (r : Option (Bor (List ℕ))) → is_text v.kind ≡ true → (IsSome r ↔ IsTrue (is_bytes v.kind))
+    → IfSome r (λ s. v.elements ≡ map element.Byte s.now)
     → option_map (λ x. x.now) r ≡ (if is_text v.kind then Some (spelled Most v) else None)
 unfolding spelled
 text_bytes v None t which same = let some : is_some {T = Bor (List ℕ)} None ≡ true = which.1 (text_is_bytes v.kind t) in absurd (cc)

@@ -1,5 +1,6 @@
 -- What `captions` prints: the labelled texts of an Exif block's main directory, and those of a record.
-use Rattle.std.specs.Prelude.{ℕ, Bool, true, false, not, nat_le, ◌==◌, ◌&&◌, if◌then◌else◌, List, [], ◌∷◌, ◌++◌, codes, flat_map, filter_map, Option, Some, None, option_map, bytes_eq}
+use Rattle.std.specs.Prelude.{ℕ, Bool, true, false, not, nat_le, ◌==◌, ◌&&◌, if◌then◌else◌, List, [], ◌∷◌, ◌++◌, codes, flat_map}
+use Rattle.std.specs.Prelude.{filter_map, Option, Some, None, option_map, bytes_eq}
 use Rattle.hex.specs.Hex.{encode_lower}
 use Rattle.px_bytes.specs.declared.Order.TheVariants.{Most}
 use Rattle.px_field.specs.declared.Form.TheVariants.{Ascii, Utf8}
@@ -10,7 +11,8 @@ use Rattle.px_iim.specs.Group.{Record, named, items_at}
 use Rattle.px_tree.specs.Roles.{at_tag}
 use Rattle.px_tree.specs.Tree.{Fields, Meaning}
 use Rattle.px_text.specs.declared.labels.Label.{Label}
-use Rattle.px_text.specs.declared.labels.Label.TheVariants.{Title, Caption, Headline, Credit, Source, Copyright, ByLine, ByLineTitle, Keyword, Inventory, Description, Artist}
+use Rattle.px_text.specs.declared.labels.Label.TheVariants.{Title, Caption, Headline, Credit, Source, Copyright, ByLine, ByLineTitle}
+use Rattle.px_text.specs.declared.labels.Label.TheVariants.{Keyword, Inventory, Description, Artist}
 
 -- a caption: its label, and its bytes
 abbrev pub Labelled : Type 0

@@ -5,7 +5,8 @@ ghost use Rattle.px_bytes.specs.Waiting.{Puts};
 ghost use Rattle.px_iim.specs.calls.View.{item_view};
 ghost use Rattle.px_tree.specs.Roles.{at_tag};
 ghost use Rattle.px_tree.specs.calls.Seen.{meaning_of};
-ghost use Rattle.px_text.specs.Captions.{is_plain, escaped_byte, escaped, labelled, text_captions, caption_line, caption_lines, charset_line, iim_captions, iim_lines, record_lines, exif_captions, exif_text, iim_text};
+ghost use Rattle.px_text.specs.Captions.{is_plain, escaped_byte, escaped, labelled, text_captions, caption_line, caption_lines};
+ghost use Rattle.px_text.specs.Captions.{charset_line, iim_captions, iim_lines, record_lines, exif_captions, exif_text, iim_text};
 ghost use Rattle.px_text.specs.calls.CaptionView.{caption_view};
 
 use crate::caption::Caption;
@@ -50,7 +51,8 @@ fn put_escaped<W: Sink>(pending: &mut Pending, writer: &mut W, bytes: &[u8]) -> 
 #[tactic(auto, unfolding(crate::specs::Captions::caption_line))]
 fn put_line<W: Sink>(pending: &mut Pending, writer: &mut W, caption: Caption) -> Result<(), Failed>
     requires { CanFail (W.failed writer.old) }
-    ensures bytes { Puts result (W.bytes_taken writer.old) (W.bytes_taken writer.new) pending.old pending.new (caption_line (caption_view caption.entry)) }
+    ensures bytes { Puts result (W.bytes_taken writer.old) (W.bytes_taken writer.new) pending.old pending.new
+        (caption_line (caption_view caption.entry)) }
     ensures count { Counts result (W.failed writer.old) (W.failed writer.new) }
 {
     pending.put(writer, label_word(caption.label))?;
@@ -62,7 +64,8 @@ fn put_line<W: Sink>(pending: &mut Pending, writer: &mut W, caption: Caption) ->
 // Puts the line of a DataSet, where it has a label.
 fn put_item<W: Sink>(pending: &mut Pending, writer: &mut W, item: &Item) -> Result<(), Failed>
     requires { CanFail (W.failed writer.old) }
-    ensures bytes { Puts result (W.bytes_taken writer.old) (W.bytes_taken writer.new) pending.old pending.new (caption_lines (filter_map labelled (item_view item.now ∷ []))) }
+    ensures bytes { Puts result (W.bytes_taken writer.old) (W.bytes_taken writer.new) pending.old pending.new
+        (caption_lines (filter_map labelled (item_view item.now ∷ []))) }
     ensures count { Counts result (W.failed writer.old) (W.failed writer.new) }
 {
     match label_of(item.number) {
@@ -81,7 +84,8 @@ fn put_item<W: Sink>(pending: &mut Pending, writer: &mut W, item: &Item) -> Resu
 // Puts the lines of those DataSets of a group that have a label.
 fn put_group<W: Sink>(pending: &mut Pending, writer: &mut W, items: &[Item]) -> Result<(), Failed>
     requires { CanFail (W.failed writer.old) }
-    ensures bytes { Puts result (W.bytes_taken writer.old) (W.bytes_taken writer.new) pending.old pending.new (caption_lines (filter_map labelled (map item_view items.now))) }
+    ensures bytes { Puts result (W.bytes_taken writer.old) (W.bytes_taken writer.new) pending.old pending.new
+        (caption_lines (filter_map labelled (map item_view items.now))) }
     ensures count { Counts result (W.failed writer.old) (W.failed writer.new) }
 {
     for item in items {
@@ -93,7 +97,8 @@ fn put_group<W: Sink>(pending: &mut Pending, writer: &mut W, items: &[Item]) -> 
 // Puts the lines of a record's captions.
 fn put_groups<W: Sink>(pending: &mut Pending, writer: &mut W, iim: &Iim) -> Result<(), Failed>
     requires { CanFail (W.failed writer.old) }
-    ensures bytes { Puts result (W.bytes_taken writer.old) (W.bytes_taken writer.new) pending.old pending.new (caption_lines (iim_captions iim.now)) }
+    ensures bytes { Puts result (W.bytes_taken writer.old) (W.bytes_taken writer.new) pending.old pending.new
+        (caption_lines (iim_captions iim.now)) }
     ensures count { Counts result (W.failed writer.old) (W.failed writer.new) }
 {
     for i in 0..GROUPS.len() {
@@ -148,7 +153,8 @@ fn put_text<W: Sink>(
     label: Label,
 ) -> Result<(), Failed>
     requires { CanFail (W.failed writer.old) }
-    ensures bytes { Puts result (W.bytes_taken writer.old) (W.bytes_taken writer.new) pending.old pending.new (caption_lines (text_captions label (at_tag tag fields.now))) }
+    ensures bytes { Puts result (W.bytes_taken writer.old) (W.bytes_taken writer.new) pending.old pending.new
+        (caption_lines (text_captions label (at_tag tag fields.now))) }
     ensures count { Counts result (W.failed writer.old) (W.failed writer.new) }
 {
     let Some(value) = fields.get(tag) else {
@@ -163,7 +169,8 @@ fn put_text<W: Sink>(
 // Puts the lines of a main directory.
 fn put_exif<W: Sink>(pending: &mut Pending, writer: &mut W, fields: &Fields) -> Result<(), Failed>
     requires { CanFail (W.failed writer.old) }
-    ensures bytes { Puts result (W.bytes_taken writer.old) (W.bytes_taken writer.new) pending.old pending.new (caption_lines (exif_captions fields.now)) }
+    ensures bytes { Puts result (W.bytes_taken writer.old) (W.bytes_taken writer.new) pending.old pending.new
+        (caption_lines (exif_captions fields.now)) }
     ensures count { Counts result (W.failed writer.old) (W.failed writer.new) }
 {
     put_text(pending, writer, fields, 0x010E, Label::Description)?;
@@ -181,7 +188,8 @@ pub fn put_exif_captions<W: Sink>(
     meaning: &Meaning,
 ) -> Result<(), Failed>
     requires { CanFail (W.failed writer.old) }
-    ensures bytes { Puts result (W.bytes_taken writer.old) (W.bytes_taken writer.new) pending.old pending.new (exif_text (meaning_of meaning.now)) }
+    ensures bytes { Puts result (W.bytes_taken writer.old) (W.bytes_taken writer.new) pending.old pending.new
+        (exif_text (meaning_of meaning.now)) }
     ensures count { Counts result (W.failed writer.old) (W.failed writer.new) }
 {
     pending.put(writer, b"exif\n")?;

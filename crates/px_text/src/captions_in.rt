@@ -6,7 +6,8 @@ ghost use Rattle.px_field.specs.Values.{spelled};
 ghost use Rattle.px_iim.specs.calls.View.{item_view};
 ghost use Rattle.px_tree.specs.Roles.{at_tag};
 ghost use Rattle.px_tree.specs.calls.Seen.{meaning_of};
-ghost use Rattle.px_text.specs.Captions.{labelled, iim_captions, utf8_designation, declares_utf8, is_text, text_captions, exif_captions, captions_of_exif, captions_of_iim};
+ghost use Rattle.px_text.specs.Captions.{labelled, iim_captions, utf8_designation, declares_utf8, is_text, text_captions, exif_captions};
+ghost use Rattle.px_text.specs.Captions.{captions_of_exif, captions_of_iim};
 ghost use Rattle.px_text.specs.calls.CaptionView.{caption_view};
 
 use crate::caption::{Caption, Captions};
@@ -28,7 +29,8 @@ fn push_item<'a>(
     item: Item<'a>,
     list: &mut Vec<Caption<'a>>,
 ) -> Result<(), Refused>
-    ensures list { OnOk result (map caption_view list.new.items ≡ map caption_view list.old.items ++ filter_map labelled (item_view item.entry ∷ [])) }
+    ensures list { OnOk result (map caption_view list.new.items ≡ map caption_view list.old.items ++ filter_map labelled
+        (item_view item.entry ∷ [])) }
     ensures memory { Lacks result memory.old memory.new }
 {
     match label_of(item.number) {
@@ -51,7 +53,8 @@ fn push_group<'a>(
     items: &[Item<'a>],
     list: &mut Vec<Caption<'a>>,
 ) -> Result<(), Refused>
-    ensures list { OnOk result (map caption_view list.new.items ≡ map caption_view list.old.items ++ filter_map labelled (map item_view items.now)) }
+    ensures list { OnOk result (map caption_view list.new.items ≡ map caption_view list.old.items ++ filter_map labelled
+        (map item_view items.now)) }
     ensures memory { Lacks result memory.old memory.new }
 {
     for item in items {
@@ -122,7 +125,8 @@ fn push_text<'a>(
     label: Label,
     list: &mut Vec<Caption<'a>>,
 ) -> Result<(), Refused>
-    ensures list { OnOk result (map caption_view list.new.items ≡ map caption_view list.old.items ++ text_captions label (at_tag tag fields.now)) }
+    ensures list { OnOk result (map caption_view list.new.items ≡ map caption_view list.old.items ++ text_captions label
+        (at_tag tag fields.now)) }
     ensures memory { Lacks result memory.old memory.new }
 {
     let Some(value) = fields.get(tag) else {

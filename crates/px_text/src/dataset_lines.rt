@@ -17,7 +17,8 @@ fn put_dataset<W: Sink>(
     item: &Item,
 ) -> Result<(), Failed>
     requires { CanFail (W.failed writer.old) }
-    ensures bytes { Puts result (W.bytes_taken writer.old) (W.bytes_taken writer.new) pending.old pending.new (dataset_line rec (item_view item.now)) }
+    ensures bytes { Puts result (W.bytes_taken writer.old) (W.bytes_taken writer.new) pending.old pending.new
+        (dataset_line rec (item_view item.now)) }
     ensures count { Counts result (W.failed writer.old) (W.failed writer.new) }
 {
     put_decimal(pending, writer, rec)?;
@@ -33,7 +34,8 @@ fn put_group<W: Sink>(
     items: &[Item],
 ) -> Result<(), Failed>
     requires { CanFail (W.failed writer.old) }
-    ensures bytes { Puts result (W.bytes_taken writer.old) (W.bytes_taken writer.new) pending.old pending.new (flat_map (dataset_line rec) (map item_view items.now)) }
+    ensures bytes { Puts result (W.bytes_taken writer.old) (W.bytes_taken writer.new) pending.old pending.new
+        (flat_map (dataset_line rec) (map item_view items.now)) }
     ensures count { Counts result (W.failed writer.old) (W.failed writer.new) }
 {
     for item in items {

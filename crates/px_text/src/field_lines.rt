@@ -47,7 +47,8 @@ fn type_word(kind: Kind) -> &'static [u8]
 // Puts the bytes of a number of two bytes in hexadecimal, the most significant first.
 fn put_digits16<W: Sink>(pending: &mut Pending, writer: &mut W, n: u16) -> Result<(), Failed>
     requires { CanFail (W.failed writer.old) }
-    ensures bytes { Puts result (W.bytes_taken writer.old) (W.bytes_taken writer.new) pending.old pending.new (encode_lower (spelling Most 2 n)) }
+    ensures bytes { Puts result (W.bytes_taken writer.old) (W.bytes_taken writer.new) pending.old pending.new
+        (encode_lower (spelling Most 2 n)) }
     ensures count { Counts result (W.failed writer.old) (W.failed writer.new) }
 {
     let mut bytes = [0; 2];
@@ -58,7 +59,8 @@ fn put_digits16<W: Sink>(pending: &mut Pending, writer: &mut W, n: u16) -> Resul
 // Puts the bytes of a number of four bytes so.
 fn put_digits32<W: Sink>(pending: &mut Pending, writer: &mut W, n: u32) -> Result<(), Failed>
     requires { CanFail (W.failed writer.old) }
-    ensures bytes { Puts result (W.bytes_taken writer.old) (W.bytes_taken writer.new) pending.old pending.new (encode_lower (spelling Most 4 n)) }
+    ensures bytes { Puts result (W.bytes_taken writer.old) (W.bytes_taken writer.new) pending.old pending.new
+        (encode_lower (spelling Most 4 n)) }
     ensures count { Counts result (W.failed writer.old) (W.failed writer.new) }
 {
     let mut bytes = [0; 4];
@@ -69,7 +71,8 @@ fn put_digits32<W: Sink>(pending: &mut Pending, writer: &mut W, n: u32) -> Resul
 // Puts the bytes of a number of eight bytes so.
 fn put_digits64<W: Sink>(pending: &mut Pending, writer: &mut W, n: u64) -> Result<(), Failed>
     requires { CanFail (W.failed writer.old) }
-    ensures bytes { Puts result (W.bytes_taken writer.old) (W.bytes_taken writer.new) pending.old pending.new (encode_lower (spelling Most 8 n)) }
+    ensures bytes { Puts result (W.bytes_taken writer.old) (W.bytes_taken writer.new) pending.old pending.new
+        (encode_lower (spelling Most 8 n)) }
     ensures count { Counts result (W.failed writer.old) (W.failed writer.new) }
 {
     let mut bytes = [0; 8];
@@ -84,7 +87,8 @@ fn put_fraction<W: Sink, I: Integer>(
     denominator: I,
 ) -> Result<(), Failed>
     requires { CanFail (W.failed writer.old) }
-    ensures bytes { Puts result (W.bytes_taken writer.old) (W.bytes_taken writer.new) pending.old pending.new (I.text numerator ++ codes "/" ++ I.text denominator) }
+    ensures bytes { Puts result (W.bytes_taken writer.old) (W.bytes_taken writer.new) pending.old pending.new
+        (I.text numerator ++ codes "/" ++ I.text denominator) }
     ensures count { Counts result (W.failed writer.old) (W.failed writer.new) }
 {
     put_decimal(pending, writer, numerator)?;
@@ -117,7 +121,8 @@ fn put_element<W: Sink>(
 // Puts an element behind one space.
 fn put_apart<W: Sink>(pending: &mut Pending, writer: &mut W, element: Element) -> Result<(), Failed>
     requires { CanFail (W.failed writer.old) }
-    ensures bytes { Puts result (W.bytes_taken writer.old) (W.bytes_taken writer.new) pending.old pending.new (codes " " ++ element_text element) }
+    ensures bytes { Puts result (W.bytes_taken writer.old) (W.bytes_taken writer.new) pending.old pending.new
+        (codes " " ++ element_text element) }
     ensures count { Counts result (W.failed writer.old) (W.failed writer.new) }
 {
     pending.put(writer, b" ")?;
@@ -127,7 +132,8 @@ fn put_apart<W: Sink>(pending: &mut Pending, writer: &mut W, element: Element) -
 // Puts each element behind one space.
 fn put_elements<W: Sink>(pending: &mut Pending, writer: &mut W, value: &Value) -> Result<(), Failed>
     requires { CanFail (W.failed writer.old) }
-    ensures bytes { Puts result (W.bytes_taken writer.old) (W.bytes_taken writer.new) pending.old pending.new (flat_map (λ e. codes " " ++ element_text e) value.now.elements) }
+    ensures bytes { Puts result (W.bytes_taken writer.old) (W.bytes_taken writer.new) pending.old pending.new
+        (flat_map (λ e. codes " " ++ element_text e) value.now.elements) }
     ensures count { Counts result (W.failed writer.old) (W.failed writer.new) }
 {
     for i in 0..value.count() {
@@ -139,7 +145,8 @@ fn put_elements<W: Sink>(pending: &mut Pending, writer: &mut W, value: &Value) -
 // Puts the elements behind one space, where there are any.
 fn put_value<W: Sink>(pending: &mut Pending, writer: &mut W, value: &Value) -> Result<(), Failed>
     requires { CanFail (W.failed writer.old) }
-    ensures bytes { Puts result (W.bytes_taken writer.old) (W.bytes_taken writer.new) pending.old pending.new (shown_elements value.now.kind value.now.elements) }
+    ensures bytes { Puts result (W.bytes_taken writer.old) (W.bytes_taken writer.new) pending.old pending.new
+        (shown_elements value.now.kind value.now.elements) }
     ensures count { Counts result (W.failed writer.old) (W.failed writer.new) }
 {
     match value.bytes() {
@@ -156,7 +163,8 @@ fn put_name<W: Sink>(
     kind: Kind,
 ) -> Result<(), Failed>
     requires { CanFail (W.failed writer.old) }
-    ensures bytes { Puts result (W.bytes_taken writer.old) (W.bytes_taken writer.new) pending.old pending.new (encode_lower (spelling Most 2 tag) ++ codes " " ++ type_word kind ++ codes " ") }
+    ensures bytes { Puts result (W.bytes_taken writer.old) (W.bytes_taken writer.new) pending.old pending.new
+        (encode_lower (spelling Most 2 tag) ++ codes " " ++ type_word kind ++ codes " ") }
     ensures count { Counts result (W.failed writer.old) (W.failed writer.new) }
 {
     put_digits16(pending, writer, tag)?;
@@ -173,7 +181,9 @@ fn put_head<W: Sink>(
     value: &Value,
 ) -> Result<(), Failed>
     requires { CanFail (W.failed writer.old) }
-    ensures bytes { Puts result (W.bytes_taken writer.old) (W.bytes_taken writer.new) pending.old pending.new (encode_lower (spelling Most 2 tag) ++ codes " " ++ type_word value.now.kind ++ codes " " ++ decimal (length value.now.elements) ++ codes ":") }
+    ensures bytes { Puts result (W.bytes_taken writer.old) (W.bytes_taken writer.new) pending.old pending.new
+        (encode_lower (spelling Most 2 tag) ++ codes " " ++ type_word value.now.kind ++ codes " " ++ decimal (length value.now.elements)
+        ++ codes ":") }
     ensures count { Counts result (W.failed writer.old) (W.failed writer.new) }
 {
     put_name(pending, writer, tag, value.kind())?;
@@ -189,7 +199,8 @@ fn put_field<W: Sink>(
     value: &Value,
 ) -> Result<(), Failed>
     requires { CanFail (W.failed writer.old) }
-    ensures bytes { Puts result (W.bytes_taken writer.old) (W.bytes_taken writer.new) pending.old pending.new (field_line (tag, value.now)) }
+    ensures bytes { Puts result (W.bytes_taken writer.old) (W.bytes_taken writer.new) pending.old pending.new
+        (field_line (tag, value.now)) }
     ensures count { Counts result (W.failed writer.old) (W.failed writer.new) }
 {
     put_head(pending, writer, tag, value)?;

@@ -3,7 +3,8 @@ ghost use Rattle.std.specs.Prelude.{◌++◌, Some, codes, flat_map, option_map}
 ghost use Rattle.px_bytes.specs.Devices.{CanFail, Counts};
 ghost use Rattle.px_bytes.specs.Waiting.{Puts};
 ghost use Rattle.px_tree.specs.calls.Seen.{exif_of, thumb_of, meaning_of};
-ghost use Rattle.px_text.specs.Listing.{field_lines, jpeg_lines, strip_line, strips_lines, record_lines, directory_lines, exif_lines, thumb_lines, exif_listing, iim_listing};
+ghost use Rattle.px_text.specs.Listing.{field_lines, jpeg_lines, strip_line, strips_lines, record_lines, directory_lines, exif_lines};
+ghost use Rattle.px_text.specs.Listing.{thumb_lines, exif_listing, iim_listing};
 
 use crate::dataset_lines::{count_datasets, put_datasets};
 use crate::field_lines::put_fields;
@@ -15,7 +16,8 @@ use px_tree::{ExifPart, Fields, Meaning, Strips, Thumb};
 // Puts how many DataSets there are, and these.
 fn put_counted<W: Sink>(pending: &mut Pending, writer: &mut W, iim: &Iim) -> Result<(), Failed>
     requires { CanFail (W.failed writer.old) }
-    ensures bytes { Puts result (W.bytes_taken writer.old) (W.bytes_taken writer.new) pending.old pending.new (record_lines (Some iim.now)) }
+    ensures bytes { Puts result (W.bytes_taken writer.old) (W.bytes_taken writer.new) pending.old pending.new
+        (record_lines (Some iim.now)) }
     ensures count { Counts result (W.failed writer.old) (W.failed writer.new) }
 {
     put_number(pending, writer, b"record ", count_datasets(iim), b":\n")?;
@@ -46,7 +48,8 @@ fn put_titled<W: Sink>(
     fields: &Fields,
 ) -> Result<(), Failed>
     requires { CanFail (W.failed writer.old) }
-    ensures bytes { Puts result (W.bytes_taken writer.old) (W.bytes_taken writer.new) pending.old pending.new (name.now ++ field_lines fields.now) }
+    ensures bytes { Puts result (W.bytes_taken writer.old) (W.bytes_taken writer.new) pending.old pending.new
+        (name.now ++ field_lines fields.now) }
     ensures count { Counts result (W.failed writer.old) (W.failed writer.new) }
 {
     pending.put(writer, name)?;
@@ -61,7 +64,8 @@ fn put_directory<W: Sink>(
     fields: &Option<Fields>,
 ) -> Result<(), Failed>
     requires { CanFail (W.failed writer.old) }
-    ensures bytes { Puts result (W.bytes_taken writer.old) (W.bytes_taken writer.new) pending.old pending.new (directory_lines name.now fields.now) }
+    ensures bytes { Puts result (W.bytes_taken writer.old) (W.bytes_taken writer.new) pending.old pending.new
+        (directory_lines name.now fields.now) }
     ensures count { Counts result (W.failed writer.old) (W.failed writer.new) }
 {
     match fields {
@@ -76,7 +80,8 @@ fn put_exif_part<W: Sink>(
     exif: &ExifPart,
 ) -> Result<(), Failed>
     requires { CanFail (W.failed writer.old) }
-    ensures bytes { Puts result (W.bytes_taken writer.old) (W.bytes_taken writer.new) pending.old pending.new (exif_lines (Some (exif_of exif.now))) }
+    ensures bytes { Puts result (W.bytes_taken writer.old) (W.bytes_taken writer.new) pending.old pending.new
+        (exif_lines (Some (exif_of exif.now))) }
     ensures count { Counts result (W.failed writer.old) (W.failed writer.new) }
 {
     put_titled(pending, writer, b"[exif]\n", &exif.fields)?;
@@ -89,7 +94,8 @@ fn put_exif<W: Sink>(
     exif: &Option<ExifPart>,
 ) -> Result<(), Failed>
     requires { CanFail (W.failed writer.old) }
-    ensures bytes { Puts result (W.bytes_taken writer.old) (W.bytes_taken writer.new) pending.old pending.new (exif_lines (option_map exif_of exif.now)) }
+    ensures bytes { Puts result (W.bytes_taken writer.old) (W.bytes_taken writer.new) pending.old pending.new
+        (exif_lines (option_map exif_of exif.now)) }
     ensures count { Counts result (W.failed writer.old) (W.failed writer.new) }
 {
     match exif {
@@ -100,7 +106,8 @@ fn put_exif<W: Sink>(
 
 fn put_image<W: Sink>(pending: &mut Pending, writer: &mut W, bytes: &[u8]) -> Result<(), Failed>
     requires { CanFail (W.failed writer.old) }
-    ensures bytes { Puts result (W.bytes_taken writer.old) (W.bytes_taken writer.new) pending.old pending.new (jpeg_lines (Some bytes.now)) }
+    ensures bytes { Puts result (W.bytes_taken writer.old) (W.bytes_taken writer.new) pending.old pending.new
+        (jpeg_lines (Some bytes.now)) }
     ensures count { Counts result (W.failed writer.old) (W.failed writer.new) }
 {
     pending.put(writer, b"jpeg")?;
@@ -113,7 +120,8 @@ fn put_jpeg<W: Sink>(
     jpeg: Option<&[u8]>,
 ) -> Result<(), Failed>
     requires { CanFail (W.failed writer.old) }
-    ensures bytes { Puts result (W.bytes_taken writer.old) (W.bytes_taken writer.new) pending.old pending.new (jpeg_lines (option_map (λ x. x.now) jpeg.entry)) }
+    ensures bytes { Puts result (W.bytes_taken writer.old) (W.bytes_taken writer.new) pending.old pending.new
+        (jpeg_lines (option_map (λ x. x.now) jpeg.entry)) }
     ensures count { Counts result (W.failed writer.old) (W.failed writer.new) }
 {
     match jpeg {
@@ -137,7 +145,8 @@ fn put_each_strip<W: Sink>(
     strips: &Strips,
 ) -> Result<(), Failed>
     requires { CanFail (W.failed writer.old) }
-    ensures bytes { Puts result (W.bytes_taken writer.old) (W.bytes_taken writer.new) pending.old pending.new (flat_map strip_line strips.now) }
+    ensures bytes { Puts result (W.bytes_taken writer.old) (W.bytes_taken writer.new) pending.old pending.new
+        (flat_map strip_line strips.now) }
     ensures count { Counts result (W.failed writer.old) (W.failed writer.new) }
 {
     for i in 0..strips.len() {
@@ -153,7 +162,8 @@ fn put_all_strips<W: Sink>(
     strips: &Strips,
 ) -> Result<(), Failed>
     requires { CanFail (W.failed writer.old) }
-    ensures bytes { Puts result (W.bytes_taken writer.old) (W.bytes_taken writer.new) pending.old pending.new (strips_lines (Some strips.now)) }
+    ensures bytes { Puts result (W.bytes_taken writer.old) (W.bytes_taken writer.new) pending.old pending.new
+        (strips_lines (Some strips.now)) }
     ensures count { Counts result (W.failed writer.old) (W.failed writer.new) }
 {
     put_number(pending, writer, b"strips ", strips.len(), b":\n")?;
@@ -181,7 +191,8 @@ fn put_thumb_part<W: Sink>(
     thumb: &Thumb,
 ) -> Result<(), Failed>
     requires { CanFail (W.failed writer.old) }
-    ensures bytes { Puts result (W.bytes_taken writer.old) (W.bytes_taken writer.new) pending.old pending.new (thumb_lines (Some (thumb_of thumb.now))) }
+    ensures bytes { Puts result (W.bytes_taken writer.old) (W.bytes_taken writer.new) pending.old pending.new
+        (thumb_lines (Some (thumb_of thumb.now))) }
     ensures count { Counts result (W.failed writer.old) (W.failed writer.new) }
 {
     put_titled(pending, writer, b"[thumb]\n", &thumb.fields)?;
@@ -195,7 +206,8 @@ fn put_thumb<W: Sink>(
     thumb: &Option<Thumb>,
 ) -> Result<(), Failed>
     requires { CanFail (W.failed writer.old) }
-    ensures bytes { Puts result (W.bytes_taken writer.old) (W.bytes_taken writer.new) pending.old pending.new (thumb_lines (option_map thumb_of thumb.now)) }
+    ensures bytes { Puts result (W.bytes_taken writer.old) (W.bytes_taken writer.new) pending.old pending.new
+        (thumb_lines (option_map thumb_of thumb.now)) }
     ensures count { Counts result (W.failed writer.old) (W.failed writer.new) }
 {
     match thumb {
@@ -212,7 +224,8 @@ fn put_main<W: Sink>(
     iim: &Option<Iim>,
 ) -> Result<(), Failed>
     requires { CanFail (W.failed writer.old) }
-    ensures bytes { Puts result (W.bytes_taken writer.old) (W.bytes_taken writer.new) pending.old pending.new (codes "exif\n[main]\n" ++ field_lines fields.now ++ record_lines iim.now) }
+    ensures bytes { Puts result (W.bytes_taken writer.old) (W.bytes_taken writer.new) pending.old pending.new
+        (codes "exif\n[main]\n" ++ field_lines fields.now ++ record_lines iim.now) }
     ensures count { Counts result (W.failed writer.old) (W.failed writer.new) }
 {
     put_titled(pending, writer, b"exif\n[main]\n", fields)?;
@@ -229,7 +242,8 @@ pub fn put_exif_listing<W: Sink>(
     meaning: &Meaning,
 ) -> Result<(), Failed>
     requires { CanFail (W.failed writer.old) }
-    ensures bytes { Puts result (W.bytes_taken writer.old) (W.bytes_taken writer.new) pending.old pending.new (exif_listing (meaning_of meaning.now)) }
+    ensures bytes { Puts result (W.bytes_taken writer.old) (W.bytes_taken writer.new) pending.old pending.new
+        (exif_listing (meaning_of meaning.now)) }
     ensures count { Counts result (W.failed writer.old) (W.failed writer.new) }
 {
     put_main(pending, writer, &meaning.main, &meaning.iptc)?;

@@ -35,7 +35,8 @@ pub(crate) fn put_number<W: Sink, I: Integer>(
     after: &[u8],
 ) -> Result<(), Failed>
     requires { CanFail (W.failed writer.old) }
-    ensures bytes { Puts result (W.bytes_taken writer.old) (W.bytes_taken writer.new) pending.old pending.new (before.now ++ I.text n ++ after.now) }
+    ensures bytes { Puts result (W.bytes_taken writer.old) (W.bytes_taken writer.new) pending.old pending.new
+        (before.now ++ I.text n ++ after.now) }
     ensures count { Counts result (W.failed writer.old) (W.failed writer.new) }
 {
     pending.put(writer, before)?;

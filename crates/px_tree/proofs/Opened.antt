@@ -15,5 +15,8 @@ use Rattle.px_tree.specs.Checks.{entry_checks, dir_checks, named_at, thumb_check
 use Rattle.px_tree.specs.Faults.{dir_owners, thumb_owners, owners}
 
 unfoldable pub opened : ℕ
-unfolding form_of elements spelled named put gather is_dataset dataset sequence_of iim_of normal_count normal_dataset role entry has_table table entries next raw_size raw has_raw entry_elements field fields pointer dir_at numbers jpeg_range strip_ranges placed_range dir_ranges thumb_ranges footprint record_at exif_part thumbnail meaning item_size items entry_checks dir_checks named_at thumb_checks tree_checks checks dir_owners thumb_owners owners
+unfolding form_of elements spelled named put gather is_dataset dataset sequence_of iim_of normal_count normal_dataset role entry has_table
+    table entries next raw_size raw has_raw entry_elements field fields pointer dir_at numbers jpeg_range strip_ranges placed_range
+    dir_ranges thumb_ranges footprint record_at exif_part thumbnail meaning item_size items entry_checks dir_checks named_at thumb_checks
+    tree_checks checks dir_owners thumb_owners owners
 opened = 0

@@ -1,18 +1,22 @@
 -- The checks of a block, in the order in which they are made: the first that is false is the first fault. The order of the
 -- checks is this project's profile; what each asks is said with the definition that it tests.
-use Rattle.std.specs.Prelude.{◌≡◌, ℕ, ◌+◌, ◌*◌, ◌==◌, nat_lt, nat_le, Bool, true, false, not, if◌then◌else◌, ◌&&◌, ◌||◌, Option, Some, None, unwrap_or, is_some, option_to_list, List, [], ◌∷◌, ◌++◌, length, take}
+use Rattle.std.specs.Prelude.{◌≡◌, ℕ, ◌+◌, ◌*◌, ◌==◌, nat_lt, nat_le, Bool, true, false, not, if◌then◌else◌, ◌&&◌, ◌||◌, Option, Some, None}
+use Rattle.std.specs.Prelude.{unwrap_or, is_some, option_to_list, List, [], ◌∷◌, ◌++◌, length, take}
 use Rattle.std.specs.List.{list_any}
 use Rattle.px_bytes.specs.declared.Order.{Order}
 use Rattle.px_bytes.specs.declared.Order.TheVariants.{Least, Most}
 use Rattle.px_bytes.specs.declared.Cause.{Cause}
-use Rattle.px_bytes.specs.declared.Cause.TheVariants.{TooLong, UnknownKind, HeaderCut, Loop, DirectoryOutside, EmptyDirectory, Overlap, Unsorted, Doubled, UnknownType, MisplacedOffset, PointerForm, ValueOutside, ThumbnailPair, ExtraDirectory, ThumbnailOutside}
+use Rattle.px_bytes.specs.declared.Cause.TheVariants.{TooLong, UnknownKind, HeaderCut, Loop, DirectoryOutside, EmptyDirectory, Overlap}
+use Rattle.px_bytes.specs.declared.Cause.TheVariants.{Unsorted, Doubled, UnknownType, MisplacedOffset, PointerForm, ValueOutside}
+use Rattle.px_bytes.specs.declared.Cause.TheVariants.{ThumbnailPair, ExtraDirectory, ThumbnailOutside}
 use Rattle.px_bytes.specs.Parts.{limit, part}
 use Rattle.px_bytes.specs.Range.{Range, range, is_free}
 use Rattle.px_bytes.specs.Checks.{Check, check, first_false}
 use Rattle.px_field.specs.Forms.{form_of}
 use Rattle.px_tree.specs.declared.roles.Dir.{Dir}
 use Rattle.px_tree.specs.declared.roles.Dir.TheVariants.{Main, Exif, Interop, Gps, Thumb}
-use Rattle.px_tree.specs.Roles.{exif_tag, gps_tag, interop_tag, jpeg_offset_tag, jpeg_length_tag, strip_offsets_tag, strip_lengths_tag, role}
+use Rattle.px_tree.specs.Roles.{exif_tag, gps_tag, interop_tag, jpeg_offset_tag, jpeg_length_tag, strip_offsets_tag, strip_lengths_tag}
+use Rattle.px_tree.specs.Roles.{role}
 use Rattle.px_tree.specs.Entry.{Entry, short, table_size, next, table, has_raw, has_form, is_allowed}
 use Rattle.px_tree.specs.Directory.{magic, dirs, entries_at, entry_with, is_pointer, main_at, exif_at, dir_at}
 use Rattle.px_tree.specs.Thumbnail.{are_paired, jpeg_range, strip_ranges}
@@ -31,7 +35,8 @@ order_of b = if same_bytes (take 4 b) (magic Least) then Some Least else if same
 
 -- the first bytes, up to four, begin a header
 abbrev pub begins_header : List ℕ → Bool
-begins_header b = nat_lt 0 (length b) && (same_bytes (take 4 b) (take (length b) (magic Least)) || same_bytes (take 4 b) (take (length b) (magic Most)))
+begins_header b =
+    nat_lt 0 (length b) && (same_bytes (take 4 b) (take (length b) (magic Least)) || same_bytes (take 4 b) (take (length b) (magic Most)))
 
 abbrev pub header_checks : List ℕ → List Check
 header_checks b =
@@ -78,7 +83,8 @@ entry_checks b o d held p u e = shape_checks d p u e ++ value_checks b o held p 
 -- those of all entries; the values that were passed are held too
 abbrev pub entries_checks : List ℕ → Order → Dir → List Range → ℕ → Option ℕ → List Entry → List Check
 entries_checks b o d held p u [] = []
-entries_checks b o d held p u (e ∷ es) = entry_checks b o d held p u e ++ entries_checks b o d (option_to_list (placed_range o e) ++ held) (p + 12) (Some e.tag) es
+entries_checks b o d held p u (e ∷ es) =
+    entry_checks b o d held p u e ++ entries_checks b o d (option_to_list (placed_range o e) ++ held) (p + 12) (Some e.tag) es
 
 -- ---- one directory
 
@@ -97,7 +103,8 @@ opening_checks b o earlier held p a =
     ∷ []
 
 unfoldable pub dir_checks : List ℕ → Order → List ℕ → List Range → ℕ → Dir → ℕ → List Check
-dir_checks b o earlier held p d a = opening_checks b o earlier held p a ++ entries_checks b o d (table_range b o a ∷ held) (a + 2) None (entries_at b o a)
+dir_checks b o earlier held p d a =
+    opening_checks b o earlier held p a ++ entries_checks b o d (table_range b o a ∷ held) (a + 2) None (entries_at b o a)
 
 -- the place of the first entry that passes a test, where the first of all stands at p
 abbrev pub place_of : (Entry → Bool) → ℕ → List Entry → ℕ
@@ -123,7 +130,8 @@ checks_at b o earlier held d (Some a) = dir_checks b o earlier held (named_at b 
 -- the directories in order; the offsets of those that were passed are earlier, and their ranges held
 abbrev pub dirs_checks : List ℕ → Order → List ℕ → List Range → List Dir → List Check
 dirs_checks b o earlier held [] = []
-dirs_checks b o earlier held (d ∷ ds) = checks_at b o earlier held d (dir_at b o d) ++ dirs_checks b o (option_to_list (dir_at b o d) ++ earlier) (ranges_at b o d ++ held) ds
+dirs_checks b o earlier held (d ∷ ds) =
+    checks_at b o earlier held d (dir_at b o d) ++ dirs_checks b o (option_to_list (dir_at b o d) ++ earlier) (ranges_at b o d ++ held) ds
 
 -- the ranges that are held behind them
 abbrev pub dirs_held : List ℕ → Order → List Range → List Dir → List Range
@@ -147,9 +155,12 @@ same_count _ _ = true
 -- what is asked of both pairs, where the first entry stands at p
 abbrev pub pair_checks : ℕ → List Entry → List Check
 pair_checks p es =
-    check ThumbnailPair (pair_place jpeg_offset_tag jpeg_length_tag p es) (are_paired (entry_with jpeg_offset_tag es) (entry_with jpeg_length_tag es))
-    ∷ check ThumbnailPair (pair_place strip_offsets_tag strip_lengths_tag p es) (are_paired (entry_with strip_offsets_tag es) (entry_with strip_lengths_tag es))
-    ∷ check ThumbnailPair (place_with strip_offsets_tag p es) (same_count (entry_with strip_offsets_tag es) (entry_with strip_lengths_tag es))
+    check ThumbnailPair (pair_place jpeg_offset_tag jpeg_length_tag p es) (are_paired (entry_with jpeg_offset_tag es)
+    (entry_with jpeg_length_tag es))
+    ∷ check ThumbnailPair (pair_place strip_offsets_tag strip_lengths_tag p es)
+    (are_paired (entry_with strip_offsets_tag es) (entry_with strip_lengths_tag es))
+    ∷ check ThumbnailPair (place_with strip_offsets_tag p es) (same_count (entry_with strip_offsets_tag es)
+    (entry_with strip_lengths_tag es))
     ∷ []
 
 -- no directory follows
@@ -159,7 +170,8 @@ end_checks b o a = check ExtraDirectory (a + 2 + 12 * length (entries_at b o a))
 -- ranges that have to lie within the block and to share no byte with those that are held
 abbrev pub range_checks : List ℕ → ℕ → List Range → List Range → List Check
 range_checks b p held [] = []
-range_checks b p held (r ∷ rs) = check ThumbnailOutside p (nat_le (r.start + r.size) (length b)) ∷ check Overlap p (is_free held r) ∷ range_checks b p (r ∷ held) rs
+range_checks b p held (r ∷ rs) =
+    check ThumbnailOutside p (nat_le (r.start + r.size) (length b)) ∷ check Overlap p (is_free held r) ∷ range_checks b p (r ∷ held) rs
 
 -- the JPEG, then each strip
 abbrev pub part_checks : List ℕ → Order → List Range → ℕ → List Entry → List Check

@@ -1,6 +1,7 @@
 -- Tables, entries and their values. TIFF 6.0 section 2, "Image File Directory", "IFD Entry", "Sort Order", "Types" and
 -- "Value/Offset".
-use Rattle.std.specs.Prelude.{◌≡◌, ℕ, ◌+◌, ◌*◌, ◌<◌, ◌==◌, nat_lt, nat_le, Bool, true, false, if◌then◌else◌, ◌&&◌, ◌||◌, Option, Some, None, is_some, option_map, option_and_then, List, [], ◌∷◌, length, map, take, drop, filter_map, ⊤}
+use Rattle.std.specs.Prelude.{◌≡◌, ℕ, ◌+◌, ◌*◌, ◌<◌, ◌==◌, nat_lt, nat_le, Bool, true, false, if◌then◌else◌, ◌&&◌, ◌||◌, Option, Some, None}
+use Rattle.std.specs.Prelude.{is_some, option_map, option_and_then, List, [], ◌∷◌, length, map, take, drop, filter_map, ⊤}
 use Rattle.std.specs.List.{AllByRecursion}
 use Rattle.px_bytes.specs.declared.Order.{Order}
 use Rattle.px_bytes.specs.Numbers.{number}
@@ -14,7 +15,8 @@ use Rattle.px_field.specs.Values.{Value, elements, widened}
 use Rattle.px_tree.specs.calls.Iim.{Iim, iim_of}
 use Rattle.px_tree.specs.declared.roles.Dir.{Dir}
 use Rattle.px_tree.specs.declared.roles.Role.{Role}
-use Rattle.px_tree.specs.declared.roles.Role.TheVariants.{Plain, Widened, Forbidden, Record, JpegOffset, JpegLength, StripOffsets, StripLengths, To}
+use Rattle.px_tree.specs.declared.roles.Role.TheVariants.{Plain, Widened, Forbidden, Record, JpegOffset, JpegLength, StripOffsets}
+use Rattle.px_tree.specs.declared.roles.Role.TheVariants.{StripLengths, To}
 use Rattle.px_tree.specs.Roles.{role}
 use Rattle.px_tree.specs.Tree.{Fields}
 

@@ -1,11 +1,14 @@
 -- A standing fault, by its cause: what is wrong in a block, and where. It looks at the block alone, and at no order of checks;
 -- of several that stand, the list of checks tells the first. TIFF 6.0 section 2 and section 7, "No Duplicate Pointers"; CIPA
 -- DC-008 4.5.5 and 4.6.3.
-use Rattle.std.specs.Prelude.{◌≡◌, ℕ, ◌+◌, ◌*◌, ◌<◌, ◌≤◌, ◌⊎◌, false, Some, None, option_map, option_to_list, List, [], ◌∷◌, ◌++◌, length, map, take, slice_get, flat_map, Contains}
+use Rattle.std.specs.Prelude.{◌≡◌, ℕ, ◌+◌, ◌*◌, ◌<◌, ◌≤◌, ◌⊎◌, false, Some, None, option_map, option_to_list, List, [], ◌∷◌, ◌++◌, length}
+use Rattle.std.specs.Prelude.{map, take, slice_get, flat_map, Contains}
 use Rattle.std.specs.List.{cons_option}
 use Rattle.px_bytes.specs.declared.Order.{Order}
 use Rattle.px_bytes.specs.declared.Cause.{Cause}
-use Rattle.px_bytes.specs.declared.Cause.TheVariants.{TooLong, UnknownKind, HeaderCut, Loop, DirectoryOutside, EmptyDirectory, Overlap, Unsorted, Doubled, UnknownType, MisplacedOffset, PointerForm, ValueOutside, ThumbnailPair, ExtraDirectory, ThumbnailOutside}
+use Rattle.px_bytes.specs.declared.Cause.TheVariants.{TooLong, UnknownKind, HeaderCut, Loop, DirectoryOutside, EmptyDirectory, Overlap}
+use Rattle.px_bytes.specs.declared.Cause.TheVariants.{Unsorted, Doubled, UnknownType, MisplacedOffset, PointerForm, ValueOutside}
+use Rattle.px_bytes.specs.declared.Cause.TheVariants.{ThumbnailPair, ExtraDirectory, ThumbnailOutside}
 use Rattle.px_bytes.specs.Parts.{limit, part}
 use Rattle.px_bytes.specs.Range.{Range, range, IsIn}
 use Rattle.px_field.specs.Forms.{form_of}
@@ -93,7 +96,9 @@ Names b o x n r =
 
 -- the JPEG or a strip has the range r, and its offset is named by the entry at p; both entries are in order
 abbrev pub PartAt : List ℕ → Order → ℕ → Range → Type 0
-PartAt b o p r = (i j q : ℕ) × (x n : Entry) × EntryAt b o Thumb i p x × EntryAt b o Thumb j q n × IsEntry b o Thumb x × IsEntry b o Thumb n × Names b o x n r
+PartAt b o p r =
+    (i j q : ℕ) × (x n : Entry) × EntryAt b o Thumb i p x × EntryAt b o Thumb j q n × IsEntry b o Thumb x × IsEntry b o Thumb n × Names b o
+    x n r
 
 -- ---- the fault
 
@@ -104,12 +109,16 @@ Fault b TooLong p = (p ≡ limit) × (limit < length b)
 Fault b UnknownKind p = (p ≡ 0) × ((length b ≡ 0) ⊎ ((o : Order) → take 4 b ≡ take (length b) (magic o) → ⊥))
 Fault b HeaderCut p = (p ≡ length b) × (length b < 8)
 -- an earlier directory stands at the same offset
-Fault b Loop p = (o : Order) × (d e : Dir) × (a : ℕ) × Reached b o d a × Reached b o e a × (dir_number e < dir_number d) × (p ≡ named_at b o d)
+Fault b Loop p =
+    (o : Order) × (d e : Dir) × (a : ℕ) × Reached b o d a × Reached b o e a × (dir_number e < dir_number d) × (p ≡ named_at b o d)
 -- its table, the number of entries among it, passes the end
-Fault b DirectoryOutside p = (o : Order) × (d : Dir) × (a : ℕ) × Reached b o d a × (p ≡ named_at b o d) × (length b < a + table_size (short o (part b a 2)))
+Fault b DirectoryOutside p =
+    (o : Order) × (d : Dir) × (a : ℕ) × Reached b o d a × (p ≡ named_at b o d) × (length b < a + table_size (short o (part b a 2)))
 Fault b EmptyDirectory p = (o : Order) × (d : Dir) × Reached b o d p × (p + 2 ≤ length b) × (short o (part b p 2) ≡ 0)
 -- two ranges share a byte; the place is that of the one whose check comes later
-Fault b Overlap p = (o : Order) × (i j q : ℕ) × (r s : Range) × (x : ℕ) × Begins b o × (i < j) × At (owners b o) i (q, r) × At (owners b o) j (p, s) × IsInside b r × IsInside b s × IsIn x r × IsIn x s
+Fault b Overlap p =
+    (o : Order) × (i j q : ℕ) × (r s : Range) × (x : ℕ) × Begins b o × (i < j) × At (owners b o) i (q, r) × At (owners b o) j
+    (p, s) × IsInside b r × IsInside b s × IsIn x r × IsIn x s
 -- a tag is less than the one before, or equal to it
 Fault b Unsorted p = (o : Order) × (d : Dir) × (i q : ℕ) × (e f : Entry) × EntryAt b o d i q e × EntryAt b o d (i + 1) p f × (f.tag < e.tag)
 Fault b Doubled p = (o : Order) × (d : Dir) × (i q : ℕ) × (e f : Entry) × EntryAt b o d i q e × EntryAt b o d (i + 1) p f × (f.tag ≡ e.tag)
@@ -117,8 +126,11 @@ Fault b UnknownType p = (o : Order) × (d : Dir) × (i : ℕ) × (e : Entry) × 
 Fault b MisplacedOffset p = (o : Order) × (d : Dir) × (i : ℕ) × (e : Entry) × EntryAt b o d i p e × (role d e.tag ≡ Forbidden)
 Fault b PointerForm p = (o : Order) × (d : Dir) × (i : ℕ) × (e : Entry) × EntryAt b o d i p e × (has_form (role d e.tag) e ≡ false)
 Fault b ValueOutside p = (o : Order) × (d : Dir) × (i : ℕ) × (e : Entry) × EntryAt b o d i p e × (has_raw b o e ≡ false)
-Fault b ThumbnailPair p = (o : Order) × (a i : ℕ) × (e : Entry) × Reached b o Thumb a × EntryAt b o Thumb i p e × (IsAlone e (entries_at b o a) ⊎ IsUneven e (entries_at b o a))
-Fault b ExtraDirectory p = (o : Order) × (a : ℕ) × Reached b o Thumb a × (p ≡ a + 2 + 12 * length (entries_at b o a)) × (next o (table b o a) ≡ 0 → ⊥)
+Fault b ThumbnailPair p =
+    (o : Order) × (a i : ℕ) × (e : Entry) × Reached b o Thumb a × EntryAt b o Thumb i p
+    e × (IsAlone e (entries_at b o a) ⊎ IsUneven e (entries_at b o a))
+Fault b ExtraDirectory p =
+    (o : Order) × (a : ℕ) × Reached b o Thumb a × (p ≡ a + 2 + 12 * length (entries_at b o a)) × (next o (table b o a) ≡ 0 → ⊥)
 Fault b ThumbnailOutside p = (o : Order) × (r : Range) × PartAt b o p r × (length b < r.start + r.size)
 -- the other three belong to IIM blocks
 Fault b _ p = ⊥

@@ -1,6 +1,7 @@
 -- The meanings that can be written, and the entries that a directory needs for one. TIFF 6.0 section 2, "IFD Entry" and
 -- "Types"; section 8, "StripOffsets" and "StripByteCounts"; CIPA DC-008 4.6.3 and 4.5.5.
-use Rattle.std.specs.Prelude.{◌≡◌, ℕ, ◌*◌, ◌^◌, ◌<◌, ◌≤◌, nat_lt, if◌then◌else◌, Option, Some, None, option_map, option_and_then, List, [], ◌∷◌, length, map, IfSome}
+use Rattle.std.specs.Prelude.{◌≡◌, ℕ, ◌*◌, ◌^◌, ◌<◌, ◌≤◌, nat_lt, if◌then◌else◌, Option, Some, None, option_map, option_and_then, List, []}
+use Rattle.std.specs.Prelude.{◌∷◌, length, map, IfSome}
 use Rattle.std.specs.List.{AllByRecursion}
 use Rattle.px_bytes.specs.declared.Order.TheVariants.{Least}
 use Rattle.px_bytes.specs.Numbers.{AreBytes}
@@ -15,7 +16,8 @@ use Rattle.px_tree.specs.declared.roles.Dir.{Dir}
 use Rattle.px_tree.specs.declared.roles.Dir.TheVariants.{Main, Exif, Interop, Gps, Thumb}
 use Rattle.px_tree.specs.declared.roles.Role.{Role}
 use Rattle.px_tree.specs.declared.roles.Role.TheVariants.{Plain, Widened, Record}
-use Rattle.px_tree.specs.Roles.{exif_tag, gps_tag, interop_tag, record_tag, jpeg_offset_tag, jpeg_length_tag, strip_offsets_tag, strip_lengths_tag, role}
+use Rattle.px_tree.specs.Roles.{exif_tag, gps_tag, interop_tag, record_tag, jpeg_offset_tag, jpeg_length_tag, strip_offsets_tag}
+use Rattle.px_tree.specs.Roles.{strip_lengths_tag, role}
 use Rattle.px_tree.specs.Tree.{Fields, ExifPart, Thumbnail, Meaning}
 use Rattle.px_tree.specs.Entry.{Rising, record_in}
 use Rattle.px_tree.specs.Directory.{dirs}

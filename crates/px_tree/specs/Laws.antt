@@ -87,7 +87,8 @@ IsValueAt b o e _ f v = ⊥
 
 -- an entry of the directory has that tag and means that value
 abbrev pub Means : List ℕ → Order → Dir → ℕ → ℕ → Value → Type 0
-Means b o d a t v = (e : Entry) × (f : Form) × Contains (entries_at b o a) e × (e.tag ≡ t) × (form_of e.code ≡ Some f) × IsValueAt b o e (role d t) f v
+Means b o d a t v =
+    (e : Entry) × (f : Form) × Contains (entries_at b o a) e × (e.tag ≡ t) × (form_of e.code ≡ Some f) × IsValueAt b o e (role d t) f v
 
 -- A pair of tag and value is a field of a directory exactly if an entry there has the tag and means the value.
 abbrev pub FieldsArePairs : Type 0

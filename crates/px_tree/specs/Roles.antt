@@ -5,7 +5,8 @@ use Rattle.std.specs.Prelude.{ℕ, ◌==◌, if◌then◌else◌, Option, Some, 
 use Rattle.px_tree.specs.declared.roles.Dir.{Dir}
 use Rattle.px_tree.specs.declared.roles.Dir.TheVariants.{Main, Exif, Interop, Gps, Thumb}
 use Rattle.px_tree.specs.declared.roles.Role.{Role}
-use Rattle.px_tree.specs.declared.roles.Role.TheVariants.{Plain, Widened, Forbidden, Record, JpegOffset, JpegLength, StripOffsets, StripLengths, To}
+use Rattle.px_tree.specs.declared.roles.Role.TheVariants.{Plain, Widened, Forbidden, Record, JpegOffset, JpegLength, StripOffsets}
+use Rattle.px_tree.specs.declared.roles.Role.TheVariants.{StripLengths, To}
 
 -- ---- the tags, by name
 
@@ -82,7 +83,8 @@ at_tag t (x ∷ xs) = if x.0 == t then Some x.1 else at_tag t xs
 
 -- the tags with a use of their own in a directory: its pointers, its parts, and those where SHORT and LONG mean the same
 abbrev pub special : Dir → List (ℕ × Role)
-special Main = (exif_tag, To Exif) ∷ (gps_tag, To Gps) ∷ (record_tag, Record) ∷ (width_tag, Widened) ∷ (length_tag, Widened) ∷ (rows_tag, Widened) ∷ []
+special Main =
+    (exif_tag, To Exif) ∷ (gps_tag, To Gps) ∷ (record_tag, Record) ∷ (width_tag, Widened) ∷ (length_tag, Widened) ∷ (rows_tag, Widened) ∷ []
 special Exif = (interop_tag, To Interop) ∷ (pixel_x_tag, Widened) ∷ (pixel_y_tag, Widened) ∷ []
 special Interop = []
 special Gps = []

@@ -19,7 +19,8 @@ use Rattle.px_tree.specs.Footprint.{footprint}
 
 -- the record in the directory at a
 unfoldable pub record_at : List ℕ → Order → ℕ → Option Iim
-record_at b o a = option_and_then (λ e. option_and_then (λ f. record_in f (raw b o e)) (form_of e.code)) (entry_with record_tag (entries_at b o a))
+record_at b o a =
+    option_and_then (λ e. option_and_then (λ f. record_in f (raw b o e)) (form_of e.code)) (entry_with record_tag (entries_at b o a))
 
 unfoldable pub exif_part : List ℕ → Order → ℕ → ExifPart
 exif_part b o a = record { fields = fields b o Exif a; interop = fields_at b o Interop }

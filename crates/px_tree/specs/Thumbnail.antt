@@ -56,13 +56,15 @@ ranges_of (x ∷ xs) (n ∷ ns) = range x n ∷ ranges_of xs ns
 
 -- the strips, by the list of their offsets and that of their lengths
 unfoldable pub strip_ranges : List ℕ → Order → List Entry → Option (List Range)
-strip_ranges b o es = both (λ x n. ranges_of (numbers b o x) (numbers b o n)) (entry_with strip_offsets_tag es) (entry_with strip_lengths_tag es)
+strip_ranges b o es =
+    both (λ x n. ranges_of (numbers b o x) (numbers b o n)) (entry_with strip_offsets_tag es) (entry_with strip_lengths_tag es)
 
 -- the thumbnail directory at a is in order: each pair is whole, its bytes lie within the block, and no directory follows
 pub record IsThumbnail (b : List ℕ) (o : Order) (a : ℕ) : Type 0 where
   pub jpeg_pair : are_paired (entry_with jpeg_offset_tag (entries_at b o a)) (entry_with jpeg_length_tag (entries_at b o a)) ≡ true
   pub jpeg_inside : IfSome (jpeg_range o (entries_at b o a)) (IsInside b)
   pub strip_pair : are_paired (entry_with strip_offsets_tag (entries_at b o a)) (entry_with strip_lengths_tag (entries_at b o a)) ≡ true
-  pub strip_counts : option_map (λ e. e.count) (entry_with strip_offsets_tag (entries_at b o a)) ≡ option_map (λ e. e.count) (entry_with strip_lengths_tag (entries_at b o a))
+  pub strip_counts : option_map (λ e. e.count) (entry_with strip_offsets_tag (entries_at b o a)) ≡ option_map (λ e. e.count)
+      (entry_with strip_lengths_tag (entries_at b o a))
   pub strips_inside : IfSome (strip_ranges b o (entries_at b o a)) (AllByRecursion (IsInside b))
   pub ends : next o (table b o a) ≡ 0

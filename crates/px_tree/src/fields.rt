@@ -1,5 +1,6 @@
 // The fields of a directory, by their tags.
-ghost use Rattle.std.specs.Prelude.{◌≡◌, ◌<◌, [], ◌∷◌, ◌++◌, OnOk, IfOk, IfErr, OnErr, Some, None, length, slice_get, option_copied, is_some, true, false, IsTrue, ◌↔◌};
+ghost use Rattle.std.specs.Prelude.{◌≡◌, ◌<◌, [], ◌∷◌, ◌++◌, OnOk, IfOk, IfErr, OnErr, Some, None, length, slice_get, option_copied};
+ghost use Rattle.std.specs.Prelude.{is_some, true, false, IsTrue, ◌↔◌};
 ghost use Rattle.px_bytes.specs.Lacking.{Lacks};
 ghost use Rattle.px_tree.specs.Roles.{at_tag};
 ghost use Rattle.px_tree.specs.Fits.{put};

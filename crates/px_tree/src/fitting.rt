@@ -9,7 +9,8 @@ ghost use Rattle.px_iim.specs.Record.{normal_iim};
 ghost use Rattle.px_tree.specs.Roles.{role, record_tag};
 ghost use Rattle.px_tree.specs.Entry.{record_in};
 ghost use Rattle.px_tree.specs.Directory.{dirs};
-ghost use Rattle.px_tree.specs.Fits.{Allows, FitsFields, FitsExif, FitsThumb, Fits, IsBytes, items, field_items, main_items, exif_items, thumb_items};
+ghost use Rattle.px_tree.specs.Fits.{Allows, FitsFields, FitsExif, FitsThumb, Fits, IsBytes, items, field_items, main_items, exif_items};
+ghost use Rattle.px_tree.specs.Fits.{thumb_items};
 ghost use Rattle.px_tree.specs.calls.Seen.{exif_of, thumb_of, meaning_of};
 
 use crate::fields::Fields;
@@ -215,7 +216,8 @@ fn is_exif_filled(part: &Option<ExifPart>) -> bool
 
 // Whether the Interoperability directory has an entry, if it is there.
 fn is_interop_filled(part: &Option<ExifPart>) -> bool
-    ensures { IsTrue result ↔ IfSome (option_and_then (λ e. option_map field_items e.interop) (option_map exif_of part.now)) (λ xs. 1 ≤ length xs) }
+    ensures { IsTrue result ↔ IfSome (option_and_then (λ e. option_map field_items e.interop) (option_map exif_of part.now))
+        (λ xs. 1 ≤ length xs) }
 {
     match part {
         Some(part) => is_filled(&part.interop),

@@ -1,6 +1,7 @@
 // The thumbnail's bytes: a JPEG, or strips. CIPA DC-008 4.5.5; TIFF 6.0 section 8, "StripOffsets" and
 // "StripByteCounts".
-ghost use Rattle.std.specs.Prelude.{◌≡◌, ◌≤◌, ◌<◌, ◌+◌, ◌++◌, ◌⊎◌, List, [], ◌∷◌, length, map, nat_le, slice_get, Some, IfOk, IfSome, option_map, option_to_list, ⊤};
+ghost use Rattle.std.specs.Prelude.{◌≡◌, ◌≤◌, ◌<◌, ◌+◌, ◌++◌, ◌⊎◌, List, [], ◌∷◌, length, map, nat_le, slice_get, Some, IfOk, IfSome};
+ghost use Rattle.std.specs.Prelude.{option_map, option_to_list, ⊤};
 ghost use Rattle.px_bytes.specs.declared.Cause.TheVariants.{Overlap, ThumbnailOutside};
 ghost use Rattle.px_bytes.specs.Parts.{limit, part};
 ghost use Rattle.px_bytes.specs.Range.{Range, range, is_free, Agrees};
@@ -12,7 +13,8 @@ ghost use Rattle.px_tree.specs.Says.{thumbnail};
 ghost use Rattle.px_tree.specs.calls.Seen.{thumb_of};
 ghost use Rattle.px_tree.specs.Checks.{end_checks, range_checks, thumb_checks, thumb_checks_at};
 ghost use Rattle.px_tree.specs.calls.Reading.{HasTable};
-ghost use Rattle.px_tree.specs.calls.Parts.{HasNumbers, HaveNumbers, AreEven, entry_here, place_in, pair_check, count_check, pairs_checks, jpeg_of, strips_of, IsReadThumb};
+ghost use Rattle.px_tree.specs.calls.Parts.{HasNumbers, HaveNumbers, AreEven, entry_here, place_in, pair_check, count_check, pairs_checks};
+ghost use Rattle.px_tree.specs.calls.Parts.{jpeg_of, strips_of, IsReadThumb};
 
 use crate::entry_values::value_at;
 use crate::holding::hold;

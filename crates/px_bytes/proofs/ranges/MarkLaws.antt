@@ -1,5 +1,6 @@
 -- Sets of numbers as bits: a word, rows above rows, and what is put in.
-use Rattle.std.proofs.Common.{◌≡◌, ◌≢◌, inl, inr, ℕ, zero, ◌+◌, ◌*◌, ◌/◌, ◌%◌, ◌^◌, ◌<◌, ◌≤◌, max, List, length, length-set, get_or, set, refl, sym, ap, ◌∙◌, subst, arith, w64, bit_and, bit_or}
+use Rattle.std.proofs.Common.{◌≡◌, ◌≢◌, inl, inr, ℕ, zero, ◌+◌, ◌*◌, ◌/◌, ◌%◌, ◌^◌, ◌<◌, ◌≤◌, max, List, length, length-set, get_or, set}
+use Rattle.std.proofs.Common.{refl, sym, ap, ◌∙◌, subst, arith, w64, bit_and, bit_or}
 use Rattle.std.specs.Int.{bit_at}
 use Rattle.std.proofs.lemmas.Bool.{cases_lt, cases_eq}
 use Rattle.std.proofs.lemmas.Nat.{div-add-mod', div-mul-add, mod-mul-add, mod_below}
@@ -25,7 +26,8 @@ some_word words n h zero_word =
     omega (arith, h, clear)
 
 -- the greatest number in a word
-last_in_word : (words : List ℕ) (i h : ℕ) → ((k : ℕ) → h < k → bit_at (get_or words i 0) k ≡ 0) → (q : ℕ) → q / 64 ≡ i → Has words q → q ≤ i * 64 + h
+last_in_word : (words : List ℕ) (i h : ℕ) → ((k : ℕ) → h < k → bit_at (get_or words i 0) k ≡ 0) → (q : ℕ) → q / 64 ≡ i → Has words q
+    → q ≤ i * 64 + h
 last_in_word words i h above q at has = let sq = split q in
     elim (cases_lt h (q % 64)) [
       | inl past ↦
@@ -63,20 +65,24 @@ told_some low high m i s last = record {
 
 -- ---- a number more
 
-pub marked : (words : List ℕ) (n : ℕ) → n / 64 < length words → MarkedAt words (set words (n / 64) (bit_or (get_or words (n / 64) 0) (1 * 2 ^ (n % 64) % 2 ^ 64))) n
+pub marked : (words : List ℕ) (n : ℕ) → n / 64 < length words
+    → MarkedAt words (set words (n / 64) (bit_or (get_or words (n / 64) 0) (1 * 2 ^ (n % 64) % 2 ^ 64))) n
 marked words n inside = record {
   here = ap (λ (x : ℕ). bit_at x (n % 64)) same ∙ bit_at_set_same w64 old (n % 64) (split n).1;
   kept = λ q h. elim (cases_eq (q / 64) (n / 64)) [
     | inl e ↦ elim (cases_eq (q % 64) (n % 64)) [
-      | inl f ↦ ap (λ (x : ℕ). bit_at (get_or next x 0) (q % 64)) e ∙ ap (λ (x : ℕ). bit_at x (q % 64)) same ∙ ap (λ (x : ℕ). bit_at word x) f ∙ bit_at_set_same w64 old (n % 64) (split n).1
-      | inr nf ↦ at_word q e ∙ bit_at_set_other w64 old (n % 64) (split n).1 (q % 64) nf ∙ sym (ap (λ (x : ℕ). bit_at (get_or words x 0) (q % 64)) e) ∙ h
+      | inl f ↦ ap (λ (x : ℕ). bit_at (get_or next x 0) (q % 64)) e ∙ ap (λ (x : ℕ). bit_at x (q % 64)) same
+          ∙ ap (λ (x : ℕ). bit_at word x) f ∙ bit_at_set_same w64 old (n % 64) (split n).1
+      | inr nf ↦ at_word q e ∙ bit_at_set_other w64 old (n % 64) (split n).1 (q % 64) nf
+          ∙ sym (ap (λ (x : ℕ). bit_at (get_or words x 0) (q % 64)) e) ∙ h
     ]
     | inr ne ↦ ap (λ (x : ℕ). bit_at x (q % 64)) (get_or-set_other words (n / 64) (q / 64) word 0 ne) ∙ h
   ];
   only = λ q h. elim (cases_eq (q / 64) (n / 64)) [
     | inl e ↦ elim (cases_eq (q % 64) (n % 64)) [
       | inl f ↦ inl (sym (split q).0 ∙ ap (λ (x : ℕ). x * 64 + q % 64) e ∙ ap (λ (x : ℕ). n / 64 * 64 + x) f ∙ (split n).0)
-      | inr nf ↦ inr (ap (λ (x : ℕ). bit_at (get_or words x 0) (q % 64)) e ∙ sym (at_word q e ∙ bit_at_set_other w64 old (n % 64) (split n).1 (q % 64) nf) ∙ h)
+      | inr nf ↦ inr (ap (λ (x : ℕ). bit_at (get_or words x 0) (q % 64)) e
+          ∙ sym (at_word q e ∙ bit_at_set_other w64 old (n % 64) (split n).1 (q % 64) nf) ∙ h)
     ]
     | inr ne ↦ inr (sym (ap (λ (x : ℕ). bit_at x (q % 64)) (get_or-set_other words (n / 64) (q / 64) word 0 ne)) ∙ h)
   ];
@@ -108,7 +114,8 @@ marked_already words n some = record {
         let small = bit_at-lt word (n % 64) in
         let clear : bit_at word (n % 64) ≡ 0 = omega (arith, ne, small) in
         let none : 0 * 2 ^ (n % 64) ≡ 0 = omega arith in
-        absurd (some (ap (λ (x : ℕ). bit_and word x) (shl_one (n % 64) (split n).1) ∙ and_pow word (n % 64) ∙ ap (λ (x : ℕ). x * 2 ^ (n % 64)) clear ∙ none))
+        absurd (some (ap (λ (x : ℕ). bit_and word x) (shl_one (n % 64) (split n).1) ∙ and_pow word (n % 64)
+        ∙ ap (λ (x : ℕ). x * 2 ^ (n % 64)) clear ∙ none))
   ];
   kept = λ q h. h;
   only = λ q h. inr h;
@@ -120,7 +127,8 @@ marked_already words n some = record {
     word = get_or words (n / 64) 0
 
 -- and the row above goes along
-pub sums_marked : (low high low2 high2 : List ℕ) (n : ℕ) → Sums low high → MarkedAt low low2 n → MarkedAt high high2 (n / 64) → Sums low2 high2
+pub sums_marked : (low high low2 high2 : List ℕ) (n : ℕ) → Sums low high → MarkedAt low low2 n → MarkedAt high high2 (n / 64)
+    → Sums low2 high2
 sums_marked low high low2 high2 n s a b = record {
   tells = λ i h. elim (cases_eq i (n / 64)) [
     | inl e ↦ subst (λ (x : ℕ). get_or low2 x 0 ≢ 0) (sym e) (some_word low2 n a.here)
@@ -138,7 +146,8 @@ sums_marked low high low2 high2 n s a b = record {
 has_same : (old new : List ℕ) (n : ℕ) → SameMarks old new → Has old n → Has new n
 has_same old new n s h = ap (λ (x : ℕ). bit_at x (n % 64)) (s (n / 64)) ∙ h
 
-pub sums_grown : (low high low2 high2 : List ℕ) → Sums low high → SameMarks low low2 → SameMarks high high2 → length low2 ≤ 64 * length high2 → Sums low2 high2
+pub sums_grown : (low high low2 high2 : List ℕ) → Sums low high → SameMarks low low2 → SameMarks high high2
+    → length low2 ≤ 64 * length high2 → Sums low2 high2
 sums_grown low high low2 high2 s a b fits = record {
   tells = λ i h z. s.tells i (has_same high2 high i (λ j. sym (b j)) h) (sym (a i) ∙ z);
   told = λ i some. has_same high high2 i b (s.told i (λ z. some (a i ∙ z)));
@@ -146,5 +155,6 @@ sums_grown low high low2 high2 s a b fits = record {
 }
 
 -- a row that has grown to m + 1 words has room above
-pub room_above : (low low2 high high2 m : ℕ) → low2 ≤ max low (m + 1) → low ≤ 64 * high → high ≤ high2 → m / 64 + 1 ≤ high2 → low2 ≤ 64 * high2
+pub room_above : (low low2 high high2 m : ℕ) → low2 ≤ max low (m + 1) → low ≤ 64 * high → high ≤ high2 → m / 64 + 1 ≤ high2
+    → low2 ≤ 64 * high2
 room_above low low2 high high2 m p q r s = let sm = split m in omega (arith, sm.0, sm.1)

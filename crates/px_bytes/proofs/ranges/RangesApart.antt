@@ -1,5 +1,6 @@
 -- Ranges that share no byte, and the marks of their starts and ends.
-use Rattle.std.proofs.Common.{◌≡◌, ◌≢◌, ◌≤◌, ◌<◌, ◌+◌, ◌*◌, ◌/◌, ◌%◌, ℕ, zero, suc, Bool, true, false, cond, List, [], ◌∷◌, length, get_or, min, max, Some, None, ◌⊎◌, inl, inr, refl, sym, ap, subst, ◌∙◌, arith}
+use Rattle.std.proofs.Common.{◌≡◌, ◌≢◌, ◌≤◌, ◌<◌, ◌+◌, ◌*◌, ◌/◌, ◌%◌, ℕ, zero, suc, Bool, true, false, cond, List, [], ◌∷◌, length, get_or}
+use Rattle.std.proofs.Common.{min, max, Some, None, ◌⊎◌, inl, inr, refl, sym, ap, subst, ◌∙◌, arith}
 use Rattle.std.proofs.lemmas.Bool.{cases_lt, false_from_ne_true, eq-eqb, eqb-true}
 use Rattle.std.proofs.lemmas.Nat.Bits.{bit_at-zero}
 use Rattle.std.proofs.Math.ListN.{get_or-eq_default}
@@ -23,7 +24,8 @@ one_end held s e t f p q same =
 -- ---- the last mark below `end` decides
 
 -- behind an end, at or before `start`, no range begins before `end`
-pub free_end : (held : List (ℕ × ℕ)) (words : List ℕ) (start end p : ℕ) → AreApart held → Marked held words → IsLast words (end * 2) (2 * p) → p ≤ start → IsFree held start end
+pub free_end : (held : List (ℕ × ℕ)) (words : List ℕ) (start end p : ℕ) → AreApart held → Marked held words
+    → IsLast words (end * 2) (2 * p) → p ≤ start → IsFree held start end
 free_end held words start end p ok m last at s e holds = elim (cases_lt s end) [
   | inr late ↦ omega arith
   | inl early ↦
@@ -38,14 +40,16 @@ free_end held words start end p ok m last at s e holds = elim (cases_lt s end) [
               | inl before ↦ let clear = ok.apart owner.0 p s e owner.1 holds before in absurd (omega arith)
               | inr from ↦ elim (cases_lt s owner.0) [
                 | inl after ↦ let clear = ok.apart s e owner.0 p holds owner.1 after in absurd (omega arith)
-                | inr upto ↦ let same : s ≡ owner.0 = omega arith in let ends = one_end held s e owner.0 p holds owner.1 same in absurd (omega arith)
+                | inr upto ↦ let same : s ≡ owner.0 =
+                    omega arith in let ends = one_end held s e owner.0 p holds owner.1 same in absurd (omega arith)
               ]
             ]
       ]
 ]
 
 -- a range that starts there goes past `end`
-pub taken_start : (held : List (ℕ × ℕ)) (words : List ℕ) (start end p : ℕ) → AreApart held → Marked held words → IsLast words (end * 2) (2 * p + 1) → start < end → IsTaken held start end
+pub taken_start : (held : List (ℕ × ℕ)) (words : List ℕ) (start end p : ℕ) → AreApart held → Marked held words
+    → IsLast words (end * 2) (2 * p + 1) → start < end → IsTaken held start end
 taken_start held words start end p ok m last some =
     let range = m.started p last.has in
     let e = range.0 in
@@ -57,7 +61,8 @@ taken_start held words start end p ok m last some =
     ]
 
 -- a range that ends there has a byte from `start` on
-pub taken_end : (held : List (ℕ × ℕ)) (words : List ℕ) (start end p : ℕ) → AreApart held → Marked held words → IsLast words (end * 2) (2 * p) → start < p → start < end → IsTaken held start end
+pub taken_end : (held : List (ℕ × ℕ)) (words : List ℕ) (start end p : ℕ) → AreApart held → Marked held words
+    → IsLast words (end * 2) (2 * p) → start < p → start < end → IsTaken held start end
 taken_end held words start end p ok m last before some =
     let range = m.ended p last.has in
     let full : range.0 < p = ok.not_empty range.0 p range.1 in
@@ -69,7 +74,8 @@ pub at_start : (words : List ℕ) (n last : ℕ) → IsLast words n last → las
 at_start words n last h odd = let split = div-add-mod' last 2 in subst (λ (x : ℕ). IsLast words n x) (omega arith) h
 
 pub at_end : (words : List ℕ) (n last : ℕ) → IsLast words n last → last % 2 ≢ 1 → IsLast words n (2 * (last / 2))
-at_end words n last h even = let split = div-add-mod' last 2 in let bit = mod_below last 2 (omega arith) in subst (λ (x : ℕ). IsLast words n x) (omega arith) h
+at_end words n last h even =
+    let split = div-add-mod' last 2 in let bit = mod_below last 2 (omega arith) in subst (λ (x : ℕ). IsLast words n x) (omega arith) h
 
 -- ---- one range more
 
@@ -106,32 +112,39 @@ has_inside words n h = elim (cases_lt (n / 64) (length words)) [
       absurd (omega (arith, h, clear))
 ]
 
-first_end : (words : List ℕ) (places p e : ℕ) → p ≤ e → e < p + places → Has words (2 * e) → ((q : ℕ) → p ≤ q → q < e → Has words (2 * q) → ⊥) → end_from words places p ≡ e
+first_end : (words : List ℕ) (places p e : ℕ) → p ≤ e → e < p + places → Has words (2 * e)
+    → ((q : ℕ) → p ≤ q → q < e → Has words (2 * q) → ⊥) → end_from words places p ≡ e
 first_end words zero p e l m h none = absurd (omega arith)
 first_end words (suc places) p e l m h none = elim (cases_lt p e) [
   | inl before ↦ ap (λ (b : Bool). cond b p (end_from words places (suc p))) (false_has words (2 * p) (none p (omega arith) before))
       ∙ first_end words places (suc p) e (omega arith) (omega arith) h (λ q k. none q (omega arith))
   | inr from ↦
       let same : p ≡ e = omega arith in
-      ap (λ (b : Bool). cond b p (end_from words places (suc p))) (has_true words (2 * p) (subst (λ (x : ℕ). Has words (2 * x)) (sym same) h)) ∙ same
+      ap (λ (b : Bool). cond b p (end_from words places (suc p))) (has_true words (2 * p)
+      (subst (λ (x : ℕ). Has words (2 * x)) (sym same) h)) ∙ same
 ]
 
 -- a start that is marked is that of a range
-holds_told : (words : List ℕ) (places n s : ℕ) → s < n → Has words (2 * s + 1) → Holds (told_before words places n) s (end_from words places (suc s))
+holds_told : (words : List ℕ) (places n s : ℕ) → s < n → Has words (2 * s + 1)
+    → Holds (told_before words places n) s (end_from words places (suc s))
 holds_told words places zero s l h = absurd (omega arith)
 holds_told words places (suc n) s l h = elim (cases_lt s n) [
   | inl before ↦ other before (has words (2 * n + 1)) (holds_told words places n s before h)
   | inr from ↦ let same : s ≡ n = omega arith in
-      ap (λ (b : Bool). lookup (is_at (nat_cmp s)) (cond b ((n, end_from words places (suc n)) ∷ told_before words places n) (told_before words places n)))
+      ap (λ (b : Bool). lookup (is_at (nat_cmp s)) (cond b ((n, end_from words places (suc n)) ∷ told_before words places n)
+      (told_before words places n)))
       (has_true words (2 * n + 1) (subst (λ (x : ℕ). Has words (2 * x + 1)) same h))
-      ∙ ap (λ (b : Bool). cond b (Some (end_from words places (suc n))) (lookup (is_at (nat_cmp s)) (told_before words places n))) (subst (λ (x : ℕ). is_eq (nat_cmp s x) ≡ true) same (is_eq-refl s))
+      ∙ ap (λ (b : Bool). cond b (Some (end_from words places (suc n))) (lookup (is_at (nat_cmp s)) (told_before words places n)))
+      (subst (λ (x : ℕ). is_eq (nat_cmp s x) ≡ true) same (is_eq-refl s))
       ∙ ap (λ (x : ℕ). Some (end_from words places (suc x))) (sym same)
 ]
   where
     other : s < n → (b : Bool) → Holds (told_before words places n) s (end_from words places (suc s))
-        → Holds (cond b ((n, end_from words places (suc n)) ∷ told_before words places n) (told_before words places n)) s (end_from words places (suc s))
+        → Holds (cond b ((n, end_from words places (suc n)) ∷ told_before words places n) (told_before words places n)) s
+        (end_from words places (suc s))
     other before false k = k
-    other before true k = ap (λ (b : Bool). cond b (Some (end_from words places (suc n))) (lookup (is_at (nat_cmp s)) (told_before words places n)))
+    other before true k =
+        ap (λ (b : Bool). cond b (Some (end_from words places (suc n))) (lookup (is_at (nat_cmp s)) (told_before words places n)))
         (false_from_ne_true (is_eq (nat_cmp s n)) (λ e. let same = is_eq-same s n e in absurd (omega arith))) ∙ k
 
 -- and each range has its start marked
@@ -139,13 +152,16 @@ start_told : (words : List ℕ) (places n s e : ℕ) → Holds (told_before word
 start_told words places zero s e h = let clash : None ≡ Some e = h in absurd (cc)
 start_told words places (suc n) s e h = go (start_told words places n s e) (has words (2 * n + 1)) refl h
   where
-    one : (b : Bool) → is_eq (nat_cmp s n) ≡ b → (Holds (told_before words places n) s e → Has words (2 * s + 1)) → has words (2 * n + 1) ≡ true
-        → cond b (Some (end_from words places (suc n))) (lookup (is_at (nat_cmp s)) (told_before words places n)) ≡ Some e → Has words (2 * s + 1)
+    one : (b : Bool) → is_eq (nat_cmp s n) ≡ b → (Holds (told_before words places n) s e → Has words (2 * s + 1))
+        → has words (2 * n + 1) ≡ true
+        → cond b (Some (end_from words places (suc n))) (lookup (is_at (nat_cmp s)) (told_before words places n)) ≡ Some e
+        → Has words (2 * s + 1)
     one true same more marked k = subst (λ (x : ℕ). Has words (2 * x + 1)) (sym (is_eq-same s n same)) (true_has words (2 * n + 1) marked)
     one false same more marked k = more k
 
     go : (Holds (told_before words places n) s e → Has words (2 * s + 1)) → (b : Bool) → has words (2 * n + 1) ≡ b
-        → Holds (cond b ((n, end_from words places (suc n)) ∷ told_before words places n) (told_before words places n)) s e → Has words (2 * s + 1)
+        → Holds (cond b ((n, end_from words places (suc n)) ∷ told_before words places n) (told_before words places n)) s e
+        → Has words (2 * s + 1)
     go more true marked k = one (is_eq (nat_cmp s n)) refl more marked k
     go more false marked k = more k
 
@@ -173,7 +189,8 @@ adds old grown new n same m = record {
 }
 
 -- the marks of a range that is free put it with the others
-pub takes_told : (words one two : List ℕ) (start end : ℕ) → AreApart (told words) → Marked (told words) words → IsFree (told words) start end → start < end
+pub takes_told : (words one two : List ℕ) (start end : ℕ) → AreApart (told words) → Marked (told words) words
+    → IsFree (told words) start end → start < end
     → Adds words one (start * 2 + 1) → MarkedAt one two (end * 2) → Takes (told words) (told two) start end
 takes_told words one two start end ok m free some a b = record {
   here = here;
@@ -206,7 +223,8 @@ takes_told words one two start end ok m free some a b = record {
       | inr k ↦ elim (a.only (2 * q) k) [ inl e ↦ absurd (omega arith) | inr l ↦ inr l ]
     ]
 
-    found : (s e : ℕ) → s < e → Has two (2 * s + 1) → Has two (2 * e) → ((q : ℕ) → suc s ≤ q → q < e → Has two (2 * q) → ⊥) → Holds (told two) s e
+    found : (s e : ℕ) → s < e → Has two (2 * s + 1) → Has two (2 * e) → ((q : ℕ) → suc s ≤ q → q < e → Has two (2 * q) → ⊥)
+        → Holds (told two) s e
     found s e l hs he none =
         let inside = place_inside two e (2 * e) he (omega arith) in
         let ends = first_end two (32 * length two) (suc s) e (omega arith) (omega arith) he none in
@@ -226,7 +244,8 @@ takes_told words one two start end ok m free some a b = record {
     kept s e holds =
         let full : s < e = ok.not_empty s e holds in
         let clear : min e end ≤ max s start = free s e holds in
-        found s e full (b.kept _ (a.kept _ (m.start s e holds))) (b.kept _ (a.kept _ (m.end s e holds))) (λ q from before h. elim (which q h) [
+        found s e full (b.kept _ (a.kept _ (m.start s e holds))) (b.kept _ (a.kept _ (m.end s e holds)))
+        (λ q from before h. elim (which q h) [
           | inl same ↦ absurd (omega arith)
           | inr k ↦
               let owner = m.ended q k in
@@ -235,13 +254,15 @@ takes_told words one two start end ok m free some a b = record {
                 | inl l ↦ let gap = ok.apart owner.0 q s e owner.1 holds l in absurd (omega arith)
                 | inr l ↦ elim (cases_lt s owner.0) [
                   | inl r ↦ let gap = ok.apart s e owner.0 q holds owner.1 r in absurd (omega arith)
-                  | inr r ↦ let same : owner.0 ≡ s = omega arith in let ends = one_end (told words) owner.0 q s e owner.1 holds same in absurd (omega arith)
+                  | inr r ↦ let same : owner.0 ≡ s =
+                      omega arith in let ends = one_end (told words) owner.0 q s e owner.1 holds same in absurd (omega arith)
                 ]
               ]
         ])
 
 -- what held ranges and one that is free are
-pub apart_with : (old new : List (ℕ × ℕ)) (start end : ℕ) → AreApart old → IsFree old start end → start < end → Takes old new start end → AreApart new
+pub apart_with : (old new : List (ℕ × ℕ)) (start end : ℕ) → AreApart old → IsFree old start end → start < end → Takes old new start end
+    → AreApart new
 apart_with old new start end ok free some takes = record {
   not_empty = λ s e holds. elim (takes.only s e holds) [
     | inl h ↦ let a = h.0 in let b = h.1 in omega arith
@@ -289,7 +310,8 @@ unmarked words same n h =
 told_before_none : (words : List ℕ) (places n : ℕ) → SameMarks [] words → told_before words places n ≡ []
 told_before_none words places zero same = refl
 told_before_none words places (suc n) same =
-    ap (λ (b : Bool). cond b ((n, end_from words places (suc n)) ∷ told_before words places n) (told_before words places n)) (false_has words (2 * n + 1) (unmarked words same (2 * n + 1)))
+    ap (λ (b : Bool). cond b ((n, end_from words places (suc n)) ∷ told_before words places n) (told_before words places n))
+    (false_has words (2 * n + 1) (unmarked words same (2 * n + 1)))
     ∙ told_before_none words places n same
 
 pub told_none : (words : List ℕ) → SameMarks [] words → told words ≡ []

@@ -17,7 +17,8 @@ end_from words (suc n) p = cond (has words (2 * p)) p (end_from words n (suc p))
 -- the ranges that start before n, from the last one on, each up to the first end behind its start
 abbrev pub told_before : List ℕ → ℕ → ℕ → List (ℕ × ℕ)
 told_before words places zero = []
-told_before words places (suc n) = cond (has words (2 * n + 1)) ((n, end_from words places (suc n)) ∷ told_before words places n) (told_before words places n)
+told_before words places (suc n) =
+    cond (has words (2 * n + 1)) ((n, end_from words places (suc n)) ∷ told_before words places n) (told_before words places n)
 
 -- the ranges that the marks tell: each word has the marks of 32 places
 abbrev pub told : List ℕ → List (ℕ × ℕ)

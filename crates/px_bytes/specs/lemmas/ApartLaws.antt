@@ -1,5 +1,6 @@
 -- Ranges that share no byte: the test, and how much they take.
-use Rattle.std.proofs.Common.{◌≡◌, ℕ, zero, suc, ◌+◌, ◌-◌, ◌<◌, ◌≤◌, inl, inr, max, min, Bool, true, false, not, ◌&&◌, nat_lt, List, [], ◌∷◌, ◌++◌, refl, sym, ap, ◌∙◌, subst, arith, ltb-true, lt-ltb}
+use Rattle.std.proofs.Common.{◌≡◌, ℕ, zero, suc, ◌+◌, ◌-◌, ◌<◌, ◌≤◌, inl, inr, max, min, Bool, true, false, not, ◌&&◌, nat_lt, List, []}
+use Rattle.std.proofs.Common.{◌∷◌, ◌++◌, refl, sym, ap, ◌∙◌, subst, arith, ltb-true, lt-ltb}
 use Rattle.std.specs.List.{AllByRecursion}
 use Rattle.std.proofs.lemmas.Bool.{and_parts, and_from, not-true, not_from_false, both_ways, cases_lt, false_from_ne_true}
 use Rattle.px_bytes.specs.Range.{Range, range, IsIn, Apart, AllApart, shares, is_free, SameFree}
@@ -9,7 +10,8 @@ use Rattle.px_bytes.specs.Range.{Range, range, IsIn, Apart, AllApart, shares, is
 -- ranges that share a byte do so by the test
 pub shares-true : (r s : Range) (p : ℕ) → IsIn p r → IsIn p s → shares r s ≡ true
 shares-true r s p i j =
-    and_from _ _ (and_from _ _ (and_from _ _ (lt-ltb 0 r.size (omega arith)) (lt-ltb 0 s.size (omega arith))) (lt-ltb r.start (s.start + s.size) (omega arith))) (lt-ltb s.start (r.start + r.size) (omega arith))
+    and_from _ _ (and_from _ _ (and_from _ _ (lt-ltb 0 r.size (omega arith)) (lt-ltb 0 s.size (omega arith)))
+    (lt-ltb r.start (s.start + s.size) (omega arith))) (lt-ltb s.start (r.start + r.size) (omega arith))
 
 -- ranges that share none by the test have none
 pub apart_from_test : (r s : Range) → not (shares r s) ≡ true → Apart r s
@@ -52,7 +54,8 @@ test_from_apart r s a = not_from_false (shares r s) (false_from_ne_true (shares 
 -- what is free of both of two lists
 pub is_free-append : (xs ys : List Range) (r : Range) → is_free (xs ++ ys) r ≡ (is_free xs r && is_free ys r)
 is_free-append [] ys r = refl
-is_free-append (x ∷ xs) ys r = ap (λ (t : Bool). not (shares r x) && t) (is_free-append xs ys r) ∙ regroup (not (shares r x)) (is_free xs r) (is_free ys r)
+is_free-append (x ∷ xs) ys r =
+    ap (λ (t : Bool). not (shares r x) && t) (is_free-append xs ys r) ∙ regroup (not (shares r x)) (is_free xs r) (is_free ys r)
   where
     regroup : (p q t : Bool) → (p && (q && t)) ≡ ((p && q) && t)
     regroup true q t = refl
@@ -94,7 +97,14 @@ none_here : (n : ℕ) (rs : List Range) → AllByRecursion (λ r. IsIn n r → �
 none_here n [] h = refl
 none_here n (r ∷ rs) h = let e = none_here n rs h.1 in
     let k : below (suc n) r ≡ below n r =
-    elim (cases_lt n r.start) [ inl l ↦ omega arith | inr l ↦ elim (cases_lt n (r.start + r.size)) [ inl m ↦ absurd (h.0 (l, m)) | inr m ↦ omega arith ] ] in
+    elim (cases_lt n r.start) [
+      | inl l ↦ omega arith
+      | inr l ↦ elim (cases_lt n (r.start + r.size)) [
+        | inl m ↦ absurd (h.0 (l, m))
+        | inr m ↦
+            omega arith
+      ]
+    ] in
     omega arith
 
 apart_there : (n : ℕ) (r : Range) (rs : List Range) → IsIn n r → AllByRecursion (Apart r) rs → AllByRecursion (λ s. IsIn n s → ⊥) rs

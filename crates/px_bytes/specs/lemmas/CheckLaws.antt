@@ -9,7 +9,8 @@ use Rattle.px_bytes.specs.Checks.{Check, first_false, Refuses, Judges}
 pub first_false-true : (xs ys : List Check) → first_false xs ≡ None → first_false (xs ++ ys) ≡ first_false ys
 first_false-true [] ys h = refl
 first_false-true (c ∷ xs) ys h =
-    (elim c.holds as (λ b. (if b then first_false xs else Some (c.cause, c.place)) ≡ None → (if b then first_false (xs ++ ys) else Some (c.cause, c.place)) ≡ first_false ys) [
+    (elim c.holds as (λ b. (if b then first_false xs else Some (c.cause, c.place)) ≡ None → (if b then first_false (xs ++ ys) else Some
+    (c.cause, c.place)) ≡ first_false ys) [
       | true ↦ λ e. first_false-true xs ys e
       | false ↦ λ e. absurd (cc)
     ]) h
@@ -18,7 +19,8 @@ first_false-true (c ∷ xs) ys h =
 pub first_false-false : (xs ys : List Check) (f : Cause × ℕ) → first_false xs ≡ Some f → first_false (xs ++ ys) ≡ Some f
 first_false-false [] ys f h = let clash : None ≡ Some f = h in absurd (cc)
 first_false-false (c ∷ xs) ys f h =
-    (elim c.holds as (λ b. (if b then first_false xs else Some (c.cause, c.place)) ≡ Some f → (if b then first_false (xs ++ ys) else Some (c.cause, c.place)) ≡ Some f) [
+    (elim c.holds as (λ b. (if b then first_false xs else Some (c.cause, c.place)) ≡ Some
+    f → (if b then first_false (xs ++ ys) else Some (c.cause, c.place)) ≡ Some f) [
       | true ↦ λ e. first_false-false xs ys f e
       | false ↦ λ e. e
     ]) h
@@ -43,10 +45,12 @@ Refuses-behind e xs ys h r = Refuses-same e ys (xs ++ ys) (sym (first_false-true
 
 -- a refusal where all checks are true is for want of memory
 pub Refuses-none : (e : Refusal) (xs ys : List Check) → first_false xs ≡ None → Refuses e xs → Refuses e ys
-Refuses-none (Content cause place) xs ys h r = let clash : ◌≡◌ {A = Option (Cause × ℕ)} None (Some (cause, place)) = sym h ∙ r in absurd (cc)
+Refuses-none (Content cause place) xs ys h r =
+    let clash : ◌≡◌ {A = Option (Cause × ℕ)} None (Some (cause, place)) = sym h ∙ r in absurd (cc)
 Refuses-none OutOfMemory xs ys h r = tt
 
 -- what holds of one answer holds of the other
-pub Judges-good : {X : Type 0} (r : Result X Refusal) (xs : List Check) (good fine : X → Type 0) → ((x : X) → good x → fine x) → Judges r xs good → Judges r xs fine
+pub Judges-good : {X : Type 0} (r : Result X Refusal) (xs : List Check) (good fine : X → Type 0) → ((x : X) → good x → fine x)
+    → Judges r xs good → Judges r xs fine
 Judges-good (Ok x) xs good fine f j = (j.0, f x j.1)
 Judges-good (Err e) xs good fine f j = j

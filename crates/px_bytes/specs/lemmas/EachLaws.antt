@@ -7,7 +7,8 @@ module _ {X : Type 0} (P : X → Type 0) where
   each_map Q f [] h = tt
   each_map Q f (x ∷ xs) h = (f x h.0, each_map Q f xs h.1)
 
-  pub each_map₂ : (Q R : X → Type 0) → ((x : X) → P x → Q x → R x) → (xs : List X) → AllByRecursion P xs → AllByRecursion Q xs → AllByRecursion R xs
+  pub each_map₂ : (Q R : X → Type 0) → ((x : X) → P x → Q x → R x) → (xs : List X) → AllByRecursion P xs → AllByRecursion Q xs
+      → AllByRecursion R xs
   each_map₂ Q R f [] h k = tt
   each_map₂ Q R f (x ∷ xs) h k = (f x h.0 k.0, each_map₂ Q R f xs h.1 k.1)
 

@@ -1,9 +1,11 @@
 -- The laws of spelling and reading.
-use Rattle.std.proofs.Common.{◌≡◌, ◌<◌, ◌≤◌, ◌+◌, ◌*◌, ◌^◌, ◌/◌, ◌%◌, ℕ, zero, suc, List, [], ◌∷◌, length, take, refl, sym, ap, ◌∙◌, append-nil, arith}
+use Rattle.std.proofs.Common.{◌≡◌, ◌<◌, ◌≤◌, ◌+◌, ◌*◌, ◌^◌, ◌/◌, ◌%◌, ℕ, zero, suc, List, [], ◌∷◌, length, take, refl, sym, ap, ◌∙◌}
+use Rattle.std.proofs.Common.{append-nil, arith}
 use Rattle.std.proofs.lemmas.Nat.{div-mul-add, mod-mul-add}
 use Rattle.std.specs.Int.{bytes_high_first, bytes_low_first}
 use Rattle.byteorder.specs.Endian.{big_from, little_from}
-use Rattle.byteorder.specs.Numbers.{big_number-reads_back, little_number-reads_back, length-bytes_high_first, length-bytes_low_first, big_from-cons, little_from-cons, big_from-take, little_from-take, big_from-lt, little_from-lt}
+use Rattle.byteorder.specs.Numbers.{big_number-reads_back, little_number-reads_back, length-bytes_high_first, length-bytes_low_first}
+use Rattle.byteorder.specs.Numbers.{big_from-cons, little_from-cons, big_from-take, little_from-take, big_from-lt, little_from-lt}
 use Rattle.px_bytes.specs.declared.numbers.Order.{Order}
 use Rattle.px_bytes.specs.declared.numbers.Order.TheVariants.{Least, Most}
 use Rattle.px_bytes.specs.Numbers.{number, spelling, AreBytes}
@@ -22,7 +24,8 @@ length-spelling Least width n = length-bytes_low_first 0 width n
 length-spelling Most width n = length-bytes_high_first width n
 
 -- bytes of one length and one number are the same
-one_most : (n : ℕ) (xs ys : List ℕ) → length xs ≡ n → length ys ≡ n → AreBytes xs → AreBytes ys → big_from 0 n xs ≡ big_from 0 n ys → xs ≡ ys
+one_most : (n : ℕ) (xs ys : List ℕ) → length xs ≡ n → length ys ≡ n → AreBytes xs → AreBytes ys → big_from 0 n xs ≡ big_from 0 n ys
+    → xs ≡ ys
 one_most zero [] [] hx hy bx by_ e = refl
 one_most zero [] (y ∷ ys) hx hy bx by_ e = absurd (omega arith)
 one_most zero (x ∷ xs) ys hx hy bx by_ e = absurd (omega arith)
@@ -34,11 +37,13 @@ one_most (suc n) (x ∷ xs) (y ∷ ys) hx hy bx by_ e =
     let split : x * 256 ^ n + big_from 0 n xs ≡ y * 256 ^ n + big_from 0 n ys =
     ap (λ (r : ℕ). x * 256 ^ n + r) (sym (big_from-cons 0 n x xs)) ∙ e ∙ ap (λ (r : ℕ). y * 256 ^ n + r) (big_from-cons 0 n y ys) in
     let head : x ≡ y = sym (div-mul-add x (256 ^ n) _ fx) ∙ ap (λ (v : ℕ). v / 256 ^ n) split ∙ div-mul-add y (256 ^ n) _ fy in
-    let rest : big_from 0 n xs ≡ big_from 0 n ys = sym (mod-mul-add x (256 ^ n) _ fx) ∙ ap (λ (v : ℕ). v % 256 ^ n) split ∙ mod-mul-add y (256 ^ n) _ fy in
+    let rest : big_from 0 n xs ≡ big_from 0 n ys =
+    sym (mod-mul-add x (256 ^ n) _ fx) ∙ ap (λ (v : ℕ). v % 256 ^ n) split ∙ mod-mul-add y (256 ^ n) _ fy in
     let tail : xs ≡ ys = one_most n xs ys (omega arith) (omega arith) (λ i. bx (suc i)) (λ i. by_ (suc i)) rest in
     cc
 
-one_least : (n : ℕ) (xs ys : List ℕ) → length xs ≡ n → length ys ≡ n → AreBytes xs → AreBytes ys → little_from 0 n xs ≡ little_from 0 n ys → xs ≡ ys
+one_least : (n : ℕ) (xs ys : List ℕ) → length xs ≡ n → length ys ≡ n → AreBytes xs → AreBytes ys → little_from 0 n xs ≡ little_from 0 n ys
+    → xs ≡ ys
 one_least zero [] [] hx hy bx by_ e = refl
 one_least zero [] (y ∷ ys) hx hy bx by_ e = absurd (omega arith)
 one_least zero (x ∷ xs) ys hx hy bx by_ e = absurd (omega arith)
@@ -55,7 +60,8 @@ one_least (suc n) (x ∷ xs) (y ∷ ys) hx hy bx by_ e =
     cc
 
 -- bytes of one length and one number are the same
-pub one_spelling : (order : Order) (n : ℕ) (xs ys : List ℕ) → length xs ≡ n → length ys ≡ n → AreBytes xs → AreBytes ys → number order n xs ≡ number order n ys → xs ≡ ys
+pub one_spelling : (order : Order) (n : ℕ) (xs ys : List ℕ) → length xs ≡ n → length ys ≡ n → AreBytes xs → AreBytes ys
+    → number order n xs ≡ number order n ys → xs ≡ ys
 one_spelling Least n xs ys hx hy bx by_ e = one_least n xs ys hx hy bx by_ e
 one_spelling Most n xs ys hx hy bx by_ e = one_most n xs ys hx hy bx by_ e
 
@@ -65,9 +71,11 @@ number-lt Least n bytes h = little_from-lt 0 n bytes h
 number-lt Most n bytes h = big_from-lt 0 n bytes h
 
 -- what is read is that number's spelling
-pub spelling-number : (order : Order) (width : ℕ) (bytes : List ℕ) → length bytes ≡ width → AreBytes bytes → spelling order width (number order width bytes) ≡ bytes
+pub spelling-number : (order : Order) (width : ℕ) (bytes : List ℕ) → length bytes ≡ width → AreBytes bytes
+    → spelling order width (number order width bytes) ≡ bytes
 spelling-number order width bytes len h =
-    one_spelling order width (spelling order width (number order width bytes)) bytes (length-spelling order width _) len (bytes_spelling order width _) h
+    one_spelling order width (spelling order width (number order width bytes)) bytes (length-spelling order width _) len
+    (bytes_spelling order width _) h
     (number-spelling order width _ (number-lt order width bytes h))
 
 -- a number reads no byte past its width

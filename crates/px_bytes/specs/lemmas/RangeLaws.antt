@@ -1,5 +1,6 @@
 -- A list of ranges and the ranges that are held.
-use Rattle.std.proofs.Common.{subst, [], refl, None, Some, ◌≡◌, ℕ, ◌+◌, ◌≤◌, ◌<◌, inl, inr, min, max, true, not, ◌&&◌, nat_lt, List, ◌∷◌, sym, ◌∙◌, arith, ltb-true, lt-ltb}
+use Rattle.std.proofs.Common.{subst, [], refl, None, Some, ◌≡◌, ℕ, ◌+◌, ◌≤◌, ◌<◌, inl, inr, min, max, true, not, ◌&&◌, nat_lt, List, ◌∷◌}
+use Rattle.std.proofs.Common.{sym, ◌∙◌, arith, ltb-true, lt-ltb}
 use Rattle.std.proofs.lemmas.Bool.{and_parts, and_from, not-true, not_from_false, both_ways, cases_lt, false_from_ne_true}
 use Rattle.px_bytes.specs.Held.{Holds, IsFree, Takes}
 use Rattle.px_bytes.specs.Range.{Range, range, shares, is_free, SameFree, Agrees}
@@ -9,7 +10,8 @@ gap_from_test : (s n t m : ℕ) → not (shares (range s n) (range t m)) ≡ tru
 gap_from_test s n t m h =
     elim (cases_lt (max s t) (min (s + n) (t + m))) [
       | inl l ↦ absurd (both_ways (shares (range s n) (range t m)) (not-true _ h)
-          (and_from _ _ (and_from _ _ (and_from _ _ (lt-ltb 0 n (omega arith)) (lt-ltb 0 m (omega arith))) (lt-ltb s (t + m) (omega arith))) (lt-ltb t (s + n) (omega arith))))
+          (and_from _ _ (and_from _ _ (and_from _ _ (lt-ltb 0 n (omega arith)) (lt-ltb 0 m (omega arith)))
+          (lt-ltb s (t + m) (omega arith))) (lt-ltb t (s + n) (omega arith))))
       | inr l ↦ l
     ]
 
@@ -25,18 +27,22 @@ test_from_gap s n t m l = not_from_false _ (false_from_ne_true (shares (range s 
     omega arith))
 
 -- what is free or taken is so in the list
-pub is_free-free : (taken : List Range) (held : List (ℕ × ℕ)) (s n : ℕ) → Agrees taken held → IsFree held s (s + n) → is_free taken (range s n) ≡ true
+pub is_free-free : (taken : List Range) (held : List (ℕ × ℕ)) (s n : ℕ) → Agrees taken held → IsFree held s (s + n)
+    → is_free taken (range s n) ≡ true
 is_free-free taken held s n a h = a.all_free s n h
 
 -- one more range
-pub agrees-takes : (taken : List Range) (old new : List (ℕ × ℕ)) (s n : ℕ) → Agrees taken old → Takes old new s (s + n) → Agrees (range s n ∷ taken) new
+pub agrees-takes : (taken : List Range) (old new : List (ℕ × ℕ)) (s n : ℕ) → Agrees taken old → Takes old new s (s + n)
+    → Agrees (range s n ∷ taken) new
 agrees-takes taken old new s n a k = record {
   free = λ t m h u e holds. let p = and_parts _ _ h in
       elim (k.only u e holds) [
         | inl q ↦ let g = gap_from_test t m s n p.0 in let q0 = q.0 in let q1 = q.1 in omega arith
         | inr q ↦ a.free t m p.1 u e q
       ];
-  all_free = λ t m h. and_from _ _ (test_from_gap t m s n (let g = h s (s + n) k.here in omega arith)) (a.all_free t m (λ u e holds. h u e (k.kept u e holds)));
+  all_free =
+      λ t m h. and_from _ _ (test_from_gap t m s n (let g = h s (s + n) k.here in omega arith))
+      (a.all_free t m (λ u e holds. h u e (k.kept u e holds)));
 }
 
 -- lists that leave the same free agree with the same

@@ -1,5 +1,6 @@
 -- Parts put one behind another, while the bytes of some wait.
-use Rattle.std.proofs.Common.{◌≡◌, ℕ, ◌+◌, ◌<◌, ◌++◌, List, [], ◌∷◌, length, take, drop, get_or, slice_get, Option, Some, Result, Ok, Err, refl, sym, ap, ◌∙◌, subst, arith, append_assoc, append-nil, length-append}
+use Rattle.std.proofs.Common.{◌≡◌, ℕ, ◌+◌, ◌<◌, ◌++◌, List, [], ◌∷◌, length, take, drop, get_or, slice_get, Option, Some, Result, Ok, Err}
+use Rattle.std.proofs.Common.{refl, sym, ap, ◌∙◌, subst, arith, append_assoc, append-nil, length-append}
 use Rattle.std.proofs.KnownBytes.{Appends-nil}
 use Rattle.std.specs.List.{flat_map}
 use Rattle.std.specs.Io.KnownBytes.{Appends}
@@ -18,12 +19,15 @@ owes_more a b c h k out bytes p q = (
   append_assoc p.0 q.0 k ∙ ap (λ (l : List ℕ). p.0 ++ l) q.2 ∙ sym (append_assoc p.0 h bytes) ∙ ap (λ (l : List ℕ). l ++ bytes) p.2,
 )
 
-pub owes_stop : (a b c : Option (List ℕ)) (h out bytes : List ℕ) → Owes a b h out → AppendsPrefix b c (h ++ bytes) → AppendsPrefix a c (out ++ bytes)
+pub owes_stop : (a b c : Option (List ℕ)) (h out bytes : List ℕ) → Owes a b h out → AppendsPrefix b c (h ++ bytes)
+    → AppendsPrefix a c (out ++ bytes)
 owes_stop a b c h out bytes p q =
-    subst (AppendsPrefix a c) (sym (append_assoc p.0 h bytes) ∙ ap (λ (l : List ℕ). l ++ bytes) p.2) (prefix_second a b c p.0 (h ++ bytes) p.1 q)
+    subst (AppendsPrefix a c) (sym (append_assoc p.0 h bytes)
+    ∙ ap (λ (l : List ℕ). l ++ bytes) p.2) (prefix_second a b c p.0 (h ++ bytes) p.1 q)
 
 -- two parts
-pub puts_both : {A E : Type 0} (r : Result A E) (a b c : Option (List ℕ)) (h k m xs ys : List ℕ) → Owes a b k (h ++ xs) → Puts r b c k m ys → Puts r a c h m (xs ++ ys)
+pub puts_both : {A E : Type 0} (r : Result A E) (a b c : Option (List ℕ)) (h k m xs ys : List ℕ) → Owes a b k (h ++ xs) → Puts r b c k m ys
+    → Puts r a c h m (xs ++ ys)
 puts_both (Ok x) a b c h k m xs ys p q = subst (Owes a c m) (append_assoc h xs ys) (owes_more a b c k m (h ++ xs) ys p q)
 puts_both (Err e) a b c h k m xs ys p q = subst (AppendsPrefix a c) (append_assoc h xs ys) (owes_stop a b c k (h ++ xs) ys p q)
 
@@ -32,8 +36,10 @@ pub puts_first : (a b : Option (List ℕ)) (h xs ys : List ℕ) → AppendsPrefi
 puts_first a b h xs ys p = subst (AppendsPrefix a b) (append_assoc h xs ys) (prefix_first a b (h ++ xs) ys p)
 
 -- bytes that were written at once, behind what waited
-pub puts_written : {A E : Type 0} (r : Result A E) (a b c : Option (List ℕ)) (h k bytes : List ℕ) → k ≡ [] → Appends a b h → Writes r b c bytes → Puts r a c h k bytes
-puts_written (Ok x) a b c h k bytes e p q = (h ++ bytes, appends_both a b c h bytes p q, ap (λ (l : List ℕ). h ++ bytes ++ l) e ∙ append-nil (h ++ bytes))
+pub puts_written : {A E : Type 0} (r : Result A E) (a b c : Option (List ℕ)) (h k bytes : List ℕ) → k ≡ [] → Appends a b h
+    → Writes r b c bytes → Puts r a c h k bytes
+puts_written (Ok x) a b c h k bytes e p q =
+    (h ++ bytes, appends_both a b c h bytes p q, ap (λ (l : List ℕ). h ++ bytes ++ l) e ∙ append-nil (h ++ bytes))
 puts_written (Err x) a b c h k bytes e p q = prefix_second a b c h bytes p q
 
 -- ---- from the first part to the last

@@ -39,15 +39,18 @@ prefix_second a b c xs ys p h =
     (length xs + h.0, omega (arith, h.1, length-append xs ys), rw same (appends_both a b c xs (take h.0 ys) p h.2))
 
 -- what stands before, and a prefix of what stands in the middle
-pub prefix_within : (a b c : Option (List ℕ)) (before middle after : List ℕ) → Appends a b before → AppendsPrefix b c middle → AppendsPrefix a c (before ++ (middle ++ after))
+pub prefix_within : (a b c : Option (List ℕ)) (before middle after : List ℕ) → Appends a b before → AppendsPrefix b c middle
+    → AppendsPrefix a c (before ++ (middle ++ after))
 prefix_within a b c before middle after p h = prefix_second a b c before (middle ++ after) p (prefix_first b c middle after h)
 
 -- the second part's answer is that of both
-pub writes_both : {A E : Type 0} (r : Result A E) (a b c : Option (List ℕ)) (xs ys : List ℕ) → Appends a b xs → Writes r b c ys → Writes r a c (xs ++ ys)
+pub writes_both : {A E : Type 0} (r : Result A E) (a b c : Option (List ℕ)) (xs ys : List ℕ) → Appends a b xs → Writes r b c ys
+    → Writes r a c (xs ++ ys)
 writes_both (Ok x) a b c xs ys p w = appends_both a b c xs ys p w
 writes_both (Err e) a b c xs ys p w = prefix_second a b c xs ys p w
 
 -- the same of an answer told in two facts
-pub writes_second : {A E : Type 0} (r : Result A E) (a b c : Option (List ℕ)) (xs ys : List ℕ) → Appends a b xs → OnOk r (Appends b c ys) → OnErr r (AppendsPrefix b c ys) → Writes r a c (xs ++ ys)
+pub writes_second : {A E : Type 0} (r : Result A E) (a b c : Option (List ℕ)) (xs ys : List ℕ) → Appends a b xs → OnOk r (Appends b c ys)
+    → OnErr r (AppendsPrefix b c ys) → Writes r a c (xs ++ ys)
 writes_second (Ok x) a b c xs ys p all front = appends_both a b c xs ys p all
 writes_second (Err e) a b c xs ys p all front = prefix_second a b c xs ys p front

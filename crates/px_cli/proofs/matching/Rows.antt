@@ -23,11 +23,13 @@ each_both P [] ys p q = q
 each_both P (x ∷ xs) ys p q = (p.0, each_both P xs ys p.1 q)
 
 -- what is found is an element, and passes the test
-pub each_found : {X : Type 0} (P : X → Type 0) (test : X → Bool) (xs : List X) (y : X) → Each P xs → find test xs ≡ Some y → P y × (test y ≡ true)
+pub each_found : {X : Type 0} (P : X → Type 0) (test : X → Bool) (xs : List X) (y : X) → Each P xs → find test xs ≡ Some y
+    → P y × (test y ≡ true)
 each_found P test [] y p found = cc
 each_found P test (x ∷ xs) y p found = go (test x) refl found (each_found P test xs y p.1)
   where
-    go : (b : Bool) → test x ≡ b → cond b (Some x) (find test xs) ≡ Some y → (find test xs ≡ Some y → P y × (test y ≡ true)) → P y × (test y ≡ true)
+    go : (b : Bool) → test x ≡ b → cond b (Some x) (find test xs) ≡ Some y → (find test xs ≡ Some y → P y × (test y ≡ true))
+        → P y × (test y ≡ true)
     go true is found rest = let same : x ≡ y = cc in (subst P same p.0, subst (λ z. test z ≡ true) same is)
     go false is found rest = rest found
 
@@ -47,7 +49,8 @@ appended (x ∷ xs) ys h none = cc
 pub pushed_some : {X : Type 0} (xs : List X) (x : X) → (xs ++ x ∷ []) ≢ []
 pushed_some xs x = appended xs (x ∷ []) (inr (λ none. cc))
 
-row_changed : (id : Text) (change : Row → List Row) (missing rows : List Row) → ((r : Row) → HasValue r → HaveValues (change r)) → HaveValues missing
+row_changed : (id : Text) (change : Row → List Row) (missing rows : List Row) → ((r : Row) → HasValue r → HaveValues (change r))
+    → HaveValues missing
     → HaveValues rows → HaveValues (at_row id change missing rows)
 row_changed id change missing [] changes made h = made
 row_changed id change missing (r ∷ rs) changes made h = go (bytes_eq r.id id) (row_changed id change missing rs changes made h.1)

@@ -1,5 +1,6 @@
 -- The walk over the words of a subcommand: what it holds has values.
-use Rattle.std.proofs.Common.{◌≡◌, ◌≢◌, ◌&&◌, ℕ, zero, suc, Bool, cond, true, false, not, List, [], ◌∷◌, length, drop, Option, Some, None, is_some, refl, inl, inr}
+use Rattle.std.proofs.Common.{◌≡◌, ◌≢◌, ◌&&◌, ℕ, zero, suc, Bool, cond, true, false, not, List, [], ◌∷◌, length, drop, Option, Some, None}
+use Rattle.std.proofs.Common.{is_some, refl, inl, inr}
 use Rattle.std.specs.Prelude.{⊤, encode_utf8, slice_get}
 use Rattle.std.specs.List.{fold}
 use Rattle.std.specs.Str.{bytes_eq, chars}
@@ -22,7 +23,8 @@ abbrev pub IsWell : Held → Type 0
 IsWell h = HaveValues h.rows × HasWaiting h.pending
 
 -- a flag of a plain command asks for help, and takes no value
-flag_only : (a : Rule) (named : Bool) → IsPlain a → (not (is_some a.index) && named) ≡ true → (action_of a ≡ Help) × (takes_values a ≡ false)
+flag_only : (a : Rule) (named : Bool) → IsPlain a → (not (is_some a.index) && named) ≡ true
+    → (action_of a ≡ Help) × (takes_values a ≡ false)
 flag_only a named known test = elim known.1 [
   | inl p ↦ let bad : (not true && named) ≡ true = rw p.1 at test in cc
   | inr p ↦ p
@@ -91,7 +93,8 @@ module _ (c : List Rule) (each : Each IsPlain c) where
       let flag = flag_only a (has_short a x) is.0 is.1 in
       rw flag.1 (goes (reacted c a [] h) (helped_well a h is.0 flag.0 well))
 
-  step_well : (o : Option ℕ) (flags : Text) (skip : ℕ) (so_far : Outcome) (h : Held) (go : Text → ℕ → Outcome → Held → Held × Outcome) → Goes go → IsWell h
+  step_well : (o : Option ℕ) (flags : Text) (skip : ℕ) (so_far : Outcome) (h : Held) (go : Text → ℕ → Outcome → Held → Held × Outcome)
+      → Goes go → IsWell h
       → IsWell (bundle_step c o flags skip so_far h go).0
   step_well None flags skip so_far h go goes well = well
   step_well (Some x) flags zero so_far h go goes well = short_well x (arg_by_short c x) (drop (length (encode_utf8 x)) flags) h
@@ -139,7 +142,8 @@ module _ (c : List Rule) (each : Each IsPlain c) where
   positional_well : (o : Option Rule) (word : Text) (w : Walk) (h : Held) → IsWell h → IsWell (to_positional c o word w h).held
   positional_well None word w h well = well
   positional_well (Some a) word w h well =
-      pushed_well a.id word (cond (is_pending a h.pending && takes_several a) h (settled c h)) (held_well (is_pending a h.pending && takes_several a) h well)
+      pushed_well a.id word (cond (is_pending a h.pending && takes_several a) h (settled c h))
+      (held_well (is_pending a h.pending && takes_several a) h well)
 
   after_well : (word : Text) (w : Walk) (h : Held) (s : Step) → IsWell h → IsWell (after_step c word w h s).held
   after_well word w h (next waiting) well = well

@@ -1,9 +1,11 @@
 -- Where a parse of the command has no fault, a subcommand was met, with each word that it must have.
-use Rattle.std.proofs.Common.{◌≡◌, ◌||◌, ◌&&◌, Bool, true, false, not, List, [], ◌∷◌, Option, Some, None, is_some, codes, refl, sym, ◌∙◌, inl, inr}
+use Rattle.std.proofs.Common.{◌≡◌, ◌||◌, ◌&&◌, Bool, true, false, not, List, [], ◌∷◌, Option, Some, None, is_some, codes, refl, sym, ◌∙◌}
+use Rattle.std.proofs.Common.{inl, inr}
 use Rattle.std.specs.Prelude.{find, option_map}
 use Rattle.std.specs.Option.{option_map_or}
 use Rattle.clap.specs.Walk.{Row, Text, answers_to, finished, nothing_held, rows_after, settled, walk, walk_from}
-use Rattle.clap.specs.Simple.{App, Shape, built, built_leaf, entered, inherited, label_of, marked_built, names_of, rows_at, subcommand_of, with_leaf_noted}
+use Rattle.clap.specs.Simple.{App, Shape, built, built_leaf, entered, inherited, label_of, marked_built, names_of, rows_at, subcommand_of}
+use Rattle.clap.specs.Simple.{with_leaf_noted}
 use Rattle.clap.specs.Takes.{is_given}
 use Rattle.clap.specs.Kinds.{Kinds, check_kinds, or_else}
 use Rattle.clap.specs.Faults.{check_fault, defaults_fault, entered_fault, fault_of, level_fault, settle_fault, walk_fault}
@@ -37,7 +39,8 @@ one_met true rest none = refl
 one_met false rest none = cc
 
 -- the last checks of a subcommand are part of its fault
-checked : (s : Shape) (words : List Text) → level_fault s [] nothing_held words false [] ≡ [] → check_fault s (rows_after s.rules [] words) false ≡ []
+checked : (s : Shape) (words : List Text) → level_fault s [] nothing_held words false [] ≡ []
+    → check_fault s (rows_after s.rules [] words) false ≡ []
 checked s words none =
     let end = (walk s.rules [] nothing_held words).held in
     let settles = settle_fault s.rules s.args_override_self end in
@@ -56,7 +59,8 @@ module _ (s : Shape) (each : Each IsPlain s.rules) where
 
   -- two must
   both_there : (first second : Text)
-      → ((rows : List Row) → check_fault s rows false ≡ check_kinds false false (not (is_given first rows) || (not (is_given second rows) || false)))
+      → ((rows : List Row) → check_fault s rows false ≡ check_kinds false false
+      (not (is_given first rows) || (not (is_given second rows) || false)))
       → (words : List Text) → level_fault s [] nothing_held words false [] ≡ []
       → IsThere first (rows_after s.rules [] words) × IsThere second (rows_after s.rules [] words)
   both_there first second last words none =
@@ -84,34 +88,49 @@ one_whole name is words none = inl (is, there (below (of_one name)) (one_plain n
 
 normalise_whole : IsWhole (below (of_two (codes "normalise") (codes "FILE") (codes "OUT")))
 normalise_whole words none =
-    let has = both_there (below (of_two (codes "normalise") (codes "FILE") (codes "OUT"))) (two_plain (codes "normalise") (codes "FILE") (codes "OUT"))
+    let has =
+    both_there (below (of_two (codes "normalise") (codes "FILE") (codes "OUT")))
+    (two_plain (codes "normalise") (codes "FILE") (codes "OUT"))
     (codes "FILE") (codes "OUT") (λ rows. refl) words none in
     inr (inl (refl, has.0, has.1))
 
 compare_whole : IsWhole (below (of_two (codes "compare") (codes "FIRST") (codes "SECOND")))
 compare_whole words none =
-    let has = both_there (below (of_two (codes "compare") (codes "FIRST") (codes "SECOND"))) (two_plain (codes "compare") (codes "FIRST") (codes "SECOND"))
+    let has =
+    both_there (below (of_two (codes "compare") (codes "FIRST") (codes "SECOND")))
+    (two_plain (codes "compare") (codes "FIRST") (codes "SECOND"))
     (codes "FIRST") (codes "SECOND") (λ rows. refl) words none in
     inr (inr (refl, has.0, has.1))
 
 each_whole : Each IsWhole (built exifnorm).subs
-each_whole =
-    (one_whole (codes "show") refl, (one_whole (codes "check") refl, (one_whole (codes "captions") refl, (normalise_whole, (compare_whole, tt)))))
+each_whole = (
+  one_whole (codes "show") refl,
+  (
+    one_whole (codes "check") refl,
+    (
+      one_whole (codes "captions") refl,
+      (normalise_whole, (compare_whole, tt)),
+    ),
+  ),
+)
 
 -- the subcommand at which the words stop
-found_met : (o : Option Shape) (words : List Text) → ((s : Shape) → o ≡ Some s → IsWhole s) → is_some (option_map (λ s. rows_at s words) o) ≡ true
+found_met : (o : Option Shape) (words : List Text) → ((s : Shape) → o ≡ Some s → IsWhole s)
+    → is_some (option_map (λ s. rows_at s words) o) ≡ true
     → option_map_or (λ s. level_fault s [] nothing_held words false []) o [] ≡ [] → IsMet (option_map (λ s. rows_at s words) o)
 found_met None words whole some none = cc
 found_met (Some s) words whole some none = whole s refl words none
 
-entered_met : (a : App) → Each IsWhole a.subs → (stop : Option (Text × List Text)) → is_some (entered a stop) ≡ true → entered_fault a stop ≡ []
+entered_met : (a : App) → Each IsWhole a.subs → (stop : Option (Text × List Text)) → is_some (entered a stop) ≡ true
+    → entered_fault a stop ≡ []
     → IsMet (entered a stop)
 entered_met a each None some none = cc
 entered_met a each (Some p) some none = found_met (find (λ s. answers_to p.0 (label_of s)) a.subs) p.1
     (λ s found. (each_found IsWhole (λ x. answers_to p.0 (label_of x)) a.subs s each found).0) some none
 
 -- the command's own last checks
-last_checks : (rows : List Row) (has : Bool) → check_fault (built exifnorm).top rows has ≡ check_kinds (not has && false) (not has && true) false
+last_checks : (rows : List Row) (has : Bool) → check_fault (built exifnorm).top rows has ≡ check_kinds (not has && false)
+    (not has && true) false
 last_checks rows true = refl
 last_checks rows false = refl
 
@@ -125,7 +144,11 @@ met words none =
     let settles = settle_fault a.top.rules a.top.args_override_self end.held in
     let defaults = defaults_fault (settled a.top.rules end.held).rows a.top.rules in
     let checks = check_fault a.top (finished a.top.rules end.held) has in
-    let past = none_then (walk_fault a.top (names_of a) (walk_from nothing_held) words) (or_else below (or_else settles (or_else defaults checks))) none in
-    let last = none_then defaults checks (none_then settles (or_else defaults checks) (none_then below (or_else settles (or_else defaults checks)) past)) in
+    let past =
+    none_then (walk_fault a.top (names_of a) (walk_from nothing_held) words)
+    (or_else below (or_else settles (or_else defaults checks))) none in
+    let last =
+    none_then defaults checks (none_then settles (or_else defaults checks)
+    (none_then below (or_else settles (or_else defaults checks)) past)) in
     entered_met a each_whole end.stopped (one_met has false (sym (last_checks (finished a.top.rules end.held) has) ∙ last))
     (none_first below (or_else settles (or_else defaults checks)) past)

@@ -1,6 +1,7 @@
 -- What a file says is one thing, has one normal form, and can be written; or the file has a fault. The laws of trees, which
 -- are functions of the crate of trees, are taken as premises.
-use Rattle.std.proofs.Common.{◌≡◌, ◌≤◌, ◌<◌, ◌+◌, ◌*◌, ◌⊎◌, inl, inr, ℕ, nat_eq, nat_le, if◌then◌else◌, Option, Some, List, [], ◌∷◌, ◌++◌, length, take, drop, refl, sym, ◌∙◌, ap, subst, ap₂, arith, leb-true, leb-false, length-drop}
+use Rattle.std.proofs.Common.{◌≡◌, ◌≤◌, ◌<◌, ◌+◌, ◌*◌, ◌⊎◌, inl, inr, ℕ, nat_eq, nat_le, if◌then◌else◌, Option, Some, List, [], ◌∷◌, ◌++◌}
+use Rattle.std.proofs.Common.{length, take, drop, refl, sym, ◌∙◌, ap, subst, ap₂, arith, leb-true, leb-false, length-drop}
 use Rattle.std.proofs.lemmas.Bool.{cond-true, cond-false, cases_Bool, lt-leb}
 use Rattle.std.proofs.lemmas.List.{take-take, take_all, length-take-le}
 use Rattle.std.specs.List.{starts_with, flat_map}
@@ -27,8 +28,10 @@ use Rattle.px_layout.specs.lemmas.NormalLaws as exif_normal
 use Rattle.px_layout.specs.lemmas.BoundLaws as exif_bound
 use Rattle.px_engine.specs.declared.kinds.BlockKind.{BlockKind}
 use Rattle.px_engine.specs.declared.kinds.BlockKind.TheVariants as kind
-use Rattle.px_engine.specs.Files.{Said, Exif, Iim, prefix, is_prefixed, is_marked, kind_of, block_of, SaysBlock, Says, CanBeWritten, normal, FirstIn, FirstFaultOf, StandsIn, FaultOf}
-use Rattle.px_engine.specs.Laws.{OneSaid, SaidCanBeWritten, NormalSays, NormalTells, NormalIsItsOwn, NormalBound, FaultsTell, taken, TakenTells}
+use Rattle.px_engine.specs.Files.{Said, Exif, Iim, prefix, is_prefixed, is_marked, kind_of, block_of, SaysBlock, Says, CanBeWritten, normal}
+use Rattle.px_engine.specs.Files.{FirstIn, FirstFaultOf, StandsIn, FaultOf}
+use Rattle.px_engine.specs.Laws.{OneSaid, SaidCanBeWritten, NormalSays, NormalTells, NormalIsItsOwn, NormalBound, FaultsTell, taken}
+use Rattle.px_engine.specs.Laws.{TakenTells}
 
 -- ---- a block of a kind
 
@@ -132,7 +135,8 @@ exif_kind : (m : Meaning) → Is kind.Exif (normal_exif m)
 unfolding kind_of block_of normal_exif header
 exif_kind m = record { kind_is = refl; block_is = refl }
 
-marked_kind : (rec : ℕ) (items : List (ℕ × List ℕ)) (rest : List ℕ) → 1 ≤ length items → Is kind.Iim (flat_map (normal_dataset rec) items ++ rest)
+marked_kind : (rec : ℕ) (items : List (ℕ × List ℕ)) (rest : List ℕ) → 1 ≤ length items
+    → Is kind.Iim (flat_map (normal_dataset rec) items ++ rest)
 unfolding kind_of block_of normal_dataset
 marked_kind rec [] rest h = absurd (omega arith)
 marked_kind rec (x ∷ items) rest h = record { kind_is = refl; block_is = refl }
@@ -208,7 +212,8 @@ first_long : (f : List ℕ) → limit < length (block_of f) → FirstFaultOf f T
 first_long f l = long_in (block_of f) (kind_of f) l
 
 -- where two files have the same first fault, one by one
-moved : (f g : List ℕ) (c : Cause) (p : ℕ) → FirstFaultOf f TooLong limit → FirstFaultOf g TooLong limit → FirstFaultOf f c p → FirstFaultOf g c p
+moved : (f g : List ℕ) (c : Cause) (p : ℕ) → FirstFaultOf f TooLong limit → FirstFaultOf g TooLong limit → FirstFaultOf f c p
+    → FirstFaultOf g c p
 moved f g c p x y h =
     let e = one_first_in (block_of f) (kind_of f) TooLong c limit p x h in
     subst (λ z. FirstFaultOf g z p) e.0 (subst (λ z. FirstFaultOf g TooLong z) e.1 y)
@@ -218,7 +223,11 @@ taken_tells = (
   λ f s. (λ x. subst (λ z. Says z s) (said_whole f s x) x, λ x. subst (λ z. Says z s) (sym (whole_said f s x)) x),
   λ f c p. elim (whole_or_long f) [
     | inl e ↦ (λ h. subst (λ z. FirstFaultOf z c p) e h, λ h. subst (λ z. FirstFaultOf z c p) (sym e) h)
-    | inr l ↦ (λ h. moved (taken f) f c p (first_long (taken f) l.1) (first_long f l.0) h, λ h. moved f (taken f) c p (first_long f l.0) (first_long (taken f) l.1) h)
+    | inr l ↦ (
+      λ h. moved (taken f) f c p (first_long (taken f) l.1) (first_long f l.0) h,
+      λ h. moved f (taken f) c p (first_long f l.0)
+          (first_long (taken f) l.1) h,
+    )
   ],
 )
 

@@ -1,5 +1,6 @@
 -- Laws of elements: what is spelled reads back, and what is read spells as it stood.
-use Rattle.std.proofs.Common.{◌≡◌, ℕ, ◌+◌, ◌^◌, ◌<◌, List, [], ◌∷◌, ◌++◌, length, take, drop, slice_index, refl, sym, ◌∙◌, ap, ap₂, arith, length-append, length-drop, take-append-drop}
+use Rattle.std.proofs.Common.{◌≡◌, ℕ, ◌+◌, ◌^◌, ◌<◌, List, [], ◌∷◌, ◌++◌, length, take, drop, slice_index, refl, sym, ◌∙◌, ap, ap₂, arith}
+use Rattle.std.proofs.Common.{length-append, length-drop, take-append-drop}
 use Rattle.std.specs.Int.{w16, w32, cast_signed, cast_unsigned}
 use Rattle.std.proofs.lemmas.Int.{of_z-to_z}
 use Rattle.std.proofs.lemmas.List.{take_at, drop_at, length-take-le, nil_from_length}
@@ -79,9 +80,11 @@ element_of-spell o form.Undefined (element.Byte n) h = refl
 element_of-spell o form.Utf8 (element.Byte n) h = refl
 element_of-spell o _ _ h = absurd h
 
-two_stand : (o : Order) (x : List ℕ) → length x ≡ 8 → AreBytes x → spelling o 4 (number o 4 (take 4 x)) ++ spelling o 4 (number o 4 (drop 4 x)) ≡ x
+two_stand : (o : Order) (x : List ℕ) → length x ≡ 8 → AreBytes x
+    → spelling o 4 (number o 4 (take 4 x)) ++ spelling o 4 (number o 4 (drop 4 x)) ≡ x
 two_stand o x l h =
-    ap₂ (λ a b. a ++ b) (spelling-number o 4 (take 4 x) (length-take-le 4 x (omega arith)) (bytes_take 4 x h)) (spelling-number o 4 (drop 4 x) (length-drop 4 x ∙ omega arith) (bytes_drop 4 x h))
+    ap₂ (λ a b. a ++ b) (spelling-number o 4 (take 4 x) (length-take-le 4 x (omega arith)) (bytes_take 4 x h))
+    (spelling-number o 4 (drop 4 x) (length-drop 4 x ∙ omega arith) (bytes_drop 4 x h))
     ∙ take-append-drop 4 x
 
 one_stands : (x : List ℕ) → length x ≡ 1 → slice_index x 0 ∷ [] ≡ x
@@ -105,7 +108,8 @@ spell-element_of o form.Rational x l h = two_stand o x l h
 spell-element_of o form.SShort x l h = ap (spelling o 2) (of_z-to_z w16 (number o 2 x) (below16 o x h)) ∙ spelling-number o 2 x l h
 spell-element_of o form.SLong x l h = ap (spelling o 4) (of_z-to_z w32 (number o 4 x) (below32 o x h)) ∙ spelling-number o 4 x l h
 spell-element_of o form.SRational x l h =
-    ap₂ (λ a b. spelling o 4 a ++ spelling o 4 b) (of_z-to_z w32 (number o 4 (take 4 x)) (below32 o (take 4 x) (bytes_take 4 x h))) (of_z-to_z w32 (number o 4 (drop 4 x)) (below32 o (drop 4 x) (bytes_drop 4 x h)))
+    ap₂ (λ a b. spelling o 4 a ++ spelling o 4 b) (of_z-to_z w32 (number o 4 (take 4 x)) (below32 o (take 4 x) (bytes_take 4 x h)))
+    (of_z-to_z w32 (number o 4 (drop 4 x)) (below32 o (drop 4 x) (bytes_drop 4 x h)))
     ∙ two_stand o x l h
 spell-element_of o form.Float x l h = spelling-number o 4 x l h
 spell-element_of o form.Double x l h = spelling-number o 8 x l h
@@ -122,7 +126,8 @@ IsOf-element_of o form.Long x h = below32 o x h
 IsOf-element_of o form.Rational x h = (below32 o (take 4 x) (bytes_take 4 x h), below32 o (drop 4 x) (bytes_drop 4 x h))
 IsOf-element_of o form.SShort x h = sfits_to_z (Fits-of_lt (below16 o x h))
 IsOf-element_of o form.SLong x h = sfits_to_z (Fits-of_lt (below32 o x h))
-IsOf-element_of o form.SRational x h = (sfits_to_z (Fits-of_lt (below32 o (take 4 x) (bytes_take 4 x h))), sfits_to_z (Fits-of_lt (below32 o (drop 4 x) (bytes_drop 4 x h))))
+IsOf-element_of o form.SRational x h =
+    (sfits_to_z (Fits-of_lt (below32 o (take 4 x) (bytes_take 4 x h))), sfits_to_z (Fits-of_lt (below32 o (drop 4 x) (bytes_drop 4 x h))))
 IsOf-element_of o form.Float x h = below32 o x h
 IsOf-element_of o form.Double x h = below64 o x h
 IsOf-element_of o form.Byte x h = h 0

@@ -1,7 +1,8 @@
 -- Laws of the numbers of types.
 use Rattle.std.proofs.Common.{◌≡◌, ◌<◌, ◌^◌, Some, refl, arith}
 use Rattle.px_field.specs.declared.forms.Form.{Form}
-use Rattle.px_field.specs.declared.forms.Form.TheVariants.{Byte, Ascii, Short, Long, Rational, SByte, Undefined, SShort, SLong, SRational, Float, Double, Utf8}
+use Rattle.px_field.specs.declared.forms.Form.TheVariants.{Byte, Ascii, Short, Long, Rational, SByte, Undefined, SShort, SLong, SRational}
+use Rattle.px_field.specs.declared.forms.Form.TheVariants.{Float, Double, Utf8}
 use Rattle.px_field.specs.Forms.{code, form_of}
 
 -- the type of a type's number is that type

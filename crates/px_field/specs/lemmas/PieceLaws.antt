@@ -1,5 +1,7 @@
 -- Laws of bytes cut into parts of one size.
-use Rattle.std.proofs.Common.{◌≡◌, ℕ, zero, suc, ◌+◌, ◌*◌, ◌<◌, inl, inr, List, [], ◌∷◌, ◌++◌, map, flat_map, length, take, drop, slice_get, Some, refl, sym, ◌∙◌, ap, ap₂, subst, arith, append_assoc, length-append, length-take, get_or-take, get_or-drop}
+use Rattle.std.proofs.Common.{◌≡◌, ℕ, zero, suc, ◌+◌, ◌*◌, ◌<◌, inl, inr, List, [], ◌∷◌, ◌++◌, map, flat_map, length, take, drop, slice_get}
+use Rattle.std.proofs.Common.{Some, refl, sym, ◌∙◌, ap, ap₂, subst, arith, append_assoc, length-append, length-take, get_or-take}
+use Rattle.std.proofs.Common.{get_or-drop}
 use Rattle.std.specs.List.{AllByRecursion}
 use Rattle.std.proofs.lemmas.Bool.{cases_lt}
 use Rattle.std.proofs.lemmas.Grind.{common_steps}
@@ -24,7 +26,8 @@ get-pieces {A} (suc n) k (suc i) at x h e =
     get-pieces n k i (i * k) (drop k x) (omega arith) refl ∙ ap (λ (l : List A). Some (take k l)) moved
 
 -- parts of one size, joined, come apart again
-pub pieces_joined : {X A : Type 0} (k : ℕ) (f : X → List A) (xs : List X) (rest : List A) → AllByRecursion (λ x. length (f x) ≡ k) xs → pieces (length xs) k (flat_map f xs ++ rest) ≡ map f xs
+pub pieces_joined : {X A : Type 0} (k : ℕ) (f : X → List A) (xs : List X) (rest : List A) → AllByRecursion (λ x. length (f x) ≡ k) xs
+    → pieces (length xs) k (flat_map f xs ++ rest) ≡ map f xs
 pieces_joined k f [] rest h = refl
 pieces_joined k f (x ∷ xs) rest h =
     let e = append_assoc (f x) (flat_map f xs) rest in
@@ -33,12 +36,14 @@ pieces_joined k f (x ∷ xs) rest h =
     ap₂ (λ y ys. y ∷ ys) t (ap (pieces (length xs) k) d ∙ pieces_joined k f xs rest h.1)
 
 -- and have the sum of the sizes as their length
-pub length_joined : {X A : Type 0} (k : ℕ) (f : X → List A) (xs : List X) → AllByRecursion (λ x. length (f x) ≡ k) xs → length (flat_map f xs) ≡ length xs * k
+pub length_joined : {X A : Type 0} (k : ℕ) (f : X → List A) (xs : List X) → AllByRecursion (λ x. length (f x) ≡ k) xs
+    → length (flat_map f xs) ≡ length xs * k
 length_joined k f [] h = omega arith
 length_joined k f (x ∷ xs) h = let e = length_joined k f xs h.1 in let a = length-append (f x) (flat_map f xs) in let g = h.0 in omega arith
 
 -- what holds of each part
-pub each_piece : {A : Type 0} (P Q : List A → Type 0) (n k : ℕ) (x : List A) → ((y : List A) → Q y → P (take k y)) → ((y : List A) → Q y → Q (drop k y)) → Q x → AllByRecursion P (pieces n k x)
+pub each_piece : {A : Type 0} (P Q : List A → Type 0) (n k : ℕ) (x : List A) → ((y : List A) → Q y → P (take k y))
+    → ((y : List A) → Q y → Q (drop k y)) → Q x → AllByRecursion P (pieces n k x)
 each_piece P Q zero k x t d q = tt
 each_piece P Q (suc n) k x t d q = (t x q, each_piece P Q n k (drop k x) t d (d x q))
 

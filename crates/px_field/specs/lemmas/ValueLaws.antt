@@ -1,5 +1,7 @@
 -- Laws of values: what is spelled reads back, and what is read spells as it stood.
-use Rattle.std.proofs.Common.{◌≡◌, ℕ, zero, suc, ◌*◌, ◌/◌, ◌%◌, ◌<◌, ◌≤◌, List, [], ◌∷◌, ◌++◌, map, flat_map, length, take, drop, slice_get, slice_index, Some, true, refl, sym, ◌∙◌, ap, ap₂, arith, append-nil, append_assoc, length-drop, take-append-drop}
+use Rattle.std.proofs.Common.{◌≡◌, ℕ, zero, suc, ◌*◌, ◌/◌, ◌%◌, ◌<◌, ◌≤◌, List, [], ◌∷◌, ◌++◌, map, flat_map, length, take, drop, slice_get}
+use Rattle.std.proofs.Common.{slice_index, Some, true, refl, sym, ◌∙◌, ap, ap₂, arith, append-nil, append_assoc, length-drop}
+use Rattle.std.proofs.Common.{take-append-drop}
 use Rattle.std.specs.List.{AllByRecursion}
 use Rattle.std.proofs.lemmas.List.{length-map, length-take-le, nil_from_length}
 use Rattle.std.proofs.lemmas.Option.{slice_get-map}
@@ -15,7 +17,8 @@ use Rattle.px_field.specs.declared.forms.Kind.TheVariants as kind
 use Rattle.px_field.specs.declared.forms.Element.{Element}
 use Rattle.px_field.specs.declared.forms.Element.TheVariants as element
 use Rattle.px_field.specs.Forms.{size}
-use Rattle.px_field.specs.Values.{spell, element_of, IsOf, form_in, Value, IsValue, spelled, elements, widened, count_in, value_in, whole_in, IsWhole, is_bytes}
+use Rattle.px_field.specs.Values.{spell, element_of, IsOf, form_in, Value, IsValue, spelled, elements, widened, count_in, value_in}
+use Rattle.px_field.specs.Values.{whole_in, IsWhole, is_bytes}
 use Rattle.px_field.specs.lemmas.PieceLaws.{length-pieces, get-pieces, pieces_joined, length_joined, each_piece, bytes_take, bytes_drop}
 use Rattle.px_field.specs.lemmas.ElementLaws.{size-pos, length-spell, element_of-spell, spell-element_of, IsOf-element_of}
 
@@ -27,9 +30,11 @@ unfolding elements
 length-elements o f n x = length-map (pieces n (size f) x) (element_of o f) ∙ length-pieces n (size f) x
 
 -- the element at i
-pub get-elements : (o : Order) (f : Form) (n i at : ℕ) (x : List ℕ) → i < n → at ≡ i * size f → slice_get (elements o f n x) i ≡ Some (element_of o f (take (size f) (drop at x)))
+pub get-elements : (o : Order) (f : Form) (n i at : ℕ) (x : List ℕ) → i < n → at ≡ i * size f
+    → slice_get (elements o f n x) i ≡ Some (element_of o f (take (size f) (drop at x)))
 unfolding elements
-get-elements o f n i at x h e = slice_get-map (element_of o f) (pieces n (size f) x) i ∙ ap (option_map (element_of o f)) (get-pieces n (size f) i at x h e)
+get-elements o f n i at x h e =
+    slice_get-map (element_of o f) (pieces n (size f) x) i ∙ ap (option_map (element_of o f)) (get-pieces n (size f) i at x h e)
 
 each_of : (o : Order) (f : Form) (xs : List (List ℕ)) → AllByRecursion AreBytes xs → AllByRecursion (IsOf f) (map (element_of o f) xs)
 each_of o f [] h = tt
@@ -38,9 +43,11 @@ each_of o f (x ∷ xs) h = (IsOf-element_of o f x h.0, each_of o f xs h.1)
 -- elements read from bytes are of their type
 pub IsOf-elements : (o : Order) (f : Form) (n : ℕ) (x : List ℕ) → AreBytes x → AllByRecursion (IsOf f) (elements o f n x)
 unfolding elements
-IsOf-elements o f n x h = each_of o f (pieces n (size f) x) (each_piece AreBytes AreBytes n (size f) x (bytes_take (size f)) (bytes_drop (size f)) h)
+IsOf-elements o f n x h =
+    each_of o f (pieces n (size f) x) (each_piece AreBytes AreBytes n (size f) x (bytes_take (size f)) (bytes_drop (size f)) h)
 
-all_stand : (o : Order) (f : Form) (n : ℕ) (x : List ℕ) → length x ≡ n * size f → AreBytes x → flat_map (spell o) (map (element_of o f) (pieces n (size f) x)) ≡ x
+all_stand : (o : Order) (f : Form) (n : ℕ) (x : List ℕ) → length x ≡ n * size f → AreBytes x
+    → flat_map (spell o) (map (element_of o f) (pieces n (size f) x)) ≡ x
 all_stand o f zero x l h = sym (nil_from_length x (omega arith))
 all_stand o f (suc n) x l h =
     ap₂ (λ a b. a ++ b) (spell-element_of o f (take (size f) x) (length-take-le (size f) x (omega arith)) (bytes_take (size f) x h))
@@ -48,7 +55,8 @@ all_stand o f (suc n) x l h =
     ∙ take-append-drop (size f) x
 
 -- and spell the bytes as they stood
-pub spell-elements : (o : Order) (f : Form) (n : ℕ) (x : List ℕ) → length x ≡ n * size f → AreBytes x → flat_map (spell o) (elements o f n x) ≡ x
+pub spell-elements : (o : Order) (f : Form) (n : ℕ) (x : List ℕ) → length x ≡ n * size f → AreBytes x
+    → flat_map (spell o) (elements o f n x) ≡ x
 unfolding elements
 spell-elements o f n x l h = all_stand o f n x l h
 
@@ -73,7 +81,8 @@ unfolding elements spelled
 elements-spelled o v h =
     let f = form_in v.kind in
     let es = v.elements in
-    ap (map (element_of o f)) (ap (pieces (length es) (size f)) (sym (append-nil (flat_map (spell o) es))) ∙ pieces_joined (size f) (spell o) es [] (each_length o f es h))
+    ap (map (element_of o f)) (ap (pieces (length es) (size f)) (sym (append-nil (flat_map (spell o) es)))
+    ∙ pieces_joined (size f) (spell o) es [] (each_length o f es h))
     ∙ each_back o f es h
 
 -- a whole number of elements
@@ -102,7 +111,8 @@ each_long (_ ∷ es) h = absurd h.0
 
 -- what is read as a whole number is one
 pub IsValue-whole_in : (o : Order) (f : Form) (x : List ℕ) → IsWhole f → AreBytes x → IsValue (whole_in o f x)
-IsValue-whole_in o form.Short x w h = each_short (elements o form.Short (count_in form.Short x) x) (IsOf-elements o form.Short (count_in form.Short x) x h)
+IsValue-whole_in o form.Short x w h =
+    each_short (elements o form.Short (count_in form.Short x) x) (IsOf-elements o form.Short (count_in form.Short x) x h)
 IsValue-whole_in o form.Long x w h =
     let es = elements o form.Long (count_in form.Long x) x in
     let all : AllByRecursion (IsOf form.Long) es = IsOf-elements o form.Long (count_in form.Long x) x h in
@@ -151,7 +161,8 @@ unfolding elements
 elements-bytes o form.Byte x b = one_each (count_in form.Byte x) x (sym (count_in-times form.Byte x (length x) (omega arith)))
 elements-bytes o form.Ascii x b = one_each (count_in form.Ascii x) x (sym (count_in-times form.Ascii x (length x) (omega arith)))
 elements-bytes o form.SByte x b = one_each (count_in form.SByte x) x (sym (count_in-times form.SByte x (length x) (omega arith)))
-elements-bytes o form.Undefined x b = one_each (count_in form.Undefined x) x (sym (count_in-times form.Undefined x (length x) (omega arith)))
+elements-bytes o form.Undefined x b =
+    one_each (count_in form.Undefined x) x (sym (count_in-times form.Undefined x (length x) (omega arith)))
 elements-bytes o form.Utf8 x b = one_each (count_in form.Utf8 x) x (sym (count_in-times form.Utf8 x (length x) (omega arith)))
 elements-bytes o _ x b = absurd (cc)
 
@@ -161,27 +172,33 @@ spell-bytes o [] = refl
 spell-bytes o (b ∷ x) = ap (λ (l : List ℕ). b ∷ l) (spell-bytes o x)
 
 -- the bytes of the first elements, and of one more
-pub spell-take : (o : Order) (es : List Element) (i j : ℕ) (e : Element) → slice_get es i ≡ Some e → j ≡ suc i → flat_map (spell o) (take j es) ≡ flat_map (spell o) (take i es) ++ spell o e
+pub spell-take : (o : Order) (es : List Element) (i j : ℕ) (e : Element) → slice_get es i ≡ Some e → j ≡ suc i
+    → flat_map (spell o) (take j es) ≡ flat_map (spell o) (take i es) ++ spell o e
 spell-take o [] i j e h s = absurd (cc)
 spell-take o (x ∷ es) zero j e h s =
     let same : x ≡ e = cc in
     let one : j ≡ 1 = omega arith in
     rw (one, same) (append-nil (spell o e))
 spell-take o (x ∷ es) (suc i) j e h s =
-    rw s (ap (λ (l : List ℕ). spell o x ++ l) (spell-take o es i (suc i) e h refl) ∙ sym (append_assoc (spell o x) (flat_map (spell o) (take i es)) (spell o e)))
+    rw s (ap (λ (l : List ℕ). spell o x ++ l) (spell-take o es i (suc i) e h refl)
+    ∙ sym (append_assoc (spell o x) (flat_map (spell o) (take i es)) (spell o e)))
 
 -- a whole number that is read of LONGs spells them as they stood
 pub spelled-whole_in : (o : Order) (x : List ℕ) → length x % 4 ≡ 0 → AreBytes x → spelled o (whole_in o form.Long x) ≡ x
 unfolding spelled
 spelled-whole_in o x whole h =
-    ap (λ (es : List Element). flat_map (spell o) es) (widened-long o (count_in form.Long x) x h) ∙ spell-elements o form.Long (count_in form.Long x) x (sym (count_in-whole form.Long x whole)) h
+    ap (λ (es : List Element). flat_map (spell o) es) (widened-long o (count_in form.Long x) x h)
+    ∙ spell-elements o form.Long (count_in form.Long x) x (sym (count_in-whole form.Long x whole)) h
 
 -- the value that n elements of a type give
-pub value_in-elements : (o : Order) (f : Form) (n : ℕ) (x : List ℕ) → n * size f ≡ length x → value_in o f x ≡ record { kind = kind.Of f; elements = elements o f n x }
+pub value_in-elements : (o : Order) (f : Form) (n : ℕ) (x : List ℕ) → n * size f ≡ length x
+    → value_in o f x ≡ record { kind = kind.Of f; elements = elements o f n x }
 value_in-elements o f n x h = ap (λ (m : ℕ). record { kind = kind.Of f; elements = elements o f m x }) (count_in-times f x n h)
 
-pub whole_in-elements : (o : Order) (f : Form) (n : ℕ) (x : List ℕ) → n * size f ≡ length x → whole_in o f x ≡ record { kind = kind.Whole; elements = map widened (elements o f n x) }
-whole_in-elements o f n x h = ap (λ (m : ℕ). record { kind = kind.Whole; elements = map widened (elements o f m x) }) (count_in-times f x n h)
+pub whole_in-elements : (o : Order) (f : Form) (n : ℕ) (x : List ℕ) → n * size f ≡ length x
+    → whole_in o f x ≡ record { kind = kind.Whole; elements = map widened (elements o f n x) }
+whole_in-elements o f n x h =
+    ap (λ (m : ℕ). record { kind = kind.Whole; elements = map widened (elements o f m x) }) (count_in-times f x n h)
 
 -- so many bytes are a whole number of elements
 pub whole-times : (f : Form) (n : ℕ) (x : List ℕ) → n * size f ≡ length x → length x % size f ≡ 0

@@ -1,5 +1,6 @@
 -- The number of some octets, one octet more.
-use Rattle.std.proofs.Common.{◌≡◌, ℕ, ◌+◌, ◌*◌, ◌^◌, ◌<◌, ◌≤◌, zero, suc, List, slice_index, ap, ◌∙◌, arith, ◌-◌, nat_lt, false, length, take, drop, length-drop, length-take-le}
+use Rattle.std.proofs.Common.{◌≡◌, ℕ, ◌+◌, ◌*◌, ◌^◌, ◌<◌, ◌≤◌, zero, suc, List, slice_index, ap, ◌∙◌, arith, ◌-◌, nat_lt, false, length}
+use Rattle.std.proofs.Common.{take, drop, length-drop, length-take-le}
 use Rattle.px_bytes.specs.declared.Order.TheVariants.{Most}
 use Rattle.px_bytes.specs.Numbers.{number, AreBytes}
 use Rattle.px_bytes.specs.lemmas.NumberLaws.{number-lt, number-take}

@@ -35,11 +35,13 @@ number_byte g h = go g.rec g.number g.items h.some h.items where
 ranks_rise : (g h : Group) → g.number < 256 → h.number < 256 → is_before g.rec g.number h.rec h.number ≡ true → rank g < rank h
 ranks_rise g h a b e = elim (before_parts g.rec g.number h.rec h.number e) [ inl f ↦ omega arith | inr f ↦ omega (arith, f.0, f.1) ]
 
-all_above : (g : Group) (gs : Record) → g.number < 256 → AllByRecursion IsGroup gs → AllByRecursion (After g.rec g.number) gs → AllByRecursion (λ h. rank g + 1 ≤ rank h) gs
+all_above : (g : Group) (gs : Record) → g.number < 256 → AllByRecursion IsGroup gs → AllByRecursion (After g.rec g.number) gs
+    → AllByRecursion (λ h. rank g + 1 ≤ rank h) gs
 all_above g [] a b e = tt
 all_above g (h ∷ hs) a b e = (omega (arith, ranks_rise g h a (number_byte h b.0) e.0), all_above g hs a b.1 e.1)
 
-few : (b : ℕ) (gs : Record) → b ≤ 65536 → IsAscending gs → AllByRecursion IsGroup gs → AllByRecursion (λ h. b ≤ rank h) gs → length gs + b ≤ 65536
+few : (b : ℕ) (gs : Record) → b ≤ 65536 → IsAscending gs → AllByRecursion IsGroup gs → AllByRecursion (λ h. b ≤ rank h) gs
+    → length gs + b ≤ 65536
 few b [] l a w r = omega arith
 few b (g ∷ gs) l a w r =
     let n = number_byte g w.0 in

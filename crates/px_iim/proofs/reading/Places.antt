@@ -1,5 +1,6 @@
 -- A DataSet is put in the groups of its record number.
-use Rattle.std.proofs.Common.{◌≡◌, ℕ, ◌+◌, ◌<◌, ◌≤◌, ◌==◌, zero, suc, nat_lt, true, false, ◌&&◌, ◌||◌, List, [], ◌∷◌, ◌++◌, length, get_or, slice_index, map, sym, ap, ◌∙◌, arith}
+use Rattle.std.proofs.Common.{◌≡◌, ℕ, ◌+◌, ◌<◌, ◌≤◌, ◌==◌, zero, suc, nat_lt, true, false, ◌&&◌, ◌||◌, List, [], ◌∷◌, ◌++◌, length, get_or}
+use Rattle.std.proofs.Common.{slice_index, map, sym, ap, ◌∙◌, arith}
 use Rattle.std.proofs.Common.{set}
 use Rattle.std.specs.List.{insert}
 use Rattle.std.proofs.lemmas.List.{length-map, map-set, set-get_or}
@@ -26,13 +27,15 @@ before r x n e = grind (arith, nat_tests)
 behind : (r x n : ℕ) → x < n → (nat_lt r r || ((r == r) && nat_lt n x)) ≡ false
 behind r x n e = grind (arith, nat_tests)
 
-same_group : (r n k : ℕ) (xs ys : List (ℕ × List ℕ)) → n ≡ k → xs ≡ ys → ◌≡◌ {A = Group} (record { rec = r; number = n; items = xs }) (record { rec = r; number = k; items = ys })
+same_group : (r n k : ℕ) (xs ys : List (ℕ × List ℕ)) → n ≡ k → xs ≡ ys
+    → ◌≡◌ {A = Group} (record { rec = r; number = n; items = xs }) (record { rec = r; number = k; items = ys })
 same_group r n k xs ys e h = cc
 
 module _ (r m n : ℕ) (o : List ℕ) (name : named r m ≡ n) where
   -- the group is there
   pub put_same : (gs : List CodeGroup) (i : ℕ) (g : CodeGroup) → IsBelow n (numbers gs) i → i < length gs → slice_index (numbers gs) i ≡ n
-      → ((e : CodeGroup) → (g.number ≡ (get_or gs i e).number) × (map item_view g.items.items ≡ map item_view (get_or gs i e).items.items ++ (m, o) ∷ []))
+      → ((e : CodeGroup) → (g.number ≡ (get_or gs i e).number) × (map item_view g.items.items ≡ map item_view (get_or gs i e).items.items
+      ++ (m, o) ∷ []))
       → put (record { rec = r; number = m; octets = o }) (groups_view r gs) ≡ groups_view r (set gs i g)
   unfolding put
   put_same [] i g b l e h = absurd (omega arith)
@@ -47,7 +50,8 @@ module _ (r m n : ℕ) (o : List ℕ) (name : named r m ≡ n) where
       ∙ ap (λ (ys : Record). group_view r x ∷ ys) (put_same xs i g (λ j k. b (suc j) (omega arith)) (omega arith) e h)
 
   -- it isn't there
-  pub put_new : (gs : List CodeGroup) (i : ℕ) (g : CodeGroup) → IsBelow n (numbers gs) i → i ≤ length gs → (i < length gs → n < slice_index (numbers gs) i)
+  pub put_new : (gs : List CodeGroup) (i : ℕ) (g : CodeGroup) → IsBelow n (numbers gs) i → i ≤ length gs
+      → (i < length gs → n < slice_index (numbers gs) i)
       → g.number ≡ n → map item_view g.items.items ≡ (m, o) ∷ []
       → put (record { rec = r; number = m; octets = o }) (groups_view r gs) ≡ groups_view r (insert gs i g)
   unfolding put
@@ -67,11 +71,14 @@ module _ (r m n : ℕ) (o : List ℕ) (name : named r m ≡ n) where
 pub numbers_length : (gs : List CodeGroup) → length (numbers gs) ≡ length gs
 numbers_length gs = length-map gs (λ (x : CodeGroup). x.number)
 
-pub below_more : (gs : List CodeGroup) (n i : ℕ) → IsBelow n (numbers gs) i → slice_index (numbers gs) i < n → IsBelow n (numbers gs) (i + 1)
+pub below_more : (gs : List CodeGroup) (n i : ℕ) → IsBelow n (numbers gs) i → slice_index (numbers gs) i < n
+    → IsBelow n (numbers gs) (i + 1)
 below_more gs n i b h = below_more_at (λ (j : ℕ). slice_index (numbers gs) j < n) i b h
 
 -- a group with the same number and items in its place
-pub same_view : (r : ℕ) (gs : List CodeGroup) (i : ℕ) (g d : CodeGroup) → g.number ≡ (get_or gs i d).number → g.items.items ≡ (get_or gs i d).items.items → groups_view r (set gs i g) ≡ groups_view r gs
+pub same_view : (r : ℕ) (gs : List CodeGroup) (i : ℕ) (g d : CodeGroup) → g.number ≡ (get_or gs i d).number
+    → g.items.items ≡ (get_or gs i d).items.items → groups_view r (set gs i g) ≡ groups_view r gs
 same_view r gs i g d e h =
-    map-set (group_view r) gs i g ∙ ap (set (groups_view r gs) i) (same_group r g.number (get_or gs i d).number _ _ e (ap (map item_view) h))
+    map-set (group_view r) gs i g ∙ ap (set (groups_view r gs) i) (same_group r g.number (get_or gs i d).number _ _ e
+    (ap (map item_view) h))
     ∙ sym (map-set (group_view r) gs i (get_or gs i d)) ∙ ap (groups_view r) (set-get_or gs i d)

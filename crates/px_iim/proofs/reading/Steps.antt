@@ -1,5 +1,7 @@
 -- A block, one DataSet on.
-use Rattle.std.proofs.Common.{◌≡◌, ℕ, ◌+◌, ◌-◌, ◌<◌, ◌≤◌, zero, suc, nat_le, Bool, true, false, ◌&&◌, if◌then◌else◌, Option, Some, None, option_map, is_some, List, [], ◌∷◌, length, drop, refl, sym, ap, ◌∙◌, arith, length-drop, length-take, leb-true, le-leb}
+use Rattle.std.proofs.Common.{◌≡◌, ℕ, ◌+◌, ◌-◌, ◌<◌, ◌≤◌, zero, suc, nat_le, Bool, true, false, ◌&&◌, if◌then◌else◌, Option, Some, None}
+use Rattle.std.proofs.Common.{option_map, is_some, List, [], ◌∷◌, length, drop, refl, sym, ap, ◌∙◌, arith, length-drop, length-take}
+use Rattle.std.proofs.Common.{leb-true, le-leb}
 use Rattle.std.proofs.lemmas.Bool.{cond-true, cond-false, and_parts, false_from_ne_true, lt-leb}
 use Rattle.std.proofs.lemmas.List.{drop-drop}
 use Rattle.px_bytes.specs.declared.Cause.{Cause}
@@ -37,13 +39,15 @@ same_sequence (suc n) zero [] h k = none (suc n)
 same_sequence (suc n) zero (y ∷ ys) h k = absurd (omega arith)
 same_sequence (suc n) (suc m) x h k =
     let l = size_at_least x in
-    ap (λ (o : Option (List DataSet)). if is_dataset x then option_map (λ ds. dataset x ∷ ds) (if is_end (drop (size x) x) then Some [] else o) else None)
+    ap (λ (o : Option (List DataSet)). if is_dataset x then option_map (λ ds. dataset x ∷ ds)
+    (if is_end (drop (size x) x) then Some [] else o) else None)
     (same_sequence n m (drop (size x) x) (omega arith) (omega arith))
 
 long : (x : List ℕ) → is_dataset x ≡ true → 5 ≤ length x
 unfolding is_dataset
 long x h =
-    let a = and_parts (is_marked x && nat_le 5 (length x) && has_form x && nat_le (5 + extra x) (length x)) (nat_le (size x) (length x)) h in
+    let a = and_parts (is_marked x && nat_le 5 (length x) && has_form x && nat_le (5 + extra x) (length x)) (nat_le (size x) (length x)) h
+    in
     omega (arith, leb-true (size x) (length x) a.1)
 
 -- ---- one step
@@ -56,26 +60,32 @@ datasets_none (y ∷ ys) e = cond-false (is_dataset (y ∷ ys)) _ _ e
 pub datasets_last : (x : List ℕ) → is_dataset x ≡ true → is_end (drop (size x) x) ≡ true → datasets x ≡ Some (dataset x ∷ [])
 unfolding datasets sequence_of
 datasets_last [] e f = absurd (omega (arith, long [] e))
-datasets_last (y ∷ ys) e f = cond-true (is_dataset (y ∷ ys)) _ _ e ∙ ap (option_map (λ ds. dataset (y ∷ ys) ∷ ds)) (cond-true (is_end (drop (size (y ∷ ys)) (y ∷ ys))) _ _ f)
+datasets_last (y ∷ ys) e f = cond-true (is_dataset (y ∷ ys)) _ _ e
+    ∙ ap (option_map (λ ds. dataset (y ∷ ys) ∷ ds)) (cond-true (is_end (drop (size (y ∷ ys)) (y ∷ ys))) _ _ f)
 
-pub datasets_more : (x : List ℕ) → is_dataset x ≡ true → is_end (drop (size x) x) ≡ false → datasets x ≡ option_map (λ ds. dataset x ∷ ds) (datasets (drop (size x) x))
+pub datasets_more : (x : List ℕ) → is_dataset x ≡ true → is_end (drop (size x) x) ≡ false
+    → datasets x ≡ option_map (λ ds. dataset x ∷ ds) (datasets (drop (size x) x))
 unfolding datasets sequence_of
 datasets_more [] e f = absurd (omega (arith, long [] e))
 datasets_more (y ∷ ys) e f =
     let l = size_at_least (y ∷ ys) in
     cond-true (is_dataset (y ∷ ys)) _ _ e
     ∙ ap (option_map (λ ds. dataset (y ∷ ys) ∷ ds))
-    (cond-false (is_end (drop (size (y ∷ ys)) (y ∷ ys))) _ _ f ∙ same_sequence (length ys) (length (drop (size (y ∷ ys)) (y ∷ ys))) (drop (size (y ∷ ys)) (y ∷ ys)) (omega arith) (omega arith))
+    (cond-false (is_end (drop (size (y ∷ ys)) (y ∷ ys))) _ _ f
+    ∙ same_sequence (length ys) (length (drop (size (y ∷ ys)) (y ∷ ys))) (drop (size (y ∷ ys)) (y ∷ ys)) (omega arith) (omega arith))
 
 -- ---- behind a DataSet that was read
 
 refused : (p : ℕ) (x : List ℕ) (f : Cause × ℕ) → first_false (dataset_checks p x) ≡ Some f → is_dataset x ≡ false
-refused p x f h = false_from_ne_true (is_dataset x) (λ e. let clash : ◌≡◌ {A = Option (Cause × ℕ)} None (Some f) = sym (dataset_clean p x e) ∙ h in absurd (cc))
+refused p x f h =
+    false_from_ne_true (is_dataset x) (λ e. let clash : ◌≡◌ {A = Option (Cause × ℕ)} None (Some f) = sym (dataset_clean p x e)
+    ∙ h in absurd (cc))
 
 pub refused_says : (p : ℕ) (x : List ℕ) (f : Cause × ℕ) → first_false (dataset_checks p x) ≡ Some f → datasets x ≡ None
 refused_says p x f h = datasets_none x (refused p x f h)
 
-pub refused_fault : (p : ℕ) (x : List ℕ) (f : Cause × ℕ) → first_false (dataset_checks p x) ≡ Some f → first_false (checks_left p x) ≡ Some f
+pub refused_fault : (p : ℕ) (x : List ℕ) (f : Cause × ℕ) → first_false (dataset_checks p x) ≡ Some f
+    → first_false (checks_left p x) ≡ Some f
 refused_fault p x f h = left_fault p x (refused p x f h) ∙ h
 
 part_short : (x : List ℕ) → length (dataset x).octets ≤ length x
@@ -101,7 +111,8 @@ module _ (x : List ℕ) (at : ℕ) (f : Found) (r : Reads (drop at x) f) where
   pub said_last : is_end (drop (at + f.size) x) ≡ true → datasets (drop at x) ≡ Some (found_view f ∷ [])
   said_last e = datasets_last (drop at x) r.there (at_end true e) ∙ ap (λ (d : DataSet). Some (d ∷ [])) (sym r.value)
 
-  pub said_more : is_end (drop (at + f.size) x) ≡ false → datasets (drop at x) ≡ option_map (λ ds. found_view f ∷ ds) (datasets (drop (at + f.size) x))
+  pub said_more : is_end (drop (at + f.size) x) ≡ false → datasets (drop at x) ≡ option_map (λ ds. found_view f ∷ ds)
+      (datasets (drop (at + f.size) x))
   said_more e =
       datasets_more (drop at x) r.there (at_end false e)
       ∙ ap (λ (d : DataSet). option_map (λ (ds : List DataSet). d ∷ ds) (datasets (drop (size (drop at x)) (drop at x)))) (sym r.value)
@@ -110,7 +121,8 @@ module _ (x : List ℕ) (at : ℕ) (f : Found) (r : Reads (drop at x) f) where
   pub fault_last : is_end (drop (at + f.size) x) ≡ true → first_false (checks_left at (drop at x)) ≡ None
   fault_last e = left_end at (drop at x) r.there (at_end true e)
 
-  pub fault_more : is_end (drop (at + f.size) x) ≡ false → first_false (checks_left at (drop at x)) ≡ first_false (checks_left (at + f.size) (drop (at + f.size) x))
+  pub fault_more : is_end (drop (at + f.size) x) ≡ false → first_false (checks_left at (drop at x)) ≡ first_false
+      (checks_left (at + f.size) (drop (at + f.size) x))
   fault_more e =
       left_more at (drop at x) r.there (at_end false e)
       ∙ ap (λ (n : ℕ). first_false (checks_left (at + n) (drop (size (drop at x)) (drop at x)))) (sym r.sized)
@@ -134,7 +146,8 @@ pub gather_last : (i : Record) (d : DataSet) → option_map (gather i) (Some (d 
 unfolding gather
 gather_last i d = refl
 
-pub gather_more : (i : Record) (d : DataSet) (o : Option (List DataSet)) → option_map (gather i) (option_map (λ ds. d ∷ ds) o) ≡ option_map (gather (put d i)) o
+pub gather_more : (i : Record) (d : DataSet) (o : Option (List DataSet))
+    → option_map (gather i) (option_map (λ ds. d ∷ ds) o) ≡ option_map (gather (put d i)) o
 unfolding gather
 gather_more i d None = refl
 gather_more i d (Some ds) = refl

@@ -9,7 +9,8 @@ module _ {X : Type 0} (xs ys : List X) (i : ℕ) (x y : X) (first : slice_get xs
   same_more e s =
       take_more xs i x (slice_get_within xs i x first) ∙ ap (λ (z : X). take i xs ++ z ∷ []) (get_or_from_slice_get xs i x x first ∙ s)
       ∙ ap (λ (zs : List X). zs ++ y ∷ []) e
-      ∙ sym (take_more ys i y (slice_get_within ys i y second) ∙ ap (λ (z : X). take i ys ++ z ∷ []) (get_or_from_slice_get ys i y y second))
+      ∙ sym (take_more ys i y (slice_get_within ys i y second)
+      ∙ ap (λ (z : X). take i ys ++ z ∷ []) (get_or_from_slice_get ys i y y second))
 
   -- lists that are the same have the same there
   pub same_at : xs ≡ ys → x ≡ y

@@ -1,5 +1,7 @@
 -- Lengths and growths of parts put one behind another.
-use Rattle.std.proofs.Common.{◌≡◌, ℕ, zero, suc, ◌+◌, ◌<◌, ◌≤◌, ◌++◌, List, [], ◌∷◌, length, take, get_or, slice_get, Option, Some, None, IfSome, Result, Ok, Err, refl, sym, ap, ◌∙◌, subst, inl, inr, map, option_map, unwrap_or, is_ok, if◌then◌else◌, nat_le, le-leb, arith, append_assoc, append-nil, length-append}
+use Rattle.std.proofs.Common.{◌≡◌, ℕ, zero, suc, ◌+◌, ◌<◌, ◌≤◌, ◌++◌, List, [], ◌∷◌, length, take, get_or, slice_get, Option, Some, None}
+use Rattle.std.proofs.Common.{IfSome, Result, Ok, Err, refl, sym, ap, ◌∙◌, subst, inl, inr, map, option_map, unwrap_or, is_ok}
+use Rattle.std.proofs.Common.{if◌then◌else◌, nat_le, le-leb, arith, append_assoc, append-nil, length-append}
 use Rattle.std.specs.List.{flat_map, AllByRecursion}
 use Rattle.std.proofs.lemmas.List.{take-take, take_at}
 use Rattle.std.proofs.lemmas.Option.{slice_get-map, slice_get-get_or}
@@ -15,9 +17,11 @@ use Rattle.std.proofs.lemmas.Bool.{cond-true, cond-false, cases_lt, lt-leb}
 -- ---- the parts of a list's elements
 
 module _ {X : Type 0} (f : X → List ℕ) (xs : List X) (i : ℕ) (x : X) (read : slice_get xs i ≡ Some x) where
-  pub grows_more : (old now new : List ℕ) → now ≡ old ++ flat_map f (take i xs) → new ≡ now ++ f x → new ≡ old ++ flat_map f (take (i + 1) xs)
+  pub grows_more : (old now new : List ℕ) → now ≡ old ++ flat_map f (take i xs) → new ≡ now ++ f x
+      → new ≡ old ++ flat_map f (take (i + 1) xs)
   grows_more old now new e h =
-      h ∙ ap (λ (l : List ℕ). l ++ f x) e ∙ append_assoc old (flat_map f (take i xs)) (f x) ∙ ap (λ (l : List ℕ). old ++ l) (sym (parts_more f xs i x read))
+      h ∙ ap (λ (l : List ℕ). l ++ f x) e ∙ append_assoc old (flat_map f (take i xs)) (f x)
+      ∙ ap (λ (l : List ℕ). old ++ l) (sym (parts_more f xs i x read))
 
   pub all_at : (P : X → Type 0) → AllByRecursion P xs → P x
   all_at P a = go xs i read a where
@@ -54,7 +58,8 @@ pub within_counted : (o : Option ℕ) (n : ℕ) → o ≡ within_most n → IfSo
 within_counted None n e = tt
 within_counted (Some t) n e = let s = some_within t n e in omega arith
 
-pub item_read : (items : List Item) (i : ℕ) (d : Item) → i < length items → slice_get (map item_view items) i ≡ Some (item_view (get_or items i d))
+pub item_read : (items : List Item) (i : ℕ) (d : Item) → i < length items
+    → slice_get (map item_view items) i ≡ Some (item_view (get_or items i d))
 item_read items i d h = slice_get-map item_view items i ∙ ap (option_map item_view) (slice_get-get_or items i d h)
 
 pub group_short : (g : Group) → IsGroup g → AreShort g.items
@@ -92,7 +97,8 @@ module _ (i left : Record) (x : Group) (step : i ≡ x ∷ left) (all : List ℕ
   -- x was appended
   pub grows_next : (old now new parts : List ℕ) → now ≡ old ++ parts → parts ++ normal_iim i ≡ all → new ≡ now ++ normal_group x
       → (more : List ℕ) × (new ≡ old ++ more) × (more ++ normal_iim left ≡ all)
-  grows_next old now new parts e f h = (parts ++ normal_group x, h ∙ ap (λ (l : List ℕ). l ++ normal_group x) e ∙ append_assoc old parts (normal_group x), rest_next parts f)
+  grows_next old now new parts e f h =
+      (parts ++ normal_group x, h ∙ ap (λ (l : List ℕ). l ++ normal_group x) e ∙ append_assoc old parts (normal_group x), rest_next parts f)
 
 -- none is left
 pub rest_none : (i : Record) (out all : List ℕ) → i ≡ [] → out ++ normal_iim i ≡ all → out ≡ all
@@ -105,12 +111,15 @@ grows_stop old now new parts e f =
     let short : length old ≤ length now = omega (arith, ap length e, length-append old parts) in
     sym (take-take (length old) (length now) new short) ∙ ap (take (length old)) (f ∙ e) ∙ take_at old parts (length old) refl
 
-pub grows_item : {A E : Type 0} (r : Result A E) (old now new head octets whole : List ℕ) → now ≡ old ++ head → new ≡ (if is_ok r then now ++ octets else now) → head ++ octets ≡ whole → Grows r old new whole
-grows_item (Ok x) old now new head octets whole e h w = h ∙ ap (λ (l : List ℕ). l ++ octets) e ∙ append_assoc old head octets ∙ ap (λ (l : List ℕ). old ++ l) w
+pub grows_item : {A E : Type 0} (r : Result A E) (old now new head octets whole : List ℕ) → now ≡ old ++ head
+    → new ≡ (if is_ok r then now ++ octets else now) → head ++ octets ≡ whole → Grows r old new whole
+grows_item (Ok x) old now new head octets whole e h w =
+    h ∙ ap (λ (l : List ℕ). l ++ octets) e ∙ append_assoc old head octets ∙ ap (λ (l : List ℕ). old ++ l) w
 grows_item (Err x) old now new head octets whole e h w = ap (take (length old)) (h ∙ e) ∙ take_at old head (length old) refl
 
 -- a DataSet is its head and its data
-pub head_and_data : (rec number : ℕ) (octets head : List ℕ) → head ≡ normal_head rec number (length octets) → head ++ octets ≡ normal_dataset rec (number, octets)
+pub head_and_data : (rec number : ℕ) (octets head : List ℕ) → head ≡ normal_head rec number (length octets)
+    → head ++ octets ≡ normal_dataset rec (number, octets)
 unfolding normal_head normal_dataset
 head_and_data rec number octets head e = ap (λ (h : List ℕ). h ++ octets) e
 

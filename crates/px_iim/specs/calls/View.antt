@@ -1,5 +1,6 @@
 -- How the code's groups are seen.
-use Rattle.std.specs.Prelude.{◌≡◌, ℕ, suc, ◌==◌, ◌<◌, ◌≤◌, length, slice_index, get_or, insert, if◌then◌else◌, Some, None, List, [], ◌∷◌, ◌++◌, drop, map, filter_map}
+use Rattle.std.specs.Prelude.{◌≡◌, ℕ, suc, ◌==◌, ◌<◌, ◌≤◌, length, slice_index, get_or, insert, if◌then◌else◌, Some, None, List, [], ◌∷◌}
+use Rattle.std.specs.Prelude.{◌++◌, drop, map, filter_map}
 use Rattle.std.specs.Borrow.{Bor}
 use Rattle.std.proofs.Common.{set}
 use Rattle.std.specs.Prelude.{Vec}
@@ -47,7 +48,9 @@ Holds n gs items = (at : ℕ) × Found n (numbers gs) at × ((g : CodeGroup) →
 
 -- the group at the place has one more item
 abbrev pub Appended : ℕ → ℕ × List ℕ → List CodeGroup → List CodeGroup → Type 0
-Appended at x old new = (g : CodeGroup) × (new ≡ set old at g) × ((d : CodeGroup) → (g.number ≡ (get_or old at d).number) × (map item_view g.items.items ≡ map item_view (get_or old at d).items.items ++ x ∷ []))
+Appended at x old new =
+    (g : CodeGroup) × (new ≡ set old at g) × ((d : CodeGroup) → (g.number ≡ (get_or old at d).number) × (map item_view g.items.items ≡ map
+    item_view (get_or old at d).items.items ++ x ∷ []))
 
 -- a group of one item stands at the place
 abbrev pub Inserted : ℕ → ℕ → ℕ × List ℕ → List CodeGroup → List CodeGroup → Type 0

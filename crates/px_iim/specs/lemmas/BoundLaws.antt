@@ -1,5 +1,6 @@
 -- A normal form is at most twice as long as any block that says its record.
-use Rattle.std.proofs.Common.{◌≡◌, ◌<◌, ◌≤◌, ◌+◌, ◌*◌, ℕ, nat_lt, inl, inr, ap, ◌∙◌, arith, ltb-true, ltb-false, List, [], ◌∷◌, ◌++◌, length, flat_map, length-append, append-nil}
+use Rattle.std.proofs.Common.{◌≡◌, ◌<◌, ◌≤◌, ◌+◌, ◌*◌, ℕ, nat_lt, inl, inr, ap, ◌∙◌, arith, ltb-true, ltb-false, List, [], ◌∷◌, ◌++◌}
+use Rattle.std.proofs.Common.{length, flat_map, length-append, append-nil}
 use Rattle.std.proofs.lemmas.Bool.{cases_Bool}
 use Rattle.std.proofs.lemmas.Grind.{flat_map-append}
 use Rattle.px_bytes.specs.declared.Order.TheVariants.{Most}
@@ -24,7 +25,10 @@ length-count_long n h =
     let two = length-spelling Most 2 (top_bit + 4) in
     let four = length-spelling Most 4 n in
     let both = length-append (spelling Most 2 (top_bit + 4)) (spelling Most 4 n) in
-    ap length (normal_count-long n (elim (cases_Bool (nat_lt n top_bit)) [ inl t ↦ (let l = ltb-true n top_bit t in absurd (omega arith)) | inr f ↦ f ])) ∙ omega arith
+    ap length (normal_count-long n (elim (cases_Bool (nat_lt n top_bit)) [
+      | inl t ↦ (let l = ltb-true n top_bit t in absurd (omega arith))
+      | inr f ↦ f
+    ])) ∙ omega arith
 
 -- the octets of a DataSet in a normal form
 abbrev pub cost : DataSet → ℕ
@@ -56,7 +60,8 @@ costs (d ∷ ds) = cost d + costs ds
 
 costs_bound : (ds : List DataSet) (a : List ℕ) → Spells ds a → costs ds ≤ 2 * length a
 costs_bound [] a h = omega arith
-costs_bound (d ∷ ds) a (x, y, e, s, t) = let l = cost_bound d x s in let m = costs_bound ds y t in let k = ap length e ∙ length-append x y in omega arith
+costs_bound (d ∷ ds) a (x, y, e, s, t) =
+    let l = cost_bound d x s in let m = costs_bound ds y t in let k = ap length e ∙ length-append x y in omega arith
 
 length-new : (d : DataSet) → length (normal_group (new_group d)) ≡ cost d
 length-new d = ap length (append-nil (normal_dataset d.rec (d.number, d.octets)))

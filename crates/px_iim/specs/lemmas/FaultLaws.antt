@@ -1,5 +1,7 @@
 -- What is wrong with a block, and what isn't.
-use Rattle.std.proofs.Common.{◌≡◌, ◌⊎◌, ◌<◌, ◌≤◌, ◌+◌, ℕ, zero, suc, nat_lt, nat_le, Bool, true, false, ◌&&◌, if◌then◌else◌, inl, inr, refl, sym, ap, subst, ◌∙◌, arith, leb-true, leb-false, ltb-true, ltb-false, Option, Some, None, List, [], ◌∷◌, ◌++◌, length, take, drop, length-append, length-drop, append_assoc, append-nil}
+use Rattle.std.proofs.Common.{◌≡◌, ◌⊎◌, ◌<◌, ◌≤◌, ◌+◌, ℕ, zero, suc, nat_lt, nat_le, Bool, true, false, ◌&&◌, if◌then◌else◌, inl, inr, refl}
+use Rattle.std.proofs.Common.{sym, ap, subst, ◌∙◌, arith, leb-true, leb-false, ltb-true, ltb-false, Option, Some, None, List, [], ◌∷◌, ◌++◌}
+use Rattle.std.proofs.Common.{length, take, drop, length-append, length-drop, append_assoc, append-nil}
 use Rattle.std.specs.List.{AllByRecursion}
 use Rattle.std.proofs.lemmas.Bool.{cond-true, cond-false, cases_Bool, and_parts, and_cases, or_cases, or_parts, true≢false}
 use Rattle.std.proofs.lemmas.List.{take-append-drop, length-take-le}
@@ -13,7 +15,8 @@ use Rattle.px_iim.specs.Record.{SaysIim, form, extra, size, is_marked, has_form,
 use Rattle.px_iim.specs.Check.{dataset_checks, checks_from, iim_checks, FirstFault, Behind, Fault}
 use Rattle.px_iim.specs.lemmas.GatherLaws.{gathers}
 use Rattle.px_iim.specs.lemmas.SpellingLaws.{Holds, holds_dataset, dataset_holds, spelled_begins, dataset_spelled}
-use Rattle.px_iim.specs.lemmas.SequenceLaws.{IsZero, end_true, blank_unmarked, behind_begins, marked_spelling, Parsed, parsed_end, parsed_more}
+use Rattle.px_iim.specs.lemmas.SequenceLaws.{IsZero, end_true, blank_unmarked, behind_begins, marked_spelling, Parsed, parsed_end}
+use Rattle.px_iim.specs.lemmas.SequenceLaws.{parsed_more}
 use Rattle.px_iim.specs.lemmas.NormalLaws.{spells_append}
 use Rattle.px_iim.specs.Laws.{FaultsTell}
 
@@ -60,11 +63,13 @@ pub behind_end : (n p : ℕ) (x : List ℕ) → is_dataset x ≡ true → is_end
 unfolding checks_behind
 behind_end n p x h k = cond-true _ _ _ h ∙ cond-true _ _ _ k
 
-pub behind_more : (n p : ℕ) (x : List ℕ) → is_dataset x ≡ true → is_end (drop (size x) x) ≡ false → checks_behind n p x ≡ checks_from n (p + size x) (drop (size x) x)
+pub behind_more : (n p : ℕ) (x : List ℕ) → is_dataset x ≡ true → is_end (drop (size x) x) ≡ false
+    → checks_behind n p x ≡ checks_from n (p + size x) (drop (size x) x)
 unfolding checks_behind
 behind_more n p x h k = cond-true _ _ _ h ∙ cond-false _ _ _ k
 
-five_hold : (x : List ℕ) → is_marked x ≡ true → nat_le 5 (length x) ≡ true → has_form x ≡ true → nat_le (5 + extra x) (length x) ≡ true → nat_le (size x) (length x) ≡ true → Holds x
+five_hold : (x : List ℕ) → is_marked x ≡ true → nat_le 5 (length x) ≡ true → has_form x ≡ true → nat_le (5 + extra x) (length x) ≡ true
+    → nat_le (size x) (length x) ≡ true → Holds x
 five_hold x a b c d e = record {
   marked = a;
   five = leb-true 5 (length x) b;
@@ -76,15 +81,18 @@ five_hold x a b c d e = record {
 -- ---- the first fault stands
 
 module _ (x : List ℕ) where
-  pub behind_next : (ds : List DataSet) (rest : List ℕ) (p : ℕ) → Behind x ds rest p → Holds rest → Behind x (ds ++ dataset rest ∷ []) (drop (size rest) rest) (p + size rest)
+  pub behind_next : (ds : List DataSet) (rest : List ℕ) (p : ℕ) → Behind x ds rest p → Holds rest
+      → Behind x (ds ++ dataset rest ∷ []) (drop (size rest) rest) (p + size rest)
   behind_next ds rest p b h =
       let cut : rest ≡ take (size rest) rest ++ drop (size rest) rest = sym (take-append-drop (size rest) rest) in
-      let one : Spells (dataset rest ∷ []) (take (size rest) rest) = (take (size rest) rest, [], sym (append-nil (take (size rest) rest)), dataset_spelled rest (holds_dataset rest h), refl) in
+      let one : Spells (dataset rest ∷ []) (take (size rest) rest) =
+      (take (size rest) rest, [], sym (append-nil (take (size rest) rest)), dataset_spelled rest (holds_dataset rest h), refl) in
       let l = length-take-le (size rest) rest h.whole in
       let m = length-append b.front (take (size rest) rest) in
       let q = b.place in record {
         front = b.front ++ take (size rest) rest;
-        whole = b.whole ∙ ap (λ (z : List ℕ). b.front ++ z) cut ∙ sym (append_assoc b.front (take (size rest) rest) (drop (size rest) rest));
+        whole = b.whole ∙ ap (λ (z : List ℕ). b.front ++ z) cut
+            ∙ sym (append_assoc b.front (take (size rest) rest) (drop (size rest) rest));
         spells = spells_append ds (dataset rest ∷ []) b.front (take (size rest) rest) b.spells one;
         place = omega arith;
       }
@@ -99,12 +107,14 @@ module _ (x : List ℕ) where
         ],
       )
 
-  stands_from : (n : ℕ) (ds : List DataSet) (rest : List ℕ) (p : ℕ) (f : Cause × ℕ) → Behind x ds rest p → (ds ≡ []) ⊎ (is_end rest ≡ false) →
+  stands_from : (n : ℕ) (ds : List DataSet) (rest : List ℕ) (p : ℕ) (f : Cause × ℕ) → Behind x ds rest p
+      → (ds ≡ []) ⊎ (is_end rest ≡ false) →
       first_false (checks_from n p rest) ≡ Some f → Fault x f.0 f.1
   unfolding checks_from
   stands_from zero ds rest p f b o e = let clash : None ≡ Some f = e in absurd (cc)
   stands_from (suc n) ds rest p f b o e =
-      five_cases (Fault x) p (is_marked rest) (nat_le 5 (length rest)) (has_form rest) (nat_le (5 + extra rest) (length rest)) (nat_le (size rest) (length rest)) (checks_behind n p rest) f
+      five_cases (Fault x) p (is_marked rest) (nat_le 5 (length rest)) (has_form rest) (nat_le (5 + extra rest) (length rest))
+      (nat_le (size rest) (length rest)) (checks_behind n p rest) f
       (λ a. (ds, rest, b, o, a))
       (λ a l. (ds, rest, b, a, inl (let m = leb-false 5 (length rest) l in omega arith)))
       (λ a l c. let g = long_form rest c in (ds, rest, b, a, leb-true 5 (length rest) l, g.0, g.1))
@@ -115,14 +125,16 @@ module _ (x : List ℕ) where
       let i = holds_dataset rest h in
       elim (cases_Bool (is_end (drop (size rest) rest))) [
         | inl t ↦ let clash : None ≡ Some f = sym (ap first_false (behind_end n p rest i t)) ∙ q in absurd (cc)
-        | inr t ↦ stands_from n (ds ++ dataset rest ∷ []) (drop (size rest) rest) (p + size rest) f (behind_next ds rest p b h) (inr t) (sym (ap first_false (behind_more n p rest i t)) ∙ q)
+        | inr t ↦ stands_from n (ds ++ dataset rest ∷ []) (drop (size rest) rest) (p + size rest) f (behind_next ds rest p b h) (inr t)
+            (sym (ap first_false (behind_more n p rest i t)) ∙ q)
       ])
       (sym (ap first_false (checks_step n p rest)) ∙ e)
 
   behind_none : Behind x [] x 0
   behind_none = record { front = []; whole = refl; spells = refl; place = refl }
 
-first_head : (c : Check) (cs : List Check) (f : Cause × ℕ) → first_false (c ∷ cs) ≡ Some f → ((c.holds ≡ false) × ((c.cause, c.place) ≡ f)) ⊎ ((c.holds ≡ true) × (first_false cs ≡ Some f))
+first_head : (c : Check) (cs : List Check) (f : Cause × ℕ) → first_false (c ∷ cs) ≡ Some f
+    → ((c.holds ≡ false) × ((c.cause, c.place) ≡ f)) ⊎ ((c.holds ≡ true) × (first_false cs ≡ Some f))
 first_head c cs f e = elim (cases_Bool c.holds) [
   | inl t ↦ inr (t, sym (cond-true _ _ _ t) ∙ e)
   | inr g ↦ let q : Some (c.cause, c.place) ≡ Some f = sym (cond-false _ _ _ g) ∙ e in inl (g, (cc))
@@ -149,19 +161,23 @@ next_more d e ds all rest zeros n = record {
   ];
 }
 
-pub aligned : (ds all : List DataSet) (front rest spelled zeros : List ℕ) → front ++ rest ≡ spelled ++ zeros → Spells ds front → Spells all spelled → AllByRecursion IsZero zeros → Next ds all rest zeros
+pub aligned : (ds all : List DataSet) (front rest spelled zeros : List ℕ) → front ++ rest ≡ spelled ++ zeros → Spells ds front
+    → Spells all spelled → AllByRecursion IsZero zeros → Next ds all rest zeros
 aligned [] [] front rest spelled zeros e s t b =
     record { or = inl (sym (ap (λ (z : List ℕ). z ++ rest) s) ∙ e ∙ ap (λ (z : List ℕ). z ++ zeros) t, refl) }
 aligned [] (d ∷ all) front rest spelled zeros e s (a, y, q, u, v) b = record {
   or = inr (d, a, y ++ zeros, u, sym (ap (λ (z : List ℕ). z ++ rest) s) ∙ e ∙ ap (λ (z : List ℕ). z ++ zeros) q ∙ append_assoc a y zeros);
 }
 aligned (d ∷ ds) [] front rest spelled zeros e (a, y, q, u, v) t b =
-    let same : a ++ (y ++ rest) ≡ zeros = sym (append_assoc a y rest) ∙ ap (λ (z : List ℕ). z ++ rest) (sym q) ∙ e ∙ ap (λ (z : List ℕ). z ++ zeros) t in
+    let same : a ++ (y ++ rest) ≡ zeros =
+    sym (append_assoc a y rest) ∙ ap (λ (z : List ℕ). z ++ rest) (sym q) ∙ e ∙ ap (λ (z : List ℕ). z ++ zeros) t in
     absurd (blank_unmarked zeros b (subst (λ (z : List ℕ). is_marked z ≡ true) same (marked_spelling d a (y ++ rest) u)))
 aligned (d ∷ ds) (f ∷ all) front rest spelled zeros e (a, y, q, u, v) (a', y', q', u', v') b =
     let same : a ++ (y ++ rest) ≡ a' ++ (y' ++ zeros) =
-    sym (append_assoc a y rest) ∙ ap (λ (z : List ℕ). z ++ rest) (sym q) ∙ e ∙ ap (λ (z : List ℕ). z ++ zeros) q' ∙ append_assoc a' y' zeros in
-    let on : y ++ rest ≡ y' ++ zeros = sym (behind_begins d a (y ++ rest) u) ∙ ap (λ (z : List ℕ). drop (size z) z) same ∙ behind_begins f a' (y' ++ zeros) u' in
+    sym (append_assoc a y rest) ∙ ap (λ (z : List ℕ). z ++ rest) (sym q) ∙ e ∙ ap (λ (z : List ℕ). z ++ zeros) q'
+    ∙ append_assoc a' y' zeros in
+    let on : y ++ rest ≡ y' ++ zeros =
+    sym (behind_begins d a (y ++ rest) u) ∙ ap (λ (z : List ℕ). drop (size z) z) same ∙ behind_begins f a' (y' ++ zeros) u' in
     next_more d f ds all rest zeros (aligned ds all y rest y' zeros on v v' b)
 
 module _ (x : List ℕ) (i : Record) (s : SaysIim x i) where
@@ -175,7 +191,8 @@ module _ (x : List ℕ) (i : Record) (s : SaysIim x i) where
     | inr (d, a, y, u, q) ↦ subst Holds (sym q) (dataset_holds (a ++ y) (spelled_begins d a y u).is)
   ]
 
-  no_unmarked : (ds : List DataSet) (rest : List ℕ) (p : ℕ) → Behind x ds rest p → (ds ≡ []) ⊎ (is_end rest ≡ false) → is_marked rest ≡ false → ⊥
+  no_unmarked : (ds : List DataSet) (rest : List ℕ) (p : ℕ) → Behind x ds rest p → (ds ≡ []) ⊎ (is_end rest ≡ false)
+      → is_marked rest ≡ false → ⊥
   no_unmarked ds rest p b o m = elim (next_of ds rest p b).or [
     | inl h ↦ elim o [
       | inl none ↦ let l = ap length none in let k = h.1 in let n = s.some in omega arith
@@ -194,7 +211,8 @@ module _ (x : List ℕ) (i : Record) (s : SaysIim x i) where
         elim o [ inl z ↦ omega arith | inr z ↦ omega arith ]
   ]
 
-  no_cut : (rest : List ℕ) → Holds rest → (length rest < 5) ⊎ ((has_form rest ≡ true) × ((length rest < 5 + extra rest) ⊎ (length rest < size rest))) → ⊥
+  no_cut : (rest : List ℕ) → Holds rest → (length rest < 5) ⊎
+      ((has_form rest ≡ true) × ((length rest < 5 + extra rest) ⊎ (length rest < size rest))) → ⊥
   no_cut rest h (inl l) = let m = h.five in omega arith
   no_cut rest h (inr (f, inl l)) = let m = h.counted in omega arith
   no_cut rest h (inr (f, inr l)) = let m = h.whole in omega arith
@@ -212,7 +230,8 @@ stands_unsaid x _ p i h s = absurd h
 pub clean : (n p : ℕ) (x : List ℕ) → length x < n → first_false (checks_from n p x) ≡ None → (ds : List DataSet) × Parsed ds x
 clean zero p x l e = absurd (omega arith)
 clean (suc n) p x l e =
-    let q = five_none p (is_marked x) (nat_le 5 (length x)) (has_form x) (nat_le (5 + extra x) (length x)) (nat_le (size x) (length x)) (checks_behind n p x) (sym (ap first_false (checks_step n p x)) ∙ e) in
+    let q = five_none p (is_marked x) (nat_le 5 (length x)) (has_form x) (nat_le (5 + extra x) (length x)) (nat_le (size x) (length x))
+    (checks_behind n p x) (sym (ap first_false (checks_step n p x)) ∙ e) in
     let h = five_hold x q.0 q.1 q.2 q.3 q.4 in
     let i = holds_dataset x h in
     elim (cases_Bool (is_end (drop (size x) x))) [
@@ -250,7 +269,8 @@ clean_says x e = elim (cases_Bool (nat_le (length x) limit)) [
 pub said_or_fault : (x : List ℕ) → ((i : Record) × SaysIim x i) ⊎ ((c : Cause) × (p : ℕ) × FirstFault x c p)
 said_or_fault x = go (first_false (iim_checks x)) refl
   where
-    go : (z : Option (Cause × ℕ)) → first_false (iim_checks x) ≡ z → ((i : Record) × SaysIim x i) ⊎ ((c : Cause) × (p : ℕ) × FirstFault x c p)
+    go : (z : Option (Cause × ℕ)) → first_false (iim_checks x) ≡ z
+        → ((i : Record) × SaysIim x i) ⊎ ((c : Cause) × (p : ℕ) × FirstFault x c p)
     go None e = inl (clean_says x e)
     go (Some f) e = inr (f.0, f.1, e)
 

@@ -1,5 +1,6 @@
 -- A sequence of DataSets is gathered in one way, by putting them one after another.
-use Rattle.std.proofs.Common.{◌≡◌, ◌≤◌, ℕ, true, inl, inr, refl, sym, ap, subst, ◌∙◌, arith, List, [], ◌∷◌, ◌++◌, length, filter_map, append-nil, append_assoc, length-append}
+use Rattle.std.proofs.Common.{◌≡◌, ◌≤◌, ℕ, true, inl, inr, refl, sym, ap, subst, ◌∙◌, arith, List, [], ◌∷◌, ◌++◌, length, filter_map}
+use Rattle.std.proofs.Common.{append-nil, append_assoc, length-append}
 use Rattle.std.specs.List.{AllByRecursion}
 use Rattle.std.proofs.lemmas.Bool.{cases_Bool}
 use Rattle.std.proofs.lemmas.List.Elements.{filter_map-append}
@@ -30,7 +31,8 @@ pub gathers_from : (ds before : List DataSet) (i : Record) → Gathers before i 
 unfolding gather
 gathers_from [] before i h = subst (λ (z : List DataSet). Gathers z i) (sym (append-nil before)) h
 gathers_from (d ∷ ds) before i h =
-    subst (λ (z : List DataSet). Gathers z (gather (put d i) ds)) (append_assoc before (d ∷ []) ds) (gathers_from ds (before ++ d ∷ []) (put d i) (put_gathers d before i h))
+    subst (λ (z : List DataSet). Gathers z (gather (put d i) ds)) (append_assoc before (d ∷ []) ds)
+    (gathers_from ds (before ++ d ∷ []) (put d i) (put_gathers d before i h))
 
 pub gathers : (ds : List DataSet) → Gathers ds (gather [] ds)
 gathers ds = gathers_from ds [] [] (record { ascending = tt; some = tt; filtered = λ rec number. refl })
@@ -41,12 +43,14 @@ none : (g : Group) → 1 ≤ length g.items → g.items ≡ [] → ⊥
 none g l e = let n = ap length e in omega arith
 
 -- an ascending list that begins before another's first group has a list that the other hasn't
-leads : (g h : Group) (gs hs : Record) → After g.rec g.number h → IsAscending (h ∷ hs) → 1 ≤ length g.items → items_at g.rec g.number (g ∷ gs) ≡ items_at g.rec g.number (h ∷ hs) → ⊥
+leads : (g h : Group) (gs hs : Record) → After g.rec g.number h → IsAscending (h ∷ hs) → 1 ≤ length g.items
+    → items_at g.rec g.number (g ∷ gs) ≡ items_at g.rec g.number (h ∷ hs) → ⊥
 leads g h gs hs b a l e = none g l (
     sym (items_here g.rec g.number g gs (at_true g.rec g.number g refl refl)) ∙ e
     ∙ items_past g.rec g.number (h ∷ hs) (b, each_after g.rec g.number h.rec h.number b hs a.0))
 
-pub no_more : (g : Group) (gs : Record) → AllByRecursion (After g.rec g.number) gs → (rec number : ℕ) → is_at rec number g ≡ true → items_at rec number gs ≡ []
+pub no_more : (g : Group) (gs : Record) → AllByRecursion (After g.rec g.number) gs → (rec number : ℕ) → is_at rec number g ≡ true
+    → items_at rec number gs ≡ []
 no_more g gs a rec number t =
     let p = at_parts rec number g t in
     subst (λ (r : ℕ). items_at r number gs ≡ []) p.0 (subst (λ (n : ℕ). items_at g.rec n gs ≡ []) p.1 (items_past g.rec g.number gs a))
@@ -55,15 +59,20 @@ no_more g gs a rec number t =
 pub same_groups : (i j : Record) → IsAscending i → IsAscending j → AllByRecursion IsSome i → AllByRecursion IsSome j →
     ((rec number : ℕ) → items_at rec number i ≡ items_at rec number j) → i ≡ j
 same_groups [] [] a b k l e = refl
-same_groups [] (h ∷ hs) a b k l e = absurd (none h l.0 (sym (e h.rec h.number ∙ items_here h.rec h.number h hs (at_true h.rec h.number h refl refl))))
-same_groups (g ∷ gs) [] a b k l e = absurd (none g k.0 (sym (items_here g.rec g.number g gs (at_true g.rec g.number g refl refl)) ∙ e g.rec g.number))
+same_groups [] (h ∷ hs) a b k l e =
+    absurd (none h l.0 (sym (e h.rec h.number ∙ items_here h.rec h.number h hs (at_true h.rec h.number h refl refl))))
+same_groups (g ∷ gs) [] a b k l e =
+    absurd (none g k.0 (sym (items_here g.rec g.number g gs (at_true g.rec g.number g refl refl)) ∙ e g.rec g.number))
 same_groups (g ∷ gs) (h ∷ hs) a b k l e = elim (beside g.rec g.number h) [
   | inl t ↦
-      let items : g.items ≡ h.items = sym (items_here g.rec g.number g gs (at_true g.rec g.number g refl refl)) ∙ e g.rec g.number ∙ items_here g.rec g.number h hs t.0 in
+      let items : g.items ≡ h.items = sym (items_here g.rec g.number g gs (at_true g.rec g.number g refl refl)) ∙ e g.rec g.number
+      ∙ items_here g.rec g.number h hs t.0 in
       let first : g ≡ h = λ x. record { rec = sym t.1 x; number = sym t.2 x; items = items x } in
-      let tails : (rec number : ℕ) → items_at rec number gs ≡ items_at rec number hs = λ rec number. elim (cases_Bool (is_at rec number g)) [
+      let tails : (rec number : ℕ) → items_at rec number gs ≡ items_at rec number hs =
+      λ rec number. elim (cases_Bool (is_at rec number g)) [
         | inl here ↦ no_more g gs a.0 rec number here ∙ sym (no_more h hs b.0 rec number (ap (is_at rec number) (sym first) ∙ here))
-        | inr there ↦ sym (items_there rec number g gs there) ∙ e rec number ∙ items_there rec number h hs (ap (is_at rec number) (sym first) ∙ there)
+        | inr there ↦ sym (items_there rec number g gs there) ∙ e rec number
+            ∙ items_there rec number h hs (ap (is_at rec number) (sym first) ∙ there)
       ] in
       let rest : gs ≡ hs = same_groups gs hs a.1 b.1 k.1 l.1 tails in
       λ x. first x ∷ rest x
@@ -72,7 +81,8 @@ same_groups (g ∷ gs) (h ∷ hs) a b k l e = elim (beside g.rec g.number h) [
 ]
 
 pub one_gathering : (ds : List DataSet) (i j : Record) → Gathers ds i → Gathers ds j → i ≡ j
-one_gathering ds i j g h = same_groups i j g.ascending h.ascending g.some h.some (λ rec number. g.filtered rec number ∙ sym (h.filtered rec number))
+one_gathering ds i j g h =
+    same_groups i j g.ascending h.ascending g.some h.some (λ rec number. g.filtered rec number ∙ sym (h.filtered rec number))
 
 pub gather_gathers : GatherGathers
 gather_gathers ds i = (λ g. one_gathering ds (gather [] ds) i (gathers ds) g, λ e. subst (Gathers ds) e (gathers ds))

@@ -24,10 +24,13 @@ before_parts rec number other_rec other h = elim (or_cases (nat_lt rec other_rec
 
 pub before_true : (rec number other_rec other : ℕ) → Before rec number other_rec other → is_before rec number other_rec other ≡ true
 before_true rec number other_rec other (inl l) = or_left (nat_lt rec other_rec) _ (lt-ltb rec other_rec l)
-before_true rec number other_rec other (inr p) = or_right (nat_lt rec other_rec) _ (and_from (rec == other_rec) (nat_lt number other) (eq-eqb rec other_rec p.0) (lt-ltb number other p.1))
+before_true rec number other_rec other (inr p) =
+    or_right (nat_lt rec other_rec) _ (and_from (rec == other_rec) (nat_lt number other) (eq-eqb rec other_rec p.0)
+    (lt-ltb number other p.1))
 
 pub before_false : (rec number other_rec other : ℕ) → (Before rec number other_rec other → ⊥) → is_before rec number other_rec other ≡ false
-before_false rec number other_rec other h = false_from_ne_true (is_before rec number other_rec other) (λ t. h (before_parts rec number other_rec other t))
+before_false rec number other_rec other h =
+    false_from_ne_true (is_before rec number other_rec other) (λ t. h (before_parts rec number other_rec other t))
 
 pub before_trans : (a b c d e f : ℕ) → is_before a b c d ≡ true → is_before c d e f ≡ true → is_before a b e f ≡ true
 before_trans a b c d e f h k = before_true a b e f (join (before_parts a b c d h) (before_parts c d e f k))
@@ -50,7 +53,8 @@ abbrev pub Under : ℕ → ℕ → Group → Type 0
 Under rec number g = (is_at rec number g ≡ false) × (is_before rec number g.rec g.number ≡ true)
 
 abbrev pub Over : ℕ → ℕ → Group → Type 0
-Over rec number g = (is_at rec number g ≡ false) × (is_before rec number g.rec g.number ≡ false) × (is_before g.rec g.number rec number ≡ true)
+Over rec number g =
+    (is_at rec number g ≡ false) × (is_before rec number g.rec g.number ≡ false) × (is_before g.rec g.number rec number ≡ true)
 
 order : (a b c d : ℕ) → ((a ≡ c) × (b ≡ d)) ⊎ (Before a b c d ⊎ Before c d a b)
 order a b c d = grind arith
@@ -59,5 +63,9 @@ pub beside : (rec number : ℕ) (g : Group) → At rec number g ⊎ (Under rec n
 beside rec number g = elim (order rec number g.rec g.number) [
   | inl e ↦ inl (at_true rec number g (sym e.0) (sym e.1), sym e.0, sym e.1)
   | inr (inl u) ↦ inr (inl (at_false rec number g (λ p q. omega arith), before_true rec number g.rec g.number u))
-  | inr (inr o) ↦ inr (inr (at_false rec number g (λ p q. omega arith), before_false rec number g.rec g.number (λ u. omega arith), before_true g.rec g.number rec number o))
+  | inr (inr o) ↦ inr (inr (
+    at_false rec number g (λ p q. omega arith),
+    before_false rec number g.rec g.number (λ u. omega arith),
+    before_true g.rec g.number rec number o,
+  ))
 ]

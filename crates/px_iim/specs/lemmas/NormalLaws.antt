@@ -1,5 +1,7 @@
 -- A normal form says its record, and tells it.
-use Rattle.std.proofs.Common.{◌≡◌, ◌<◌, ◌≤◌, ◌⊎◌, ◌+◌, ℕ, nat_lt, true, false, inl, inr, refl, sym, ap, ap₂, subst, ◌∙◌, arith, ltb-true, lt-ltb, Option, List, [], ◌∷◌, ◌++◌, length, drop, drop_at, map, filter_map, flat_map, length-append, append_assoc, append-nil}
+use Rattle.std.proofs.Common.{◌≡◌, ◌<◌, ◌≤◌, ◌⊎◌, ◌+◌, ℕ, nat_lt, true, false, inl, inr, refl, sym, ap, ap₂, subst, ◌∙◌, arith, ltb-true}
+use Rattle.std.proofs.Common.{lt-ltb, Option, List, [], ◌∷◌, ◌++◌, length, drop, drop_at, map, filter_map, flat_map, length-append}
+use Rattle.std.proofs.Common.{append_assoc, append-nil}
 use Rattle.std.specs.List.{AllByRecursion, cons_option}
 use Rattle.std.proofs.lemmas.Bool.{cond-true, cond-false, cases_Bool, true≢false}
 use Rattle.std.proofs.lemmas.List.Elements.{filter_map-append}
@@ -43,8 +45,10 @@ long_count n l h =
       omega arith,
       omega arith,
       ap length e ∙ length-append (spelling Most 2 (top_bit + 4)) (spelling Most 4 n) ∙ ap₂ (λ (a b : ℕ). a + b) two four,
-      ap (number Most 2) e ∙ number-front 2 (spelling Most 2 (top_bit + 4)) (spelling Most 4 n) (omega arith) ∙ number-spelling Most 2 (top_bit + 4) (omega arith),
-      ap (λ (z : List ℕ). number Most 4 (drop 2 z)) e ∙ ap (number Most 4) (drop_at (spelling Most 2 (top_bit + 4)) (spelling Most 4 n) 2 two) ∙ number-spelling Most 4 n (omega arith),
+      ap (number Most 2) e ∙ number-front 2 (spelling Most 2 (top_bit + 4)) (spelling Most 4 n) (omega arith)
+          ∙ number-spelling Most 2 (top_bit + 4) (omega arith),
+      ap (λ (z : List ℕ). number Most 4 (drop 2 z)) e
+          ∙ ap (number Most 4) (drop_at (spelling Most 2 (top_bit + 4)) (spelling Most 4 n) 2 two) ∙ number-spelling Most 4 n (omega arith),
     )
 
 pub normal_counts : (n : ℕ) → n ≤ limit → IsStandardCount n (normal_count n) ⊎ IsExtendedCount n (normal_count n)
@@ -56,7 +60,8 @@ normal_counts n l = elim (cases_Bool (nat_lt n top_bit)) [
 count_bytes : (n : ℕ) → AreBytes (normal_count n)
 count_bytes n = elim (cases_Bool (nat_lt n top_bit)) [
   | inl t ↦ subst AreBytes (sym (normal_count-short n (ltb-true n top_bit t))) (bytes_spelling Most 2 n)
-  | inr f ↦ subst AreBytes (sym (normal_count-long n f)) (bytes_append (spelling Most 2 (top_bit + 4)) (spelling Most 4 n) (bytes_spelling Most 2 (top_bit + 4)) (bytes_spelling Most 4 n))
+  | inr f ↦ subst AreBytes (sym (normal_count-long n f)) (bytes_append (spelling Most 2 (top_bit + 4)) (spelling Most 4 n)
+      (bytes_spelling Most 2 (top_bit + 4)) (bytes_spelling Most 4 n))
 ]
 
 -- ---- the DataSets of a record
@@ -75,32 +80,42 @@ normal_spelling g x l = (normal_count (length x.1), refl, normal_counts (length 
 
 pub spells_append : (ds es : List DataSet) (a b : List ℕ) → Spells ds a → Spells es b → Spells (ds ++ es) (a ++ b)
 spells_append [] es a b h k = subst (λ (z : List ℕ). Spells es (z ++ b)) (sym h) k
-spells_append (d ∷ ds) es a b (x, y, e, s, t) k = (x, y ++ b, ap (λ (z : List ℕ). z ++ b) e ∙ append_assoc x y b, s, spells_append ds es y b t k)
+spells_append (d ∷ ds) es a b (x, y, e, s, t) k =
+    (x, y ++ b, ap (λ (z : List ℕ). z ++ b) e ∙ append_assoc x y b, s, spells_append ds es y b t k)
 
-spells_items : (g : Group) (xs : List Item) → AllByRecursion (IsItem g.rec g.number) xs → Spells (map (dataset_in g) xs) (flat_map (normal_dataset g.rec) xs)
+spells_items : (g : Group) (xs : List Item) → AllByRecursion (IsItem g.rec g.number) xs
+    → Spells (map (dataset_in g) xs) (flat_map (normal_dataset g.rec) xs)
 spells_items g [] h = refl
-spells_items g (x ∷ xs) h = (normal_dataset g.rec x, flat_map (normal_dataset g.rec) xs, refl, normal_spelling g x h.0.bounded, spells_items g xs h.1)
+spells_items g (x ∷ xs) h =
+    (normal_dataset g.rec x, flat_map (normal_dataset g.rec) xs, refl, normal_spelling g x h.0.bounded, spells_items g xs h.1)
 
 pub spells_groups : (i : Record) → AllByRecursion IsGroup i → Spells (sequence_in i) (normal_iim i)
 spells_groups [] h = refl
-spells_groups (g ∷ gs) h = spells_append (map (dataset_in g) g.items) (sequence_in gs) (normal_group g) (normal_iim gs) (spells_items g g.items h.0.items) (spells_groups gs h.1)
+spells_groups (g ∷ gs) h =
+    spells_append (map (dataset_in g) g.items) (sequence_in gs) (normal_group g) (normal_iim gs) (spells_items g g.items h.0.items)
+    (spells_groups gs h.1)
 
 -- ---- gathered again
 
 module _ (rec number : ℕ) where
-  filter_here : (g : Group) (xs : List Item) → AllByRecursion (IsItem g.rec g.number) xs → is_at rec number g ≡ true → filter_map (item_in rec number) (map (dataset_in g) xs) ≡ xs
+  filter_here : (g : Group) (xs : List Item) → AllByRecursion (IsItem g.rec g.number) xs → is_at rec number g ≡ true
+      → filter_map (item_in rec number) (map (dataset_in g) xs) ≡ xs
   filter_here g [] h t = refl
   filter_here g (x ∷ xs) h t =
       let p = at_parts rec number g t in
-      ap₂ (λ (o : Option Item) (ys : List Item). cons_option o ys) (item_here rec number (dataset_in g x) p.0 (h.0.member ∙ p.1)) (filter_here g xs h.1 t)
+      ap₂ (λ (o : Option Item) (ys : List Item). cons_option o ys) (item_here rec number (dataset_in g x) p.0 (h.0.member ∙ p.1))
+      (filter_here g xs h.1 t)
 
-  filter_there : (g : Group) (xs : List Item) → AllByRecursion (IsItem g.rec g.number) xs → is_at rec number g ≡ false → filter_map (item_in rec number) (map (dataset_in g) xs) ≡ []
+  filter_there : (g : Group) (xs : List Item) → AllByRecursion (IsItem g.rec g.number) xs → is_at rec number g ≡ false
+      → filter_map (item_in rec number) (map (dataset_in g) xs) ≡ []
   filter_there g [] h f = refl
   filter_there g (x ∷ xs) h f =
-      let other = at_false rec number (new_group (dataset_in g x)) (λ p q. true≢false (sym (at_true rec number g p (sym h.0.member ∙ q)) ∙ f)) in
+      let other =
+      at_false rec number (new_group (dataset_in g x)) (λ p q. true≢false (sym (at_true rec number g p (sym h.0.member ∙ q)) ∙ f)) in
       ap₂ (λ (o : Option Item) (ys : List Item). cons_option o ys) (item_there rec number (dataset_in g x) other) (filter_there g xs h.1 f)
 
-  pub filtered_again : (i : Record) → IsAscending i → AllByRecursion IsGroup i → items_at rec number i ≡ filter_map (item_in rec number) (sequence_in i)
+  pub filtered_again : (i : Record) → IsAscending i → AllByRecursion IsGroup i
+      → items_at rec number i ≡ filter_map (item_in rec number) (sequence_in i)
   filtered_again [] a h = refl
   filtered_again (g ∷ gs) a h =
       let whole = filter_map-append (item_in rec number) (map (dataset_in g) g.items) (sequence_in gs) in
@@ -128,11 +143,14 @@ unfolding normal_dataset
 dataset_bytes g x r h =
     let behind : List ℕ = normal_count (length x.1) ++ x.1 in
     bytes_cons marker (g.rec ∷ x.0 ∷ behind) (omega arith)
-    (bytes_cons g.rec (x.0 ∷ behind) r (bytes_cons x.0 behind h.byte (bytes_append (normal_count (length x.1)) x.1 (count_bytes (length x.1)) h.bytes)))
+    (bytes_cons g.rec (x.0 ∷ behind) r (bytes_cons x.0 behind h.byte (bytes_append (normal_count (length x.1)) x.1
+    (count_bytes (length x.1)) h.bytes)))
 
-items_bytes : (g : Group) (xs : List Item) → g.rec < 256 → AllByRecursion (IsItem g.rec g.number) xs → AreBytes (flat_map (normal_dataset g.rec) xs)
+items_bytes : (g : Group) (xs : List Item) → g.rec < 256 → AllByRecursion (IsItem g.rec g.number) xs
+    → AreBytes (flat_map (normal_dataset g.rec) xs)
 items_bytes g [] r h = λ i. omega arith
-items_bytes g (x ∷ xs) r h = bytes_append (normal_dataset g.rec x) (flat_map (normal_dataset g.rec) xs) (dataset_bytes g x r h.0) (items_bytes g xs r h.1)
+items_bytes g (x ∷ xs) r h =
+    bytes_append (normal_dataset g.rec x) (flat_map (normal_dataset g.rec) xs) (dataset_bytes g x r h.0) (items_bytes g xs r h.1)
 
 pub groups_bytes : (i : Record) → AllByRecursion IsGroup i → AreBytes (normal_iim i)
 groups_bytes [] h = λ i. omega arith
@@ -150,13 +168,16 @@ dataset_long : (g : Group) (x : Item) → length x.1 ≤ limit → 5 ≤ length 
 unfolding normal_dataset
 dataset_long g x l = let c = count_long (length x.1) l in let e = length-append (normal_count (length x.1)) x.1 in omega arith
 
-items_long : (g : Group) (xs : List Item) → 1 ≤ length xs → AllByRecursion (IsItem g.rec g.number) xs → 5 ≤ length (flat_map (normal_dataset g.rec) xs)
+items_long : (g : Group) (xs : List Item) → 1 ≤ length xs → AllByRecursion (IsItem g.rec g.number) xs
+    → 5 ≤ length (flat_map (normal_dataset g.rec) xs)
 items_long g [] l h = absurd (omega arith)
-items_long g (x ∷ xs) l h = let d = dataset_long g x h.0.bounded in let e = length-append (normal_dataset g.rec x) (flat_map (normal_dataset g.rec) xs) in omega arith
+items_long g (x ∷ xs) l h = let d = dataset_long g x h.0.bounded in
+    let e = length-append (normal_dataset g.rec x) (flat_map (normal_dataset g.rec) xs) in omega arith
 
 groups_long : (i : Record) → 1 ≤ length i → AllByRecursion IsGroup i → 5 ≤ length (normal_iim i)
 groups_long [] l h = absurd (omega arith)
-groups_long (g ∷ gs) l h = let d = items_long g g.items h.0.some h.0.items in let e = length-append (normal_group g) (normal_iim gs) in omega arith
+groups_long (g ∷ gs) l h =
+    let d = items_long g g.items h.0.some h.0.items in let e = length-append (normal_group g) (normal_iim gs) in omega arith
 
 sequence_long : (i : Record) → 1 ≤ length i → AllByRecursion IsGroup i → 1 ≤ length (sequence_in i)
 sequence_long [] l h = absurd (omega arith)

@@ -1,5 +1,6 @@
 -- What a block says is computed, is one record, and is a record.
-use Rattle.std.proofs.Common.{◌≡◌, ◌<◌, ◌≤◌, ℕ, suc, nat_le, inl, inr, refl, sym, ap, subst, ◌∙◌, arith, le-leb, leb-true, Option, Some, None, option_map, List, [], ◌∷◌, ◌++◌, length, length-append}
+use Rattle.std.proofs.Common.{◌≡◌, ◌<◌, ◌≤◌, ℕ, suc, nat_le, inl, inr, refl, sym, ap, subst, ◌∙◌, arith, le-leb, leb-true, Option, Some}
+use Rattle.std.proofs.Common.{None, option_map, List, [], ◌∷◌, ◌++◌, length, length-append}
 use Rattle.std.specs.List.{AllByRecursion}
 use Rattle.std.proofs.lemmas.Bool.{cond-true, cond-false, cases_Bool}
 use Rattle.px_bytes.specs.Numbers.{AreBytes}
@@ -29,7 +30,8 @@ said_computed x i s =
     cond-true _ _ _ (le-leb (length x) limit s.bounded)
     ∙ ap (option_map (gather [])) (said_sequence x i s) ∙ ap Some ((gather_gathers s.sequence i).0 s.gathered)
 
-from_sequence : (x : List ℕ) (i : Record) → length x ≤ limit → (z : Option (List DataSet)) → ((ds : List DataSet) → z ≡ Some ds → Parsed ds x) → option_map (gather []) z ≡ Some i → SaysIim x i
+from_sequence : (x : List ℕ) (i : Record) → length x ≤ limit → (z : Option (List DataSet))
+    → ((ds : List DataSet) → z ≡ Some ds → Parsed ds x) → option_map (gather []) z ≡ Some i → SaysIim x i
 from_sequence x i b None f e = let clash : None ≡ Some i = e in absurd (cc)
 from_sequence x i b (Some ds) f e =
     let p = f ds refl in
@@ -50,7 +52,8 @@ from_sequence x i b (Some ds) f e =
 pub computed_said : (x : List ℕ) (i : Record) → iim_of x ≡ Some i → SaysIim x i
 unfolding iim_of
 computed_said x i e = elim (cases_Bool (nat_le (length x) limit)) [
-  | inl t ↦ from_sequence x i (leb-true (length x) limit t) (sequence_of (length x) x) (read_parsed (length x) x) (sym (cond-true _ _ _ t) ∙ e)
+  | inl t ↦ from_sequence x i (leb-true (length x) limit t) (sequence_of (length x) x) (read_parsed (length x) x) (sym (cond-true _ _ _ t)
+      ∙ e)
   | inr f ↦ let clash : None ≡ Some i = sym (cond-false _ _ _ f) ∙ e in absurd (cc)
 ]
 
@@ -99,11 +102,13 @@ put_groups d i good h = put_all IsGroup d
       byte = k.byte;
       some = omega arith;
       items = each_append (IsItem (longer d g).rec (longer d g).number) g.items ((d.number, d.octets) ∷ [])
-          (each_map (IsItem g.rec g.number) (IsItem (longer d g).rec (longer d g).number) (item_moves g (longer d g) refl refl) g.items k.items)
+          (each_map (IsItem g.rec g.number) (IsItem (longer d g).rec (longer d g).number) (item_moves g (longer d g) refl refl) g.items
+          k.items)
           (item_moves (new_group d) (longer d g) (sym a.1) (sym a.2) (d.number, d.octets) good.1, tt);
     }) i h
 
-gather_groups : (ds : List DataSet) (i : Record) → AllByRecursion IsGood ds → AllByRecursion IsGroup i → AllByRecursion IsGroup (gather i ds)
+gather_groups : (ds : List DataSet) (i : Record) → AllByRecursion IsGood ds → AllByRecursion IsGroup i
+    → AllByRecursion IsGroup (gather i ds)
 unfolding gather
 gather_groups [] i good h = h
 gather_groups (d ∷ ds) i good h = gather_groups ds (put d i) good.1 (put_groups d i good.0 h)

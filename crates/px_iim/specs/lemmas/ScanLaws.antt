@@ -1,5 +1,6 @@
 -- What a scan of a block keeps: the DataSets so far, the octets left, and the checks that they have.
-use Rattle.std.proofs.Common.{◌≡◌, ◌<◌, ◌≤◌, ◌+◌, ℕ, zero, suc, true, false, inl, inr, sym, ap, ◌∙◌, arith, le-leb, None, List, [], ◌++◌, length, drop, length-drop, append-nil}
+use Rattle.std.proofs.Common.{◌≡◌, ◌<◌, ◌≤◌, ◌+◌, ℕ, zero, suc, true, false, inl, inr, sym, ap, ◌∙◌, arith, le-leb, None, List, [], ◌++◌}
+use Rattle.std.proofs.Common.{length, drop, length-drop, append-nil}
 use Rattle.std.proofs.lemmas.Bool.{cond-true, cond-false, cases_Bool}
 use Rattle.px_bytes.specs.Checks.{Check, first_false}
 use Rattle.px_bytes.specs.lemmas.CheckLaws.{first_false-true}
@@ -32,7 +33,8 @@ checks_enough (suc n) (suc m) p x h k =
         | inl e ↦ behind_end n p x t e ∙ sym (behind_end m p x t e)
         | inr e ↦
             let s = shorter x t in
-            behind_more n p x t e ∙ checks_enough n m (p + size x) (drop (size x) x) (omega arith) (omega arith) ∙ sym (behind_more m p x t e)
+            behind_more n p x t e ∙ checks_enough n m (p + size x) (drop (size x) x) (omega arith) (omega arith)
+            ∙ sym (behind_more m p x t e)
       ]
       | inr f ↦ no_dataset n p x f ∙ sym (no_dataset m p x f)
     ] in
@@ -50,7 +52,9 @@ dataset_clean p x h =
 
 -- where no DataSet stands, its checks alone tell the fault
 pub left_fault : (p : ℕ) (x : List ℕ) → is_dataset x ≡ false → first_false (checks_left p x) ≡ first_false (dataset_checks p x)
-left_fault p x h = ap first_false (left_step p x ∙ ap (λ (cs : List Check). dataset_checks p x ++ cs) (no_dataset (length x) p x h) ∙ append-nil (dataset_checks p x))
+left_fault p x h =
+    ap first_false (left_step p x ∙ ap (λ (cs : List Check). dataset_checks p x ++ cs) (no_dataset (length x) p x h)
+    ∙ append-nil (dataset_checks p x))
 
 -- behind the last DataSet nothing is wrong
 pub left_end : (p : ℕ) (x : List ℕ) → is_dataset x ≡ true → is_end (drop (size x) x) ≡ true → first_false (checks_left p x) ≡ None
@@ -59,11 +63,13 @@ left_end p x h e =
     ∙ ap first_false (behind_end (length x) p x h e)
 
 -- behind any other, what is wrong is what is wrong with the octets left
-pub left_more : (p : ℕ) (x : List ℕ) → is_dataset x ≡ true → is_end (drop (size x) x) ≡ false → first_false (checks_left p x) ≡ first_false (checks_left (p + size x) (drop (size x) x))
+pub left_more : (p : ℕ) (x : List ℕ) → is_dataset x ≡ true → is_end (drop (size x) x) ≡ false
+    → first_false (checks_left p x) ≡ first_false (checks_left (p + size x) (drop (size x) x))
 left_more p x h e =
     let s = shorter x h in
     ap first_false (left_step p x) ∙ first_false-true (dataset_checks p x) (checks_behind (length x) p x) (dataset_clean p x h)
-    ∙ ap first_false (behind_more (length x) p x h e ∙ checks_enough (length x) (length (drop (size x) x) + 1) (p + size x) (drop (size x) x) s (omega arith))
+    ∙ ap first_false (behind_more (length x) p x h e ∙ checks_enough (length x) (length (drop (size x) x) + 1) (p + size x)
+    (drop (size x) x) s (omega arith))
 
 -- a block that isn't too long has the checks of all its octets
 pub iim_left : (x : List ℕ) → length x ≤ limit → first_false (iim_checks x) ≡ first_false (checks_left 0 x)

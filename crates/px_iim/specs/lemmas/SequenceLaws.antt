@@ -1,5 +1,7 @@
 -- The DataSets of a block, read one behind another.
-use Rattle.std.proofs.Common.{◌≡◌, ◌≤◌, ◌*◌, ◌==◌, ℕ, zero, suc, nat_le, Bool, true, false, inl, inr, refl, sym, ap, subst, ◌∙◌, arith, eqb-true, eq-eqb, leb-true, le-leb, Option, Some, None, option_map, List, [], ◌∷◌, ◌++◌, length, take, drop, drop_at, length-append, append_assoc, append-nil}
+use Rattle.std.proofs.Common.{◌≡◌, ◌≤◌, ◌*◌, ◌==◌, ℕ, zero, suc, nat_le, Bool, true, false, inl, inr, refl, sym, ap, subst, ◌∙◌, arith}
+use Rattle.std.proofs.Common.{eqb-true, eq-eqb, leb-true, le-leb, Option, Some, None, option_map, List, [], ◌∷◌, ◌++◌, length, take, drop}
+use Rattle.std.proofs.Common.{drop_at, length-append, append_assoc, append-nil}
 use Rattle.std.specs.List.{AllByRecursion, list_all}
 use Rattle.std.proofs.lemmas.Bool.{cond-true, cond-false, cases_Bool, and_parts, and_from, false_from_ne_true}
 use Rattle.std.proofs.lemmas.List.{take-append-drop}
@@ -32,7 +34,8 @@ end_parts x h = let p = and_parts (nat_le (length x) 3) (list_all is_zero x) h i
 -- where a DataSet is marked, the block doesn't end
 pub blank_unmarked : (x : List ℕ) → AllByRecursion IsZero x → is_marked x ≡ true → ⊥
 blank_unmarked [] h m = cc
-blank_unmarked (o ∷ x) h m = let p = and_parts (nat_le 1 (length (o ∷ x))) (o == marker) m in let q = eqb-true o marker p.1 in let z = h.0 in omega arith
+blank_unmarked (o ∷ x) h m =
+    let p = and_parts (nat_le 1 (length (o ∷ x))) (o == marker) m in let q = eqb-true o marker p.1 in let z = h.0 in omega arith
 
 pub marked_no_end : (x : List ℕ) → is_marked x ≡ true → is_end x ≡ false
 marked_no_end x m = false_from_ne_true (is_end x) (λ t. blank_unmarked x (end_parts x t).1 m)
@@ -48,7 +51,8 @@ module _ (n : ℕ) (x : List ℕ) where
   unfolding sequence_of
   step_end h k = cond-true _ _ _ h ∙ ap (option_map (λ (ds : List DataSet). dataset x ∷ ds)) (cond-true _ _ _ k)
 
-  pub step_more : is_dataset x ≡ true → is_end (drop (size x) x) ≡ false → sequence_of (suc n) x ≡ option_map (λ (ds : List DataSet). dataset x ∷ ds) (sequence_of n (drop (size x) x))
+  pub step_more : is_dataset x ≡ true → is_end (drop (size x) x) ≡ false
+      → sequence_of (suc n) x ≡ option_map (λ (ds : List DataSet). dataset x ∷ ds) (sequence_of n (drop (size x) x))
   unfolding sequence_of
   step_more h k = cond-true _ _ _ h ∙ ap (option_map (λ (ds : List DataSet). dataset x ∷ ds)) (cond-false _ _ _ k)
 
@@ -69,12 +73,15 @@ spells_long [] a h = omega arith
 spells_long (d ∷ ds) a (b, c, e, s, t) =
     let l = five_octets d b s in let m = spells_long ds c t in let k = ap length e ∙ length-append b c in omega arith
 
-spelled_last : (n : ℕ) (d : DataSet) (a zeros : List ℕ) → IsSpelling d a → is_end zeros ≡ true → sequence_of (suc n) (a ++ zeros) ≡ Some (d ∷ [])
+spelled_last : (n : ℕ) (d : DataSet) (a zeros : List ℕ) → IsSpelling d a → is_end zeros ≡ true
+    → sequence_of (suc n) (a ++ zeros) ≡ Some (d ∷ [])
 spelled_last n d a zeros s e =
     let b = spelled_begins d a zeros s in
-    step_end n (a ++ zeros) b.is (subst (λ (y : List ℕ). is_end y ≡ true) (sym (behind_begins d a zeros s)) e) ∙ ap (λ (z : DataSet). Some (z ∷ [])) b.read
+    step_end n (a ++ zeros) b.is (subst (λ (y : List ℕ). is_end y ≡ true) (sym (behind_begins d a zeros s)) e)
+    ∙ ap (λ (z : DataSet). Some (z ∷ [])) b.read
 
-spelled_more : (n : ℕ) (d : DataSet) (ds : List DataSet) (a y : List ℕ) → IsSpelling d a → is_end y ≡ false → sequence_of n y ≡ Some ds → sequence_of (suc n) (a ++ y) ≡ Some (d ∷ ds)
+spelled_more : (n : ℕ) (d : DataSet) (ds : List DataSet) (a y : List ℕ) → IsSpelling d a → is_end y ≡ false → sequence_of n y ≡ Some ds
+    → sequence_of (suc n) (a ++ y) ≡ Some (d ∷ ds)
 spelled_more n d ds a y s e t =
     let b = spelled_begins d a y s in
     let k = behind_begins d a y s in
@@ -82,15 +89,20 @@ spelled_more n d ds a y s e t =
     ∙ ap (option_map (λ (z : List DataSet). dataset (a ++ y) ∷ z)) (ap (sequence_of n) k ∙ t) ∙ ap (λ (z : DataSet). Some (z ∷ ds)) b.read
 
 -- A spelled sequence with zeros behind it is read.
-pub spells_read : (n : ℕ) (ds : List DataSet) (a zeros : List ℕ) → Spells ds a → 1 ≤ length ds → length ds ≤ n → length zeros ≤ 3 → AllByRecursion IsZero zeros → sequence_of n (a ++ zeros) ≡ Some ds
+pub spells_read : (n : ℕ) (ds : List DataSet) (a zeros : List ℕ) → Spells ds a → 1 ≤ length ds → length ds ≤ n → length zeros ≤ 3
+    → AllByRecursion IsZero zeros → sequence_of n (a ++ zeros) ≡ Some ds
 spells_read n [] a zeros h l m s b = absurd (omega arith)
 spells_read zero (d ∷ ds) a zeros h l m s b = absurd (omega arith)
 spells_read (suc n) (d ∷ []) a zeros (c, e, p, q, r) l m s b =
-    ap (λ (z : List ℕ). sequence_of (suc n) (z ++ zeros)) (p ∙ ap (λ (z : List ℕ). c ++ z) r ∙ append-nil c) ∙ spelled_last n d c zeros q (end_true zeros s b)
+    ap (λ (z : List ℕ). sequence_of (suc n) (z ++ zeros)) (p ∙ ap (λ (z : List ℕ). c ++ z) r ∙ append-nil c)
+    ∙ spelled_last n d c zeros q (end_true zeros s b)
 spells_read (suc n) (d ∷ f ∷ ds) a zeros (c, e, p, q, r) l m s b =
-    let marked : is_marked (e ++ zeros) ≡ true = subst (λ (z : List ℕ). is_marked z ≡ true) (sym (ap (λ (z : List ℕ). z ++ zeros) r.2 ∙ append_assoc r.0 r.1 zeros)) (marked_spelling f r.0 (r.1 ++ zeros) r.3) in
+    let marked : is_marked (e ++ zeros) ≡ true =
+    subst (λ (z : List ℕ). is_marked z ≡ true) (sym (ap (λ (z : List ℕ). z ++ zeros) r.2 ∙ append_assoc r.0 r.1 zeros))
+    (marked_spelling f r.0 (r.1 ++ zeros) r.3) in
     ap (sequence_of (suc n)) (ap (λ (z : List ℕ). z ++ zeros) p ∙ append_assoc c e zeros)
-    ∙ spelled_more n d (f ∷ ds) c (e ++ zeros) q (marked_no_end (e ++ zeros) marked) (spells_read n (f ∷ ds) e zeros r (omega arith) (omega arith) s b)
+    ∙ spelled_more n d (f ∷ ds) c (e ++ zeros) q (marked_no_end (e ++ zeros) marked)
+    (spells_read n (f ∷ ds) e zeros r (omega arith) (omega arith) s b)
 
 -- ---- to spellings
 
@@ -120,17 +132,20 @@ pub parsed_more : (x : List ℕ) (ds : List DataSet) → is_dataset x ≡ true �
 parsed_more x ds h p = record {
   front = take (size x) x ++ p.front;
   zeros = p.zeros;
-  whole = sym (take-append-drop (size x) x) ∙ ap (λ (z : List ℕ). take (size x) x ++ z) p.whole ∙ sym (append_assoc (take (size x) x) p.front p.zeros);
+  whole = sym (take-append-drop (size x) x) ∙ ap (λ (z : List ℕ). take (size x) x ++ z) p.whole
+      ∙ sym (append_assoc (take (size x) x) p.front p.zeros);
   spells = (take (size x) x, p.front, refl, dataset_spelled x h, p.spells);
   some = omega arith;
   short = p.short;
   blank = p.blank;
 }
 
-after_step : (x : List ℕ) (ds : List DataSet) (z : Option (List DataSet)) → is_dataset x ≡ true → ((es : List DataSet) → z ≡ Some es → Parsed es (drop (size x) x)) →
+after_step : (x : List ℕ) (ds : List DataSet) (z : Option (List DataSet)) → is_dataset x ≡ true
+    → ((es : List DataSet) → z ≡ Some es → Parsed es (drop (size x) x)) →
     option_map (λ (es : List DataSet). dataset x ∷ es) z ≡ Some ds → Parsed ds x
 after_step x ds None h f e = cc
-after_step x ds (Some es) h f e = let q : dataset x ∷ es ≡ ds = cc in subst (λ (z : List DataSet). Parsed z x) q (parsed_more x es h (f es refl))
+after_step x ds (Some es) h f e =
+    let q : dataset x ∷ es ≡ ds = cc in subst (λ (z : List DataSet). Parsed z x) q (parsed_more x es h (f es refl))
 
 -- What is read is a spelled sequence, with zeros behind it.
 pub read_parsed : (n : ℕ) (x : List ℕ) (ds : List DataSet) → sequence_of n x ≡ Some ds → Parsed ds x
@@ -138,8 +153,10 @@ unfolding sequence_of
 read_parsed zero x ds e = cc
 read_parsed (suc n) x ds e = elim (cases_Bool (is_dataset x)) [
   | inl h ↦ elim (cases_Bool (is_end (drop (size x) x))) [
-    | inl k ↦ let s : Some (dataset x ∷ []) ≡ Some ds = sym (step_end n x h k) ∙ e in let q : dataset x ∷ [] ≡ ds = cc in subst (λ (z : List DataSet). Parsed z x) q (parsed_end x h k)
-    | inr k ↦ after_step x ds (sequence_of n (drop (size x) x)) h (λ es q. read_parsed n (drop (size x) x) es q) (sym (step_more n x h k) ∙ e)
+    | inl k ↦ let s : Some (dataset x ∷ []) ≡ Some ds =
+        sym (step_end n x h k) ∙ e in let q : dataset x ∷ [] ≡ ds = cc in subst (λ (z : List DataSet). Parsed z x) q (parsed_end x h k)
+    | inr k ↦ after_step x ds (sequence_of n (drop (size x) x)) h (λ es q. read_parsed n (drop (size x) x) es q) (sym (step_more n x h k)
+        ∙ e)
   ]
   | inr h ↦ let clash : None ≡ Some ds = sym (step_none n x h) ∙ e in absurd (cc)
 ]

@@ -1,5 +1,7 @@
 -- What stands at the head of octets, read back from a spelling, and a spelling from what is read.
-use Rattle.std.proofs.Common.{◌≡◌, ◌<◌, ◌≤◌, ◌⊎◌, ◌+◌, ◌-◌, ◌==◌, ℕ, suc, nat_lt, nat_le, true, false, ◌&&◌, inl, inr, refl, sym, ap, subst, ◌∙◌, arith, eqb-true, eq-eqb, ltb-true, ltb-false, lt-ltb, leb-true, le-leb, List, [], ◌∷◌, ◌++◌, length, take, drop, take_at, drop_at, take-add, length-append, length-take-le, length-drop, append_assoc, slice_index}
+use Rattle.std.proofs.Common.{◌≡◌, ◌<◌, ◌≤◌, ◌⊎◌, ◌+◌, ◌-◌, ◌==◌, ℕ, suc, nat_lt, nat_le, true, false, ◌&&◌, inl, inr, refl, sym, ap, subst}
+use Rattle.std.proofs.Common.{◌∙◌, arith, eqb-true, eq-eqb, ltb-true, ltb-false, lt-ltb, leb-true, le-leb, List, [], ◌∷◌, ◌++◌, length}
+use Rattle.std.proofs.Common.{take, drop, take_at, drop_at, take-add, length-append, length-take-le, length-drop, append_assoc, slice_index}
 use Rattle.std.proofs.lemmas.Bool.{cond-true, cond-false, cases_Bool, and_parts, and_from, or_cases, or_left, or_right, false_from_ne_true}
 use Rattle.std.proofs.lemmas.List.{drop-take, drop-append-le}
 use Rattle.px_bytes.specs.declared.Order.TheVariants.{Most}
@@ -42,7 +44,8 @@ module _ (x : List ℕ) where
       let further : extra x ≡ k = extra_long (omega arith) ∙ omega arith in record {
         further = further;
         told = cond-false _ _ _ f ∙ ap (λ (j : ℕ). number Most j (drop 5 x)) further ∙ m;
-        formed = or_right (nat_lt (form x) top_bit) _ (and_from (nat_le 1 (extra x)) (nat_le (extra x) 4) (le-leb 1 (extra x) (omega arith)) (le-leb (extra x) 4 (omega arith)));
+        formed = or_right (nat_lt (form x) top_bit) _ (and_from (nat_le 1 (extra x)) (nat_le (extra x) 4)
+            (le-leb 1 (extra x) (omega arith)) (le-leb (extra x) 4 (omega arith)));
       }
 
 -- ---- a DataSet
@@ -93,16 +96,19 @@ module _ (r n : ℕ) (c o b : List ℕ) where
   abbrev pub block : List ℕ
   block = marker ∷ r ∷ n ∷ (c ++ (o ++ b))
 
-  begins_told : (e : ℕ) → length c ≡ 2 + e → Tells block e (length o) → Begins (record { rec = r; number = n; octets = o }) (5 + e + length o) block
+  begins_told : (e : ℕ) → length c ≡ 2 + e → Tells block e (length o)
+      → Begins (record { rec = r; number = n; octets = o }) (5 + e + length o) block
   unfolding dataset
   begins_told e l t =
-      let long : length block ≡ 5 + e + (length o + length b) = let p = length-append c (o ++ b) in let q = length-append o b in omega arith in
+      let long : length block ≡ 5 + e + (length o + length b) =
+      let p = length-append c (o ++ b) in let q = length-append o b in omega arith in
       let place : length front ≡ 5 + extra block = let f = t.further in omega arith in
       let sized : size block ≡ 5 + e + length o = let f = t.further in let g = t.told in omega arith in
       let body : part block (5 + extra block) (count block) ≡ o =
       ap (take (count block)) (drop_at front (o ++ b) (5 + extra block) place) ∙ take_at o b (count block) (sym t.told) in record {
         is = holds_dataset block (record {
-          marked = and_from (nat_le 1 (length block)) (slice_index block 0 == marker) (le-leb 1 (length block) (omega arith)) (eq-eqb marker marker refl);
+          marked = and_from (nat_le 1 (length block)) (slice_index block 0 == marker) (le-leb 1 (length block) (omega arith))
+              (eq-eqb marker marker refl);
           five = omega arith;
           formed = t.formed;
           counted = let f = t.further in omega arith;
@@ -136,7 +142,8 @@ module _ (r n : ℕ) (c o b : List ℕ) where
 pub spelled_begins : (d : DataSet) (a b : List ℕ) → IsSpelling d a → Begins d (length a) (a ++ b)
 spelled_begins d a b (c, e, h) =
     subst (λ (y : List ℕ). Begins d (length y) (y ++ b)) (sym e)
-    (subst (Begins d (length (marker ∷ d.rec ∷ d.number ∷ (c ++ d.octets)))) (ap (λ (y : List ℕ). marker ∷ d.rec ∷ d.number ∷ y) (sym (append_assoc c d.octets b)))
+    (subst (Begins d (length (marker ∷ d.rec ∷ d.number ∷ (c ++ d.octets))))
+    (ap (λ (y : List ℕ). marker ∷ d.rec ∷ d.number ∷ y) (sym (append_assoc c d.octets b)))
     (begins_block d.rec d.number c d.octets b h))
 
 -- ---- to a spelling
@@ -170,7 +177,8 @@ module _ (a r n : ℕ) (y : List ℕ) where
   cut =
       let m : size octets ≡ suc (suc (suc ((2 + extra octets) + count octets))) = omega arith in
       ap (λ (j : ℕ). take j octets) m
-      ∙ ap (λ (z : List ℕ). a ∷ r ∷ n ∷ z) (take-add (2 + extra octets) (count octets) y ∙ ap (λ (z : List ℕ). counted ++ take (count octets) z) (sym behind))
+      ∙ ap (λ (z : List ℕ). a ∷ r ∷ n ∷ z) (take-add (2 + extra octets) (count octets) y
+      ∙ ap (λ (z : List ℕ). counted ++ take (count octets) z) (sym behind))
 
   head_marked : Holds octets → a ≡ marker
   head_marked h = let p = and_parts (nat_le 1 (length octets)) (a == marker) h.marked in eqb-true a marker p.1
@@ -189,14 +197,20 @@ module _ (a r n : ℕ) (y : List ℕ) where
       let long : top_bit ≤ form octets = ltb-false (form octets) top_bit f in
       let e : extra octets ≡ form octets - top_bit = extra_long octets long in
       let k : count octets ≡ number Most (extra octets) (drop 5 octets) = cond-false _ _ _ f in
-      let range : (nat_le 1 (extra octets) && nat_le (extra octets) 4) ≡ true = elim (or_cases (nat_lt (form octets) top_bit) (nat_le 1 (extra octets) && nat_le (extra octets) 4) h.formed) [ inl t ↦ absurd (cc) | inr t ↦ t ] in
+      let range : (nat_le 1 (extra octets) && nat_le (extra octets) 4) ≡ true =
+      elim (or_cases (nat_lt (form octets) top_bit) (nat_le 1 (extra octets) && nat_le (extra octets) 4) h.formed) [
+        | inl t ↦ absurd
+            (cc)
+        | inr t ↦ t
+      ] in
       let p = and_parts (nat_le 1 (extra octets)) (nat_le (extra octets) 4) range in (
         extra octets,
         leb-true 1 (extra octets) p.0,
         leb-true (extra octets) 4 p.1,
         length-counted h,
         number-counted ∙ omega arith,
-        ap (number Most (extra octets)) (drop-take 2 (extra octets) y) ∙ number-take Most (extra octets) (extra octets) (drop 2 y) (omega arith) ∙ sym k ∙ sym (length-told h),
+        ap (number Most (extra octets)) (drop-take 2 (extra octets) y)
+            ∙ number-take Most (extra octets) (extra octets) (drop 2 y) (omega arith) ∙ sym k ∙ sym (length-told h),
       )
 
   spelled_octets : Holds octets → IsSpelling (dataset octets) (take (size octets) octets)

@@ -1,8 +1,11 @@
 -- A block that is built piece by piece.
-use Rattle.std.proofs.Common.{◌≡◌, ℕ, zero, suc, ◌+◌, ◌-◌, ◌<◌, ◌≤◌, ◌&&◌, nat_lt, nat_le, inl, inr, Some, List, [], ◌∷◌, ◌++◌, map, length, take, drop, get_or, slice_get, slice_index, replicate, refl, sym, ◌∙◌, ap, ap₂, subst, arith, ltb-true, lt-ltb, le-leb, length-drop, get_or-take, get_or-drop, append_assoc}
+use Rattle.std.proofs.Common.{◌≡◌, ℕ, zero, suc, ◌+◌, ◌-◌, ◌<◌, ◌≤◌, ◌&&◌, nat_lt, nat_le, inl, inr, Some, List, [], ◌∷◌, ◌++◌, map, length}
+use Rattle.std.proofs.Common.{take, drop, get_or, slice_get, slice_index, replicate, refl, sym, ◌∙◌, ap, ap₂, subst, arith, ltb-true}
+use Rattle.std.proofs.Common.{lt-ltb, le-leb, length-drop, get_or-take, get_or-drop, append_assoc}
 use Rattle.std.specs.List.{range_with_len}
 use Rattle.std.proofs.lemmas.Bool.{and_from, and_parts, cond-true, cond-false, cases_lt, leb-true, false_from_ne_true}
-use Rattle.std.proofs.lemmas.List.{same_lists, length-append, length-take-le, get_or_append_left, get_or-append_right, drop-drop, drop_more, drop_all}
+use Rattle.std.proofs.lemmas.List.{same_lists, length-append, length-take-le, get_or_append_left, get_or-append_right, drop-drop, drop_more}
+use Rattle.std.proofs.lemmas.List.{drop_all}
 use Rattle.std.proofs.lemmas.Option.{slice_get_within, get_or_from_slice_get}
 use borrow.Rule.Slice.PartMut.{put_mid}
 use Rattle.px_layout.specs.Laid.{byte_at}

@@ -1,5 +1,7 @@
 -- Entries that are put over a list of entries.
-use Rattle.std.proofs.Common.{is_some, ◌≡◌, ℕ, zero, suc, ◌+◌, ◌-◌, ◌^◌, ◌<◌, ◌≤◌, nat_lt, inl, inr, true, false, refl, sym, ◌∙◌, ap, subst, arith, Option, Some, None, option_map, option_and_then, List, [], ◌∷◌, map, length, slice_get, lt-ltb, ltb-true, le-ltb, ltb-false}
+use Rattle.std.proofs.Common.{is_some, ◌≡◌, ℕ, zero, suc, ◌+◌, ◌-◌, ◌^◌, ◌<◌, ◌≤◌, nat_lt, inl, inr, true, false, refl, sym, ◌∙◌, ap, subst}
+use Rattle.std.proofs.Common.{arith, Option, Some, None, option_map, option_and_then, List, [], ◌∷◌, map, length, slice_get, lt-ltb}
+use Rattle.std.proofs.Common.{ltb-true, le-ltb, ltb-false}
 use Rattle.std.specs.Prelude.{IfSome, if◌then◌else◌}
 use Rattle.std.specs.List.{AllByRecursion}
 use Rattle.std.proofs.lemmas.Bool.{cond-true, cond-false, cases_Bool, cond_both}
@@ -11,7 +13,8 @@ use Rattle.px_tree.specs.declared.Dir.{Dir}
 use Rattle.px_tree.specs.declared.Dir.TheVariants.{Main, Exif, Interop, Gps, Thumb}
 use Rattle.px_tree.specs.Entry.{Rising}
 use Rattle.px_tree.specs.Tree.{Fields, ExifPart, Thumbnail, Meaning}
-use Rattle.px_tree.specs.Fits.{Item, Field, StripSizes, items, put, main_items, exif_items, thumb_items, field_items, FitsFields, FitsExif, FitsThumb, IsBytes}
+use Rattle.px_tree.specs.Fits.{Item, Field, StripSizes, items, put, main_items, exif_items, thumb_items, field_items, FitsFields, FitsExif}
+use Rattle.px_tree.specs.Fits.{FitsThumb, IsBytes}
 use Rattle.px_layout.specs.calls.Items.{item_of, IsCounted, rank}
 use Rattle.px_layout.specs.calls.Layers.{over, Stands, Tells}
 use Rattle.px_layout.specs.declared.entries.Extra.{Extra}

@@ -1,5 +1,6 @@
 -- The pieces of a plan: inside the block, and put over it from the last to the first.
-use Rattle.std.proofs.Common.{◌≡◌, ℕ, zero, suc, ◌+◌, ◌<◌, ◌≤◌, ◌^◌, nat_lt, Option, Some, None, List, [], ◌∷◌, ◌++◌, filter_map, flat_map, length, drop, slice_get, replicate, refl, sym, ◌∙◌, ap, ap₂, subst, arith, lt-ltb, ltb-true, append-nil}
+use Rattle.std.proofs.Common.{◌≡◌, ℕ, zero, suc, ◌+◌, ◌<◌, ◌≤◌, ◌^◌, nat_lt, Option, Some, None, List, [], ◌∷◌, ◌++◌, filter_map, flat_map}
+use Rattle.std.proofs.Common.{length, drop, slice_get, replicate, refl, sym, ◌∙◌, ap, ap₂, subst, arith, lt-ltb, ltb-true, append-nil}
 use Rattle.std.specs.Prelude.{IfSome, Result, Ok, Err, OnOk}
 use Rattle.std.specs.List.{AllByRecursion, cons_option}
 use Rattle.std.proofs.lemmas.Bool.{cond-true, cond-false, false_from_ne_true}
@@ -15,7 +16,8 @@ use Rattle.px_layout.specs.declared.chunks.Chunk.{Chunk}
 use Rattle.px_layout.specs.declared.chunks.Chunk.TheVariants.{Table, Placed, Strip}
 use Rattle.px_layout.specs.declared.layout.Layout.{Layout}
 use Rattle.px_layout.specs.Plans.{Plan, place, Legal}
-use Rattle.px_layout.specs.Laid.{item_bytes, table_bytes, placed_content, contents_of_dir, contents, jpeg_contents, strip_contents, all_strip_contents, thumb_contents, header, laid_pieces, laid}
+use Rattle.px_layout.specs.Laid.{item_bytes, table_bytes, placed_content, contents_of_dir, contents, jpeg_contents, strip_contents}
+use Rattle.px_layout.specs.Laid.{all_strip_contents, thumb_contents, header, laid_pieces, laid}
 use Rattle.px_layout.specs.lemmas.StandLaws.{piece_range}
 use Rattle.px_layout.specs.lemmas.EntryLaws.{Good, good_items, few_items}
 use Rattle.px_layout.specs.lemmas.SizeLaws.{ranges_are}

@@ -1,5 +1,6 @@
 -- The bytes of entries and of directories, part by part.
-use Rattle.std.proofs.Common.{◌≡◌, ℕ, ◌+◌, ◌-◌, ◌*◌, ◌%◌, ◌≤◌, nat_lt, inl, inr, Some, None, List, [], ◌∷◌, ◌++◌, length, replicate, filter_map, flat_map, refl, sym, ◌∙◌, ap, ap₂, append_assoc, append-nil, arith}
+use Rattle.std.proofs.Common.{◌≡◌, ℕ, ◌+◌, ◌-◌, ◌*◌, ◌%◌, ◌≤◌, nat_lt, inl, inr, Some, None, List, [], ◌∷◌, ◌++◌, length, replicate}
+use Rattle.std.proofs.Common.{filter_map, flat_map, refl, sym, ◌∙◌, ap, ap₂, append_assoc, append-nil, arith}
 use Rattle.std.specs.List.{cons_option}
 use Rattle.std.proofs.lemmas.Bool.{cond-true, cond-false, cases_Bool, le-ltb}
 use Rattle.std.proofs.lemmas.List.Concat.{flat_map-append}
@@ -17,7 +18,8 @@ use Rattle.px_tree.specs.Directory.{magic, dirs}
 use Rattle.px_tree.specs.Fits.{Item, item_form, item_count, item_size, items}
 use Rattle.px_layout.specs.declared.chunks.Chunk.TheVariants.{Table, Placed}
 use Rattle.px_layout.specs.Plans.{Plan, place}
-use Rattle.px_layout.specs.Laid.{long_bytes, item_bytes, last_bytes, entry_bytes, next_bytes, table_bytes, placed_content, contents_of_dir, thumb_contents, contents, header}
+use Rattle.px_layout.specs.Laid.{long_bytes, item_bytes, last_bytes, entry_bytes, next_bytes, table_bytes, placed_content, contents_of_dir}
+use Rattle.px_layout.specs.Laid.{thumb_contents, contents, header}
 use Rattle.px_layout.specs.Normal.{padded}
 use Rattle.px_layout.specs.calls.Given.{head_bytes}
 use Rattle.px_layout.specs.Writing.{placed_bytes}

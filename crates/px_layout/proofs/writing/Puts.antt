@@ -1,5 +1,6 @@
 -- Parts put one behind another, where the bytes are known by an equation.
-use Rattle.std.proofs.Common.{◌≡◌, ◌<◌, ◌+◌, ◌++◌, ◌∙◌, ℕ, List, take, drop, slice_get, Option, Some, Result, subst, ap, sym, arith, take-append-drop}
+use Rattle.std.proofs.Common.{◌≡◌, ◌<◌, ◌+◌, ◌++◌, ◌∙◌, ℕ, List, take, drop, slice_get, Option, Some, Result, subst, ap, sym, arith}
+use Rattle.std.proofs.Common.{take-append-drop}
 use Rattle.std.specs.List.{flat_map, range_with_len}
 use Rattle.std.proofs.lemmas.Grind.{flat_map-append}
 use Rattle.std.proofs.lemmas.Option.{slice_get-get_or}

@@ -1,5 +1,7 @@
 -- Writing with offsets that run along.
-use Rattle.std.proofs.Common.{◌≡◌, ℕ, zero, suc, ◌+◌, ◌-◌, ◌<◌, ◌≤◌, nat_lt, Option, Some, None, option_map, List, [], ◌∷◌, ◌++◌, map, flat_map, length, take, drop, slice_get, replicate, unwrap_or, refl, sym, ◌∙◌, ap, ap₂, subst, arith, append_assoc, lt-ltb, ltb-true, is_some, true, false, inl, inr}
+use Rattle.std.proofs.Common.{◌≡◌, ℕ, zero, suc, ◌+◌, ◌-◌, ◌<◌, ◌≤◌, nat_lt, Option, Some, None, option_map, List, [], ◌∷◌, ◌++◌, map}
+use Rattle.std.proofs.Common.{flat_map, length, take, drop, slice_get, replicate, unwrap_or, refl, sym, ◌∙◌, ap, ap₂, subst, arith}
+use Rattle.std.proofs.Common.{append_assoc, lt-ltb, ltb-true, is_some, true, false, inl, inr}
 use Rattle.std.specs.Prelude.{IfSome, option_and_then}
 use Rattle.std.specs.List.{AllByRecursion, range_with_len}
 use Rattle.std.proofs.lemmas.Bool.{cond-true, cond-false, cases_Bool, le-ltb}
@@ -12,7 +14,8 @@ use Rattle.px_tree.specs.declared.Dir.TheVariants.{Main, Exif, Interop, Gps, Thu
 use Rattle.px_tree.specs.Tree.{Fields, ExifPart, Thumbnail, Meaning}
 use Rattle.px_tree.specs.Entry.{table_size}
 use Rattle.px_tree.specs.calls.Iim.{Iim}
-use Rattle.px_tree.specs.Fits.{Item, Iptc, AtJpeg, JpegSize, AtStrips, StripSizes, put_some, link, field_items, main_items, exif_items, thumb_items, items, item_form, item_count, item_size, Fits}
+use Rattle.px_tree.specs.Fits.{Item, Iptc, AtJpeg, JpegSize, AtStrips, StripSizes, put_some, link, field_items, main_items, exif_items}
+use Rattle.px_tree.specs.Fits.{thumb_items, items, item_form, item_count, item_size, Fits}
 use Rattle.px_layout.specs.declared.chunks.Chunk.TheVariants.{Table, Placed, Jpeg, Strip}
 use Rattle.px_layout.specs.declared.starts.Starts.{Starts}
 use Rattle.px_layout.specs.Chunks.{jpeg_chunks, strip_chunks, all_strip_chunks}
@@ -20,7 +23,9 @@ use Rattle.px_layout.specs.Plans.{Plan, place}
 use Rattle.px_layout.specs.Laid.{long_bytes, item_bytes, last_bytes, entry_bytes, header}
 use Rattle.px_layout.specs.Normal.{even, running, padded_size, normal_plan}
 use Rattle.px_layout.specs.lemmas.EntryLaws.{Good, good_items, each_put}
-use Rattle.px_layout.specs.lemmas.RunLaws.{values_size, start, dir_end, thumb_start, strips_start, jpeg_part, strips_part, thumb_parts, thumb_found, jpeg_place, run_none, without_all_strips, table_place, no_table_place, value_place, strip_place}
+use Rattle.px_layout.specs.lemmas.RunLaws.{values_size, start, dir_end, thumb_start, strips_start, jpeg_part, strips_part, thumb_parts}
+use Rattle.px_layout.specs.lemmas.RunLaws.{thumb_found, jpeg_place, run_none, without_all_strips, table_place, no_table_place, value_place}
+use Rattle.px_layout.specs.lemmas.RunLaws.{strip_place}
 use Rattle.px_layout.specs.calls.Given.{head_bytes, last_given, entry_given, strip_list, TellsAll, strips_size, strip_places}
 use Rattle.px_layout.specs.calls.Starting.{AreStarts}
 use Rattle.px_tree.specs.Directory.{magic}

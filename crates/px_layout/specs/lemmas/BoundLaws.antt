@@ -1,5 +1,6 @@
 -- A normal form is at most twice as long as any block that says its meaning.
-use Rattle.std.proofs.Common.{◌≡◌, ℕ, ◌+◌, ◌*◌, ◌≤◌, nat_le, inl, inr, true, Option, Some, None, option_map, option_and_then, List, [], ◌∷◌, ◌++◌, map, filter_map, flat_map, length, take, drop, refl, sym, ◌∙◌, ap, subst, arith, leb-true, length-take}
+use Rattle.std.proofs.Common.{◌≡◌, ℕ, ◌+◌, ◌*◌, ◌≤◌, nat_le, inl, inr, true, Option, Some, None, option_map, option_and_then, List, [], ◌∷◌}
+use Rattle.std.proofs.Common.{◌++◌, map, filter_map, flat_map, length, take, drop, refl, sym, ◌∙◌, ap, subst, arith, leb-true, length-take}
 use Rattle.std.specs.Prelude.{IfSome, option_to_list}
 use Rattle.std.specs.List.{AllByRecursion, cons_option}
 use Rattle.std.proofs.lemmas.Bool.{cond-true, cond-false, cases_Bool, and_parts}
@@ -12,7 +13,8 @@ use Rattle.px_field.specs.lemmas.PieceLaws.{length-pieces}
 use Rattle.px_tree.specs.declared.Dir.{Dir}
 use Rattle.px_tree.specs.declared.Dir.TheVariants.{Main, Exif, Interop, Gps, Thumb}
 use Rattle.px_tree.specs.Tree.{Meaning}
-use Rattle.px_tree.specs.Entry.{Entry, entry, short, table_size, has_table, table, entries, raw_size, is_placed, offset, has_raw, IsEntry, IsDirectory, fields}
+use Rattle.px_tree.specs.Entry.{Entry, entry, short, table_size, has_table, table, entries, raw_size, is_placed, offset, has_raw, IsEntry}
+use Rattle.px_tree.specs.Entry.{IsDirectory, fields}
 use Rattle.px_tree.specs.Directory.{dirs, entries_at, main_at, dir_at}
 use Rattle.px_tree.specs.Thumbnail.{bytes_of, IsInside, jpeg_range, strip_ranges, IsThumbnail}
 use Rattle.px_tree.specs.Footprint.{listed, placed_range, dir_ranges, ranges_at, thumb_ranges, footprint}

@@ -1,5 +1,6 @@
 -- A block that is laid out is made of bytes.
-use Rattle.std.proofs.Common.{◌<◌, ◌≤◌, ◌+◌, ◌-◌, ◌&&◌, ℕ, zero, suc, nat_lt, nat_le, Option, Some, None, List, [], ◌∷◌, ◌++◌, map, filter_map, flat_map, length, slice_index, replicate, arith}
+use Rattle.std.proofs.Common.{◌<◌, ◌≤◌, ◌+◌, ◌-◌, ◌&&◌, ℕ, zero, suc, nat_lt, nat_le, Option, Some, None, List, [], ◌∷◌, ◌++◌, map}
+use Rattle.std.proofs.Common.{filter_map, flat_map, length, slice_index, replicate, arith}
 use Rattle.std.specs.Prelude.{IfSome}
 use Rattle.std.specs.Int.{w16, w32, cast_unsigned}
 use Rattle.std.specs.List.{AllByRecursion, cons_option, range_with_len}
@@ -24,11 +25,14 @@ use Rattle.px_tree.specs.declared.Role.TheVariants.{Plain, Widened, Record, Jpeg
 use Rattle.px_tree.specs.Roles.{role}
 use Rattle.px_tree.specs.Tree.{Meaning, Thumbnail}
 use Rattle.px_tree.specs.Directory.{magic, dirs}
-use Rattle.px_tree.specs.Fits.{Item, Field, Iptc, Link, AtJpeg, JpegSize, AtStrips, StripSizes, item_form, item_count, item_size, items, IsBytes, FitsThumb, Fits}
+use Rattle.px_tree.specs.Fits.{Item, Field, Iptc, Link, AtJpeg, JpegSize, AtStrips, StripSizes, item_form, item_count, item_size, items}
+use Rattle.px_tree.specs.Fits.{IsBytes, FitsThumb, Fits}
 use Rattle.px_layout.specs.declared.chunks.Chunk.{Chunk}
 use Rattle.px_layout.specs.declared.chunks.Chunk.TheVariants.{Table, Placed, Jpeg, Strip}
 use Rattle.px_layout.specs.Plans.{Plan, place}
-use Rattle.px_layout.specs.Laid.{long_bytes, jpeg_contents, strip_contents, all_strip_contents, thumb_contents, item_bytes, last_bytes, entry_bytes, next_bytes, table_bytes, placed_content, contents_of_dir, contents, header, laid_pieces, byte_at, laid}
+use Rattle.px_layout.specs.Laid.{long_bytes, jpeg_contents, strip_contents, all_strip_contents, thumb_contents, item_bytes, last_bytes}
+use Rattle.px_layout.specs.Laid.{entry_bytes, next_bytes, table_bytes, placed_content, contents_of_dir, contents, header, laid_pieces}
+use Rattle.px_layout.specs.Laid.{byte_at, laid}
 use Rattle.px_layout.specs.Laws.{LaidIsBytes}
 use Rattle.px_layout.specs.lemmas.ItemLaws.{Suits}
 use Rattle.px_layout.specs.lemmas.EntryLaws.{Good, good_items}

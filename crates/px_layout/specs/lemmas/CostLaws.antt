@@ -1,5 +1,6 @@
 -- What an entry costs in the normal form: at most twice what it takes where it stands.
-use Rattle.std.proofs.Common.{◌≡◌, ℕ, suc, ◌+◌, ◌*◌, ◌%◌, ◌<◌, ◌≤◌, nat_lt, if◌then◌else◌, inl, inr, true, false, Bool, Option, Some, None, option_map, find, List, [], ◌∷◌, map, filter_map, length, refl, sym, ◌∙◌, subst, arith, ltb-false}
+use Rattle.std.proofs.Common.{◌≡◌, ℕ, suc, ◌+◌, ◌*◌, ◌%◌, ◌<◌, ◌≤◌, nat_lt, if◌then◌else◌, inl, inr, true, false, Bool, Option, Some, None}
+use Rattle.std.proofs.Common.{option_map, find, List, [], ◌∷◌, map, filter_map, length, refl, sym, ◌∙◌, subst, arith, ltb-false}
 use Rattle.std.specs.Prelude.{◌⊎◌}
 use Rattle.std.specs.List.{AllByRecursion, cons_option}
 use Rattle.std.proofs.Math.Nat.{mod-lt, mod-le}

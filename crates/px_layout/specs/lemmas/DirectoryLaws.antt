@@ -1,5 +1,6 @@
 -- A directory that is laid out reads back.
-use Rattle.std.proofs.Common.{◌≡◌, ℕ, ◌+◌, ◌*◌, ◌^◌, ◌<◌, ◌≤◌, nat_le, true, Option, List, [], ◌∷◌, ◌++◌, map, filter_map, flat_map, length, take, drop, refl, sym, ◌∙◌, ap, ap₂, subst, arith, le-leb}
+use Rattle.std.proofs.Common.{◌≡◌, ℕ, ◌+◌, ◌*◌, ◌^◌, ◌<◌, ◌≤◌, nat_le, true, Option, List, [], ◌∷◌, ◌++◌, map, filter_map, flat_map, length}
+use Rattle.std.proofs.Common.{take, drop, refl, sym, ◌∙◌, ap, ap₂, subst, arith, le-leb}
 use Rattle.std.specs.List.{AllByRecursion, cons_option}
 use Rattle.std.proofs.lemmas.List.{take_at, drop_at, take-take, drop-drop}
 use Rattle.std.proofs.lemmas.Bool.{cond-true, and_from}
@@ -11,7 +12,8 @@ use Rattle.px_bytes.specs.lemmas.EachLaws.{each_map, map-each, map-map}
 use Rattle.px_field.specs.lemmas.PieceLaws.{pieces_joined}
 use Rattle.px_tree.specs.declared.Dir.{Dir}
 use Rattle.px_tree.specs.Tree.{Meaning}
-use Rattle.px_tree.specs.Entry.{Entry, entry, short, long, table_size, has_table, table, entries, next, IsEntry, Rising, IsDirectory, field, fields}
+use Rattle.px_tree.specs.Entry.{Entry, entry, short, long, table_size, has_table, table, entries, next, IsEntry, Rising, IsDirectory, field}
+use Rattle.px_tree.specs.Entry.{fields}
 use Rattle.px_tree.specs.Fits.{Item}
 use Rattle.px_tree.specs.Roles.{role}
 use Rattle.px_layout.specs.declared.chunks.Chunk.TheVariants.{Table}

@@ -1,5 +1,6 @@
 -- The entries of each directory of a meaning that fits are in order, suit their tags, and are few enough.
-use Rattle.std.proofs.Common.{◌≡◌, ℕ, suc, ◌+◌, ◌*◌, ◌^◌, ◌<◌, ◌≤◌, inl, inr, nat_lt, Option, Some, None, option_map, option_and_then, List, [], ◌∷◌, map, length, refl, sym, ◌∙◌, ap, subst, arith, ltb-true, ltb-false}
+use Rattle.std.proofs.Common.{◌≡◌, ℕ, suc, ◌+◌, ◌*◌, ◌^◌, ◌<◌, ◌≤◌, inl, inr, nat_lt, Option, Some, None, option_map, option_and_then, List}
+use Rattle.std.proofs.Common.{[], ◌∷◌, map, length, refl, sym, ◌∙◌, ap, subst, arith, ltb-true, ltb-false}
 use Rattle.std.specs.Prelude.{IfSome}
 use Rattle.std.specs.List.{AllByRecursion}
 use Rattle.std.proofs.lemmas.Bool.{cond_both, cases_lt, cases_eq}
@@ -11,10 +12,13 @@ use Rattle.px_tree.specs.declared.Dir.{Dir}
 use Rattle.px_tree.specs.declared.Dir.TheVariants.{Main, Exif, Interop, Gps, Thumb}
 use Rattle.px_tree.specs.Tree.{Fields, ExifPart, Thumbnail, Meaning}
 use Rattle.px_tree.specs.declared.Role.{Role}
-use Rattle.px_tree.specs.declared.Role.TheVariants.{Plain, Widened, Forbidden, Record, JpegOffset, JpegLength, StripOffsets, StripLengths, To}
-use Rattle.px_tree.specs.Roles.{exif_tag, gps_tag, record_tag, interop_tag, jpeg_offset_tag, jpeg_length_tag, strip_offsets_tag, strip_lengths_tag, free_offsets_tag, role}
+use Rattle.px_tree.specs.declared.Role.TheVariants.{Plain, Widened, Forbidden, Record, JpegOffset, JpegLength, StripOffsets, StripLengths}
+use Rattle.px_tree.specs.declared.Role.TheVariants.{To}
+use Rattle.px_tree.specs.Roles.{exif_tag, gps_tag, record_tag, interop_tag, jpeg_offset_tag, jpeg_length_tag, strip_offsets_tag}
+use Rattle.px_tree.specs.Roles.{strip_lengths_tag, free_offsets_tag, role}
 use Rattle.px_tree.specs.Entry.{Rising}
-use Rattle.px_tree.specs.Fits.{Item, Field, Iptc, Link, AtJpeg, JpegSize, AtStrips, StripSizes, put, put_some, link, field_items, main_items, exif_items, thumb_items, items, Allows, FitsField, FitsFields, Fits, FitsExif, FitsThumb}
+use Rattle.px_tree.specs.Fits.{Item, Field, Iptc, Link, AtJpeg, JpegSize, AtStrips, StripSizes, put, put_some, link, field_items}
+use Rattle.px_tree.specs.Fits.{main_items, exif_items, thumb_items, items, Allows, FitsField, FitsFields, Fits, FitsExif, FitsThumb}
 use Rattle.px_layout.specs.lemmas.ItemLaws.{Suits}
 
 -- a directory's entries, in order

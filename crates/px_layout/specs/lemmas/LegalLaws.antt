@@ -1,5 +1,6 @@
 -- A legal block says its meaning.
-use Rattle.std.proofs.Common.{◌≡◌, ℕ, ◌*◌, ◌^◌, ◌<◌, ◌≤◌, nat_lt, inl, inr, true, Option, Some, None, option_map, option_and_then, List, [], ◌∷◌, ◌++◌, map, filter_map, flat_map, length, refl, sym, ◌∙◌, ap, ap₂, subst, arith}
+use Rattle.std.proofs.Common.{◌≡◌, ℕ, ◌*◌, ◌^◌, ◌<◌, ◌≤◌, nat_lt, inl, inr, true, Option, Some, None, option_map, option_and_then, List, []}
+use Rattle.std.proofs.Common.{◌∷◌, ◌++◌, map, filter_map, flat_map, length, refl, sym, ◌∙◌, ap, ap₂, subst, arith}
 use Rattle.std.specs.Prelude.{IfSome, option_to_list}
 use Rattle.std.specs.List.{AllByRecursion}
 use Rattle.std.proofs.lemmas.Bool.{cond-true, cond-false, cases_Bool}
@@ -17,16 +18,19 @@ use Rattle.px_tree.specs.declared.Dir.{Dir}
 use Rattle.px_tree.specs.declared.Dir.TheVariants.{Main, Exif, Interop, Gps, Thumb}
 use Rattle.px_tree.specs.Tree.{Fields, ExifPart, Thumbnail, Meaning}
 use Rattle.px_tree.specs.declared.Role.TheVariants.{Record}
-use Rattle.px_tree.specs.Roles.{exif_tag, gps_tag, record_tag, jpeg_offset_tag, jpeg_length_tag, strip_offsets_tag, strip_lengths_tag, role, at_tag}
+use Rattle.px_tree.specs.Roles.{exif_tag, gps_tag, record_tag, jpeg_offset_tag, jpeg_length_tag, strip_offsets_tag, strip_lengths_tag, role}
+use Rattle.px_tree.specs.Roles.{at_tag}
 use Rattle.px_tree.specs.Entry.{Entry, raw, raw_size, is_placed, offset, record_in, fields, table_size, IsDirectory}
 use Rattle.px_tree.specs.Directory.{dir_at, entries_at, entry_with, fields_at, dirs}
 use Rattle.px_tree.specs.Says.{record_at, exif_part, thumbnail, meaning, IsExif}
 use Rattle.px_tree.specs.Thumbnail.{both, are_paired, numbers, jpeg_range, ranges_of, strip_ranges, bytes_of, IsInside, IsThumbnail}
 use Rattle.px_tree.specs.Footprint.{placed_range, dir_ranges, thumb_ranges, listed, footprint}
-use Rattle.px_tree.specs.Fits.{Item, Field, Iptc, AtJpeg, JpegSize, AtStrips, StripSizes, item_form, item_size, put_some, link, field_items, main_items, exif_items, thumb_items, items, Allows, FitsField, FitsThumb, IsBytes, Fits}
+use Rattle.px_tree.specs.Fits.{Item, Field, Iptc, AtJpeg, JpegSize, AtStrips, StripSizes, item_form, item_size, put_some, link, field_items}
+use Rattle.px_tree.specs.Fits.{main_items, exif_items, thumb_items, items, Allows, FitsField, FitsThumb, IsBytes, Fits}
 use Rattle.px_layout.specs.declared.chunks.Chunk.{Chunk}
 use Rattle.px_layout.specs.declared.chunks.Chunk.TheVariants.{Table, Placed, Jpeg}
-use Rattle.px_layout.specs.Chunks.{placed_chunk, dir_chunks, chunks_of_dir, jpeg_chunks, strip_chunks, all_strip_chunks, thumb_chunks, chunks}
+use Rattle.px_layout.specs.Chunks.{placed_chunk, dir_chunks, chunks_of_dir, jpeg_chunks, strip_chunks, all_strip_chunks, thumb_chunks}
+use Rattle.px_layout.specs.Chunks.{chunks}
 use Rattle.px_layout.specs.Plans.{Plan, place, Legal, plan_ranges}
 use Rattle.px_layout.specs.Laws.{LegalSays}
 use Rattle.px_layout.specs.Laid.{item_bytes, jpeg_contents, strip_contents, all_strip_contents, thumb_contents}
@@ -38,8 +42,11 @@ use Rattle.px_layout.specs.lemmas.SizeLaws.{filter_map-map}
 use Rattle.px_layout.specs.lemmas.EntryLaws.{NotThere}
 use Rattle.px_layout.specs.lemmas.TagLaws.{at_some_same, at_some_other, at_fields, each_at, fields_back, entry_found}
 use Rattle.px_layout.specs.lemmas.PlacedLaws.{block, length_block, near, thumb_here, good_dir, table_here, items_here, some_items, few}
-use Rattle.px_layout.specs.lemmas.PointerLaws.{main_items_are, main_place, entries_of, fields_of, next_of, exif_items_are, interop_items_are, thumb_items_are, dir_at_plan, begins_is}
-use Rattle.px_layout.specs.lemmas.PartLaws.{fields_main, fields_exif, fields_thumb, numbers_at_strips, numbers_sizes, offset_jpeg, offset_size, at_jpeg, at_size, at_strips, at_lengths, chunk_range, strip_ranges_are, strip_bytes_are, strips_inside_are, strips_near}
+use Rattle.px_layout.specs.lemmas.PointerLaws.{main_items_are, main_place, entries_of, fields_of, next_of, exif_items_are}
+use Rattle.px_layout.specs.lemmas.PointerLaws.{interop_items_are, thumb_items_are, dir_at_plan, begins_is}
+use Rattle.px_layout.specs.lemmas.PartLaws.{fields_main, fields_exif, fields_thumb, numbers_at_strips, numbers_sizes, offset_jpeg}
+use Rattle.px_layout.specs.lemmas.PartLaws.{offset_size, at_jpeg, at_size, at_strips, at_lengths, chunk_range, strip_ranges_are}
+use Rattle.px_layout.specs.lemmas.PartLaws.{strip_bytes_are, strips_inside_are, strips_near}
 
 module _ (m : Meaning) (plan : Plan) (o : Order) (filler : ℕ) (f : Fits m) (l : Legal m plan) where
   abbrev b : List ℕ

@@ -1,5 +1,7 @@
 -- The normal form is the block that its plan lays out, and the plan is legal.
-use Rattle.std.proofs.Common.{◌≡◌, ℕ, zero, suc, ◌+◌, ◌-◌, ◌%◌, ◌<◌, ◌≤◌, ◌==◌, nat_lt, nat_le, inl, inr, true, false, ◌&&◌, Some, unwrap_or, List, [], ◌∷◌, ◌++◌, map, flat_map, length, get_or, slice_index, replicate, refl, sym, ◌∙◌, ap, ap₂, subst, arith, eq-eqb, eqb-true, ltb-true, lt-ltb, le-leb}
+use Rattle.std.proofs.Common.{◌≡◌, ℕ, zero, suc, ◌+◌, ◌-◌, ◌%◌, ◌<◌, ◌≤◌, ◌==◌, nat_lt, nat_le, inl, inr, true, false, ◌&&◌, Some}
+use Rattle.std.proofs.Common.{unwrap_or, List, [], ◌∷◌, ◌++◌, map, flat_map, length, get_or, slice_index, replicate, refl, sym, ◌∙◌, ap}
+use Rattle.std.proofs.Common.{ap₂, subst, arith, eq-eqb, eqb-true, ltb-true, lt-ltb, le-leb}
 use Rattle.std.specs.Prelude.{Contains, ◌↔◌, IsSome}
 use Rattle.std.specs.List.{AllByRecursion, range_with_len}
 use Rattle.std.proofs.lemmas.Bool.{cond-true, cond-false, cases_Bool, cases_lt, and_parts, and_from, false_from_ne_true, leb-true}

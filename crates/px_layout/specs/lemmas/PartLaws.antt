@@ -1,5 +1,6 @@
 -- In a legal block each part of the meaning reads back, and the footprint is the plan.
-use Rattle.std.proofs.Common.{◌≡◌, ℕ, ◌+◌, ◌^◌, ◌<◌, Option, Some, None, option_map, List, [], ◌∷◌, map, filter_map, flat_map, length, refl, sym, ◌∙◌, ap, ap₂, arith, append-nil}
+use Rattle.std.proofs.Common.{◌≡◌, ℕ, ◌+◌, ◌^◌, ◌<◌, Option, Some, None, option_map, List, [], ◌∷◌, map, filter_map, flat_map, length, refl}
+use Rattle.std.proofs.Common.{sym, ◌∙◌, ap, ap₂, arith, append-nil}
 use Rattle.std.specs.Prelude.{IfSome}
 use Rattle.std.specs.List.{AllByRecursion, range_with_len}
 use Rattle.px_bytes.specs.Parts.{pieces}
@@ -14,10 +15,12 @@ use Rattle.px_field.specs.lemmas.FormLaws.{form_of-code}
 use Rattle.px_tree.specs.declared.Dir.{Dir}
 use Rattle.px_tree.specs.declared.Dir.TheVariants.{Exif, Interop, Gps, Thumb}
 use Rattle.px_tree.specs.Tree.{ExifPart, Thumbnail, Meaning}
-use Rattle.px_tree.specs.Roles.{exif_tag, gps_tag, record_tag, interop_tag, jpeg_offset_tag, jpeg_length_tag, strip_offsets_tag, strip_lengths_tag, role, at_tag}
+use Rattle.px_tree.specs.Roles.{exif_tag, gps_tag, record_tag, interop_tag, jpeg_offset_tag, jpeg_length_tag, strip_offsets_tag}
+use Rattle.px_tree.specs.Roles.{strip_lengths_tag, role, at_tag}
 use Rattle.px_tree.specs.Entry.{offset, entry_elements}
 use Rattle.px_tree.specs.Thumbnail.{whole_number, numbers, numbers_in, ranges_of, bytes_of, IsInside}
-use Rattle.px_tree.specs.Fits.{Item, Iptc, Link, AtJpeg, JpegSize, AtStrips, StripSizes, item_size, put_some, link, field_items, main_items, exif_items, thumb_items, FitsThumb}
+use Rattle.px_tree.specs.Fits.{Item, Iptc, Link, AtJpeg, JpegSize, AtStrips, StripSizes, item_size, put_some, link, field_items, main_items}
+use Rattle.px_tree.specs.Fits.{exif_items, thumb_items, FitsThumb}
 use Rattle.px_layout.specs.declared.chunks.Chunk.{Chunk}
 use Rattle.px_layout.specs.declared.chunks.Chunk.TheVariants.{Jpeg, Strip}
 use Rattle.px_layout.specs.Chunks.{strip_chunks}

@@ -1,12 +1,14 @@
 -- In a legal block of a meaning that fits, each entry of each directory is in its place.
-use Rattle.std.proofs.Common.{◌≡◌, ℕ, ◌+◌, ◌*◌, ◌^◌, ◌<◌, ◌≤◌, inl, inr, nat_lt, true, Option, Some, None, List, [], ◌∷◌, ◌++◌, filter_map, flat_map, length, subst, arith, ltb-false}
+use Rattle.std.proofs.Common.{◌≡◌, ℕ, ◌+◌, ◌*◌, ◌^◌, ◌<◌, ◌≤◌, inl, inr, nat_lt, true, Option, Some, None, List, [], ◌∷◌, ◌++◌, filter_map}
+use Rattle.std.proofs.Common.{flat_map, length, subst, arith, ltb-false}
 use Rattle.std.specs.Prelude.{IfSome}
 use Rattle.std.specs.List.{AllByRecursion, cons_option}
 use Rattle.std.proofs.lemmas.Bool.{cond-true, cases_Bool}
 use Rattle.px_bytes.specs.declared.Order.{Order}
 use Rattle.px_bytes.specs.lemmas.EachLaws.{each_map₂, each_in_map, each_left, each_right}
 use Rattle.px_field.specs.declared.Form.{Form}
-use Rattle.px_field.specs.declared.Form.TheVariants.{Byte, Ascii, Short, Long, Rational, SByte, Undefined, SShort, SLong, SRational, Float, Double, Utf8}
+use Rattle.px_field.specs.declared.Form.TheVariants.{Byte, Ascii, Short, Long, Rational, SByte, Undefined, SShort, SLong, SRational, Float}
+use Rattle.px_field.specs.declared.Form.TheVariants.{Double, Utf8}
 use Rattle.px_field.specs.Forms.{size}
 use Rattle.px_tree.specs.declared.Dir.{Dir}
 use Rattle.px_tree.specs.declared.Dir.TheVariants.{Main, Exif, Interop, Gps, Thumb}
@@ -17,7 +19,8 @@ use Rattle.px_tree.specs.Fits.{Item, item_form, item_count, item_size, items, Fi
 use Rattle.px_layout.specs.declared.chunks.Chunk.{Chunk}
 use Rattle.px_layout.specs.declared.chunks.Chunk.TheVariants.{Table, Placed}
 use Rattle.px_layout.specs.Plans.{Plan, place, Legal}
-use Rattle.px_layout.specs.Laid.{item_bytes, table_bytes, placed_content, contents_of_dir, thumb_contents, contents, header, laid_pieces, laid}
+use Rattle.px_layout.specs.Laid.{item_bytes, table_bytes, placed_content, contents_of_dir, thumb_contents, contents, header, laid_pieces}
+use Rattle.px_layout.specs.Laid.{laid}
 use Rattle.px_layout.specs.lemmas.StandLaws.{Stands, length-laid}
 use Rattle.px_layout.specs.lemmas.ItemLaws.{Suits, IsHere, length_is}
 use Rattle.px_layout.specs.lemmas.EntryLaws.{Good, good_items, few_items}

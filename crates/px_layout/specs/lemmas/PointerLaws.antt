@@ -1,5 +1,6 @@
 -- In a legal block the header, the pointers and the next offset lead to the tables of the plan.
-use Rattle.std.proofs.Common.{◌≡◌, ℕ, ◌^◌, ◌<◌, ◌==◌, Option, Some, None, option_map, option_and_then, List, [], ◌++◌, map, filter_map, flat_map, take, drop, refl, sym, ◌∙◌, ap, subst, arith, ne_eqb}
+use Rattle.std.proofs.Common.{◌≡◌, ℕ, ◌^◌, ◌<◌, ◌==◌, Option, Some, None, option_map, option_and_then, List, [], ◌++◌, map, filter_map}
+use Rattle.std.proofs.Common.{flat_map, take, drop, refl, sym, ◌∙◌, ap, subst, arith, ne_eqb}
 use Rattle.std.specs.Prelude.{IfSome}
 use Rattle.std.specs.List.{AllByRecursion}
 use Rattle.std.proofs.lemmas.Bool.{cond-false}

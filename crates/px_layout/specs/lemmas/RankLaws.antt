@@ -1,5 +1,6 @@
 -- The chunks of a meaning stand in a strict order, so each is there once.
-use Rattle.std.proofs.Common.{◌≡◌, ℕ, ◌+◌, ◌*◌, ◌^◌, ◌<◌, ◌≤◌, nat_lt, Option, Some, None, List, [], ◌∷◌, ◌++◌, map, filter_map, flat_map, sym, subst, arith}
+use Rattle.std.proofs.Common.{◌≡◌, ℕ, ◌+◌, ◌*◌, ◌^◌, ◌<◌, ◌≤◌, nat_lt, Option, Some, None, List, [], ◌∷◌, ◌++◌, map, filter_map, flat_map}
+use Rattle.std.proofs.Common.{sym, subst, arith}
 use Rattle.std.specs.Prelude.{IfSome}
 use Rattle.std.specs.List.{AllByRecursion, cons_option}
 use Rattle.std.proofs.lemmas.Bool.{cond_both}

@@ -1,5 +1,6 @@
 -- What a laid entry means, and that it is in order.
-use Rattle.std.proofs.Common.{◌≡◌, ℕ, ◌≤◌, arith, true, ◌&&◌, ◌||◌, eqb, Some, None, is_some, option_map, option_and_then, List, [], ◌∷◌, map, flat_map, length, refl, ◌∙◌, ap, ap₂}
+use Rattle.std.proofs.Common.{◌≡◌, ℕ, ◌≤◌, arith, true, ◌&&◌, ◌||◌, eqb, Some, None, is_some, option_map, option_and_then, List, [], ◌∷◌}
+use Rattle.std.proofs.Common.{map, flat_map, length, refl, ◌∙◌, ap, ap₂}
 use Rattle.std.specs.List.{AllByRecursion}
 use Rattle.px_bytes.specs.declared.Order.{Order}
 use Rattle.px_bytes.specs.declared.Order.TheVariants.{Least}
@@ -17,9 +18,11 @@ use Rattle.px_field.specs.lemmas.FormLaws.{form_of-code}
 use Rattle.px_tree.specs.calls.Iim.{iim_of}
 use Rattle.px_tree.specs.declared.Dir.{Dir}
 use Rattle.px_tree.specs.declared.Role.{Role}
-use Rattle.px_tree.specs.declared.Role.TheVariants.{Plain, Widened, Forbidden, Record, JpegOffset, JpegLength, StripOffsets, StripLengths, To}
+use Rattle.px_tree.specs.declared.Role.TheVariants.{Plain, Widened, Forbidden, Record, JpegOffset, JpegLength, StripOffsets, StripLengths}
+use Rattle.px_tree.specs.declared.Role.TheVariants.{To}
 use Rattle.px_tree.specs.Roles.{role}
-use Rattle.px_tree.specs.Entry.{Entry, raw, has_form, is_allowed, IsEntry, entry_elements, widened_value, record_in, unless_record, value_in, field}
+use Rattle.px_tree.specs.Entry.{Entry, raw, has_form, is_allowed, IsEntry, entry_elements, widened_value, record_in, unless_record}
+use Rattle.px_tree.specs.Entry.{value_in, field}
 use Rattle.px_tree.specs.Fits.{Item, Field, Iptc, Link, AtJpeg, JpegSize, AtStrips, StripSizes, item_form, item_count, item_size}
 use Rattle.px_layout.specs.Plans.{Plan}
 use Rattle.px_layout.specs.Laid.{item_bytes}

@@ -1,5 +1,7 @@
 -- Where the chunks of a normal form stand, part by part.
-use Rattle.std.proofs.Common.{◌≡◌, ℕ, zero, suc, ◌+◌, ◌<◌, ◌==◌, ◌&&◌, nat_lt, Bool, true, false, Option, Some, None, List, [], ◌∷◌, ◌++◌, map, filter_map, flat_map, take, drop, length, slice_get, unwrap_or, if◌then◌else◌, refl, sym, ◌∙◌, ap, subst, arith, lt-ltb}
+use Rattle.std.proofs.Common.{◌≡◌, ℕ, zero, suc, ◌+◌, ◌<◌, ◌==◌, ◌&&◌, nat_lt, Bool, true, false, Option, Some, None, List, [], ◌∷◌, ◌++◌}
+use Rattle.std.proofs.Common.{map, filter_map, flat_map, take, drop, length, slice_get, unwrap_or, if◌then◌else◌, refl, sym, ◌∙◌, ap, subst}
+use Rattle.std.proofs.Common.{arith, lt-ltb}
 use Rattle.std.specs.List.{AllByRecursion, cons_option}
 use Rattle.std.proofs.lemmas.Bool.{cond-true, cond-false, cond_both}
 use Rattle.px_bytes.specs.lemmas.EachLaws.{each_append}
@@ -12,7 +14,8 @@ use Rattle.px_tree.specs.Faults.{dir_number}
 use Rattle.px_tree.specs.Fits.{Item, item_size, items}
 use Rattle.px_layout.specs.declared.chunks.Chunk.{Chunk}
 use Rattle.px_layout.specs.declared.chunks.Chunk.TheVariants.{Table, Placed, Jpeg, Strip}
-use Rattle.px_layout.specs.Chunks.{same_chunk, placed_chunk, chunks_of_dir, jpeg_chunks, strip_chunks, all_strip_chunks, thumb_chunks, chunks}
+use Rattle.px_layout.specs.Chunks.{same_chunk, placed_chunk, chunks_of_dir, jpeg_chunks, strip_chunks, all_strip_chunks, thumb_chunks}
+use Rattle.px_layout.specs.Chunks.{chunks}
 use Rattle.px_layout.specs.Plans.{place}
 use Rattle.px_layout.specs.Normal.{even, running, padded_size, normal_plan}
 use Rattle.px_layout.specs.lemmas.LineLaws.{same_chunk-self, other_chunk}

@@ -1,5 +1,6 @@
 -- The bytes of each chunk have the chunk's size; so each piece of a legal block stands at its place.
-use Rattle.std.proofs.Common.{◌≡◌, ℕ, ◌+◌, ◌*◌, ◌≤◌, nat_lt, inl, inr, Option, Some, None, option_map, List, [], ◌∷◌, ◌++◌, map, filter_map, flat_map, length, refl, sym, ◌∙◌, ap, ap₂, subst, arith}
+use Rattle.std.proofs.Common.{◌≡◌, ℕ, ◌+◌, ◌*◌, ◌≤◌, nat_lt, inl, inr, Option, Some, None, option_map, List, [], ◌∷◌, ◌++◌, map, filter_map}
+use Rattle.std.proofs.Common.{flat_map, length, refl, sym, ◌∙◌, ap, ap₂, subst, arith}
 use Rattle.std.specs.Prelude.{IfSome}
 use Rattle.std.specs.List.{AllByRecursion, cons_option}
 use Rattle.std.proofs.lemmas.List.{length-append, length-replicate, map-append}
@@ -22,7 +23,8 @@ use Rattle.px_layout.specs.declared.chunks.Chunk.{Chunk}
 use Rattle.px_layout.specs.declared.chunks.Chunk.TheVariants.{Table, Placed, Strip}
 use Rattle.px_layout.specs.Chunks.{placed_chunk, chunks_of_dir, jpeg_chunks, strip_chunks, all_strip_chunks, thumb_chunks, chunks}
 use Rattle.px_layout.specs.Plans.{Plan, place, Legal, plan_ranges}
-use Rattle.px_layout.specs.Laid.{long_bytes, item_bytes, entry_bytes, next_bytes, table_bytes, placed_content, contents_of_dir, jpeg_contents, strip_contents, all_strip_contents, thumb_contents, contents, header, laid_pieces, laid}
+use Rattle.px_layout.specs.Laid.{long_bytes, item_bytes, entry_bytes, next_bytes, table_bytes, placed_content, contents_of_dir}
+use Rattle.px_layout.specs.Laid.{jpeg_contents, strip_contents, all_strip_contents, thumb_contents, contents, header, laid_pieces, laid}
 use Rattle.px_layout.specs.lemmas.StandLaws.{Stands, piece_range, each_stands}
 use Rattle.px_layout.specs.lemmas.ItemLaws.{Suits, length_is, length_entry}
 use Rattle.px_layout.specs.lemmas.EntryLaws.{Good, good_items}

@@ -1,5 +1,7 @@
 -- In a block that is laid out, each piece stands at its place.
-use Rattle.std.proofs.Common.{◌≡◌, ℕ, zero, suc, ◌+◌, ◌-◌, ◌<◌, ◌≤◌, ◌&&◌, nat_lt, nat_le, List, [], ◌∷◌, map, length, drop, get_or, slice_index, refl, sym, ◌∙◌, ap, subst, arith, ltb-true, lt-ltb, le-leb, length-drop, get_or-take, get_or-drop}
+use Rattle.std.proofs.Common.{◌≡◌, ℕ, zero, suc, ◌+◌, ◌-◌, ◌<◌, ◌≤◌, ◌&&◌, nat_lt, nat_le, List, [], ◌∷◌, map, length, drop, get_or}
+use Rattle.std.proofs.Common.{slice_index, refl, sym, ◌∙◌, ap, subst, arith, ltb-true, lt-ltb, le-leb, length-drop, get_or-take}
+use Rattle.std.proofs.Common.{get_or-drop}
 use Rattle.std.specs.List.{AllByRecursion, range_with_len}
 use Rattle.std.proofs.lemmas.Bool.{and_from, and_parts, cond-true, cond-false, leb-true, false_from_ne_true}
 use Rattle.std.proofs.lemmas.List.{same_lists, get_or-map, length-map, length-take-le}

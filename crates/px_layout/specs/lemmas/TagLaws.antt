@@ -1,5 +1,6 @@
 -- Entries found by their tag.
-use Rattle.std.proofs.Common.{◌≡◌, ℕ, ◌^◌, ◌<◌, ◌==◌, inl, inr, nat_lt, true, cond, ◌&&◌, Option, Some, None, option_map, find, List, [], ◌∷◌, map, filter_map, refl, sym, ◌∙◌, ap, ap₂, subst, eqb-true, ne_eqb, eq-eqb, append-nil}
+use Rattle.std.proofs.Common.{◌≡◌, ℕ, ◌^◌, ◌<◌, ◌==◌, inl, inr, nat_lt, true, cond, ◌&&◌, Option, Some, None, option_map, find, List, []}
+use Rattle.std.proofs.Common.{◌∷◌, map, filter_map, refl, sym, ◌∙◌, ap, ap₂, subst, eqb-true, ne_eqb, eq-eqb, append-nil}
 use Rattle.std.specs.Prelude.{IfSome}
 use Rattle.std.specs.List.{AllByRecursion, cons_option}
 use Rattle.std.proofs.lemmas.Bool.{cond-true, cond-false, cond_both, cases_Bool}

@@ -53,12 +53,15 @@ header_refuses b e h = Refuses-more e (header_checks b) (checks_in b (order_of b
 module _ (b : List ℕ) (o : Order) (headed : first_false (header_checks b) ≡ None) (ordered : order_of b ≡ Some o) where
   tree_refuses : (e : Refusal) → Refuses e (tree_checks b o) → Refuses e (checks b)
   unfolding checks
-  tree_refuses e h = Refuses-behind e (header_checks b) (checks_in b (order_of b)) headed (subst (λ (x : Option Order). Refuses e (checks_in b x)) (sym ordered) h)
+  tree_refuses e h =
+      Refuses-behind e (header_checks b) (checks_in b (order_of b)) headed (subst (λ (x : Option Order). Refuses e (checks_in b x))
+      (sym ordered) h)
 
   tree_says : first_false (tree_checks b o) ≡ None → SaysExif b (meaning b o)
   unfolding checks
   tree_says h =
-      let w = judged_well b (none_false (checks b) (all_true (header_checks b) (checks_in b (order_of b)) headed (ap (λ (x : Option Order). first_false (checks_in b x)) ordered ∙ h))) in
+      let w = judged_well b (none_false (checks b) (all_true (header_checks b) (checks_in b (order_of b)) headed
+      (ap (λ (x : Option Order). first_false (checks_in b x)) ordered ∙ h))) in
       let s = w.1 in
       let e : Some o ≡ Some s.order = sym ordered ∙ order_told b s.order s.is_block.begins in
       let q : o ≡ s.order = cc in

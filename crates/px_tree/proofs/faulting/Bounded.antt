@@ -1,5 +1,6 @@
 -- Each fault stands at a place of at most the limit.
-use Rattle.std.proofs.Common.{◌≡◌, ℕ, ◌+◌, ◌*◌, ◌<◌, ◌≤◌, ◌==◌, ◌⊎◌, nat_le, Bool, inl, inr, Option, Some, None, option_map, option_to_list, List, [], ◌∷◌, map, flat_map, length, refl, sym, ap, ◌∙◌, subst, arith, leb-true}
+use Rattle.std.proofs.Common.{◌≡◌, ℕ, ◌+◌, ◌*◌, ◌<◌, ◌≤◌, ◌==◌, ◌⊎◌, nat_le, Bool, inl, inr, Option, Some, None, option_map, option_to_list}
+use Rattle.std.proofs.Common.{List, [], ◌∷◌, map, flat_map, length, refl, sym, ap, ◌∙◌, subst, arith, leb-true}
 use Rattle.std.specs.Prelude.{find, unwrap_or, option_and_then}
 use Rattle.std.specs.List.{AllByRecursion, cons_option}
 use Rattle.std.proofs.lemmas.Bool.{cases_Bool, cond-true, cond-false, and_parts}
@@ -34,7 +35,8 @@ none_next Least = refl
 none_next Most = refl
 
 -- the first entry that passes a test stands at its place
-found_place : (test : Entry → Bool) (p : ℕ) (es : List Entry) (e : Entry) → find test es ≡ Some e → place_of test p es + 12 ≤ p + 12 * length es
+found_place : (test : Entry → Bool) (p : ℕ) (es : List Entry) (e : Entry) → find test es ≡ Some e
+    → place_of test p es + 12 ≤ p + 12 * length es
 found_place test p [] e h = cc
 found_place test p (x ∷ es) e h = elim (cases_Bool (test x)) [
   | inl t ↦ let k : place_of test p (x ∷ es) ≡ p = cond-true (test x) p (place_of test (p + 12) es) t in omega arith
@@ -81,9 +83,11 @@ module _ (b : List ℕ) (o : Order) where
       omega arith
 
   -- an entry that is found stands inside
-  found_bound : (test : Entry → Bool) (a : ℕ) (e : Entry) → find test (entries_at b o a) ≡ Some e → place_of test (a + 2) (entries_at b o a) ≤ length b
+  found_bound : (test : Entry → Bool) (a : ℕ) (e : Entry) → find test (entries_at b o a) ≡ Some e
+      → place_of test (a + 2) (entries_at b o a) ≤ length b
   found_bound test a e h = elim (entries_bound a) [
-    | inl q ↦ let k : find test [] ≡ Some e = ap (λ (es : List Entry). find test es) (sym q.0) ∙ h in let l : ◌≡◌ {A = Option Entry} None (Some e) = k in cc
+    | inl q ↦ let k : find test [] ≡ Some e =
+        ap (λ (es : List Entry). find test es) (sym q.0) ∙ h in let l : ◌≡◌ {A = Option Entry} None (Some e) = k in cc
     | inr l ↦ let k = found_place test (a + 2) (entries_at b o a) e h in omega arith
   ]
 
@@ -91,7 +95,8 @@ module _ (b : List ℕ) (o : Order) where
   unfolding pointer
   pointer_bound t a x h = go (find (is_pointer t) (entries_at b o a)) refl h
     where
-      go : (z : Option Entry) → find (is_pointer t) (entries_at b o a) ≡ z → option_map (offset o) z ≡ Some x → pointer_place b o a t ≤ length b
+      go : (z : Option Entry) → find (is_pointer t) (entries_at b o a) ≡ z → option_map (offset o) z ≡ Some x
+          → pointer_place b o a t ≤ length b
       go None e h = let l : ◌≡◌ {A = Option ℕ} None (Some x) = h in cc
       go (Some f) e h = found_bound (is_pointer t) a f e
 
@@ -102,7 +107,8 @@ module _ (b : List ℕ) (o : Order) where
   named_bound g Gps a h = pointer_bound gps_tag (main_at b o) a h
   named_bound g Interop a h = go (exif_at b o) h
     where
-      go : (z : Option ℕ) → option_and_then (λ a. pointer o interop_tag (entries_at b o a)) z ≡ Some a → pointer_place b o (unwrap_or z 0) interop_tag ≤ length b
+      go : (z : Option ℕ) → option_and_then (λ a. pointer o interop_tag (entries_at b o a)) z ≡ Some a
+          → pointer_place b o (unwrap_or z 0) interop_tag ≤ length b
       go None h = let l : ◌≡◌ {A = Option ℕ} None (Some a) = h in cc
       go (Some x) h = pointer_bound interop_tag x a h
   named_bound g Thumb a h = next_bound (main_at b o) (λ z. let l : ◌≡◌ {A = Option ℕ} None (Some a) = ap unless_zero (sym z) ∙ h in cc)
@@ -116,13 +122,15 @@ module _ (b : List ℕ) (o : Order) where
   near_map q [] l = tt
   near_map q (r ∷ rs) l = (l, near_map q rs l)
 
-  near_option : (q : ℕ) (z : Option Range) (rest : List (ℕ × Range)) → q ≤ length b → AllByRecursion IsNear rest → AllByRecursion IsNear (cons_option (option_map (λ r. (q, r)) z) rest)
+  near_option : (q : ℕ) (z : Option Range) (rest : List (ℕ × Range)) → q ≤ length b → AllByRecursion IsNear rest
+      → AllByRecursion IsNear (cons_option (option_map (λ r. (q, r)) z) rest)
   near_option q None rest l h = h
   near_option q (Some r) rest l h = (l, h)
 
   near_values : (p : ℕ) (es : List Entry) → p + 12 * length es ≤ length b → AllByRecursion IsNear (value_owners o p es)
   near_values p [] l = tt
-  near_values p (e ∷ es) l = near_option p (placed_range o e) (value_owners o (p + 12) es) (omega arith) (near_values (p + 12) es (omega arith))
+  near_values p (e ∷ es) l =
+      near_option p (placed_range o e) (value_owners o (p + 12) es) (omega arith) (near_values (p + 12) es (omega arith))
 
   near_dir : Begins b o → (d : Dir) (a : ℕ) → dir_at b o d ≡ Some a → AllByRecursion IsNear (dir_owners b o d a)
   unfolding dir_owners
@@ -140,23 +148,30 @@ module _ (b : List ℕ) (o : Order) where
 
   near_dirs : Begins b o → (ds : List Dir) → AllByRecursion IsNear (flat_map (owners_at b o) ds)
   near_dirs g [] = tt
-  near_dirs g (d ∷ ds) = each_append IsNear (owners_at b o d) (flat_map (owners_at b o) ds) (near_at g d (dir_at b o d) refl) (near_dirs g ds)
+  near_dirs g (d ∷ ds) =
+      each_append IsNear (owners_at b o d) (flat_map (owners_at b o) ds) (near_at g d (dir_at b o d) refl) (near_dirs g ds)
 
   module _ (a : ℕ) where
     abbrev es : List Entry
     es = entries_at b o a
 
-    near_jpeg : (x n : Option Entry) → entry_with jpeg_offset_tag es ≡ x → AllByRecursion IsNear (map (λ r. (place_with jpeg_offset_tag (a + 2) es, r)) (option_to_list (both (λ x n. range (offset o x) (offset o n)) x n)))
+    near_jpeg : (x n : Option Entry) → entry_with jpeg_offset_tag es ≡ x
+        → AllByRecursion IsNear (map (λ r. (place_with jpeg_offset_tag (a + 2) es, r))
+        (option_to_list (both (λ x n. range (offset o x) (offset o n)) x n)))
     near_jpeg None None h = tt
     near_jpeg None (Some n) h = tt
     near_jpeg (Some x) None h = tt
     near_jpeg (Some x) (Some n) h = (found_bound (λ e. e.tag == jpeg_offset_tag) a x h, tt)
 
-    near_strips : (x n : Option Entry) → entry_with strip_offsets_tag es ≡ x → AllByRecursion IsNear (map (λ r. (place_with strip_offsets_tag (a + 2) es, r)) (listed (both (λ x n. ranges_of (numbers b o x) (numbers b o n)) x n)))
+    near_strips : (x n : Option Entry) → entry_with strip_offsets_tag es ≡ x
+        → AllByRecursion IsNear (map (λ r. (place_with strip_offsets_tag (a + 2) es, r))
+        (listed (both (λ x n. ranges_of (numbers b o x) (numbers b o n)) x n)))
     near_strips None None h = tt
     near_strips None (Some n) h = tt
     near_strips (Some x) None h = tt
-    near_strips (Some x) (Some n) h = near_map (place_with strip_offsets_tag (a + 2) es) (ranges_of (numbers b o x) (numbers b o n)) (found_bound (λ e. e.tag == strip_offsets_tag) a x h)
+    near_strips (Some x) (Some n) h =
+        near_map (place_with strip_offsets_tag (a + 2) es) (ranges_of (numbers b o x) (numbers b o n))
+        (found_bound (λ e. e.tag == strip_offsets_tag) a x h)
 
     near_thumb : AllByRecursion IsNear (thumb_owners b o a)
     unfolding thumb_owners jpeg_range strip_ranges
@@ -172,7 +187,11 @@ module _ (b : List ℕ) (o : Order) where
 
   near_owners : Begins b o → AllByRecursion IsNear (owners b o)
   unfolding owners
-  near_owners g = ((let l : 0 ≤ length b = omega arith in l), each_append IsNear (flat_map (owners_at b o) dirs) (listed (option_map (thumb_owners b o) (dir_at b o Thumb))) (near_dirs g dirs) (near_thumb_at (dir_at b o Thumb)))
+  near_owners g = (
+    (let l : 0 ≤ length b = omega arith in l),
+    each_append IsNear (flat_map (owners_at b o) dirs)
+        (listed (option_map (thumb_owners b o) (dir_at b o Thumb))) (near_dirs g dirs) (near_thumb_at (dir_at b o Thumb)),
+  )
 
 pub fault_bounded : (b : List ℕ) (c : Cause) (p : ℕ) → length b ≤ limit → Fault b c p → p ≤ limit
 fault_bounded b cause.TooLong p l f = let e = f.0 in omega arith
@@ -181,7 +200,8 @@ fault_bounded b cause.HeaderCut p l f = let e = f.0 in omega arith
 fault_bounded b cause.Loop p l f = let r = f.4 in let k = named_bound b f.0 r.0 f.1 f.3 r.1 in let e = f.7 in omega arith
 fault_bounded b cause.DirectoryOutside p l f = let r = f.3 in let k = named_bound b f.0 r.0 f.1 f.2 r.1 in let e = f.4 in omega arith
 fault_bounded b cause.EmptyDirectory p l f = let k = f.3 in omega arith
-fault_bounded b cause.Overlap p l f = let k : p ≤ length b = all_at (IsNear b f.0) (owners b f.0) f.2 (p, f.5) (near_owners b f.0 f.7) f.10 in omega arith
+fault_bounded b cause.Overlap p l f =
+    let k : p ≤ length b = all_at (IsNear b f.0) (owners b f.0) f.2 (p, f.5) (near_owners b f.0 f.7) f.10 in omega arith
 fault_bounded b cause.Unsorted p l f = let k = entry_bound b f.0 f.1 (f.2 + 1) p f.5 f.7 in omega arith
 fault_bounded b cause.Doubled p l f = let k = entry_bound b f.0 f.1 (f.2 + 1) p f.5 f.7 in omega arith
 fault_bounded b cause.UnknownType p l f = let k = entry_bound b f.0 f.1 f.2 p f.3 f.4 in omega arith

@@ -1,5 +1,6 @@
 -- A list of checks tells faults: where the checks before it hold, a false one gives its fault.
-use Rattle.std.proofs.Common.{◌≡◌, ℕ, ◌+◌, ◌<◌, ◌≤◌, inl, inr, true, false, not, Option, Some, None, option_map, List, [], ◌∷◌, ◌++◌, length, sym, ◌∙◌, subst, arith}
+use Rattle.std.proofs.Common.{◌≡◌, ℕ, ◌+◌, ◌<◌, ◌≤◌, inl, inr, true, false, not, Option, Some, None, option_map, List, [], ◌∷◌, ◌++◌}
+use Rattle.std.proofs.Common.{length, sym, ◌∙◌, subst, arith}
 use Rattle.std.specs.Prelude.{IfSome, option_to_list}
 use Rattle.std.specs.List.{AllByRecursion, cons_option}
 use Rattle.std.proofs.lemmas.Bool.{cases_Bool, cond-true, cond-false, and_cases, not-false}
@@ -31,7 +32,8 @@ first_told b [] c p h e = cc
 first_told b (k ∷ cs) c p h e = elim (cases_Bool k.holds) [
   | inl t ↦ first_told b cs c p (h.1 t) (sym (cond-true k.holds (first_false cs) (Some (k.cause, k.place)) t) ∙ e)
   | inr t ↦
-      let q : ◌≡◌ {A = Option (Cause × ℕ)} (Some (k.cause, k.place)) (Some (c, p)) = sym (cond-false k.holds (first_false cs) (Some (k.cause, k.place)) t) ∙ e in
+      let q : ◌≡◌ {A = Option (Cause × ℕ)} (Some (k.cause, k.place)) (Some (c, p)) =
+      sym (cond-false k.holds (first_false cs) (Some (k.cause, k.place)) t) ∙ e in
       let r : ◌≡◌ {A = Cause × ℕ} (k.cause, k.place) (c, p) = cc in
       subst (λ (f : Cause × ℕ). Fault b f.0 f.1) r (h.0 t)
 ]
@@ -51,16 +53,20 @@ module _ (b : List ℕ) (o : Order) where
   Held k held = AllByRecursion (IsOwned k) held
 
   later : (k l : ℕ) → k ≤ l → (r : Range) → IsOwned k r → IsOwned l r
-  later k l h r w = record { index = w.index; place = w.place; before = (let n = w.before in omega arith); owner = w.owner; inside = w.inside }
+  later k l h r w =
+      record { index = w.index; place = w.place; before = (let n = w.before in omega arith); owner = w.owner; inside = w.inside }
 
   pub held_later : (k l : ℕ) (held : List Range) → k ≤ l → Held k held → Held l held
   held_later k l held h w = each_map (IsOwned k) (IsOwned l) (later k l h) held w
 
   -- the next owner is held too
-  pub held_cons : (k p : ℕ) (r : Range) (held : List Range) → At (owners b o) k (p, r) → IsInside b r → Held k held → Held (k + 1) (r ∷ held)
-  held_cons k p r held a i h = (record { index = k; place = p; before = omega arith; owner = a; inside = i }, held_later k (k + 1) held (omega arith) h)
+  pub held_cons : (k p : ℕ) (r : Range) (held : List Range) → At (owners b o) k (p, r) → IsInside b r → Held k held
+      → Held (k + 1) (r ∷ held)
+  held_cons k p r held a i h =
+      (record { index = k; place = p; before = omega arith; owner = a; inside = i }, held_later k (k + 1) held (omega arith) h)
 
-  held_ranges : (k : ℕ) (xs : List (ℕ × Range)) → From (owners b o) k xs → AllByRecursion (IsInside b) (ranges xs) → Held (k + length xs) (ranges xs)
+  held_ranges : (k : ℕ) (xs : List (ℕ × Range)) → From (owners b o) k xs → AllByRecursion (IsInside b) (ranges xs)
+      → Held (k + length xs) (ranges xs)
   held_ranges k [] f i = tt
   held_ranges k (x ∷ xs) f i =
       let z : k + 1 + length xs ≡ k + length (x ∷ xs) = omega arith in (
@@ -69,7 +75,8 @@ module _ (b : List ℕ) (o : Order) where
       )
 
   -- and so are the next owners
-  pub held_append : (k : ℕ) (xs : List (ℕ × Range)) (rs held : List Range) → ranges xs ≡ rs → From (owners b o) k xs → AllByRecursion (IsInside b) rs → Held k held → Held (k + length xs) (rs ++ held)
+  pub held_append : (k : ℕ) (xs : List (ℕ × Range)) (rs held : List Range) → ranges xs ≡ rs → From (owners b o) k xs
+      → AllByRecursion (IsInside b) rs → Held k held → Held (k + length xs) (rs ++ held)
   held_append k xs rs held e f i h = each_append (IsOwned (k + length xs)) rs held
       (subst (Held (k + length xs)) e (held_ranges k xs f (subst (AllByRecursion (IsInside b)) (sym e) i)))
       (held_later k (k + length xs) held (omega arith) h)
@@ -77,7 +84,8 @@ module _ (b : List ℕ) (o : Order) where
   -- ---- overlaps
 
   -- an owner whose range is not free shares a byte with one before it
-  pub overlap_told : Begins b o → (k p : ℕ) (s : Range) (held : List Range) → At (owners b o) k (p, s) → Held k held → IsInside b s → is_free held s ≡ false → Fault b Overlap p
+  pub overlap_told : Begins b o → (k p : ℕ) (s : Range) (held : List Range) → At (owners b o) k (p, s) → Held k held → IsInside b s
+      → is_free held s ≡ false → Fault b Overlap p
   overlap_told g k p s [] a h i e = cc
   overlap_told g k p s (r ∷ held) a h i e = elim (and_cases (not (shares s r)) (is_free held s) e) [
     | inl q ↦
@@ -92,11 +100,14 @@ module _ (b : List ℕ) (o : Order) where
     abbrev Next : Option Range → Type 0
     Next z = From (owners b o) k (cons_option (option_map (λ r. (p, r)) z) rest)
 
-    pub value_told : Begins b o → (z : Option Range) (held : List Range) → Next z → Held k held → IfSome z (IsInside b) → is_free_value held z ≡ false → Fault b Overlap p
+    pub value_told : Begins b o → (z : Option Range) (held : List Range) → Next z → Held k held → IfSome z (IsInside b)
+        → is_free_value held z ≡ false → Fault b Overlap p
     value_told g None held f h i e = cc
     value_told g (Some r) held f h i e = overlap_told g k p r held (from_head (owners b o) k (p, r) rest f) h i e
 
     -- what is held behind it
-    pub after_value : (z : Option Range) (held : List Range) → Next z → Held k held → IfSome z (IsInside b) → (l : ℕ) × From (owners b o) l rest × Held l (option_to_list z ++ held)
+    pub after_value : (z : Option Range) (held : List Range) → Next z → Held k held → IfSome z (IsInside b)
+        → (l : ℕ) × From (owners b o) l rest × Held l (option_to_list z ++ held)
     after_value None held f h i = (k, f, h)
-    after_value (Some r) held f h i = (k + 1, from_tail (owners b o) k (p, r) rest f, held_cons k p r held (from_head (owners b o) k (p, r) rest f) i h)
+    after_value (Some r) held f h i =
+        (k + 1, from_tail (owners b o) k (p, r) rest f, held_cons k p r held (from_head (owners b o) k (p, r) rest f) i h)

@@ -1,5 +1,6 @@
 -- The first fault stands: all checks of a block tell faults.
-use Rattle.std.proofs.Common.{◌≡◌, ℕ, ◌+◌, ◌≤◌, ◌||◌, nat_lt, inl, inr, true, false, Option, Some, None, option_map, List, [], ◌∷◌, ◌++◌, flat_map, length, take, refl, sym, subst, arith, leb-true, leb-false, ltb-false}
+use Rattle.std.proofs.Common.{◌≡◌, ℕ, ◌+◌, ◌≤◌, ◌||◌, nat_lt, inl, inr, true, false, Option, Some, None, option_map, List, [], ◌∷◌, ◌++◌}
+use Rattle.std.proofs.Common.{flat_map, length, take, refl, sym, subst, arith, leb-true, leb-false, ltb-false}
 use Rattle.std.specs.Prelude.{IfSome}
 use Rattle.std.proofs.lemmas.Bool.{and_cases, or_parts, both_ways}
 use Rattle.px_bytes.specs.declared.Order.{Order}
@@ -12,7 +13,8 @@ use Rattle.px_tree.specs.declared.roles.Dir.TheVariants.{Thumb}
 use Rattle.px_tree.specs.Entry.{IsDirectory}
 use Rattle.px_tree.specs.Directory.{magic, dirs, dir_at}
 use Rattle.px_tree.specs.Footprint.{listed}
-use Rattle.px_tree.specs.Checks.{same_bytes, order_of, begins_header, header_checks, dirs_checks, dirs_held, thumb_checks_at, tree_checks, checks_in, checks, FirstFault}
+use Rattle.px_tree.specs.Checks.{same_bytes, order_of, begins_header, header_checks, dirs_checks, dirs_held, thumb_checks_at, tree_checks}
+use Rattle.px_tree.specs.Checks.{checks_in, checks, FirstFault}
 use Rattle.px_tree.specs.Faults.{Begins, owners_at, thumb_owners, owners, Fault}
 use Rattle.px_tree.proofs.lists.At.{From, from_all, from_head, from_tail, from_left, from_right}
 use Rattle.px_tree.proofs.saying.Judged.{dirs_facts, bytes-self, begun, order_told}
@@ -23,15 +25,22 @@ use Rattle.px_tree.proofs.faulting.ToldThumb.{thumb_tells}
 -- ---- the header
 
 kind_told : (b : List ℕ) → begins_header b ≡ false → Fault b cause.UnknownKind 0
-kind_told b h = elim (and_cases (nat_lt 0 (length b)) (same_bytes (take 4 b) (take (length b) (magic Least)) || same_bytes (take 4 b) (take (length b) (magic Most))) h) [
-  | inl n ↦ let l : length b ≤ 0 = ltb-false 0 (length b) n in (refl, inl (omega arith))
-  | inr n ↦ (refl, inr (neither (or_parts (same_bytes (take 4 b) (take (length b) (magic Least))) (same_bytes (take 4 b) (take (length b) (magic Most))) n)))
-]
+kind_told b h =
+    elim (and_cases (nat_lt 0 (length b)) (same_bytes (take 4 b) (take (length b) (magic Least)) || same_bytes (take 4 b)
+    (take (length b) (magic Most))) h) [
+      | inl n ↦ let l : length b ≤ 0 = ltb-false 0 (length b) n in (refl, inl (omega arith))
+      | inr n ↦ (
+        refl,
+        inr (neither (or_parts (same_bytes (take 4 b) (take (length b) (magic Least)))
+            (same_bytes (take 4 b) (take (length b) (magic Most))) n)),
+      )
+    ]
   where
     differ : (x y : List ℕ) → same_bytes x y ≡ false → x ≡ y → ⊥
     differ x y n q = both_ways (same_bytes x y) n (subst (λ y. same_bytes x y ≡ true) q (bytes-self x))
 
-    neither : (same_bytes (take 4 b) (take (length b) (magic Least)) ≡ false) × (same_bytes (take 4 b) (take (length b) (magic Most)) ≡ false) → (o : Order) → take 4 b ≡ take (length b) (magic o) → ⊥
+    neither : (same_bytes (take 4 b) (take (length b) (magic Least)) ≡ false) ×
+        (same_bytes (take 4 b) (take (length b) (magic Most)) ≡ false) → (o : Order) → take 4 b ≡ take (length b) (magic o) → ⊥
     neither n Least q = differ (take 4 b) (take (length b) (magic Least)) n.0 q
     neither n Most q = differ (take 4 b) (take (length b) (magic Most)) n.1 q
 
@@ -44,7 +53,8 @@ header_tells b = (
 -- ---- the tree
 
 module _ (b : List ℕ) (o : Order) (begins : Begins b o) where
-  thumb_tells_at : (z : Option ℕ) → dir_at b o Thumb ≡ z → IfSome z (IsDirectory b o Thumb) → (held : List Range) (k : ℕ) → From (owners b o) k (listed (option_map (thumb_owners b o) z)) → Held b o k held → Tells b (thumb_checks_at b o held z)
+  thumb_tells_at : (z : Option ℕ) → dir_at b o Thumb ≡ z → IfSome z (IsDirectory b o Thumb) → (held : List Range) (k : ℕ)
+      → From (owners b o) k (listed (option_map (thumb_owners b o) z)) → Held b o k held → Tells b (thumb_checks_at b o held z)
   thumb_tells_at None q i held k f g = tt
   thumb_tells_at (Some a) q i held k f g = thumb_tells b o a (begins, q) i.each held k f g
 
@@ -65,7 +75,17 @@ module _ (b : List ℕ) (o : Order) (begins : Begins b o) where
   behind = from_tail (owners b o) 0 (0, range 0 8) (in_dirs ++ in_thumb) whole
 
   header_held : Held b o 1 header
-  header_held = (record { index = 0; place = 0; before = omega arith; owner = from_head (owners b o) 0 (0, range 0 8) (in_dirs ++ in_thumb) whole; inside = begins.0 }, tt)
+  header_held = (
+    record {
+      index =
+          0;
+      place = 0;
+      before = omega arith;
+      owner = from_head (owners b o) 0 (0, range 0 8) (in_dirs ++ in_thumb) whole;
+      inside = begins.0;
+    },
+    tt,
+  )
 
   tree_tells : Tells b (tree_checks b o)
   unfolding tree_checks

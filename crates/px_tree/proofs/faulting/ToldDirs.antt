@@ -1,5 +1,7 @@
 -- The checks of the directories tell faults.
-use Rattle.std.proofs.Common.{◌≡◌, ℕ, ◌+◌, ◌*◌, ◌<◌, ◌==◌, nat_le, inl, inr, true, false, Option, Some, None, is_some, option_map, List, [], ◌∷◌, ◌++◌, filter_map, flat_map, length, refl, sym, ◌∙◌, ap, subst, arith, leb-true, leb-false, eqb-true, length-append}
+use Rattle.std.proofs.Common.{◌≡◌, ℕ, ◌+◌, ◌*◌, ◌<◌, ◌==◌, nat_le, inl, inr, true, false, Option, Some, None, is_some, option_map, List, []}
+use Rattle.std.proofs.Common.{◌∷◌, ◌++◌, filter_map, flat_map, length, refl, sym, ◌∙◌, ap, subst, arith, leb-true, leb-false, eqb-true}
+use Rattle.std.proofs.Common.{length-append}
 use Rattle.std.specs.Prelude.{IfSome, option_to_list}
 use Rattle.std.specs.List.{AllByRecursion, cons_option}
 use Rattle.std.proofs.lemmas.Bool.{cases_Bool, cond-true, cond-false, or_cases, not-false, and_parts}
@@ -17,12 +19,14 @@ use Rattle.px_tree.specs.Entry.{Entry, short, table_size, has_table, has_raw, is
 use Rattle.px_tree.specs.Directory.{dir_at, entries_at}
 use Rattle.px_tree.specs.Thumbnail.{IsInside}
 use Rattle.px_tree.specs.Footprint.{listed, placed_range, table_range, dir_ranges, ranges_at}
-use Rattle.px_tree.specs.Checks.{is_not_below, differs, entry_checks, entries_checks, is_earlier_at, opening_checks, dir_checks, named_at, checks_at, dirs_checks, dirs_held}
+use Rattle.px_tree.specs.Checks.{is_not_below, differs, entry_checks, entries_checks, is_earlier_at, opening_checks, dir_checks, named_at}
+use Rattle.px_tree.specs.Checks.{checks_at, dirs_checks, dirs_held}
 use Rattle.px_tree.specs.Faults.{At, Begins, Reached, EntryAt, dir_number, value_owners, dir_owners, owners_at, owners, Fault}
 use Rattle.px_tree.proofs.saying.Owned.{ranges-owners_at}
 use Rattle.px_tree.proofs.lists.At.{From, from_all, from_head, from_tail, from_left, from_right}
 use Rattle.px_tree.proofs.saying.Judged.{AllHold, at_facts}
-use Rattle.px_tree.proofs.faulting.Told.{Tells, tells_append, Held, held_later, held_cons, held_append, overlap_told, value_told, after_value}
+use Rattle.px_tree.proofs.faulting.Told.{Tells, tells_append, Held, held_later, held_cons, held_append, overlap_told, value_told}
+use Rattle.px_tree.proofs.faulting.Told.{after_value}
 
 module _ (b : List ℕ) (o : Order) (begins : Begins b o) where
   -- the offsets are those of directories before number m
@@ -34,7 +38,8 @@ module _ (b : List ℕ) (o : Order) (begins : Begins b o) where
   unfolding placed_range has_raw
   value_inside e h = elim (cases_Bool (is_placed e)) [
     | inl t ↦ subst (λ z. IfSome z (IsInside b)) (sym (cond-true (is_placed e) (Some (range (offset o e) (raw_size e))) None t))
-        (leb-true (offset o e + raw_size e) (length b) (sym (cond-true (is_placed e) (nat_le (offset o e + raw_size e) (length b)) true t) ∙ h))
+        (leb-true (offset o e + raw_size e) (length b) (sym (cond-true (is_placed e) (nat_le (offset o e + raw_size e) (length b)) true t)
+        ∙ h))
     | inr t ↦ subst (λ z. IfSome z (IsInside b)) (sym (cond-false (is_placed e) (Some (range (offset o e) (raw_size e))) None t)) tt
   ]
 
@@ -46,13 +51,15 @@ module _ (b : List ℕ) (o : Order) (begins : Begins b o) where
     Previous None n = Unit {0}
     Previous (Some t) n = (i : ℕ) × (e : Entry) × At (entries_at b o a) i e × (n ≡ i + 1) × (e.tag ≡ t)
 
-    unsorted_told : (u : Option ℕ) (n p : ℕ) (f : Entry) → Previous u n → EntryAt b o d n p f → is_not_below u f.tag ≡ false → Fault b cause.Unsorted p
+    unsorted_told : (u : Option ℕ) (n p : ℕ) (f : Entry) → Previous u n → EntryAt b o d n p f → is_not_below u f.tag ≡ false
+        → Fault b cause.Unsorted p
     unsorted_told None n p f w x h = cc
     unsorted_told (Some t) n p f (i, e, k, q, g) x h =
         let l : f.tag < t = leb-false t f.tag h in
         (o, d, i, a + 2 + 12 * i, e, f, (a, reached, k, refl), subst (λ n. EntryAt b o d n p f) q x, (omega arith))
 
-    doubled_told : (u : Option ℕ) (n p : ℕ) (f : Entry) → Previous u n → EntryAt b o d n p f → differs u f.tag ≡ false → Fault b cause.Doubled p
+    doubled_told : (u : Option ℕ) (n p : ℕ) (f : Entry) → Previous u n → EntryAt b o d n p f → differs u f.tag ≡ false
+        → Fault b cause.Doubled p
     doubled_told None n p f w x h = cc
     doubled_told (Some t) n p f (i, e, k, q, g) x h =
         let l : t ≡ f.tag = eqb-true t f.tag (not-false (t == f.tag) h) in
@@ -66,7 +73,9 @@ module _ (b : List ℕ) (o : Order) (begins : Begins b o) where
     forbidden_from Forbidden h = refl
     forbidden_from _ h = cc
 
-    entry_tells : (held : List Range) (p n k : ℕ) (u : Option ℕ) (e : Entry) (rest : List (ℕ × Range)) → EntryAt b o d n p e → Previous u n → From (owners b o) k (cons_option (option_map (λ r. (p, r)) (placed_range o e)) rest) → Held b o k held → Tells b (entry_checks b o d held p u e)
+    entry_tells : (held : List Range) (p n k : ℕ) (u : Option ℕ) (e : Entry) (rest : List (ℕ × Range)) → EntryAt b o d n p e → Previous u n
+        → From (owners b o) k (cons_option (option_map (λ r. (p, r)) (placed_range o e)) rest) → Held b o k held
+        → Tells b (entry_checks b o d held p u e)
     unfolding entry_checks
     entry_tells held p n k u e rest x w f g = (
       unsorted_told u n p e w x,
@@ -93,11 +102,13 @@ module _ (b : List ℕ) (o : Order) (begins : Begins b o) where
     raw_holds held p u e h = h.1.1.1.1.1.0
 
     -- entry n and those behind it, where owner k is the next
-    entries_tell : (held : List Range) (p n k : ℕ) (u : Option ℕ) (es : List Entry) → From (entries_at b o a) n es → p ≡ a + 2 + 12 * n → Previous u n → From (owners b o) k (value_owners o p es) → Held b o k held → Tells b (entries_checks b o d held p u es)
+    entries_tell : (held : List Range) (p n k : ℕ) (u : Option ℕ) (es : List Entry) → From (entries_at b o a) n es → p ≡ a + 2 + 12 * n
+        → Previous u n → From (owners b o) k (value_owners o p es) → Held b o k held → Tells b (entries_checks b o d held p u es)
     entries_tell held p n k u [] c q w f g = tt
     entries_tell held p n k u (e ∷ es) c q w f g =
         let here : At (entries_at b o a) n e = from_head (entries_at b o a) n e es c in
-        tells_append b (entry_checks b o d held p u e) (entries_checks b o d (option_to_list (placed_range o e) ++ held) (p + 12) (Some e.tag) es)
+        tells_append b (entry_checks b o d held p u e) (entries_checks b o d (option_to_list (placed_range o e) ++ held) (p + 12)
+        (Some e.tag) es)
         (entry_tells held p n k u e (value_owners o (p + 12) es) (a, reached, here, q) w f g)
         (λ all.
         let s = after_value b o p k (value_owners o (p + 12) es) (placed_range o e) held f g (value_inside e (raw_holds held p u e all)) in
@@ -113,13 +124,16 @@ module _ (b : List ℕ) (o : Order) (begins : Begins b o) where
       | inr t ↦ loop_told xs w.1 t
     ]
 
-    dir_tells : (earlier : List ℕ) (held : List Range) (k : ℕ) → Before (dir_number d) earlier → From (owners b o) k (dir_owners b o d a) → Held b o k held → Tells b (dir_checks b o earlier held (named_at b o d) d a)
+    dir_tells : (earlier : List ℕ) (held : List Range) (k : ℕ) → Before (dir_number d) earlier → From (owners b o) k (dir_owners b o d a)
+        → Held b o k held → Tells b (dir_checks b o earlier held (named_at b o d) d a)
     unfolding dir_checks dir_owners
     dir_tells earlier held k w f g =
         let n = short o (part b a 2) in
         let p = named_at b o d in
-        let here : At (owners b o) k (p, table_range b o a) = from_head (owners b o) k (p, table_range b o a) (value_owners o (a + 2) (entries_at b o a)) f in
-        tells_append b (opening_checks b o earlier held p a) (entries_checks b o d (table_range b o a ∷ held) (a + 2) None (entries_at b o a)) (
+        let here : At (owners b o) k (p, table_range b o a) =
+        from_head (owners b o) k (p, table_range b o a) (value_owners o (a + 2) (entries_at b o a)) f in
+        tells_append b (opening_checks b o earlier held p a) (entries_checks b o d (table_range b o a ∷ held) (a + 2) None
+        (entries_at b o a)) (
           λ h. loop_told earlier w (not-false (is_earlier_at earlier a) h),
           λ _. (
             λ h. (o, d, a, reached, refl, (let l : length b < a + 2 = leb-false (a + 2) (length b) h in omega arith)),
@@ -132,7 +146,8 @@ module _ (b : List ℕ) (o : Order) (begins : Begins b o) where
             ),
           ),
         )
-        (λ all. entries_tell (table_range b o a ∷ held) (a + 2) 0 (k + 1) None (entries_at b o a) (from_all (entries_at b o a)) (omega arith) tt
+        (λ all. entries_tell (table_range b o a ∷ held) (a + 2) 0 (k + 1) None (entries_at b o a) (from_all (entries_at b o a))
+        (omega arith) tt
         (from_tail (owners b o) k (p, table_range b o a) (value_owners o (a + 2) (entries_at b o a)) f)
         (held_cons b o k p (table_range b o a) held here (leb-true (a + table_size n) (length b) all.1.1.1.0) g))
 
@@ -143,45 +158,59 @@ module _ (b : List ℕ) (o : Order) (begins : Begins b o) where
   Numbered m [] = Unit {0}
   Numbered m (d ∷ ds) = (dir_number d ≡ m) × Numbered (m + 1) ds
 
-  at_tells : (d : Dir) (z : Option ℕ) → dir_at b o d ≡ z → (earlier : List ℕ) (held : List Range) (k : ℕ) → Before (dir_number d) earlier → From (owners b o) k (listed (option_map (dir_owners b o d) z)) → Held b o k held → Tells b (checks_at b o earlier held d z)
+  at_tells : (d : Dir) (z : Option ℕ) → dir_at b o d ≡ z → (earlier : List ℕ) (held : List Range) (k : ℕ) → Before (dir_number d) earlier
+      → From (owners b o) k (listed (option_map (dir_owners b o d) z)) → Held b o k held → Tells b (checks_at b o earlier held d z)
   at_tells d None q earlier held k w f g = tt
   at_tells d (Some a) q earlier held k w f g = dir_tells d a (begins, q) earlier held k w f g
 
-  before_more : (d : Dir) (z : Option ℕ) → dir_at b o d ≡ z → (m : ℕ) (earlier : List ℕ) → dir_number d ≡ m → Before m earlier → Before (m + 1) (option_to_list z ++ earlier)
+  before_more : (d : Dir) (z : Option ℕ) → dir_at b o d ≡ z → (m : ℕ) (earlier : List ℕ) → dir_number d ≡ m → Before m earlier
+      → Before (m + 1) (option_to_list z ++ earlier)
   before_more d z q m earlier l w = add z q
     where
       rest : Before (m + 1) earlier
-      rest = each_map (λ x. (e : Dir) × (dir_number e < m) × (dir_at b o e ≡ Some x)) (λ x. (e : Dir) × (dir_number e < m + 1) × (dir_at b o e ≡ Some x)) (λ x e. (e.0, (let n = e.1 in omega arith), e.2)) earlier w
+      rest = each_map (λ x. (e : Dir) × (dir_number e < m) × (dir_at b o e ≡ Some x))
+          (λ x. (e : Dir) × (dir_number e < m + 1) × (dir_at b o e ≡ Some x)) (λ x e. (e.0, (let n = e.1 in omega arith), e.2)) earlier w
 
       add : (z : Option ℕ) → dir_at b o d ≡ z → Before (m + 1) (option_to_list z ++ earlier)
       add None q = rest
       add (Some a) q = ((d, omega arith, q), rest)
 
   -- the ranges of a directory in order stand inside
-  cons_inside : (z : Option Range) (rs : List Range) → IfSome z (IsInside b) → AllByRecursion (IsInside b) rs → AllByRecursion (IsInside b) (cons_option z rs)
+  cons_inside : (z : Option Range) (rs : List Range) → IfSome z (IsInside b) → AllByRecursion (IsInside b) rs
+      → AllByRecursion (IsInside b) (cons_option z rs)
   cons_inside None rs i h = h
   cons_inside (Some r) rs i h = (i, h)
 
-  values_inside : (d : Dir) (es : List Entry) → AllByRecursion (IsEntry b o d) es → AllByRecursion (IsInside b) (filter_map (placed_range o) es)
+  values_inside : (d : Dir) (es : List Entry) → AllByRecursion (IsEntry b o d) es
+      → AllByRecursion (IsInside b) (filter_map (placed_range o) es)
   values_inside d [] h = tt
-  values_inside d (e ∷ es) h = cons_inside (placed_range o e) (filter_map (placed_range o) es) (value_inside e h.0.inside) (values_inside d es h.1)
+  values_inside d (e ∷ es) h =
+      cons_inside (placed_range o e) (filter_map (placed_range o) es) (value_inside e h.0.inside) (values_inside d es h.1)
 
-  dir_inside : (d : Dir) (z : Option ℕ) → IfSome z (IsDirectory b o d) → AllByRecursion (IsInside b) (listed (option_map (dir_ranges b o) z))
+  dir_inside : (d : Dir) (z : Option ℕ) → IfSome z (IsDirectory b o d)
+      → AllByRecursion (IsInside b) (listed (option_map (dir_ranges b o) z))
   unfolding dir_ranges has_table
   dir_inside d None h = tt
   dir_inside d (Some a) h =
-      let n = short o (part b a 2) in
-      (leb-true (a + table_size n) (length b) (and_parts (nat_le 1 n) (nat_le (a + table_size n) (length b)) h.there).1, values_inside d (entries_at b o a) h.each)
+      let n = short o (part b a 2) in (
+        leb-true (a + table_size n) (length b) (and_parts (nat_le 1 n) (nat_le (a + table_size n) (length b)) h.there).1,
+        values_inside d
+            (entries_at b o a) h.each,
+      )
 
   -- what is held behind a directory in order
-  after_dir : (d : Dir) (held : List Range) (k : ℕ) → IfSome (dir_at b o d) (IsDirectory b o d) → From (owners b o) k (owners_at b o d) → Held b o k held → Held b o (k + length (owners_at b o d)) (ranges_at b o d ++ held)
-  after_dir d held k i f g = held_append b o k (owners_at b o d) (ranges_at b o d) held (ranges-owners_at b o d) f (dir_inside d (dir_at b o d) i) g
+  after_dir : (d : Dir) (held : List Range) (k : ℕ) → IfSome (dir_at b o d) (IsDirectory b o d) → From (owners b o) k (owners_at b o d)
+      → Held b o k held → Held b o (k + length (owners_at b o d)) (ranges_at b o d ++ held)
+  after_dir d held k i f g =
+      held_append b o k (owners_at b o d) (ranges_at b o d) held (ranges-owners_at b o d) f (dir_inside d (dir_at b o d) i) g
 
-  pub dirs_tell : (m : ℕ) (ds : List Dir) (earlier : List ℕ) (held : List Range) (k : ℕ) → Numbered m ds → Before m earlier → From (owners b o) k (flat_map (owners_at b o) ds) → Held b o k held → Tells b (dirs_checks b o earlier held ds)
+  pub dirs_tell : (m : ℕ) (ds : List Dir) (earlier : List ℕ) (held : List Range) (k : ℕ) → Numbered m ds → Before m earlier
+      → From (owners b o) k (flat_map (owners_at b o) ds) → Held b o k held → Tells b (dirs_checks b o earlier held ds)
   dirs_tell m [] earlier held k n w f g = tt
   dirs_tell m (d ∷ ds) earlier held k n w f g =
       let here : From (owners b o) k (owners_at b o d) = from_left (owners b o) k (owners_at b o d) (flat_map (owners_at b o) ds) f in
-      tells_append b (checks_at b o earlier held d (dir_at b o d)) (dirs_checks b o (option_to_list (dir_at b o d) ++ earlier) (ranges_at b o d ++ held) ds)
+      tells_append b (checks_at b o earlier held d (dir_at b o d)) (dirs_checks b o (option_to_list (dir_at b o d) ++ earlier)
+      (ranges_at b o d ++ held) ds)
       (at_tells d (dir_at b o d) refl earlier held k (subst (λ m. Before m earlier) (sym n.0) w) here g)
       (λ all. dirs_tell (m + 1) ds (option_to_list (dir_at b o d) ++ earlier) (ranges_at b o d ++ held) (k + length (owners_at b o d)) n.1
       (before_more d (dir_at b o d) refl m earlier n.0 w)
@@ -189,7 +218,9 @@ module _ (b : List ℕ) (o : Order) (begins : Begins b o) where
       (after_dir d held k (at_facts b o earlier held d (dir_at b o d) all).0 here g))
 
   -- what is held behind directories in order
-  pub dirs_kept : (ds : List Dir) (held : List Range) (k : ℕ) → AllByRecursion (λ d. IfSome (dir_at b o d) (IsDirectory b o d)) ds → From (owners b o) k (flat_map (owners_at b o) ds) → Held b o k held → Held b o (k + length (flat_map (owners_at b o) ds)) (dirs_held b o held ds)
+  pub dirs_kept : (ds : List Dir) (held : List Range) (k : ℕ) → AllByRecursion (λ d. IfSome (dir_at b o d) (IsDirectory b o d)) ds
+      → From (owners b o) k (flat_map (owners_at b o) ds) → Held b o k held
+      → Held b o (k + length (flat_map (owners_at b o) ds)) (dirs_held b o held ds)
   dirs_kept [] held k i f g = held_later b o k (k + 0) held (omega arith) g
   dirs_kept (d ∷ ds) held k i f g =
       let xs = owners_at b o d in

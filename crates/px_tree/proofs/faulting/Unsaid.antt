@@ -1,5 +1,6 @@
 -- Where a fault stands, no meaning is said.
-use Rattle.std.proofs.Common.{◌≡◌, ℕ, ◌+◌, ◌<◌, ◌≤◌, nat_le, ◌⊎◌, inl, inr, true, Option, Some, None, is_some, option_map, List, [], ◌++◌, flat_map, length, sym, ◌∙◌, ap, ap₂, subst, arith, leb-true}
+use Rattle.std.proofs.Common.{◌≡◌, ℕ, ◌+◌, ◌<◌, ◌≤◌, nat_le, ◌⊎◌, inl, inr, true, Option, Some, None, is_some, option_map, List, [], ◌++◌}
+use Rattle.std.proofs.Common.{flat_map, length, sym, ◌∙◌, ap, ap₂, subst, arith, leb-true}
 use Rattle.std.specs.Prelude.{IfSome}
 use Rattle.std.specs.List.{AllByRecursion}
 use Rattle.std.proofs.lemmas.Bool.{and_parts, true≢false}
@@ -61,13 +62,20 @@ module _ (G : Dir → List Range) (h : AllApart (flat_map G dirs)) where
   clear_dirs : (e d : Dir) → dir_number e < dir_number d → Clear (G e) (G d)
   clear_dirs Main Exif l = each_left (To Main) (G Exif) rest2 (clear_across (G Main) rest1 h)
   clear_dirs Main Interop l = each_left (To Main) (G Interop) rest3 (each_right (To Main) (G Exif) rest2 (clear_across (G Main) rest1 h))
-  clear_dirs Main Gps l = each_left (To Main) (G Gps) rest4 (each_right (To Main) (G Interop) rest3 (each_right (To Main) (G Exif) rest2 (clear_across (G Main) rest1 h)))
-  clear_dirs Main Thumb l = each_left (To Main) (G Thumb) [] (each_right (To Main) (G Gps) rest4 (each_right (To Main) (G Interop) rest3 (each_right (To Main) (G Exif) rest2 (clear_across (G Main) rest1 h))))
+  clear_dirs Main Gps l =
+      each_left (To Main) (G Gps) rest4 (each_right (To Main) (G Interop) rest3
+      (each_right (To Main) (G Exif) rest2 (clear_across (G Main) rest1 h)))
+  clear_dirs Main Thumb l =
+      each_left (To Main) (G Thumb) [] (each_right (To Main) (G Gps) rest4 (each_right (To Main) (G Interop) rest3
+      (each_right (To Main) (G Exif) rest2 (clear_across (G Main) rest1 h))))
   clear_dirs Exif Interop l = each_left (To Exif) (G Interop) rest3 (clear_across (G Exif) rest2 a1)
   clear_dirs Exif Gps l = each_left (To Exif) (G Gps) rest4 (each_right (To Exif) (G Interop) rest3 (clear_across (G Exif) rest2 a1))
-  clear_dirs Exif Thumb l = each_left (To Exif) (G Thumb) [] (each_right (To Exif) (G Gps) rest4 (each_right (To Exif) (G Interop) rest3 (clear_across (G Exif) rest2 a1)))
+  clear_dirs Exif Thumb l =
+      each_left (To Exif) (G Thumb) [] (each_right (To Exif) (G Gps) rest4 (each_right (To Exif) (G Interop) rest3
+      (clear_across (G Exif) rest2 a1)))
   clear_dirs Interop Gps l = each_left (To Interop) (G Gps) rest4 (clear_across (G Interop) rest3 a2)
-  clear_dirs Interop Thumb l = each_left (To Interop) (G Thumb) [] (each_right (To Interop) (G Gps) rest4 (clear_across (G Interop) rest3 a2))
+  clear_dirs Interop Thumb l =
+      each_left (To Interop) (G Thumb) [] (each_right (To Interop) (G Gps) rest4 (clear_across (G Interop) rest3 a2))
   clear_dirs Gps Thumb l = each_left (To Gps) (G Thumb) [] (clear_across (G Gps) rest4 a3)
   clear_dirs Main Main l = absurd (omega arith)
   clear_dirs Exif Main l = absurd (omega arith)
@@ -108,7 +116,8 @@ module _ (b : List ℕ) (o : Order) (x : IsExif b o) where
   unfolding dir_ranges
   loop_unsaid d e a h k l = (go (dir_at b o e) (dir_at b o d) k h (clear_dirs of_dir dirs_apart e d l))
     where
-      go : (y z : Option ℕ) → y ≡ Some a → z ≡ Some a → Clear (listed (option_map (dir_ranges b o) y)) (listed (option_map (dir_ranges b o) z)) → ⊥
+      go : (y z : Option ℕ) → y ≡ Some a → z ≡ Some a → Clear (listed (option_map (dir_ranges b o) y))
+          (listed (option_map (dir_ranges b o) z)) → ⊥
       go None z k h c = cc
       go (Some y) None k h c = cc
       go (Some y) (Some z) k h c = let p : y ≡ a = cc in let q : z ≡ a = cc in c.0.0 a (omega arith, omega arith) (omega arith, omega arith)
@@ -159,7 +168,8 @@ module _ (b : List ℕ) (o : Order) (x : IsExif b o) where
   misplaced_unsaid : (d : Dir) (e : Entry) → IsEntry b o d e → role d e.tag ≡ Forbidden → ⊥
   misplaced_unsaid d e h n = true≢false (sym h.allowed ∙ ap is_allowed n)
 
-  overlap_unsaid : (i j p q : ℕ) (r s : Range) (y : ℕ) → i < j → At (owners b o) i (q, r) → At (owners b o) j (p, s) → IsIn y r → IsIn y s → ⊥
+  overlap_unsaid : (i j p q : ℕ) (r s : Range) (y : ℕ) → i < j → At (owners b o) i (q, r) → At (owners b o) j (p, s) → IsIn y r → IsIn y s
+      → ⊥
   overlap_unsaid i j p q r s y l h k u v =
       let own : ranges (owners b o) ≡ footprint b o = owners_own b o in
       at_apart (footprint b o) i j r s x.apart l
@@ -209,19 +219,25 @@ module _ (b : List ℕ) (o : Order) (x : IsExif b o) where
 
     uneven_unsaid : (i : ℕ) (e : Entry) → At ts i e → IsUneven e ts → ⊥
     uneven_unsaid i e h (f, q, k, n) =
-        let same : Some e.count ≡ Some f.count = sym (ap (option_map (λ (e : Entry). e.count)) (tag_found i strip_offsets_tag e h q)) ∙ thumb_is.strip_counts ∙ ap (option_map (λ (e : Entry). e.count)) k in
+        let same : Some e.count ≡ Some f.count = sym (ap (option_map (λ (e : Entry). e.count)) (tag_found i strip_offsets_tag e h q))
+        ∙ thumb_is.strip_counts ∙ ap (option_map (λ (e : Entry). e.count)) k in
         n cc
 
     part_inside : (i j : ℕ) (e n : Entry) (r : Range) → At ts i e → At ts j n → Names b o e n r → IsInside b r
     unfolding jpeg_range strip_ranges
     part_inside i j e n r h k (inl (t, u, q)) =
-        let is : jpeg_range o ts ≡ Some (range (offset o e) (offset o n)) = ap₂ (both (λ x n. range (offset o x) (offset o n))) (tag_found i jpeg_offset_tag e h t) (tag_found j jpeg_length_tag n k u) in
+        let is : jpeg_range o ts ≡ Some (range (offset o e) (offset o n)) =
+        ap₂ (both (λ x n. range (offset o x) (offset o n))) (tag_found i jpeg_offset_tag e h t) (tag_found j jpeg_length_tag n k u) in
         subst (IsInside b) (sym q) (subst (λ z. IfSome z (IsInside b)) is thumb_is.jpeg_inside)
     part_inside i j e n r h k (inr (t, u, q)) =
-        let is : strip_ranges b o ts ≡ Some (ranges_of (numbers b o e) (numbers b o n)) = ap₂ (both (λ x n. ranges_of (numbers b o x) (numbers b o n))) (tag_found i strip_offsets_tag e h t) (tag_found j strip_lengths_tag n k u) in
-        each_member (IsInside b) (ranges_of (numbers b o e) (numbers b o n)) r (subst (λ z. IfSome z (AllByRecursion (IsInside b))) is thumb_is.strips_inside) q
+        let is : strip_ranges b o ts ≡ Some (ranges_of (numbers b o e) (numbers b o n)) =
+        ap₂ (both (λ x n. ranges_of (numbers b o x) (numbers b o n))) (tag_found i strip_offsets_tag e h t)
+        (tag_found j strip_lengths_tag n k u) in
+        each_member (IsInside b) (ranges_of (numbers b o e) (numbers b o n)) r
+        (subst (λ z. IfSome z (AllByRecursion (IsInside b))) is thumb_is.strips_inside) q
 
-  pair_unsaid : (a i p : ℕ) (e : Entry) → dir_at b o Thumb ≡ Some a → At (entries_at b o a) i e → IsAlone e (entries_at b o a) ⊎ IsUneven e (entries_at b o a) → ⊥
+  pair_unsaid : (a i p : ℕ) (e : Entry) → dir_at b o Thumb ≡ Some a → At (entries_at b o a) i e
+      → IsAlone e (entries_at b o a) ⊎ IsUneven e (entries_at b o a) → ⊥
   pair_unsaid a i p e h k (inl s) = alone_unsaid a h i e k s
   pair_unsaid a i p e h k (inr s) = uneven_unsaid a h i e k s
 
@@ -243,14 +259,20 @@ stands_unsaid b cause.HeaderCut p m f s = let l = f.1 in let k = s.is_block.leas
 stands_unsaid b cause.Loop p m (o, d, e, a, h, k, l, q) s = loop_unsaid b o (block b m o s h.0) d e a h.1 k.1 l
 stands_unsaid b cause.DirectoryOutside p m (o, d, a, h, q, l) s = outside_unsaid b o (block b m o s h.0) d a h.1 l
 stands_unsaid b cause.EmptyDirectory p m (o, d, h, q, l) s = empty_unsaid b o (block b m o s h.0) d p h.1 l
-stands_unsaid b cause.Overlap p m (o, i, j, q, r, t, y, h, l, u, v, k, n, w, z) s = overlap_unsaid b o (block b m o s h) i j p q r t y l u v w z
+stands_unsaid b cause.Overlap p m (o, i, j, q, r, t, y, h, l, u, v, k, n, w, z) s =
+    overlap_unsaid b o (block b m o s h) i j p q r t y l u v w z
 stands_unsaid b cause.Unsorted p m (o, d, i, q, e, f, h, k, l) s = let n = follows b o (block b m o s h.1.0) d i q p e f h k in omega arith
 stands_unsaid b cause.Doubled p m (o, d, i, q, e, f, h, k, l) s = let n = follows b o (block b m o s h.1.0) d i q p e f h k in omega arith
-stands_unsaid b cause.UnknownType p m (o, d, i, e, h, n) s = let x = block b m o s h.1.0 in unknown_unsaid b o x d e (in_order_at b o x d i p e h) n
-stands_unsaid b cause.MisplacedOffset p m (o, d, i, e, h, n) s = let x = block b m o s h.1.0 in misplaced_unsaid b o x d e (in_order_at b o x d i p e h) n
-stands_unsaid b cause.PointerForm p m (o, d, i, e, h, n) s = let x = block b m o s h.1.0 in true≢false (sym (in_order_at b o x d i p e h).formed ∙ n)
-stands_unsaid b cause.ValueOutside p m (o, d, i, e, h, n) s = let x = block b m o s h.1.0 in true≢false (sym (in_order_at b o x d i p e h).inside ∙ n)
-stands_unsaid b cause.ThumbnailPair p m (o, a, i, e, r, h, n) s = let x = block b m o s r.0 in pair_unsaid b o x a i p e r.1 (at_one b o x Thumb a i p e r.1 h) n
+stands_unsaid b cause.UnknownType p m (o, d, i, e, h, n) s =
+    let x = block b m o s h.1.0 in unknown_unsaid b o x d e (in_order_at b o x d i p e h) n
+stands_unsaid b cause.MisplacedOffset p m (o, d, i, e, h, n) s =
+    let x = block b m o s h.1.0 in misplaced_unsaid b o x d e (in_order_at b o x d i p e h) n
+stands_unsaid b cause.PointerForm p m (o, d, i, e, h, n) s =
+    let x = block b m o s h.1.0 in true≢false (sym (in_order_at b o x d i p e h).formed ∙ n)
+stands_unsaid b cause.ValueOutside p m (o, d, i, e, h, n) s =
+    let x = block b m o s h.1.0 in true≢false (sym (in_order_at b o x d i p e h).inside ∙ n)
+stands_unsaid b cause.ThumbnailPair p m (o, a, i, e, r, h, n) s =
+    let x = block b m o s r.0 in pair_unsaid b o x a i p e r.1 (at_one b o x Thumb a i p e r.1 h) n
 stands_unsaid b cause.ExtraDirectory p m (o, a, r, q, n) s = n (thumb_is b o (block b m o s r.0) a r.1).ends
 stands_unsaid b cause.ThumbnailOutside p m (o, r, h, l) s = part_unsaid b o (block b m o s h.5.1.0) p r h l
 stands_unsaid b _ p m f s = f

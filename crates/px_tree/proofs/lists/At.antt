@@ -1,5 +1,6 @@
 -- Elements of a list by their index.
-use Rattle.std.proofs.Common.{◌≡◌, ℕ, zero, suc, ◌+◌, ◌<◌, ◌==◌, Some, option_map, List, [], ◌∷◌, ◌++◌, map, length, refl, ◌∙◌, ap, subst, arith, ne_eqb, eq-eqb}
+use Rattle.std.proofs.Common.{◌≡◌, ℕ, zero, suc, ◌+◌, ◌<◌, ◌==◌, Some, option_map, List, [], ◌∷◌, ◌++◌, map, length, refl, ◌∙◌, ap, subst}
+use Rattle.std.proofs.Common.{arith, ne_eqb, eq-eqb}
 use Rattle.std.specs.Prelude.{Contains}
 use Rattle.std.specs.List.{AllByRecursion}
 use Rattle.std.proofs.lemmas.Bool.{cond-true, cond-false}
@@ -65,13 +66,15 @@ at_rising es i e f r h k = let z : i + 1 ≡ suc i = omega arith in go es i r h 
   where
     go : (es : List Entry) (i : ℕ) → Rising (tags es) → At es i e → At es (suc i) f → e.tag < f.tag
     go [] i r h k = cc
-    go (x ∷ es) zero r h k = let q : x ≡ e = cc in subst (λ (x : Entry). x.tag < f.tag) q (all_at (λ t. x.tag < t) (tags es) 0 f.tag r.0 (at_map (λ e. e.tag) es 0 f k))
+    go (x ∷ es) zero r h k = let q : x ≡ e = cc in
+        subst (λ (x : Entry). x.tag < f.tag) q (all_at (λ t. x.tag < t) (tags es) 0 f.tag r.0 (at_map (λ e. e.tag) es 0 f k))
     go (x ∷ es) (suc i) r h k = go es i r.1 h k
 
 -- an entry is the only one of its tag
 pub at_found : (es : List Entry) (i : ℕ) (e : Entry) → Rising (tags es) → At es i e → entry_with e.tag es ≡ Some e
 at_found [] i e r h = cc
-at_found (x ∷ es) zero e r h = let q : x ≡ e = cc in cond-true (x.tag == e.tag) (Some x) (entry_with e.tag es) (eq-eqb x.tag e.tag (ap (λ (x : Entry). x.tag) q)) ∙ h
+at_found (x ∷ es) zero e r h =
+    let q : x ≡ e = cc in cond-true (x.tag == e.tag) (Some x) (entry_with e.tag es) (eq-eqb x.tag e.tag (ap (λ (x : Entry). x.tag) q)) ∙ h
 at_found (x ∷ es) (suc i) e r h =
     let l : x.tag < e.tag = all_at (λ t. x.tag < t) (tags es) i e.tag r.0 (at_map (λ e. e.tag) es i e h) in
     cond-false (x.tag == e.tag) (Some x) (entry_with e.tag es) (ne_eqb x.tag e.tag (λ q. omega arith)) ∙ at_found es i e r.1 h

@@ -1,5 +1,6 @@
 -- Lists of numbers, and what is known of an entry that was found.
-use Rattle.std.proofs.Common.{◌≡◌, ◌≤◌, ℕ, ◌==◌, ◌⊎◌, true, Bool, Option, Some, None, List, [], ◌∷◌, map, length, inl, inr, refl, sym, ap, ◌∙◌, subst, eqb-true}
+use Rattle.std.proofs.Common.{◌≡◌, ◌≤◌, ℕ, ◌==◌, ◌⊎◌, true, Bool, Option, Some, None, List, [], ◌∷◌, map, length, inl, inr, refl, sym, ap}
+use Rattle.std.proofs.Common.{◌∙◌, subst, eqb-true}
 use Rattle.std.specs.Prelude.{find}
 use Rattle.std.specs.List.{AllByRecursion}
 use Rattle.std.proofs.lemmas.Bool.{cases_Bool, cond-true, cond-false, or_cases}
@@ -27,7 +28,8 @@ codes_from h e = elim (or_cases (h.code == 3) (h.code == 4) e) [
 ]
 
 module _ (b : List ℕ) (o : Order) (f : Found) (k : Form) (shown : Shows o f.head (entry_here b o f)) where
-  pub numbers-is : form_of f.head.code ≡ Some k → numbers b o (entry_here b o f) ≡ map whole_number (entry_elements b o (entry_here b o f) k)
+  pub numbers-is : form_of f.head.code ≡ Some k → numbers b o (entry_here b o f) ≡ map whole_number
+      (entry_elements b o (entry_here b o f) k)
   unfolding numbers
   numbers-is known = ap (λ (x : Option Form). numbers_in b o (entry_here b o f) x) (ap form_of (sym shown.code) ∙ known)
 
@@ -38,7 +40,8 @@ module _ (b : List ℕ) (o : Order) (f : Found) (k : Form) (shown : Shows o f.he
 -- ---- what was found
 
 -- what holds of each holds of the first that passes a test, and it passes
-pub found_each : {X : Type 0} (P : X → Type 0) (test : X → Bool) (xs : List X) (x : X) → AllByRecursion P xs → find test xs ≡ Some x → P x × (test x ≡ true)
+pub found_each : {X : Type 0} (P : X → Type 0) (test : X → Bool) (xs : List X) (x : X) → AllByRecursion P xs → find test xs ≡ Some x
+    → P x × (test x ≡ true)
 found_each P test [] x h e = cc
 found_each {X} P test (y ∷ xs) x h e = elim (cases_Bool (test y)) [
   | inl t ↦
@@ -53,7 +56,8 @@ is_code c = is_short_or_long (record { tag = 0; code = c; count = 0; last = [] }
 
 module _ (b : List ℕ) (o : Order) (a : ℕ) (bounded : length b ≤ limit) where
   -- an entry that was found is in order
-  pub found_entry : (d : Dir) (t : ℕ) (f : Found) → AllByRecursion (IsEntry b o d) (entries_at b o a) → IsFound b o a t f → IsEntry b o d (entry_here b o f) × ((entry_here b o f).tag ≡ t)
+  pub found_entry : (d : Dir) (t : ℕ) (f : Found) → AllByRecursion (IsEntry b o d) (entries_at b o a) → IsFound b o a t f
+      → IsEntry b o d (entry_here b o f) × ((entry_here b o f).tag ≡ t)
   found_entry d t f each is =
       let e = entry_here b o f in
       let k = found_each (IsEntry b o d) (λ e. e.tag == t) (entries_at b o a) e each is.is in
@@ -63,7 +67,8 @@ module _ (b : List ℕ) (o : Order) (a : ℕ) (bounded : length b ≤ limit) whe
   has_value d t f each is = record { bounded = bounded; inside = is.inside; shown = is.shown; whole = (found_entry d t f each is).0.inside }
 
   module _ (each : AllByRecursion (IsEntry b o Thumb) (entries_at b o a)) where
-    has_numbers : (t : ℕ) → ((e : Entry) → has_form (role Thumb t) e ≡ is_short_or_long e) → (f : Found) → IsFound b o a t f → HasNumbers b o f
+    has_numbers : (t : ℕ) → ((e : Entry) → has_form (role Thumb t) e ≡ is_short_or_long e) → (f : Found) → IsFound b o a t f
+        → HasNumbers b o f
     has_numbers t form f is =
         let e = entry_here b o f in
         let k = found_entry Thumb t f each is in
@@ -71,11 +76,13 @@ module _ (b : List ℕ) (o : Order) (a : ℕ) (bounded : length b ≤ limit) whe
           bounded = bounded;
           inside = is.inside;
           shown = is.shown;
-          formed = ap (λ (c : ℕ). is_code c) is.shown.code ∙ sym (form e) ∙ ap (λ (u : ℕ). has_form (role Thumb u) e) (sym k.1) ∙ k.0.formed;
+          formed = ap (λ (c : ℕ). is_code c) is.shown.code ∙ sym (form e) ∙ ap (λ (u : ℕ). has_form (role Thumb u) e) (sym k.1)
+              ∙ k.0.formed;
           whole = k.0.inside;
         }
 
-    pub have_numbers : (t : ℕ) → ((e : Entry) → has_form (role Thumb t) e ≡ is_short_or_long e) → (x : Option Found) → Finds b o a t x → HaveNumbers b o x
+    pub have_numbers : (t : ℕ) → ((e : Entry) → has_form (role Thumb t) e ≡ is_short_or_long e) → (x : Option Found) → Finds b o a t x
+        → HaveNumbers b o x
     have_numbers t form None h = tt
     have_numbers t form (Some f) h = has_numbers t form f h
 

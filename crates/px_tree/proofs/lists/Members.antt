@@ -17,7 +17,8 @@ module _ {X Y : Type 0} (g : X → Option Y) (y : Y) where
   later : (x : X) (xs : List X) → Made xs → Made (x ∷ xs)
   later x xs (z, (k, l, e), q) = (z, (suc k, omega arith, e), q)
 
-  made_first : (x : X) (xs : List X) → (Contains (filter_map g xs) y → Made xs) → (o : Option Y) → g x ≡ o → Contains (cons_option o (filter_map g xs)) y → Made (x ∷ xs)
+  made_first : (x : X) (xs : List X) → (Contains (filter_map g xs) y → Made xs) → (o : Option Y) → g x ≡ o
+      → Contains (cons_option o (filter_map g xs)) y → Made (x ∷ xs)
   made_first x xs rest None q c = later x xs (rest c)
   made_first x xs rest (Some z) q (zero, l, e) = (x, (zero, omega arith, refl), q ∙ ap Some e)
   made_first x xs rest (Some z) q (suc k, l, e) = later x xs (rest (k, omega arith, e))
@@ -32,5 +33,6 @@ module _ {X Y : Type 0} (g : X → Option Y) (y : Y) where
 
   pub made_into : (xs : List X) (x : X) → Contains xs x → g x ≡ Some y → Contains (filter_map g xs) y
   made_into [] x (k, l, e) q = absurd (omega arith)
-  made_into (z ∷ xs) x (zero, l, e) q = subst (λ (o : Option Y). Contains (cons_option o (filter_map g xs)) y) (sym (ap g e ∙ q)) (0, omega arith, refl)
+  made_into (z ∷ xs) x (zero, l, e) q =
+      subst (λ (o : Option Y). Contains (cons_option o (filter_map g xs)) y) (sym (ap g e ∙ q)) (0, omega arith, refl)
   made_into (z ∷ xs) x (suc k, l, e) q = behind (g z) (filter_map g xs) (made_into xs x (k, omega arith, e) q)

@@ -1,5 +1,6 @@
 -- What was kept while a table is judged is what is found in it.
-use Rattle.std.proofs.Common.{◌≡◌, ◌<◌, ◌≤◌, ℕ, suc, ◌+◌, ◌==◌, ◌&&◌, Bool, true, false, Option, Some, None, List, length, inl, inr, refl, sym, ap, ◌∙◌, subst, arith, eqb-true}
+use Rattle.std.proofs.Common.{◌≡◌, ◌<◌, ◌≤◌, ℕ, suc, ◌+◌, ◌==◌, ◌&&◌, Bool, true, false, Option, Some, None, List, length, inl, inr, refl}
+use Rattle.std.proofs.Common.{sym, ap, ◌∙◌, subst, arith, eqb-true}
 use Rattle.std.specs.Prelude.{find}
 use Rattle.std.proofs.lemmas.Bool.{cases_Bool, cond-true, cond-false, and_parts}
 use Rattle.px_bytes.specs.declared.Order.{Order}
@@ -7,7 +8,8 @@ use Rattle.px_bytes.specs.Parts.{part}
 use Rattle.px_tree.specs.declared.entries.Head.{Head}
 use Rattle.px_tree.specs.declared.links.Found.{Found}
 use Rattle.px_tree.specs.declared.uses.Uses.{Uses}
-use Rattle.px_tree.specs.Roles.{exif_tag, gps_tag, interop_tag, record_tag, jpeg_offset_tag, jpeg_length_tag, strip_offsets_tag, strip_lengths_tag}
+use Rattle.px_tree.specs.Roles.{exif_tag, gps_tag, interop_tag, record_tag, jpeg_offset_tag, jpeg_length_tag, strip_offsets_tag}
+use Rattle.px_tree.specs.Roles.{strip_lengths_tag}
 use Rattle.px_tree.specs.Entry.{Entry, entry}
 use Rattle.px_tree.specs.Directory.{is_pointer}
 use Rattle.px_tree.specs.Checks.{place_of}
@@ -77,7 +79,8 @@ module _ (b : List ℕ) (o : Order) (start count : ℕ) where
       passed None s p = (sym (find_pass b o test at n m more p) ∙ s.0, sym (place_pass b o test at n m more p) ∙ s.1)
       passed (Some f) s p = (s.0, (let l = s.1 h.tag follows in λ u k. omega arith))
 
-      sees_step : (x new : Option Found) → SeesSoFar test t x at before n → new ≡ kept test here x → SeesSoFar test t new (at + 12) (Some h.tag) m
+      sees_step : (x new : Option Found) → SeesSoFar test t x at before n → new ≡ kept test here x
+          → SeesSoFar test t new (at + 12) (Some h.tag) m
       sees_step x new s is = elim (cases_Bool (test (bare h))) [
         | inl p ↦ subst (λ (y : Option Found). SeesSoFar test t y (at + 12) (Some h.tag) m)
             (sym (is ∙ cond-true (test (bare h)) (Some here) x p)) (taken x s (sym (reads h e shows) ∙ p))

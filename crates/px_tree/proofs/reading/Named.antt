@@ -22,7 +22,8 @@ use Rattle.px_tree.specs.calls.Linked.{AreUsesAt, IsRead, Names, offsets_of, nex
 module _ (b : List ℕ) (o : Order) (d : Dir) where
   -- one that a link names
   module _ (link : Link) (n : Names b o d (Some link)) where
-    pub some_checks : (earlier : List ℕ) (taken : List Range) → checks_at b o earlier taken d (dir_at b o d) ≡ dir_checks b o earlier taken link.place d link.at
+    pub some_checks : (earlier : List ℕ) (taken : List Range)
+        → checks_at b o earlier taken d (dir_at b o d) ≡ dir_checks b o earlier taken link.place d link.at
     some_checks earlier taken =
         ap (λ (x : Option ℕ). checks_at b o earlier taken d x) (sym n.leads)
         ∙ ap (λ (q : ℕ). dir_checks b o earlier taken q d link.at) (sym n.place)
@@ -49,25 +50,32 @@ module _ (b : List ℕ) (o : Order) (taken : List Range) where
     behind : List ℕ
     behind = option_to_list (dir_at b o d) ++ offsets_of earlier
 
-    pub dirs_refuse : (r : Refusal) → Refuses r (checks_at b o (offsets_of earlier) s.now d (dir_at b o d)) → Refuses r (dirs_checks b o [] taken dirs)
+    pub dirs_refuse : (r : Refusal) → Refuses r (checks_at b o (offsets_of earlier) s.now d (dir_at b o d))
+        → Refuses r (dirs_checks b o [] taken dirs)
     unfolding behind
     dirs_refuse r h = Refuses-same r (dirs_checks b o (offsets_of earlier) s.now (d ∷ ds)) (dirs_checks b o [] taken dirs) s.faults
-        (Refuses-more r (checks_at b o (offsets_of earlier) s.now d (dir_at b o d)) (dirs_checks b o behind (ranges_at b o d ++ s.now) ds) h)
+        (Refuses-more r (checks_at b o (offsets_of earlier) s.now d (dir_at b o d)) (dirs_checks b o behind (ranges_at b o d ++ s.now) ds)
+        h)
 
-    pub dirs_step : (link : Option Link) (new : List (ℕ × ℕ)) → Names b o d link → first_false (checks_at b o (offsets_of earlier) s.now d (dir_at b o d)) ≡ None → Agrees (ranges_at b o d ++ s.now) new → DirsSoFar (link ∷ earlier) ds new
+    pub dirs_step : (link : Option Link) (new : List (ℕ × ℕ)) → Names b o d link
+        → first_false (checks_at b o (offsets_of earlier) s.now d (dir_at b o d)) ≡ None → Agrees (ranges_at b o d ++ s.now) new
+        → DirsSoFar (link ∷ earlier) ds new
     unfolding behind
     dirs_step link new n h a = record {
       now = ranges_at b o d ++ s.now;
       agrees = a;
       faults =
-          ap (λ (x : Option ℕ). first_false (dirs_checks b o (option_to_list x ++ offsets_of earlier) (ranges_at b o d ++ s.now) ds)) n.leads
-          ∙ sym (first_false-true (checks_at b o (offsets_of earlier) s.now d (dir_at b o d)) (dirs_checks b o behind (ranges_at b o d ++ s.now) ds) h)
+          ap (λ (x : Option ℕ). first_false (dirs_checks b o (option_to_list x ++ offsets_of earlier) (ranges_at b o d ++ s.now) ds))
+          n.leads
+          ∙ sym (first_false-true (checks_at b o (offsets_of earlier) s.now d (dir_at b o d))
+          (dirs_checks b o behind (ranges_at b o d ++ s.now) ds) h)
           ∙ s.faults;
       ends = s.ends;
     }
 
   -- in the end
-  pub dirs_clean : (earlier : List (Option Link)) (held : List (ℕ × ℕ)) → DirsSoFar earlier [] held → first_false (dirs_checks b o [] taken dirs) ≡ None
+  pub dirs_clean : (earlier : List (Option Link)) (held : List (ℕ × ℕ)) → DirsSoFar earlier [] held
+      → first_false (dirs_checks b o [] taken dirs) ≡ None
   dirs_clean earlier held s = sym s.faults
 
   pub dirs_end : (earlier : List (Option Link)) (held : List (ℕ × ℕ)) → DirsSoFar earlier [] held → Agrees (dirs_held b o taken dirs) held
@@ -136,11 +144,14 @@ module _ (b : List ℕ) (o : Order) where
   interop_placed None u = tt
   interop_placed (Some t) u = seen_placed interop_tag t.at t.uses.interop u.interop
 
-  pub names_interop : (link : Option Link) (exif : Option Directory) → IsRead b o Exif exif → link ≡ interop_of exif → Names b o Interop link
+  pub names_interop : (link : Option Link) (exif : Option Directory) → IsRead b o Exif exif → link ≡ interop_of exif
+      → Names b o Interop link
   unfolding dir_at named_at
   names_interop link exif r is = record {
-    leads = subst (FollowsIn interop_tag link) r.stands (subst (λ (k : Option Link). FollowsIn interop_tag k (at_of exif)) (sym is) (interop_follows exif r.uses));
-    place = subst (PlacedIn interop_tag link) r.stands (subst (λ (k : Option Link). PlacedIn interop_tag k (at_of exif)) (sym is) (interop_placed exif r.uses));
+    leads = subst (FollowsIn interop_tag link) r.stands (subst (λ (k : Option Link). FollowsIn interop_tag k (at_of exif)) (sym is)
+        (interop_follows exif r.uses));
+    place = subst (PlacedIn interop_tag link) r.stands (subst (λ (k : Option Link). PlacedIn interop_tag k (at_of exif)) (sym is)
+        (interop_placed exif r.uses));
   }
 
   pub names_thumb : (link : Option Link) (a : ℕ) → a ≡ main_at b o

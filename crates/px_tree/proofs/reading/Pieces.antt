@@ -17,4 +17,5 @@ pieces_from b o p m zero h = refl
 pieces_from b o p m (suc n) h =
     ap₂ (λ (e : Entry) (es : List Entry). e ∷ es)
     (ap (entry o) (take-take 12 m (drop p b) (omega arith)))
-    (ap (λ (x : List ℕ). map (entry o) (pieces n 12 x)) (drop-part b p m 12 (omega arith)) ∙ pieces_from b o (p + 12) (m - 12) n (omega arith))
+    (ap (λ (x : List ℕ). map (entry o) (pieces n 12 x)) (drop-part b p m 12 (omega arith))
+    ∙ pieces_from b o (p + 12) (m - 12) n (omega arith))

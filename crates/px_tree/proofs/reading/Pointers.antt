@@ -1,5 +1,6 @@
 -- Where entries are found.
-use Rattle.std.proofs.Common.{◌≡◌, ℕ, zero, suc, ◌+◌, ◌-◌, ◌*◌, ◌==◌, ◌&&◌, Bool, true, false, if◌then◌else◌, List, None, Some, drop, length, refl, ap, ap₂, ◌∙◌, arith}
+use Rattle.std.proofs.Common.{◌≡◌, ℕ, zero, suc, ◌+◌, ◌-◌, ◌*◌, ◌==◌, ◌&&◌, Bool, true, false, if◌then◌else◌, List, None, Some, drop}
+use Rattle.std.proofs.Common.{length, refl, ap, ap₂, ◌∙◌, arith}
 use Rattle.std.specs.Prelude.{find}
 use Rattle.px_bytes.specs.declared.Order.{Order}
 use Rattle.px_bytes.specs.Parts.{part}
@@ -12,7 +13,8 @@ use Rattle.px_tree.specs.calls.Reading.{HasTable, Shows, bare, entries_from}
 use Rattle.px_tree.proofs.reading.Standing.{entries_at-is, table-is, count-is}
 
 pub test_same : (o : Order) (t : ℕ) (h : Head) (e : Entry) → Shows o h e → is_pointer t (bare h) ≡ is_pointer t e
-test_same o t h e s = ap (λ (x : ℕ). (x == t) && ((h.code == 4) && (h.count == 1))) s.tag ∙ ap₂ (λ (x y : ℕ). (e.tag == t) && ((x == 4) && (y == 1))) s.code s.count
+test_same o t h e s = ap (λ (x : ℕ). (x == t) && ((h.code == 4) && (h.count == 1))) s.tag
+    ∙ ap₂ (λ (x y : ℕ). (e.tag == t) && ((x == 4) && (y == 1))) s.code s.count
 
 module _ (b : List ℕ) (o : Order) (test : Entry → Bool) (p n m : ℕ) (more : n ≡ suc m) where
   abbrev e : Entry
@@ -20,17 +22,21 @@ module _ (b : List ℕ) (o : Order) (test : Entry → Bool) (p n m : ℕ) (more 
 
   -- the entry is none, and those behind are left
   pub find_pass : test e ≡ false → find test (entries_from b o p n) ≡ find test (entries_from b o (p + 12) m)
-  find_pass f = ap (λ (k : ℕ). find test (entries_from b o p k)) more ∙ ap (λ (x : Bool). if x then Some e else find test (entries_from b o (p + 12) m)) f
+  find_pass f = ap (λ (k : ℕ). find test (entries_from b o p k)) more
+      ∙ ap (λ (x : Bool). if x then Some e else find test (entries_from b o (p + 12) m)) f
 
   pub place_pass : test e ≡ false → place_of test p (entries_from b o p n) ≡ place_of test (p + 12) (entries_from b o (p + 12) m)
-  place_pass f = ap (λ (k : ℕ). place_of test p (entries_from b o p k)) more ∙ ap (λ (x : Bool). if x then p else place_of test (p + 12) (entries_from b o (p + 12) m)) f
+  place_pass f = ap (λ (k : ℕ). place_of test p (entries_from b o p k)) more
+      ∙ ap (λ (x : Bool). if x then p else place_of test (p + 12) (entries_from b o (p + 12) m)) f
 
   -- the entry is one
   pub find_here : test e ≡ true → find test (entries_from b o p n) ≡ Some e
-  find_here f = ap (λ (k : ℕ). find test (entries_from b o p k)) more ∙ ap (λ (x : Bool). if x then Some e else find test (entries_from b o (p + 12) m)) f
+  find_here f = ap (λ (k : ℕ). find test (entries_from b o p k)) more
+      ∙ ap (λ (x : Bool). if x then Some e else find test (entries_from b o (p + 12) m)) f
 
   pub place_here : test e ≡ true → place_of test p (entries_from b o p n) ≡ p
-  place_here f = ap (λ (k : ℕ). place_of test p (entries_from b o p k)) more ∙ ap (λ (x : Bool). if x then p else place_of test (p + 12) (entries_from b o (p + 12) m)) f
+  place_here f = ap (λ (k : ℕ). place_of test p (entries_from b o p k)) more
+      ∙ ap (λ (x : Bool). if x then p else place_of test (p + 12) (entries_from b o (p + 12) m)) f
 
 pub find_none : (b : List ℕ) (o : Order) (test : Entry → Bool) (p n : ℕ) → n ≡ 0 → find test (entries_from b o p n) ≡ None
 find_none b o test p n z = ap (λ (k : ℕ). find test (entries_from b o p k)) z

@@ -1,5 +1,6 @@
 -- The bytes and the value of an entry.
-use Rattle.std.proofs.Common.{◌≡◌, ℕ, ◌+◌, ◌*◌, ◌<◌, ◌≤◌, nat_lt, nat_le, true, false, List, Option, Some, None, is_some, map, refl, take, drop, length, sym, ap, ap₂, ◌∙◌, arith, lt-ltb, leb-true}
+use Rattle.std.proofs.Common.{◌≡◌, ℕ, ◌+◌, ◌*◌, ◌<◌, ◌≤◌, nat_lt, nat_le, true, false, List, Option, Some, None, is_some, map, refl, take}
+use Rattle.std.proofs.Common.{drop, length, sym, ap, ap₂, ◌∙◌, arith, lt-ltb, leb-true}
 use Rattle.std.proofs.lemmas.Bool.{cond-true, cond-false, false_from_ne_true, ltb-true}
 use Rattle.std.proofs.lemmas.List.{take-take}
 use Rattle.px_bytes.specs.declared.Order.{Order}
@@ -60,7 +61,8 @@ module _ (b : List ℕ) (o : Order) (p : ℕ) (h : Head) (f : Form) (held : IsHe
   unfolding raw
   raw-placed l =
       let n = size_is in
-      cond-true (nat_lt 4 (raw_size e)) _ _ (lt-ltb 4 (raw_size e) (omega arith)) ∙ ap₂ (λ (x y : ℕ). part b x y) (sym held.shown.offset_is) n
+      cond-true (nat_lt 4 (raw_size e)) _ _ (lt-ltb 4 (raw_size e) (omega arith))
+      ∙ ap₂ (λ (x y : ℕ). part b x y) (sym held.shown.offset_is) n
 
   pub raw-inline : h.count * size f ≤ 4 → raw b o e ≡ part b (p + 8) (h.count * size f)
   unfolding raw entry
@@ -82,20 +84,26 @@ module _ (b : List ℕ) (o : Order) (p : ℕ) (h : Head) (f : Form) (held : IsHe
       let m = held.bounded in
       (sym l, omega arith)
 
-  pub value-held : (x : List ℕ) → x ≡ raw b o e → h.count * size f ≡ length x → value_in o f x ≡ record { kind = Of f; elements = entry_elements b o e f }
+  pub value-held : (x : List ℕ) → x ≡ raw b o e → h.count * size f ≡ length x
+      → value_in o f x ≡ record { kind = Of f; elements = entry_elements b o e f }
   value-held x k n = value_in-elements o f h.count x n ∙ ap (λ (xs : List Element). of_form f xs) (elements-held x k)
 
-  pub whole-held : (x : List ℕ) → x ≡ raw b o e → h.count * size f ≡ length x → is_whole f ≡ true → whole_in o f x ≡ widened_value f (entry_elements b o e f)
-  whole-held x k n w = whole_in-elements o f h.count x n ∙ ap (λ (xs : List Element). as_whole (map widened xs)) (elements-held x k) ∙ sym (widened-whole f (entry_elements b o e f) w)
+  pub whole-held : (x : List ℕ) → x ≡ raw b o e → h.count * size f ≡ length x → is_whole f ≡ true
+      → whole_in o f x ≡ widened_value f (entry_elements b o e f)
+  whole-held x k n w = whole_in-elements o f h.count x n ∙ ap (λ (xs : List Element). as_whole (map widened xs)) (elements-held x k)
+      ∙ sym (widened-whole f (entry_elements b o e f) w)
 
 -- a value that the checks found inside
-pub whole_from : (b : List ℕ) (o : Order) (p : ℕ) (h : Head) (f : Form) → Shows o h (entry o (part b p 12)) → form_of h.code ≡ Some f → has_raw b o (entry o (part b p 12)) ≡ true
+pub whole_from : (b : List ℕ) (o : Order) (p : ℕ) (h : Head) (f : Form) → Shows o h (entry o (part b p 12)) → form_of h.code ≡ Some f
+    → has_raw b o (entry o (part b p 12)) ≡ true
     → 4 < h.count * size f → h.offset + h.count * size f ≤ length b
 unfolding has_raw
 whole_from b o p h f shown known w l =
     let e = entry o (part b p 12) in
-    let n : raw_size e ≡ h.count * size f = raw_size-is e f (ap form_of (sym shown.code) ∙ known) ∙ ap (λ (x : ℕ). x * size f) (sym shown.count) in
+    let n : raw_size e ≡ h.count * size f =
+    raw_size-is e f (ap form_of (sym shown.code) ∙ known) ∙ ap (λ (x : ℕ). x * size f) (sym shown.count) in
     let placed : nat_lt 4 (raw_size e) ≡ true = lt-ltb 4 (raw_size e) (omega arith) in
-    let k : offset o e + raw_size e ≤ length b = leb-true _ _ (sym (cond-true (nat_lt 4 (raw_size e)) (nat_le (offset o e + raw_size e) (length b)) true placed) ∙ w) in
+    let k : offset o e + raw_size e ≤ length b =
+    leb-true _ _ (sym (cond-true (nat_lt 4 (raw_size e)) (nat_le (offset o e + raw_size e) (length b)) true placed) ∙ w) in
     let at = shown.offset_is in
     omega arith

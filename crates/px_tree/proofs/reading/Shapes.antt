@@ -11,7 +11,8 @@ use Rattle.px_field.specs.Forms.{form_of, size}
 use Rattle.px_tree.specs.declared.entries.Head.{Head}
 use Rattle.px_tree.specs.declared.roles.Dir.{Dir}
 use Rattle.px_tree.specs.declared.roles.Role.{Role}
-use Rattle.px_tree.specs.declared.roles.Role.TheVariants.{Plain, Widened, Forbidden, Record, JpegOffset, JpegLength, StripOffsets, StripLengths, To}
+use Rattle.px_tree.specs.declared.roles.Role.TheVariants.{Plain, Widened, Forbidden, Record, JpegOffset, JpegLength, StripOffsets}
+use Rattle.px_tree.specs.declared.roles.Role.TheVariants.{StripLengths, To}
 use Rattle.px_tree.specs.Roles.{role}
 use Rattle.px_tree.specs.Entry.{Entry, is_allowed, has_form, has_raw, raw_size, offset, sized}
 use Rattle.px_tree.specs.Footprint.{placed_range}
@@ -33,16 +34,19 @@ form_any StripLengths t c n l m = refl
 form_any (To d) t c n l m = refl
 
 -- the checks of the shape look at no last field
-pub shape_same : (o : Order) (d : Dir) (p : ℕ) (u : Option ℕ) (h : Head) (e : Entry) → Shows o h e → shape_checks d p u (bare h) ≡ shape_checks d p u e
+pub shape_same : (o : Order) (d : Dir) (p : ℕ) (u : Option ℕ) (h : Head) (e : Entry) → Shows o h e
+    → shape_checks d p u (bare h) ≡ shape_checks d p u e
 shape_same o d p u h e s =
     ap (λ (t : ℕ). shape_checks d p u (made t h.code h.count [])) s.tag
     ∙ ap (λ (c : ℕ). shape_checks d p u (made e.tag c h.count [])) s.code
     ∙ ap (λ (n : ℕ). shape_checks d p u (made e.tag e.code n [])) s.count
-    ∙ ap (λ (k : Bool). check Unsorted p (is_not_below u e.tag) ∷ check Doubled p (differs u e.tag) ∷ check UnknownType p (is_some (form_of e.code)) ∷ check MisplacedOffset p (is_allowed (role d e.tag)) ∷ check PointerForm p k ∷ [])
+    ∙ ap (λ (k : Bool). check Unsorted p (is_not_below u e.tag) ∷ check Doubled p (differs u e.tag) ∷ check UnknownType p
+    (is_some (form_of e.code)) ∷ check MisplacedOffset p (is_allowed (role d e.tag)) ∷ check PointerForm p k ∷ [])
     (form_any (role d e.tag) e.tag e.code e.count [] e.last)
 
 -- the checks of a value, by its place and its size
-value_checks-is : (b : List ℕ) (o : Order) (taken : List Range) (p : ℕ) (e : Entry) → value_checks b o taken p e ≡ span_checks b taken p (offset o e) (raw_size e)
+value_checks-is : (b : List ℕ) (o : Order) (taken : List Range) (p : ℕ) (e : Entry)
+    → value_checks b o taken p e ≡ span_checks b taken p (offset o e) (raw_size e)
 unfolding has_raw placed_range
 value_checks-is b o taken p e = refl
 
@@ -64,12 +68,14 @@ raw_size-is e f h = ap (λ (x : Option Form). sized x e.count) h
 module _ (b : List ℕ) (o : Order) (d : Dir) (taken : List Range) (p : ℕ) (u : Option ℕ) (h : Head) (e : Entry) (s : Shows o h e) where
   pub shape_refuses : (r : Refusal) → Refuses r (shape_checks d p u (bare h)) → Refuses r (entry_checks b o d taken p u e)
   shape_refuses r k = subst (Refuses r) (sym (entry_checks-parts b o d taken p u e))
-      (Refuses-more r (shape_checks d p u e) (span_checks b taken p (offset o e) (raw_size e)) (subst (Refuses r) (shape_same o d p u h e s) k))
+      (Refuses-more r (shape_checks d p u e) (span_checks b taken p (offset o e) (raw_size e))
+      (subst (Refuses r) (shape_same o d p u h e s) k))
 
   shape_true : first_false (shape_checks d p u (bare h)) ≡ None → first_false (shape_checks d p u e) ≡ None
   shape_true k = subst (λ (cs : List Check). first_false cs ≡ None) (shape_same o d p u h e s) k
 
-  module _ (f : Form) (n : ℕ) (known : form_of h.code ≡ Some f) (n_is : n ≡ h.count * size f) (good : first_false (shape_checks d p u (bare h)) ≡ None) where
+  module _ (f : Form) (n : ℕ) (known : form_of h.code ≡ Some f) (n_is : n ≡ h.count * size f)
+      (good : first_false (shape_checks d p u (bare h)) ≡ None) where
     len_is : n ≡ raw_size e
     len_is = n_is ∙ ap (λ (x : ℕ). x * size f) s.count ∙ sym (raw_size-is e f (ap form_of (sym s.code) ∙ known))
 
@@ -78,11 +84,13 @@ module _ (b : List ℕ) (o : Order) (d : Dir) (taken : List Range) (p : ℕ) (u 
 
     pub value_refuses : (r : Refusal) → Refuses r (span_checks b taken p h.offset n) → Refuses r (entry_checks b o d taken p u e)
     value_refuses r k = subst (Refuses r) (sym (entry_checks-parts b o d taken p u e))
-        (Refuses-behind r (shape_checks d p u e) (span_checks b taken p (offset o e) (raw_size e)) (shape_true good) (subst (Refuses r) value_same k))
+        (Refuses-behind r (shape_checks d p u e) (span_checks b taken p (offset o e) (raw_size e)) (shape_true good)
+        (subst (Refuses r) value_same k))
 
     pub entry_true : first_false (span_checks b taken p h.offset n) ≡ None → first_false (entry_checks b o d taken p u e) ≡ None
     entry_true k = ap first_false (entry_checks-parts b o d taken p u e)
-        ∙ all_true (shape_checks d p u e) (span_checks b taken p (offset o e) (raw_size e)) (shape_true good) (subst (λ (cs : List Check). first_false cs ≡ None) value_same k)
+        ∙ all_true (shape_checks d p u e) (span_checks b taken p (offset o e) (raw_size e)) (shape_true good)
+        (subst (λ (cs : List Check). first_false cs ≡ None) value_same k)
 
     pub range_same : span h.offset n ≡ placed_range o e
     range_same = ap₂ (λ (x y : ℕ). span x y) s.offset_is len_is ∙ sym (placed_range-is o e)

@@ -1,5 +1,6 @@
 -- Ranges judged one by one.
-use Rattle.std.proofs.Common.{◌≡◌, ℕ, zero, suc, ◌+◌, List, [], ◌∷◌, ◌++◌, None, Some, map, drop, length, sym, ap, ◌∙◌, arith, nat_le, append_assoc, slice_get}
+use Rattle.std.proofs.Common.{◌≡◌, ℕ, zero, suc, ◌+◌, List, [], ◌∷◌, ◌++◌, None, Some, map, drop, length, sym, ap, ◌∙◌, arith, nat_le}
+use Rattle.std.proofs.Common.{append_assoc, slice_get}
 use Rattle.px_bytes.specs.declared.Refusal.{Refusal}
 use Rattle.px_bytes.specs.declared.Cause.TheVariants.{Overlap, ThumbnailOutside}
 use Rattle.px_bytes.specs.Range.{Range, range, is_free, Agrees}
@@ -9,10 +10,13 @@ use Rattle.px_tree.specs.Thumbnail.{ranges_of, bytes_of}
 use Rattle.px_tree.specs.Checks.{range_checks}
 
 -- what is left of the pairs has one more range
-pub ranges-next : (xs ns : List ℕ) (i x n : ℕ) → slice_get xs i ≡ Some x → slice_get ns i ≡ Some n → ranges_of (drop i xs) (drop i ns) ≡ range x n ∷ ranges_of (drop (i + 1) xs) (drop (i + 1) ns)
-ranges-next xs ns i x n h k = go xs ns i h k ∙ (let e : suc i ≡ i + 1 = omega arith in ap (λ (j : ℕ). range x n ∷ ranges_of (drop j xs) (drop j ns)) e)
+pub ranges-next : (xs ns : List ℕ) (i x n : ℕ) → slice_get xs i ≡ Some x → slice_get ns i ≡ Some n
+    → ranges_of (drop i xs) (drop i ns) ≡ range x n ∷ ranges_of (drop (i + 1) xs) (drop (i + 1) ns)
+ranges-next xs ns i x n h k =
+    go xs ns i h k ∙ (let e : suc i ≡ i + 1 = omega arith in ap (λ (j : ℕ). range x n ∷ ranges_of (drop j xs) (drop j ns)) e)
   where
-    go : (xs ns : List ℕ) (i : ℕ) → slice_get xs i ≡ Some x → slice_get ns i ≡ Some n → ranges_of (drop i xs) (drop i ns) ≡ range x n ∷ ranges_of (drop (suc i) xs) (drop (suc i) ns)
+    go : (xs ns : List ℕ) (i : ℕ) → slice_get xs i ≡ Some x → slice_get ns i ≡ Some n
+        → ranges_of (drop i xs) (drop i ns) ≡ range x n ∷ ranges_of (drop (suc i) xs) (drop (suc i) ns)
     go [] ns i h k = cc
     go (y ∷ xs) [] i h k = cc
     go (y ∷ xs) (m ∷ ns) zero h k = let p : y ≡ x = cc in let q : m ≡ n = cc in cc
@@ -37,11 +41,13 @@ module _ (b : List ℕ) (p : ℕ) (taken all : List Range) where
     ranges_step new h a = record {
       now = r ∷ s.now;
       agrees = a;
-      faults = sym (first_false-true (range_check b p s.now r) (range_checks b p (r ∷ s.now) rs) h) ∙ ap (λ (xs : List Range). first_false (range_checks b p s.now xs)) (sym is) ∙ s.faults;
+      faults = sym (first_false-true (range_check b p s.now r) (range_checks b p (r ∷ s.now) rs) h)
+          ∙ ap (λ (xs : List Range). first_false (range_checks b p s.now xs)) (sym is) ∙ s.faults;
     }
 
 -- one more strip
-pub pushed : (b : List ℕ) (old new : List (List ℕ)) (s : List ℕ) (r : Range) (rest rs : List Range) → new ≡ old ++ s ∷ [] → s ≡ bytes_of b r → rest ≡ r ∷ rs → new ++ map (bytes_of b) rs ≡ old ++ map (bytes_of b) rest
+pub pushed : (b : List ℕ) (old new : List (List ℕ)) (s : List ℕ) (r : Range) (rest rs : List Range) → new ≡ old ++ s ∷ []
+    → s ≡ bytes_of b r → rest ≡ r ∷ rs → new ++ map (bytes_of b) rs ≡ old ++ map (bytes_of b) rest
 pushed b old new s r rest rs h e is =
     ap (λ (l : List (List ℕ)). l ++ map (bytes_of b) rs) h
     ∙ append_assoc old (s ∷ []) (map (bytes_of b) rs)

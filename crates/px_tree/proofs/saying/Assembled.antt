@@ -26,7 +26,8 @@ abbrev made : Fields → Option (List ℕ) → Option (List (List ℕ)) → Thum
 made f j s = record { fields = f; jpeg = j; strips = s }
 
 pub thumbnail-is : (b : List ℕ) (o : Order) (a : ℕ) (f : Fields) (j : Option (List ℕ)) (s : Option (List (List ℕ)))
-    → f ≡ fields b o Thumb a → j ≡ option_map (bytes_of b) (jpeg_range o (entries_at b o a)) → s ≡ option_map (map (bytes_of b)) (strip_ranges b o (entries_at b o a))
+    → f ≡ fields b o Thumb a → j ≡ option_map (bytes_of b) (jpeg_range o (entries_at b o a))
+    → s ≡ option_map (map (bytes_of b)) (strip_ranges b o (entries_at b o a))
     → made f j s ≡ thumbnail b o a
 unfolding thumbnail
 thumbnail-is b o a f j s p q r =
@@ -36,14 +37,16 @@ thumbnail-is b o a f j s p q r =
 -- ---- the directories that were read
 
 module _ (b : List ℕ) (o : Order) where
-  pub thumb_read : (t : Option Directory) → IsRead b o Thumb t → option_map (λ (t : Directory). t.fields) t ≡ fields_at b o Thumb → IfSome (dir_at b o Thumb) (IsDirectory b o Thumb) → IfSome t (IsReadThumb b o)
+  pub thumb_read : (t : Option Directory) → IsRead b o Thumb t → option_map (λ (t : Directory). t.fields) t ≡ fields_at b o Thumb
+      → IfSome (dir_at b o Thumb) (IsDirectory b o Thumb) → IfSome t (IsReadThumb b o)
   thumb_read None r f i = tt
   thumb_read (Some t) r f i =
       let d = subst (λ (x : Option ℕ). IfSome x (IsDirectory b o Thumb)) (sym r.stands) i in
       let e : Some t.fields ≡ Some (fields b o Thumb t.at) = f ∙ ap (λ (x : Option ℕ). option_map (fields b o Thumb) x) (sym r.stands) in
       record { table = r.table; each = d.each; uses = r.uses; fields_are = (let q : t.fields ≡ fields b o Thumb t.at = cc in q) }
 
-  pub main_each : (a : ℕ) → a ≡ main_at b o → IfSome (dir_at b o Main) (IsDirectory b o Main) → AllByRecursion (IsEntry b o Main) (entries_at b o a)
+  pub main_each : (a : ℕ) → a ≡ main_at b o → IfSome (dir_at b o Main) (IsDirectory b o Main)
+      → AllByRecursion (IsEntry b o Main) (entries_at b o a)
   unfolding dir_at
   main_each a e i = subst (λ (x : ℕ). AllByRecursion (IsEntry b o Main) (entries_at b o x)) (sym e) i.each
 
@@ -66,10 +69,14 @@ module _ (b : List ℕ) (o : Order) where
 
   module _ (a : Option ℕ) (at : a ≡ dir_at b o Thumb) (good : first_false of_dirs ≡ None) where
     pub thumb_refuses_tree : (r : Refusal) → Refuses r (of_thumb a) → Refuses r (tree_checks b o)
-    thumb_refuses_tree r h = subst (Refuses r) (sym tree-parts) (Refuses-behind r of_dirs (of_thumb (dir_at b o Thumb)) good (subst (λ (x : Option ℕ). Refuses r (of_thumb x)) at h))
+    thumb_refuses_tree r h =
+        subst (Refuses r) (sym tree-parts) (Refuses-behind r of_dirs (of_thumb (dir_at b o Thumb)) good
+        (subst (λ (x : Option ℕ). Refuses r (of_thumb x)) at h))
 
     pub tree_true : first_false (of_thumb a) ≡ None → first_false (tree_checks b o) ≡ None
-    tree_true h = ap first_false tree-parts ∙ all_true of_dirs (of_thumb (dir_at b o Thumb)) good (subst (λ (x : Option ℕ). first_false (of_thumb x) ≡ None) at h)
+    tree_true h =
+        ap first_false tree-parts ∙ all_true of_dirs (of_thumb (dir_at b o Thumb)) good
+        (subst (λ (x : Option ℕ). first_false (of_thumb x) ≡ None) at h)
 
   -- each directory is in order
   pub all_in_order : first_false of_dirs ≡ None → AllByRecursion (λ d. IfSome (dir_at b o d) (IsDirectory b o d)) dirs
@@ -83,12 +90,14 @@ module _ (b : List ℕ) (o : Order) where
   abbrev with_interop : Option Fields → Fields → ExifPart
   with_interop i f = record { fields = f; interop = i }
 
-  part-is : (a : Option ℕ) → option_map (with_interop (fields_at b o Interop)) (option_map (fields b o Exif) a) ≡ option_map (exif_part b o) a
+  part-is : (a : Option ℕ) → option_map (with_interop (fields_at b o Interop)) (option_map (fields b o Exif) a) ≡ option_map
+      (exif_part b o) a
   unfolding exif_part
   part-is None = refl
   part-is (Some a) = refl
 
-  pub meaning-is : (f : Fields) (i : Option Iim) (e : Option ExifPart) (g : Option Fields) (t : Option Thumbnail) (x y : Option Fields) (a : Option ℕ)
+  pub meaning-is : (f : Fields) (i : Option Iim) (e : Option ExifPart) (g : Option Fields) (t : Option Thumbnail) (x y : Option Fields)
+      (a : Option ℕ)
       → f ≡ fields b o Main (main_at b o) → i ≡ record_at b o (main_at b o)
       → e ≡ option_map (with_interop y) x → x ≡ fields_at b o Exif → y ≡ fields_at b o Interop
       → g ≡ fields_at b o Gps → t ≡ option_map (thumbnail b o) a → a ≡ dir_at b o Thumb
@@ -96,8 +105,10 @@ module _ (b : List ℕ) (o : Order) where
   unfolding meaning
   meaning-is f i e g t x y a p q r rx ry s u ua =
       ap (λ (f : Fields). whole f i e g t) p
-      ∙ ap₂ (λ (i : Option Iim) (e : Option ExifPart). whole (fields b o Main (main_at b o)) i e g t) q (r ∙ ap₂ (λ (y x : Option Fields). option_map (with_interop y) x) ry rx ∙ part-is (dir_at b o Exif))
-      ∙ ap₂ (λ (g : Option Fields) (t : Option Thumbnail). whole (fields b o Main (main_at b o)) (record_at b o (main_at b o)) (option_map (exif_part b o) (dir_at b o Exif)) g t) s (u ∙ ap (λ (a : Option ℕ). option_map (thumbnail b o) a) ua)
+      ∙ ap₂ (λ (i : Option Iim) (e : Option ExifPart). whole (fields b o Main (main_at b o)) i e g t) q (r
+      ∙ ap₂ (λ (y x : Option Fields). option_map (with_interop y) x) ry rx ∙ part-is (dir_at b o Exif))
+      ∙ ap₂ (λ (g : Option Fields) (t : Option Thumbnail). whole (fields b o Main (main_at b o)) (record_at b o (main_at b o))
+      (option_map (exif_part b o) (dir_at b o Exif)) g t) s (u ∙ ap (λ (a : Option ℕ). option_map (thumbnail b o) a) ua)
 
 -- ---- the record
 

@@ -1,5 +1,7 @@
 -- Only the footprint counts: a block that agrees on it says the same.
-use Rattle.std.proofs.Common.{◌≡◌, ℕ, ◌+◌, ◌<◌, ◌≤◌, ◌==◌, nat_le, inl, inr, true, false, Option, Some, None, option_map, option_and_then, List, [], ◌∷◌, ◌++◌, map, filter_map, flat_map, length, take, drop, slice_index, refl, sym, ◌∙◌, ap, ap₂, subst, arith, le-leb, leb-true, length-drop, get_or-take, get_or-drop}
+use Rattle.std.proofs.Common.{◌≡◌, ℕ, ◌+◌, ◌<◌, ◌≤◌, ◌==◌, nat_le, inl, inr, true, false, Option, Some, None, option_map, option_and_then}
+use Rattle.std.proofs.Common.{List, [], ◌∷◌, ◌++◌, map, filter_map, flat_map, length, take, drop, slice_index, refl, sym, ◌∙◌, ap, ap₂}
+use Rattle.std.proofs.Common.{subst, arith, le-leb, leb-true, length-drop, get_or-take, get_or-drop}
 use Rattle.std.specs.Prelude.{IfSome, option_to_list}
 use Rattle.std.specs.List.{AllByRecursion, cons_option}
 use Rattle.std.proofs.lemmas.Grind.{get_or_default_zero}
@@ -17,12 +19,17 @@ use Rattle.px_field.specs.Values.{elements}
 use Rattle.px_tree.specs.declared.roles.Dir.{Dir}
 use Rattle.px_tree.specs.declared.roles.Dir.TheVariants.{Main, Exif, Interop, Gps, Thumb}
 use Rattle.px_tree.specs.declared.roles.Role.{Role}
-use Rattle.px_tree.specs.declared.roles.Role.TheVariants.{Plain, Widened, Forbidden, Record, JpegOffset, JpegLength, StripOffsets, StripLengths, To}
-use Rattle.px_tree.specs.Roles.{exif_tag, gps_tag, interop_tag, record_tag, jpeg_offset_tag, jpeg_length_tag, strip_offsets_tag, strip_lengths_tag, role}
+use Rattle.px_tree.specs.declared.roles.Role.TheVariants.{Plain, Widened, Forbidden, Record, JpegOffset, JpegLength, StripOffsets}
+use Rattle.px_tree.specs.declared.roles.Role.TheVariants.{StripLengths, To}
+use Rattle.px_tree.specs.Roles.{exif_tag, gps_tag, interop_tag, record_tag, jpeg_offset_tag, jpeg_length_tag, strip_offsets_tag}
+use Rattle.px_tree.specs.Roles.{strip_lengths_tag, role}
 use Rattle.px_tree.specs.Tree.{Meaning}
-use Rattle.px_tree.specs.Entry.{Entry, short, long, table_size, has_table, table, entries, next, raw_size, is_placed, offset, raw, has_raw, IsEntry, Rising, entry_elements, value_in, unless_record, widened_value, record_in, field, fields, IsDirectory}
+use Rattle.px_tree.specs.Entry.{Entry, short, long, table_size, has_table, table, entries, next, raw_size, is_placed, offset, raw, has_raw}
+use Rattle.px_tree.specs.Entry.{IsEntry, Rising, entry_elements, value_in, unless_record, widened_value, record_in, field, fields}
+use Rattle.px_tree.specs.Entry.{IsDirectory}
 use Rattle.px_tree.specs.Directory.{pointer, dir_at, dirs, entries_at, entry_with, unless_zero, fields_at}
-use Rattle.px_tree.specs.Thumbnail.{both, are_paired, whole_number, numbers, numbers_in, jpeg_range, ranges_of, strip_ranges, bytes_of, IsInside, IsThumbnail}
+use Rattle.px_tree.specs.Thumbnail.{both, are_paired, whole_number, numbers, numbers_in, jpeg_range, ranges_of, strip_ranges, bytes_of}
+use Rattle.px_tree.specs.Thumbnail.{IsInside, IsThumbnail}
 use Rattle.px_tree.specs.Footprint.{listed, placed_range, dir_ranges, thumb_ranges, footprint}
 use Rattle.px_tree.specs.Says.{record_at, exif_part, thumbnail, meaning, IsExif, SaysExif}
 use Rattle.px_tree.proofs.lists.EachDir.{each_dir}
@@ -37,7 +44,8 @@ same_part b c x n l i a =
     let lc : length (part c x n) ≡ n = length-take-le n (drop x c) (let e = length-drop x c in omega arith) in
     same_lists (part c x n) (part b x n) (lc ∙ sym lb) (λ k d h.
     let q : k < n = omega arith in
-    get_or-take n (drop x c) k d q ∙ get_or-drop x c k d ∙ get_or_default_zero c (x + k) d (omega arith) ∙ a (x + k) (omega arith, omega arith)
+    get_or-take n (drop x c) k d q ∙ get_or-drop x c k d ∙ get_or_default_zero c (x + k) d (omega arith)
+    ∙ a (x + k) (omega arith, omega arith)
     ∙ sym (get_or-take n (drop x b) k d q ∙ get_or-drop x b k d ∙ get_or_default_zero b (x + k) d (omega arith)))
 
 filter_map-same : {X Z : Type 0} (g h : X → Option Z) (xs : List X) → AllByRecursion (λ x. g x ≡ h x) xs → filter_map g xs ≡ filter_map h xs
@@ -45,13 +53,18 @@ filter_map-same g h [] e = refl
 filter_map-same g h (x ∷ xs) e = ap₂ cons_option e.0 (filter_map-same g h xs e.1)
 
 -- what holds of each range holds of each placed value's
-each_placed : (P : Range → Type 0) (o : Order) (es : List Entry) → AllByRecursion P (filter_map (placed_range o) es) → AllByRecursion (λ e. is_placed e ≡ true → P (range (offset o e) (raw_size e))) es
+each_placed : (P : Range → Type 0) (o : Order) (es : List Entry) → AllByRecursion P (filter_map (placed_range o) es)
+    → AllByRecursion (λ e. is_placed e ≡ true → P (range (offset o e) (raw_size e))) es
 unfolding placed_range
 each_placed P o [] h = tt
 each_placed P o (e ∷ es) h = elim (cases_Bool (is_placed e)) [
-  | inl t ↦ let k = subst (λ x. AllByRecursion P (cons_option x (filter_map (placed_range o) es))) (cond-true (is_placed e) (Some (range (offset o e) (raw_size e))) None t) h in
+  | inl t ↦ let k =
+      subst (λ x. AllByRecursion P (cons_option x (filter_map (placed_range o) es)))
+      (cond-true (is_placed e) (Some (range (offset o e) (raw_size e))) None t) h in
       (λ _. k.0, each_placed P o es k.1)
-  | inr n ↦ let k = subst (λ x. AllByRecursion P (cons_option x (filter_map (placed_range o) es))) (cond-false (is_placed e) (Some (range (offset o e) (raw_size e))) None n) h in
+  | inr n ↦ let k =
+      subst (λ x. AllByRecursion P (cons_option x (filter_map (placed_range o) es)))
+      (cond-false (is_placed e) (Some (range (offset o e) (raw_size e))) None n) h in
       (λ t. absurd (true_false (sym t ∙ n)), each_placed P o es k)
 ]
   where
@@ -75,14 +88,16 @@ module _ (b c : List ℕ) (o : Order) (longer : length b ≤ length c) where
     same_bytes = same_part b c a (table_size (short o (part b a 2))) longer whole.0 agree.0
 
     same_count : part c a 2 ≡ part b a 2
-    same_count = sym (take-take 2 (table_size n) (drop a c) (omega arith)) ∙ ap (take 2) same_bytes ∙ take-take 2 (table_size n) (drop a b) (omega arith)
+    same_count = sym (take-take 2 (table_size n) (drop a c) (omega arith)) ∙ ap (take 2) same_bytes
+        ∙ take-take 2 (table_size n) (drop a b) (omega arith)
 
     there_too : has_table c o a ≡ true
     unfolding has_table n
     there_too = let k : short o (part c a 2) ≡ short o (part b a 2) = ap (number o 2) same_count in
         let p : 1 ≤ short o (part c a 2) = (let w = whole.1 in omega arith) in
         let q : a + table_size (short o (part c a 2)) ≤ length c = (let w = whole.0 in omega arith) in
-        and_from (nat_le 1 (short o (part c a 2))) (nat_le (a + table_size (short o (part c a 2))) (length c)) (le-leb 1 (short o (part c a 2)) p) (le-leb (a + table_size (short o (part c a 2))) (length c) q)
+        and_from (nat_le 1 (short o (part c a 2))) (nat_le (a + table_size (short o (part c a 2))) (length c))
+        (le-leb 1 (short o (part c a 2)) p) (le-leb (a + table_size (short o (part c a 2))) (length c) q)
 
     pub same_table : table c o a ≡ table b o a
     unfolding table n
@@ -101,20 +116,26 @@ module _ (b c : List ℕ) (o : Order) (longer : length b ≤ length c) where
     unfolding raw has_raw
     raw_same e h k = elim (cases_Bool (is_placed e)) [
       | inl t ↦
-          let i : offset o e + raw_size e ≤ length b = leb-true _ _ (sym (cond-true (is_placed e) (nat_le (offset o e + raw_size e) (length b)) true t) ∙ h.inside) in (
-            cond-true (is_placed e) (part c (offset o e) (raw_size e)) (take (raw_size e) e.last) t ∙ same_part b c (offset o e) (raw_size e) longer i (k t)
+          let i : offset o e + raw_size e ≤ length b =
+          leb-true _ _ (sym (cond-true (is_placed e) (nat_le (offset o e + raw_size e) (length b)) true t) ∙ h.inside) in (
+            cond-true (is_placed e) (part c (offset o e) (raw_size e)) (take (raw_size e) e.last) t
+                ∙ same_part b c (offset o e) (raw_size e) longer i (k t)
                 ∙ sym (cond-true (is_placed e) (part b (offset o e) (raw_size e)) (take (raw_size e) e.last) t),
-            cond-true (is_placed e) (nat_le (offset o e + raw_size e) (length c)) true t ∙ le-leb (offset o e + raw_size e) (length c) (omega arith),
+            cond-true (is_placed e) (nat_le (offset o e + raw_size e) (length c)) true t
+                ∙ le-leb (offset o e + raw_size e) (length c) (omega arith),
           )
       | inr t ↦ (
-        cond-false (is_placed e) (part c (offset o e) (raw_size e)) (take (raw_size e) e.last) t ∙ sym (cond-false (is_placed e) (part b (offset o e) (raw_size e)) (take (raw_size e) e.last) t),
+        cond-false (is_placed e) (part c (offset o e) (raw_size e)) (take (raw_size e) e.last) t
+            ∙ sym (cond-false (is_placed e) (part b (offset o e) (raw_size e)) (take (raw_size e) e.last) t),
         cond-false (is_placed e) (nat_le (offset o e + raw_size e) (length c)) true t,
       )
     ]
 
     pub all_same : AllByRecursion RawSame (entries_at b o a)
     unfolding dir_ranges
-    all_same = each_map₂ (IsEntry b o d) (λ e. is_placed e ≡ true → AgreeIn b c (range (offset o e) (raw_size e))) RawSame raw_same (entries_at b o a) is.each (each_placed (AgreeIn b c) o (entries_at b o a) agree.1)
+    all_same =
+        each_map₂ (IsEntry b o d) (λ e. is_placed e ≡ true → AgreeIn b c (range (offset o e) (raw_size e))) RawSame raw_same
+        (entries_at b o a) is.each (each_placed (AgreeIn b c) o (entries_at b o a) agree.1)
 
     pub raws_same : AllByRecursion (λ e. raw c o e ≡ raw b o e) (entries_at b o a)
     raws_same = each_map RawSame (λ e. raw c o e ≡ raw b o e) (λ e h. h.0) (entries_at b o a) all_same
@@ -141,7 +162,9 @@ module _ (b c : List ℕ) (o : Order) (longer : length b ≤ length c) where
 
     pub same_fields : fields c o d a ≡ fields b o d a
     unfolding fields
-    same_fields = ap (filter_map (field c o d)) same_entries ∙ filter_map-same (field c o d) (field b o d) (entries_at b o a) (each_map (λ e. raw c o e ≡ raw b o e) (λ e. field c o d e ≡ field b o d e) field_same (entries_at b o a) raws_same)
+    same_fields = ap (filter_map (field c o d)) same_entries
+        ∙ filter_map-same (field c o d) (field b o d) (entries_at b o a) (each_map (λ e. raw c o e ≡ raw b o e)
+        (λ e. field c o d e ≡ field b o d e) field_same (entries_at b o a) raws_same)
 
     pub same_ranges : dir_ranges c o a ≡ dir_ranges b o a
     unfolding dir_ranges
@@ -151,10 +174,12 @@ module _ (b c : List ℕ) (o : Order) (longer : length b ≤ length c) where
     directory_too = record {
       there = there_too;
       rising = subst (λ es. Rising (map (λ e. e.tag) es)) (sym same_entries) is.rising;
-      each = subst (AllByRecursion (IsEntry c o d)) (sym same_entries) (each_map₂ (IsEntry b o d) RawSame (IsEntry c o d) (λ e h k. record { known = h.known; allowed = h.allowed; formed = h.formed; inside = k.1 }) (entries_at b o a) is.each all_same);
+      each = subst (AllByRecursion (IsEntry c o d)) (sym same_entries) (each_map₂ (IsEntry b o d) RawSame (IsEntry c o d)
+          (λ e h k. record { known = h.known; allowed = h.allowed; formed = h.formed; inside = k.1 }) (entries_at b o a) is.each all_same);
     }
 
-module _ (b c : List ℕ) (o : Order) (longer : length b ≤ length c) (most : length c ≤ limit) (x : IsExif b o) (agree : AllByRecursion (AgreeIn b c) (footprint b o)) where
+module _ (b c : List ℕ) (o : Order) (longer : length b ≤ length c) (most : length c ≤ limit) (x : IsExif b o)
+    (agree : AllByRecursion (AgreeIn b c) (footprint b o)) where
   abbrev main : ℕ
   main = long o (part b 4 4)
 
@@ -192,7 +217,9 @@ module _ (b c : List ℕ) (o : Order) (longer : length b ≤ length c) (most : l
       picked P G Exif h = each_left P (G Exif) _ (each_right P (G Main) _ h)
       picked P G Interop h = each_left P (G Interop) _ (each_right P (G Exif) _ (each_right P (G Main) _ h))
       picked P G Gps h = each_left P (G Gps) _ (each_right P (G Interop) _ (each_right P (G Exif) _ (each_right P (G Main) _ h)))
-      picked P G Thumb h = each_left P (G Thumb) [] (each_right P (G Gps) _ (each_right P (G Interop) _ (each_right P (G Exif) _ (each_right P (G Main) _ h))))
+      picked P G Thumb h =
+          each_left P (G Thumb) [] (each_right P (G Gps) _ (each_right P (G Interop) _
+          (each_right P (G Exif) _ (each_right P (G Main) _ h))))
 
   in_order : (d : Dir) → IfSome (dir_at b o d) (IsDirectory b o d)
   in_order d = each_dir (λ d. IfSome (dir_at b o d) (IsDirectory b o d)) x.directories d
@@ -229,7 +256,8 @@ module _ (b c : List ℕ) (o : Order) (longer : length b ≤ length c) (most : l
   main_entries : entries_at c o (long o (part c 4 4)) ≡ entries_at b o main
   main_entries = ap (λ z. entries_at c o (number o 4 z)) same_four ∙ entries_are Main main main_there
 
-  interop_same : (z : Option ℕ) → dir_at b o Exif ≡ z → option_and_then (λ a. pointer o interop_tag (entries_at c o a)) z ≡ option_and_then (λ a. pointer o interop_tag (entries_at b o a)) z
+  interop_same : (z : Option ℕ) → dir_at b o Exif ≡ z → option_and_then (λ a. pointer o interop_tag (entries_at c o a)) z ≡ option_and_then
+      (λ a. pointer o interop_tag (entries_at b o a)) z
   interop_same None q = refl
   interop_same (Some a) q = ap (pointer o interop_tag) (entries_are Exif a q)
 
@@ -237,7 +265,8 @@ module _ (b c : List ℕ) (o : Order) (longer : length b ≤ length c) (most : l
   unfolding dir_at
   same_dirs Main = ap (λ z. Some (number o 4 z)) same_four
   same_dirs Exif = ap (pointer o exif_tag) main_entries
-  same_dirs Interop = ap (λ es. option_and_then (λ a. pointer o interop_tag (entries_at c o a)) (pointer o exif_tag es)) main_entries ∙ interop_same (pointer o exif_tag (entries_at b o main)) refl
+  same_dirs Interop = ap (λ es. option_and_then (λ a. pointer o interop_tag (entries_at c o a)) (pointer o exif_tag es)) main_entries
+      ∙ interop_same (pointer o exif_tag (entries_at b o main)) refl
   same_dirs Gps = ap (pointer o gps_tag) main_entries
   same_dirs Thumb = ap unless_zero (ap (λ z. next o (table c o (number o 4 z))) same_four ∙ ap (next o) (table_at Main main main_there))
 
@@ -247,7 +276,8 @@ module _ (b c : List ℕ) (o : Order) (longer : length b ≤ length c) (most : l
 
   -- ---- the parts
 
-  opt_map : {X : Type 0} (g h : ℕ → X) (d : Dir) → ((a : ℕ) → dir_at b o d ≡ Some a → g a ≡ h a) → option_map g (dir_at c o d) ≡ option_map h (dir_at b o d)
+  opt_map : {X : Type 0} (g h : ℕ → X) (d : Dir) → ((a : ℕ) → dir_at b o d ≡ Some a → g a ≡ h a)
+      → option_map g (dir_at c o d) ≡ option_map h (dir_at b o d)
   opt_map g h d e = ap (option_map g) (same_dirs d) ∙ go (dir_at b o d) refl
     where
       go : (z : Option ℕ) → dir_at b o d ≡ z → option_map g z ≡ option_map h z
@@ -283,9 +313,13 @@ module _ (b c : List ℕ) (o : Order) (longer : length b ≤ length c) (most : l
 
     strips_same : strip_ranges c o (entries_at c o a) ≡ strip_ranges b o (entries_at b o a)
     unfolding strip_ranges
-    strips_same = ap (strip_ranges c o) (entries_are Thumb a at) ∙ both_same (entry_with strip_offsets_tag es) (entry_with strip_lengths_tag es) (found_raw (λ e. raw c o e ≡ raw b o e) strip_offsets_tag es (raws Thumb a at)) (found_raw (λ e. raw c o e ≡ raw b o e) strip_lengths_tag es (raws Thumb a at))
+    strips_same = ap (strip_ranges c o) (entries_are Thumb a at)
+        ∙ both_same (entry_with strip_offsets_tag es) (entry_with strip_lengths_tag es)
+        (found_raw (λ e. raw c o e ≡ raw b o e) strip_offsets_tag es (raws Thumb a at))
+        (found_raw (λ e. raw c o e ≡ raw b o e) strip_lengths_tag es (raws Thumb a at))
       where
-        both_same : (u w : Option Entry) → IfSome u (λ e. raw c o e ≡ raw b o e) → IfSome w (λ e. raw c o e ≡ raw b o e) → both (λ x n. ranges_of (numbers c o x) (numbers c o n)) u w ≡ both (λ x n. ranges_of (numbers b o x) (numbers b o n)) u w
+        both_same : (u w : Option Entry) → IfSome u (λ e. raw c o e ≡ raw b o e) → IfSome w (λ e. raw c o e ≡ raw b o e)
+            → both (λ x n. ranges_of (numbers c o x) (numbers c o n)) u w ≡ both (λ x n. ranges_of (numbers b o x) (numbers b o n)) u w
         both_same None w h k = refl
         both_same (Some u) None h k = refl
         both_same (Some u) (Some w) h k = ap₂ (λ x n. Some (ranges_of x n)) (numbers_same u h) (numbers_same w k)
@@ -300,15 +334,18 @@ module _ (b c : List ℕ) (o : Order) (longer : length b ≤ length c) (most : l
     unfolding thumb_ranges
     parts_agree = subst (λ z. AllByRecursion (AgreeIn b c) (listed (option_map (thumb_ranges b o) z))) at agree_thumb
 
-    jpeg_bytes : (r : Option Range) → IfSome r (IsInside b) → AllByRecursion (AgreeIn b c) (option_to_list r) → option_map (bytes_of c) r ≡ option_map (bytes_of b) r
+    jpeg_bytes : (r : Option Range) → IfSome r (IsInside b) → AllByRecursion (AgreeIn b c) (option_to_list r)
+        → option_map (bytes_of c) r ≡ option_map (bytes_of b) r
     jpeg_bytes None i h = refl
     jpeg_bytes (Some r) i h = ap (λ y. Some y) (same_part b c r.start r.size longer i h.0)
 
-    each_strip : (rs : List Range) → AllByRecursion (IsInside b) rs → AllByRecursion (AgreeIn b c) rs → map (bytes_of c) rs ≡ map (bytes_of b) rs
+    each_strip : (rs : List Range) → AllByRecursion (IsInside b) rs → AllByRecursion (AgreeIn b c) rs
+        → map (bytes_of c) rs ≡ map (bytes_of b) rs
     each_strip [] i h = refl
     each_strip (r ∷ rs) i h = ap₂ (λ y ys. y ∷ ys) (same_part b c r.start r.size longer i.0 h.0) (each_strip rs i.1 h.1)
 
-    strip_bytes : (r : Option (List Range)) → IfSome r (AllByRecursion (IsInside b)) → AllByRecursion (AgreeIn b c) (listed r) → option_map (map (bytes_of c)) r ≡ option_map (map (bytes_of b)) r
+    strip_bytes : (r : Option (List Range)) → IfSome r (AllByRecursion (IsInside b)) → AllByRecursion (AgreeIn b c) (listed r)
+        → option_map (map (bytes_of c)) r ≡ option_map (map (bytes_of b)) r
     strip_bytes None i h = refl
     strip_bytes (Some rs) i h = ap (λ y. Some y) (each_strip rs i h)
 
@@ -316,8 +353,11 @@ module _ (b c : List ℕ) (o : Order) (longer : length b ≤ length c) (most : l
     unfolding thumbnail
     thumb_same i = record {
       fields = fields_are Thumb a at i;
-      jpeg = (ap (option_map (bytes_of c)) jpeg_same ∙ jpeg_bytes (jpeg_range o es) thumb_is.jpeg_inside (each_left (AgreeIn b c) (option_to_list (jpeg_range o es)) _ parts_agree)) i;
-      strips = (ap (option_map (map (bytes_of c))) strips_same ∙ strip_bytes (strip_ranges b o es) thumb_is.strips_inside (each_right (AgreeIn b c) (option_to_list (jpeg_range o es)) _ parts_agree)) i;
+      jpeg = (ap (option_map (bytes_of c)) jpeg_same
+          ∙ jpeg_bytes (jpeg_range o es) thumb_is.jpeg_inside (each_left (AgreeIn b c) (option_to_list (jpeg_range o es)) _ parts_agree)) i;
+      strips = (ap (option_map (map (bytes_of c))) strips_same
+          ∙ strip_bytes (strip_ranges b o es) thumb_is.strips_inside (each_right (AgreeIn b c) (option_to_list (jpeg_range o es)) _
+          parts_agree)) i;
     }
 
     thumb_ranges_same : thumb_ranges c o a ≡ thumb_ranges b o a
@@ -334,11 +374,16 @@ module _ (b c : List ℕ) (o : Order) (longer : length b ≤ length c) (most : l
 
     thumb_too : IsThumbnail c o a
     thumb_too = record {
-      jpeg_pair = ap (λ es. are_paired (entry_with jpeg_offset_tag es) (entry_with jpeg_length_tag es)) (entries_are Thumb a at) ∙ thumb_is.jpeg_pair;
+      jpeg_pair = ap (λ es. are_paired (entry_with jpeg_offset_tag es) (entry_with jpeg_length_tag es)) (entries_are Thumb a at)
+          ∙ thumb_is.jpeg_pair;
       jpeg_inside = subst (λ r. IfSome r (IsInside c)) (sym jpeg_same) (still_inside (jpeg_range o es) thumb_is.jpeg_inside);
-      strip_pair = ap (λ es. are_paired (entry_with strip_offsets_tag es) (entry_with strip_lengths_tag es)) (entries_are Thumb a at) ∙ thumb_is.strip_pair;
-      strip_counts = subst (λ es. option_map (λ (e : Entry). e.count) (entry_with strip_offsets_tag es) ≡ option_map (λ (e : Entry). e.count) (entry_with strip_lengths_tag es)) (sym (entries_are Thumb a at)) thumb_is.strip_counts;
-      strips_inside = subst (λ r. IfSome r (AllByRecursion (IsInside c))) (sym strips_same) (all_inside (strip_ranges b o es) thumb_is.strips_inside);
+      strip_pair = ap (λ es. are_paired (entry_with strip_offsets_tag es) (entry_with strip_lengths_tag es)) (entries_are Thumb a at)
+          ∙ thumb_is.strip_pair;
+      strip_counts =
+          subst (λ es. option_map (λ (e : Entry). e.count) (entry_with strip_offsets_tag es) ≡ option_map (λ (e : Entry). e.count)
+          (entry_with strip_lengths_tag es)) (sym (entries_are Thumb a at)) thumb_is.strip_counts;
+      strips_inside =
+          subst (λ r. IfSome r (AllByRecursion (IsInside c))) (sym strips_same) (all_inside (strip_ranges b o es) thumb_is.strips_inside);
       ends = ap (next o) (table_at Thumb a at) ∙ thumb_is.ends;
     }
 
@@ -348,10 +393,15 @@ module _ (b c : List ℕ) (o : Order) (longer : length b ≤ length c) (most : l
 
   same_record : record_at c o (long o (part c 4 4)) ≡ record_at b o main
   unfolding record_at
-  same_record = ap (λ es. option_and_then (λ e. option_and_then (λ f. record_in f (raw c o e)) (form_of e.code)) (entry_with record_tag es)) main_entries
-      ∙ read (entry_with record_tag (entries_at b o main)) (found_raw (λ e. raw c o e ≡ raw b o e) record_tag (entries_at b o main) (raws Main main main_there))
+  same_record =
+      ap (λ es. option_and_then (λ e. option_and_then (λ f. record_in f (raw c o e)) (form_of e.code)) (entry_with record_tag es))
+      main_entries
+      ∙ read (entry_with record_tag (entries_at b o main)) (found_raw (λ e. raw c o e ≡ raw b o e) record_tag (entries_at b o main)
+      (raws Main main main_there))
     where
-      read : (z : Option Entry) → IfSome z (λ e. raw c o e ≡ raw b o e) → option_and_then (λ e. option_and_then (λ f. record_in f (raw c o e)) (form_of e.code)) z ≡ option_and_then (λ e. option_and_then (λ f. record_in f (raw b o e)) (form_of e.code)) z
+      read : (z : Option Entry) → IfSome z (λ e. raw c o e ≡ raw b o e)
+          → option_and_then (λ e. option_and_then (λ f. record_in f (raw c o e)) (form_of e.code)) z ≡ option_and_then
+          (λ e. option_and_then (λ f. record_in f (raw b o e)) (form_of e.code)) z
       read None h = refl
       read (Some e) h = ap (λ x. option_and_then (λ f. record_in f x) (form_of e.code)) h
 
@@ -368,7 +418,8 @@ module _ (b c : List ℕ) (o : Order) (longer : length b ≤ length c) (most : l
   pub same_footprint : footprint c o ≡ footprint b o
   unfolding footprint
   same_footprint = ap₂ (λ g t. range 0 8 ∷ g ++ t)
-      (ap₂ (λ r1 y. r1 ++ y) (one Main) (ap₂ (λ r2 y. r2 ++ y) (one Exif) (ap₂ (λ r3 y. r3 ++ y) (one Interop) (ap₂ (λ r4 y. r4 ++ y) (one Gps) (ap (λ r5. r5 ++ []) (one Thumb))))))
+      (ap₂ (λ r1 y. r1 ++ y) (one Main) (ap₂ (λ r2 y. r2 ++ y) (one Exif) (ap₂ (λ r3 y. r3 ++ y) (one Interop)
+      (ap₂ (λ r4 y. r4 ++ y) (one Gps) (ap (λ r5. r5 ++ []) (one Thumb))))))
       (ap listed (opt_map (thumb_ranges c o) (thumb_ranges b o) Thumb thumb_ranges_same))
     where
       one : (d : Dir) → listed (option_map (dir_ranges c o) (dir_at c o d)) ≡ listed (option_map (dir_ranges b o) (dir_at b o d))
@@ -379,11 +430,30 @@ module _ (b c : List ℕ) (o : Order) (longer : length b ≤ length c) (most : l
     least = (let e = x.least in omega arith);
     most = most;
     begins = same_magic ∙ x.begins;
-    directories = (dir_too_at Main (dir_at b o Main) refl, (dir_too_at Exif (dir_at b o Exif) refl, (dir_too_at Interop (dir_at b o Interop) refl, (dir_too_at Gps (dir_at b o Gps) refl, (dir_too_at Thumb (dir_at b o Thumb) refl, tt)))));
+    directories = (
+      dir_too_at Main (dir_at b o Main) refl,
+      (
+        dir_too_at Exif (dir_at b o Exif) refl,
+        (
+          dir_too_at Interop (dir_at b o Interop) refl,
+          (
+            dir_too_at Gps (dir_at b o Gps) refl,
+            (dir_too_at Thumb (dir_at b o Thumb) refl, tt),
+          ),
+        ),
+      ),
+    );
     thumbnail = thumb_too_at (dir_at b o Thumb) refl;
     apart = subst AllApart (sym same_footprint) x.apart;
   }
 
 -- Only the footprint counts.
-pub footprint_counts : (b c : List ℕ) (m : Meaning) (s : SaysExif b m) → length b ≤ length c → length c ≤ limit → AllByRecursion (AgreeIn b c) (footprint b s.order) → SaysExif c m
-footprint_counts b c m s l k a = record { order = s.order; is_block = exif_too b c s.order l k s.is_block a; says = s.says ∙ sym (same_meaning b c s.order l k s.is_block a) }
+pub footprint_counts : (b c : List ℕ) (m : Meaning) (s : SaysExif b m) → length b ≤ length c → length c ≤ limit
+    → AllByRecursion (AgreeIn b c) (footprint b s.order) → SaysExif c m
+footprint_counts b c m s l k a =
+    record {
+      order =
+          s.order;
+      is_block = exif_too b c s.order l k s.is_block a;
+      says = s.says ∙ sym (same_meaning b c s.order l k s.is_block a);
+    }

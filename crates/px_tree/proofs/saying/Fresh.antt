@@ -19,7 +19,8 @@ unturned : (r : Range) (held rs : List Range) → Clear (r ∷ held) rs → AllB
 unturned r held [] h = tt
 unturned r held (s ∷ rs) h = (apart_turned s r h.0.0, unturned r held rs h.1)
 
-pub fresh_cons : (held : List Range) (r : Range) (rs : List Range) → AllByRecursion (Apart r) held → Fresh (r ∷ held) rs → Fresh held (r ∷ rs)
+pub fresh_cons : (held : List Range) (r : Range) (rs : List Range) → AllByRecursion (Apart r) held → Fresh (r ∷ held) rs
+    → Fresh held (r ∷ rs)
 fresh_cons held r rs a f = record {
   clear = (a, each_map (λ s. AllByRecursion (Apart s) (r ∷ held)) (λ s. AllByRecursion (Apart s) held) (λ s h. h.1) rs f.clear);
   apart = (unturned r held rs f.clear, f.apart);
@@ -27,7 +28,11 @@ fresh_cons held r rs a f = record {
 
 apart_append : (rs ss : List Range) → AllApart rs → AllApart ss → Clear rs ss → AllApart (rs ++ ss)
 apart_append [] ss a b c = b
-apart_append (r ∷ rs) ss a b c = (each_append (Apart r) rs ss a.0 (unturned r rs ss c), apart_append rs ss a.1 b (each_map (λ s. AllByRecursion (Apart s) (r ∷ rs)) (λ s. AllByRecursion (Apart s) rs) (λ s h. h.1) ss c))
+apart_append (r ∷ rs) ss a b c = (
+  each_append (Apart r) rs ss a.0 (unturned r rs ss c),
+  apart_append rs ss a.1 b
+      (each_map (λ s. AllByRecursion (Apart s) (r ∷ rs)) (λ s. AllByRecursion (Apart s) rs) (λ s h. h.1) ss c),
+)
 
 pub apart_left : (rs ss : List Range) → AllApart (rs ++ ss) → AllApart rs
 apart_left [] ss h = tt
@@ -51,8 +56,10 @@ clear_across (r ∷ rs) ss h = both ss (each_right (Apart r) rs ss h.0) (clear_a
 
 pub fresh_append : (held rs ss : List Range) → Fresh held rs → Fresh (rs ++ held) ss → Fresh held (rs ++ ss)
 fresh_append held rs ss f g = record {
-  clear = each_append (λ r. AllByRecursion (Apart r) held) rs ss f.clear (each_map (λ s. AllByRecursion (Apart s) (rs ++ held)) (λ s. AllByRecursion (Apart s) held) (λ s h. each_right (Apart s) rs held h) ss g.clear);
-  apart = apart_append rs ss f.apart g.apart (each_map (λ s. AllByRecursion (Apart s) (rs ++ held)) (λ s. AllByRecursion (Apart s) rs) (λ s h. each_left (Apart s) rs held h) ss g.clear);
+  clear = each_append (λ r. AllByRecursion (Apart r) held) rs ss f.clear (each_map (λ s. AllByRecursion (Apart s) (rs ++ held))
+      (λ s. AllByRecursion (Apart s) held) (λ s h. each_right (Apart s) rs held h) ss g.clear);
+  apart = apart_append rs ss f.apart g.apart (each_map (λ s. AllByRecursion (Apart s) (rs ++ held)) (λ s. AllByRecursion (Apart s) rs)
+      (λ s h. each_left (Apart s) rs held h) ss g.clear);
 }
 
 pub fresh_left : (held rs ss : List Range) → Fresh held (rs ++ ss) → Fresh held rs
@@ -60,7 +67,9 @@ fresh_left held rs ss f = record { clear = each_left (λ r. AllByRecursion (Apar
 
 pub fresh_right : (held rs ss : List Range) → Fresh held (rs ++ ss) → Fresh (rs ++ held) ss
 fresh_right held rs ss f = record {
-  clear = each_map₂ (λ s. AllByRecursion (Apart s) rs) (λ s. AllByRecursion (Apart s) held) (λ s. AllByRecursion (Apart s) (rs ++ held)) (λ s h k. each_append (Apart s) rs held h k) ss (clear_across rs ss f.apart) (each_right (λ r. AllByRecursion (Apart r) held) rs ss f.clear);
+  clear = each_map₂ (λ s. AllByRecursion (Apart s) rs) (λ s. AllByRecursion (Apart s) held) (λ s. AllByRecursion (Apart s) (rs ++ held))
+      (λ s h k. each_append (Apart s) rs held h k) ss (clear_across rs ss f.apart)
+      (each_right (λ r. AllByRecursion (Apart r) held) rs ss f.clear);
   apart = apart_right rs ss f.apart;
 }
 

@@ -1,5 +1,7 @@
 -- Where each check holds, a block says a meaning.
-use Rattle.std.proofs.Common.{◌≡◌, ℕ, ◌+◌, ◌<◌, ◌≤◌, ◌==◌, ◌⊎◌, nat_lt, nat_le, inl, inr, true, if◌then◌else◌, ◌||◌, Option, Some, None, option_map, List, [], ◌∷◌, ◌++◌, map, filter_map, flat_map, length, take, refl, sym, ◌∙◌, ap, ap₂, subst, arith, leb-true, eqb-true, eq-eqb}
+use Rattle.std.proofs.Common.{◌≡◌, ℕ, ◌+◌, ◌<◌, ◌≤◌, ◌==◌, ◌⊎◌, nat_lt, nat_le, inl, inr, true, if◌then◌else◌, ◌||◌, Option, Some, None}
+use Rattle.std.proofs.Common.{option_map, List, [], ◌∷◌, ◌++◌, map, filter_map, flat_map, length, take, refl, sym, ◌∙◌, ap, ap₂, subst}
+use Rattle.std.proofs.Common.{arith, leb-true, eqb-true, eq-eqb}
 use Rattle.std.specs.Prelude.{IfSome, option_to_list}
 use Rattle.std.specs.List.{AllByRecursion, cons_option}
 use Rattle.std.proofs.lemmas.Bool.{cases_Bool, cond-true, cond-false, and_parts, and_from, or_cases, not-true, eqb-false, cases_eq}
@@ -21,7 +23,9 @@ use Rattle.px_tree.specs.Directory.{magic, dirs, dir_at, entries_at, entry_with}
 use Rattle.px_tree.specs.Thumbnail.{are_paired, jpeg_range, strip_ranges, IsInside, IsThumbnail}
 use Rattle.px_tree.specs.Footprint.{listed, placed_range, dir_ranges, thumb_ranges, footprint}
 use Rattle.px_tree.specs.Says.{meaning, SaysExif}
-use Rattle.px_tree.specs.Checks.{same_bytes, order_of, begins_header, is_not_below, differs, is_free_value, entry_checks, entries_checks, dir_checks, named_at, checks_at, dirs_checks, dirs_held, same_count, range_checks, thumb_checks, thumb_checks_at, tree_checks, checks_in, checks, FirstFault}
+use Rattle.px_tree.specs.Checks.{same_bytes, order_of, begins_header, is_not_below, differs, is_free_value, entry_checks, entries_checks}
+use Rattle.px_tree.specs.Checks.{dir_checks, named_at, checks_at, dirs_checks, dirs_held, same_count, range_checks, thumb_checks}
+use Rattle.px_tree.specs.Checks.{thumb_checks_at, tree_checks, checks_in, checks, FirstFault}
 use Rattle.px_tree.proofs.saying.Fresh.{Fresh, fresh_cons, fresh_append, fresh_left, fresh_right, fresh_nil, fresh_all}
 
 abbrev pub Holds : Check → Type 0
@@ -34,7 +38,8 @@ pub none_false : (cs : List Check) → first_false cs ≡ None → AllHold cs
 none_false [] e = tt
 none_false (c ∷ cs) e = elim (cases_Bool c.holds) [
   | inl t ↦ (t, none_false cs (sym (cond-true c.holds (first_false cs) (Some (c.cause, c.place)) t) ∙ e))
-  | inr t ↦ let q : ◌≡◌ {A = Option (Cause × ℕ)} (Some (c.cause, c.place)) None = sym (cond-false c.holds (first_false cs) (Some (c.cause, c.place)) t) ∙ e in cc
+  | inr t ↦ let q : ◌≡◌ {A = Option (Cause × ℕ)} (Some (c.cause, c.place)) None =
+      sym (cond-false c.holds (first_false cs) (Some (c.cause, c.place)) t) ∙ e in cc
 ]
 
 -- ---- one entry and all entries
@@ -54,7 +59,8 @@ module _ (b : List ℕ) (o : Order) (d : Dir) where
   free_value held None h = tt
   free_value held (Some r) h = apart_each r held h
 
-  fresh_value : (held : List Range) (r : Option Range) (rs : List Range) → IfSome r (λ r. AllByRecursion (Apart r) held) → Fresh (option_to_list r ++ held) rs → Fresh held (cons_option r rs)
+  fresh_value : (held : List Range) (r : Option Range) (rs : List Range) → IfSome r (λ r. AllByRecursion (Apart r) held)
+      → Fresh (option_to_list r ++ held) rs → Fresh held (cons_option r rs)
   fresh_value held None rs h f = f
   fresh_value held (Some r) rs h f = fresh_cons held r rs h f
 
@@ -82,11 +88,15 @@ module _ (b : List ℕ) (o : Order) (d : Dir) where
   after_some None t (s ∷ ts) h k = (tt, after_some None t ts h k.1)
   after_some (Some u) t ts h k = each_map (λ s. t < s) (λ s. u < s) (λ s l. omega arith) ts k
 
-  entries_facts : (held : List Range) (p : ℕ) (u : Option ℕ) (es : List Entry) → AllHold (entries_checks b o d held p u es) → EntriesFacts held u es
+  entries_facts : (held : List Range) (p : ℕ) (u : Option ℕ) (es : List Entry) → AllHold (entries_checks b o d held p u es)
+      → EntriesFacts held u es
   entries_facts held p u [] h = record { after = tt; rising = tt; each = tt; fresh = fresh_nil held }
   entries_facts held p u (e ∷ es) h =
-      let x = entry_facts held p u e (each_left Holds (entry_checks b o d held p u e) (entries_checks b o d (option_to_list (placed_range o e) ++ held) (p + 12) (Some e.tag) es) h) in
-      let y = entries_facts (option_to_list (placed_range o e) ++ held) (p + 12) (Some e.tag) es (each_right Holds (entry_checks b o d held p u e) (entries_checks b o d (option_to_list (placed_range o e) ++ held) (p + 12) (Some e.tag) es) h) in
+      let x = entry_facts held p u e (each_left Holds (entry_checks b o d held p u e)
+      (entries_checks b o d (option_to_list (placed_range o e) ++ held) (p + 12) (Some e.tag) es) h) in
+      let y = entries_facts (option_to_list (placed_range o e) ++ held) (p + 12) (Some e.tag) es
+      (each_right Holds (entry_checks b o d held p u e) (entries_checks b o d (option_to_list (placed_range o e) ++ held) (p + 12)
+      (Some e.tag) es) h) in
       record {
         after = (x.after, after_some u e.tag (map (λ e. e.tag) es) x.after y.after);
         rising = (y.after, y.rising);
@@ -96,13 +106,15 @@ module _ (b : List ℕ) (o : Order) (d : Dir) where
 
   -- ---- one directory
 
-  pub dir_facts : (earlier : List ℕ) (held : List Range) (p a : ℕ) → AllHold (dir_checks b o earlier held p d a) → IsDirectory b o d a × Fresh held (dir_ranges b o a)
+  pub dir_facts : (earlier : List ℕ) (held : List Range) (p a : ℕ) → AllHold (dir_checks b o earlier held p d a)
+      → IsDirectory b o d a × Fresh held (dir_ranges b o a)
   unfolding dir_checks dir_ranges has_table
   dir_facts earlier held p a h =
       let n = short o (part b a 2) in
       let f = entries_facts (range a (table_size n) ∷ held) (a + 2) None (entries_at b o a) h.1.1.1.1.1 in (
         record { there = and_from (nat_le 1 n) (nat_le (a + table_size n) (length b)) h.1.1.0 h.1.1.1.0; rising = f.rising; each = f.each },
-        fresh_cons held (range a (table_size n)) (filter_map (placed_range o) (entries_at b o a)) (apart_each (range a (table_size n)) held h.1.1.1.1.0) f.fresh,
+        fresh_cons held (range a (table_size n)) (filter_map (placed_range o) (entries_at b o a))
+            (apart_each (range a (table_size n)) held h.1.1.1.1.0) f.fresh,
       )
 
 -- ---- the directories in order
@@ -114,19 +126,25 @@ module _ (b : List ℕ) (o : Order) where
   abbrev InOrder : Dir → Type 0
   InOrder d = IfSome (dir_at b o d) (IsDirectory b o d)
 
-  pub at_facts : (earlier : List ℕ) (held : List Range) (d : Dir) (z : Option ℕ) → AllHold (checks_at b o earlier held d z) → IfSome z (IsDirectory b o d) × Fresh held (listed (option_map (dir_ranges b o) z))
+  pub at_facts : (earlier : List ℕ) (held : List Range) (d : Dir) (z : Option ℕ) → AllHold (checks_at b o earlier held d z)
+      → IfSome z (IsDirectory b o d) × Fresh held (listed (option_map (dir_ranges b o) z))
   at_facts earlier held d None h = (tt, fresh_nil held)
   at_facts earlier held d (Some a) h = dir_facts b o d earlier held (named_at b o d) a h
 
-  pub dirs_facts : (earlier : List ℕ) (held : List Range) (ds : List Dir) → AllHold (dirs_checks b o earlier held ds) → AllByRecursion InOrder ds × Fresh held (flat_map of_dir ds)
+  pub dirs_facts : (earlier : List ℕ) (held : List Range) (ds : List Dir) → AllHold (dirs_checks b o earlier held ds)
+      → AllByRecursion InOrder ds × Fresh held (flat_map of_dir ds)
   dirs_facts earlier held [] h = (tt, fresh_nil held)
   dirs_facts earlier held (d ∷ ds) h =
-      let x = at_facts earlier held d (dir_at b o d) (each_left Holds (checks_at b o earlier held d (dir_at b o d)) (dirs_checks b o (option_to_list (dir_at b o d) ++ earlier) (of_dir d ++ held) ds) h) in
-      let y = dirs_facts (option_to_list (dir_at b o d) ++ earlier) (of_dir d ++ held) ds (each_right Holds (checks_at b o earlier held d (dir_at b o d)) (dirs_checks b o (option_to_list (dir_at b o d) ++ earlier) (of_dir d ++ held) ds) h) in
+      let x = at_facts earlier held d (dir_at b o d) (each_left Holds (checks_at b o earlier held d (dir_at b o d))
+      (dirs_checks b o (option_to_list (dir_at b o d) ++ earlier) (of_dir d ++ held) ds) h) in
+      let y = dirs_facts (option_to_list (dir_at b o d) ++ earlier) (of_dir d
+      ++ held) ds (each_right Holds (checks_at b o earlier held d (dir_at b o d))
+      (dirs_checks b o (option_to_list (dir_at b o d) ++ earlier) (of_dir d ++ held) ds) h) in
       ((x.0, y.0), fresh_append held (of_dir d) (flat_map of_dir ds) x.1 y.1)
 
   -- the ranges of the directories and those after them
-  fresh_dirs : (ds : List Dir) (held ss : List Range) → Fresh held (flat_map of_dir ds) → Fresh (dirs_held b o held ds) ss → Fresh held (flat_map of_dir ds ++ ss)
+  fresh_dirs : (ds : List Dir) (held ss : List Range) → Fresh held (flat_map of_dir ds) → Fresh (dirs_held b o held ds) ss
+      → Fresh held (flat_map of_dir ds ++ ss)
   fresh_dirs [] held ss f g = g
   fresh_dirs (d ∷ ds) held ss f g = subst (Fresh held) (sym (append_assoc (of_dir d) (flat_map of_dir ds) ss))
       (fresh_append held (of_dir d) (flat_map of_dir ds ++ ss) (fresh_left held (of_dir d) (flat_map of_dir ds) f)
@@ -136,7 +154,8 @@ module _ (b : List ℕ) (o : Order) where
 
   pub ranges_facts : (p : ℕ) (held rs : List Range) → AllHold (range_checks b p held rs) → AllByRecursion (IsInside b) rs × Fresh held rs
   ranges_facts p held [] h = (tt, fresh_nil held)
-  ranges_facts p held (r ∷ rs) h = let y = ranges_facts p (r ∷ held) rs h.1.1 in ((leb-true (r.start + r.size) (length b) h.0, y.0), fresh_cons held r rs (apart_each r held h.1.0) y.1)
+  ranges_facts p held (r ∷ rs) h = let y = ranges_facts p (r ∷ held) rs h.1.1 in
+      ((leb-true (r.start + r.size) (length b) h.0, y.0), fresh_cons held r rs (apart_each r held h.1.0) y.1)
 
   in_list : (P : Range → Type 0) (r : Option Range) → AllByRecursion P (option_to_list r) → IfSome r P
   in_list P None h = tt
@@ -146,7 +165,8 @@ module _ (b : List ℕ) (o : Order) where
   in_lists P None h = tt
   in_lists P (Some r) h = h
 
-  counts_from : (x y : Option Entry) → are_paired x y ≡ true → same_count x y ≡ true → option_map (λ (e : Entry). e.count) x ≡ option_map (λ (e : Entry). e.count) y
+  counts_from : (x y : Option Entry) → are_paired x y ≡ true → same_count x y ≡ true
+      → option_map (λ (e : Entry). e.count) x ≡ option_map (λ (e : Entry). e.count) y
   counts_from None None h k = refl
   counts_from (Some x) (Some y) h k = ap (λ n. Some n) (eqb-true x.count y.count k)
   counts_from None (Some y) h k = cc
@@ -167,7 +187,8 @@ module _ (b : List ℕ) (o : Order) where
     thumb_facts h =
         let rest = h.1.1.1.1 in
         let j = ranges_facts _ held jpegs (each_left Holds (range_checks b _ held jpegs) (range_checks b _ (jpegs ++ held) strips) rest) in
-        let s = ranges_facts _ (jpegs ++ held) strips (each_right Holds (range_checks b _ held jpegs) (range_checks b _ (jpegs ++ held) strips) rest) in (
+        let s = ranges_facts _ (jpegs ++ held) strips (each_right Holds (range_checks b _ held jpegs)
+        (range_checks b _ (jpegs ++ held) strips) rest) in (
           record {
             jpeg_pair = h.0;
             jpeg_inside = in_list (IsInside b) (jpeg_range o es) j.0;
@@ -179,7 +200,8 @@ module _ (b : List ℕ) (o : Order) where
           fresh_append held jpegs strips j.1 s.1,
         )
 
-  thumb_at_facts : (held : List Range) (z : Option ℕ) → AllHold (thumb_checks_at b o held z) → IfSome z (IsThumbnail b o) × Fresh held (listed (option_map (thumb_ranges b o) z))
+  thumb_at_facts : (held : List Range) (z : Option ℕ) → AllHold (thumb_checks_at b o held z)
+      → IfSome z (IsThumbnail b o) × Fresh held (listed (option_map (thumb_ranges b o) z))
   thumb_at_facts held None h = (tt, fresh_nil held)
   thumb_at_facts held (Some a) h = thumb_facts held a h
 
@@ -191,18 +213,22 @@ module _ (b : List ℕ) (o : Order) where
   abbrev header : List Range
   header = range 0 8 ∷ []
 
-  tree_facts : AllHold (tree_checks b o) → AllByRecursion InOrder dirs × IfSome (dir_at b o Thumb) (IsThumbnail b o) × AllApart (footprint b o)
+  tree_facts : AllHold (tree_checks b o) → AllByRecursion InOrder dirs × IfSome (dir_at b o Thumb) (IsThumbnail b o) × AllApart
+      (footprint b o)
   unfolding tree_checks footprint
   tree_facts h =
-      let x = dirs_facts [] header dirs (each_left Holds (dirs_checks b o [] header dirs) (thumb_checks_at b o (dirs_held b o header dirs) (dir_at b o Thumb)) h) in
-      let y = thumb_at_facts (dirs_held b o header dirs) (dir_at b o Thumb) (each_right Holds (dirs_checks b o [] header dirs) (thumb_checks_at b o (dirs_held b o header dirs) (dir_at b o Thumb)) h) in
+      let x = dirs_facts [] header dirs (each_left Holds (dirs_checks b o [] header dirs)
+      (thumb_checks_at b o (dirs_held b o header dirs) (dir_at b o Thumb)) h) in
+      let y = thumb_at_facts (dirs_held b o header dirs) (dir_at b o Thumb)
+      (each_right Holds (dirs_checks b o [] header dirs) (thumb_checks_at b o (dirs_held b o header dirs) (dir_at b o Thumb)) h) in
       (x.0, y.0, fresh_all (range 0 8) (flat_map of_dir dirs ++ of_thumb) (fresh_dirs dirs header of_thumb x.1 y.1))
 
 -- ---- the header
 
 bytes-true : (xs ys : List ℕ) → same_bytes xs ys ≡ true → xs ≡ ys
 bytes-true [] [] h = refl
-bytes-true (x ∷ xs) (y ∷ ys) h = let p = and_parts (x == y) (same_bytes xs ys) h in ap₂ (λ z zs. z ∷ zs) (eqb-true x y p.0) (bytes-true xs ys p.1)
+bytes-true (x ∷ xs) (y ∷ ys) h =
+    let p = and_parts (x == y) (same_bytes xs ys) h in ap₂ (λ z zs. z ∷ zs) (eqb-true x y p.0) (bytes-true xs ys p.1)
 bytes-true [] (y ∷ ys) h = cc
 bytes-true (x ∷ xs) [] h = cc
 
@@ -220,7 +246,8 @@ all_magic b Most l = take_all (length b) (magic Most) (omega arith)
 
 pub begun : (b : List ℕ) → 8 ≤ length b → begins_header b ≡ true → (o : Order) × (take 4 b ≡ magic o)
 begun b l h = elim (or_cases (same_bytes (take 4 b) (take (length b) (magic Least))) (same_bytes (take 4 b) (take (length b) (magic Most)))
-    (and_parts (nat_lt 0 (length b)) (same_bytes (take 4 b) (take (length b) (magic Least)) || same_bytes (take 4 b) (take (length b) (magic Most))) h).1) [
+    (and_parts (nat_lt 0 (length b)) (same_bytes (take 4 b) (take (length b) (magic Least)) || same_bytes (take 4 b)
+    (take (length b) (magic Most))) h).1) [
       | inl t ↦ (Least, bytes-true (take 4 b) (take (length b) (magic Least)) t ∙ all_magic b Least l)
       | inr t ↦ (Most, bytes-true (take 4 b) (take (length b) (magic Most)) t ∙ all_magic b Most l)
     ]
@@ -232,8 +259,21 @@ judged_well b h =
     let most : length b ≤ limit = leb-true (length b) limit h.0 in
     let least : 8 ≤ length b = leb-true 8 (length b) h.1.1.0 in
     let o = begun b least h.1.0 in
-    let t = tree_facts b o.0 (subst (λ x. AllHold (checks_in b x)) (order_told b o.0 o.1) h.1.1.1) in
-    (meaning b o.0, record { order = o.0; is_block = record { least = least; most = most; begins = o.1; directories = t.0; thumbnail = t.1; apart = t.2 }; says = refl })
+    let t = tree_facts b o.0 (subst (λ x. AllHold (checks_in b x)) (order_told b o.0 o.1) h.1.1.1) in (
+      meaning b o.0,
+      record {
+        order = o.0;
+        is_block = record {
+          least = least;
+          most = most;
+          begins = o.1;
+          directories = t.0;
+          thumbnail = t.1;
+          apart = t.2;
+        };
+        says = refl;
+      },
+    )
 
 -- Each block says a meaning, or has a first fault.
 pub said_or_fault : (b : List ℕ) → ((m : Meaning) × SaysExif b m) ⊎ ((c : Cause) × (p : ℕ) × FirstFault b c p)

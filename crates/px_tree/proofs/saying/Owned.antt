@@ -1,5 +1,6 @@
 -- The owners of bytes, each with its place, own the footprint.
-use Rattle.std.proofs.Common.{◌≡◌, ℕ, ◌+◌, Option, Some, None, option_map, List, [], ◌∷◌, ◌++◌, map, filter_map, flat_map, refl, ◌∙◌, ap, ap₂}
+use Rattle.std.proofs.Common.{◌≡◌, ℕ, ◌+◌, Option, Some, None, option_map, List, [], ◌∷◌, ◌++◌, map, filter_map, flat_map, refl, ◌∙◌, ap}
+use Rattle.std.proofs.Common.{ap₂}
 use Rattle.std.specs.Prelude.{option_to_list}
 use Rattle.std.specs.List.{cons_option}
 use Rattle.std.proofs.lemmas.List.{map-append}
@@ -27,20 +28,23 @@ pub ranges-placed : (p : ℕ) (rs : List Range) → ranges (map (λ r. (p, r)) r
 ranges-placed p [] = refl
 ranges-placed p (r ∷ rs) = ap (λ zs. r ∷ zs) (ranges-placed p rs)
 
-ranges-cons : (p : ℕ) (r : Option Range) (xs : List (ℕ × Range)) (rs : List Range) → ranges xs ≡ rs → ranges (cons_option (option_map (λ r. (p, r)) r) xs) ≡ cons_option r rs
+ranges-cons : (p : ℕ) (r : Option Range) (xs : List (ℕ × Range)) (rs : List Range) → ranges xs ≡ rs
+    → ranges (cons_option (option_map (λ r. (p, r)) r) xs) ≡ cons_option r rs
 ranges-cons p None xs rs e = e
 ranges-cons p (Some r) xs rs e = ap (λ zs. r ∷ zs) e
 
 pub ranges-values : (o : Order) (p : ℕ) (es : List Entry) → ranges (value_owners o p es) ≡ filter_map (placed_range o) es
 ranges-values o p [] = refl
-ranges-values o p (e ∷ es) = ranges-cons p (placed_range o e) (value_owners o (p + 12) es) (filter_map (placed_range o) es) (ranges-values o (p + 12) es)
+ranges-values o p (e ∷ es) =
+    ranges-cons p (placed_range o e) (value_owners o (p + 12) es) (filter_map (placed_range o) es) (ranges-values o (p + 12) es)
 
 module _ (b : List ℕ) (o : Order) where
   pub ranges-dir : (d : Dir) (a : ℕ) → ranges (dir_owners b o d a) ≡ dir_ranges b o a
   unfolding dir_owners dir_ranges
   ranges-dir d a = ap (λ zs. table_range b o a ∷ zs) (ranges-values o (a + 2) (entries_at b o a))
 
-  ranges-listed : (f : ℕ → List (ℕ × Range)) (g : ℕ → List Range) (z : Option ℕ) → ((a : ℕ) → ranges (f a) ≡ g a) → ranges (listed (option_map f z)) ≡ listed (option_map g z)
+  ranges-listed : (f : ℕ → List (ℕ × Range)) (g : ℕ → List Range) (z : Option ℕ) → ((a : ℕ) → ranges (f a) ≡ g a)
+      → ranges (listed (option_map f z)) ≡ listed (option_map g z)
   ranges-listed f g None h = refl
   ranges-listed f g (Some a) h = h a
 
@@ -49,7 +53,8 @@ module _ (b : List ℕ) (o : Order) where
 
   pub ranges-dirs : (ds : List Dir) → ranges (flat_map (owners_at b o) ds) ≡ flat_map (ranges_at b o) ds
   ranges-dirs [] = refl
-  ranges-dirs (d ∷ ds) = ranges-append (owners_at b o d) (flat_map (owners_at b o) ds) ∙ ap₂ (λ x y. x ++ y) (ranges-owners_at d) (ranges-dirs ds)
+  ranges-dirs (d ∷ ds) =
+      ranges-append (owners_at b o d) (flat_map (owners_at b o) ds) ∙ ap₂ (λ x y. x ++ y) (ranges-owners_at d) (ranges-dirs ds)
 
   pub ranges-thumb : (a : ℕ) → ranges (thumb_owners b o a) ≡ thumb_ranges b o a
   unfolding thumb_owners thumb_ranges
@@ -63,5 +68,7 @@ module _ (b : List ℕ) (o : Order) where
 -- The owners own the footprint.
 pub owners_own : (b : List ℕ) (o : Order) → ranges (owners b o) ≡ footprint b o
 unfolding owners footprint
-owners_own b o = ap (λ zs. range 0 8 ∷ zs) (ranges-append (flat_map (owners_at b o) dirs) (listed (option_map (thumb_owners b o) (dir_at b o Thumb)))
-    ∙ ap₂ (λ x y. x ++ y) (ranges-dirs b o dirs) (ranges-listed b o (thumb_owners b o) (thumb_ranges b o) (dir_at b o Thumb) (ranges-thumb b o)))
+owners_own b o =
+    ap (λ zs. range 0 8 ∷ zs) (ranges-append (flat_map (owners_at b o) dirs) (listed (option_map (thumb_owners b o) (dir_at b o Thumb)))
+    ∙ ap₂ (λ x y. x ++ y) (ranges-dirs b o dirs) (ranges-listed b o (thumb_owners b o) (thumb_ranges b o) (dir_at b o Thumb)
+    (ranges-thumb b o)))

@@ -1,5 +1,6 @@
 -- Fields in order of their tags.
-use Rattle.std.proofs.Common.{◌≡◌, ◌<◌, ◌≤◌, ◌+◌, ◌-◌, ◌==◌, nat_lt, ne_eqb, ℕ, zero, suc, true, false, if◌then◌else◌, Option, List, [], ◌∷◌, length, slice_get, slice_index, get_or, Some, None, is_some, refl, sym, ap, subst, inl, inr, ◌∙◌, arith}
+use Rattle.std.proofs.Common.{◌≡◌, ◌<◌, ◌≤◌, ◌+◌, ◌-◌, ◌==◌, nat_lt, ne_eqb, ℕ, zero, suc, true, false, if◌then◌else◌, Option, List, []}
+use Rattle.std.proofs.Common.{◌∷◌, length, slice_get, slice_index, get_or, Some, None, is_some, refl, sym, ap, subst, inl, inr, ◌∙◌, arith}
 use Rattle.std.proofs.lemmas.Bool.Decides.{nat_tests}
 use Rattle.std.specs.List.{insert, AllByRecursion}
 use Rattle.std.proofs.lemmas.Bool.{cases_lt, cases_Bool, cond-true, cond-false}
@@ -12,13 +13,15 @@ use Rattle.px_tree.specs.Entry.{Rising}
 use Rattle.px_tree.specs.calls.Places.{tags, IsInOrder, IsAt, IsGapFor}
 
 -- no tag of the list
-pub at_tag-none : (fields : Fields) (tag : ℕ) → ((k : ℕ) → k < length fields → slice_index (tags fields) k ≡ tag → ⊥) → at_tag tag fields ≡ None
+pub at_tag-none : (fields : Fields) (tag : ℕ) → ((k : ℕ) → k < length fields → slice_index (tags fields) k ≡ tag → ⊥)
+    → at_tag tag fields ≡ None
 at_tag-none [] tag h = refl
 at_tag-none (f ∷ fields) tag h =
     grind (arith, nat_tests, h 0 (omega arith), at_tag-none fields tag (λ k below. h (suc k) (omega arith)))
 
 -- the field at a place that has the tag
-pub at_tag-place : (fields : Fields) (tag i : ℕ) (f : ℕ × Value) → IsInOrder fields → IsAt fields tag i → slice_get fields i ≡ Some f → at_tag tag fields ≡ Some f.1
+pub at_tag-place : (fields : Fields) (tag i : ℕ) (f : ℕ × Value) → IsInOrder fields → IsAt fields tag i → slice_get fields i ≡ Some f
+    → at_tag tag fields ≡ Some f.1
 at_tag-place [] tag i f ok at got = absurd (omega (arith, at.inside))
 at_tag-place (e ∷ fields) tag zero f ok at got =
     let first : Some e ≡ Some f = got in
@@ -27,7 +30,8 @@ at_tag-place (e ∷ fields) tag zero f ok at got =
 at_tag-place (e ∷ fields) tag (suc i) f ok at got =
     let below : e.0 < get_or (tags fields) i 0 = ok 0 (suc i) (omega arith) at.inside in
     let rest : IsAt fields tag i = record { inside = omega (arith, at.inside); same = at.same } in
-    let found : at_tag tag fields ≡ Some f.1 = at_tag-place fields tag i f (λ j k h in_range. ok (suc j) (suc k) (omega arith) (omega arith)) rest got in
+    let found : at_tag tag fields ≡ Some f.1 =
+    at_tag-place fields tag i f (λ j k h in_range. ok (suc j) (suc k) (omega arith) (omega arith)) rest got in
     grind (arith, nat_tests, at.same, below, found)
 
 -- a field goes to the gap for its tag
@@ -82,10 +86,12 @@ at_tag-gap fields tag i gap = at_tag-none fields tag (λ k in_range same. elim (
 pub at_tag-some : (fields : Fields) (tag i : ℕ) → IsAt fields tag i → is_some (at_tag tag fields) ≡ true
 at_tag-some [] tag i at = absurd (omega (arith, at.inside))
 at_tag-some (f ∷ fields) tag zero at = grind (arith, nat_tests, at.same)
-at_tag-some (f ∷ fields) tag (suc i) at = grind (arith, nat_tests, at_tag-some fields tag i (record { inside = omega (arith, at.inside); same = at.same }))
+at_tag-some (f ∷ fields) tag (suc i) at =
+    grind (arith, nat_tests, at_tag-some fields tag i (record { inside = omega (arith, at.inside); same = at.same }))
 
 -- the gap keeps the order
-pub in_order-insert : (fields : Fields) (tag at : ℕ) (value : Value) → IsInOrder fields → IsGapFor fields tag at → IsInOrder (insert fields at (tag, value))
+pub in_order-insert : (fields : Fields) (tag at : ℕ) (value : Value) → IsInOrder fields → IsGapFor fields tag at
+    → IsInOrder (insert fields at (tag, value))
 in_order-insert fields tag at value ok gap i j lt in_range =
     let old = tags fields in
     let new = insert old at tag in
@@ -93,8 +99,26 @@ in_order-insert fields tag at value ok gap i j lt in_range =
     let length_new = length-insert fields at (tag, value) gap.inside in
     let key_below : (i : ℕ) → i < at → get_or new i 0 ≡ get_or old i 0 = λ i below. get_or-insert_below old at tag 0 i below room in
     let key_here : (i : ℕ) → i ≡ at → get_or new i 0 ≡ tag = λ i here. rw here (get_or-insert_at old at tag 0 room) in
-    let key_above : (i : ℕ) → at < i → get_or new i 0 ≡ get_or old (i - 1) 0 = λ i above. subst (λ q. get_or new q 0 ≡ get_or old (i - 1) 0) {x = i - 1 + 1} (omega arith) (get_or-insert_above old at tag 0 (i - 1) (omega arith) room) in
-    let rises : get_or new i 0 < get_or new j 0 = grind (arith, key_below i, key_here i, key_above i, key_below j, key_here j, key_above j, ok i j, ok i (j - 1), ok (i - 1) (j - 1), gap.below i, gap.above (j - 1), in_range, length_new) in
+    let key_above : (i : ℕ) → at < i → get_or new i 0 ≡ get_or old (i - 1) 0 =
+    λ i above. subst (λ q. get_or new q 0 ≡ get_or old (i - 1) 0) {x = i - 1 + 1} (omega arith)
+    (get_or-insert_above old at tag 0 (i - 1) (omega arith) room) in
+    let rises : get_or new i 0 < get_or new j 0 =
+    grind (
+      arith,
+      key_below i,
+      key_here i,
+      key_above i,
+      key_below j,
+      key_here j,
+      key_above j,
+      ok i j,
+      ok i (j - 1),
+      ok (i - 1) (j - 1),
+      gap.below i,
+      gap.above (j - 1),
+      in_range,
+      length_new,
+    ) in
     rw tags-insert rises
 
 get_some : (fields : Fields) (i : ℕ) (d : ℕ × Value) → i < length fields → slice_get fields i ≡ Some (get_or fields i d)
@@ -103,8 +127,10 @@ get_some (f ∷ fields) zero d h = refl
 get_some (f ∷ fields) (suc i) d h = get_some fields i d (omega arith)
 
 -- the same for a field that was read
-pub at_tag-read : (fields : Fields) (tag i : ℕ) (f : ℕ × Value) → IsInOrder fields → IsAt fields tag i → f ≡ get_or fields i f → at_tag tag fields ≡ Some f.1
-at_tag-read fields tag i f ok at read = at_tag-place fields tag i f ok at (get_some fields i f at.inside ∙ ap (λ (p : ℕ × Value). Some p) (sym read))
+pub at_tag-read : (fields : Fields) (tag i : ℕ) (f : ℕ × Value) → IsInOrder fields → IsAt fields tag i → f ≡ get_or fields i f
+    → at_tag tag fields ≡ Some f.1
+at_tag-read fields tag i f ok at read =
+    at_tag-place fields tag i f ok at (get_some fields i f at.inside ∙ ap (λ (p : ℕ × Value). Some p) (sym read))
 
 all_above : (t : ℕ) (ts : List ℕ) → ((k : ℕ) → k < length ts → t < slice_index ts k) → AllByRecursion (λ u. t < u) ts
 all_above t [] h = tt
@@ -114,8 +140,11 @@ all_above t (u ∷ ts) h = (h 0 (omega arith), all_above t ts (λ k inside. h (s
 pub rising_from_order : (fields : Fields) → IsInOrder fields → Rising (tags fields)
 rising_from_order [] h = tt
 rising_from_order (f ∷ fields) h =
-    let len = length-tags fields in
-    (all_above f.0 (tags fields) (λ k inside. h 0 (suc k) (omega arith) (omega arith)), rising_from_order fields (λ i j lt inside. h (suc i) (suc j) (omega arith) (omega arith)))
+    let len = length-tags fields in (
+      all_above f.0 (tags fields) (λ k inside. h 0 (suc k) (omega arith) (omega arith)),
+      rising_from_order fields
+          (λ i j lt inside. h (suc i) (suc j) (omega arith) (omega arith)),
+    )
 
 above_all : (t : ℕ) (ts : List ℕ) → AllByRecursion (λ u. t < u) ts → (k : ℕ) → k < length ts → t < slice_index ts k
 above_all t [] h k inside = absurd (omega arith)
@@ -139,7 +168,8 @@ get_after_put (f ∷ fields) t u v h = elim (cases_Bool (nat_lt t f.0)) [
   | inr l ↦ ap (at_tag u) (cond-false (nat_lt t f.0) ((t, v) ∷ f ∷ fields) (f ∷ put t v fields) l) ∙ elim (cases_Bool (f.0 == u)) [
     | inl e ↦
         let q : (t == u) ≡ false = ne_eqb t u (λ p.
-        let s : Some f.1 ≡ None = sym (cond-true (f.0 == t) (Some f.1) (at_tag t fields) (subst (λ (x : ℕ). (f.0 == x) ≡ true) (sym p) e)) ∙ h in
+        let s : Some f.1 ≡ None =
+        sym (cond-true (f.0 == t) (Some f.1) (at_tag t fields) (subst (λ (x : ℕ). (f.0 == x) ≡ true) (sym p) e)) ∙ h in
         cc) in
         cond-true (f.0 == u) (Some f.1) (at_tag u (put t v fields)) e
         ∙ sym (cond-true (f.0 == u) (Some f.1) (at_tag u fields) e)

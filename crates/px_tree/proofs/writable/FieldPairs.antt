@@ -1,5 +1,6 @@
 -- The fields of a directory are exactly the pairs of its plain and widened entries.
-use Rattle.std.proofs.Common.{◌≡◌, ℕ, ◌*◌, true, Option, Some, None, option_map, option_and_then, List, map, length, refl, sym, ◌∙◌, ap, ap₂, subst}
+use Rattle.std.proofs.Common.{◌≡◌, ℕ, ◌*◌, true, Option, Some, None, option_map, option_and_then, List, map, length, refl, sym, ◌∙◌, ap}
+use Rattle.std.proofs.Common.{ap₂, subst}
 use Rattle.std.specs.Prelude.{Contains, ◌↔◌}
 use Rattle.std.specs.List.{AllByRecursion}
 use Rattle.px_bytes.specs.declared.Order.{Order}
@@ -16,16 +17,19 @@ use Rattle.px_field.specs.lemmas.ValueLaws.{IsOf-elements, spell-elements, lengt
 use Rattle.px_tree.specs.calls.Iim.{Iim}
 use Rattle.px_tree.specs.declared.roles.Dir.{Dir}
 use Rattle.px_tree.specs.declared.roles.Role.{Role}
-use Rattle.px_tree.specs.declared.roles.Role.TheVariants.{Plain, Widened, Forbidden, Record, JpegOffset, JpegLength, StripOffsets, StripLengths, To}
+use Rattle.px_tree.specs.declared.roles.Role.TheVariants.{Plain, Widened, Forbidden, Record, JpegOffset, JpegLength, StripOffsets}
+use Rattle.px_tree.specs.declared.roles.Role.TheVariants.{StripLengths, To}
 use Rattle.px_tree.specs.Roles.{role}
-use Rattle.px_tree.specs.Entry.{Entry, raw, raw_size, sized, has_raw, IsEntry, IsDirectory, entry_elements, widened_value, record_in, unless_record, value_in, field, fields}
+use Rattle.px_tree.specs.Entry.{Entry, raw, raw_size, sized, has_raw, IsEntry, IsDirectory, entry_elements, widened_value, record_in}
+use Rattle.px_tree.specs.Entry.{unless_record, value_in, field, fields}
 use Rattle.px_tree.specs.Directory.{entries_at}
 use Rattle.px_tree.specs.Laws.{Spell, IsTyped, IsWhole, IsWidened, IsValueAt, Means}
 use Rattle.px_tree.proofs.lists.Members.{each_member, Made, made_from, made_into}
 use Rattle.px_tree.proofs.writable.FitsBack.{Plausible, entries_plausible, bytes_raw, length_raw}
 
 -- only the elements that are read spell the bytes
-only_elements : (o : Order) (f : Form) (n : ℕ) (x : List ℕ) (es : List Element) → length x ≡ n * size f → Spell o f es x → es ≡ elements o f n x
+only_elements : (o : Order) (f : Form) (n : ℕ) (x : List ℕ) (es : List Element) → length x ≡ n * size f → Spell o f es x
+    → es ≡ elements o f n x
 unfolding spelled
 only_elements o f n x es l s =
     let v : Value = record { kind = Of f; elements = es } in
@@ -34,7 +38,8 @@ only_elements o f n x es l s =
     let c : length es ≡ n = sym (count_in-times f x (length es) (sym k)) ∙ count_in-times f x n (sym l) in
     sym e ∙ ap₂ (λ (m : ℕ) (y : List ℕ). elements o f m y) c s.spelled_is
 
-module _ (b : List ℕ) (o : Order) (bytes : AreBytes b) (e : Entry) (p : Plausible e) (inside : has_raw b o e ≡ true) (f : Form) (known : form_of e.code ≡ Some f) where
+module _ (b : List ℕ) (o : Order) (bytes : AreBytes b) (e : Entry) (p : Plausible e) (inside : has_raw b o e ≡ true) (f : Form)
+    (known : form_of e.code ≡ Some f) where
   abbrev read : List Element
   read = entry_elements b o e f
 
@@ -57,37 +62,50 @@ module _ (b : List ℕ) (o : Order) (bytes : AreBytes b) (e : Entry) (p : Plausi
   typed = record { kind = refl; spell = spells }
 
   only_typed : (v : Value) → IsTyped b o e f v → record { kind = Of f; elements = read } ≡ v
-  only_typed v t = ap₂ (λ (k : Kind) (es : List Element). record { kind = k; elements = es }) (sym t.kind) (sym (only_read v.elements t.spell))
+  only_typed v t =
+      ap₂ (λ (k : Kind) (es : List Element). record { kind = k; elements = es }) (sym t.kind) (sym (only_read v.elements t.spell))
 
   whole : IsWhole b o e f (record { kind = Whole; elements = map widened read })
   whole = record { kind = refl; numbers = read; spell = spells; widened_is = refl }
 
   only_whole : (v : Value) → IsWhole b o e f v → record { kind = Whole; elements = map widened read } ≡ v
-  only_whole v t = ap₂ (λ (k : Kind) (es : List Element). record { kind = k; elements = es }) (sym t.kind) (ap (map widened) (sym (only_read t.numbers t.spell)) ∙ sym t.widened_is)
+  only_whole v t =
+      ap₂ (λ (k : Kind) (es : List Element). record { kind = k; elements = es }) (sym t.kind)
+      (ap (map widened) (sym (only_read t.numbers t.spell)) ∙ sym t.widened_is)
 
   -- ---- by role
 
-  record_to : (v : Value) (c : Option Iim) → record_in f (raw b o e) ≡ c → unless_record c (record { kind = Of f; elements = read }) ≡ Some v → (record_in f (raw b o e) ≡ None) × IsTyped b o e f v
+  record_to : (v : Value) (c : Option Iim) → record_in f (raw b o e) ≡ c
+      → unless_record c (record { kind = Of f; elements = read }) ≡ Some v → (record_in f (raw b o e) ≡ None) × IsTyped b o e f v
   record_to v None q h = let j : record { kind = Of f; elements = read } ≡ v = cc in (q, subst (IsTyped b o e f) j typed)
   record_to v (Some i) q h = cc
 
-  record_from : (v : Value) → record_in f (raw b o e) ≡ None → IsTyped b o e f v → unless_record (record_in f (raw b o e)) (record { kind = Of f; elements = read }) ≡ Some v
+  record_from : (v : Value) → record_in f (raw b o e) ≡ None → IsTyped b o e f v
+      → unless_record (record_in f (raw b o e)) (record { kind = Of f; elements = read }) ≡ Some v
   record_from v q t = ap (λ c. unless_record c (record { kind = Of f; elements = read })) q ∙ ap Some (only_typed v t)
 
-wide_to : (b : List ℕ) (o : Order) (e : Entry) (f : Form) (v : Value) → IsTyped b o e f (record { kind = Of f; elements = entry_elements b o e f }) → IsWhole b o e f (record { kind = Whole; elements = map widened (entry_elements b o e f) }) → widened_value f (entry_elements b o e f) ≡ v → IsWidened b o e f v
+wide_to : (b : List ℕ) (o : Order) (e : Entry) (f : Form) (v : Value)
+    → IsTyped b o e f (record { kind = Of f; elements = entry_elements b o e f })
+    → IsWhole b o e f (record { kind = Whole; elements = map widened (entry_elements b o e f) })
+    → widened_value f (entry_elements b o e f) ≡ v → IsWidened b o e f v
 wide_to b o e Short v t w q = subst (IsWhole b o e Short) q w
 wide_to b o e Long v t w q = subst (IsWhole b o e Long) q w
 wide_to b o e f v t w q = subst (IsTyped b o e f) q t
 
-wide_from : (b : List ℕ) (o : Order) (e : Entry) (f : Form) (v : Value) → (IsTyped b o e f v → record { kind = Of f; elements = entry_elements b o e f } ≡ v) → (IsWhole b o e f v → record { kind = Whole; elements = map widened (entry_elements b o e f) } ≡ v) → IsWidened b o e f v → widened_value f (entry_elements b o e f) ≡ v
+wide_from : (b : List ℕ) (o : Order) (e : Entry) (f : Form) (v : Value)
+    → (IsTyped b o e f v → record { kind = Of f; elements = entry_elements b o e f } ≡ v)
+    → (IsWhole b o e f v → record { kind = Whole; elements = map widened (entry_elements b o e f) } ≡ v) → IsWidened b o e f v
+    → widened_value f (entry_elements b o e f) ≡ v
 wide_from b o e Short v t w h = w h
 wide_from b o e Long v t w h = w h
 wide_from b o e f v t w h = t h
 
 module _ (b : List ℕ) (o : Order) (bytes : AreBytes b) (e : Entry) (p : Plausible e) (inside : has_raw b o e ≡ true) where
   value_to : (r : Role) (f : Form) (v : Value) → form_of e.code ≡ Some f → value_in b o e r f ≡ Some v → IsValueAt b o e r f v
-  value_to Plain f v k h = let j : record { kind = Of f; elements = entry_elements b o e f } ≡ v = cc in subst (IsTyped b o e f) j (typed b o bytes e p inside f k)
-  value_to Widened f v k h = let j : widened_value f (entry_elements b o e f) ≡ v = cc in wide_to b o e f v (typed b o bytes e p inside f k) (whole b o bytes e p inside f k) j
+  value_to Plain f v k h = let j : record { kind = Of f; elements = entry_elements b o e f } ≡ v = cc in
+      subst (IsTyped b o e f) j (typed b o bytes e p inside f k)
+  value_to Widened f v k h = let j : widened_value f (entry_elements b o e f) ≡ v = cc in
+      wide_to b o e f v (typed b o bytes e p inside f k) (whole b o bytes e p inside f k) j
   value_to Record f v k h = record_to b o bytes e p inside f k v (record_in f (raw b o e)) refl h
   value_to Forbidden f v k h = cc
   value_to JpegOffset f v k h = cc
@@ -98,7 +116,8 @@ module _ (b : List ℕ) (o : Order) (bytes : AreBytes b) (e : Entry) (p : Plausi
 
   value_from : (r : Role) (f : Form) (v : Value) → form_of e.code ≡ Some f → IsValueAt b o e r f v → value_in b o e r f ≡ Some v
   value_from Plain f v k h = ap Some (only_typed b o bytes e p inside f k v h)
-  value_from Widened f v k h = ap Some (wide_from b o e f v (only_typed b o bytes e p inside f k v) (only_whole b o bytes e p inside f k v) h)
+  value_from Widened f v k h =
+      ap Some (wide_from b o e f v (only_typed b o bytes e p inside f k v) (only_whole b o bytes e p inside f k v) h)
   value_from Record f v k h = record_from b o bytes e p inside f k v h.0 h.1
   value_from Forbidden f v k h = absurd h
   value_from JpegOffset f v k h = absurd h
@@ -113,7 +132,8 @@ module _ (b : List ℕ) (o : Order) (bytes : AreBytes b) (e : Entry) (p : Plausi
   abbrev MeansAt : Dir → ℕ → Value → Type 0
   MeansAt d t v = (f : Form) × (e.tag ≡ t) × (form_of e.code ≡ Some f) × IsValueAt b o e (role d t) f v
 
-  pair_to : (d : Dir) (t : ℕ) (v : Value) (f : Form) (w : Option Value) → form_of e.code ≡ Some f → value_in b o e (role d e.tag) f ≡ w → ◌≡◌ {A = Option (ℕ × Value)} (option_map (λ v. (e.tag, v)) w) (Some (t, v)) → MeansAt d t v
+  pair_to : (d : Dir) (t : ℕ) (v : Value) (f : Form) (w : Option Value) → form_of e.code ≡ Some f → value_in b o e (role d e.tag) f ≡ w
+      → ◌≡◌ {A = Option (ℕ × Value)} (option_map (λ v. (e.tag, v)) w) (Some (t, v)) → MeansAt d t v
   pair_to d t v f None k q h = cc
   pair_to d t v f (Some u) k q h =
       let j : ◌≡◌ {A = ℕ × Value} (e.tag, u) (t, v) = cc in
@@ -125,16 +145,19 @@ module _ (b : List ℕ) (o : Order) (bytes : AreBytes b) (e : Entry) (p : Plausi
   unfolding field
   field_to d t v h = go (form_of e.code) refl h
     where
-      go : (z : Option Form) → form_of e.code ≡ z → ◌≡◌ {A = Option (ℕ × Value)} (option_map (λ v. (e.tag, v)) (option_and_then (value_in b o e (role d e.tag)) z)) (Some (t, v)) → MeansAt d t v
+      go : (z : Option Form) → form_of e.code ≡ z → ◌≡◌ {A = Option (ℕ × Value)}
+          (option_map (λ v. (e.tag, v)) (option_and_then (value_in b o e (role d e.tag)) z)) (Some (t, v)) → MeansAt d t v
       go None k q = cc
       go (Some f) k q = pair_to d t v f (value_in b o e (role d e.tag) f) k refl q
 
-  field_from : (d : Dir) (t : ℕ) (v : Value) (f : Form) → e.tag ≡ t → form_of e.code ≡ Some f → IsValueAt b o e (role d t) f v → ◌≡◌ {A = Option (ℕ × Value)} (field b o d e) (Some (t, v))
+  field_from : (d : Dir) (t : ℕ) (v : Value) (f : Form) → e.tag ≡ t → form_of e.code ≡ Some f → IsValueAt b o e (role d t) f v
+      → ◌≡◌ {A = Option (ℕ × Value)} (field b o d e) (Some (t, v))
   unfolding field
   field_from d t v f at k m =
       let pair : ℕ → Option (ℕ × Value) = λ (s : ℕ). Some (s, v) in
       ap (λ (z : Option Form). option_map {U = ℕ × Value} (λ v. (e.tag, v)) (option_and_then (value_in b o e (role d e.tag)) z)) k
-      ∙ ap (option_map {U = ℕ × Value} (λ v. (e.tag, v))) (value_from (role d e.tag) f v k (subst (λ (s : ℕ). IsValueAt b o e (role d s) f v) (sym at) m))
+      ∙ ap (option_map {U = ℕ × Value} (λ v. (e.tag, v))) (value_from (role d e.tag) f v k
+      (subst (λ (s : ℕ). IsValueAt b o e (role d s) f v) (sym at) m))
       ∙ ap pair at
 
 -- ---- the fields of a directory
@@ -160,5 +183,6 @@ module _ (b : List ℕ) (o : Order) (d : Dir) (a t : ℕ) (v : Value) (bytes : A
       let i = each_member InOrder (entries_at b o a) e in_order c in
       made_into (field b o d) (t, v) (entries_at b o a) e c (field_from b o bytes e i.0 i.1.inside d t v f at k m)
 
-pub fields_are_pairs : (b : List ℕ) (o : Order) (d : Dir) (a t : ℕ) (v : Value) → AreBytes b → IsDirectory b o d a → (Contains (fields b o d a) (t, v) ↔ Means b o d a t v)
+pub fields_are_pairs : (b : List ℕ) (o : Order) (d : Dir) (a t : ℕ) (v : Value) → AreBytes b → IsDirectory b o d a
+    → (Contains (fields b o d a) (t, v) ↔ Means b o d a t v)
 fields_are_pairs b o d a t v bytes is = (to_means b o d a t v bytes is, from_means b o d a t v bytes is)

@@ -1,5 +1,6 @@
 -- What is asked of fields.
-use Rattle.std.proofs.Common.{◌≡◌, ◌<◌, ◌+◌, ◌^◌, ℕ, Bool, suc, true, false, List, [], ◌∷◌, map, flat_map, length, slice_get, Option, Some, None, refl, sym, ap, ◌∙◌, subst, inl, inr, arith, IsTrue, ◌↔◌, ◌==◌, eqb-true, eq-eqb}
+use Rattle.std.proofs.Common.{◌≡◌, ◌<◌, ◌+◌, ◌^◌, ℕ, Bool, suc, true, false, List, [], ◌∷◌, map, flat_map, length, slice_get, Option, Some}
+use Rattle.std.proofs.Common.{None, refl, sym, ap, ◌∙◌, subst, inl, inr, arith, IsTrue, ◌↔◌, ◌==◌, eqb-true, eq-eqb}
 use Rattle.std.specs.Prelude.{IfSome, is_some, not, option_copied}
 use Rattle.std.specs.Borrow.{Bor}
 use Rattle.std.specs.List.{AllByRecursion}
@@ -36,7 +37,8 @@ not_none_some None h = absurd (h refl)
 not_none_some (Some x) h = refl
 
 -- what holds place by place holds of each
-pub each_by_get : {X : Type 0} (P : X → Type 0) (xs : List X) → ((k : ℕ) (x : X) → k < length xs → slice_get xs k ≡ Some x → P x) → AllByRecursion P xs
+pub each_by_get : {X : Type 0} (P : X → Type 0) (xs : List X) → ((k : ℕ) (x : X) → k < length xs → slice_get xs k ≡ Some x → P x)
+    → AllByRecursion P xs
 each_by_get P [] h = tt
 each_by_get P (x ∷ xs) h = (h 0 x (omega arith) refl, each_by_get P xs (λ k y below e. h (suc k) y (omega arith) e))
 
@@ -45,7 +47,11 @@ pub absent_each : (t : ℕ) (fs : Fields) → at_tag t fs ≡ None → AllByRecu
 absent_each t [] h = tt
 absent_each t (f ∷ fs) h = elim (cases_Bool (f.0 == t)) [
   | inl q ↦ let clash : Some f.1 ≡ None = sym (cond-true (f.0 == t) (Some f.1) (at_tag t fs) q) ∙ h in absurd (cc)
-  | inr q ↦ ((λ e. let k : f.0 == t ≡ true = eq-eqb f.0 t e in let clash : true ≡ false = sym k ∙ q in cc), absent_each t fs (sym (cond-false (f.0 == t) (Some f.1) (at_tag t fs) q) ∙ h))
+  | inr q ↦ (
+    (λ e. let k : f.0 == t ≡ true = eq-eqb f.0 t e in let clash : true ≡ false = sym k ∙ q in cc),
+    absent_each t fs
+        (sym (cond-false (f.0 == t) (Some f.1) (at_tag t fs) q) ∙ h),
+  )
 ]
 
 pub each_absent : (t : ℕ) (fs : Fields) → AllByRecursion (λ p. (p.0 ≡ t) → ⊥) fs → at_tag t fs ≡ None
@@ -64,7 +70,8 @@ says_at v s r f elements at test =
     (λ h e. some_not_none (record_in f s) (sym test ∙ h) (sym same ∙ e), λ h. test ∙ not_none_some (record_in f s) (λ e. h (same ∙ e)))
 
 -- one field more fits
-pub fits_one_more : (d : Dir) (fs : Fields) (i tag : ℕ) (v : Value) → tag < 2 ^ 16 → IsValue v → Allows (role d tag) v → slice_get fs i ≡ Some (tag, v)
+pub fits_one_more : (d : Dir) (fs : Fields) (i tag : ℕ) (v : Value) → tag < 2 ^ 16 → IsValue v → Allows (role d tag) v
+    → slice_get fs i ≡ Some (tag, v)
     → ((k : ℕ) (p : ℕ × Value) → k < i → slice_get fs k ≡ Some p → FitsField d p)
     → (k : ℕ) (p : ℕ × Value) → k < i + 1 → slice_get fs k ≡ Some p → FitsField d p
 fits_one_more d fs i tag v small valid allowed here before k p below e = elim (cases_lt k i) [
@@ -78,16 +85,21 @@ fits_one_more d fs i tag v small valid allowed here before k p below e = elim (c
 ]
 
 -- the fields of a directory fit exactly where each does
-pub fits_all : (d : Dir) (fs : Fields) → Rising (map (λ p. p.0) fs) → ((k : ℕ) (p : ℕ × Value) → k < length fs → slice_get fs k ≡ Some p → FitsField d p) → FitsFields d fs
+pub fits_all : (d : Dir) (fs : Fields) → Rising (map (λ p. p.0) fs)
+    → ((k : ℕ) (p : ℕ × Value) → k < length fs → slice_get fs k ≡ Some p → FitsField d p) → FitsFields d fs
 fits_all d fs rising h = record { rising = rising; each = each_by_get (FitsField d) fs h }
 
 -- no field stands at the tag of a record
 pub stands_alone_lem : {X : Type 0} (o : Option X) (x : X) (fs : Fields) (t : ℕ) (got : Option (Bor Value)) (r : Bool)
     → o ≡ Some x → is_some got ≡ not r → option_copied got ≡ at_tag t fs → IsTrue r ↔ IfSome o (λ _. AllByRecursion (λ p. (p.0 ≡ t) → ⊥) fs)
-stands_alone_lem {X = X} o x fs t got r here test at = subst (λ (q : Option X). IsTrue r ↔ IfSome q (λ _. AllByRecursion (λ (p : ℕ × Value). (p.0 ≡ t) → ⊥) fs)) (sym here) (none got r test at)
+stands_alone_lem {X = X} o x fs t got r here test at =
+    subst (λ (q : Option X). IsTrue r ↔ IfSome q (λ _. AllByRecursion (λ (p : ℕ × Value). (p.0 ≡ t) → ⊥) fs)) (sym here)
+    (none got r test at)
   where
-    none : (got : Option (Bor Value)) (r : Bool) → is_some got ≡ not r → option_copied got ≡ at_tag t fs → IsTrue r ↔ AllByRecursion (λ (p : ℕ × Value). (p.0 ≡ t) → ⊥) fs
+    none : (got : Option (Bor Value)) (r : Bool) → is_some got ≡ not r → option_copied got ≡ at_tag t fs
+        → IsTrue r ↔ AllByRecursion (λ (p : ℕ × Value). (p.0 ≡ t) → ⊥) fs
     none None true test at = (λ _. absent_each t fs (sym at), λ _. refl)
     none None false test at = let clash : false ≡ true = test in absurd (cc)
     none (Some b) true test at = let clash : true ≡ false = test in absurd (cc)
-    none (Some b) false test at = (λ h. let clash : false ≡ true = h in absurd (cc), λ h. let clash : Some b.now ≡ None = at ∙ each_absent t fs h in absurd (cc))
+    none (Some b) false test at =
+        (λ h. let clash : false ≡ true = h in absurd (cc), λ h. let clash : Some b.now ≡ None = at ∙ each_absent t fs h in absurd (cc))

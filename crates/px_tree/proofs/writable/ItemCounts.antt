@@ -1,13 +1,16 @@
 -- How many entries a directory needs.
-use Rattle.std.proofs.Common.{◌≡◌, ◌+◌, ◌*◌, ℕ, suc, Bool, true, false, if◌then◌else◌, List, [], ◌∷◌, length, map, nat_lt, Option, Some, None, option_map, refl, ap, arith, is_some}
+use Rattle.std.proofs.Common.{◌≡◌, ◌+◌, ◌*◌, ℕ, suc, Bool, true, false, if◌then◌else◌, List, [], ◌∷◌, length, map, nat_lt, Option, Some}
+use Rattle.std.proofs.Common.{None, option_map, refl, ap, arith, is_some}
 use Rattle.px_tree.specs.declared.meanings.Meaning as declared_meaning
 use Rattle.px_tree.specs.declared.meanings.ExifPart as declared_exif
 use Rattle.px_tree.specs.declared.meanings.Thumb as declared_thumb
 use Rattle.px_tree.specs.calls.Seen.{exif_of, thumb_of, meaning_of}
 use Rattle.px_tree.specs.Tree.{Fields, ExifPart, Thumbnail, Meaning}
 use Rattle.px_tree.specs.declared.roles.Dir.TheVariants.{Exif, Interop, Gps}
-use Rattle.px_tree.specs.Roles.{exif_tag, gps_tag, interop_tag, record_tag, jpeg_offset_tag, jpeg_length_tag, strip_offsets_tag, strip_lengths_tag}
-use Rattle.px_tree.specs.Fits.{Iptc, Link, AtJpeg, JpegSize, AtStrips, StripSizes, put, put_some, link, field_items, main_items, exif_items, thumb_items}
+use Rattle.px_tree.specs.Roles.{exif_tag, gps_tag, interop_tag, record_tag, jpeg_offset_tag, jpeg_length_tag, strip_offsets_tag}
+use Rattle.px_tree.specs.Roles.{strip_lengths_tag}
+use Rattle.px_tree.specs.Fits.{Iptc, Link, AtJpeg, JpegSize, AtStrips, StripSizes, put, put_some, link, field_items, main_items, exif_items}
+use Rattle.px_tree.specs.Fits.{thumb_items}
 
 pub length-put : {X : Type 0} (t : ℕ) (x : X) (xs : List (ℕ × X)) → length (put t x xs) ≡ suc (length xs)
 length-put t x [] = refl
@@ -81,11 +84,13 @@ length-thumb_items t =
     )
 
 -- the same of the program's values
-pub main_count : (m : declared_meaning.Meaning) → length (main_items (meaning_of m)) ≡ bit (is_some m.exif) + bit (is_some m.gps) + bit (is_some m.iptc) + length m.main
+pub main_count : (m : declared_meaning.Meaning) → length (main_items (meaning_of m)) ≡ bit (is_some m.exif) + bit (is_some m.gps) + bit
+    (is_some m.iptc) + length m.main
 main_count m = omega (arith, length-main_items (meaning_of m), one_of-map exif_of m.exif)
 
 pub exif_count : (e : declared_exif.ExifPart) → length (exif_items (exif_of e)) ≡ bit (is_some e.interop) + length e.fields
 exif_count e = length-exif_items (exif_of e)
 
-pub thumb_count : (t : declared_thumb.Thumb) → length (thumb_items (thumb_of t)) ≡ 2 * bit (is_some t.jpeg) + 2 * bit (is_some t.strips) + length t.fields
+pub thumb_count : (t : declared_thumb.Thumb) → length (thumb_items (thumb_of t)) ≡ 2 * bit (is_some t.jpeg) + 2 * bit
+    (is_some t.strips) + length t.fields
 thumb_count t = omega (arith, length-thumb_items (thumb_of t), one_of-map (λ x. x.now) t.jpeg)

@@ -17,20 +17,25 @@ pub tags-more : (fields : Fields) (t : ℕ) (v : Value) → tags (fields ++ (t, 
 tags-more [] t v = refl
 tags-more (f ∷ fields) t v = ap (λ (l : List ℕ). f.0 ∷ l) (tags-more fields t v)
 
-pub rising_push : (fields : Fields) (t : ℕ) (v : Value) → Rising (tags fields) → AllByRecursion (λ s. s < t) (tags fields) → Rising (tags (fields ++ (t, v) ∷ []))
+pub rising_push : (fields : Fields) (t : ℕ) (v : Value) → Rising (tags fields) → AllByRecursion (λ s. s < t) (tags fields)
+    → Rising (tags (fields ++ (t, v) ∷ []))
 rising_push fields t v r h = subst Rising (sym (tags-more fields t v)) (rising_more (tags fields) t r h)
 
 -- with one more field, if there is one
 abbrev pub and_more : Fields → ℕ → Option Value → Fields
 and_more fields t x = fields ++ option_to_list (option_map (λ v. (t, v)) x)
 
-pub rising_kept : (fields new : Fields) (t : ℕ) (x : Option Value) → new ≡ and_more fields t x → Rising (tags fields) → AllByRecursion (λ s. s < t) (tags fields) → Rising (tags new)
-rising_kept fields new t None is r h = subst (λ (l : Fields). Rising (tags l)) (sym is) (subst (λ (l : Fields). Rising (tags l)) (sym (append-nil fields)) r)
+pub rising_kept : (fields new : Fields) (t : ℕ) (x : Option Value) → new ≡ and_more fields t x → Rising (tags fields)
+    → AllByRecursion (λ s. s < t) (tags fields) → Rising (tags new)
+rising_kept fields new t None is r h =
+    subst (λ (l : Fields). Rising (tags l)) (sym is) (subst (λ (l : Fields). Rising (tags l)) (sym (append-nil fields)) r)
 rising_kept fields new t (Some v) is r h = subst (λ (l : Fields). Rising (tags l)) (sym is) (rising_push fields t v r h)
 
-pub precede_kept : (fields new : Fields) (t : ℕ) (x : Option Value) → new ≡ and_more fields t x → AllByRecursion (λ s. s < t) (tags fields) → Precede (Some t) new
+pub precede_kept : (fields new : Fields) (t : ℕ) (x : Option Value) → new ≡ and_more fields t x → AllByRecursion (λ s. s < t) (tags fields)
+    → Precede (Some t) new
 precede_kept fields new t None is h u l = subst (λ (l : Fields). AllByRecursion (λ s. s < u) (tags l)) (sym is)
-    (subst (λ (l : Fields). AllByRecursion (λ s. s < u) (tags l)) (sym (append-nil fields)) (each_map (λ s. s < t) (λ s. s < u) (λ s k. omega arith) (tags fields) h))
+    (subst (λ (l : Fields). AllByRecursion (λ s. s < u) (tags l)) (sym (append-nil fields))
+    (each_map (λ s. s < t) (λ s. s < u) (λ s k. omega arith) (tags fields) h))
 precede_kept fields new t (Some v) is h u l = subst (λ (l : Fields). AllByRecursion (λ s. s < u) (tags l)) (sym is)
     (subst (λ (l : List ℕ). AllByRecursion (λ s. s < u) l) (sym (tags-more fields t v))
     (each_append (λ s. s < u) (tags fields) (t ∷ []) (each_map (λ s. s < t) (λ s. s < u) (λ s k. omega arith) (tags fields) h) (l, tt)))

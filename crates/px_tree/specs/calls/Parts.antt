@@ -1,5 +1,6 @@
 -- The entries that name the thumbnail's bytes, as the reader keeps them.
-use Rattle.std.specs.Prelude.{◌≡◌, ◌≤◌, ℕ, ◌+◌, ◌==◌, true, false, Option, Some, None, option_map, unwrap_or, List, [], ◌∷◌, ◌++◌, length, IfSome, ⊤}
+use Rattle.std.specs.Prelude.{◌≡◌, ◌≤◌, ℕ, ◌+◌, ◌==◌, true, false, Option, Some, None, option_map, unwrap_or, List, [], ◌∷◌, ◌++◌, length}
+use Rattle.std.specs.Prelude.{IfSome, ⊤}
 use Rattle.std.specs.List.{AllByRecursion}
 use Rattle.px_bytes.specs.declared.Order.{Order}
 use Rattle.px_bytes.specs.declared.Cause.TheVariants.{ThumbnailPair}
@@ -61,7 +62,8 @@ count_check (Some f) (Some g) = check ThumbnailPair f.place (f.head.count == g.h
 count_check _ _ = []
 
 abbrev pub pairs_checks : Uses → List Check
-pairs_checks p = pair_check p.jpeg_offset p.jpeg_length ++ (pair_check p.strip_offsets p.strip_lengths ++ count_check p.strip_offsets p.strip_lengths)
+pairs_checks p =
+    pair_check p.jpeg_offset p.jpeg_length ++ (pair_check p.strip_offsets p.strip_lengths ++ count_check p.strip_offsets p.strip_lengths)
 
 abbrev pub AreEven : Option Found → Option Found → Type 0
 AreEven (Some f) (Some g) = f.head.count ≡ g.head.count

@@ -24,7 +24,8 @@ returns c =
     ∙ ap₂ with_subcommand show c.in_ok-check.ensures.shape in
     let captions : app_of c.in_ok-subcommand-3.field-0 ≡ with_captions = c.in_ok-subcommand-3.ensures.shape c.in_ok-captions.ensures.local
     ∙ ap₂ with_subcommand check c.in_ok-captions.ensures.shape in
-    let normalise : app_of c.in_ok-subcommand-4.field-0 ≡ with_normalise = c.in_ok-subcommand-4.ensures.shape c.in_ok-normalise.ensures.local
+    let normalise : app_of c.in_ok-subcommand-4.field-0 ≡ with_normalise =
+    c.in_ok-subcommand-4.ensures.shape c.in_ok-normalise.ensures.local
     ∙ ap₂ with_subcommand captions c.in_ok-normalise.ensures.shape in
     IfOk-weaker c.subcommand-5.result _ _ (λ r h. h.shape c.in_ok-compare.ensures.local
     ∙ ap₂ with_subcommand normalise c.in_ok-compare.ensures.shape) c.subcommand-5.ensures

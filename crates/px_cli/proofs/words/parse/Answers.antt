@@ -21,8 +21,10 @@ pub read_match-requires : goal.read_match-requires
 read_match-requires g c =
     let ws = map g.S.AsStr.text c.args.words.now in
     let app : app_of c.in-Ok.command ≡ exifnorm = search rules in
-    let none : fault_of (app_of c.in-Ok.command) ws ≡ [] = c.in-Ok-try_get_matches_from.ensures.kinds (ap is_simple_and_free app ∙ is_free) in
-    let has : HasMatchesOf (app_of c.in-Ok.command) ws c.in-Ok-try_get_matches_from.matches = c.in-Ok-try_get_matches_from.ensures.matches in
+    let none : fault_of (app_of c.in-Ok.command) ws ≡ [] =
+    c.in-Ok-try_get_matches_from.ensures.kinds (ap is_simple_and_free app ∙ is_free) in
+    let has : HasMatchesOf (app_of c.in-Ok.command) ws c.in-Ok-try_get_matches_from.matches =
+    c.in-Ok-try_get_matches_from.ensures.matches in
     let same : subcommand_of exifnorm ws ≡ subcommand_rows_of c.in-Ok-try_get_matches_from.matches =
     ap (λ (a : App). subcommand_of a ws) (sym app) ∙ sym (has (ap is_simple app ∙ is_simple_one)).1 in
     subst IsMet same (met ws (ap (λ (a : App). fault_of a ws) (sym app) ∙ none))
@@ -31,7 +33,8 @@ pub returns-in-Ok-try_get_matches_from-clause-told : goal.returns-in-Ok-try_get_
 returns-in-Ok-try_get_matches_from-clause-told g c =
     let ws = map g.S.AsStr.text c.args.words.now in
     let app : app_of c.in-Ok.command ≡ exifnorm = search rules in
-    let none : fault_of (app_of c.in-Ok.command) ws ≡ [] = c.in-Ok-try_get_matches_from.ensures.kinds (ap is_simple_and_free app ∙ is_free) in
+    let none : fault_of (app_of c.in-Ok.command) ws ≡ [] =
+    c.in-Ok-try_get_matches_from.ensures.kinds (ap is_simple_and_free app ∙ is_free) in
     of_match (fault_of exifnorm ws) _ c.read_match.result (ap (λ (a : App). fault_of a ws) (sym app) ∙ none) c.read_match.ensures.asked.1
 
 pub returns-in-Err-clause-told : goal.returns-in-Err-clause-told

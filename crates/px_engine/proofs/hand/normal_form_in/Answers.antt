@@ -3,7 +3,9 @@ use Rattle.px_engine.proofs.Ended.{form_formed, form_unwritten}
 use Rattle.px_engine.proofs.hand.normal_form_in.Goals as goal
 
 pub returns-clause-formed : goal.returns-clause-formed
-returns-clause-formed c = form_formed _ c.form_of.result c.args.file.now (said_of c.in_ok-said.said) c.in_ok-said.ensures.said c.form_of.ensures.formed
+returns-clause-formed c =
+    form_formed _ c.form_of.result c.args.file.now (said_of c.in_ok-said.said) c.in_ok-said.ensures.said c.form_of.ensures.formed
 
 pub returns-clause-unwritten : goal.returns-clause-unwritten
-returns-clause-unwritten c = form_unwritten c.form_of.result c.args.file.now (said_of c.in_ok-said.said) _ c.in_ok-said.ensures.said c.form_of.ensures.unformed
+returns-clause-unwritten c =
+    form_unwritten c.form_of.result c.args.file.now (said_of c.in_ok-said.said) _ c.in_ok-said.ensures.said c.form_of.ensures.unformed

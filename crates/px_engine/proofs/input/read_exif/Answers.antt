@@ -5,4 +5,6 @@ use Rattle.px_engine.proofs.Judged.{exif_long}
 use Rattle.px_engine.proofs.input.read_exif.Goals as goal
 
 pub returns-in-Err-clause-refused : goal.returns-in-Err-clause-refused
-returns-in-Err-clause-refused c = subst (λ z. IsFaultyIn kind.Exif c.args.bytes.now z 16777216) (sym c.in-Err.ensures.0) (exif_long c.args.bytes.now c.faults_tell.ensures c.in-Err.ensures.1)
+returns-in-Err-clause-refused c =
+    subst (λ z. IsFaultyIn kind.Exif c.args.bytes.now z 16777216) (sym c.in-Err.ensures.0)
+    (exif_long c.args.bytes.now c.faults_tell.ensures c.in-Err.ensures.1)

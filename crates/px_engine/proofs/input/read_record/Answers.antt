@@ -10,7 +10,8 @@ use Rattle.px_engine.specs.Input.{IsSaidIn}
 use Rattle.px_engine.proofs.Judged.{iim_said}
 use Rattle.px_engine.proofs.input.read_record.Goals as goal
 
-read : (b : List ℕ) (r : Result Record Refusal) → Judges r (iim_checks b) (SaysIim b) → IfOk r IsRecord → IfOk r (λ i. IsSaidIn kind.Iim b (said.Iim i))
+read : (b : List ℕ) (r : Result Record Refusal) → Judges r (iim_checks b) (SaysIim b) → IfOk r IsRecord
+    → IfOk r (λ i. IsSaidIn kind.Iim b (said.Iim i))
 read b (Ok i) j w = iim_said b i j.1 w
 read b (Err e) j w = tt
 

@@ -2,7 +2,9 @@ use Rattle.px_engine.proofs.Judged.{unsaid, lacks_refused}
 use Rattle.px_engine.proofs.judging.judge.Goals as goal
 
 pub returns-in-Err-clause-unsaid : goal.returns-in-Err-clause-unsaid
-returns-in-Err-clause-unsaid c = unsaid c.args.file.now c.read_any_in.new.memory c.in-Err.refusal c.from.result c.from.ensures c.in-Err.ensures.refused
+returns-in-Err-clause-unsaid c =
+    unsaid c.args.file.now c.read_any_in.new.memory c.in-Err.refusal c.from.result c.from.ensures c.in-Err.ensures.refused
 
 pub returns-in-Err-clause-memory : goal.returns-in-Err-clause-memory
-returns-in-Err-clause-memory c = lacks_refused c.in-Err.refusal c.from.result c.args.memory.now c.read_any_in.new.memory c.from.ensures c.in-Err.ensures.memory
+returns-in-Err-clause-memory c =
+    lacks_refused c.in-Err.refusal c.from.result c.args.memory.now c.read_any_in.new.memory c.from.ensures c.in-Err.ensures.memory

@@ -3,4 +3,6 @@ use Rattle.px_engine.proofs.Ended.{checked}
 use Rattle.px_engine.proofs.runs.check_in.Goals as goal
 
 pub returns-clause-done : goal.returns-clause-done
-returns-clause-done g c = checked c.check_of_in.result _ _ c.deref.result.now _ (read_as _ _ _ _ c.deref.ensures.value c.in_ok-file.ensures.found) c.check_of_in.ensures.kind c.check_of_in.ensures.unsaid
+returns-clause-done g c =
+    checked c.check_of_in.result _ _ c.deref.result.now _ (read_as _ _ _ _ c.deref.ensures.value c.in_ok-file.ensures.found)
+    c.check_of_in.ensures.kind c.check_of_in.ensures.unsaid

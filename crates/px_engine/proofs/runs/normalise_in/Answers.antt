@@ -12,10 +12,12 @@ returns-clause-done g c = normalised c.write_said.result _ _ c.deref.result.now 
 pub returns-in_err-said-clause-done : goal.returns-in_err-said-clause-done
 returns-in_err-said-clause-done g c =
     let p = err_from_is_err_and c.from_residual-in_err-said.result c.from_residual-in_err-said.ensures.1 in
-    rw (p.1, p.2) (not_normalised c.in_err-said.field-0.0 _ _ c.deref.result.now _ _ (read_as _ _ _ _ c.deref.ensures.value c.in_ok-file.ensures.found) c.in_err-said.ensures.unsaid)
+    rw (p.1, p.2) (not_normalised c.in_err-said.field-0.0 _ _ c.deref.result.now _ _
+    (read_as _ _ _ _ c.deref.ensures.value c.in_ok-file.ensures.found) c.in_err-said.ensures.unsaid)
 
 pub returns-clause-memory : goal.returns-clause-memory
-returns-clause-memory g c = lacks_nothing c.write_said.result _ _ _ _ _ _ _ (c.in_ok-said.ensures.memory ∙ c.in_ok-file.ensures.memory) c.write_said.ensures
+returns-clause-memory g c =
+    lacks_nothing c.write_said.result _ _ _ _ _ _ _ (c.in_ok-said.ensures.memory ∙ c.in_ok-file.ensures.memory) c.write_said.ensures
 
 pub returns-in_err-said-clause-memory : goal.returns-in_err-said-clause-memory
 returns-in_err-said-clause-memory g c =

@@ -14,10 +14,12 @@ returns-clause-done g c = printed listing c.write_listing.result _ _ c.deref.res
 pub returns-in_err-said-clause-done : goal.returns-in_err-said-clause-done
 returns-in_err-said-clause-done g c =
     let p = err_from_is_err_and c.from_residual-in_err-said.result c.from_residual-in_err-said.ensures.1 in
-    rw (p.1, p.2) (not_printed (Unit {0}) listing c.in_err-said.field-0.0 _ _ c.deref.result.now _ _ (read_as _ _ _ _ c.deref.ensures.value c.in_ok-file.ensures.found) c.in_err-said.ensures.unsaid)
+    rw (p.1, p.2) (not_printed (Unit {0}) listing c.in_err-said.field-0.0 _ _ c.deref.result.now _ _
+    (read_as _ _ _ _ c.deref.ensures.value c.in_ok-file.ensures.found) c.in_err-said.ensures.unsaid)
 
 pub returns-clause-memory : goal.returns-clause-memory
-returns-clause-memory g c = lacks_no_text c.write_listing.result _ _ _ _ _ _ _ (c.in_ok-said.ensures.memory ∙ c.in_ok-file.ensures.memory) c.write_listing.ensures
+returns-clause-memory g c =
+    lacks_no_text c.write_listing.result _ _ _ _ _ _ _ (c.in_ok-said.ensures.memory ∙ c.in_ok-file.ensures.memory) c.write_listing.ensures
 
 pub returns-in_err-said-clause-memory : goal.returns-in_err-said-clause-memory
 returns-in_err-said-clause-memory g c =

@@ -9,8 +9,10 @@ use Rattle.px_engine.proofs.texts.send_captions.Goals as goal
 pub returns-in_err-put_captions-clause-bytes : goal.returns-in_err-put_captions-clause-bytes
 returns-in_err-put_captions-clause-bytes g c =
     let p = err_from_is_err_and c.from_residual.result c.from_residual.ensures.1 in
-    rw p.1 (from_none (AppendsPrefix (g.W.Sink.bytes_taken c.args.writer.now) (g.W.Sink.bytes_taken c.put_captions.new.writer)) c.new-pending.result (caption_text (said_of c.args.said.now)) c.new-pending.ensures c.in_err-put_captions.ensures.bytes)
+    rw p.1 (from_none (AppendsPrefix (g.W.Sink.bytes_taken c.args.writer.now) (g.W.Sink.bytes_taken c.put_captions.new.writer))
+    c.new-pending.result (caption_text (said_of c.args.said.now)) c.new-pending.ensures c.in_err-put_captions.ensures.bytes)
 
 pub returns-clause-bytes : goal.returns-clause-bytes
 returns-clause-bytes g c =
-    sent c.send_and_flush.result _ _ _ c.new-pending.result c.put_captions.new.pending (caption_text (said_of c.args.said.now)) c.new-pending.ensures c.in_ok-put_captions.ensures.bytes c.send_and_flush.ensures.bytes
+    sent c.send_and_flush.result _ _ _ c.new-pending.result c.put_captions.new.pending (caption_text (said_of c.args.said.now))
+    c.new-pending.ensures c.in_ok-put_captions.ensures.bytes c.send_and_flush.ensures.bytes

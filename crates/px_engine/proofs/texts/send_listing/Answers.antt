@@ -9,8 +9,10 @@ use Rattle.px_engine.proofs.texts.send_listing.Goals as goal
 pub returns-in_err-put_listing-clause-bytes : goal.returns-in_err-put_listing-clause-bytes
 returns-in_err-put_listing-clause-bytes g c =
     let p = err_from_is_err_and c.from_residual.result c.from_residual.ensures.1 in
-    rw p.1 (from_none (AppendsPrefix (g.W.Sink.bytes_taken c.args.writer.now) (g.W.Sink.bytes_taken c.put_listing.new.writer)) c.new-pending.result (listing (said_of c.args.said.now)) c.new-pending.ensures c.in_err-put_listing.ensures.bytes)
+    rw p.1 (from_none (AppendsPrefix (g.W.Sink.bytes_taken c.args.writer.now) (g.W.Sink.bytes_taken c.put_listing.new.writer))
+    c.new-pending.result (listing (said_of c.args.said.now)) c.new-pending.ensures c.in_err-put_listing.ensures.bytes)
 
 pub returns-clause-bytes : goal.returns-clause-bytes
 returns-clause-bytes g c =
-    sent c.send_and_flush.result _ _ _ c.new-pending.result c.put_listing.new.pending (listing (said_of c.args.said.now)) c.new-pending.ensures c.in_ok-put_listing.ensures.bytes c.send_and_flush.ensures.bytes
+    sent c.send_and_flush.result _ _ _ c.new-pending.result c.put_listing.new.pending (listing (said_of c.args.said.now))
+    c.new-pending.ensures c.in_ok-put_listing.ensures.bytes c.send_and_flush.ensures.bytes

@@ -2,4 +2,5 @@ use Rattle.px_engine.proofs.Printed.{told_text}
 use Rattle.px_engine.proofs.texts.write_captions.Goals as goal
 
 pub returns : goal.returns
-returns g c = told_text c.send_captions.result c.told.result _ _ _ _ _ c.told.ensures c.send_captions.ensures.bytes c.send_captions.ensures.count
+returns g c =
+    told_text c.send_captions.result c.told.result _ _ _ _ _ c.told.ensures c.send_captions.ensures.bytes c.send_captions.ensures.count

@@ -1,4 +1,5 @@
-use Rattle.std.proofs.Common.{◌≡◌, ◌<◌, ◌+◌, ◌++◌, ◌∙◌, List, ℕ, length, take, flat_map, get_or, slice_get, Some, sym, ap, append_assoc, arith}
+use Rattle.std.proofs.Common.{◌≡◌, ◌<◌, ◌+◌, ◌++◌, ◌∙◌, List, ℕ, length, take, flat_map, get_or, slice_get, Some, sym, ap, append_assoc}
+use Rattle.std.proofs.Common.{arith}
 use Rattle.std.proofs.lemmas.Grind.{common_steps}
 use Rattle.std.proofs.lemmas.List.{take_all}
 use Rattle.std.proofs.lemmas.Option.{slice_get-get_or}
@@ -21,8 +22,16 @@ loop-i-preserved c =
       items = c.in_ok-extend_from_slice.ensures.items
           ∙ ap (λ (l : List ℕ). l ++ piece) c.loop-i.invariant.items
           ∙ append_assoc c.args.out.now.items (flat_map (spell o) (take i es)) piece
-          ∙ ap (λ (l : List ℕ). c.args.out.now.items ++ l) (ap (λ (l : List ℕ). flat_map (spell o) (take i es) ++ l) (c.spell_at-width.ensures.front e here) ∙ sym (spell-take o es i (i + 1) e here (omega arith)));
-      len = grind (arith, common_steps, c.spell_at-width.array_long, c.loop-i.invariant.len, c.spell_at-width.ensures.width, c.in_ok-extend_from_slice.ensures.len);
+          ∙ ap (λ (l : List ℕ). c.args.out.now.items ++ l) (ap (λ (l : List ℕ). flat_map (spell o) (take i es) ++ l)
+          (c.spell_at-width.ensures.front e here) ∙ sym (spell-take o es i (i + 1) e here (omega arith)));
+      len = grind (
+        arith,
+        common_steps,
+        c.spell_at-width.array_long,
+        c.loop-i.invariant.len,
+        c.spell_at-width.ensures.width,
+        c.in_ok-extend_from_slice.ensures.len,
+      );
       room = omega (arith, c.loop-i.invariant.room, c.in_ok-extend_from_slice.ensures.capacity);
       memory = c.in_ok-extend_from_slice.ensures.memory ∙ c.loop-i.invariant.memory;
     }

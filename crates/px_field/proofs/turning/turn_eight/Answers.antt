@@ -15,4 +15,5 @@ loop-i-preserved c =
     let len : (i * 8 + 8) - i * 8 ≡ 8 = omega arith in
     let long : length c.put64.new.bytes ≡ 8 = ap length c.put64.ensures ∙ length-spelling o 8 _ in
     turn_more (turned Eight r o) 8 i (i * 8) (i * 8) _ _ (i + 1) from c.loop-i.to c.put64.new.bytes refl
-    (c.put64.ensures ∙ ap (spelling o 8) (c.get64.ensures ∙ ap (λ n. number r 8 (take n (drop (i * 8) from))) len)) c.loop-i.invariant (omega arith) (omega arith) (omega arith)
+    (c.put64.ensures ∙ ap (spelling o 8) (c.get64.ensures ∙ ap (λ n. number r 8 (take n (drop (i * 8) from))) len)) c.loop-i.invariant
+    (omega arith) (omega arith) (omega arith)

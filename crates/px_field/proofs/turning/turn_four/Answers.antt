@@ -15,4 +15,5 @@ loop-i-preserved c =
     let len : (i * 4 + 4) - i * 4 ≡ 4 = omega arith in
     let long : length c.put32.new.bytes ≡ 4 = ap length c.put32.ensures ∙ length-spelling o 4 _ in
     turn_more (turned Four r o) 4 i (i * 4) (i * 4) _ _ (i + 1) from c.loop-i.to c.put32.new.bytes refl
-    (c.put32.ensures ∙ ap (spelling o 4) (c.get32.ensures ∙ ap (λ n. number r 4 (take n (drop (i * 4) from))) len)) c.loop-i.invariant (omega arith) (omega arith) (omega arith)
+    (c.put32.ensures ∙ ap (spelling o 4) (c.get32.ensures ∙ ap (λ n. number r 4 (take n (drop (i * 4) from))) len)) c.loop-i.invariant
+    (omega arith) (omega arith) (omega arith)

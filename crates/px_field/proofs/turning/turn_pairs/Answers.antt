@@ -13,4 +13,5 @@ loop-i-preserved c =
     let len : (i * 8 + 8) - i * 8 ≡ 8 = omega arith in
     let long : length c.turn_pair.new.to ≡ 8 = ap length c.turn_pair.ensures ∙ length_pair o _ _ in
     turn_more (turned Pair r o) 8 i (i * 8) (i * 8) _ _ (i + 1) from c.loop-i.to c.turn_pair.new.to refl
-    (c.turn_pair.ensures ∙ ap (λ n. turned Pair r o (take n (drop (i * 8) from))) len) c.loop-i.invariant (omega arith) (omega arith) (omega arith)
+    (c.turn_pair.ensures ∙ ap (λ n. turned Pair r o (take n (drop (i * 8) from))) len) c.loop-i.invariant (omega arith) (omega arith)
+    (omega arith)

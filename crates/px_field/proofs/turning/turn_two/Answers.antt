@@ -15,4 +15,5 @@ loop-i-preserved c =
     let len : (i * 2 + 2) - i * 2 ≡ 2 = omega arith in
     let long : length c.put16.new.bytes ≡ 2 = ap length c.put16.ensures ∙ length-spelling o 2 _ in
     turn_more (turned Two r o) 2 i (i * 2) (i * 2) _ _ (i + 1) from c.loop-i.to c.put16.new.bytes refl
-    (c.put16.ensures ∙ ap (spelling o 2) (c.get16.ensures ∙ ap (λ n. number r 2 (take n (drop (i * 2) from))) len)) c.loop-i.invariant (omega arith) (omega arith) (omega arith)
+    (c.put16.ensures ∙ ap (spelling o 2) (c.get16.ensures ∙ ap (λ n. number r 2 (take n (drop (i * 2) from))) len)) c.loop-i.invariant
+    (omega arith) (omega arith) (omega arith)

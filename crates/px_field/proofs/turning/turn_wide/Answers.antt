@@ -16,4 +16,5 @@ loop-i-preserved c =
     let same : c.from-wide.result ≡ c.get16.result = search rules in
     let long : length c.put32.new.bytes ≡ 4 = ap length c.put32.ensures ∙ length-spelling o 4 _ in
     turn_more (turned Widened r o) 2 i (i * 2) (i * 4) _ _ (i + 1) from c.loop-i.to c.put32.new.bytes refl
-    (c.put32.ensures ∙ ap (spelling o 4) (same ∙ c.get16.ensures ∙ ap (λ n. number r 2 (take n (drop (i * 2) from))) len)) c.loop-i.invariant (omega arith) (omega arith) (omega arith)
+    (c.put32.ensures ∙ ap (spelling o 4) (same ∙ c.get16.ensures ∙ ap (λ n. number r 2 (take n (drop (i * 2) from))) len))
+    c.loop-i.invariant (omega arith) (omega arith) (omega arith)

@@ -17,5 +17,6 @@ loop-i-preserved c k below = elim (cases_lt k c.loop-i.i) [
 pub returns : goal.returns
 returns c =
     let lengths : length c.args.a.now.elements ≡ length c.args.b.now.elements = omega arith in
-    let elements : c.args.a.now.elements ≡ c.args.b.now.elements = same_by_get _ _ lengths (λ k below. c.loop-i.invariant k (omega arith)) in
+    let elements : c.args.a.now.elements ≡ c.args.b.now.elements =
+    same_by_get _ _ lengths (λ k below. c.loop-i.invariant k (omega arith)) in
     (λ _. elements, λ _. search rules)

@@ -9,4 +9,5 @@ pub returns : goal.returns
 returns c =
     let x = c.args.octets.now in
     let high : top_bit ≤ form x = omega (arith, c.form-form.ensures.value, c.if-form-lt-TOP_BIT.false) in
-    c.number_of.ensures ∙ number_part x c.extra-extra.result (extra x) c.extra-extra.ensures.value c.requires.there ∙ sym (cond-false _ _ _ (not_less (form x) top_bit high))
+    c.number_of.ensures ∙ number_part x c.extra-extra.result (extra x) c.extra-extra.ensures.value c.requires.there
+    ∙ sym (cond-false _ _ _ (not_less (form x) top_bit high))

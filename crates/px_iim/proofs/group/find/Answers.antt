@@ -7,4 +7,5 @@ use Rattle.px_iim.proofs.group.find.Goals as goal
 pub returns : goal.returns
 returns c =
     let found = c.binary_search_by_key.ensures in
-    searched c.args.groups.now c.args.number c.requires _ found.bound (found.position (λ (g : Group). g.number) (answers_always _ _ _ (λ f a r g called. search rules)))
+    searched c.args.groups.now c.args.number c.requires _ found.bound (found.position (λ (g : Group). g.number)
+    (answers_always _ _ _ (λ f a r g called. search rules)))

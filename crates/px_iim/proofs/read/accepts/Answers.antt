@@ -1,7 +1,8 @@
 use Rattle.std.proofs.Common.{◌≡◌, ℕ, ◌+◌, true, false, is_some, None, List, [], drop, subst, ◌∙◌, ap, sym, arith}
 use Rattle.px_iim.specs.Record.{is_end}
 use Rattle.px_iim.specs.calls.Reading.{Reads, found_view}
-use Rattle.px_iim.proofs.reading.Steps.{datasets, iim_of-past, iim_of-within, some_mapped, some_more, refused_says, wide, inside, said_last, said_more}
+use Rattle.px_iim.proofs.reading.Steps.{datasets, iim_of-past, iim_of-within, some_mapped, some_more, refused_says, wide, inside, said_last}
+use Rattle.px_iim.proofs.reading.Steps.{said_more}
 use Rattle.px_iim.proofs.read.accepts.Goals as goal
 
 pub returns-then-bytes : goal.returns-then-bytes
@@ -35,17 +36,20 @@ pub returns-then-is_end : goal.returns-then-is_end
 returns-then-is_end c =
     let x = c.args.bytes.now in
     let r : Reads (drop c.loop-found.at x) c.in-Ok.found = subst (λ (y : List ℕ). Reads y c.in-Ok.found) c.rest.ensures c.in-Ok.ensures in
-    let e : is_end (drop (c.loop-found.at + c.in-Ok.found.size) x) ≡ true = sym (ap is_end c.rest-in-loop-found.ensures) ∙ sym c.if-is_end.ensures in
+    let e : is_end (drop (c.loop-found.at + c.in-Ok.found.size) x) ≡ true =
+    sym (ap is_end c.rest-in-loop-found.ensures) ∙ sym c.if-is_end.ensures in
     sym (ap is_some (said_last x c.loop-found.at c.in-Ok.found r e)) ∙ c.loop-found.invariant.said
 
 pub loop-found-preserved : goal.loop-found-preserved
 loop-found-preserved c =
     let x = c.args.bytes.now in
     let r : Reads (drop c.loop-found.at x) c.in-Ok.found = subst (λ (y : List ℕ). Reads y c.in-Ok.found) c.rest.ensures c.in-Ok.ensures in
-    let e : is_end (drop (c.loop-found.at + c.in-Ok.found.size) x) ≡ false = sym (ap is_end c.rest-in-loop-found.ensures) ∙ sym c.if-is_end.ensures in
+    let e : is_end (drop (c.loop-found.at + c.in-Ok.found.size) x) ≡ false =
+    sym (ap is_end c.rest-in-loop-found.ensures) ∙ sym c.if-is_end.ensures in
     record {
       inside = inside x c.loop-found.at c.in-Ok.found r c.loop-found.invariant.inside;
-      said = sym (ap is_some (said_more x c.loop-found.at c.in-Ok.found r e) ∙ some_more (found_view c.in-Ok.found) (datasets (drop (c.loop-found.at + c.in-Ok.found.size) x))) ∙ c.loop-found.invariant.said;
+      said = sym (ap is_some (said_more x c.loop-found.at c.in-Ok.found r e)
+          ∙ some_more (found_view c.in-Ok.found) (datasets (drop (c.loop-found.at + c.in-Ok.found.size) x))) ∙ c.loop-found.invariant.said;
     }
 
 pub loop-found-smaller : goal.loop-found-smaller

@@ -5,4 +5,5 @@ use Rattle.px_iim.proofs.read.dataset_at.Goals as goal
 
 pub returns-in-Err : goal.returns-in-Err
 returns-in-Err c =
-    rw c.at.ensures (subst (λ (x : List ℕ). first_false (dataset_checks c.args.at x) ≡ Some (c.in-Err.cause, c.args.at)) c.rest.ensures (c.in-Err.ensures c.args.at))
+    rw c.at.ensures (subst (λ (x : List ℕ). first_false (dataset_checks c.args.at x) ≡ Some (c.in-Err.cause, c.args.at)) c.rest.ensures
+    (c.in-Err.ensures c.args.at))

@@ -9,18 +9,21 @@ use Rattle.px_iim.specs.Check.{iim_checks}
 use Rattle.px_iim.specs.Record.{is_end}
 use Rattle.px_iim.specs.calls.Reading.{Reads, JudgesAt, found_view}
 use Rattle.px_iim.specs.lemmas.ScanLaws.{checks_left, iim_left}
-use Rattle.px_iim.proofs.reading.Steps.{datasets, iim_of-within, gather_last, gather_more, refused_fault, wide, inside, octets_within, said_last, said_more, fault_last, fault_more}
+use Rattle.px_iim.proofs.reading.Steps.{datasets, iim_of-within, gather_last, gather_more, refused_fault, wide, inside, octets_within}
+use Rattle.px_iim.proofs.reading.Steps.{said_last, said_more, fault_last, fault_more}
 use Rattle.px_iim.proofs.read.read_groups.Goals as goal
 
 pub loop-record-init : goal.loop-record-init
 loop-record-init c = record {
   inside = omega arith;
-  said = ap (λ (i : Record). option_map (gather i) (datasets c.args.bytes.now)) c.new_in-record.ensures ∙ sym (iim_of-within c.args.bytes.now c.requires);
+  said = ap (λ (i : Record). option_map (gather i) (datasets c.args.bytes.now)) c.new_in-record.ensures
+      ∙ sym (iim_of-within c.args.bytes.now c.requires);
   faults = sym (iim_left c.args.bytes.now c.requires);
   memory = refl;
 }
 
-refuses : (e : Refusal) (x : List ℕ) (at : ℕ) → JudgesAt (Err e) x at → first_false (checks_left at (drop at x)) ≡ first_false (iim_checks x) → Refuses e (iim_checks x)
+refuses : (e : Refusal) (x : List ℕ) (at : ℕ) → JudgesAt (Err e) x at
+    → first_false (checks_left at (drop at x)) ≡ first_false (iim_checks x) → Refuses e (iim_checks x)
 refuses (Content cause place) x at h f = sym f ∙ refused_fault at (drop at x) (cause, place) h
 refuses OutOfMemory x at h f = absurd h
 

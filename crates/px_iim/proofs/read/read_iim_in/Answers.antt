@@ -1,4 +1,5 @@
-use Rattle.std.proofs.Common.{◌≡◌, ℕ, ◌≤◌, Bool, Option, Some, None, List, length, Result, Ok, Err, IfOk, IfErr, ap, refl, arith, length-append}
+use Rattle.std.proofs.Common.{◌≡◌, ℕ, ◌≤◌, Bool, Option, Some, None, List, length, Result, Ok, Err, IfOk, IfErr, ap, refl, arith}
+use Rattle.std.proofs.Common.{length-append}
 use Rattle.px_bytes.specs.declared.Refusal.{Refusal}
 use Rattle.px_bytes.specs.declared.Refusal.TheVariants.{Content, OutOfMemory}
 use Rattle.px_bytes.specs.declared.Cause.{Cause}
@@ -39,7 +40,8 @@ refuses x refused c p f l =
     let none = λ (i : Record) (t : SaysIim x i). stands_unsaid x c p i s t in
     (s, l, nothing x none, none)
 
-stands : {X : Type 0} (r : Result X Refusal) (x : List ℕ) (good : X → Type 0) (old new : Bool) → length x ≤ limit → Judges r (iim_checks x) good → LacksBlock r old new → IfErr r (RefusesIim x new)
+stands : {X : Type 0} (r : Result X Refusal) (x : List ℕ) (good : X → Type 0) (old new : Bool) → length x ≤ limit
+    → Judges r (iim_checks x) good → LacksBlock r old new → IfErr r (RefusesIim x new)
 stands (Ok i) x good old new l j m = tt
 stands (Err (Content c p)) x good old new l j m = refuses x new c p j (place x c p (first_stands x c p j) l)
 stands (Err OutOfMemory) x good old new l j m = m
@@ -52,17 +54,20 @@ pub returns-then-bytes-clause-judged : goal.returns-then-bytes-clause-judged
 returns-then-bytes-clause-judged c = rw c.at.ensures (checks_past c.args.bytes.now c.if-bytes.true)
 
 pub returns-then-bytes-clause-stands : goal.returns-then-bytes-clause-stands
-returns-then-bytes-clause-stands c = rw c.at.ensures (refuses c.args.bytes.now c.args.memory.now TooLong limit (checks_past c.args.bytes.now c.if-bytes.true) (omega arith))
+returns-then-bytes-clause-stands c =
+    rw c.at.ensures (refuses c.args.bytes.now c.args.memory.now TooLong limit (checks_past c.args.bytes.now c.if-bytes.true) (omega arith))
 
 pub returns-clause-judged : goal.returns-clause-judged
 returns-clause-judged c =
     let x = c.args.bytes.now in
-    Judges-good c.read_groups.result (iim_checks x) (λ i. iim_of x ≡ Some i) (SaysIim x) (λ i e. (computes x i).1 e) c.read_groups.ensures.judged
+    Judges-good c.read_groups.result (iim_checks x) (λ i. iim_of x ≡ Some i) (SaysIim x) (λ i e. (computes x i).1 e)
+    c.read_groups.ensures.judged
 
 pub returns-clause-stands : goal.returns-clause-stands
 returns-clause-stands c =
     let x = c.args.bytes.now in
-    stands c.read_groups.result x (λ i. iim_of x ≡ Some i) c.args.memory.now c.read_groups.new.memory c.if-bytes.false c.read_groups.ensures.judged c.read_groups.ensures.memory
+    stands c.read_groups.result x (λ i. iim_of x ≡ Some i) c.args.memory.now c.read_groups.new.memory c.if-bytes.false
+    c.read_groups.ensures.judged c.read_groups.ensures.memory
 
 pub returns-clause-whole : goal.returns-clause-whole
 returns-clause-whole c = wholes c.read_groups.result c.args.bytes.now (λ k. (c.type_inv.bytes k).fits) c.read_groups.ensures.judged

@@ -15,7 +15,9 @@ firsts : (x y : Group) (xs ys i j : Record) → i ≡ x ∷ xs → j ≡ y ∷ y
 firsts x y xs ys i j e f h = let both : x ∷ xs ≡ y ∷ ys = sym e ∙ h ∙ f in (cc, cc)
 
 pub returns-then-not-same_group : goal.returns-then-not-same_group
-returns-then-not-same_group c = λ e. c.if-not-same_group.ensures ((firsts _ _ _ _ _ _ c.in-Some.ensures.steps c.in-Some-next.ensures.steps (c.loop-group.invariant.down e)).0)
+returns-then-not-same_group c =
+    λ e. c.if-not-same_group.ensures ((firsts _ _ _ _ _ _ c.in-Some.ensures.steps c.in-Some-next.ensures.steps
+    (c.loop-group.invariant.down e)).0)
 
 lists : (x y : Group) (xs ys i j : Record) → i ≡ x ∷ xs → j ≡ y ∷ ys → x ≡ y → xs ≡ ys → i ≡ j
 lists x y xs ys i j e f h k = cc
@@ -23,15 +25,20 @@ lists x y xs ys i j e f h k = cc
 pub loop-group-preserved : goal.loop-group-preserved
 loop-group-preserved c = record {
   down = λ e. (firsts _ _ _ _ _ _ c.in-Some.ensures.steps c.in-Some-next.ensures.steps (c.loop-group.invariant.down e)).1;
-  up = λ e. c.loop-group.invariant.up (lists _ _ _ _ _ _ c.in-Some.ensures.steps c.in-Some-next.ensures.steps c.if-not-same_group.ensures e);
+  up = λ e. c.loop-group.invariant.up (lists _ _ _ _ _ _ c.in-Some.ensures.steps c.in-Some-next.ensures.steps c.if-not-same_group.ensures
+      e);
 }
 
 -- the first is at its end, and the other is at its end too or is not
-ended : (r : Option (ℕ × ℕ × Bor (List Item))) (b : Bool) (i j t : Record) (P : Type 0) → i ≡ [] → (P → i ≡ j) → (i ≡ j → P) → YieldsFirstBy part_view (λ (left : Record). left) j r t → is_some r ≡ not b → MatchBool b P (P → ⊥)
+ended : (r : Option (ℕ × ℕ × Bor (List Item))) (b : Bool) (i j t : Record) (P : Type 0) → i ≡ [] → (P → i ≡ j) → (i ≡ j → P)
+    → YieldsFirstBy part_view (λ (left : Record). left) j r t → is_some r ≡ not b → MatchBool b P (P → ⊥)
 ended None true i j t P e down up s n = up (e ∙ sym s.0)
 ended None false i j t P e down up s n = absurd (cc)
 ended (Some x) true i j t P e down up s n = absurd (cc)
 ended (Some x) false i j t P e down up s n = λ p. some_none _ _ _ s (sym (down p) ∙ e)
 
 pub returns : goal.returns
-returns c = ended c.next-2.result c.is_none.result c.loop-group.group-iterator c.loop-group.others c.next-2.new.self (c.args.first.now ≡ c.args.second.now) c.in-None.ensures.steps.0 c.loop-group.invariant.down c.loop-group.invariant.up c.next-2.ensures.steps c.is_none.ensures
+returns c =
+    ended c.next-2.result c.is_none.result c.loop-group.group-iterator c.loop-group.others c.next-2.new.self
+    (c.args.first.now ≡ c.args.second.now) c.in-None.ensures.steps.0 c.loop-group.invariant.down c.loop-group.invariant.up
+    c.next-2.ensures.steps c.is_none.ensures

@@ -8,16 +8,19 @@ use Rattle.px_iim.proofs.write.append_group.Goals as goal
 
 pub append_item-requires : goal.append_item-requires
 append_item-requires c =
-    all_at (normal_dataset 0) (map item_view c.args.items.now) c.loop-item.item-index _ (item_read c.args.items.now c.loop-item.item-index _ c.loop-item-test.true) (λ x. length x.1 ≤ limit) c.requires
+    all_at (normal_dataset 0) (map item_view c.args.items.now) c.loop-item.item-index _
+    (item_read c.args.items.now c.loop-item.item-index _ c.loop-item-test.true) (λ x. length x.1 ≤ limit) c.requires
 
 pub returns-in_err-append_item-clause-grown : goal.returns-in_err-append_item-clause-grown
 returns-in_err-append_item-clause-grown c =
     let p = err_from_is_err_and c.from_residual.result c.from_residual.ensures.1 in
-    rw p.1 (grows_stop c.args.out.now.items c.loop-item.out.items c.append_item.new.out.items _ c.loop-item.invariant.grown c.in_err-append_item.ensures.grown)
+    rw p.1 (grows_stop c.args.out.now.items c.loop-item.out.items c.append_item.new.out.items _ c.loop-item.invariant.grown
+    c.in_err-append_item.ensures.grown)
 
 pub loop-item-preserved : goal.loop-item-preserved
 loop-item-preserved c = record {
-  grown = grows_more (normal_dataset c.args.rec) (map item_view c.args.items.now) c.loop-item.item-index _ (item_read c.args.items.now c.loop-item.item-index _ c.loop-item-test.true)
+  grown = grows_more (normal_dataset c.args.rec) (map item_view c.args.items.now) c.loop-item.item-index _
+      (item_read c.args.items.now c.loop-item.item-index _ c.loop-item-test.true)
       c.args.out.now.items c.loop-item.out.items c.append_item.new.out.items c.loop-item.invariant.grown c.in_ok-append_item.ensures.grown;
   memory = c.in_ok-append_item.ensures.memory ∙ c.loop-item.invariant.memory;
 }

@@ -17,7 +17,9 @@ loop-rec-init c =
     }
 
 pub append_group-requires : goal.append_group-requires
-append_group-requires c = short_next c.loop-rec.rec-iterator c.next.new.self (part_view (c.in-Some.rec, c.in-Some.field-0-1, c.in-Some.items)) c.in-Some.ensures.steps [] c.loop-rec.invariant.whole
+append_group-requires c =
+    short_next c.loop-rec.rec-iterator c.next.new.self (part_view (c.in-Some.rec, c.in-Some.field-0-1, c.in-Some.items))
+    c.in-Some.ensures.steps [] c.loop-rec.invariant.whole
 
 pub returns-in_err-append_group-clause-grown : goal.returns-in_err-append_group-clause-grown
 returns-in_err-append_group-clause-grown c =
@@ -31,7 +33,8 @@ loop-rec-preserved c =
     let o = c.loop-rec.invariant.grown in
     record {
       whole = whole_next c.loop-rec.rec-iterator c.next.new.self x c.in-Some.ensures.steps [] c.loop-rec.invariant.whole;
-      grown = grows_next c.loop-rec.rec-iterator c.next.new.self x c.in-Some.ensures.steps _ c.args.out.now.items c.loop-rec.out.items c.append_group.new.out.items o.0 o.1 o.2 c.in_ok-append_group.ensures.grown;
+      grown = grows_next c.loop-rec.rec-iterator c.next.new.self x c.in-Some.ensures.steps _ c.args.out.now.items c.loop-rec.out.items
+          c.append_group.new.out.items o.0 o.1 o.2 c.in_ok-append_group.ensures.grown;
       memory = c.in_ok-append_group.ensures.memory ∙ c.loop-rec.invariant.memory;
     }
 

@@ -9,17 +9,20 @@ use Rattle.px_iim.proofs.write.put_group.Goals as goal
 
 pub put_item-requires-clause-short : goal.put_item-requires-clause-short
 put_item-requires-clause-short g c =
-    all_at (normal_dataset 0) (map item_view c.args.items.now) c.loop-item.item-index _ (item_read c.args.items.now c.loop-item.item-index _ c.loop-item-test.true) (λ x. length x.1 ≤ limit) c.requires.short
+    all_at (normal_dataset 0) (map item_view c.args.items.now) c.loop-item.item-index _
+    (item_read c.args.items.now c.loop-item.item-index _ c.loop-item-test.true) (λ x. length x.1 ≤ limit) c.requires.short
 
 pub returns-in_err-put_item-clause-bytes : goal.returns-in_err-put_item-clause-bytes
 returns-in_err-put_item-clause-bytes g c =
     let p = err_from_is_err_and c.from_residual.result c.from_residual.ensures.1 in
-    rw p.1 (loop_stop g.W.Sink.bytes_taken (normal_dataset c.args.rec) (map item_view c.args.items.now) c.loop-item.item-index _ (item_read c.args.items.now c.loop-item.item-index _ c.loop-item-test.true)
+    rw p.1 (loop_stop g.W.Sink.bytes_taken (normal_dataset c.args.rec) (map item_view c.args.items.now) c.loop-item.item-index _
+    (item_read c.args.items.now c.loop-item.item-index _ c.loop-item-test.true)
     _ _ _ c.args.pending.now c.loop-item.pending c.loop-item.invariant.put c.in_err-put_item.ensures.bytes)
 
 pub loop-item-preserved : goal.loop-item-preserved
 loop-item-preserved g c = record {
-  put = loop_more g.W.Sink.bytes_taken (normal_dataset c.args.rec) (map item_view c.args.items.now) c.loop-item.item-index _ (item_read c.args.items.now c.loop-item.item-index _ c.loop-item-test.true)
+  put = loop_more g.W.Sink.bytes_taken (normal_dataset c.args.rec) (map item_view c.args.items.now) c.loop-item.item-index _
+      (item_read c.args.items.now c.loop-item.item-index _ c.loop-item-test.true)
       _ _ _ c.args.pending.now c.loop-item.pending c.put_item.new.pending c.loop-item.invariant.put c.in_ok-put_item.ensures.bytes;
   count = c.in_ok-put_item.ensures.count ∙ c.loop-item.invariant.count;
 }

@@ -8,6 +8,7 @@ use Rattle.px_iim.proofs.write.put_group.Given as goal
 -- the items so far were put, and no call failed
 abbrev pub invariant-loop-item : goal.invariant-loop-item
 invariant-loop-item g l = record {
-  put : HasPut g.W.Sink.bytes_taken l.initial.writer l.writer l.initial.pending l.pending (flat_map (normal_dataset l.rec) (take l.item-index (map item_view l.items)));
+  put : HasPut g.W.Sink.bytes_taken l.initial.writer l.writer l.initial.pending l.pending
+      (flat_map (normal_dataset l.rec) (take l.item-index (map item_view l.items)));
   count : g.W.Device.failed l.writer ≡ g.W.Device.failed l.initial.writer;
 }

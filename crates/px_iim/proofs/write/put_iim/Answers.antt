@@ -18,13 +18,17 @@ loop-rec-init g c =
     }
 
 pub put_group-requires-clause-short : goal.put_group-requires-clause-short
-put_group-requires-clause-short g c = short_next c.loop-rec.rec-iterator c.next.new.self (part_view (c.in-Some.rec, c.in-Some.field-0-1, c.in-Some.items)) c.in-Some.ensures.steps [] c.loop-rec.invariant.whole
+put_group-requires-clause-short g c =
+    short_next c.loop-rec.rec-iterator c.next.new.self (part_view (c.in-Some.rec, c.in-Some.field-0-1, c.in-Some.items))
+    c.in-Some.ensures.steps [] c.loop-rec.invariant.whole
 
 pub returns-in_err-put_group-clause-bytes : goal.returns-in_err-put_group-clause-bytes
 returns-in_err-put_group-clause-bytes g c =
     let p = err_from_is_err_and c.from_residual.result c.from_residual.ensures.1 in
     let o = c.loop-rec.invariant.put in
-    let failed = put_failed c.loop-rec.rec-iterator c.next.new.self (part_view (c.in-Some.rec, c.in-Some.field-0-1, c.in-Some.items)) c.in-Some.ensures.steps _
+    let failed =
+    put_failed c.loop-rec.rec-iterator c.next.new.self (part_view (c.in-Some.rec, c.in-Some.field-0-1, c.in-Some.items))
+    c.in-Some.ensures.steps _
     g.W.Sink.bytes_taken _ _ _ c.args.pending.now c.loop-rec.pending o.0 o.1 o.2 c.in_err-put_group.ensures.bytes in
     rw p.1 failed.0
 
@@ -32,7 +36,9 @@ pub returns-in_err-put_group-clause-waits : goal.returns-in_err-put_group-clause
 returns-in_err-put_group-clause-waits g c =
     let p = err_from_is_err_and c.from_residual.result c.from_residual.ensures.1 in
     let o = c.loop-rec.invariant.put in
-    let failed = put_failed c.loop-rec.rec-iterator c.next.new.self (part_view (c.in-Some.rec, c.in-Some.field-0-1, c.in-Some.items)) c.in-Some.ensures.steps _
+    let failed =
+    put_failed c.loop-rec.rec-iterator c.next.new.self (part_view (c.in-Some.rec, c.in-Some.field-0-1, c.in-Some.items))
+    c.in-Some.ensures.steps _
     g.W.Sink.bytes_taken _ _ _ c.args.pending.now c.loop-rec.pending o.0 o.1 o.2 c.in_err-put_group.ensures.bytes in
     rw p.1 failed.1
 
@@ -43,16 +49,19 @@ loop-rec-preserved g c =
     record {
       whole = whole_next c.loop-rec.rec-iterator c.next.new.self x c.in-Some.ensures.steps [] c.loop-rec.invariant.whole;
       put = put_next c.loop-rec.rec-iterator c.next.new.self x c.in-Some.ensures.steps _
-          g.W.Sink.bytes_taken _ _ _ c.args.pending.now c.loop-rec.pending c.put_group.new.pending o.0 o.1 o.2 c.in_ok-put_group.ensures.bytes;
+          g.W.Sink.bytes_taken _ _ _ c.args.pending.now c.loop-rec.pending c.put_group.new.pending o.0 o.1 o.2
+          c.in_ok-put_group.ensures.bytes;
       count = c.in_ok-put_group.ensures.count ∙ c.loop-rec.invariant.count;
     }
 
 pub returns-clause-bytes : goal.returns-clause-bytes
 returns-clause-bytes g c =
     let o = c.loop-rec.invariant.put in
-    (subst (HasPut g.W.Sink.bytes_taken c.args.writer.now c.loop-rec.writer c.args.pending.now c.loop-rec.pending) (rest_none c.loop-rec.rec-iterator o.0 _ c.in-None.ensures.steps.0 o.2) o.1).0
+    (subst (HasPut g.W.Sink.bytes_taken c.args.writer.now c.loop-rec.writer c.args.pending.now c.loop-rec.pending)
+    (rest_none c.loop-rec.rec-iterator o.0 _ c.in-None.ensures.steps.0 o.2) o.1).0
 
 pub returns-clause-waits : goal.returns-clause-waits
 returns-clause-waits g c =
     let o = c.loop-rec.invariant.put in
-    (subst (HasPut g.W.Sink.bytes_taken c.args.writer.now c.loop-rec.writer c.args.pending.now c.loop-rec.pending) (rest_none c.loop-rec.rec-iterator o.0 _ c.in-None.ensures.steps.0 o.2) o.1).1
+    (subst (HasPut g.W.Sink.bytes_taken c.args.writer.now c.loop-rec.writer c.args.pending.now c.loop-rec.pending)
+    (rest_none c.loop-rec.rec-iterator o.0 _ c.in-None.ensures.steps.0 o.2) o.1).1

@@ -9,6 +9,7 @@ use Rattle.px_iim.proofs.write.put_iim.Given as goal
 abbrev pub invariant-loop-rec : goal.invariant-loop-rec
 invariant-loop-rec g l = record {
   whole : AllByRecursion IsGroup l.rec-iterator;
-  put : (parts : List ℕ) × HasPut g.W.Sink.bytes_taken l.initial.writer l.writer l.initial.pending l.pending parts × (parts ++ normal_iim l.rec-iterator ≡ normal_iim l.iim);
+  put : (parts : List ℕ) × HasPut g.W.Sink.bytes_taken l.initial.writer l.writer l.initial.pending l.pending parts ×
+      (parts ++ normal_iim l.rec-iterator ≡ normal_iim l.iim);
   count : g.W.Device.failed l.writer ≡ g.W.Device.failed l.initial.writer;
 }

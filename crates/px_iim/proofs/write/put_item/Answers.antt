@@ -18,7 +18,8 @@ pub returns-clause-bytes : goal.returns-clause-bytes
 returns-clause-bytes g c =
     let h = take c.head-len.result.1 c.head-len.result.0 in
     let octets = c.args.item.now.octets.now in
-    subst (λ (o : List ℕ). PutsTo g.W.Sink.bytes_taken c.put-2.result c.args.writer.now c.put-2.new.writer c.args.pending.now c.put-2.new.self o)
+    subst (λ (o : List ℕ). PutsTo g.W.Sink.bytes_taken c.put-2.result c.args.writer.now c.put-2.new.writer c.args.pending.now
+    c.put-2.new.self o)
     (head_and_data c.args.rec c.args.item.now.number octets h c.head-len.ensures.spelled)
     (puts_to_both g.W.Sink.bytes_taken c.put-2.result _ _ _ c.args.pending.now c.put.new.self c.put-2.new.self h octets
     (c.in_ok-put.ensures.bytes, c.in_ok-put.ensures.waits) (c.put-2.ensures.bytes, c.put-2.ensures.waits))

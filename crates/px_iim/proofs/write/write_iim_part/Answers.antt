@@ -8,29 +8,52 @@ use Rattle.px_iim.proofs.writing.Writes.{counted, not_counted}
 use Rattle.px_iim.proofs.write.write_iim_part.Goals as goal
 
 pub returns-then-len-gt-LIMIT : goal.returns-then-len-gt-LIMIT
-returns-then-len-gt-LIMIT g c = (not_counted c.normal_len.result (length (normal_iim c.args.iim.now)) c.unwrap_or-len.result c.normal_len.ensures c.unwrap_or-len.ensures c.if-len-gt-LIMIT.true, refl, refl)
+returns-then-len-gt-LIMIT g c = (
+  not_counted c.normal_len.result (length (normal_iim c.args.iim.now)) c.unwrap_or-len.result c.normal_len.ensures
+      c.unwrap_or-len.ensures c.if-len-gt-LIMIT.true,
+  refl,
+  refl,
+)
 
 pub returns-in_err-put_iim : goal.returns-in_err-put_iim
 returns-in_err-put_iim g c =
     let p = err_from_is_err_and c.from_residual.result c.from_residual.ensures.1 in
-    let l = counted c.normal_len.result (length (normal_iim c.args.iim.now)) c.unwrap_or-len.result c.normal_len.ensures c.unwrap_or-len.ensures c.if-len-gt-LIMIT.false in
+    let l = counted c.normal_len.result (length (normal_iim c.args.iim.now)) c.unwrap_or-len.result c.normal_len.ensures
+    c.unwrap_or-len.ensures c.if-len-gt-LIMIT.false in
     rw (p.1, p.2) (
       l.1,
-      from_none (AppendsPrefix (g.W.Sink.bytes_taken c.args.writer.now) (g.W.Sink.bytes_taken c.put_iim.new.writer)) c.new-pending.result (normal_iim c.args.iim.now) c.new-pending.ensures c.in_err-put_iim.ensures.bytes,
+      from_none (AppendsPrefix (g.W.Sink.bytes_taken c.args.writer.now) (g.W.Sink.bytes_taken c.put_iim.new.writer)) c.new-pending.result
+          (normal_iim c.args.iim.now) c.new-pending.ensures c.in_err-put_iim.ensures.bytes,
       c.in_err-put_iim.ensures.count,
     )
 
 pub returns-in_err-send : goal.returns-in_err-send
 returns-in_err-send g c =
     let p = err_from_is_err_and c.from_residual-in_err-send.result c.from_residual-in_err-send.ensures.1 in
-    let l = counted c.normal_len.result (length (normal_iim c.args.iim.now)) c.unwrap_or-len.result c.normal_len.ensures c.unwrap_or-len.ensures c.if-len-gt-LIMIT.false in
-    let o : Owes (g.W.Sink.bytes_taken c.args.writer.now) (g.W.Sink.bytes_taken c.put_iim.new.writer) c.put_iim.new.pending (normal_iim c.args.iim.now) =
-    from_none (Owes (g.W.Sink.bytes_taken c.args.writer.now) (g.W.Sink.bytes_taken c.put_iim.new.writer) c.put_iim.new.pending) c.new-pending.result (normal_iim c.args.iim.now) c.new-pending.ensures c.in_ok-put_iim.ensures.bytes in
-    rw (p.1, p.2) (l.1, owed_prefix _ _ _ _ _ o c.in_err-send.ensures.bytes, c.in_err-send.ensures.count ∙ ap (λ (n : ℕ). n + 1) c.in_ok-put_iim.ensures.count)
+    let l = counted c.normal_len.result (length (normal_iim c.args.iim.now)) c.unwrap_or-len.result c.normal_len.ensures
+    c.unwrap_or-len.ensures c.if-len-gt-LIMIT.false in
+    let o : Owes (g.W.Sink.bytes_taken c.args.writer.now) (g.W.Sink.bytes_taken c.put_iim.new.writer) c.put_iim.new.pending
+    (normal_iim c.args.iim.now) =
+    from_none (Owes (g.W.Sink.bytes_taken c.args.writer.now) (g.W.Sink.bytes_taken c.put_iim.new.writer) c.put_iim.new.pending)
+    c.new-pending.result (normal_iim c.args.iim.now) c.new-pending.ensures c.in_ok-put_iim.ensures.bytes in
+    rw (p.1, p.2) (
+      l.1,
+      owed_prefix _ _ _ _ _ o c.in_err-send.ensures.bytes,
+      c.in_err-send.ensures.count
+          ∙ ap (λ (n : ℕ). n + 1) c.in_ok-put_iim.ensures.count,
+    )
 
 pub returns : goal.returns
 returns g c =
-    let l = counted c.normal_len.result (length (normal_iim c.args.iim.now)) c.unwrap_or-len.result c.normal_len.ensures c.unwrap_or-len.ensures c.if-len-gt-LIMIT.false in
-    let o : Owes (g.W.Sink.bytes_taken c.args.writer.now) (g.W.Sink.bytes_taken c.put_iim.new.writer) c.put_iim.new.pending (normal_iim c.args.iim.now) =
-    from_none (Owes (g.W.Sink.bytes_taken c.args.writer.now) (g.W.Sink.bytes_taken c.put_iim.new.writer) c.put_iim.new.pending) c.new-pending.result (normal_iim c.args.iim.now) c.new-pending.ensures c.in_ok-put_iim.ensures.bytes in
-    (owed_all _ _ _ _ _ o c.in_ok-send.ensures.bytes, c.from.ensures ∙ l.0, omega (arith, c.from.ensures, l), c.in_ok-send.ensures.count ∙ c.in_ok-put_iim.ensures.count)
+    let l = counted c.normal_len.result (length (normal_iim c.args.iim.now)) c.unwrap_or-len.result c.normal_len.ensures
+    c.unwrap_or-len.ensures c.if-len-gt-LIMIT.false in
+    let o : Owes (g.W.Sink.bytes_taken c.args.writer.now) (g.W.Sink.bytes_taken c.put_iim.new.writer) c.put_iim.new.pending
+    (normal_iim c.args.iim.now) =
+    from_none (Owes (g.W.Sink.bytes_taken c.args.writer.now) (g.W.Sink.bytes_taken c.put_iim.new.writer) c.put_iim.new.pending)
+    c.new-pending.result (normal_iim c.args.iim.now) c.new-pending.ensures c.in_ok-put_iim.ensures.bytes in (
+      owed_all _ _ _ _ _ o c.in_ok-send.ensures.bytes,
+      c.from.ensures ∙ l.0,
+      omega (arith, c.from.ensures, l),
+      c.in_ok-send.ensures.count
+          ∙ c.in_ok-put_iim.ensures.count,
+    )

@@ -7,6 +7,7 @@ use Rattle.px_text.proofs.captions_in.push_group.Given as goal
 
 abbrev pub invariant-loop-item : goal.invariant-loop-item
 invariant-loop-item l = record {
-  list : map caption_view l.list.items ≡ map caption_view l.initial.list.items ++ filter_map labelled (take l.item-index (map item_view l.items));
+  list : map caption_view l.list.items ≡ map caption_view l.initial.list.items ++ filter_map labelled
+      (take l.item-index (map item_view l.items));
   memory : l.memory ≡ l.initial.memory;
 }

@@ -19,7 +19,8 @@ loop-items-preserved c =
     let x = part_view (c.in-Some.field-0-0, c.in-Some.field-0-1, c.in-Some.items) in
     let step = ap (λ (i : Record). length i) c.in-Some.ensures.steps in
     record {
-      count = count_next c.loop-items.items-iterator c.next.new.self x c.in-Some.ensures.steps c.count_group.result c.loop-items.count (dataset_count c.args.iim.now) c.loop-items.invariant.count
+      count = count_next c.loop-items.items-iterator c.next.new.self x c.in-Some.ensures.steps c.count_group.result c.loop-items.count
+          (dataset_count c.args.iim.now) c.loop-items.invariant.count
           (c.count_group.ensures ∙ sym (length-map c.in-Some.items.now item_view));
       bound = omega (arith, c.loop-items.invariant.bound, step);
     }

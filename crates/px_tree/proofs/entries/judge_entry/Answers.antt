@@ -13,14 +13,16 @@ use Rattle.px_tree.proofs.entries.judge_entry.Goals as goal
 pub returns-in_err-shape-clause-judged : goal.returns-in_err-shape-clause-judged
 returns-in_err-shape-clause-judged c = λ taken a.
     let p = err_from_is_err_and c.from_residual.result c.from_residual.ensures.1 in
-    rw (p.1, p.2) (shape_refuses _ c.args.order c.args.dir taken c.args.at c.args.before c.head_at-head.result _ c.head_at-head.ensures _ c.in_err-shape.ensures.judged)
+    rw (p.1, p.2) (shape_refuses _ c.args.order c.args.dir taken c.args.at c.args.before c.head_at-head.result _ c.head_at-head.ensures _
+    c.in_err-shape.ensures.judged)
 
 pub returns-in_err-hold_value-clause-judged : goal.returns-in_err-hold_value-clause-judged
 returns-in_err-hold_value-clause-judged c = λ taken a.
     let p = err_from_is_err_and c.from_residual-in_err-hold_value.result c.from_residual-in_err-hold_value.ensures.1 in
     let h = c.head_at-head.result in
     let len : c.from.result * c.from-2.result ≡ h.count * size c.in_ok-shape.shape.form = cc in
-    rw (p.1, p.2) (value_refuses c.args.block.now c.args.order c.args.dir taken c.args.at c.args.before c.head_at-head.result _ c.head_at-head.ensures
+    rw (p.1, p.2) (value_refuses c.args.block.now c.args.order c.args.dir taken c.args.at c.args.before c.head_at-head.result _
+    c.head_at-head.ensures
     _ _ c.in_ok-shape.ensures.judged.1.1 len c.in_ok-shape.ensures.judged.0 _ (c.in_err-hold_value.ensures.judged taken a))
 
 pub returns-clause-judged : goal.returns-clause-judged
@@ -31,8 +33,11 @@ returns-clause-judged c = λ taken a.
     let k = c.in_ok-hold_value.ensures.judged taken a in
     let known = c.in_ok-shape.ensures.judged.1.1 in
     let len : c.from.result * c.from-2.result ≡ h.count * size c.in_ok-shape.shape.form = cc in (
-      entry_true c.args.block.now c.args.order c.args.dir taken c.args.at c.args.before h _ shows _ _ known len c.in_ok-shape.ensures.judged.0 k.0,
-      subst (λ (r : Option Range). Agrees (option_to_list r ++ taken) c.hold_value.new.held) (range_same c.args.block.now c.args.order c.args.dir taken c.args.at c.args.before h e shows _ _ known len c.in_ok-shape.ensures.judged.0) k.1,
+      entry_true c.args.block.now c.args.order c.args.dir taken c.args.at c.args.before h _ shows _ _ known len
+          c.in_ok-shape.ensures.judged.0 k.0,
+      subst (λ (r : Option Range). Agrees (option_to_list r ++ taken) c.hold_value.new.held)
+          (range_same c.args.block.now c.args.order c.args.dir taken c.args.at c.args.before h e shows _ _ known len
+          c.in_ok-shape.ensures.judged.0) k.1,
     )
 
 pub returns-clause-shape : goal.returns-clause-shape

@@ -27,5 +27,6 @@ returns c =
     let len : c.from.result * c.from-2.result ≡ h.count * size f = cc in
     let under : c.from.result * c.from-2.result ≤ 4 = ltb-false 4 _ (sym c.needs_place.ensures ∙ c.if-needs_place.false) in
     let is = c.part_of-2.ensures ∙ ap (λ (n : ℕ). part b (c.args.at + 8) n) len in
-    let l = part-bounded b o c.args.at h f r (c.args.at + 8) (h.count * size f) c.part_of-2.result.now is (let i = r.inside in omega arith) in
+    let l = part-bounded b o c.args.at h f r (c.args.at + 8) (h.count * size f) c.part_of-2.result.now is (let i = r.inside in omega arith)
+    in
     record { bytes = is ∙ sym (raw-inline b o c.args.at h f r (omega arith)); size = l.0; bounded = l.1 }

@@ -7,4 +7,6 @@ pub read_value-requires-clause-whole : goal.read_value-requires-clause-whole
 read_value-requires-clause-whole c = whole-times c.args.form c.args.head.count c.raw_of.result.now c.raw_of.ensures.size
 
 pub returns : goal.returns
-returns c = c.read_value.ensures.value ∙ value-held c.args.block.now c.args.order c.args.at c.args.head c.args.form c.requires c.raw_of.result.now c.raw_of.ensures.bytes c.raw_of.ensures.size
+returns c =
+    c.read_value.ensures.value ∙ value-held c.args.block.now c.args.order c.args.at c.args.head c.args.form c.requires c.raw_of.result.now
+    c.raw_of.ensures.bytes c.raw_of.ensures.size

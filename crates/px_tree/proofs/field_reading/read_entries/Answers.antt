@@ -1,4 +1,5 @@
-use Rattle.std.proofs.Common.{refl, ◌≡◌, ◌<◌, ◌+◌, ◌-◌, ◌++◌, ℕ, suc, Option, None, filter_map, option_map, option_to_list, sym, ap, subst, ◌∙◌, arith, append-nil, append_assoc}
+use Rattle.std.proofs.Common.{refl, ◌≡◌, ◌<◌, ◌+◌, ◌-◌, ◌++◌, ℕ, suc, Option, None, filter_map, option_map, option_to_list, sym, ap, subst}
+use Rattle.std.proofs.Common.{◌∙◌, arith, append-nil, append_assoc}
 use Rattle.std.proofs.lemmas.Result.{err_from_is_err_and}
 use Rattle.std.specs.List.{AllByRecursion}
 use Rattle.px_bytes.specs.Parts.{part}
@@ -24,7 +25,8 @@ loop-init c =
       place = omega arith;
       rising = subst (λ (l : Fields). Rising (tags l)) (sym c.in_ok-fields.ensures.none) tt;
       precede = λ t _. subst (λ (l : Fields). AllByRecursion (λ s. s < t) (tags l)) (sym c.in_ok-fields.ensures.none) tt;
-      fields = ap (λ (l : Fields). l ++ filter_map (field b o d) (es (c.args.count - 0))) c.in_ok-fields.ensures.none ∙ ap (λ (k : ℕ). filter_map (field b o d) (es k)) n;
+      fields = ap (λ (l : Fields). l ++ filter_map (field b o d) (es (c.args.count - 0))) c.in_ok-fields.ensures.none
+          ∙ ap (λ (k : ℕ). filter_map (field b o d) (es k)) n;
       judged = λ taken a. subst (λ (k : ℕ). SoFar b o d taken (es c.args.count) c.args.start c.args.held.now c.args.start None k) (sym n)
           (so_far_start b o d taken c.args.start c.args.count c.args.held.now a);
       uses = subst (λ (k : ℕ). UsesSoFar b o c.args.start c.args.count c.no_uses-uses.result c.args.start None k) (sym n) (uses_start b o c.args.start c.args.count c.no_uses-uses.result c.no_uses-uses.ensures);
@@ -36,12 +38,20 @@ returns-in_err-shape-clause-judged c = λ taken a.
     let p = err_from_is_err_and c.from_residual-in_err-shape.result c.from_residual-in_err-shape.ensures.1 in
     let step : c.args.count - c.loop.counter ≡ suc (c.args.count - (c.loop.counter + 1)) = omega arith in
     let s = c.loop.invariant.judged taken a in
-    rw (p.1, p.2) (so_far_refuses c.args.block.now c.args.order c.args.dir taken _ _ _ _ _ _ _ step s _ (c.in_err-shape.ensures.judged s.now s.agrees))
+    rw (p.1, p.2) (so_far_refuses c.args.block.now c.args.order c.args.dir taken _ _ _ _ _ _ _ step s _
+    (c.in_err-shape.ensures.judged s.now s.agrees))
 
 pub keep_field-requires-clause-held : goal.keep_field-requires-clause-held
 keep_field-requires-clause-held c =
     let s = c.in_ok-shape.ensures.shape in
-    record { bounded = c.requires.bounded; inside = omega arith; shown = s.head; known = ap form_of s.head.code ∙ s.form; whole = c.in_ok-shape.ensures.inside }
+    record {
+      bounded = c.requires.bounded;
+      inside = omega arith;
+      shown = s.head;
+      known = ap form_of s.head.code
+          ∙ s.form;
+      whole = c.in_ok-shape.ensures.inside;
+    }
 
 pub keep_field-requires-clause-below : goal.keep_field-requires-clause-below
 keep_field-requires-clause-below c = c.loop.invariant.precede c.in_ok-shape.shape.head.tag c.in_ok-shape.ensures.follows
@@ -86,7 +96,8 @@ returns-clause-judged c = λ taken a.
     let end = so_far_end b o d taken _ _ _ _ _ _ none (c.loop.invariant.judged taken a) in (
       end.0,
       (
-        sym (append-nil c.loop.fields) ∙ ap (λ (k : ℕ). c.loop.fields ++ filter_map (field b o d) (entries_from b o c.loop.at k)) (sym none) ∙ c.loop.invariant.fields,
+        sym (append-nil c.loop.fields) ∙ ap (λ (k : ℕ). c.loop.fields ++ filter_map (field b o d) (entries_from b o c.loop.at k))
+            (sym none) ∙ c.loop.invariant.fields,
         end.1,
       ),
     )

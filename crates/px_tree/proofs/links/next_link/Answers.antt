@@ -15,13 +15,15 @@ pub returns-then-next-eq0-clause-leads : goal.returns-then-next-eq0-clause-leads
 returns-then-next-eq0-clause-leads c =
     let from : c.from.result ≡ c.args.count = cc in
     zero_is c.number32-next.result _ c.if-next-eq0.true
-    (next-is c.args.block.now c.args.order c.args.at c.args.count c.requires.stands ∙ ap (λ (n : ℕ). long c.args.order (part c.args.block.now (c.args.at + 2 + 12 * n) 4)) (sym from) ∙ sym c.number32-next.ensures)
+    (next-is c.args.block.now c.args.order c.args.at c.args.count c.requires.stands
+    ∙ ap (λ (n : ℕ). long c.args.order (part c.args.block.now (c.args.at + 2 + 12 * n) 4)) (sym from) ∙ sym c.number32-next.ensures)
 
 pub returns-clause-leads : goal.returns-clause-leads
 returns-clause-leads c =
     let from : c.from.result ≡ c.args.count = cc in
     some_is c.number32-next.result _ c.if-next-eq0.false
-    (next-is c.args.block.now c.args.order c.args.at c.args.count c.requires.stands ∙ ap (λ (n : ℕ). long c.args.order (part c.args.block.now (c.args.at + 2 + 12 * n) 4)) (sym from) ∙ sym c.number32-next.ensures)
+    (next-is c.args.block.now c.args.order c.args.at c.args.count c.requires.stands
+    ∙ ap (λ (n : ℕ). long c.args.order (part c.args.block.now (c.args.at + 2 + 12 * n) 4)) (sym from) ∙ sym c.number32-next.ensures)
 
 pub returns-clause-place : goal.returns-clause-place
 returns-clause-place c =

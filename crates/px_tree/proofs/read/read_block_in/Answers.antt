@@ -15,13 +15,16 @@ returns-in_err-judge_header-clause-refused c =
     let is = c.bytes-bytes.ensures.value in
     let most : length b ≤ limit = subst (λ (x : List ℕ). length x ≤ limit) (sym is) c.bytes-bytes.ensures.bounded in
     let e = c.in_err-judge_header.field-0.0 in
-    rw (p.1, p.2) (subst (λ (x : List ℕ). IsRefused x c.args.memory.now e) is (refused_only ℕ b e c.args.memory.now most (header_refuses b e c.in_err-judge_header.ensures.judged) c.in_err-judge_header.ensures.content))
+    rw (p.1, p.2) (subst (λ (x : List ℕ). IsRefused x c.args.memory.now e) is
+    (refused_only ℕ b e c.args.memory.now most (header_refuses b e c.in_err-judge_header.ensures.judged)
+    c.in_err-judge_header.ensures.content))
 
 pub returns-clause-says : goal.returns-clause-says
 returns-clause-says c =
     let b = c.bytes-bytes.result.now in
     subst (λ (x : List ℕ). IfOk c.read_tree.result (λ m. SaysExif x (meaning_of m))) c.bytes-bytes.ensures.value
-    (tree_said b c.order_in-order.result c.in_ok-judge_header.ensures.judged.0 c.order_in-order.ensures.told meaning_of c.read_tree.result c.read_tree.ensures.judged)
+    (tree_said b c.order_in-order.result c.in_ok-judge_header.ensures.judged.0 c.order_in-order.ensures.told meaning_of c.read_tree.result
+    c.read_tree.ensures.judged)
 
 pub returns-clause-fits : goal.returns-clause-fits
 returns-clause-fits c =
@@ -29,7 +32,8 @@ returns-clause-fits c =
     let o = c.order_in-order.result in
     let headed = c.in_ok-judge_header.ensures.judged.0 in
     let told = c.order_in-order.ensures.told in
-    tree_fits b o headed told meaning_of c.read_tree.result c.order_in-order.ensures.bytes (tree_said b o headed told meaning_of c.read_tree.result c.read_tree.ensures.judged)
+    tree_fits b o headed told meaning_of c.read_tree.result c.order_in-order.ensures.bytes
+    (tree_said b o headed told meaning_of c.read_tree.result c.read_tree.ensures.judged)
 
 pub returns-clause-refused : goal.returns-clause-refused
 returns-clause-refused c =
@@ -37,4 +41,5 @@ returns-clause-refused c =
     let is = c.bytes-bytes.ensures.value in
     let most : length b ≤ limit = subst (λ (x : List ℕ). length x ≤ limit) (sym is) c.bytes-bytes.ensures.bounded in
     subst (λ (x : List ℕ). IfErr c.read_tree.result (IsRefused x c.read_tree.new.memory)) is
-    (tree_refused b c.order_in-order.result c.in_ok-judge_header.ensures.judged.0 c.order_in-order.ensures.told meaning_of c.read_tree.result _ _ most c.read_tree.ensures.judged c.read_tree.ensures.memory)
+    (tree_refused b c.order_in-order.result c.in_ok-judge_header.ensures.judged.0 c.order_in-order.ensures.told meaning_of
+    c.read_tree.result _ _ most c.read_tree.ensures.judged c.read_tree.ensures.memory)

@@ -9,20 +9,23 @@ use Rattle.px_tree.specs.declared.tables.Directory.{Directory}
 use Rattle.px_tree.specs.Directory.{dirs}
 use Rattle.px_tree.specs.Says.{record_at}
 use Rattle.px_tree.specs.Checks.{dirs_held}
-use Rattle.px_tree.proofs.saying.Assembled.{thumb_read, main_each, dirs_refuse_tree, thumb_refuses_tree, tree_true, all_in_order, meaning-is}
+use Rattle.px_tree.proofs.saying.Assembled.{thumb_read, main_each, dirs_refuse_tree, thumb_refuses_tree, tree_true, all_in_order}
+use Rattle.px_tree.proofs.saying.Assembled.{meaning-is}
 use Rattle.px_tree.proofs.read.read_tree.Goals as goal
 
 pub returns-in_err-hold-clause-judged : goal.returns-in_err-hold-clause-judged
 returns-in_err-hold-clause-judged c =
     let p = err_from_is_err_and c.from_residual-in_err-hold.result c.from_residual-in_err-hold.ensures.1 in
     let a = agrees-none _ c.in_ok-held.ensures.none in
-    rw (p.1, p.2) (Refuses-none c.in_err-hold.field-0.0 (check Overlap 0 (is_free [] (range 0 8)) ∷ []) _ refl (c.in_err-hold.ensures.judged [] a))
+    rw (p.1, p.2) (Refuses-none c.in_err-hold.field-0.0 (check Overlap 0 (is_free [] (range 0 8)) ∷ []) _ refl
+    (c.in_err-hold.ensures.judged [] a))
 
 pub returns-in_err-directories-clause-judged : goal.returns-in_err-directories-clause-judged
 returns-in_err-directories-clause-judged c =
     let p = err_from_is_err_and c.from_residual-in_err-directories.result c.from_residual-in_err-directories.ensures.1 in
     let h = (c.in_ok-hold.ensures.judged [] (agrees-none _ c.in_ok-held.ensures.none)).1 in
-    rw (p.1, p.2) (dirs_refuse_tree c.args.block.now c.args.order c.in_err-directories.field-0.0 (c.in_err-directories.ensures.judged (range 0 8 ∷ []) h))
+    rw (p.1, p.2) (dirs_refuse_tree c.args.block.now c.args.order c.in_err-directories.field-0.0
+    (c.in_err-directories.ensures.judged (range 0 8 ∷ []) h))
 
 pub read_thumb-requires-clause-read : goal.read_thumb-requires-clause-read
 read_thumb-requires-clause-read c =
@@ -39,7 +42,8 @@ returns-in_err-thumb-clause-judged c =
     let o = c.args.order in
     let h = (c.in_ok-hold.ensures.judged [] (agrees-none _ c.in_ok-held.ensures.none)).1 in
     let d = c.in_ok-directories.ensures.judged (range 0 8 ∷ []) h in
-    rw (p.1, p.2) (thumb_refuses_tree b o (option_map (λ (t : Directory). t.at) c.in_ok-directories.directories.thumb) d.1.0.thumb_read.stands d.0 c.in_err-thumb.field-0.0
+    rw (p.1, p.2) (thumb_refuses_tree b o (option_map (λ (t : Directory). t.at) c.in_ok-directories.directories.thumb)
+    d.1.0.thumb_read.stands d.0 c.in_err-thumb.field-0.0
     (c.in_err-thumb.ensures.judged (dirs_held b o (range 0 8 ∷ []) dirs) d.1.1))
 
 pub read_record-requires-clause-uses : goal.read_record-requires-clause-uses

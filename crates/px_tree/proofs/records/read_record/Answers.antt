@@ -14,7 +14,8 @@ record_found-requires c =
     let b = c.args.block.now in
     let o = c.args.order in
     let a = c.args.directory.now.at in
-    has_value b o a c.requires.bounded Main record_tag c.in-Some.found c.requires.each (subst (λ (x : Option Found). Finds b o a record_tag x) c.in-Some.is c.requires.uses.iptc)
+    has_value b o a c.requires.bounded Main record_tag c.in-Some.found c.requires.each
+    (subst (λ (x : Option Found). Finds b o a record_tag x) c.in-Some.is c.requires.uses.iptc)
 
 pub returns-in-Some-clause-ok : goal.returns-in-Some-clause-ok
 returns-in-Some-clause-ok c =
@@ -22,7 +23,8 @@ returns-in-Some-clause-ok c =
     let o = c.args.order in
     let a = c.args.directory.now.at in
     let found = subst (λ (x : Option Found). Finds b o a record_tag x) c.in-Some.is c.requires.uses.iptc in
-    subst (λ (x : Option Iim). IfOk c.record_found.result (λ r. r ≡ x)) (sym (record-is b o a (Some (entry_here b o c.in-Some.found)) found.is)) c.record_found.ensures.ok
+    subst (λ (x : Option Iim). IfOk c.record_found.result (λ r. r ≡ x)) (sym
+    (record-is b o a (Some (entry_here b o c.in-Some.found)) found.is)) c.record_found.ensures.ok
 
 pub returns-in-None-clause-ok : goal.returns-in-None-clause-ok
 returns-in-None-clause-ok c =

@@ -19,7 +19,8 @@ returns-in_err-count-clause-judged c = λ taken a.
     let es = offsets_of c.args.earlier.now in
     let l = c.args.link in
     let r = c.in_err-count.field-0.0 in
-    rw (p.1, p.2) (subst (Refuses r) (sym (dir_checks-parts b o c.args.dir es taken l.place l.at)) (Refuses-more r (opening_checks b o es taken l.place l.at) _ (c.in_err-count.ensures.judged taken a)))
+    rw (p.1, p.2) (subst (Refuses r) (sym (dir_checks-parts b o c.args.dir es taken l.place l.at))
+    (Refuses-more r (opening_checks b o es taken l.place l.at) _ (c.in_err-count.ensures.judged taken a)))
 
 pub returns-in_err-entries-clause-judged : goal.returns-in_err-entries-clause-judged
 returns-in_err-entries-clause-judged c = λ taken a.
@@ -32,8 +33,10 @@ returns-in_err-entries-clause-judged c = λ taken a.
     let t = c.in_ok-count.ensures.there in
     let k = c.in_ok-count.ensures.judged taken a in
     let r = c.in_err-entries.field-0.0 in
-    rw (p.1, p.2) (subst (Refuses r) (sym (dir_checks-parts b o c.args.dir es taken l.place l.at)) (Refuses-behind r (opening_checks b o es taken l.place l.at) _ k.0
-    (subst (Refuses r) (sym (entries_checks-is b o l.at n t c.args.dir taken)) (c.in_err-entries.ensures.judged (range l.at (table_size n) ∷ taken) k.1))))
+    rw (p.1, p.2) (subst (Refuses r) (sym (dir_checks-parts b o c.args.dir es taken l.place l.at))
+    (Refuses-behind r (opening_checks b o es taken l.place l.at) _ k.0
+    (subst (Refuses r) (sym (entries_checks-is b o l.at n t c.args.dir taken))
+    (c.in_err-entries.ensures.judged (range l.at (table_size n) ∷ taken) k.1))))
 
 pub returns-clause-judged : goal.returns-clause-judged
 returns-clause-judged c = λ taken a.
@@ -46,7 +49,8 @@ returns-clause-judged c = λ taken a.
     let k = c.in_ok-count.ensures.judged taken a in
     let j = c.in_ok-entries.ensures.judged (range l.at (table_size n) ∷ taken) k.1 in (
       ap first_false (dir_checks-parts b o c.args.dir es taken l.place l.at)
-          ∙ all_true (opening_checks b o es taken l.place l.at) (entries_checks b o c.args.dir (table_range b o l.at ∷ taken) (l.at + 2) None (entries_at b o l.at)) k.0 (ap first_false (entries_checks-is b o l.at n t c.args.dir taken) ∙ j.0),
+          ∙ all_true (opening_checks b o es taken l.place l.at) (entries_checks b o c.args.dir (table_range b o l.at ∷ taken) (l.at + 2)
+          None (entries_at b o l.at)) k.0 (ap first_false (entries_checks-is b o l.at n t c.args.dir taken) ∙ j.0),
       (
         j.1.0 ∙ sym (fields-is b o l.at n t c.args.dir),
         ranges-is b o l.at n t taken _ j.1.1,

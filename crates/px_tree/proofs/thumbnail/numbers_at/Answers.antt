@@ -10,16 +10,27 @@ value_at-requires c =
     let r = c.requires in
     let f = c.args.found in
     let known = c.number_form.ensures (codes_from f.head r.formed) in
-    record { bounded = r.bounded; inside = r.inside; shown = r.shown; known = known; whole = whole_from c.args.block.now c.args.order f.place f.head c.number_form.result r.shown known r.whole }
+    record {
+      bounded =
+          r.bounded;
+      inside =
+          r.inside;
+      shown =
+          r.shown;
+      known = known;
+      whole = whole_from c.args.block.now c.args.order f.place f.head c.number_form.result r.shown known r.whole;
+    }
 
 pub returns-clause-numbers : goal.returns-clause-numbers
 returns-clause-numbers c =
     let r = c.requires in
     let f = c.args.found in
     let known = c.number_form.ensures (codes_from f.head r.formed) in
-    ap (λ (v : Value). map whole_number v.elements) c.value_at.ensures ∙ sym (numbers-is c.args.block.now c.args.order f c.number_form.result r.shown known)
+    ap (λ (v : Value). map whole_number v.elements) c.value_at.ensures
+    ∙ sym (numbers-is c.args.block.now c.args.order f c.number_form.result r.shown known)
 
 pub returns-clause-count : goal.returns-clause-count
 returns-clause-count c =
     let r = c.requires in
-    ap (λ (v : Value). length v.elements) c.value_at.ensures ∙ length-list c.args.block.now c.args.order c.args.found c.number_form.result r.shown
+    ap (λ (v : Value). length v.elements) c.value_at.ensures
+    ∙ length-list c.args.block.now c.args.order c.args.found c.number_form.result r.shown

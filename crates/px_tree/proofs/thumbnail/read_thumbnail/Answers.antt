@@ -5,7 +5,8 @@ use Rattle.px_tree.specs.Roles.{strip_offsets_tag, strip_lengths_tag}
 use Rattle.px_tree.specs.Thumbnail.{bytes_of}
 use Rattle.px_tree.specs.calls.Parts.{jpeg_of}
 use Rattle.px_tree.proofs.lists.Listed.{have_numbers, offsets_form, lengths_form}
-use Rattle.px_tree.proofs.reading.Parted.{even_parts, pairs_refuse, end_refuses, jpeg_refuses, strips_refuse, thumb_true, jpeg-is, strips-is}
+use Rattle.px_tree.proofs.reading.Parted.{even_parts, pairs_refuse, end_refuses, jpeg_refuses, strips_refuse, thumb_true, jpeg-is}
+use Rattle.px_tree.proofs.reading.Parted.{strips-is}
 use Rattle.px_tree.proofs.saying.Assembled.{thumbnail-is}
 use Rattle.px_tree.proofs.thumbnail.read_thumbnail.Goals as goal
 
@@ -15,8 +16,10 @@ hold_strips-requires-clause-numbers c =
     let o = c.args.order in
     let found = c.requires.read.uses in
     let each = c.requires.read.each in (
-      have_numbers b o c.args.directory.at c.requires.bounded each strip_offsets_tag offsets_form c.args.directory.uses.strip_offsets found.strip_offsets,
-      have_numbers b o c.args.directory.at c.requires.bounded each strip_lengths_tag lengths_form c.args.directory.uses.strip_lengths found.strip_lengths,
+      have_numbers b o c.args.directory.at c.requires.bounded each strip_offsets_tag offsets_form c.args.directory.uses.strip_offsets
+          found.strip_offsets,
+      have_numbers b o c.args.directory.at c.requires.bounded each strip_lengths_tag lengths_form c.args.directory.uses.strip_lengths
+          found.strip_lengths,
     )
 
 pub hold_strips-requires-clause-even : goal.hold_strips-requires-clause-even
@@ -25,24 +28,28 @@ hold_strips-requires-clause-even c = even_parts c.args.directory.uses c.in_ok-ju
 pub returns-in_err-judge_pairs-clause-judged : goal.returns-in_err-judge_pairs-clause-judged
 returns-in_err-judge_pairs-clause-judged c = λ taken a.
     let p = err_from_is_err_and c.from_residual.result c.from_residual.ensures.1 in
-    rw (p.1, p.2) (pairs_refuse c.args.block.now c.args.order c.args.directory.at c.args.directory.uses c.requires.read.uses taken _ c.in_err-judge_pairs.ensures.judged)
+    rw (p.1, p.2) (pairs_refuse c.args.block.now c.args.order c.args.directory.at c.args.directory.uses c.requires.read.uses taken _
+    c.in_err-judge_pairs.ensures.judged)
 
 pub returns-in_err-judge_end-clause-judged : goal.returns-in_err-judge_end-clause-judged
 returns-in_err-judge_end-clause-judged c = λ taken a.
     let p = err_from_is_err_and c.from_residual-in_err-judge_end.result c.from_residual-in_err-judge_end.ensures.1 in
-    rw (p.1, p.2) (end_refuses c.args.block.now c.args.order c.args.directory.at c.args.directory.uses c.requires.read.uses taken c.in_ok-judge_pairs.ensures.judged.0 _ c.in_err-judge_end.ensures.judged)
+    rw (p.1, p.2) (end_refuses c.args.block.now c.args.order c.args.directory.at c.args.directory.uses c.requires.read.uses taken
+    c.in_ok-judge_pairs.ensures.judged.0 _ c.in_err-judge_end.ensures.judged)
 
 pub returns-in_err-jpeg-clause-judged : goal.returns-in_err-jpeg-clause-judged
 returns-in_err-jpeg-clause-judged c = λ taken a.
     let p = err_from_is_err_and c.from_residual-in_err-jpeg.result c.from_residual-in_err-jpeg.ensures.1 in
-    rw (p.1, p.2) (jpeg_refuses c.args.block.now c.args.order c.args.directory.at c.args.directory.uses c.requires.read.uses taken c.in_ok-judge_pairs.ensures.judged.0 c.in_ok-judge_end.ensures.judged.0 _ (c.in_err-jpeg.ensures.judged taken a))
+    rw (p.1, p.2) (jpeg_refuses c.args.block.now c.args.order c.args.directory.at c.args.directory.uses c.requires.read.uses taken
+    c.in_ok-judge_pairs.ensures.judged.0 c.in_ok-judge_end.ensures.judged.0 _ (c.in_err-jpeg.ensures.judged taken a))
 
 pub returns-in_err-strips-clause-judged : goal.returns-in_err-strips-clause-judged
 returns-in_err-strips-clause-judged c = λ taken a.
     let p = err_from_is_err_and c.from_residual-in_err-strips.result c.from_residual-in_err-strips.ensures.1 in
     let j = c.in_ok-jpeg.ensures.judged taken a in
     let x = c.args.directory.uses in
-    rw (p.1, p.2) (strips_refuse c.args.block.now c.args.order c.args.directory.at x c.requires.read.uses taken c.in_ok-judge_pairs.ensures.judged.0 c.in_ok-judge_end.ensures.judged.0 j.0 _
+    rw (p.1, p.2) (strips_refuse c.args.block.now c.args.order c.args.directory.at x c.requires.read.uses taken
+    c.in_ok-judge_pairs.ensures.judged.0 c.in_ok-judge_end.ensures.judged.0 j.0 _
     (c.in_err-strips.ensures.judged (option_to_list (jpeg_of x.jpeg_offset x.jpeg_length) ++ taken) j.1))
 
 pub returns-clause-judged : goal.returns-clause-judged

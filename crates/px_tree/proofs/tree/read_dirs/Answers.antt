@@ -4,7 +4,8 @@ use Rattle.px_bytes.specs.Range.{Range, Agrees}
 use Rattle.px_bytes.specs.Checks.{first_false, Refuses}
 use Rattle.px_tree.specs.declared.roles.Dir.TheVariants.{Main, Exif, Interop, Gps, Thumb}
 use Rattle.px_tree.specs.Entry.{fields}
-use Rattle.px_tree.proofs.reading.Named.{dirs_start, dirs_step, dirs_refuse, dirs_clean, dirs_end, names_exif, names_gps, names_interop, names_thumb, main_is, some_checks, some_ranges}
+use Rattle.px_tree.proofs.reading.Named.{dirs_start, dirs_step, dirs_refuse, dirs_clean, dirs_end, names_exif, names_gps, names_interop}
+use Rattle.px_tree.proofs.reading.Named.{names_thumb, main_is, some_checks, some_ranges}
 use Rattle.px_tree.proofs.tree.read_dirs.Goals as goal
 
 pub read_linked-requires-clause-named : goal.read_linked-requires-clause-named
@@ -52,7 +53,8 @@ returns-in_err-main-clause-judged c = λ taken a.
     let nm = c.link_to_main-main_link.ensures in
     let s0 = dirs_start b o taken c.args.held.now a in
     let r = c.in_err-main.field-0.0 in
-    rw (p.1, p.2) (dirs_refuse b o taken [] Main (Exif ∷ Interop ∷ Gps ∷ Thumb ∷ []) _ s0 r (subst (Refuses r) (sym (some_checks b o Main lm nm [] s0.now)) (c.in_err-main.ensures.judged s0.now s0.agrees)))
+    rw (p.1, p.2) (dirs_refuse b o taken [] Main (Exif ∷ Interop ∷ Gps ∷ Thumb ∷ []) _ s0 r
+    (subst (Refuses r) (sym (some_checks b o Main lm nm [] s0.now)) (c.in_err-main.ensures.judged s0.now s0.agrees)))
 
 pub returns-in_err-exif-clause-judged : goal.returns-in_err-exif-clause-judged
 returns-in_err-exif-clause-judged c = λ taken a.
@@ -67,7 +69,8 @@ returns-in_err-exif-clause-judged c = λ taken a.
     let s1 = dirs_step b o taken [] Main (Exif ∷ Interop ∷ Gps ∷ Thumb ∷ []) _ s0 (Some lm) _ nm
     (ap first_false (some_checks b o Main lm nm [] s0.now) ∙ j0.0)
     (subst (λ (rs : List Range). Agrees (rs ++ s0.now) c.read_directory.new.held) (sym (some_ranges b o Main lm nm)) j0.1.1) in
-    rw (p.1, p.2) (dirs_refuse b o taken (Some lm ∷ []) Exif (Interop ∷ Gps ∷ Thumb ∷ []) _ s1 c.in_err-exif.field-0.0 (c.in_err-exif.ensures.judged s1.now s1.agrees))
+    rw (p.1, p.2) (dirs_refuse b o taken (Some lm ∷ []) Exif (Interop ∷ Gps ∷ Thumb ∷ []) _ s1 c.in_err-exif.field-0.0
+    (c.in_err-exif.ensures.judged s1.now s1.agrees))
 
 pub returns-in_err-interop-clause-judged : goal.returns-in_err-interop-clause-judged
 returns-in_err-interop-clause-judged c = λ taken a.
@@ -85,7 +88,8 @@ returns-in_err-interop-clause-judged c = λ taken a.
     (subst (λ (rs : List Range). Agrees (rs ++ s0.now) c.read_directory.new.held) (sym (some_ranges b o Main lm nm)) j0.1.1) in
     let j1 = c.in_ok-exif.ensures.judged s1.now s1.agrees in
     let s2 = dirs_step b o taken (Some lm ∷ []) Exif (Interop ∷ Gps ∷ Thumb ∷ []) _ s1 c.link_to_exif-exif_link.result _ ne j1.0 j1.1.1 in
-    rw (p.1, p.2) (dirs_refuse b o taken (c.link_to_exif-exif_link.result ∷ Some lm ∷ []) Interop (Gps ∷ Thumb ∷ []) _ s2 c.in_err-interop.field-0.0 (c.in_err-interop.ensures.judged s2.now s2.agrees))
+    rw (p.1, p.2) (dirs_refuse b o taken (c.link_to_exif-exif_link.result ∷ Some lm ∷ []) Interop (Gps ∷ Thumb ∷ []) _ s2
+    c.in_err-interop.field-0.0 (c.in_err-interop.ensures.judged s2.now s2.agrees))
 
 pub returns-in_err-gps-clause-judged : goal.returns-in_err-gps-clause-judged
 returns-in_err-gps-clause-judged c = λ taken a.
@@ -105,8 +109,10 @@ returns-in_err-gps-clause-judged c = λ taken a.
     let j1 = c.in_ok-exif.ensures.judged s1.now s1.agrees in
     let s2 = dirs_step b o taken (Some lm ∷ []) Exif (Interop ∷ Gps ∷ Thumb ∷ []) _ s1 c.link_to_exif-exif_link.result _ ne j1.0 j1.1.1 in
     let j2 = c.in_ok-interop.ensures.judged s2.now s2.agrees in
-    let s3 = dirs_step b o taken (c.link_to_exif-exif_link.result ∷ Some lm ∷ []) Interop (Gps ∷ Thumb ∷ []) _ s2 c.link_to_interop-interop_link.result _ ni j2.0 j2.1.1 in
-    rw (p.1, p.2) (dirs_refuse b o taken (c.link_to_interop-interop_link.result ∷ c.link_to_exif-exif_link.result ∷ Some lm ∷ []) Gps (Thumb ∷ []) _ s3 c.in_err-gps.field-0.0 (c.in_err-gps.ensures.judged s3.now s3.agrees))
+    let s3 = dirs_step b o taken (c.link_to_exif-exif_link.result ∷ Some lm ∷ []) Interop (Gps ∷ Thumb ∷ []) _ s2
+    c.link_to_interop-interop_link.result _ ni j2.0 j2.1.1 in
+    rw (p.1, p.2) (dirs_refuse b o taken (c.link_to_interop-interop_link.result ∷ c.link_to_exif-exif_link.result ∷ Some lm ∷ []) Gps
+    (Thumb ∷ []) _ s3 c.in_err-gps.field-0.0 (c.in_err-gps.ensures.judged s3.now s3.agrees))
 
 pub returns-in_err-thumb-clause-judged : goal.returns-in_err-thumb-clause-judged
 returns-in_err-thumb-clause-judged c = λ taken a.
@@ -127,10 +133,14 @@ returns-in_err-thumb-clause-judged c = λ taken a.
     let j1 = c.in_ok-exif.ensures.judged s1.now s1.agrees in
     let s2 = dirs_step b o taken (Some lm ∷ []) Exif (Interop ∷ Gps ∷ Thumb ∷ []) _ s1 c.link_to_exif-exif_link.result _ ne j1.0 j1.1.1 in
     let j2 = c.in_ok-interop.ensures.judged s2.now s2.agrees in
-    let s3 = dirs_step b o taken (c.link_to_exif-exif_link.result ∷ Some lm ∷ []) Interop (Gps ∷ Thumb ∷ []) _ s2 c.link_to_interop-interop_link.result _ ni j2.0 j2.1.1 in
+    let s3 = dirs_step b o taken (c.link_to_exif-exif_link.result ∷ Some lm ∷ []) Interop (Gps ∷ Thumb ∷ []) _ s2
+    c.link_to_interop-interop_link.result _ ni j2.0 j2.1.1 in
     let j3 = c.in_ok-gps.ensures.judged s3.now s3.agrees in
-    let s4 = dirs_step b o taken (c.link_to_interop-interop_link.result ∷ c.link_to_exif-exif_link.result ∷ Some lm ∷ []) Gps (Thumb ∷ []) _ s3 c.link_to_gps-gps_link.result _ ng j3.0 j3.1.1 in
-    rw (p.1, p.2) (dirs_refuse b o taken (c.link_to_gps-gps_link.result ∷ c.link_to_interop-interop_link.result ∷ c.link_to_exif-exif_link.result ∷ Some lm ∷ []) Thumb [] _ s4 c.in_err-thumb.field-0.0 (c.in_err-thumb.ensures.judged s4.now s4.agrees))
+    let s4 = dirs_step b o taken (c.link_to_interop-interop_link.result ∷ c.link_to_exif-exif_link.result ∷ Some lm ∷ []) Gps (Thumb ∷ [])
+    _ s3 c.link_to_gps-gps_link.result _ ng j3.0 j3.1.1 in
+    rw (p.1, p.2) (dirs_refuse b o taken (c.link_to_gps-gps_link.result ∷ c.link_to_interop-interop_link.result ∷
+    c.link_to_exif-exif_link.result ∷ Some lm ∷ []) Thumb [] _ s4 c.in_err-thumb.field-0.0
+    (c.in_err-thumb.ensures.judged s4.now s4.agrees))
 
 pub returns-clause-judged : goal.returns-clause-judged
 returns-clause-judged c = λ taken a.
@@ -142,7 +152,8 @@ returns-clause-judged c = λ taken a.
     let ne = names_exif b o c.link_to_exif-exif_link.result _ me _ c.link_to_exif-exif_link.ensures c.in_ok-main.ensures.uses.exif in
     let ni = names_interop b o c.link_to_interop-interop_link.result _ c.in_ok-exif.ensures.there c.link_to_interop-interop_link.ensures in
     let ng = names_gps b o c.link_to_gps-gps_link.result _ me _ c.link_to_gps-gps_link.ensures c.in_ok-main.ensures.uses.gps in
-    let nt = names_thumb b o c.link_behind-thumb_link.result _ me c.link_behind-thumb_link.ensures.leads c.link_behind-thumb_link.ensures.place in
+    let nt = names_thumb b o c.link_behind-thumb_link.result _ me c.link_behind-thumb_link.ensures.leads
+    c.link_behind-thumb_link.ensures.place in
     let s0 = dirs_start b o taken c.args.held.now a in
     let j0 = c.in_ok-main.ensures.judged s0.now s0.agrees in
     let s1 = dirs_step b o taken [] Main (Exif ∷ Interop ∷ Gps ∷ Thumb ∷ []) _ s0 (Some lm) _ nm
@@ -151,11 +162,14 @@ returns-clause-judged c = λ taken a.
     let j1 = c.in_ok-exif.ensures.judged s1.now s1.agrees in
     let s2 = dirs_step b o taken (Some lm ∷ []) Exif (Interop ∷ Gps ∷ Thumb ∷ []) _ s1 c.link_to_exif-exif_link.result _ ne j1.0 j1.1.1 in
     let j2 = c.in_ok-interop.ensures.judged s2.now s2.agrees in
-    let s3 = dirs_step b o taken (c.link_to_exif-exif_link.result ∷ Some lm ∷ []) Interop (Gps ∷ Thumb ∷ []) _ s2 c.link_to_interop-interop_link.result _ ni j2.0 j2.1.1 in
+    let s3 = dirs_step b o taken (c.link_to_exif-exif_link.result ∷ Some lm ∷ []) Interop (Gps ∷ Thumb ∷ []) _ s2
+    c.link_to_interop-interop_link.result _ ni j2.0 j2.1.1 in
     let j3 = c.in_ok-gps.ensures.judged s3.now s3.agrees in
-    let s4 = dirs_step b o taken (c.link_to_interop-interop_link.result ∷ c.link_to_exif-exif_link.result ∷ Some lm ∷ []) Gps (Thumb ∷ []) _ s3 c.link_to_gps-gps_link.result _ ng j3.0 j3.1.1 in
+    let s4 = dirs_step b o taken (c.link_to_interop-interop_link.result ∷ c.link_to_exif-exif_link.result ∷ Some lm ∷ []) Gps (Thumb ∷ [])
+    _ s3 c.link_to_gps-gps_link.result _ ng j3.0 j3.1.1 in
     let j4 = c.in_ok-thumb.ensures.judged s4.now s4.agrees in
-    let s5 = dirs_step b o taken (c.link_to_gps-gps_link.result ∷ c.link_to_interop-interop_link.result ∷ c.link_to_exif-exif_link.result ∷ Some lm ∷ []) Thumb [] _ s4 c.link_behind-thumb_link.result _ nt j4.0 j4.1.1 in (
+    let s5 = dirs_step b o taken (c.link_to_gps-gps_link.result ∷ c.link_to_interop-interop_link.result ∷ c.link_to_exif-exif_link.result ∷
+    Some lm ∷ []) Thumb [] _ s4 c.link_behind-thumb_link.result _ nt j4.0 j4.1.1 in (
       dirs_clean b o taken _ _ s5,
       (
         record {

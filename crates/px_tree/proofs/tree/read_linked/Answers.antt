@@ -15,7 +15,8 @@ returns-in_err-directory-in-Some-clause-judged c = λ taken a.
     let d = c.args.dir in
     let n = subst (Names b o d) c.in-Some.is c.requires.named in
     let r = c.in_err-directory-in-Some.field-0.0 in
-    rw (p.1, p.2) (subst (Refuses r) (sym (some_checks b o d c.in-Some.link n (offsets_of c.args.earlier.now) taken)) (c.in_err-directory-in-Some.ensures.judged taken a))
+    rw (p.1, p.2) (subst (Refuses r) (sym (some_checks b o d c.in-Some.link n (offsets_of c.args.earlier.now) taken))
+    (c.in_err-directory-in-Some.ensures.judged taken a))
 
 pub returns-in_ok-directory-in-Some-clause-judged : goal.returns-in_ok-directory-in-Some-clause-judged
 returns-in_ok-directory-in-Some-clause-judged c = λ taken a.

@@ -16,4 +16,5 @@ one_of f (inr (inr (inr (inr e)))) = ap (λ (g : Form). is_bytes (kind.Of g)) e
 pub returns-in-Byte-clause-elements : goal.returns-in-Byte-clause-elements
 returns-in-Byte-clause-elements c =
     let v = c.self.inside in
-    ap (λ (w : Value). w.elements) (sym c.self.view_is) ∙ bytes_shown v.widened v.order v.form v.raw.now c.self.invariant.width (one_of v.form c.in-Byte.is)
+    ap (λ (w : Value). w.elements) (sym c.self.view_is)
+    ∙ bytes_shown v.widened v.order v.form v.raw.now c.self.invariant.width (one_of v.form c.in-Byte.is)

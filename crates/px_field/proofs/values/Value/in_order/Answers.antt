@@ -13,7 +13,8 @@ pub returns-then-not-self-clause-spelled : goal.returns-then-not-self-clause-spe
 returns-then-not-self-clause-spelled c =
     let v = c.self.inside in
     let same : v.order ≡ c.args.order = search rules in
-    sym (spelled-plain v.widened v.order c.args.order v.form v.raw.now c.if-not-self.true same c.self.invariant.whole c.self.invariant.bytes)
+    sym (spelled-plain v.widened v.order c.args.order v.form v.raw.now c.if-not-self.true same c.self.invariant.whole
+    c.self.invariant.bytes)
     ∙ ap (λ (w : Value). spelled c.args.order w) c.self.view_is
 
 pub returns-in-Long-clause-spelled : goal.returns-in-Long-clause-spelled

@@ -9,7 +9,8 @@ use Rattle.px_field.proofs.values.Value.size.Goals as goal
 pub returns-then-self-clause-elements : goal.returns-then-self-clause-elements
 returns-then-self-clause-elements c =
     let v = c.self.inside in
-    let four : size (form_in c.args.self.now.kind) ≡ 4 = ap (λ (w : Value). size (form_in w.kind)) (sym c.self.view_is) ∙ size-whole v.widened v.order v.form v.raw.now c.if-self.true in
+    let four : size (form_in c.args.self.now.kind) ≡ 4 =
+    ap (λ (w : Value). size (form_in w.kind)) (sym c.self.view_is) ∙ size-whole v.widened v.order v.form v.raw.now c.if-self.true in
     rw four (omega arith)
 
 pub returns-else-self-clause-elements : goal.returns-else-self-clause-elements
@@ -21,17 +22,27 @@ returns-else-self-clause-elements c =
 pub returns-then-self-clause-spelled : goal.returns-then-self-clause-spelled
 returns-then-self-clause-spelled c o =
     let v = c.self.inside in
-    let is : IsValue c.args.self.now = rw (← c.self.view_is) (IsValue-shown v.widened v.order v.form v.raw.now c.self.invariant.width c.self.invariant.bytes) in
+    let is : IsValue c.args.self.now =
+    rw (← c.self.view_is) (IsValue-shown v.widened v.order v.form v.raw.now c.self.invariant.width c.self.invariant.bytes) in
     returns-then-self-clause-elements c ∙ sym (length-spelled o c.args.self.now is)
 
 pub returns-else-self-clause-spelled : goal.returns-else-self-clause-spelled
 returns-else-self-clause-spelled c o =
     let v = c.self.inside in
-    let is : IsValue c.args.self.now = rw (← c.self.view_is) (IsValue-shown v.widened v.order v.form v.raw.now c.self.invariant.width c.self.invariant.bytes) in
+    let is : IsValue c.args.self.now =
+    rw (← c.self.view_is) (IsValue-shown v.widened v.order v.form v.raw.now c.self.invariant.width c.self.invariant.bytes) in
     returns-else-self-clause-elements c ∙ sym (length-spelled o c.args.self.now is)
 
 pub returns-then-self-clause-bounded : goal.returns-then-self-clause-bounded
 returns-then-self-clause-bounded c =
     let v = c.self.inside in
-    let seen : length (shown v.widened v.order v.form v.raw.now).elements ≡ length c.args.self.now.elements = ap (λ (w : Value). length w.elements) c.self.view_is in
-    omega (arith, count_in-bound v.form v.raw.now (c.self.invariant.width c.if-self.true), length-shown v.widened v.order v.form v.raw.now, seen, c.self.invariant.bounded, c.count.ensures.count)
+    let seen : length (shown v.widened v.order v.form v.raw.now).elements ≡ length c.args.self.now.elements =
+    ap (λ (w : Value). length w.elements) c.self.view_is in
+    omega (
+      arith,
+      count_in-bound v.form v.raw.now (c.self.invariant.width c.if-self.true),
+      length-shown v.widened v.order v.form v.raw.now,
+      seen,
+      c.self.invariant.bounded,
+      c.count.ensures.count,
+    )

@@ -6,7 +6,8 @@ use Rattle.px_field.specs.lemmas.ElementLaws.{length-spell}
 use Rattle.px_field.proofs.values.Value.spell_at.Goals as goal
 
 pub returns-clause-width : goal.returns-clause-width
-returns-clause-width c = c.spell_element.ensures.width ∙ length-spell c.args.order (form_in c.args.self.now.kind) c.element.result c.element.ensures.range
+returns-clause-width c =
+    c.spell_element.ensures.width ∙ length-spell c.args.order (form_in c.args.self.now.kind) c.element.result c.element.ensures.range
 
 pub returns-clause-front : goal.returns-clause-front
 returns-clause-front c e here =

@@ -3,4 +3,6 @@ use Rattle.px_iim.specs.calls.View.{records_view}
 use Rattle.px_iim.proofs.iim.Iim.group_at.Given as goal
 
 abbrev pub invariant-loop-rec : goal.invariant-loop-rec
-invariant-loop-rec l = slice_get (records_view 0 l.self-inside.records.items) l.i ≡ slice_get (records_view l.rec (drop l.rec l.self-inside.records.items)) l.left
+invariant-loop-rec l =
+    slice_get (records_view 0 l.self-inside.records.items) l.i ≡ slice_get (records_view l.rec (drop l.rec l.self-inside.records.items))
+    l.left

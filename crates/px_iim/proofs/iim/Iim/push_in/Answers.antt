@@ -18,7 +18,8 @@ more : (k m : ℕ) (o : List ℕ) (vs old : List (Vec Group Global)) (v e : Vec 
     → groups_view k v.items ≡ put (record { rec = k; number = m; octets = o }) (groups_view k e.items)
     → records_view 0 (set vs k v) ≡ put (record { rec = k; number = m; octets = o }) i
 more k m o vs old v e i a b l r h =
-    sym (put_record 0 k k m o vs v e (sym (zero-add k)) l (h ∙ ap (λ (x : Vec Group Global). put (record { rec = k; number = m; octets = o }) (groups_view k x.items)) r))
+    sym (put_record 0 k k m o vs v e (sym (zero-add k)) l (h
+    ∙ ap (λ (x : Vec Group Global). put (record { rec = k; number = m; octets = o }) (groups_view k x.items)) r))
     ∙ ap (put (record { rec = k; number = m; octets = o })) (a ∙ b)
 
 same : (k : ℕ) (vs old : List (Vec Group Global)) (v e : Vec Group Global) (i : Record)
@@ -36,18 +37,26 @@ add-requires c =
     let vs = c.reach.new.records.items in
     let there : c.args.rec < length vs = omega (arith, c.in_ok-reach.ensures.there, c.reach.new.records.ok.0) in
     let ascending : IsAscending (records_view 0 vs) = subst IsAscending (sym c.reach.ensures.same) (c.self.invariant.2).ascending in
-    subst (λ (v : Vec Group Global). Rises (numbers v.items)) (sym c.index_mut-groups.ensures.value) (rises_record 0 c.args.rec vs c.index_mut-groups.result.now there ascending)
+    subst (λ (v : Vec Group Global). Rises (numbers v.items)) (sym c.index_mut-groups.ensures.value)
+    (rises_record 0 c.args.rec vs c.index_mut-groups.result.now there ascending)
 
 pub invariant_of-self-in_err-add : goal.invariant_of-self-in_err-add
 invariant_of-self-in_err-add c =
     let i = records_view 0 c.self.inside.records.items in
-    let e = same c.args.rec c.reach.new.records.items c.self.inside.records.items c.add.new.groups c.index_mut-groups.result.now i c.reach.ensures.same refl c.index_mut-groups.ensures.value c.in_err-add.ensures.failed in
-    (c.self.invariant.0, omega (arith, c.reach.ensures.bounded), subst AreGroups (sym e) c.self.invariant.2, kept c.self.inside.form_len i _ c.self.invariant.3 (sym e))
+    let e = same c.args.rec c.reach.new.records.items c.self.inside.records.items c.add.new.groups c.index_mut-groups.result.now i
+    c.reach.ensures.same refl c.index_mut-groups.ensures.value c.in_err-add.ensures.failed in (
+      c.self.invariant.0,
+      omega (arith, c.reach.ensures.bounded),
+      subst AreGroups (sym e) c.self.invariant.2,
+      kept c.self.inside.form_len i
+          _ c.self.invariant.3 (sym e),
+    )
 
 pub returns-in_err-add-clause-failed : goal.returns-in_err-add-clause-failed
 returns-in_err-add-clause-failed c =
     let p = err_from_is_err_and c.from_residual-in_err-add.result c.from_residual-in_err-add.ensures.1 in
-    rw p.1 (same c.args.rec c.reach.new.records.items c.self.inside.records.items c.add.new.groups c.index_mut-groups.result.now c.args.self.now c.reach.ensures.same c.self.view_is c.index_mut-groups.ensures.value c.in_err-add.ensures.failed)
+    rw p.1 (same c.args.rec c.reach.new.records.items c.self.inside.records.items c.add.new.groups c.index_mut-groups.result.now
+    c.args.self.now c.reach.ensures.same c.self.view_is c.index_mut-groups.ensures.value c.in_err-add.ensures.failed)
 
 pub longer-self-inside-requires-clause-counted : goal.longer-self-inside-requires-clause-counted
 longer-self-inside-requires-clause-counted c = within_counted c.self.inside.form_len _ c.self.invariant.3
@@ -58,12 +67,30 @@ invariant_of-self-2 c =
     let there : c.args.rec < length c.reach.new.records.items = omega (arith, c.in_ok-reach.ensures.there, c.reach.new.records.ok.0) in
     let d : DataSet = record { rec = c.args.rec; number = c.args.number; octets = c.args.octets.now } in
     let i = records_view 0 c.self.inside.records.items in
-    let e = more c.args.rec c.args.number c.args.octets.now c.reach.new.records.items c.self.inside.records.items c.add.new.groups c.index_mut-groups.result.now i c.reach.ensures.same refl there c.index_mut-groups.ensures.value c.in_ok-add.ensures.done in
-    let whole = whole_put d (c.ranges.rec.fits, record { byte = c.ranges.number.fits; member = refl; bytes = λ k. (c.type_inv.octets k).fits; bounded = c.requires }) i c.self.invariant.2 in
-    let cost : length (normal_iim i) + length (normal_dataset 0 (d.number, d.octets)) ≡ length (normal_iim (put d i)) = omega (arith, length-put d i, length-normal_dataset d.rec (d.number, d.octets), length-normal_dataset 0 (d.number, d.octets)) in
-    (c.self.invariant.0, omega (arith, c.reach.ensures.bounded), subst AreGroups (sym e) whole, kept c.longer-self-inside.result (put d i) _ (c.longer-self-inside.ensures (length (normal_iim i)) c.self.invariant.3 ∙ ap within cost) (sym e))
+    let e = more c.args.rec c.args.number c.args.octets.now c.reach.new.records.items c.self.inside.records.items c.add.new.groups
+    c.index_mut-groups.result.now i c.reach.ensures.same refl there c.index_mut-groups.ensures.value c.in_ok-add.ensures.done in
+    let whole =
+    whole_put d (
+      c.ranges.rec.fits,
+      record {
+        byte = c.ranges.number.fits;
+        member = refl;
+        bytes = λ k. (c.type_inv.octets k).fits;
+        bounded = c.requires;
+      },
+    ) i c.self.invariant.2 in
+    let cost : length (normal_iim i) + length (normal_dataset 0 (d.number, d.octets)) ≡ length (normal_iim (put d i)) =
+    omega (arith, length-put d i, length-normal_dataset d.rec (d.number, d.octets), length-normal_dataset 0 (d.number, d.octets)) in (
+      c.self.invariant.0,
+      omega (arith, c.reach.ensures.bounded),
+      subst AreGroups (sym e) whole,
+      kept c.longer-self-inside.result (put d i)
+          _ (c.longer-self-inside.ensures (length (normal_iim i)) c.self.invariant.3 ∙ ap within cost) (sym e),
+    )
 
 pub returns-clause-done : goal.returns-clause-done
 returns-clause-done c =
     let there : c.args.rec < length c.reach.new.records.items = omega (arith, c.in_ok-reach.ensures.there, c.reach.new.records.ok.0) in
-    more c.args.rec c.args.number c.args.octets.now c.reach.new.records.items c.self.inside.records.items c.add.new.groups c.index_mut-groups.result.now c.args.self.now c.reach.ensures.same c.self.view_is there c.index_mut-groups.ensures.value c.in_ok-add.ensures.done
+    more c.args.rec c.args.number c.args.octets.now c.reach.new.records.items c.self.inside.records.items c.add.new.groups
+    c.index_mut-groups.result.now c.args.self.now c.reach.ensures.same c.self.view_is there c.index_mut-groups.ensures.value
+    c.in_ok-add.ensures.done

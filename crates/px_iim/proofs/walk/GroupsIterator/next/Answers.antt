@@ -16,7 +16,8 @@ loop-self-preserved c =
     record {
       same = c.loop-self.invariant.same;
       bounded = c.loop-self.invariant.bounded;
-      left = sym (left_behind c.loop-self.self-inside.rec c.loop-self.self-inside.at c.self.inside.lists.now v c.loop-self-test.true c.index-lists-self.is past) ∙ c.loop-self.invariant.left;
+      left = sym (left_behind c.loop-self.self-inside.rec c.loop-self.self-inside.at c.self.inside.lists.now v c.loop-self-test.true
+          c.index-lists-self.is past) ∙ c.loop-self.invariant.left;
     }
 
 pub invariant_of-self : goal.invariant_of-self
@@ -34,8 +35,11 @@ returns-then-self-len-clause-steps c =
     let vs = c.self.inside.lists.now in
     let within : at < length v.items = omega (arith, v.ok.0, c.len.ensures, c.if-self-len.true) in
     sym c.loop-self.invariant.left ∙ left_more rec at vs v g c.loop-self-test.true c.index-lists-self.is within c.index-group.ensures
-    ∙ ap (λ (xs : List Item). let p : Group = record { rec = rec; number = g.number; items = map item_view xs } in p ∷ left_view rec (at + 1) (drop rec vs)) (sym c.as_slice.ensures.value)
-    ∙ ap (λ (us : List (Vec CodeGroup Global)). let p : Group = record { rec = rec; number = g.number; items = map item_view c.as_slice.result.now } in p ∷ left_view rec (at + 1) (drop rec us)) (sym c.loop-self.invariant.same)
+    ∙ ap (λ (xs : List Item). let p : Group = record { rec = rec; number = g.number; items = map item_view xs } in
+    p ∷ left_view rec (at + 1) (drop rec vs)) (sym c.as_slice.ensures.value)
+    ∙ ap (λ (us : List (Vec CodeGroup Global)). let p : Group =
+    record { rec = rec; number = g.number; items = map item_view c.as_slice.result.now } in p ∷ left_view rec (at + 1) (drop rec us))
+    (sym c.loop-self.invariant.same)
 
 pub returns-clause-steps : goal.returns-clause-steps
 returns-clause-steps c =

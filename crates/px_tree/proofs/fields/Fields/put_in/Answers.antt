@@ -5,7 +5,8 @@ use Rattle.px_tree.proofs.fields.Fields.put_in.Goals as goal
 
 pub invariant_of-self-in-Err : goal.invariant_of-self-in-Err
 invariant_of-self-in-Err c =
-    rw c.in_ok-insert-in-Err.ensures.items (in_order-insert _ _ _ _ c.self.invariant (rw c.as_slice.ensures.value at c.in-Err.ensures.absent))
+    rw c.in_ok-insert-in-Err.ensures.items (in_order-insert _ _ _ _ c.self.invariant
+    (rw c.as_slice.ensures.value at c.in-Err.ensures.absent))
 
 pub returns-in-Ok-clause-there : goal.returns-in-Ok-clause-there
 returns-in-Ok-clause-there c = λ _. (rw (← c.self.view_is) (at_tag-some _ _ _ (rw c.as_slice.ensures.value at c.in-Ok.ensures.found)), refl)
