@@ -141,6 +141,30 @@ class Judging(unittest.TestCase):
         self.assertEqual(limits_of(case, Outcome(0, bytes(8192), b"")).writes, 1)
         self.assertEqual(limits_of(case, Outcome(0, bytes(8193), b"")).writes, 4)
 
+    def test_a_text_goes_out_as_a_form_does(self):
+        for command in ("show", "captions"):
+            case = Case("", words=[command, "a"], files={"a": bytes(100)})
+            self.assertEqual(limits_of(case, Outcome(0, bytes(8192), b"")).writes, 1)
+            self.assertEqual(limits_of(case, Outcome(0, bytes(8_192_000), b"")).writes, 2002)
+
+    def test_a_text_that_is_made_whole_costs_too_much(self):
+        """Its memory is none of the limit, however long it is."""
+        case = Case("", words=["show", "a"], files={"a": bytes(1_000_000)})
+        short, long = (limits_of(case, Outcome(0, bytes(it), b"")) for it in (10, 10_000_000))
+        self.assertEqual((short.held, short.asked, short.calls), (long.held, long.asked, long.calls))
+
+    def test_a_large_file_is_held_six_times_at_most(self):
+        for size, most in ((1 << 20, 6 << 20), ((1 << 20) - 1, None)):
+            case = Case("", words=["check", "a"], files={"a": bytes(size)}, holds=[Holds(0, 0, [size // 5] * 10)])
+            held = limits_of(case, Outcome(0, b"ok iim\n", b"")).held
+            self.assertTrue(held == most if most else held > 7 << 20)
+        both = Case("", words=["compare", "a", "b"], files={"a": bytes(1 << 21), "b": bytes(1 << 20)}, holds=[Holds(0, 0, [1 << 20])] * 2)
+        self.assertEqual(limits_of(both, Outcome(0, b"same\n", b"")).held, 6 * (3 << 20))
+
+    def test_a_long_list_grows_by_a_32nd(self):
+        self.assertEqual(growth(65_536).room, growth(60_000).room)
+        self.assertLess(growth(3_300_000).room, 3_300_000 * 33 // 32 + 1)
+
     def test_a_copy_of_what_is_read_costs_too_much(self):
         """Where a file's bytes would be held twice, or asked for once more, the limits are passed: they leave less than that."""
         size = LIMIT

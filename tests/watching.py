@@ -14,6 +14,8 @@ ROOM = 8192  # what waits for a writer at most
 CHUNK = 65536  # what is read at once at most
 WORDS, CALLS = 48 * 1024, 140  # what reading the command line takes at most: bytes, and calls for memory
 SMALL, RECORDS = 4096, 12 * 1024  # what small lists take at most, and the list of the record numbers
+LONG = 65536  # a list of so many DataSets or more grows by a 32nd
+LARGE, TIMES = 1 << 20, 6  # of a file of so many bytes or more, a run holds so many times its bytes at most
 # a run takes a tenth of this at most, also on a busy machine; one that looks at all it holds again and again takes far more
 SPENT, BYTES_A_MILLISECOND = 300, 8000
 ITEM, GROUP, FIELD, STRIP = 24, 32, 32, 16  # bytes that are held of a DataSet, a group of them, a field and a strip
@@ -30,14 +32,16 @@ class Growth:
 
 @lru_cache(maxsize=None)
 def growth(count):
-    """Of a list of DataSets: it grows by half of what it has.
+    """Of a list of DataSets: it grows by half of what it has, and a long one by a 32nd.
 
     >>> growth(5)
     Growth(calls=3, asked=12, room=7)
+    >>> growth(1_000_000).room < 1_000_000 * 33 // 32 + 1
+    True
     """
     it = Growth()
     while it.room < count:
-        it.room += max(3, it.room // 2) if it.room else 1
+        it.room += it.room // 32 if it.room >= LONG else max(3, it.room // 2) if it.room else 1
         it.calls += 1
         it.asked += it.room
     return it
@@ -107,22 +111,34 @@ def sizes_read(case):
     return named[:1] if case.words[0] == "normalise" else named
 
 
+def bytes_sent(case, outcome):
+    """How many bytes of a normal form or of a text go out through what waits."""
+    if case.words[:1] == ["normalise"]:
+        return 0 if outcome.status else len(outcome.files.get(case.out, b""))
+    return len(outcome.output) if case.words[:1] in ([], ["show"], ["captions"]) else 0
+
+
+def most_held(sizes, told):
+    """The most bytes that a run holds at once: what its files say, as `told`, and in any case a few times a large file's bytes."""
+    return min(told, TIMES * sum(sizes)) if max(sizes, default=0) >= LARGE else told
+
+
 def limits_of(case, outcome):
     """The most that a run may cost. A file is read in whole buffers of one size, into a list that doubles, and each of its bytes takes
-    some quarter of a byte more while it is judged; beside that there is what it says, and a text is made whole. A text goes out in
-    one write, and a normal form in one where it fits into what waits, else in writes of which any two make up more than that."""
+    some quarter of a byte more while it is judged; beside that there is what it says. A normal form and a text take no memory. They
+    go out in one write where they fit into what waits, else in writes of which any two make up more than that."""
     sizes = sizes_read(case)
-    form = outcome.files.get(case.out, b"") if case.words[:1] == ["normalise"] and not outcome.status else outcome.output if not case.words else b""
-    text = len(outcome.output) if case.words[:1] in (["show"], ["captions"]) else 0  # made whole, in a list that doubles
+    sent = bytes_sent(case, outcome)
     said = [memory_of(held, size) for held, size in zip(case.holds or [None] * len(sizes), sizes)]
     judged = sum(sizes) * 26 // 100 + CHUNK * len(sizes)
     words = WORDS if case.words else 0
+    held = with_slack(sum(map(doubled, sizes)) + judged + sum(it.room for it in said) + words)
     return Counts(
-        calls=(CALLS if case.words else 0) + (30 if text else 0) + sum(it.calls for it in said),
-        asked=with_slack(2 * sum(map(doubled, sizes)) + judged + sum(it.asked for it in said) + words + 4 * text),
-        held=with_slack(sum(map(doubled, sizes)) + judged + sum(it.room for it in said) + words + 2 * text),
+        calls=(CALLS if case.words else 0) + sum(it.calls for it in said),
+        asked=with_slack(2 * sum(map(doubled, sizes)) + judged + sum(it.asked for it in said) + words),
+        held=most_held(sizes, held),
         reads=sum(it // CHUNK + 2 for it in sizes) if not case.input else sum(sizes) + 2,  # a pipe gives as much as it likes
-        writes=(1 if len(form) <= ROOM else 2 * len(form) // ROOM + 2) + (outcome.status == 4),  # one that failed, and the line
+        writes=(1 if sent <= ROOM else 2 * sent // ROOM + 2) + (outcome.status == 4),  # one that failed, and the line
         spent=SPENT + sum(sizes) // BYTES_A_MILLISECOND,
         failed=0,
     )
