@@ -19,8 +19,8 @@ of_match kinds met (words.Refused text) none h = inl (none, h.2)
 of_match kinds met words.NoMemory none h = tt
 
 -- an error gives a text of its kind, which is among the kinds that there may be, or want of memory
-pub of_error : (kinds : Kinds) (e : Error) (w : Words) → HasKind kinds e → (kind_of e ≡ kind.OutOfMemory → w ≡ words.NoMemory) → IsTold w
-    → TellsKind (kind_of e) w → IsFor kinds w
+pub of_error : (kinds : Kinds) (e : Error) (w : Words) → HasKind kinds e → (kind_of e ≡ kind.OutOfMemory → w ≡ words.NoMemory)
+    → IsTold w → TellsKind (kind_of e) w → IsFor kinds w
 of_error kinds e words.Filter h memory told k = tt
 of_error kinds e (words.One what file) h memory told k = absurd told
 of_error kinds e (words.Normalise file out) h memory told k = absurd told

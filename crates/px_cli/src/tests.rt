@@ -1,11 +1,10 @@
 // Runs over memory, and over devices that are slow or fail.
 use crate::job::{Job, run_compare, run_one};
-use crate::run;
-use crate::words::{One, Words, parse};
+use crate::run::run_words;
+use crate::words::{Words, parse};
 use px_bytes::Watched;
 use std::alloc::Global;
 use std::io::{ErrorKind, Read, Write};
-use std::os::unix::fs::symlink;
 use std::test::Fail;
 use std::{fs, io};
 
@@ -358,27 +357,6 @@ fn stops_where_a_text_fails(rt: HostRuntime) {
 
 // ---- words
 
-fn is_one(words: &Words, due: One, name: &str) -> bool {
-    match words {
-        Words::One { what, file } => *what == due && file.as_str() == name,
-        _ => false,
-    }
-}
-
-fn is_normalise(words: &Words, name: &str, other: &str) -> bool {
-    match words {
-        Words::Normalise { file, out } => file.as_str() == name && out.as_str() == other,
-        _ => false,
-    }
-}
-
-fn is_compare(words: &Words, name: &str, other: &str) -> bool {
-    match words {
-        Words::Compare { first, second } => first.as_str() == name && second.as_str() == other,
-        _ => false,
-    }
-}
-
 fn is_refused(words: &Words) -> bool {
     matches!(words, Words::Refused(_))
 }
@@ -388,18 +366,6 @@ fn is_refused_by(words: &Words, line: &str) -> bool {
         Words::Refused(text) => text.as_str() == line,
         _ => false,
     }
-}
-
-#[test]
-fn parses_each_command(rt: HostRuntime) {
-    let alloc = rt.alloc();
-    assert!(rt; is_one(&parse(alloc, &["show", "a"]), One::Show, "a"));
-    assert!(rt; is_one(&parse(alloc, &["check", "a"]), One::Check, "a"));
-    assert!(rt; is_one(&parse(alloc, &["captions", "a"]), One::Captions, "a"));
-    assert!(rt; is_normalise(&parse(alloc, &["normalise", "a", "b"]), "a", "b"));
-    assert!(rt; is_compare(&parse(alloc, &["compare", "a", "a"]), "a", "a"));
-    assert!(rt; matches!(parse::<&str>(alloc, &[]), Words::Filter));
-    assert!(rt; matches!(parse(alloc, &["--help"]), Words::Help(_)));
 }
 
 #[test]
@@ -417,80 +383,17 @@ fn refuses_other_words(rt: HostRuntime) {
 
 // ---- files
 
-// The status of a run whose lines nobody looks at.
-fn run_words(rt: &HostRuntime, alloc: Global, words: &[&str]) -> u8 {
-    let mut lines = Watched::new(io::sink());
-    run::run_words(rt, alloc, words, &mut lines)
-}
-
-#[test]
-fn works_on_files(rt: HostRuntime) -> Result<(), Fail> {
-    let alloc = rt.alloc();
-    fs::write(&rt, "px_cli_one", ONE_SHORT.as_slice())?;
-    assert_eq!(rt; run_words(&rt, alloc, &["check", "px_cli_one"]), 0);
-    assert_eq!(rt; run_words(&rt, alloc, &["show", "px_cli_one"]), 0);
-    assert_eq!(rt; run_words(&rt, alloc, &["captions", "px_cli_one"]), 0);
-    assert_eq!(rt;
-        run_words(&rt, alloc, &["compare", "px_cli_one", "px_cli_one"]),
-        0
-    );
-    assert_eq!(rt;
-        run_words(&rt, alloc, &["normalise", "px_cli_one", "px_cli_form"]),
-        0
-    );
-    let form = fs::read(&rt, "px_cli_form")?;
-    assert_eq!(rt; form.as_slice(), ONE_SHORT.as_slice());
-    Ok(())
-}
-
-#[test]
-fn empties_the_output_of_a_refusal(rt: HostRuntime) -> Result<(), Fail> {
-    let alloc = rt.alloc();
-    fs::write(&rt, "px_cli_loop", LOOP.as_slice())?;
-    fs::write(&rt, "px_cli_left", b"old".as_slice())?;
-    assert_eq!(rt;
-        run_words(&rt, alloc, &["normalise", "px_cli_loop", "px_cli_left"]),
-        2
-    );
-    let left = fs::read(&rt, "px_cli_left")?;
-    assert_eq!(rt; left.len(), 0);
-    assert_eq!(rt; run_words(&rt, alloc, &["check", "px_cli_absent"]), 4);
-    Ok(())
-}
-
-// ---- two names of one file
-
-// FILE by its own name and OUT by another: refused, and the file is as it was.
-fn keeps_the_file(rt: &HostRuntime, other: &str) -> Result<bool, Fail> {
-    let status = run_words(rt, rt.alloc(), &["normalise", "px_cli_kept", other]);
-    let left = fs::read(rt, "px_cli_kept")?;
-    Ok(status == 3 && left.as_slice() == LOOP.as_slice())
-}
-
-#[test]
-fn refuses_two_names_of_one_file(rt: HostRuntime) -> Result<(), Fail> {
-    fs::write(&rt, "px_cli_kept", LOOP.as_slice())?;
-    assert!(rt; keeps_the_file(&rt, "./px_cli_kept")?);
-    fs::hard_link(&rt, "px_cli_kept", "px_cli_hard")?;
-    assert!(rt; keeps_the_file(&rt, "px_cli_hard")?);
-    symlink(&rt, "px_cli_kept", "px_cli_symbolic")?;
-    assert!(rt; keeps_the_file(&rt, "px_cli_symbolic")?);
-    Ok(())
-}
-
 #[test]
 fn writes_beside_a_file_with_the_same_bytes(rt: HostRuntime) -> Result<(), Fail> {
-    let alloc = rt.alloc();
     fs::write(&rt, "px_cli_first", ONE_SHORT.as_slice())?;
     fs::write(
         &rt,
         "px_cli_second",
         b"longer than the normal form of the first".as_slice(),
     )?;
-    assert_eq!(rt;
-        run_words(&rt, alloc, &["normalise", "px_cli_first", "px_cli_second"]),
-        0
-    );
+    let words = ["normalise", "px_cli_first", "px_cli_second"];
+    let mut lines = Watched::new(io::sink());
+    assert_eq!(rt; run_words(&rt, rt.alloc(), &words, &mut lines), 0);
     let form = fs::read(&rt, "px_cli_second")?;
     assert_eq!(rt; form.as_slice(), ONE_SHORT.as_slice());
     Ok(())

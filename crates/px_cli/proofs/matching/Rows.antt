@@ -68,7 +68,8 @@ values_set id how s values rows some h =
 abbrev pub IsPlain : Rule → Type 0
 IsPlain a = (a.defaults ≡ []) × (((action_of a ≡ Set) × (is_some a.index ≡ true)) ⊎ ((action_of a ≡ Help) × (takes_values a ≡ false)))
 
-use_kept : (action : ArgAction) (id : Text) (how : Reading) (values : List Text) (rows : List Row) → ((action ≡ Set) × (values ≢ [])) ⊎ (action ≡ Help)
+use_kept : (action : ArgAction) (id : Text) (how : Reading) (values : List Text) (rows : List Row)
+    → ((action ≡ Set) × (values ≢ [])) ⊎ (action ≡ Help)
     → HaveValues rows → HaveValues (used_as action id how values rows)
 use_kept action id how values rows (inl h) rest = rw h.0 (values_set id how CommandLine values (at_row id (λ _. []) [] rows) h.1
     (row_changed id (λ _. []) [] rows (λ r has. tt) tt rest))

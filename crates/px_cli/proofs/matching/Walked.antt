@@ -1,6 +1,6 @@
 -- The walk over the words of a subcommand: what it holds has values.
-use Rattle.std.proofs.Common.{◌≡◌, ◌≢◌, ◌&&◌, ℕ, zero, suc, Bool, cond, true, false, not, List, [], ◌∷◌, length, drop, Option, Some, None}
-use Rattle.std.proofs.Common.{is_some, refl, inl, inr}
+use Rattle.std.proofs.Common.{◌≡◌, ◌≢◌, ◌&&◌, ℕ, zero, suc, Bool, cond, true, false, not}
+use Rattle.std.proofs.Common.{List, [], ◌∷◌, length, drop, Option, Some, None, is_some, refl, inl, inr}
 use Rattle.std.specs.Prelude.{⊤, encode_utf8, slice_get}
 use Rattle.std.specs.List.{fold}
 use Rattle.std.specs.Str.{bytes_eq, chars}
@@ -57,7 +57,8 @@ module _ (c : List Rule) (each : Each IsPlain c) where
   by_id : (id : Text) (a : Rule) → arg_by_id c id ≡ Some a → IsPlain a
   by_id id a found = (each_found IsPlain (λ x. bytes_eq x.id id) c a each found).0
 
-  used_well : (o : Option Rule) (values : List Text) (rows : List Row) → ((a : Rule) → o ≡ Some a → IsPlain a) → values ≢ [] → HaveValues rows
+  used_well : (o : Option Rule) (values : List Text) (rows : List Row) → ((a : Rule) → o ≡ Some a → IsPlain a) → values ≢ []
+      → HaveValues rows
       → HaveValues (used_by_id o values rows)
   used_well None values rows is some h = h
   used_well (Some a) values rows is some h = used_kept a values rows (is a refl) (inl some) h
@@ -142,8 +143,8 @@ module _ (c : List Rule) (each : Each IsPlain c) where
   positional_well : (o : Option Rule) (word : Text) (w : Walk) (h : Held) → IsWell h → IsWell (to_positional c o word w h).held
   positional_well None word w h well = well
   positional_well (Some a) word w h well =
-      pushed_well a.id word (cond (is_pending a h.pending && takes_several a) h (settled c h))
-      (held_well (is_pending a h.pending && takes_several a) h well)
+      let several = is_pending a h.pending && takes_several a in
+      pushed_well a.id word (cond several h (settled c h)) (held_well several h well)
 
   after_well : (word : Text) (w : Walk) (h : Held) (s : Step) → IsWell h → IsWell (after_step c word w h s).held
   after_well word w h (next waiting) well = well

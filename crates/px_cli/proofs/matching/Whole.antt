@@ -1,11 +1,11 @@
 -- Where a parse of the command has no fault, a subcommand was met, with each word that it must have.
-use Rattle.std.proofs.Common.{◌≡◌, ◌||◌, ◌&&◌, Bool, true, false, not, List, [], ◌∷◌, Option, Some, None, is_some, codes, refl, sym, ◌∙◌}
-use Rattle.std.proofs.Common.{inl, inr}
+use Rattle.std.proofs.Common.{◌≡◌, ◌||◌, ◌&&◌, Bool, true, false, not, List, [], ◌∷◌}
+use Rattle.std.proofs.Common.{Option, Some, None, is_some, codes, refl, sym, ◌∙◌, inl, inr}
 use Rattle.std.specs.Prelude.{find, option_map}
 use Rattle.std.specs.Option.{option_map_or}
 use Rattle.clap.specs.Walk.{Row, Text, answers_to, finished, nothing_held, rows_after, settled, walk, walk_from}
-use Rattle.clap.specs.Simple.{App, Shape, built, built_leaf, entered, inherited, label_of, marked_built, names_of, rows_at, subcommand_of}
-use Rattle.clap.specs.Simple.{with_leaf_noted}
+use Rattle.clap.specs.Simple.{App, Shape, built, built_leaf, entered, inherited}
+use Rattle.clap.specs.Simple.{label_of, marked_built, names_of, rows_at, subcommand_of, with_leaf_noted}
 use Rattle.clap.specs.Takes.{is_given}
 use Rattle.clap.specs.Kinds.{Kinds, check_kinds, or_else}
 use Rattle.clap.specs.Faults.{check_fault, defaults_fault, entered_fault, fault_of, level_fault, settle_fault, walk_fault}
@@ -59,8 +59,8 @@ module _ (s : Shape) (each : Each IsPlain s.rules) where
 
   -- two must
   both_there : (first second : Text)
-      → ((rows : List Row) → check_fault s rows false ≡ check_kinds false false
-      (not (is_given first rows) || (not (is_given second rows) || false)))
+      → ((rows : List Row)
+      → check_fault s rows false ≡ check_kinds false false (not (is_given first rows) || (not (is_given second rows) || false)))
       → (words : List Text) → level_fault s [] nothing_held words false [] ≡ []
       → IsThere first (rows_after s.rules [] words) × IsThere second (rows_after s.rules [] words)
   both_there first second last words none =
@@ -86,20 +86,22 @@ two_plain name first second = ((refl, inl (refl, refl)), ((refl, inl (refl, refl
 one_whole : (name : Text) → takes_file name ≡ true → IsWhole (below (of_one name))
 one_whole name is words none = inl (is, there (below (of_one name)) (one_plain name) (codes "FILE") (λ rows. refl) words none)
 
-normalise_whole : IsWhole (below (of_two (codes "normalise") (codes "FILE") (codes "OUT")))
+abbrev normalise_built : Shape
+normalise_built = below (of_two (codes "normalise") (codes "FILE") (codes "OUT"))
+
+normalise_whole : IsWhole normalise_built
 normalise_whole words none =
-    let has =
-    both_there (below (of_two (codes "normalise") (codes "FILE") (codes "OUT")))
-    (two_plain (codes "normalise") (codes "FILE") (codes "OUT"))
-    (codes "FILE") (codes "OUT") (λ rows. refl) words none in
+    let plain = two_plain (codes "normalise") (codes "FILE") (codes "OUT") in
+    let has = both_there normalise_built plain (codes "FILE") (codes "OUT") (λ rows. refl) words none in
     inr (inl (refl, has.0, has.1))
 
-compare_whole : IsWhole (below (of_two (codes "compare") (codes "FIRST") (codes "SECOND")))
+abbrev compare_built : Shape
+compare_built = below (of_two (codes "compare") (codes "FIRST") (codes "SECOND"))
+
+compare_whole : IsWhole compare_built
 compare_whole words none =
-    let has =
-    both_there (below (of_two (codes "compare") (codes "FIRST") (codes "SECOND")))
-    (two_plain (codes "compare") (codes "FIRST") (codes "SECOND"))
-    (codes "FIRST") (codes "SECOND") (λ rows. refl) words none in
+    let plain = two_plain (codes "compare") (codes "FIRST") (codes "SECOND") in
+    let has = both_there compare_built plain (codes "FIRST") (codes "SECOND") (λ rows. refl) words none in
     inr (inr (refl, has.0, has.1))
 
 each_whole : Each IsWhole (built exifnorm).subs
@@ -129,8 +131,8 @@ entered_met a each (Some p) some none = found_met (find (λ s. answers_to p.0 (l
     (λ s found. (each_found IsWhole (λ x. answers_to p.0 (label_of x)) a.subs s each found).0) some none
 
 -- the command's own last checks
-last_checks : (rows : List Row) (has : Bool) → check_fault (built exifnorm).top rows has ≡ check_kinds (not has && false)
-    (not has && true) false
+last_checks : (rows : List Row) (has : Bool)
+    → check_fault (built exifnorm).top rows has ≡ check_kinds (not has && false) (not has && true) false
 last_checks rows true = refl
 last_checks rows false = refl
 
@@ -144,11 +146,8 @@ met words none =
     let settles = settle_fault a.top.rules a.top.args_override_self end.held in
     let defaults = defaults_fault (settled a.top.rules end.held).rows a.top.rules in
     let checks = check_fault a.top (finished a.top.rules end.held) has in
-    let past =
-    none_then (walk_fault a.top (names_of a) (walk_from nothing_held) words)
-    (or_else below (or_else settles (or_else defaults checks))) none in
-    let last =
-    none_then defaults checks (none_then settles (or_else defaults checks)
-    (none_then below (or_else settles (or_else defaults checks)) past)) in
+    let behind = or_else settles (or_else defaults checks) in
+    let past = none_then (walk_fault a.top (names_of a) (walk_from nothing_held) words) (or_else below behind) none in
+    let last = none_then defaults checks (none_then settles (or_else defaults checks) (none_then below behind past)) in
     entered_met a each_whole end.stopped (one_met has false (sym (last_checks (finished a.top.rules end.held) has) ∙ last))
-    (none_first below (or_else settles (or_else defaults checks)) past)
+    (none_first below behind past)
