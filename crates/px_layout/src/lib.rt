@@ -41,6 +41,8 @@ mod starts;
 mod with_plan;
 #[cfg(test)]
 mod with_plan_tests;
+#[cfg(test)]
+mod worked_blocks;
 mod write;
 #[cfg(test)]
 mod write_tests;
