@@ -15,7 +15,7 @@ CHUNK = 65536  # what is read at once at most
 WORDS, CALLS = 48 * 1024, 140  # what reading the command line takes at most: bytes, and calls for memory
 SMALL, RECORDS = 4096, 12 * 1024  # what small lists take at most, and the list of the record numbers
 LONG = 65536  # a list of so many DataSets or more grows by a 32nd
-LARGE, TIMES = 1 << 20, 6  # of a file of so many bytes or more, a run holds so many times its bytes at most
+LARGE, TIMES = 1 << 20, 7.1  # of a file of so many bytes or more, a run asks for so many times its bytes at most, reserve of lists included
 # a run takes a tenth of this at most, also on a busy machine; one that looks at all it holds again and again takes far more
 SPENT, BYTES_A_MILLISECOND = 300, 8000
 ITEM, GROUP, FIELD, STRIP = 24, 32, 32, 16  # bytes that are held of a DataSet, a group of them, a field and a strip
@@ -120,7 +120,7 @@ def bytes_sent(case, outcome):
 
 def most_held(sizes, told):
     """The most bytes that a run holds at once: what its files say, as `told`, and in any case a few times a large file's bytes."""
-    return min(told, TIMES * sum(sizes)) if max(sizes, default=0) >= LARGE else told
+    return min(told, int(TIMES * sum(sizes))) if max(sizes, default=0) >= LARGE else told
 
 
 def limits_of(case, outcome):

@@ -10,8 +10,8 @@ use std::alloc::{AllocError, Global};
 
 const NAME: &str = "exifnorm";
 
-const ABOUT: &str =
-    "Reads a block of Exif or IPTC (IIM) metadata, and writes its normal form. Without words it normalises standard input to standard output.";
+const ABOUT: &str = "Reads a block of Exif or IPTC (IIM) metadata, and writes its normal form. \
+    Without words it normalises standard input to standard output.";
 
 const STATUSES: &str = "Statuses:
   0  done (compare: the blocks say the same)

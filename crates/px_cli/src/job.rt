@@ -132,7 +132,8 @@ fn run_normalise<R: Source, O: Sink, L: Sink>(
     requires telling { CanFail (L.failed lines.old) }
     ensures { EndsNormalise (device (R.failed reader.old) (R.failed reader.new) (R.bytes_left reader.old) (R.bytes_left reader.new))
         (device (O.failed out.old) (O.failed out.new) (O.bytes_taken out.old) (O.bytes_taken out.new))
-        (device (L.failed lines.old) (L.failed lines.new) (L.bytes_taken lines.old) (L.bytes_taken lines.new)) memory.old memory.new result }
+        (device (L.failed lines.old) (L.failed lines.new) (L.bytes_taken lines.old) (L.bytes_taken lines.new))
+        memory.old memory.new result }
 {
     tell_written(lines, normalise_in(memory, reader, out))
 }
@@ -143,7 +144,8 @@ fn run_check<R: Source, L: Sink>(memory: &mut Memory, reader: &mut R, lines: &mu
     requires reading { CanFail (R.failed reader.old) }
     requires telling { CanFail (L.failed lines.old) }
     ensures { EndsCheck (device (R.failed reader.old) (R.failed reader.new) (R.bytes_left reader.old) (R.bytes_left reader.new))
-        (device (L.failed lines.old) (L.failed lines.new) (L.bytes_taken lines.old) (L.bytes_taken lines.new)) memory.old memory.new result }
+        (device (L.failed lines.old) (L.failed lines.new) (L.bytes_taken lines.old) (L.bytes_taken lines.new))
+        memory.old memory.new result }
 {
     tell_checked(lines, check_in(memory, reader))
 }
@@ -153,7 +155,8 @@ fn run_show<R: Source, L: Sink>(memory: &mut Memory, reader: &mut R, lines: &mut
     requires reading { CanFail (R.failed reader.old) }
     requires telling { CanFail (L.failed lines.old) }
     ensures { EndsText listing (device (R.failed reader.old) (R.failed reader.new) (R.bytes_left reader.old) (R.bytes_left reader.new))
-        (device (L.failed lines.old) (L.failed lines.new) (L.bytes_taken lines.old) (L.bytes_taken lines.new)) memory.old memory.new result }
+        (device (L.failed lines.old) (L.failed lines.new) (L.bytes_taken lines.old) (L.bytes_taken lines.new))
+        memory.old memory.new result }
 {
     let printed = show_in(memory, reader, lines);
     tell_printed(lines, printed)
@@ -164,7 +167,8 @@ fn run_captions<R: Source, L: Sink>(memory: &mut Memory, reader: &mut R, lines: 
     requires reading { CanFail (R.failed reader.old) }
     requires telling { CanFail (L.failed lines.old) }
     ensures { EndsText caption_text (device (R.failed reader.old) (R.failed reader.new) (R.bytes_left reader.old) (R.bytes_left reader.new))
-        (device (L.failed lines.old) (L.failed lines.new) (L.bytes_taken lines.old) (L.bytes_taken lines.new)) memory.old memory.new result }
+        (device (L.failed lines.old) (L.failed lines.new) (L.bytes_taken lines.old) (L.bytes_taken lines.new))
+        memory.old memory.new result }
 {
     let printed = captions_in(memory, reader, lines);
     tell_printed(lines, printed)
@@ -190,7 +194,8 @@ pub fn run_one_in<R: Source, O: Sink, L: Sink>(
     requires telling { CanFail (L.failed lines.old) }
     ensures { Ends job (device (R.failed reader.old) (R.failed reader.new) (R.bytes_left reader.old) (R.bytes_left reader.new))
         (device (O.failed out.old) (O.failed out.new) (O.bytes_taken out.old) (O.bytes_taken out.new))
-        (device (L.failed lines.old) (L.failed lines.new) (L.bytes_taken lines.old) (L.bytes_taken lines.new)) memory.old memory.new result }
+        (device (L.failed lines.old) (L.failed lines.new) (L.bytes_taken lines.old) (L.bytes_taken lines.new))
+        memory.old memory.new result }
 {
     match job {
         Job::Show => run_show(memory, reader, lines),
@@ -236,7 +241,8 @@ pub fn run_compare_in<R: Source, S: Source, L: Sink>(
     requires telling { CanFail (L.failed lines.old) }
     ensures { EndsCompare (device (R.failed first.old) (R.failed first.new) (R.bytes_left first.old) (R.bytes_left first.new))
         (device (S.failed second.old) (S.failed second.new) (S.bytes_left second.old) (S.bytes_left second.new))
-        (device (L.failed lines.old) (L.failed lines.new) (L.bytes_taken lines.old) (L.bytes_taken lines.new)) memory.old memory.new result }
+        (device (L.failed lines.old) (L.failed lines.new) (L.bytes_taken lines.old) (L.bytes_taken lines.new))
+        memory.old memory.new result }
 {
     tell_compared(lines, compare_in(memory, first, second))
 }

@@ -72,7 +72,8 @@ fn make_room<T>(memory: &mut Memory, list: &mut Vec<T>) -> Result<(), Refused>
     ensures room { OnOk result (vec_len list.new < vec_capacity list.new) }
     ensures first { vec_len list.old ≡ 0 → vec_capacity list.new ≤ max (vec_capacity list.old) 1 }
     ensures most { vec_capacity list.new ≤ max (vec_capacity list.old) (vec_len list.old + max 3 (vec_len list.old / 2)) }
-    ensures long { LONG < vec_len list.old → vec_capacity list.new ≤ max (vec_capacity list.old) (vec_len list.old + vec_len list.old / 32) }
+    ensures long { LONG < vec_len list.old →
+        vec_capacity list.new ≤ max (vec_capacity list.old) (vec_len list.old + vec_len list.old / 32) }
     ensures memory { Lacks result memory.old memory.new }
 {
     if list.len() < list.capacity() {

@@ -40,7 +40,8 @@ impl<'a> Model for Iim<'a> {
 
     ghost view = { λ i. records_view 0 i.records.items };
 
-    ghost invariant = { λ i. (i.none.items ≡ []) × (vec_len i.records ≤ 256) × AreGroups (records_view 0 i.records.items) × (i.form_len ≡ within (length (normal_iim (records_view 0 i.records.items)))) };
+    ghost invariant = { λ i. (i.none.items ≡ []) × (vec_len i.records ≤ 256) × AreGroups (records_view 0 i.records.items)
+        × (i.form_len ≡ within (length (normal_iim (records_view 0 i.records.items)))) };
 }
 
 // Makes room for the groups of a record number.

@@ -387,7 +387,14 @@ four_directories_say : (first_fault four_directories ≡ None) ×
             fields =
                 [];
             interop =
-                Some ((1, record { kind = Of Ascii; elements = element.Byte 0x52 ∷ element.Byte 0x39 ∷ element.Byte 0x38 ∷ element.Byte 0 ∷ [] }) ∷ []);
+                Some
+                ((
+                  1,
+                  record {
+                    kind = Of Ascii;
+                    elements = element.Byte 0x52 ∷ element.Byte 0x39 ∷ element.Byte 0x38 ∷ element.Byte 0 ∷ [];
+                  },
+                ) ∷ []);
           });
       gps =
           Some ((0, record { kind = Of Byte; elements = element.Byte 2 ∷ element.Byte 2 ∷ element.Byte 0 ∷ element.Byte 0 ∷ [] }) ∷ []);

@@ -29,7 +29,8 @@ loop-init c =
           ∙ ap (λ (k : ℕ). filter_map (field b o d) (es k)) n;
       judged = λ taken a. subst (λ (k : ℕ). SoFar b o d taken (es c.args.count) c.args.start c.args.held.now c.args.start None k) (sym n)
           (so_far_start b o d taken c.args.start c.args.count c.args.held.now a);
-      uses = subst (λ (k : ℕ). UsesSoFar b o c.args.start c.args.count c.no_uses-uses.result c.args.start None k) (sym n) (uses_start b o c.args.start c.args.count c.no_uses-uses.result c.no_uses-uses.ensures);
+      uses = subst (λ (k : ℕ). UsesSoFar b o c.args.start c.args.count c.no_uses-uses.result c.args.start None k) (sym n)
+          (uses_start b o c.args.start c.args.count c.no_uses-uses.result c.no_uses-uses.ensures);
       memory = refl;
     }
 
@@ -83,7 +84,8 @@ loop-preserved c =
           let w = c.loop.invariant.judged taken a in
           let k = c.in_ok-shape.ensures.judged w.now w.agrees in
           so_far_step b o d taken _ _ _ _ _ _ _ step w _ _ shape.head.tag k.0 k.1;
-      uses = uses_step b o c.args.start c.args.count c.loop.at _ _ c.loop.before step (omega arith) s.head shape.head c.in_ok-shape.ensures.follows c.loop.uses _ c.loop.invariant.uses c.keep_use.ensures;
+      uses = uses_step b o c.args.start c.args.count c.loop.at _ _ c.loop.before step (omega arith) s.head shape.head
+          c.in_ok-shape.ensures.follows c.loop.uses _ c.loop.invariant.uses c.keep_use.ensures;
       memory = c.in_ok-keep_field.ensures.memory ∙ c.in_ok-shape.ensures.memory ∙ c.loop.invariant.memory;
     }
 
