@@ -18,8 +18,8 @@ use Rattle.px_engine.specs.Input.{IsSaid, IsFaulty}
 abbrev pub KnownSaid : Option (List ℕ) → Said → Type 0
 KnownSaid file s = IfSome file (λ f. IsSaid f s)
 
--- a fault of reading and judging it: its first fault; or a failed read or want of memory, which say nothing of it: when they
--- come is what `CountsFault` and `LacksFault` say
+-- a fault of reading and judging it: its first fault; or a failed read or want of memory, of which this word says nothing at all:
+-- when they come is said by the clauses `reads` and `memory` of each run (`CountsFault`, `LacksFault`)
 abbrev pub Stops : Fault → Option (List ℕ) → Type 0
 Stops (Refused cause place) file = (place ≤ limit) × IfSome file (λ f. IsFaulty f cause place)
 Stops OutOfMemory file = ⊤

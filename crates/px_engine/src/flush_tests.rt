@@ -1,13 +1,14 @@
-// Flushes, counted: each run that writes asks for one, behind the last byte.
+// Writes and flushes, counted: each run that writes asks for one flush, behind the last byte.
 ghost use Rattle.std.specs.Prelude.{◌≡◌};
 ghost use Rattle.px_bytes.specs.calls.Watching.{failures_of};
 
-use crate::{Fault, captions, normalise, show};
+use crate::{Fault, captions, normalise, show, show_of};
 use px_bytes::Watched;
 use std::alloc::Global;
 use std::io;
 use std::io::{ErrorKind, Write};
 use std::process::Abort;
+use std::test::Fail;
 
 // One field: ImageDescription "Urn".
 const EXIF: &[u8] =
@@ -19,6 +20,8 @@ const IIM: &[u8] = b"\x1c\x02\x78\x00\x03abc";
 #[derive(Drop)]
 struct Asked {
     held: Vec<u8>,
+    writes: u32,
+    longest: usize,
     flushes: u32,
     behind: u32,
     breaks: bool,
@@ -27,6 +30,8 @@ struct Asked {
 impl Write for Asked {
     fn write(&mut self, buf: &[u8]) -> io::Result<usize> {
         self.behind = self.behind.saturating_add(self.flushes.min(1));
+        self.writes = self.writes.saturating_add(1);
+        self.longest = self.longest.max(buf.len());
         self.held.extend_from_slice(buf)?;
         Ok(buf.len())
     }
@@ -45,6 +50,8 @@ fn counting(alloc: Global, breaks: bool) -> Watched<Asked>
 {
     Watched::new(Asked {
         held: Vec::new(alloc),
+        writes: 0,
+        longest: 0,
         flushes: 0,
         behind: 0,
         breaks,
@@ -124,4 +131,23 @@ fn a_refused_file_asks_nothing(rt: HostRuntime) {
     let asked = writer.into_inner();
     assert_eq!(rt; asked.flushes, 0);
     assert_eq!(rt; asked.held.is_empty(), true);
+}
+
+// A text that is longer than what can wait goes out in writes of up to 8,192 bytes, and is the text that is made in hand.
+#[test]
+fn a_long_text_goes_out_in_parts(rt: HostRuntime) -> Result<(), Fail> {
+    let mut file = Vec::new(rt.alloc());
+    file.extend_from_slice(b"\x1c\x02\x78\x1f\x40")?;
+    file.resize(8005, 0)?;
+    let mut writer = counting(rt.alloc(), false);
+    show(rt.alloc(), &mut Watched::new(file.as_slice()), &mut writer)
+        .ok()
+        .ok_or("not shown")?;
+    let asked = writer.into_inner();
+    assert_eq!(rt; asked.writes, 2);
+    assert!(rt; asked.longest <= 8192);
+    assert_eq!(rt; asked.held.len(), 16017);
+    let text = show_of(rt.alloc(), &file).ok().ok_or("not shown")?;
+    assert!(rt; asked.held.as_slice() == text.as_slice());
+    Ok(())
 }
