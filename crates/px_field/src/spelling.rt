@@ -27,7 +27,7 @@ impl<'a> Value<'a> {
 
 /// Appends the bytes that spell the value in `order`, `size` of them.
 ///
-/// The error is the only one: memory for them was refused, and the vector's items are unchanged.
+/// Fails only when out of memory; the vector's items are then unchanged.
 pub fn append_value(order: Order, value: &Value, out: &mut Vec<u8>) -> Result<(), AllocError>
     ensures done { OnOk result (out.new.items ≡ out.old.items ++ spelled order value.now) }
     ensures failed { OnErr result (out.new.items ≡ out.old.items) }

@@ -27,7 +27,7 @@ pub struct Thumb<'a> {
 /// and strips are borrowed from the block that was read.
 #[derive(Drop)]
 pub struct Meaning<'a> {
-    /// The fields of the main directory; pointers are none, nor is a record.
+    /// The fields of the main directory; pointers and the record are not among them.
     pub main: Fields<'a>,
     /// The caption record at 0x83BB, where the bytes there say one.
     pub iptc: Option<Iim<'a>>,
