@@ -58,9 +58,9 @@ def doubled(size):
 
 def memory_of(held, size):
     """What is held of what a file of so many bytes says, in calls for memory, bytes asked for and bytes held. Of a block whose
-    meaning isn't told it is in proportion to its bytes."""
+    meaning isn't told it is in proportion to its bytes: what is asked for counts each growth of a long list, by a 32nd, as a whole."""
     if held is None:
-        return Growth(60, 16 * size + SMALL, 4 * size + SMALL)
+        return Growth(60, 160 * size + SMALL, 4 * size + SMALL)
     lists = [growth(it) for it in held.lists]
     fixed = FIELD * held.fields + STRIP * held.strips + SMALL + (RECORDS if lists else 0)
     return Growth(
