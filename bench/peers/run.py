@@ -88,7 +88,7 @@ def build_kamadak(folder):
     return (
         compiled([*library, "--crate-name", "mutate_once", source("mutate_once")])
         and compiled([*library, "--crate-name", "exif", "--extern", "mutate_once", source("kamadak-exif")])
-        and compiled(["rustc", "--edition", "2021", "-O", "-L", folder, "-o", os.path.join(folder, "kamadak"), os.path.join(HERE, "kamadak.rs")])
+        and compiled(["rustc", "--edition", "2021", "-O", "-L", folder, "--extern", "exif", "-o", os.path.join(folder, "kamadak"), os.path.join(HERE, "kamadak.rs")])
     )
 
 
