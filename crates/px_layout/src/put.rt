@@ -72,8 +72,8 @@ pub(crate) fn put_padding<W: Sink>(
     put_filler(pending, writer, 0, (len % 2) as usize)
 }
 
-// The bytes in which elements are turned round, some at a time.
-const PIECE: usize = 4096;
+// The bytes in which elements are turned round, some at a time: few, since they are zeroed for each value.
+const PIECE: usize = 256;
 
 // The elements of a value, as many at a time as a piece has room for.
 fn put_elements<W: Sink>(
