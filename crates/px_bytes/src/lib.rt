@@ -20,15 +20,11 @@
 
 mod blocks;
 mod causes;
-#[cfg(test)]
-mod device_tests;
 mod devices;
 mod growing;
 mod held;
 mod marks;
 mod memory;
-#[cfg(test)]
-mod memory_tests;
 mod numbers;
 mod pending;
 #[cfg(test)]
