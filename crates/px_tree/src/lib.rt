@@ -27,8 +27,6 @@ mod links;
 mod meanings;
 mod parts;
 mod read;
-#[cfg(test)]
-mod read_tests;
 mod records;
 mod roles;
 mod same;
@@ -40,8 +38,6 @@ mod tests;
 mod thumbnail;
 mod tree;
 mod uses;
-#[cfg(test)]
-mod worked_blocks;
 
 pub use fields::Fields;
 pub use fitting::fits;
