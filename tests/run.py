@@ -30,7 +30,15 @@ from watching import complaints_of_cost, complaints_of_failures, complaints_of_s
 HERE = os.path.dirname(os.path.abspath(__file__))
 SECONDS = 60  # what the longest run of a large block may take
 CHANGED = 40  # how many blocks are made of each layout of a kind
-SHORT_AND_FAILING = ("four directories in another order", "four directories, by show", "two keywords with a caption", "four directories in two", "one SHORT, by check")
+SHORT_AND_FAILING = (
+    "four directories in another order",
+    "four directories, by show",
+    "two keywords with a caption",
+    "four directories in two",
+    "one SHORT, by check",
+    "show of a loop",
+    "comparing one SHORT with a loop",
+)
 
 
 def shown(octets):
