@@ -44,8 +44,6 @@ mod with_plan_tests;
 #[cfg(test)]
 mod worked_blocks;
 mod write;
-#[cfg(test)]
-mod write_tests;
 
 pub use chunks::Chunk;
 pub use form::NormalForm;
