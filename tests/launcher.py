@@ -1,5 +1,6 @@
 #!/usr/bin/env python3
-"""Tests ./exifnorm, the launcher, with a toolchain that proves nothing: each test has a folder of its own with a few crates.
+"""Tests ./exifnorm, the launcher, with a toolchain that proves nothing: each test has a folder of its own with a few crates. Those of
+first_build.py follow, with the toolchain itself.
 
   tests/launcher.py
 
@@ -16,6 +17,10 @@ import tempfile
 import time
 from concurrent.futures import ThreadPoolExecutor
 from pathlib import Path
+
+sys.dont_write_bytecode = True
+
+import first_build
 
 HERE = Path(__file__).resolve().parent
 LAUNCHER = HERE.parent / "exifnorm"
@@ -76,6 +81,9 @@ class Room:
         self.rt.chmod(0o755)
         (folder / "version").write_text("toolchain 1\n")
         self.takes(0)
+        self.proved = self.top / "crates" / "px_cli" / "out" / "px_cli"
+        self.mark = self.top / "out" / "proved-since"
+        self.named = {}
 
     @property
     def main(self) -> Path:
@@ -86,7 +94,7 @@ class Room:
         (self.folder / "seconds").write_text(str(seconds))
 
     def environment(self, has_rt: bool = True) -> dict:
-        return {"PATH": (f"{self.bin}:" if has_rt else "") + "/usr/bin:/bin", "LANG": "C"}
+        return {"PATH": (f"{self.bin}:" if has_rt else "") + "/usr/bin:/bin", "LANG": "C", **self.named}
 
     def start(self, *words: str, **how) -> subprocess.Popen:
         streams = {"stdin": subprocess.DEVNULL, "stdout": subprocess.PIPE, "stderr": subprocess.PIPE, "text": True}
@@ -97,6 +105,16 @@ class Room:
         return subprocess.run(
             it, env=self.environment(has_rt), stdin=subprocess.DEVNULL, capture_output=True, text=True, timeout=60, **how
         )
+
+    def is_proved(self) -> None:
+        """Leaves the mark and the program that ./test leaves where it has proved everything."""
+        for file, text in ((self.mark, ""), (self.proved, '#!/bin/sh\necho "proved: $*"\n')):
+            time.sleep(0.05)  # longer than a tick of the clock by which files get their times
+            file.parent.mkdir(exist_ok=True)
+            file.write_text(text)
+            file.chmod(0o755)
+        time.sleep(0.05)
+        self.named = {"EXIFNORM_PROVED": str(self.proved)}
 
     def log(self) -> list:
         """What the toolchain was asked for, a line each: begin or end, the command, the crate, the process."""
@@ -382,6 +400,56 @@ def a_folder_that_cannot_be_written_is_told(room: Room) -> None:
     due(ran.returncode == 70 and ran.stdout == "" and "cannot" in ran.stderr, ran)
 
 
+def what_was_just_proved_is_taken(room: Room) -> None:
+    room.is_proved()
+    ran = room.call("a")
+    due((ran.returncode, ran.stdout, room.log()) == (0, "proved: a\n", []), (ran, room.log()))
+    due("taking" in ran.stderr and "proving" not in ran.stderr, ran.stderr)
+    due(room.proved.exists() and not os.path.lexists(room.top / "out" / "building"), "what was proved stands, and no lock")
+    ran = room.call("b")
+    due((ran.stdout, ran.stderr) == ("proved: b\n", ""), ran)
+    room.proved.unlink()
+    due(room.call("c", has_rt=False).stdout == "proved: c\n", "the program is a copy")
+    room.main.write_text("two")
+    due(room.call().stdout == "two: \n" and len(room.built()) == 4, room.log())
+
+
+def is_built_after(room: Room, what: str, change) -> None:
+    """A build after this change takes nothing that was proved before it."""
+    (room.folder / what).mkdir()
+    other = Room(room.folder / what)
+    (other.main.parent / "further.rt").write_text("more")
+    (other.folder / "old.rt").write_text("old")
+    other.is_proved()
+    change(other)
+    ran = other.call("a")
+    due(ran.returncode == 0 and ran.stdout != "proved: a\n" and len(other.built()) == 4, (what, ran, other.log()))
+
+
+def nothing_is_taken_as_proved_after_a_change(room: Room) -> None:
+    is_built_after(room, "edit", lambda it: it.main.write_text("two"))
+    is_built_after(room, "edit-below", lambda it: (it.top / "crates/px_bytes/proofs/main.rt").write_text("two"))
+    is_built_after(room, "edit-of-an-old-time", lambda it: (it.main.write_text("two"), os.utime(it.main, (10**9, 10**9))))
+    is_built_after(room, "older-in-its-place", lambda it: os.rename(it.folder / "old.rt", it.main))
+    is_built_after(room, "added", lambda it: (it.main.parent / "other.rt").write_text("more"))
+    is_built_after(room, "taken-away", lambda it: (it.main.parent / "further.rt").unlink())
+    is_built_after(room, "crates", lambda it: (it.top / "crates.txt").touch())
+    is_built_after(room, "toolchain", lambda it: it.rt.touch())
+
+
+def no_program_is_taken_that_is_not_of_the_last_proof(room: Room) -> None:
+    is_built_after(room, "no-mark", lambda it: it.mark.unlink())
+    is_built_after(room, "no-program", lambda it: it.proved.unlink())
+    is_built_after(room, "older-program", lambda it: it.mark.touch())
+    is_built_after(room, "no-command", lambda it: it.proved.chmod(0o644))
+
+
+def a_name_that_is_not_a_full_one_names_nothing_proved(room: Room) -> None:
+    room.is_proved()
+    room.named = {"EXIFNORM_PROVED": "crates/px_cli/out/px_cli"}
+    due(room.call("a", cwd=room.top).stdout == "one: a\n", room.log())
+
+
 TESTS = [
     the_first_call_builds_each_crate_once_and_runs,
     a_later_call_builds_nothing_and_says_nothing,
@@ -406,6 +474,10 @@ TESTS = [
     names_may_begin_with_a_hyphen,
     it_is_called_from_any_folder_and_through_links,
     a_folder_that_cannot_be_written_is_told,
+    what_was_just_proved_is_taken,
+    nothing_is_taken_as_proved_after_a_change,
+    no_program_is_taken_that_is_not_of_the_last_proof,
+    a_name_that_is_not_a_full_one_names_nothing_proved,
 ]
 
 
@@ -421,12 +493,17 @@ def fault_of(test) -> str:
 
 def main() -> int:
     with ThreadPoolExecutor(4) as pool:
-        faults = dict(zip(TESTS, pool.map(fault_of, TESTS)))
-    for test, fault in faults.items():
+        faults = dict(zip((it.__name__ for it in TESTS), pool.map(fault_of, TESTS)))
+    if shutil.which("rt"):
+        faults.update(first_build.faults())
+    else:
+        for test in first_build.TESTS:
+            print(f"skipped: {test.__name__}: there is no command rt on the PATH")
+    for name, fault in faults.items():
         if fault:
-            print(f"FAILED {test.__name__}: {fault}")
+            print(f"FAILED {name}: {fault}")
     failed = sum(map(bool, faults.values()))
-    print(f"{len(TESTS) - failed} passed, {failed} failed")
+    print(f"{len(faults) - failed} passed, {failed} failed")
     return 1 if failed else 0
 
 

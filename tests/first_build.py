@@ -1,0 +1,188 @@
+"""Builds a small repository from nothing, as users build this one, with the toolchain itself: by the launcher, and by `rt lib`.
+
+./test builds its program and its library over what `rt ci` has just proved, so the way from nothing is tested here: with a library of
+one function, a program over it, and the same for C. Beside it stands what ./test does, which has to make the same bytes.
+tests/launcher.py runs these.
+"""
+
+import os
+import shutil
+import subprocess
+import sys
+import tempfile
+import time
+from concurrent.futures import ThreadPoolExecutor
+from pathlib import Path
+
+HERE = Path(__file__).resolve().parent
+PROGRAM, ARCHIVE = "crates/px_cli/out/px_cli", "crates/px_c/out/libpx_c.a"
+
+# The files besides the library, px_bytes, which is the toolchain's template of one.
+FILES = {
+    "HANDLES": "Handles allowed: none.\n",
+    "crates.txt": "px_bytes:\npx_cli: px_bytes\npx_c staticlib: px_bytes\n",
+    "crates/px_cli/status": "2\n",
+    "crates/px_cli/src/main.rt": """// Prints the first of its words. Without any it ends with status 2.
+#![tactic(auto)]
+
+use px_bytes::echo;
+use std::env;
+use std::process::ExitCode;
+
+fn run(rt: &HostRuntime) -> u8 {
+    let Ok(args) = env::args(rt) else {
+        return 4;
+    };
+    let all: Vec<String> = match args.collect(rt.alloc()) {
+        Ok(all) => all,
+        Err(_) => return 4,
+    };
+    let Some(word) = all.get(echo(1)) else {
+        return 2;
+    };
+    match println!(rt; "one: {word}") {
+        Ok(()) => 0,
+        Err(_) => 4,
+    }
+}
+
+fn main(rt: HostRuntime) -> ExitCode {
+    ExitCode::from(run(&rt))
+}
+""",
+    "crates/px_c/src/lib.rt": """// The same for C.
+#![tactic(auto)]
+
+ghost use Rattle.px_bytes.specs.Echo.{echo_of};
+ghost use Rattle.std.specs.Prelude.{◌≡◌};
+
+use px_bytes::echo;
+
+#[unsafe(no_mangle)]
+pub extern "C" fn exifnorm_echo(x: usize) -> usize
+    ensures { result ≡ echo_of x }
+{
+    echo(x)
+}
+""",
+}
+
+
+class Project:
+    """The small repository in a folder that is made for it."""
+
+    def __init__(self, top: Path) -> None:
+        self.top = top
+        top.mkdir()
+        (top / "crates.txt").touch()
+        self.call("rt", "new", "crates/px_bytes", "start_lib")
+        (top / "crates/px_bytes/BUILD.bazel").unlink()
+        for name, text in FILES.items():
+            (top / name).parent.mkdir(parents=True, exist_ok=True)
+            (top / name).write_text(text, encoding="utf-8")
+        for name in ("exifnorm", "Makefile"):
+            shutil.copy(HERE.parent / name, top / name)
+
+    def call(self, *words: str, folder: str = ".", **named: str) -> subprocess.CompletedProcess:
+        environment = {key: value for key, value in os.environ.items() if not key.startswith(("RT_", "EXIFNORM_", "MAKE"))}
+        how = {"cwd": self.top / folder, "stdin": subprocess.DEVNULL, "capture_output": True, "text": True, "timeout": 900}
+        return subprocess.run(words, env={**environment, **named}, check=False, **how)
+
+    def bytes_of(self, name: str) -> bytes:
+        return (self.top / name).read_bytes()
+
+
+class FromNothing(Project):
+    """The repository that is built as users do."""
+
+    def build(self) -> "FromNothing":
+        self.launched = self.call("./exifnorm", "a b")
+        self.library = self.call("rt", "lib", folder="crates/px_c")
+        return self
+
+
+class Gate(Project):
+    """The repository that is proved as ./test does, and built over what was proved."""
+
+    def build(self) -> "Gate":
+        (self.top / "out").mkdir()
+        (self.top / "out" / "proved-since").touch()
+        time.sleep(0.05)
+        self.proved = self.call("rt", "ci")
+        self.launched = self.call("./exifnorm", "a b", EXIFNORM_PROVED=str(self.top / PROGRAM))
+        self.before = self.is_archived()
+        self.library = self.call(sys.executable, str(HERE / "static_library.py"), str(self.top))
+        self.behind = self.is_archived()
+        return self
+
+    def is_archived(self) -> bool:
+        """Whether make takes the archive as it is."""
+        return self.call("make", "-q", ARCHIVE).returncode == 0
+
+
+def due(is_so: bool, what: object) -> None:
+    if not is_so:
+        raise AssertionError(what)
+
+
+def the_launcher_proves_builds_and_runs(user: FromNothing, gate: Gate) -> None:
+    ran = user.launched
+    due((ran.returncode, ran.stdout) == (0, "one: a b\n"), ran)
+    due("proving px_bytes (1 of 2, 1 left)" in ran.stderr and "built" in ran.stderr, ran.stderr)
+    due("logic=proved" in (user.top / "out/build-px_bytes.log").read_text(encoding="utf-8"), "nothing tells of a proof")
+
+
+def the_gate_proves_and_makes_the_same_program(user: FromNothing, gate: Gate) -> None:
+    due(gate.proved.returncode == 0 and gate.proved.stdout.endswith("\n3 passed, 0 failed\n"), gate.proved)
+    due("\nrt: px_cli proved\n" in gate.proved.stdout, "the line that ./test looks for")
+    due(gate.bytes_of(PROGRAM) == user.bytes_of("out/exifnorm"), "another program")
+
+
+def what_the_gate_proved_is_taken_by_the_launcher(user: FromNothing, gate: Gate) -> None:
+    ran = gate.launched
+    due((ran.returncode, ran.stdout) == (0, "one: a b\n"), ran)
+    due("taking" in ran.stderr and "proving" not in ran.stderr, ran.stderr)
+    due(gate.bytes_of(PROGRAM) == gate.bytes_of("out/exifnorm"), "another program")
+
+
+def the_archive_over_what_was_proved_is_that_of_rt_lib(user: FromNothing, gate: Gate) -> None:
+    due(user.library.returncode == 0, user.library)
+    said = gate.library.stdout + gate.library.stderr
+    due(gate.library.returncode == 0 and "fn px_c::exifnorm_echo: proved\n" in said, said)
+    due("fn px_bytes" not in said, "px_bytes was proved twice")
+    due(gate.bytes_of(ARCHIVE) == user.bytes_of(ARCHIVE), "another archive")
+    due((gate.before, gate.behind) == (False, True), "make takes another archive, or builds this one again")
+
+
+def no_archive_is_built_over_what_was_changed_since(user: FromNothing, gate: Gate) -> None:
+    (gate.top / ARCHIVE).unlink()
+    (gate.top / "crates/px_bytes/src/lib.rt").touch()
+    ran = gate.call(sys.executable, str(HERE / "static_library.py"), str(gate.top))
+    due(ran.returncode == 0 and "left to `rt lib`" in ran.stdout and not (gate.top / ARCHIVE).exists(), ran)
+
+
+# The last changes what was built.
+TESTS = [
+    the_launcher_proves_builds_and_runs,
+    the_gate_proves_and_makes_the_same_program,
+    what_the_gate_proved_is_taken_by_the_launcher,
+    the_archive_over_what_was_proved_is_that_of_rt_lib,
+    no_archive_is_built_over_what_was_changed_since,
+]
+
+
+def fault_of(test, user: FromNothing, gate: Gate) -> str:
+    """What is wrong; nothing where the test passes."""
+    try:
+        test(user, gate)
+    except (AssertionError, OSError, subprocess.SubprocessError) as why:
+        return str(why) or repr(why)
+    return ""
+
+
+def faults() -> dict:
+    """What is wrong with each test, by its name."""
+    with tempfile.TemporaryDirectory() as folder, ThreadPoolExecutor(2) as pool:
+        made = [FromNothing(Path(folder) / "user"), Gate(Path(folder) / "gate")]
+        user, gate = pool.map(lambda it: it.build(), made)
+        return {test.__name__: fault_of(test, user, gate) for test in TESTS}
