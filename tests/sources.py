@@ -13,8 +13,6 @@ import sys
 
 TOP = os.path.dirname(os.path.dirname(os.path.abspath(__file__)))
 PARAMETERS, LINES, COLUMNS = 5, 40, 140
-# What reads a directory is handed memory, held ranges, block and byte order beside what it reads; proofs name each of them.
-READING = 7
 
 # Where a function begins.
 FUNCTION = re.compile(r"^(?P<indent> *)(?P<public>pub(?:\(crate\))? )?fn (?P<name>\w+)", re.M)
@@ -101,9 +99,9 @@ def one_line_over_their_sisters():
 
 
 def few_parameters():
-    """Says which functions take more than five parameters, or, where px_tree reads directories, more than seven."""
-    return [f"{path}: {name} takes {len(parameters)} parameters" for crate, found in crates() for path, name, _, parameters, _ in found
-        if len(parameters) > (READING if crate == "px_tree" else PARAMETERS)]
+    """Says which functions take more than five parameters."""
+    return [f"{path}: {name} takes {len(parameters)} parameters" for _, found in crates() for path, name, _, parameters, _ in found
+        if len(parameters) > PARAMETERS]
 
 
 def short_functions():

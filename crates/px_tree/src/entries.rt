@@ -1,5 +1,5 @@
 // One entry of a table, judged. TIFF 6.0 section 2, "IFD Entry", "Sort Order", "Types" and "Value/Offset".
-ghost use Rattle.std.specs.Prelude.{◌≡◌, ◌≤◌, ◌<◌, ◌+◌, ◌*◌, ◌^◌, List, ◌++◌, length, option_to_list, IfOk, Some};
+ghost use Rattle.std.specs.Prelude.{◌≡◌, ◌≤◌, ◌<◌, ◌+◌, ◌*◌, List, ◌++◌, length, option_to_list, IfOk, Some};
 ghost use Rattle.px_bytes.specs.Parts.{limit, part};
 ghost use Rattle.px_bytes.specs.Range.{Range, Agrees};
 ghost use Rattle.px_bytes.specs.Checks.{ContentOnly, LacksBlock, Judges};
@@ -13,6 +13,7 @@ ghost use Rattle.px_tree.specs.calls.Reading.{Shows, bare, IsShape, Follows, spa
 use crate::holding::hold;
 use crate::parts::{needs_place, number16, number32};
 use crate::roles::{Dir, Role, role_of};
+use crate::source::Source;
 use px_bytes::{Cause, Memory, Order, Ranges, Refusal};
 use px_field::Form;
 
@@ -86,23 +87,25 @@ fn shape_of(dir: Dir, at: u32, before: Option<u16>, head: Head) -> Result<Shape,
     Ok(Shape { head, form, role })
 }
 
-// Holds the bytes of a value of so many bytes, where it stands at an offset.
+// Holds the value of the entry at a place, where the value stands at an offset.
 fn hold_value(
     memory: &mut Memory,
     block: &[u8],
     held: &mut Ranges,
     at: u32,
-    start: u32,
-    len: u64,
+    shape: Shape,
 ) -> Result<(), Refusal>
-    requires small { len < 2 ^ 36 }
     requires bounded { length block.now ≤ limit }
-    ensures judged { (taken : List Range) → Agrees taken held.old →
+    ensures judged { let start = shape.head.offset in let len = shape.head.count * size shape.form in
+        (taken : List Range) → Agrees taken held.old →
         Judges result (span_checks block.now taken at start len)
         (λ _. Agrees (option_to_list (span start len) ++ taken) held.new) }
-    ensures inside { IfOk result (λ _. 4 < len → start + len ≤ length block.now) }
+    ensures inside { let start = shape.head.offset in let len = shape.head.count * size shape.form in
+        IfOk result (λ _. 4 < len → start + len ≤ length block.now) }
     ensures memory { LacksBlock result memory.old memory.new }
 {
+    let start = shape.head.offset;
+    let len = u64::from(shape.head.count) * u64::from(shape.form.size());
     if !needs_place(len) {
         return Ok(());
     }
@@ -115,29 +118,28 @@ fn hold_value(
 // Judges the entry at a place, behind a tag, and holds its value.
 pub fn judge_entry(
     memory: &mut Memory,
-    block: &[u8],
-    order: Order,
-    dir: Dir,
+    source: &Source,
     held: &mut Ranges,
     at: u32,
     before: Option<u16>,
 ) -> Result<Shape, Refusal>
-    requires inside { at + 12 ≤ length block.now }
-    requires bounded { length block.now ≤ limit }
-    ensures judged { let e = entry order (part block.now at 12) in
+    requires inside { at + 12 ≤ length source.now.block.now }
+    requires bounded { length source.now.block.now ≤ limit }
+    ensures judged { let b = source.now.block.now in let o = source.now.order in
+        let e = entry o (part b at 12) in
         (taken : List Range) → Agrees taken held.old →
-        Judges result (entry_checks block.now order dir taken at before e)
-        (λ s. Agrees (option_to_list (placed_range order e) ++ taken) held.new) }
-    ensures shape { IfOk result (λ s. IsShape order dir s (entry order (part block.now at 12))) }
+        Judges result (entry_checks b o source.now.dir taken at before e)
+        (λ s. Agrees (option_to_list (placed_range o e) ++ taken) held.new) }
+    ensures shape { let o = source.now.order in
+        IfOk result (λ s. IsShape o source.now.dir s (entry o (part source.now.block.now at 12))) }
     ensures inside { IfOk result
         (λ s. 4 < s.head.count * size s.form
-        → s.head.offset + s.head.count * size s.form ≤ length block.now) }
+        → s.head.offset + s.head.count * size s.form ≤ length source.now.block.now) }
     ensures follows { IfOk result (λ s. Follows before s.head.tag) }
     ensures memory { LacksBlock result memory.old memory.new }
 {
-    let head = head_at(block, order, at);
-    let shape = shape_of(dir, at, before, head)?;
-    let len = u64::from(head.count) * u64::from(shape.form.size());
-    hold_value(memory, block, held, at, head.offset, len)?;
+    let head = head_at(source.block, source.order, at);
+    let shape = shape_of(source.dir, at, before, head)?;
+    hold_value(memory, source.block, held, at, shape)?;
     Ok(shape)
 }

@@ -18,7 +18,8 @@ use crate::entries::{Head, Shape, judge_entry};
 use crate::entry_values::{raw_of, value_at};
 use crate::fields::Fields;
 use crate::records::says_record;
-use crate::roles::{Dir, Role};
+use crate::roles::Role;
+use crate::source::Source;
 use crate::uses::{Uses, keep_use, no_uses};
 use px_bytes::{Memory, Order, Ranges, Refusal};
 use px_field::{Form, Value, read_whole};
@@ -80,22 +81,21 @@ fn field_of<'a>(block: &'a [u8], order: Order, at: u32, shape: Shape) -> Option<
 fn keep_field<'a>(
     memory: &mut Memory,
     fields: &mut Fields<'a>,
-    block: &'a [u8],
-    order: Order,
+    source: &Source<'a>,
     at: u32,
     shape: Shape,
 ) -> Result<(), Refusal>
-    requires held { IsHeld block.now order at shape.head shape.form }
+    requires held { IsHeld source.now.block.now source.now.order at shape.head shape.form }
     requires rising { Rising (tags fields.old) }
     requires below { AllByRecursion (λ t. t < shape.head.tag) (tags fields.old) }
-    ensures kept { let e = entry order (part block.now at 12) in
+    ensures kept { let b = source.now.block.now in let o = source.now.order in
         IfOk result (λ _. fields.new ≡ fields.old
         ++ option_to_list (option_map (λ v. (shape.head.tag, v))
-        (value_in block.now order e shape.role shape.form))) }
+        (value_in b o (entry o (part b at 12)) shape.role shape.form))) }
     ensures err { IfErr result (λ e. e ≡ OutOfMemory) }
     ensures memory { LacksBlock result memory.old memory.new }
 {
-    match field_of(block, order, at, shape) {
+    match field_of(source.block, source.order, at, shape) {
         Some(value) => {
             fields.push(memory, shape.head.tag, value)?;
             Ok(())
@@ -114,22 +114,21 @@ pub struct Entries<'a> {
 // So many entries, each judged, and its value held.
 pub fn read_entries<'a>(
     memory: &mut Memory,
-    block: &'a [u8],
-    order: Order,
-    dir: Dir,
+    source: &Source<'a>,
     held: &mut Ranges,
     start: u32,
     count: u16,
 ) -> Result<Entries<'a>, Refusal>
-    requires inside { start + 12 * count ≤ length block.now }
-    requires bounded { length block.now ≤ limit }
-    ensures judged { let es = entries_from block.now order start count in
+    requires inside { start + 12 * count ≤ length source.now.block.now }
+    requires bounded { length source.now.block.now ≤ limit }
+    ensures judged { let b = source.now.block.now in let o = source.now.order in
+        let d = source.now.dir in let es = entries_from b o start count in
         (taken : List Range) → Agrees taken held.old →
-        Judges result (entries_checks block.now order dir taken start None es)
-        (λ v. (v.fields ≡ filter_map (field block.now order dir) es)
-        × Agrees (filter_map (placed_range order) es ++ taken) held.new) }
-    ensures uses { let es = entries_from block.now order start count in
-        IfOk result (λ v. AreUses block.now order es start v.uses) }
+        Judges result (entries_checks b o d taken start None es)
+        (λ v. (v.fields ≡ filter_map (field b o d) es)
+        × Agrees (filter_map (placed_range o) es ++ taken) held.new) }
+    ensures uses { let b = source.now.block.now in let o = source.now.order in
+        IfOk result (λ v. AreUses b o (entries_from b o start count) start v.uses) }
     ensures memory { LacksBlock result memory.old memory.new }
 {
     let mut fields = Fields::with_room(memory, count)?;
@@ -137,8 +136,8 @@ pub fn read_entries<'a>(
     let mut at = start;
     let mut before = None;
     for _ in 0..count {
-        let shape = judge_entry(memory, block, order, dir, held, at, before)?;
-        keep_field(memory, &mut fields, block, order, at, shape)?;
+        let shape = judge_entry(memory, source, held, at, before)?;
+        keep_field(memory, &mut fields, source, at, shape)?;
         keep_use(&mut uses, shape.head, at);
         before = Some(shape.head.tag);
         at += 12;

@@ -30,6 +30,7 @@ mod read;
 mod records;
 mod roles;
 mod same;
+mod source;
 mod strips;
 mod tables;
 mod tags;

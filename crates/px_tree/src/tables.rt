@@ -16,9 +16,9 @@ use crate::fields::Fields;
 use crate::holding::hold;
 use crate::links::{Link, is_earlier};
 use crate::parts::number16;
-use crate::roles::Dir;
+use crate::source::Source;
 use crate::uses::Uses;
-use px_bytes::{Cause, Memory, Order, Ranges, Refusal};
+use px_bytes::{Cause, Memory, Ranges, Refusal};
 
 // A directory that was read: its fields, its entries with a use of their own, its offset and its number
 // of entries.
@@ -40,20 +40,20 @@ pub fn table_len(entries: u16) -> u32
 // How many entries the table that a link leads to has, once it is held.
 fn open_table(
     memory: &mut Memory,
-    block: &[u8],
-    order: Order,
+    source: &Source,
     held: &mut Ranges,
     earlier: &[Option<Link>],
     link: Link,
 ) -> Result<u16, Refusal>
-    requires { length block.now ≤ limit }
+    requires { length source.now.block.now ≤ limit }
     ensures judged { (taken : List Range) → Agrees taken held.old →
-        Judges result (opening_checks block.now order
+        Judges result (opening_checks source.now.block.now source.now.order
         (offsets_of earlier.now) taken link.place link.at)
         (λ n. Agrees (range link.at (table_size n) ∷ taken) held.new) }
-    ensures there { IfOk result (λ n. HasTable block.now order link.at n) }
+    ensures there { IfOk result (λ n. HasTable source.now.block.now source.now.order link.at n) }
     ensures memory { LacksBlock result memory.old memory.new }
 {
+    let block = source.block;
     let at = link.at;
     let place = link.place;
     if is_earlier(earlier, at) {
@@ -62,7 +62,7 @@ fn open_table(
     if u64::from(at) + 2 > block.len() as u64 {
         return Err(Cause::DirectoryOutside.at(place));
     }
-    let count = number16(block, order, at);
+    let count = number16(block, source.order, at);
     if count == 0 {
         return Err(Cause::EmptyDirectory.at(at));
     }
@@ -77,26 +77,26 @@ fn open_table(
 // The directory that a link leads to.
 pub fn read_directory<'a>(
     memory: &mut Memory,
-    block: &'a [u8],
-    order: Order,
-    dir: Dir,
+    source: &Source<'a>,
     held: &mut Ranges,
     earlier: &[Option<Link>],
     link: Link,
 ) -> Result<Directory<'a>, Refusal>
-    requires { length block.now ≤ limit }
-    ensures judged { (taken : List Range) → Agrees taken held.old →
-        Judges result (dir_checks block.now order
-        (offsets_of earlier.now) taken link.place dir link.at)
-        (λ t. (t.fields ≡ fields block.now order dir link.at)
-        × Agrees (dir_ranges block.now order link.at ++ taken) held.new) }
-    ensures there { IfOk result (λ t. (t.at ≡ link.at) × HasTable block.now order t.at t.count) }
-    ensures uses { IfOk result
-        (λ t. AreUses block.now order (entries_at block.now order t.at) (t.at + 2) t.uses) }
+    requires { length source.now.block.now ≤ limit }
+    ensures judged { let b = source.now.block.now in let o = source.now.order in
+        let d = source.now.dir in
+        (taken : List Range) → Agrees taken held.old →
+        Judges result (dir_checks b o (offsets_of earlier.now) taken link.place d link.at)
+        (λ t. (t.fields ≡ fields b o d link.at)
+        × Agrees (dir_ranges b o link.at ++ taken) held.new) }
+    ensures there { let b = source.now.block.now in let o = source.now.order in
+        IfOk result (λ t. (t.at ≡ link.at) × HasTable b o t.at t.count) }
+    ensures uses { let b = source.now.block.now in let o = source.now.order in
+        IfOk result (λ t. AreUses b o (entries_at b o t.at) (t.at + 2) t.uses) }
     ensures memory { LacksBlock result memory.old memory.new }
 {
-    let count = open_table(memory, block, order, held, earlier, link)?;
-    let entries = read_entries(memory, block, order, dir, held, link.at + 2, count)?;
+    let count = open_table(memory, source, held, earlier, link)?;
+    let entries = read_entries(memory, source, held, link.at + 2, count)?;
     let Entries { fields, uses } = entries;
     Ok(Directory {
         fields,

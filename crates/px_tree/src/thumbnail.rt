@@ -78,23 +78,32 @@ fn judge_end(block: &[u8], order: Order, at: u32, count: u16) -> Result<(), Refu
     }
 }
 
+// Where bytes begin, and how many there are.
+#[derive(Clone, Copy)]
+struct Extent {
+    start: u32,
+    len: u32,
+}
+
 // Holds a part of the block that is named at a place.
 fn hold_part<'a>(
     memory: &mut Memory,
     block: &'a [u8],
     held: &mut Ranges,
     place: u32,
-    start: u32,
-    len: u32,
+    extent: Extent,
 ) -> Result<&'a [u8], Refusal>
     requires { length block.now ≤ limit }
-    ensures judged { (taken : List Range) → Agrees taken held.old →
+    ensures judged { let start = extent.start in let len = extent.len in
+        (taken : List Range) → Agrees taken held.old →
         Judges result (check ThumbnailOutside place (nat_le (start + len) (length block.now))
         ∷ check Overlap place (is_free taken (range start len)) ∷ [])
         (λ _. Agrees (range start len ∷ taken) held.new) }
-    ensures part { IfOk result (λ s. s.now ≡ bytes_of block.now (range start len)) }
+    ensures part { IfOk result
+        (λ s. s.now ≡ bytes_of block.now (range extent.start extent.len)) }
     ensures memory { LacksBlock result memory.old memory.new }
 {
+    let Extent { start, len } = extent;
     if u64::from(start) + u64::from(len) > block.len() as u64 {
         return Err(Cause::ThumbnailOutside.at(place));
     }
@@ -120,14 +129,11 @@ fn hold_jpeg<'a>(
 {
     match (parts.jpeg_offset, parts.jpeg_length) {
         (Some(offset), Some(size)) => {
-            let jpeg = hold_part(
-                memory,
-                block,
-                held,
-                offset.place,
-                offset.head.offset,
-                size.head.offset,
-            )?;
+            let extent = Extent {
+                start: offset.head.offset,
+                len: size.head.offset,
+            };
+            let jpeg = hold_part(memory, block, held, offset.place, extent)?;
             Ok(Some(jpeg))
         }
         _ => Ok(None),
@@ -179,34 +185,38 @@ fn number_in(list: &Value, i: u32) -> u32
     number_of(list.element(i))
 }
 
+// Where strips start and how long they are, and the place that names them.
+#[derive(Drop)]
+struct StripLists<'a> {
+    place: u32,
+    starts: Value<'a>,
+    sizes: Value<'a>,
+}
+
 // The strips of those starts and sizes, held.
 fn hold_each<'a>(
     memory: &mut Memory,
     block: &'a [u8],
     held: &mut Ranges,
-    place: u32,
-    starts: &Value,
-    sizes: &Value,
+    lists: &StripLists,
 ) -> Result<Strips<'a>, Refusal>
     requires bounded { length block.now ≤ limit }
-    requires same { length starts.now.elements ≡ length sizes.now.elements }
-    ensures judged { let rs = ranges_of (map whole_number starts.now.elements)
-        (map whole_number sizes.now.elements) in
+    requires same { length lists.now.starts.elements ≡ length lists.now.sizes.elements }
+    ensures judged { let rs = ranges_of (map whole_number lists.now.starts.elements)
+        (map whole_number lists.now.sizes.elements) in
         (taken : List Range) → Agrees taken held.old →
-        Judges result (range_checks block.now place taken rs) (λ s. s ≡ map (bytes_of block.now) rs) }
+        Judges result (range_checks block.now lists.now.place taken rs)
+        (λ s. s ≡ map (bytes_of block.now) rs) }
     ensures memory { LacksBlock result memory.old memory.new }
 {
-    let count = starts.count();
+    let count = lists.starts.count();
     let mut strips = Strips::with_room(memory, count)?;
     for i in 0..count {
-        let strip = hold_part(
-            memory,
-            block,
-            held,
-            place,
-            number_in(starts, i),
-            number_in(sizes, i),
-        )?;
+        let extent = Extent {
+            start: number_in(&lists.starts, i),
+            len: number_in(&lists.sizes, i),
+        };
+        let strip = hold_part(memory, block, held, lists.place, extent)?;
         strips.push_in(memory, strip)?;
     }
     Ok(strips)
@@ -231,9 +241,12 @@ fn hold_strips<'a>(
 {
     match (parts.strip_offsets, parts.strip_lengths) {
         (Some(offsets), Some(lengths)) => {
-            let starts = numbers_at(block, order, offsets);
-            let sizes = numbers_at(block, order, lengths);
-            let strips = hold_each(memory, block, held, offsets.place, &starts, &sizes)?;
+            let lists = StripLists {
+                place: offsets.place,
+                starts: numbers_at(block, order, offsets),
+                sizes: numbers_at(block, order, lengths),
+            };
+            let strips = hold_each(memory, block, held, &lists)?;
             Ok(Some(strips))
         }
         _ => Ok(None),

@@ -16,6 +16,7 @@ ghost use Rattle.px_tree.specs.calls.ReadTree.{SeenTree};
 use crate::links::{Link, next_link};
 use crate::parts::number32;
 use crate::roles::Dir;
+use crate::source::Source;
 use crate::tables::{Directory, read_directory};
 use crate::uses::link_of;
 use px_bytes::{Memory, Order, Ranges, Refusal};
@@ -33,27 +34,27 @@ pub struct Directories<'a> {
 // The directory that a link names, if any does.
 fn read_linked<'a>(
     memory: &mut Memory,
-    block: &'a [u8],
-    order: Order,
-    dir: Dir,
+    source: &Source<'a>,
     held: &mut Ranges,
     earlier: &[Option<Link>],
     link: Option<Link>,
 ) -> Result<Option<Directory<'a>>, Refusal>
-    requires bounded { length block.now ≤ limit }
-    requires named { Names block.now order dir link }
-    ensures judged { (taken : List Range) → Agrees taken held.old →
-        Judges result (checks_at block.now order (offsets_of earlier.now) taken dir
-        (dir_at block.now order dir)) (λ t. (option_map
-        (λ t. t.fields) t ≡ fields_at block.now order dir)
-        × Agrees (ranges_at block.now order dir ++ taken) held.new) }
-    ensures there { IfOk result (λ t. IsRead block.now order dir t) }
+    requires bounded { length source.now.block.now ≤ limit }
+    requires named { Names source.now.block.now source.now.order source.now.dir link }
+    ensures judged { let b = source.now.block.now in let o = source.now.order in
+        let d = source.now.dir in
+        (taken : List Range) → Agrees taken held.old →
+        Judges result (checks_at b o (offsets_of earlier.now) taken d (dir_at b o d))
+        (λ t. (option_map (λ t. t.fields) t ≡ fields_at b o d)
+        × Agrees (ranges_at b o d ++ taken) held.new) }
+    ensures there { IfOk result
+        (λ t. IsRead source.now.block.now source.now.order source.now.dir t) }
     ensures memory { LacksBlock result memory.old memory.new }
 {
     match link {
         None => Ok(None),
         Some(link) => {
-            let directory = read_directory(memory, block, order, dir, held, earlier, link)?;
+            let directory = read_directory(memory, source, held, earlier, link)?;
             Ok(Some(directory))
         }
     }
@@ -121,27 +122,28 @@ pub fn read_dirs<'a>(
     ensures memory { LacksBlock result memory.old memory.new }
 {
     let main_link = link_to_main(block, order);
-    let main = read_directory(memory, block, order, Dir::Main, held, &[], main_link)?;
-    let exif_link = link_to_exif(&main);
-    let read = [Some(main_link)];
-    let exif = read_linked(memory, block, order, Dir::Exif, held, &read, exif_link)?;
-    let interop_link = link_to_interop(&exif);
-    let read = [exif_link, Some(main_link)];
-    let interop = read_linked(
-        memory,
+    let mut source = Source {
         block,
         order,
-        Dir::Interop,
-        held,
-        &read,
-        interop_link,
-    )?;
+        dir: Dir::Main,
+    };
+    let main = read_directory(memory, &source, held, &[], main_link)?;
+    let exif_link = link_to_exif(&main);
+    let read = [Some(main_link)];
+    source.dir = Dir::Exif;
+    let exif = read_linked(memory, &source, held, &read, exif_link)?;
+    let interop_link = link_to_interop(&exif);
+    let read = [exif_link, Some(main_link)];
+    source.dir = Dir::Interop;
+    let interop = read_linked(memory, &source, held, &read, interop_link)?;
     let gps_link = link_to_gps(&main);
     let read = [interop_link, exif_link, Some(main_link)];
-    let gps = read_linked(memory, block, order, Dir::Gps, held, &read, gps_link)?;
+    source.dir = Dir::Gps;
+    let gps = read_linked(memory, &source, held, &read, gps_link)?;
     let thumb_link = link_behind(block, order, &main);
     let read = [gps_link, interop_link, exif_link, Some(main_link)];
-    let thumb = read_linked(memory, block, order, Dir::Thumb, held, &read, thumb_link)?;
+    source.dir = Dir::Thumb;
+    let thumb = read_linked(memory, &source, held, &read, thumb_link)?;
     Ok(Directories {
         main,
         exif,

@@ -9,6 +9,7 @@ use Rattle.px_bytes.specs.lemmas.CheckLaws.{Refuses-more, Refuses-behind, all_tr
 use Rattle.px_field.specs.declared.Form.{Form}
 use Rattle.px_field.specs.Forms.{form_of, size}
 use Rattle.px_tree.specs.declared.entries.Head.{Head}
+use Rattle.px_tree.specs.declared.entries.Shape.{Shape}
 use Rattle.px_tree.specs.declared.roles.Dir.{Dir}
 use Rattle.px_tree.specs.declared.roles.Role.{Role}
 use Rattle.px_tree.specs.declared.roles.Role.TheVariants.{Plain, Widened, Forbidden, Record, JpegOffset, JpegLength, StripOffsets}
@@ -74,23 +75,30 @@ module _ (b : List ℕ) (o : Order) (d : Dir) (taken : List Range) (p : ℕ) (u 
   shape_true : first_false (shape_checks d p u (bare h)) ≡ None → first_false (shape_checks d p u e) ≡ None
   shape_true k = subst (λ (cs : List Check). first_false cs ≡ None) (shape_same o d p u h e s) k
 
-  module _ (f : Form) (n : ℕ) (known : form_of h.code ≡ Some f) (n_is : n ≡ h.count * size f)
+  module _ (t : Shape) (same : t.head ≡ h) (known : form_of h.code ≡ Some t.form)
       (good : first_false (shape_checks d p u (bare h)) ≡ None) where
-    len_is : n ≡ raw_size e
-    len_is = n_is ∙ ap (λ (x : ℕ). x * size f) s.count ∙ sym (raw_size-is e f (ap form_of (sym s.code) ∙ known))
+    abbrev len : ℕ
+    len = t.head.count * size t.form
 
-    value_same : span_checks b taken p h.offset n ≡ span_checks b taken p (offset o e) (raw_size e)
-    value_same = ap₂ (λ (x y : ℕ). span_checks b taken p x y) s.offset_is len_is
+    len_is : len ≡ raw_size e
+    len_is = ap (λ (x : Head). x.count * size t.form) same ∙ ap (λ (x : ℕ). x * size t.form) s.count
+        ∙ sym (raw_size-is e t.form (ap form_of (sym s.code) ∙ known))
 
-    pub value_refuses : (r : Refusal) → Refuses r (span_checks b taken p h.offset n) → Refuses r (entry_checks b o d taken p u e)
+    start_is : t.head.offset ≡ offset o e
+    start_is = ap (λ (x : Head). x.offset) same ∙ s.offset_is
+
+    value_same : span_checks b taken p t.head.offset len ≡ span_checks b taken p (offset o e) (raw_size e)
+    value_same = ap₂ (λ (x y : ℕ). span_checks b taken p x y) start_is len_is
+
+    pub value_refuses : (r : Refusal) → Refuses r (span_checks b taken p t.head.offset len) → Refuses r (entry_checks b o d taken p u e)
     value_refuses r k = subst (Refuses r) (sym (entry_checks-parts b o d taken p u e))
         (Refuses-behind r (shape_checks d p u e) (span_checks b taken p (offset o e) (raw_size e)) (shape_true good)
         (subst (Refuses r) value_same k))
 
-    pub entry_true : first_false (span_checks b taken p h.offset n) ≡ None → first_false (entry_checks b o d taken p u e) ≡ None
+    pub entry_true : first_false (span_checks b taken p t.head.offset len) ≡ None → first_false (entry_checks b o d taken p u e) ≡ None
     entry_true k = ap first_false (entry_checks-parts b o d taken p u e)
         ∙ all_true (shape_checks d p u e) (span_checks b taken p (offset o e) (raw_size e)) (shape_true good)
         (subst (λ (cs : List Check). first_false cs ≡ None) value_same k)
 
-    pub range_same : span h.offset n ≡ placed_range o e
-    range_same = ap₂ (λ (x y : ℕ). span x y) s.offset_is len_is ∙ sym (placed_range-is o e)
+    pub range_same : span t.head.offset len ≡ placed_range o e
+    range_same = ap₂ (λ (x y : ℕ). span x y) start_is len_is ∙ sym (placed_range-is o e)

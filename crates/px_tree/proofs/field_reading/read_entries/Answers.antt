@@ -16,9 +16,9 @@ use Rattle.px_tree.proofs.field_reading.read_entries.Goals as goal
 
 pub loop-init : goal.loop-init
 loop-init c =
-    let b = c.args.block.now in
-    let o = c.args.order in
-    let d = c.args.dir in
+    let b = c.args.source.now.block.now in
+    let o = c.args.source.now.order in
+    let d = c.args.source.now.dir in
     let n : c.args.count - 0 ≡ c.args.count = omega arith in
     let es = λ (k : ℕ). entries_from b o c.args.start k in
     record {
@@ -39,7 +39,7 @@ returns-in_err-shape-clause-judged c = λ taken a.
     let p = err_from_is_err_and c.from_residual-in_err-shape.result c.from_residual-in_err-shape.ensures.1 in
     let step : c.args.count - c.loop.counter ≡ suc (c.args.count - (c.loop.counter + 1)) = omega arith in
     let s = c.loop.invariant.judged taken a in
-    rw (p.1, p.2) (so_far_refuses c.args.block.now c.args.order c.args.dir taken _ _ _ _ _ _ _ step s _
+    rw (p.1, p.2) (so_far_refuses c.args.source.now.block.now c.args.source.now.order c.args.source.now.dir taken _ _ _ _ _ _ _ step s _
     (c.in_err-shape.ensures.judged s.now s.agrees))
 
 pub keep_field-requires-clause-held : goal.keep_field-requires-clause-held
@@ -60,9 +60,9 @@ keep_field-requires-clause-below c = c.loop.invariant.precede c.in_ok-shape.shap
 pub loop-preserved : goal.loop-preserved
 loop-preserved c =
     let step : c.args.count - c.loop.counter ≡ suc (c.args.count - (c.loop.counter + 1)) = omega arith in
-    let b = c.args.block.now in
-    let o = c.args.order in
-    let d = c.args.dir in
+    let b = c.args.source.now.block.now in
+    let o = c.args.source.now.order in
+    let d = c.args.source.now.dir in
     let s = c.in_ok-shape.shape in
     let shape = c.in_ok-shape.ensures.shape in
     let rest = filter_map (field b o d) (entries_from b o (c.loop.at + 12) (c.args.count - (c.loop.counter + 1))) in
@@ -92,9 +92,9 @@ loop-preserved c =
 pub returns-clause-judged : goal.returns-clause-judged
 returns-clause-judged c = λ taken a.
     let none : c.args.count - c.loop.counter ≡ 0 = omega arith in
-    let b = c.args.block.now in
-    let o = c.args.order in
-    let d = c.args.dir in
+    let b = c.args.source.now.block.now in
+    let o = c.args.source.now.order in
+    let d = c.args.source.now.dir in
     let end = so_far_end b o d taken _ _ _ _ _ _ none (c.loop.invariant.judged taken a) in (
       end.0,
       (
@@ -107,4 +107,4 @@ returns-clause-judged c = λ taken a.
 pub returns-clause-uses : goal.returns-clause-uses
 returns-clause-uses c =
     let none : c.args.count - c.loop.counter ≡ 0 = omega arith in
-    uses_end c.args.block.now c.args.order c.args.start c.args.count c.loop.uses _ _ _ none c.loop.invariant.uses
+    uses_end c.args.source.now.block.now c.args.source.now.order c.args.start c.args.count c.loop.uses _ _ _ none c.loop.invariant.uses

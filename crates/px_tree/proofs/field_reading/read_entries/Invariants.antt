@@ -12,10 +12,13 @@ invariant-loop l = record {
   place : l.at ≡ l.start + 12 * l.counter;
   rising : Rising (tags l.fields);
   precede : Precede l.before l.fields;
-  fields : l.fields ++ filter_map (field l.block l.order l.dir) (entries_from l.block l.order l.at (l.count - l.counter)) ≡ filter_map
-      (field l.block l.order l.dir) (entries_from l.block l.order l.start l.count);
+  fields : l.fields ++ filter_map (field l.source.block.now l.source.order l.source.dir)
+      (entries_from l.source.block.now l.source.order l.at (l.count - l.counter))
+      ≡ filter_map (field l.source.block.now l.source.order l.source.dir)
+      (entries_from l.source.block.now l.source.order l.start l.count);
   judged : (taken : List Range) → Agrees taken l.initial.held
-      → SoFar l.block l.order l.dir taken (entries_from l.block l.order l.start l.count) l.start l.held l.at l.before (l.count - l.counter);
-  uses : UsesSoFar l.block l.order l.start l.count l.uses l.at l.before (l.count - l.counter);
+      → SoFar l.source.block.now l.source.order l.source.dir taken
+      (entries_from l.source.block.now l.source.order l.start l.count) l.start l.held l.at l.before (l.count - l.counter);
+  uses : UsesSoFar l.source.block.now l.source.order l.start l.count l.uses l.at l.before (l.count - l.counter);
   memory : l.memory ≡ l.initial.memory;
 }

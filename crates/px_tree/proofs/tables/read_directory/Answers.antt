@@ -14,45 +14,48 @@ use Rattle.px_tree.proofs.tables.read_directory.Goals as goal
 pub returns-in_err-count-clause-judged : goal.returns-in_err-count-clause-judged
 returns-in_err-count-clause-judged c = λ taken a.
     let p = err_from_is_err_and c.from_residual.result c.from_residual.ensures.1 in
-    let b = c.args.block.now in
-    let o = c.args.order in
+    let b = c.args.source.now.block.now in
+    let o = c.args.source.now.order in
+    let d = c.args.source.now.dir in
     let es = offsets_of c.args.earlier.now in
     let l = c.args.link in
     let r = c.in_err-count.field-0.0 in
-    rw (p.1, p.2) (subst (Refuses r) (sym (dir_checks-parts b o c.args.dir es taken l.place l.at))
+    rw (p.1, p.2) (subst (Refuses r) (sym (dir_checks-parts b o d es taken l.place l.at))
     (Refuses-more r (opening_checks b o es taken l.place l.at) _ (c.in_err-count.ensures.judged taken a)))
 
 pub returns-in_err-entries-clause-judged : goal.returns-in_err-entries-clause-judged
 returns-in_err-entries-clause-judged c = λ taken a.
     let p = err_from_is_err_and c.from_residual-in_err-entries.result c.from_residual-in_err-entries.ensures.1 in
-    let b = c.args.block.now in
-    let o = c.args.order in
+    let b = c.args.source.now.block.now in
+    let o = c.args.source.now.order in
+    let d = c.args.source.now.dir in
     let es = offsets_of c.args.earlier.now in
     let l = c.args.link in
     let n = c.in_ok-count.count in
     let t = c.in_ok-count.ensures.there in
     let k = c.in_ok-count.ensures.judged taken a in
     let r = c.in_err-entries.field-0.0 in
-    rw (p.1, p.2) (subst (Refuses r) (sym (dir_checks-parts b o c.args.dir es taken l.place l.at))
+    rw (p.1, p.2) (subst (Refuses r) (sym (dir_checks-parts b o d es taken l.place l.at))
     (Refuses-behind r (opening_checks b o es taken l.place l.at) _ k.0
-    (subst (Refuses r) (sym (entries_checks-is b o l.at n t c.args.dir taken))
+    (subst (Refuses r) (sym (entries_checks-is b o l.at n t d taken))
     (c.in_err-entries.ensures.judged (range l.at (table_size n) ∷ taken) k.1))))
 
 pub returns-clause-judged : goal.returns-clause-judged
 returns-clause-judged c = λ taken a.
-    let b = c.args.block.now in
-    let o = c.args.order in
+    let b = c.args.source.now.block.now in
+    let o = c.args.source.now.order in
+    let d = c.args.source.now.dir in
     let es = offsets_of c.args.earlier.now in
     let l = c.args.link in
     let n = c.in_ok-count.count in
     let t = c.in_ok-count.ensures.there in
     let k = c.in_ok-count.ensures.judged taken a in
     let j = c.in_ok-entries.ensures.judged (range l.at (table_size n) ∷ taken) k.1 in (
-      ap first_false (dir_checks-parts b o c.args.dir es taken l.place l.at)
-          ∙ all_true (opening_checks b o es taken l.place l.at) (entries_checks b o c.args.dir (table_range b o l.at ∷ taken) (l.at + 2)
-          None (entries_at b o l.at)) k.0 (ap first_false (entries_checks-is b o l.at n t c.args.dir taken) ∙ j.0),
+      ap first_false (dir_checks-parts b o d es taken l.place l.at)
+          ∙ all_true (opening_checks b o es taken l.place l.at) (entries_checks b o d (table_range b o l.at ∷ taken) (l.at + 2)
+          None (entries_at b o l.at)) k.0 (ap first_false (entries_checks-is b o l.at n t d taken) ∙ j.0),
       (
-        j.1.0 ∙ sym (fields-is b o l.at n t c.args.dir),
+        j.1.0 ∙ sym (fields-is b o l.at n t d),
         ranges-is b o l.at n t taken _ j.1.1,
       ),
     )
@@ -60,4 +63,5 @@ returns-clause-judged c = λ taken a.
 pub returns-clause-uses : goal.returns-clause-uses
 returns-clause-uses c =
     let l = c.args.link in
-    uses-is c.args.block.now c.args.order l.at c.in_ok-count.count c.in_ok-count.ensures.there _ c.in_ok-entries.ensures.uses
+    uses-is c.args.source.now.block.now c.args.source.now.order l.at c.in_ok-count.count c.in_ok-count.ensures.there _
+    c.in_ok-entries.ensures.uses

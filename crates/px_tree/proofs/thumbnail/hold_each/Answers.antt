@@ -8,20 +8,20 @@ use Rattle.px_tree.proofs.thumbnail.hold_each.Goals as goal
 pub returns-in_err-strip-clause-judged : goal.returns-in_err-strip-clause-judged
 returns-in_err-strip-clause-judged c = λ taken a.
     let p = err_from_is_err_and c.from_residual-in_err-strip.result c.from_residual-in_err-strip.ensures.1 in
-    let xs = map whole_number c.args.starts.now.elements in
-    let ns = map whole_number c.args.sizes.now.elements in
+    let xs = map whole_number c.args.lists.now.starts.elements in
+    let ns = map whole_number c.args.lists.now.sizes.elements in
     let is = ranges-next xs ns c.loop-i.i c.number_in.result c.number_in-in-loop-i.result c.number_in.ensures c.number_in-in-loop-i.ensures
     in
     let s = c.loop-i.invariant.judged taken a in
-    rw (p.1, p.2) (ranges_refuse c.args.block.now c.args.place taken (ranges_of xs ns) _ _
+    rw (p.1, p.2) (ranges_refuse c.args.block.now c.args.lists.now.place taken (ranges_of xs ns) _ _
     (range c.number_in.result c.number_in-in-loop-i.result) _ is s c.in_err-strip.field-0.0
     (c.in_err-strip.ensures.judged s.now s.agrees))
 
 pub loop-i-preserved : goal.loop-i-preserved
 loop-i-preserved c =
     let b = c.args.block.now in
-    let xs = map whole_number c.args.starts.now.elements in
-    let ns = map whole_number c.args.sizes.now.elements in
+    let xs = map whole_number c.args.lists.now.starts.elements in
+    let ns = map whole_number c.args.lists.now.sizes.elements in
     let is = ranges-next xs ns c.loop-i.i c.number_in.result c.number_in-in-loop-i.result c.number_in.ensures c.number_in-in-loop-i.ensures
     in
     record {
@@ -32,6 +32,6 @@ loop-i-preserved c =
       judged = λ taken a.
           let s = c.loop-i.invariant.judged taken a in
           let k = c.in_ok-strip.ensures.judged s.now s.agrees in
-          ranges_step b c.args.place taken (ranges_of xs ns) _ _ _ _ is s _ k.0 k.1;
+          ranges_step b c.args.lists.now.place taken (ranges_of xs ns) _ _ _ _ is s _ k.0 k.1;
       memory = c.in_ok-push_in.ensures.memory ∙ c.in_ok-strip.ensures.memory ∙ c.loop-i.invariant.memory;
     }

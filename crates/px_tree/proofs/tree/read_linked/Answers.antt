@@ -10,9 +10,9 @@ use Rattle.px_tree.proofs.tree.read_linked.Goals as goal
 pub returns-in_err-directory-in-Some-clause-judged : goal.returns-in_err-directory-in-Some-clause-judged
 returns-in_err-directory-in-Some-clause-judged c = λ taken a.
     let p = err_from_is_err_and c.from_residual.result c.from_residual.ensures.1 in
-    let b = c.args.block.now in
-    let o = c.args.order in
-    let d = c.args.dir in
+    let b = c.args.source.now.block.now in
+    let o = c.args.source.now.order in
+    let d = c.args.source.now.dir in
     let n = subst (Names b o d) c.in-Some.is c.requires.named in
     let r = c.in_err-directory-in-Some.field-0.0 in
     rw (p.1, p.2) (subst (Refuses r) (sym (some_checks b o d c.in-Some.link n (offsets_of c.args.earlier.now) taken))
@@ -20,9 +20,9 @@ returns-in_err-directory-in-Some-clause-judged c = λ taken a.
 
 pub returns-in_ok-directory-in-Some-clause-judged : goal.returns-in_ok-directory-in-Some-clause-judged
 returns-in_ok-directory-in-Some-clause-judged c = λ taken a.
-    let b = c.args.block.now in
-    let o = c.args.order in
-    let d = c.args.dir in
+    let b = c.args.source.now.block.now in
+    let o = c.args.source.now.order in
+    let d = c.args.source.now.dir in
     let n = subst (Names b o d) c.in-Some.is c.requires.named in
     let j = c.in_ok-directory-in-Some.ensures.judged taken a in (
       ap first_false (some_checks b o d c.in-Some.link n (offsets_of c.args.earlier.now) taken) ∙ j.0,
