@@ -59,6 +59,8 @@ fn read_tree<'a>(memory: &mut Memory, block: &'a [u8], order: Order) -> Result<M
         thumb,
     } = directories;
     let thumb = read_thumb(memory, block, order, &mut held, thumb)?;
+    // The record's list is the longest there can be: the marks of a long block needn't stand beside it.
+    drop(held);
     let iptc = read_record(memory, block, order, &main)?;
     let Directory { fields, .. } = main;
     Ok(Meaning {
