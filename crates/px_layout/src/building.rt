@@ -17,12 +17,12 @@ ghost use Rattle.px_layout.specs.Plans.{Legal, place};
 
 use crate::chunks::Chunk;
 use crate::entries::{Entries, entries_in};
-use crate::items::{Entry, INSIDE, Item};
+use crate::items::{Entry, Item};
 use crate::layout::Layout;
 use crate::put_item::{place_of, put_item};
 use crate::put_table::{put_header, put_table};
 use px_bytes::{Failed, Growing, Memory, Pending, Refused, Sink};
-use px_tree::{Dir, Strips, Thumb};
+use px_tree::{Dir, Strips, Thumb, needs_place};
 
 // Puts bytes at a place.
 fn put_at(block: &mut [u8], at: u32, bytes: &[u8])
@@ -161,7 +161,7 @@ fn lay_value(
     ensures bytes { OnOk result (PutsOver block.old block.new (value_pieces layout.now dir (entry_of entry.now ∷ []))) }
 {
     let Entry { tag, item } = *entry;
-    if item.size() <= INSIDE {
+    if !needs_place(item.size()) {
         return Ok(());
     }
     let bytes = bytes_of(memory, layout, Piece::Value(item))?;

@@ -8,10 +8,6 @@ use crate::records::Record;
 use px_field::{Form, Kind, Value};
 use px_tree::{Dir, Strips};
 
-/// A value of at most so many bytes stands in its entry; a longer one has a place of its own. TIFF 6.0 section 2,
-/// "Value/Offset".
-pub(crate) const INSIDE: u64 = 4;
-
 /// What an entry says: a field, the record, a pointer, the JPEG's offset or its length, or the
 /// offsets or the lengths of the strips.
 #[derive(Clone, Copy)]

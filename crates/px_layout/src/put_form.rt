@@ -17,12 +17,12 @@ ghost use Rattle.px_layout.specs.Writing.{placed_bytes};
 
 use crate::entries::{Entries, entries_in};
 use crate::form::NormalForm;
-use crate::items::{Entry, INSIDE};
+use crate::items::Entry;
 use crate::put::put_padding;
 use crate::put_running::{put_running_header, put_running_table, put_told_item};
 use crate::put_thumb::put_thumb;
 use px_bytes::{Failed, Order, Pending, Sink};
-use px_tree::Dir;
+use px_tree::{Dir, needs_place};
 
 // The value of an entry, padded.
 fn put_padded_item<W: Sink>(
@@ -63,7 +63,7 @@ fn put_placed<W: Sink>(
         (placed_bytes (plan_in form.now) (entry_of entry.now)) }
     ensures count { Counts result (W.failed writer.old) (W.failed writer.new) }
 {
-    if entry.item.size() > INSIDE {
+    if needs_place(entry.item.size()) {
         return put_padded_item(pending, writer, form, dir, entry);
     }
     Ok(())

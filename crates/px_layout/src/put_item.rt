@@ -11,13 +11,13 @@ ghost use Rattle.px_layout.specs.calls.Planned.{plan_of};
 ghost use Rattle.px_layout.specs.Plans.{place};
 
 use crate::chunks::Chunk;
-use crate::items::{Entry, INSIDE, Item};
+use crate::items::{Entry, Item};
 use crate::layout::Layout;
 use crate::plan::Plan;
 use crate::put::{entry_head, put_filler, put_long, put_value};
 use px_bytes::{Failed, Order, Pending, Sink};
 use px_iim::put_iim;
-use px_tree::{Dir, Strips};
+use px_tree::{Dir, Strips, needs_place};
 
 // Where a chunk stands.
 pub(crate) fn place_of(plan: &Plan, chunk: Chunk) -> u32
@@ -120,7 +120,7 @@ fn put_last<W: Sink>(
 {
     let Entry { tag, item } = *entry;
     let size = item.size();
-    if size > INSIDE {
+    if needs_place(size) {
         return put_place(pending, writer, layout, Chunk::Placed(dir, tag));
     }
     put_item(pending, writer, layout, item)?;

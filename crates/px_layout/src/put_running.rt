@@ -16,13 +16,13 @@ ghost use Rattle.px_layout.specs.calls.Forms.{said_in, plan_in, IsForm};
 use crate::chunks::Chunk;
 use crate::entries::{Entries, is_there};
 use crate::form::NormalForm;
-use crate::items::{Entry, INSIDE, Item};
+use crate::items::{Entry, Item};
 use crate::put::{entry_head, put_filler, put_long, put_short, put_value};
 use crate::put_item::put_strip_lengths;
 use crate::sizing::table_len;
 use px_bytes::{Failed, Order, Pending, Sink};
 use px_iim::put_iim;
-use px_tree::{Dir, Strips};
+use px_tree::{Dir, Strips, needs_place};
 
 // Where a directory begins.
 fn start_of(form: &NormalForm, dir: Dir) -> u32
@@ -165,7 +165,7 @@ fn put_given_last<W: Sink>(
     ensures count { Counts result (W.failed writer.old) (W.failed writer.new) }
 {
     let size = item.size();
-    if size > INSIDE {
+    if needs_place(size) {
         return put_long(pending, writer, Order::Most, at);
     }
     put_told_item(pending, writer, form, item)?;
@@ -199,7 +199,7 @@ fn next_at(at: u32, entry: &Entry) -> u32
     ensures { result ≡ at + value_size (item_of entry.now.item) }
 {
     let size = entry.item.size();
-    if size <= INSIDE {
+    if !needs_place(size) {
         return at;
     }
     at + (size + size % 2) as u32

@@ -1,8 +1,7 @@
 // The header and the tables of directories. TIFF 6.0 section 2, "Image File Header" and "Image File Directory".
-ghost use Rattle.std.specs.Prelude.{◌≡◌, ◌<◌, ◌^◌, length, flat_map};
+ghost use Rattle.std.specs.Prelude.{◌<◌, ◌^◌, length, flat_map};
 ghost use Rattle.px_bytes.specs.Devices.{CanFail, Counts};
 ghost use Rattle.px_bytes.specs.Waiting.{PutsTo};
-ghost use Rattle.px_tree.specs.Directory.{magic};
 ghost use Rattle.px_layout.specs.calls.Layouts.{header_in, entry_in, next_in, table_in};
 
 use crate::chunks::Chunk;
@@ -10,18 +9,8 @@ use crate::entries::Entries;
 use crate::layout::Layout;
 use crate::put::{put_filler, put_long, put_short};
 use crate::put_item::{put_entry, put_place};
-use px_bytes::{Failed, Order, Pending, Sink};
-use px_tree::Dir;
-
-// "II" or "MM", and 42 in that order.
-fn magic_of(order: Order) -> [u8; 4]
-    ensures { result ≡ magic order }
-{
-    match order {
-        Order::Least => [0x49, 0x49, 0x2A, 0],
-        Order::Most => [0x4D, 0x4D, 0, 0x2A],
-    }
-}
+use px_bytes::{Failed, Pending, Sink};
+use px_tree::{Dir, magic_of};
 
 pub(crate) fn put_header<W: Sink>(
     pending: &mut Pending,

@@ -11,9 +11,9 @@ ghost use Rattle.px_layout.specs.Chunks.{placed_chunk, chunks_of_dir, jpeg_chunk
 
 use crate::chunks::Chunk;
 use crate::entries::{Entries, entries_in};
-use crate::items::{Entry, INSIDE};
+use crate::items::Entry;
 use px_bytes::{Memory, Refused};
-use px_tree::{Dir, Meaning, Strips, Thumb};
+use px_tree::{Dir, Meaning, Strips, Thumb, needs_place};
 
 // Appends the chunk of an entry's value, where the value has a place of its own.
 #[tactic(auto, unfolding(crate::specs::Chunks::placed_chunk))]
@@ -29,7 +29,7 @@ fn push_value(
 {
     let Entry { tag, item } = *entry;
     let size = item.size();
-    if size <= INSIDE {
+    if !needs_place(size) {
         return Ok(());
     }
     memory.push(out, (Chunk::Placed(dir, tag), size))?;
@@ -53,12 +53,12 @@ fn push_values(
     Ok(())
 }
 
-// The bytes of a table of so many entries.
+// The bytes of a table of so many entries, fewer than 65,536.
 pub(crate) fn table_len(entries: usize) -> u64
     requires { entries < 2 ^ 16 }
     ensures { result ≡ table_size entries }
 {
-    2 + 12 * entries as u64 + 4
+    u64::from(px_tree::table_len(entries as u16))
 }
 
 fn push_dir(
