@@ -20,8 +20,6 @@
 //! ```
 #![tactic(auto)]
 
-#[cfg(test)]
-mod caption_tests;
 mod faults;
 #[cfg(test)]
 mod flush_tests;
