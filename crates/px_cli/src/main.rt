@@ -17,8 +17,6 @@ ghost use Rattle.std.specs.Prelude.{◌≡◌, drop};
 mod files;
 mod grammar;
 mod job;
-#[cfg(test)]
-mod line_tests;
 mod lines;
 mod run;
 #[cfg(test)]
