@@ -1,7 +1,7 @@
 """Builds a small repository from nothing, as users build this one, with the toolchain itself: by the launcher, and by `rt lib`.
 
 ./test builds its program and its library over what `rt ci` has just proved, so the way from nothing is tested here: with a library of
-one function, a program over it, and the same for C. Beside it stands what ./test does, which has to make the same bytes.
+one function, a program over it, and the same for C. Beside it ./test does what it does, which has to make the same bytes.
 tests/launcher.py runs these.
 """
 
@@ -10,7 +10,6 @@ import shutil
 import subprocess
 import sys
 import tempfile
-import time
 from concurrent.futures import ThreadPoolExecutor
 from pathlib import Path
 
@@ -21,6 +20,7 @@ PROGRAM, ARCHIVE = "crates/px_cli/out/px_cli", "crates/px_c/out/libpx_c.a"
 FILES = {
     "HANDLES": "Handles allowed: none.\n",
     "crates.txt": "px_bytes:\npx_cli: px_bytes\npx_c staticlib: px_bytes\n",
+    "crates/px_c/include/exifnorm.h": "unsigned long exifnorm_echo(unsigned long x);\n",
     "crates/px_cli/status": "2\n",
     "crates/px_cli/src/main.rt": """// Prints the first of its words. Without any it ends with status 2.
 #![tactic(auto)]
@@ -80,7 +80,8 @@ class Project:
         for name, text in FILES.items():
             (top / name).parent.mkdir(parents=True, exist_ok=True)
             (top / name).write_text(text, encoding="utf-8")
-        for name in ("exifnorm", "Makefile"):
+        for name in ("exifnorm", "Makefile", "test", "tests/static_library.py"):
+            (top / name).parent.mkdir(exist_ok=True)
             shutil.copy(HERE.parent / name, top / name)
 
     def call(self, *words: str, folder: str = ".", **named: str) -> subprocess.CompletedProcess:
@@ -102,22 +103,12 @@ class FromNothing(Project):
 
 
 class Gate(Project):
-    """The repository that is proved as ./test does, and built over what was proved."""
+    """The repository that ./test proves and builds."""
 
     def build(self) -> "Gate":
-        (self.top / "out").mkdir()
-        (self.top / "out" / "proved-since").touch()
-        time.sleep(0.05)
-        self.proved = self.call("rt", "ci")
-        self.launched = self.call("./exifnorm", "a b", EXIFNORM_PROVED=str(self.top / PROGRAM))
-        self.before = self.is_archived()
-        self.library = self.call(sys.executable, str(HERE / "static_library.py"), str(self.top))
-        self.behind = self.is_archived()
+        self.ran = self.call("./test", TEST_PARTS="rt build")
+        self.is_archived = self.call("make", "-q", ARCHIVE).returncode == 0
         return self
-
-    def is_archived(self) -> bool:
-        """Whether make takes the archive as it is."""
-        return self.call("make", "-q", ARCHIVE).returncode == 0
 
 
 def due(is_so: bool, what: object) -> None:
@@ -132,40 +123,37 @@ def the_launcher_proves_builds_and_runs(user: FromNothing, gate: Gate) -> None:
     due("logic=proved" in (user.top / "out/build-px_bytes.log").read_text(encoding="utf-8"), "nothing tells of a proof")
 
 
-def the_gate_proves_and_makes_the_same_program(user: FromNothing, gate: Gate) -> None:
-    due(gate.proved.returncode == 0 and gate.proved.stdout.endswith("\n3 passed, 0 failed\n"), gate.proved)
-    due("\nrt: px_cli proved\n" in gate.proved.stdout, "the line that ./test looks for")
+def the_gate_proves_each_crate_once_and_builds(user: FromNothing, gate: Gate) -> None:
+    said = gate.ran.stdout + gate.ran.stderr
+    due(gate.ran.returncode == 0 and gate.ran.stdout.endswith(" seconds\n5 passed, 0 failed\n"), said)
+    due((said.count("fn px_bytes::echo: proved\n"), said.count("fn px_cli::main: proved\n")) == (1, 1), said)
+    due("taking the program" in said and "proving px_bytes" not in said and "rt lib" not in said, said)
+
+
+def the_program_that_the_gate_proved_is_the_launcher_s(user: FromNothing, gate: Gate) -> None:
     due(gate.bytes_of(PROGRAM) == user.bytes_of("out/exifnorm"), "another program")
-
-
-def what_the_gate_proved_is_taken_by_the_launcher(user: FromNothing, gate: Gate) -> None:
-    ran = gate.launched
-    due((ran.returncode, ran.stdout) == (0, "one: a b\n"), ran)
-    due("taking" in ran.stderr and "proving" not in ran.stderr, ran.stderr)
-    due(gate.bytes_of(PROGRAM) == gate.bytes_of("out/exifnorm"), "another program")
+    due(gate.bytes_of(PROGRAM) == gate.bytes_of("out/exifnorm"), "the launcher took another program")
+    due(gate.call("./exifnorm", "a b").stdout == "one: a b\n", "it does something else")
 
 
 def the_archive_over_what_was_proved_is_that_of_rt_lib(user: FromNothing, gate: Gate) -> None:
     due(user.library.returncode == 0, user.library)
-    said = gate.library.stdout + gate.library.stderr
-    due(gate.library.returncode == 0 and "fn px_c::exifnorm_echo: proved\n" in said, said)
-    due("fn px_bytes" not in said, "px_bytes was proved twice")
     due(gate.bytes_of(ARCHIVE) == user.bytes_of(ARCHIVE), "another archive")
-    due((gate.before, gate.behind) == (False, True), "make takes another archive, or builds this one again")
+    due(gate.is_archived, "make would build it again")
 
 
 def no_archive_is_built_over_what_was_changed_since(user: FromNothing, gate: Gate) -> None:
     (gate.top / ARCHIVE).unlink()
     (gate.top / "crates/px_bytes/src/lib.rt").touch()
-    ran = gate.call(sys.executable, str(HERE / "static_library.py"), str(gate.top))
+    ran = gate.call(sys.executable, "tests/static_library.py")
     due(ran.returncode == 0 and "left to `rt lib`" in ran.stdout and not (gate.top / ARCHIVE).exists(), ran)
 
 
 # The last changes what was built.
 TESTS = [
     the_launcher_proves_builds_and_runs,
-    the_gate_proves_and_makes_the_same_program,
-    what_the_gate_proved_is_taken_by_the_launcher,
+    the_gate_proves_each_crate_once_and_builds,
+    the_program_that_the_gate_proved_is_the_launcher_s,
     the_archive_over_what_was_proved_is_that_of_rt_lib,
     no_archive_is_built_over_what_was_changed_since,
 ]

@@ -1,13 +1,12 @@
 #!/usr/bin/env python3
 """Builds crates/px_c/out/libpx_c.a over the libraries that `rt ci` has just proved, so that none of them is proved again.
 
-  tests/static_library.py [TOP]
+  tests/static_library.py
 
-TOP is the repository's folder, and the one above this file's where none is given. `rt ci` proves px_c and builds no archive of it, and
-`rt lib` would prove the crates below px_c a second time, since `rt ci` leaves them without a stamp. So the toolchain's compiler is
-called here as `rt lib` calls it: it proves px_c, which is short, and compiles. Where something was changed since the mark that ./test
-made, or a library isn't of that run, nothing is done, and `make library` builds by `rt lib` as for every user. The status is 0 but
-where px_c isn't proved or not built.
+`rt ci` proves px_c and builds no archive of it, and `rt lib` would prove the crates below px_c a second time, since `rt ci` leaves
+them without a stamp. So the toolchain's compiler is called here as `rt lib` calls it: it proves px_c, which is short, and compiles.
+Where something was changed since the mark that ./test made, or a library isn't of that run, nothing is done, and `make library`
+builds by `rt lib` as for every user. The status is 0 but where px_c isn't proved or not built.
 """
 
 import os
@@ -106,8 +105,8 @@ def build(top: Path, used: list[str], crates: list[str]) -> int:
     return status
 
 
-def main(given: list[str]) -> int:
-    top = Path(given[0] if given else Path(__file__).parent.parent).resolve()
+def main() -> int:
+    top = Path(__file__).resolve().parent.parent
     uses = uses_of((top / "crates.txt").read_text(encoding="utf-8"))
     crates = below(CRATE, uses)
     if not is_proved(top, crates):
@@ -121,4 +120,4 @@ def main(given: list[str]) -> int:
 
 
 if __name__ == "__main__":
-    sys.exit(main(sys.argv[1:]))
+    sys.exit(main())
