@@ -5,11 +5,14 @@ The last line is 'N passed, M failed'."""
 
 import json
 import os
+import shutil
 import stat
 import subprocess
 import sys
 import tempfile
+import time
 import unittest
+from pathlib import Path
 
 sys.dont_write_bytecode = True
 
@@ -21,6 +24,7 @@ from meanings import ASCII, LIMIT, SHORT, Exif, Layout, Record, Value, laid
 from program import Outcome
 from reading import Fault, said
 from run import case_of, complaints_of
+from static_library import is_proved
 from watching import TIMES, Counts, complaints_of_cost, growth, limits_of, says_failed
 
 HERE = os.path.dirname(os.path.abspath(__file__))
@@ -297,16 +301,61 @@ class Running(unittest.TestCase):
 class Gate(unittest.TestCase):
     """./test over an rt that is none."""
 
-    def test_an_rt_that_runs_no_test_is_a_failure(self):
+    def ran(self, *lines):
+        """What ./test ends with where rt prints these lines, and whether the mark stands behind it that a run before it left."""
         with tempfile.TemporaryDirectory() as folder:
-            fake = os.path.join(folder, "rt")
-            with open(fake, "w", encoding="utf-8") as it:
-                it.write("#!/bin/sh\necho '0 passed, 0 failed'\n")
+            fake, own, mark = (os.path.join(folder, it) for it in ("rt", "test", "out/proved-since"))
+            shutil.copy(os.path.join(HERE, "..", "test"), own)
+            os.mkdir(os.path.dirname(mark))
+            with open(mark, "w", encoding="utf-8"), open(fake, "w", encoding="utf-8") as it:
+                it.write("#!/bin/sh\n" + "".join(f"echo '{line}'\n" for line in lines))
             os.chmod(fake, stat.S_IRWXU)
             environment = {**os.environ, "PATH": f"{folder}:{os.environ['PATH']}", "TEST_PARTS": "rt"}
-            ran = subprocess.run([os.path.join(HERE, "..", "test")], env=environment, capture_output=True, text=True)
-            self.assertEqual(ran.returncode, 1)
-            self.assertEqual(ran.stdout.splitlines()[-1], "0 passed, 1 failed")
+            ran = subprocess.run([own], env=environment, capture_output=True, text=True)
+            return ran.returncode, ran.stdout.splitlines()[-1], os.path.exists(mark)
+
+    def test_an_rt_that_runs_no_test_is_a_failure(self):
+        self.assertEqual(self.ran("0 passed, 0 failed"), (1, "0 passed, 1 failed", False))
+
+    def test_a_program_that_is_not_proved_is_not_taken(self):
+        self.assertEqual(self.ran("rt: px_cli NOT PROVED", "rt: px_cli: its tests are proved", "1 passed, 1 failed"), (1, "1 passed, 1 failed", False))
+
+    def test_a_program_that_is_proved_is_taken(self):
+        self.assertEqual(self.ran("rt: px_cli proved", "2 passed, 0 failed"), (0, "2 passed, 0 failed", True))
+
+
+class Archives(unittest.TestCase):
+    """What counts as just proved where the library's archive is built."""
+
+    def is_proved_after(self, change):
+        with tempfile.TemporaryDirectory() as folder:
+            top = Path(folder)
+            sources = ["crates.txt", "crates/px_bytes/src/lib.rt", "crates/px_c/src/lib.rt"]
+            for name in [*sources, "out/proved-since", "crates/px_bytes/out/rlib/px_bytes.rlib/checked"]:
+                if name not in sources:
+                    time.sleep(0.05)  # longer than a tick of the clock by which files get their times
+                (top / name).parent.mkdir(parents=True, exist_ok=True)
+                (top / name).touch()
+            time.sleep(0.05)
+            change(top)
+            return is_proved(top, ["px_bytes"])
+
+    def test_what_was_proved_since_the_mark(self):
+        self.assertTrue(self.is_proved_after(lambda top: None))
+
+    def test_a_source_that_was_changed_since(self):
+        for name in ("crates.txt", "crates/px_bytes/src/lib.rt", "crates/px_c/src/lib.rt"):
+            self.assertFalse(self.is_proved_after(lambda top: os.utime(top / name, (10**9, 10**9))), name)
+        self.assertFalse(self.is_proved_after(lambda top: (top / "crates/px_bytes/src/lib.rt").unlink()))
+
+    def test_no_mark(self):
+        self.assertFalse(self.is_proved_after(lambda top: (top / "out/proved-since").unlink()))
+
+    def test_a_library_of_another_run(self):
+        folder = "crates/px_bytes/out/rlib"
+        self.assertFalse(self.is_proved_after(lambda top: os.utime(top / folder / "px_bytes.rlib/checked", (10**9, 10**9))))
+        self.assertFalse(self.is_proved_after(lambda top: (top / folder / "px_bytes.rlib/checked").unlink()))
+        self.assertFalse(self.is_proved_after(lambda top: (top / folder / "stamp").touch()))
 
 
 def main():
