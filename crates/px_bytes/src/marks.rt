@@ -1,6 +1,6 @@
 // Sets of numbers as bits, which tell the greatest number below another.
-ghost use Rattle.std.specs.Prelude.{◌≡◌, ◌≢◌, ℕ, ◌+◌, ◌*◌, ◌/◌, ◌<◌, ◌≤◌, List, [], false, length, get_or, max, IfSome, IfNone, OnOk};
-ghost use Rattle.std.specs.Prelude.{OnErr};
+ghost use Rattle.std.specs.Prelude.{◌≡◌, ◌≢◌, ◌↔◌, ℕ, ◌+◌, ◌*◌, ◌/◌, ◌<◌, ◌≤◌, List, [], true, false, length, get_or, max, IfSome, IfNone};
+ghost use Rattle.std.specs.Prelude.{OnOk, OnErr};
 ghost use Rattle.std.specs.Int.{bit_at};
 ghost use Rattle.px_bytes.specs.Lacking.{Lacks, MayAsk};
 ghost use Rattle.px_bytes.specs.calls.Marks.{Has, Sums, IsLast, HasNone, IsLastWord, HasNoWord, SameMarks, MarkedAt};
@@ -160,15 +160,43 @@ fn mark(words: &mut Vec<u64>, n: usize)
     words[n / WIDTH] |= 1 << (n % WIDTH);
 }
 
-// The same in a row above, where most numbers stand already: reading a word again costs less than writing it.
-fn mark_once(words: &mut Vec<u64>, n: usize)
+// Marks it, and answers whether its word had no mark before.
+fn mark_new(words: &mut Vec<u64>, n: usize) -> bool
     requires { n / 64 < length words.old.items }
-    ensures { MarkedAt words.old.items words.new.items n }
+    ensures marked { MarkedAt words.old.items words.new.items n }
+    ensures new { result ≡ true ↔ (get_or words.old.items (n / 64) 0 ≡ 0) }
 {
-    if word_at(words, n / WIDTH) & (1 << (n % WIDTH)) != 0 {
+    let is_new = words[n / WIDTH] == 0;
+    mark(words, n);
+    is_new
+}
+
+// Marks it in the third row, and tells it in the fourth. A word that had a mark is told already: most
+// calls look at a single word.
+fn mark_two(third: &mut Vec<u64>, fourth: &mut Vec<u64>, n: usize)
+    requires room { n / 64 < length third.old.items }
+    requires sums { Sums third.old.items fourth.old.items }
+    ensures marked { MarkedAt third.old.items third.new.items n }
+    ensures sums { Sums third.new.items fourth.new.items }
+{
+    if !mark_new(third, n) {
         return;
     }
-    mark(words, n);
+    mark(fourth, n / WIDTH);
+}
+
+fn mark_three(second: &mut Vec<u64>, third: &mut Vec<u64>, fourth: &mut Vec<u64>, n: usize)
+    requires room { n / 64 < length second.old.items }
+    requires upper { Sums third.old.items fourth.old.items }
+    requires lower { Sums second.old.items third.old.items }
+    ensures marked { MarkedAt second.old.items second.new.items n }
+    ensures upper { Sums third.new.items fourth.new.items }
+    ensures lower { Sums second.new.items third.new.items }
+{
+    if !mark_new(second, n) {
+        return;
+    }
+    mark_two(third, fourth, n / WIDTH);
 }
 
 impl Marks {
@@ -218,10 +246,15 @@ impl Marks {
         requires { n / 64 < length self.old }
         ensures { MarkedAt self.old self.new n }
     {
-        mark(&mut self.first, n);
-        mark_once(&mut self.second, n / WIDTH);
-        mark_once(&mut self.third, n / WIDTH / WIDTH);
-        mark_once(&mut self.fourth, n / WIDTH / WIDTH / WIDTH);
+        if !mark_new(&mut self.first, n) {
+            return;
+        }
+        mark_three(
+            &mut self.second,
+            &mut self.third,
+            &mut self.fourth,
+            n / WIDTH,
+        );
     }
 
     /// The greatest number of the set below `n`.

@@ -1,12 +1,11 @@
 -- Sets of numbers as bits: a word, rows above rows, and what is put in.
-use Rattle.std.proofs.Common.{◌≡◌, ◌≢◌, inl, inr, ℕ, zero, ◌+◌, ◌*◌, ◌/◌, ◌%◌, ◌^◌, ◌<◌, ◌≤◌, max, List, length, length-set, get_or, set}
-use Rattle.std.proofs.Common.{refl, sym, ap, ◌∙◌, subst, arith, w64, bit_and, bit_or}
+use Rattle.std.proofs.Common.{◌≡◌, ◌≢◌, inl, inr, ℕ, ◌+◌, ◌*◌, ◌/◌, ◌%◌, ◌^◌, ◌<◌, ◌≤◌, max, List, length, length-set, get_or, set}
+use Rattle.std.proofs.Common.{sym, ap, ◌∙◌, subst, arith, w64, bit_or}
 use Rattle.std.specs.Int.{bit_at}
 use Rattle.std.proofs.lemmas.Bool.{cases_lt, cases_eq}
 use Rattle.std.proofs.lemmas.Nat.{div-add-mod', div-mul-add, mod-mul-add, mod_below}
-use Rattle.std.proofs.lemmas.Nat.Bits.{bit_at-zero, bit_at_set_same, bit_at_set_other, bit_at-lt, and_pow}
+use Rattle.std.proofs.lemmas.Nat.Bits.{bit_at-zero, bit_at_set_same, bit_at_set_other}
 use Rattle.std.proofs.lemmas.List.{get_or-set_same, get_or-set_other}
-use Rattle.px_bytes.proofs.ranges.BitLaws.{shl_one}
 use Rattle.px_bytes.specs.calls.Marks.{Has, IsLast, IsLastWord, Sums, SameMarks, MarkedAt}
 
 -- a number is its word's place and its bit's
@@ -104,27 +103,6 @@ marked words n inside = record {
 
     at_word : (q : ℕ) → q / 64 ≡ n / 64 → bit_at (get_or next (q / 64) 0) (q % 64) ≡ bit_at word (q % 64)
     at_word q e = ap (λ (x : ℕ). bit_at (get_or next x 0) (q % 64)) e ∙ ap (λ (x : ℕ). bit_at x (q % 64)) same
-
--- a number that stands already
-pub marked_already : (words : List ℕ) (n : ℕ) → bit_and (get_or words (n / 64) 0) (1 * 2 ^ (n % 64) % 2 ^ 64) ≢ 0 → MarkedAt words words n
-marked_already words n some = record {
-  here = elim (cases_eq (bit_at word (n % 64)) 1) [
-    | inl e ↦ e
-    | inr ne ↦
-        let small = bit_at-lt word (n % 64) in
-        let clear : bit_at word (n % 64) ≡ 0 = omega (arith, ne, small) in
-        let none : 0 * 2 ^ (n % 64) ≡ 0 = omega arith in
-        absurd (some (ap (λ (x : ℕ). bit_and word x) (shl_one (n % 64) (split n).1) ∙ and_pow word (n % 64)
-        ∙ ap (λ (x : ℕ). x * 2 ^ (n % 64)) clear ∙ none))
-  ];
-  kept = λ q h. h;
-  only = λ q h. inr h;
-  others = λ i ne. refl;
-  same_room = refl;
-}
-  where
-    word : ℕ
-    word = get_or words (n / 64) 0
 
 -- and the row above goes along
 pub sums_marked : (low high low2 high2 : List ℕ) (n : ℕ) → Sums low high → MarkedAt low low2 n → MarkedAt high high2 (n / 64)
