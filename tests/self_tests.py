@@ -25,7 +25,7 @@ from program import Outcome
 from reading import Fault, said
 from run import case_of, complaints_of
 from static_library import is_proved
-from watching import TIMES, Counts, complaints_of_cost, growth, limits_of, says_failed
+from watching import TIMES, Counts, complaints_of_cost, growth, limits_of, reading, says_failed
 
 HERE = os.path.dirname(os.path.abspath(__file__))
 GOOD = {"name": "a case", "block": "1C0205000141", "refused": "NoMarker at 0"}
@@ -174,8 +174,14 @@ class Judging(unittest.TestCase):
         size = LIMIT
         most = limits_of(Case("", words=["check", "a"], files={"a": bytes(size)}, holds=[Holds(1, 0, [])]), Outcome(0, b"ok exif\n", b""))
         judged = size // 4 + size // 100  # the bytes themselves, and marks for them
-        self.assertLess(most.held, size + judged + size)
-        self.assertLess(most.asked, 2 * size + judged + size)
+        read = reading(size)
+        self.assertLess(most.held, read.room + judged + size)
+        self.assertLess(most.asked, read.asked + judged + size)
+
+    def test_a_file_that_is_read_into_a_list_that_doubles_costs_too_much(self):
+        size = 9 << 20
+        most = limits_of(Case("", words=["check", "a"], files={"a": bytes(size)}, holds=[Holds(1, 0, [])]), Outcome(0, b"ok exif\n", b""))
+        self.assertLess(most.held, (16 << 20) + size // 4)
 
     def test_a_record_that_is_listed_twice_costs_too_much(self):
         size, once = 5 * 3_000_000, growth(3_000_000)

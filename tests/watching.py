@@ -12,6 +12,7 @@ from program import run
 SECONDS = 60
 ROOM = 8192  # what waits for a writer at most
 CHUNK = 65536  # what is read at once at most
+DOUBLES, MOST = 1 << 20, LIMIT + 7  # a list that a file is read into doubles up to so many bytes; so many are read of a file at most
 WORDS, CALLS = 48 * 1024, 140  # what reading the command line takes at most: bytes, and calls for memory
 SMALL, RECORDS = 4096, 12 * 1024  # what small lists take at most, and the list of the record numbers
 LONG = 65536  # a list of so many DataSets or more grows by a 32nd
@@ -47,13 +48,26 @@ def growth(count):
     return it
 
 
-def doubled(size):
-    """The room of a list that doubles, once it has room for so many bytes.
+@lru_cache(maxsize=None)
+def reading(size):
+    """Of the list that a file of so many bytes is read into, in whole buffers: it doubles up to 1 MiB, by a few calls that are counted
+    with the others of a run, and then grows by an eighth of what it holds.
 
-    >>> doubled(65537), doubled(3)
-    (131072, 64)
+    >>> reading(65537), reading(3)
+    (Growth(calls=0, asked=262144, room=131072), Growth(calls=0, asked=128, room=64))
+    >>> reading((1 << 20) + 1)
+    Growth(calls=1, asked=3276800, room=1179648)
+    >>> reading(10_000_000).room < 10_000_000 * 9 // 8, reading(LIMIT).room <= MOST
+    (True, True)
     """
-    return max(64, 1 << (size - 1).bit_length() if size else 0)
+    room = max(64, 1 << (min(size, DOUBLES) - 1).bit_length())
+    it = Growth(asked=2 * room, room=room)
+    while it.room < min(size, MOST):
+        full = it.room // CHUNK * CHUNK  # the next buffer has no room
+        it.room = full + min(full // 8, MOST - full)
+        it.calls += 1
+        it.asked += it.room
+    return it
 
 
 def memory_of(held, size):
@@ -106,7 +120,7 @@ def sizes_read(case):
     """How many bytes of each of its inputs a run reads: of a device without end the limit, a prefix and one byte more."""
     if not case.words:
         return [len(case.files[case.input_from] if case.input_from else case.input)]
-    sizes = {**{name: len(block) for name, block in case.files.items()}, "/dev/zero": LIMIT + 7}
+    sizes = {**{name: len(block) for name, block in case.files.items()}, "/dev/zero": MOST}
     named = [sizes[name] for name in map(os.path.normpath, case.words[1:]) if name in sizes]
     return named[:1] if case.words[0] == "normalise" else named
 
@@ -124,18 +138,19 @@ def most_held(sizes, told):
 
 
 def limits_of(case, outcome):
-    """The most that a run may cost. A file is read in whole buffers of one size, into a list that doubles, and each of its bytes takes
+    """The most that a run may cost. A file is read in whole buffers of one size, into a list that grows, and each of its bytes takes
     some quarter of a byte more while it is judged; beside that there is what it says. A normal form and a text take no memory. They
     go out in one write where they fit into what waits, else in writes of which any two make up more than that."""
     sizes = sizes_read(case)
+    read = [reading(it) for it in sizes]
     sent = bytes_sent(case, outcome)
     said = [memory_of(held, size) for held, size in zip(case.holds or [None] * len(sizes), sizes)]
     judged = sum(sizes) * 26 // 100 + CHUNK * len(sizes)
     words = WORDS if case.words else 0
-    held = with_slack(sum(map(doubled, sizes)) + judged + sum(it.room for it in said) + words)
+    held = with_slack(sum(it.room for it in read) + judged + sum(it.room for it in said) + words)
     return Counts(
-        calls=(CALLS if case.words else 0) + sum(it.calls for it in said),
-        asked=with_slack(2 * sum(map(doubled, sizes)) + judged + sum(it.asked for it in said) + words),
+        calls=(CALLS if case.words else 0) + sum(it.calls for it in read + said),
+        asked=with_slack(sum(it.asked for it in read + said) + judged + words),
         held=most_held(sizes, held),
         reads=sum(it // CHUNK + 2 for it in sizes) if not case.input else sum(sizes) + 2,  # a pipe gives as much as it likes
         writes=(1 if sent <= ROOM else 2 * sent // ROOM + 2) + (outcome.status == 4),  # one that failed, and the line
