@@ -34,18 +34,26 @@ ROUNDS, SECONDS = 5, 0.4
 REGISTRY = os.environ.get("KAMADAK", "/usr/share/cargo/registry")
 
 
+class Clean(Layout):
+    """A layout with a zero where nothing is said, as kamadak-exif asks of what follows the Exif directory."""
+
+    def spare(self, n):
+        return bytes(n)
+
+
 def blocks():
     """The blocks, each with its name."""
     plain = [tag for tag in range(0x1000, 0x8000)]
     camera, layout = next(iter(kinds.camera())).meaning, Layout("<", shuffled=True)
     mixed = {tag: Value(RATIONAL, [(tag, 7)]) if i % 2 else Value(SHORT, [i % 9]) for i, tag in enumerate(plain[:16_000])}
     strips = [b"x"] * 1_200_000
-    yield "a block as a camera writes it", laid(camera, Layout("<"))
+    yield "a block as a camera writes it", laid(camera, Clean("<"))
     yield "16,384 RATIONALs at random places", laid(Exif({tag: Value(RATIONAL, [(tag, 7)]) for tag in plain[:16_384]}), layout)
     yield "16,000 mixed fields, places shuffled", laid(Exif(mixed), layout)
     yield "16 MB of SHORTs", laid(Exif({0x9999: Value(SHORT, Random(1).choices(range(65_536), k=8_388_000))}), Layout("<"))
     yield "16 MB of bytes", laid(Exif({0x9999: Value(UNDEFINED, bytes(16_777_000))}), Layout("<"))
     yield "1.2 million strips", laid(Exif(dict(kinds.ORIENTATION), thumb={}, strips=strips), Layout(">"))
+    yield "as many bytes as those strips, in one value", laid(Exif({0x9999: Value(UNDEFINED, bytes(10_800_026))}), Layout("<"))
     yield "65,536 groups", Record([(255 - (i >> 8), 255 - i % 256, b"octets 1") for i in range(65_536)]).spelled()
     yield "a million DataSets in 256 groups in turn", Record([(3, i % 256, b"octets 1") for i in range(1_000_000)]).spelled()
     yield "a million DataSets in one group", Record([(2, 25, b"octets 1") for i in range(1_000_000)]).spelled()
