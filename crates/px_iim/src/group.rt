@@ -1,5 +1,6 @@
 // The groups of one record number, in ascending order.
 ghost use Rattle.std.specs.Prelude.{◌≡◌, ◌+◌, ◌/◌, ◌<◌, ◌≤◌, ℕ, map, max, MatchResult, MatchOption, vec_len, vec_capacity, OnOk, OnErr};
+ghost use Rattle.std.specs.Prelude.{true, length, slice_index};
 ghost use Rattle.px_bytes.specs.Lacking.{Lacks};
 ghost use Rattle.px_bytes.specs.Parts.{limit};
 ghost use Rattle.px_iim.specs.Group.{named, put};
@@ -48,6 +49,29 @@ pub(crate) fn find(groups: &[Group], number: u8) -> Result<usize, usize>
     groups.binary_search_by_key(&number, |group| group.number)
 }
 
+// Whether the group of this number stands at the place.
+fn is_at(groups: &[Group], number: u8, at: usize) -> bool
+    ensures { result ≡ true → (at < length groups.now) × (slice_index (numbers groups.now) at ≡ number) }
+{
+    at < groups.len() && groups[at].number == number
+}
+
+// What `find` answers, looked for first at a place and behind it: DataSets mostly come in order, so the next one is of
+// the same group as the last, or of the one behind. Any place will do.
+fn find_near(groups: &[Group], number: u8, near: usize) -> Result<usize, usize>
+    requires { Rises (numbers groups.now) }
+    ensures { MatchResult result (Found number (numbers groups.now)) (Missing number (numbers groups.now)) }
+{
+    if is_at(groups, number, near) {
+        return Ok(near);
+    }
+    let behind = near.wrapping_add(1);
+    if is_at(groups, number, behind) {
+        return Ok(behind);
+    }
+    find(groups, number)
+}
+
 // A list of more items than this is long.
 const LONG: usize = 65536;
 
@@ -85,13 +109,13 @@ fn make_room<T>(memory: &mut Memory, list: &mut Vec<T>) -> Result<(), Refused>
     memory.reserve_exact(list, room_for(list.len()))
 }
 
-// Appends the item to the group at a place.
+// Appends the item to the group at a place, and answers the place.
 fn append<'a>(
     memory: &mut Memory,
     groups: &mut Vec<Group<'a>>,
     at: usize,
     item: Item<'a>,
-) -> Result<(), Refused>
+) -> Result<usize, Refused>
     requires { at < vec_len groups.old }
     ensures done { OnOk result (Appended at (item_view item.entry) groups.old.items groups.new.items) }
     ensures failed { OnErr result ((r : ℕ) → groups_view r groups.new.items ≡ groups_view r groups.old.items) }
@@ -100,17 +124,17 @@ fn append<'a>(
     let group = &mut groups[at];
     make_room(memory, &mut group.items)?;
     group.items.push_reserved(item);
-    Ok(())
+    Ok(at)
 }
 
-// Puts a new group with one item at a place.
+// Puts a new group with one item at a place, and answers the place.
 fn insert<'a>(
     memory: &mut Memory,
     groups: &mut Vec<Group<'a>>,
     at: usize,
     number: u8,
     item: Item<'a>,
-) -> Result<(), Refused>
+) -> Result<usize, Refused>
     requires { at ≤ vec_len groups.old }
     ensures done { OnOk result (Inserted at number (item_view item.entry) groups.old.items groups.new.items) }
     ensures failed { OnErr result ((r : ℕ) → groups_view r groups.new.items ≡ groups_view r groups.old.items) }
@@ -120,16 +144,18 @@ fn insert<'a>(
     make_room(memory, &mut items)?;
     items.push_reserved(item);
     memory.insert(groups, at, Group { number, items })?;
-    Ok(())
+    Ok(at)
 }
 
-// Puts the item at its group's end; a group that isn't there is put in its place.
+// Puts the item at its group's end; a group that isn't there is put in its place. Answers where the group stands, which
+// is looked for near a place first.
 pub(crate) fn add<'a>(
     memory: &mut Memory,
     groups: &mut Vec<Group<'a>>,
     rec: u8,
     item: Item<'a>,
-) -> Result<(), Refused>
+    near: usize,
+) -> Result<usize, Refused>
     requires { Rises (numbers groups.old.items) }
     ensures done { OnOk result (groups_view rec groups.new.items ≡ put (record
         { rec = rec; number = item.entry.number; octets = item.entry.octets.now }) (groups_view rec groups.old.items)) }
@@ -137,7 +163,7 @@ pub(crate) fn add<'a>(
     ensures memory { Lacks result memory.old memory.new }
 {
     let number = named(rec, item.number);
-    match find(groups, number) {
+    match find_near(groups, number, near) {
         Ok(at) => append(memory, groups, at, item),
         Err(at) => insert(memory, groups, at, number, item),
     }

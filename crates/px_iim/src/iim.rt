@@ -27,6 +27,8 @@ pub struct Iim<'a> {
     none: Vec<Item<'a>>,
     // The length of the normal form, counted up to twice LIMIT.
     form_len: Option<u32>,
+    // Where the group of the last DataSet stands, in the list of its record number. It only saves time: any place will do.
+    near: usize,
 }
 
 impl<'a> Model for Iim<'a> {
@@ -76,6 +78,7 @@ impl<'a> Iim<'a> {
             records: memory.list(),
             none: memory.list(),
             form_len: Some(0),
+            near: 0,
         }
     }
 
@@ -108,7 +111,7 @@ impl<'a> Iim<'a> {
         reach(memory, &mut self.records, rec)?;
         let groups = &mut self.records[rec as usize];
         let item = Item { number, octets };
-        add(memory, groups, rec, item)?;
+        self.near = add(memory, groups, rec, item, self.near)?;
         self.form_len = longer(self.form_len, &item);
         Ok(())
     }

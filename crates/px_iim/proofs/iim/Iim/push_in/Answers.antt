@@ -40,11 +40,11 @@ add-requires c =
     subst (λ (v : Vec Group Global). Rises (numbers v.items)) (sym c.index_mut-groups.ensures.value)
     (rises_record 0 c.args.rec vs c.index_mut-groups.result.now there ascending)
 
-pub invariant_of-self-in_err-add : goal.invariant_of-self-in_err-add
-invariant_of-self-in_err-add c =
+pub invariant_of-self-in_err-self-inside : goal.invariant_of-self-in_err-self-inside
+invariant_of-self-in_err-self-inside c =
     let i = records_view 0 c.self.inside.records.items in
     let e = same c.args.rec c.reach.new.records.items c.self.inside.records.items c.add.new.groups c.index_mut-groups.result.now i
-    c.reach.ensures.same refl c.index_mut-groups.ensures.value c.in_err-add.ensures.failed in (
+    c.reach.ensures.same refl c.index_mut-groups.ensures.value c.in_err-self-inside.ensures.failed in (
       c.self.invariant.0,
       omega (arith, c.reach.ensures.bounded),
       subst AreGroups (sym e) c.self.invariant.2,
@@ -52,11 +52,11 @@ invariant_of-self-in_err-add c =
           _ c.self.invariant.3 (sym e),
     )
 
-pub returns-in_err-add-clause-failed : goal.returns-in_err-add-clause-failed
-returns-in_err-add-clause-failed c =
-    let p = err_from_is_err_and c.from_residual-in_err-add.result c.from_residual-in_err-add.ensures.1 in
+pub returns-in_err-self-inside-clause-failed : goal.returns-in_err-self-inside-clause-failed
+returns-in_err-self-inside-clause-failed c =
+    let p = err_from_is_err_and c.from_residual-in_err-self-inside.result c.from_residual-in_err-self-inside.ensures.1 in
     rw p.1 (same c.args.rec c.reach.new.records.items c.self.inside.records.items c.add.new.groups c.index_mut-groups.result.now
-    c.args.self.now c.reach.ensures.same c.self.view_is c.index_mut-groups.ensures.value c.in_err-add.ensures.failed)
+    c.args.self.now c.reach.ensures.same c.self.view_is c.index_mut-groups.ensures.value c.in_err-self-inside.ensures.failed)
 
 pub longer-self-inside-requires-clause-counted : goal.longer-self-inside-requires-clause-counted
 longer-self-inside-requires-clause-counted c = within_counted c.self.inside.form_len _ c.self.invariant.3
@@ -68,7 +68,7 @@ invariant_of-self-2 c =
     let d : DataSet = record { rec = c.args.rec; number = c.args.number; octets = c.args.octets.now } in
     let i = records_view 0 c.self.inside.records.items in
     let e = more c.args.rec c.args.number c.args.octets.now c.reach.new.records.items c.self.inside.records.items c.add.new.groups
-    c.index_mut-groups.result.now i c.reach.ensures.same refl there c.index_mut-groups.ensures.value c.in_ok-add.ensures.done in
+    c.index_mut-groups.result.now i c.reach.ensures.same refl there c.index_mut-groups.ensures.value c.in_ok-self-inside.ensures.done in
     let whole =
     whole_put d (
       c.ranges.rec.fits,
@@ -93,4 +93,4 @@ returns-clause-done c =
     let there : c.args.rec < length c.reach.new.records.items = omega (arith, c.in_ok-reach.ensures.there, c.reach.new.records.ok.0) in
     more c.args.rec c.args.number c.args.octets.now c.reach.new.records.items c.self.inside.records.items c.add.new.groups
     c.index_mut-groups.result.now c.args.self.now c.reach.ensures.same c.self.view_is there c.index_mut-groups.ensures.value
-    c.in_ok-add.ensures.done
+    c.in_ok-self-inside.ensures.done
