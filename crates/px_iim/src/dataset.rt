@@ -1,5 +1,5 @@
 // One DataSet, read from the front of some octets. IIM 4.2, chapter 1.
-ghost use Rattle.std.specs.Prelude.{◌≡◌, ◌+◌, ◌≤◌, ◌<◌, ℕ, length, drop, true, Some, MatchResult};
+ghost use Rattle.std.specs.Prelude.{◌≡◌, ◌+◌, ◌≤◌, ◌<◌, ℕ, List, length, drop, true, Some, MatchResult};
 ghost use Rattle.px_bytes.specs.declared.Order.TheVariants.{Most};
 ghost use Rattle.px_bytes.specs.Checks.{first_false};
 ghost use Rattle.px_bytes.specs.Numbers.{number};
@@ -48,27 +48,24 @@ fn form(octets: &[u8]) -> u32
     u32::from(Order::Most.get16(&octets[3..5]))
 }
 
-// How many octets of count follow them.
-fn extra(octets: &[u8]) -> u32
-    requires { 5 ≤ length octets.now }
-    ensures value { result ≡ extra octets.now }
-    ensures bound { result < 65536 }
+// How many octets of count follow these two, which were read as `pair`.
+fn extra(pair: u32) -> u32
+    ensures value { (x : List ℕ) → pair ≡ form x → result ≡ extra x }
+    ensures bound { result ≤ pair }
 {
-    let form = form(octets);
-    if form < TOP_BIT {
+    if pair < TOP_BIT {
         return 0;
     }
-    form - TOP_BIT
+    pair - TOP_BIT
 }
 
-fn has_form(octets: &[u8]) -> bool
-    requires { 5 ≤ length octets.now }
-    ensures { result ≡ has_form octets.now }
+fn has_form(pair: u32) -> bool
+    ensures { (x : List ℕ) → pair ≡ form x → result ≡ has_form x }
 {
-    if form(octets) < TOP_BIT {
+    if pair < TOP_BIT {
         return true;
     }
-    let extra = extra(octets);
+    let extra = extra(pair);
     1 <= extra && extra <= 4
 }
 
@@ -84,17 +81,17 @@ fn number_of(octets: &[u8]) -> u32
     number
 }
 
-// The count.
-fn count(octets: &[u8]) -> u32
+// The count, whose first two octets were read as `pair`.
+fn count(octets: &[u8], pair: u32) -> u32
     requires there { 5 + extra octets.now ≤ length octets.now }
     requires formed { has_form octets.now ≡ true }
+    requires pair { pair ≡ form octets.now }
     ensures { result ≡ count octets.now }
 {
-    let form = form(octets);
-    if form < TOP_BIT {
-        return form;
+    if pair < TOP_BIT {
+        return pair;
     }
-    let extra = extra(octets) as usize;
+    let extra = extra(pair) as usize;
     number_of(&octets[5..5 + extra])
 }
 
@@ -108,14 +105,15 @@ pub(crate) fn read_dataset<'a>(octets: &'a [u8]) -> Result<Found<'a>, Cause>
     if octets.len() < 5 {
         return Err(Cause::DataSetCut);
     }
-    if !has_form(octets) {
+    let pair = form(octets);
+    if !has_form(pair) {
         return Err(Cause::LengthForm);
     }
-    let start = 5 + extra(octets) as usize;
+    let start = 5 + extra(pair) as usize;
     if octets.len() < start {
         return Err(Cause::DataSetCut);
     }
-    let count = count(octets) as usize;
+    let count = count(octets, pair) as usize;
     if octets.len() - start < count {
         return Err(Cause::DataSetCut);
     }

@@ -8,6 +8,6 @@ use Rattle.px_iim.proofs.dataset.count.Goals as goal
 pub returns : goal.returns
 returns c =
     let x = c.args.octets.now in
-    let high : top_bit ≤ form x = omega (arith, c.form-form.ensures.value, c.if-form-lt-TOP_BIT.false) in
-    c.number_of.ensures ∙ number_part x c.extra-extra.result (extra x) c.extra-extra.ensures.value c.requires.there
+    let high : top_bit ≤ form x = omega (arith, c.requires.pair, c.if-pair-lt-TOP_BIT.false) in
+    c.number_of.ensures ∙ number_part x c.extra-extra.result (extra x) (c.extra-extra.ensures.value x c.requires.pair) c.requires.there
     ∙ sym (cond-false _ _ _ (not_less (form x) top_bit high))

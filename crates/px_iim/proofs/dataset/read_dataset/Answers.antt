@@ -24,10 +24,11 @@ value x k n a b =
 pub returns : goal.returns
 returns c =
     let x = c.args.octets.now in
-    let k = c.extra.ensures.value in
+    let f = c.form-pair.ensures.value in
+    let k = c.extra.ensures.value x f in
     let n = c.count-count.ensures in
     record {
-      there = there x (sym c.if-not-is_marked.ensures) c.if-octets-lt5.false (sym c.if-not-has_form.ensures)
+      there = there x (sym c.if-not-is_marked.ensures) c.if-octets-lt5.false (sym (c.if-not-has_form.ensures x f))
           (omega (arith, c.if-octets-start.false)) (omega (arith, c.if-octets-start.false, c.if-octets-start-2.false));
       value = value x c.extra.result c.count-count.result k n;
       sized = omega arith;
