@@ -1,5 +1,3 @@
 pub mod EndLaws
 pub mod LineLaws
 pub mod TextLaws
-pub mod WordLaws
-pub mod matching

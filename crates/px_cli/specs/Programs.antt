@@ -1,19 +1,18 @@
 -- What the program does with its arguments, its words.
-use Rattle.std.specs.Prelude.{◌≡◌, ◌↔◌, ◌⊎◌, ℕ, Bool, false, List, [], Option, Some, None}
-use Rattle.clap.specs.Words.{Text, fault_of, subcommand_of}
+use Rattle.std.specs.Prelude.{◌≡◌, ◌⊎◌, ℕ, Bool, false, List, Option, Some, None}
 use Rattle.px_engine.specs.declared.Fault.{Fault}
 use Rattle.px_engine.specs.declared.Fault.TheVariants.{OutOfMemory, ReadFailed, WriteFailed}
 use Rattle.px_engine.specs.declared.Side.{Side}
 use Rattle.px_engine.specs.declared.Side.TheVariants as side
 use Rattle.px_cli.specs.declared.job.Job.{Job}
 use Rattle.px_cli.specs.declared.job.Job.TheVariants as job
-use Rattle.px_cli.specs.declared.words.One.{One}
-use Rattle.px_cli.specs.declared.words.One.TheVariants as one
-use Rattle.px_cli.specs.declared.words.Words.{Words}
-use Rattle.px_cli.specs.declared.words.Words.TheVariants as words
+use Rattle.px_words.specs.declared.One.{One}
+use Rattle.px_words.specs.declared.One.TheVariants as one
+use Rattle.px_words.specs.declared.Words.{Words}
+use Rattle.px_words.specs.declared.Words.TheVariants as words
 use Rattle.px_cli.specs.Lines.{Device, TellsFault, TellsWords}
 use Rattle.px_cli.specs.Endings.{Ends, EndsCompare}
-use Rattle.px_cli.specs.Words.{exifnorm, out_is_file, Asks, AsksFiles, AreTaken, IsFor}
+use Rattle.px_words.specs.Words.{out_is_file, AskedBy}
 
 -- the job that a command asks for
 abbrev pub job_of : One → Job
@@ -62,11 +61,6 @@ EndsWords (words.Help text) refused refused_now status lines = TellsWords 0 text
 EndsWords (words.Refused text) refused refused_now status lines = TellsWords 3 text status lines
 EndsWords words.NoMemory refused refused_now status lines = TellsFault OutOfMemory None status lines
 
--- what these words ask for
-abbrev pub AskedBy : List Text → Words → Type 0
-AskedBy ws asked = (ws ≡ [] ↔ asked ≡ words.Filter) × Asks (subcommand_of exifnorm ws) asked
-    × IsFor (fault_of exifnorm ws) asked × (AreTaken ws → AsksFiles (subcommand_of exifnorm ws) asked)
-
 -- whatever they ask for was done, with memory that had refused nothing
-abbrev pub Answers : List Text → ℕ → Device → Type 0
+abbrev pub Answers : List (List ℕ) → ℕ → Device → Type 0
 Answers ws status lines = (asked : Words) × AskedBy ws asked × ((refused : Bool) × EndsWords asked false refused status lines)

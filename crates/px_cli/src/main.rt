@@ -15,13 +15,11 @@
 ghost use Rattle.std.specs.Prelude.{◌≡◌, drop};
 
 mod files;
-mod grammar;
 mod job;
 mod lines;
 mod run;
 #[cfg(test)]
 mod tests;
-mod words;
 
 use crate::lines::{say_text, tell};
 use crate::run::run_words;

@@ -8,9 +8,9 @@ ghost use Rattle.px_bytes.specs.Devices.{CanFail};
 use crate::files::{make_beside, open};
 use crate::job::{Job, run_compare_in, run_one_in};
 use crate::lines::{say_text, tell};
-use crate::words::{OUT_IS_FILE, One, Words, parse};
 use px_bytes::{Memory, Sink, Source, Watched};
-use px_engine::{Fault, Side};
+use px_engine::{Fault, Side, VERSION};
+use px_words::{OUT_IS_FILE, One, Words, parse};
 use std::alloc::Global;
 use std::convert::AsStr;
 use std::io;
@@ -34,7 +34,12 @@ pub fn run_words<'a, S: AsStr, R: Files + Input + Print, L: Sink>(
     ensures { Answers (map S.text words.entry.now) result (device (L.failed lines.old) (L.failed lines.new) (L.bytes_taken lines.old)
         (L.bytes_taken lines.new)) }
 {
-    run_asked(rt, &mut Memory::new(alloc), parse(alloc, words), lines)
+    run_asked(
+        rt,
+        &mut Memory::new(alloc),
+        parse(alloc, words, VERSION),
+        lines,
+    )
 }
 
 // Does what was asked for.

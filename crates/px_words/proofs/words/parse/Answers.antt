@@ -2,12 +2,12 @@ use Rattle.std.proofs.Common.{◌≡◌, ap, ◌∙◌, map, refl, subst, sym, t
 use Rattle.clap.specs.Words.{App, HasMatchesOf, app_of, fault_of, is_simple, is_simple_and_free, subcommand_of, subcommand_rows_of}
 use Rattle.clap.specs.Kinds.{HasKind}
 use Rattle.clap.proofs.OnLiterals.{clap_on_literals}
-use Rattle.px_cli.specs.declared.words.Words.TheVariants as words_of
-use Rattle.px_cli.specs.Words.{exifnorm}
-use Rattle.px_cli.specs.calls.Met.{IsMet}
-use Rattle.px_cli.proofs.WordLaws.{of_error, of_match, of_none}
-use Rattle.px_cli.proofs.matching.Whole.{met}
-use Rattle.px_cli.proofs.words.parse.Goals as goal
+use Rattle.px_words.specs.declared.words.Words.TheVariants as words_of
+use Rattle.px_words.specs.Words.{exifnorm}
+use Rattle.px_words.specs.calls.Met.{IsMet}
+use Rattle.px_words.proofs.WordLaws.{of_error, of_match, of_none}
+use Rattle.px_words.proofs.matching.Whole.{met}
+use Rattle.px_words.proofs.words.parse.Goals as goal
 
 is_simple_one : is_simple exifnorm ≡ true
 unfolding clap_on_literals

@@ -1,11 +1,10 @@
 // The command that clap is handed: its subcommands, and the words that each must have.
-ghost use Rattle.std.specs.Prelude.{◌≡◌, false, IfOk};
-ghost use Rattle.clap.specs.Words.{app_of, shape_of};
+ghost use Rattle.std.specs.Prelude.{◌≡◌, codes, false, IfOk};
+ghost use Rattle.clap.specs.Words.{app_of, shape_of, with_subcommand};
 ghost use Rattle.clap.specs.declared.builder.Command.TheViews.{out-Command};
-ghost use Rattle.px_cli.specs.Words.{bare, exifnorm, of_one, of_two};
+ghost use Rattle.px_words.specs.Words.{bare, exifnorm, of_one, of_two};
 
 use clap::{Arg, Command};
-use px_engine::VERSION;
 use std::alloc::{AllocError, Global};
 
 const NAME: &str = "exifnorm";
@@ -50,16 +49,16 @@ fn of_two<'a>(
         .arg(second)
 }
 
-// The command, as yet without its subcommands. Its name stands in usage lines whatever the program's
-// file is called.
-fn bare<'a>(alloc: Global) -> Result<Command<'a>, AllocError>
+// The command of this version, as yet without its subcommands. Its name stands in usage lines whatever
+// the program's file is called.
+fn bare<'a>(alloc: Global, version: &'a str) -> Result<Command<'a>, AllocError>
     ensures shape { IfOk result (λ c. app_of c ≡ bare) }
     ensures local { IfOk result (λ c. (out-Command c).has_globals ≡ false) }
 {
     let named = Command::new(alloc, NAME).bin_name(NAME)?;
     Ok(
         named
-            .version(VERSION)
+            .version(version)
             .about(ABOUT)
             .after_help(STATUSES)
             .no_binary_name(true)
@@ -68,43 +67,59 @@ fn bare<'a>(alloc: Global) -> Result<Command<'a>, AllocError>
     )
 }
 
-/// The command, whose words are those after the program's name.
-pub fn command<'a>(alloc: Global) -> Result<Command<'a>, AllocError>
+// The command with one more subcommand, which has one file.
+fn with_one<'a>(
+    alloc: Global,
+    command: Command<'a>,
+    name: &'a str,
+    about: &'a str,
+) -> Result<Command<'a>, AllocError>
+    ensures { IfOk result (λ c. app_of c ≡ with_subcommand (app_of command.entry) (of_one name.entry.now)) }
+{
+    command.subcommand(of_one(alloc, name, about)?)
+}
+
+// The command with `normalise`.
+fn with_normalise<'a>(alloc: Global, command: Command<'a>) -> Result<Command<'a>, AllocError>
+    ensures { IfOk result (λ c. app_of c ≡ with_subcommand (app_of command.entry)
+        (of_two (codes "normalise") (codes "FILE") (codes "OUT"))) }
+{
+    let about = "Write the block's normal form to OUT, and print nothing";
+    command.subcommand(of_two(alloc, "normalise", about, "FILE", "OUT")?)
+}
+
+// The command with `compare`.
+fn with_compare<'a>(alloc: Global, command: Command<'a>) -> Result<Command<'a>, AllocError>
+    ensures { IfOk result (λ c. app_of c ≡ with_subcommand (app_of command.entry)
+        (of_two (codes "compare") (codes "FIRST") (codes "SECOND"))) }
+{
+    let about = "Print whether two blocks say the same or something different";
+    command.subcommand(of_two(alloc, "compare", about, "FIRST", "SECOND")?)
+}
+
+/// The command of this version, whose words are those after the program's name.
+pub fn command<'a>(alloc: Global, version: &'a str) -> Result<Command<'a>, AllocError>
     ensures { IfOk result (λ c. app_of c ≡ exifnorm) }
 {
-    let show = of_one(
+    let bare = bare(alloc, version)?;
+    let shows = with_one(
         alloc,
+        bare,
         "show",
         "Print what the block says, a line for each field",
     )?;
-    let check = of_one(
+    let checks = with_one(
         alloc,
+        shows,
         "check",
         "Print the block's kind, or why it is refused",
     )?;
-    let captions = of_one(
+    let prints = with_one(
         alloc,
+        checks,
         "captions",
         "Print the captions, names, keywords and rights in the block",
     )?;
-    let normalise = of_two(
-        alloc,
-        "normalise",
-        "Write the block's normal form to OUT, and print nothing",
-        "FILE",
-        "OUT",
-    )?;
-    let compare = of_two(
-        alloc,
-        "compare",
-        "Print whether two blocks say the same or something different",
-        "FIRST",
-        "SECOND",
-    )?;
-    let bare = bare(alloc)?;
-    bare.subcommand(show)?
-        .subcommand(check)?
-        .subcommand(captions)?
-        .subcommand(normalise)?
-        .subcommand(compare)
+    let normalises = with_normalise(alloc, prints)?;
+    with_compare(alloc, normalises)
 }

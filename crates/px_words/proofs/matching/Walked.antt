@@ -12,7 +12,7 @@ use Rattle.clap.specs.Walk.{plain_word, positional, pushed, reacted, refused, ro
 use Rattle.clap.specs.Walk.{short_or_plain, started, subcommand, subcommand_or_other, takes_several, takes_values}
 use Rattle.clap.specs.Walk.{to_positional, trailing, used_by_id, value, waits, walk_from, walked, walked_from, with_default, word_met}
 use Rattle.clap.specs.declared.builder.action.ArgAction.TheVariants.{Help}
-use Rattle.px_cli.proofs.matching.Rows.{Each, HaveValues, IsPlain, default_kept, each_found, pushed_some, used_kept}
+use Rattle.px_words.proofs.matching.Rows.{Each, HaveValues, IsPlain, default_kept, each_found, pushed_some, used_kept}
 
 -- what waits for its use has a value
 abbrev pub HasWaiting : Option (Text × List Text) → Type 0

@@ -1,13 +1,13 @@
 -- What the arguments of the program, its words, ask for.
-use Rattle.std.specs.Prelude.{◌≡◌, ◌≢◌, ◌⊎◌, List, [], ◌∷◌, Option, Some, codes, true, ⊤}
-use Rattle.clap.specs.Words.{App, Row, Rule, Shape, Text, fault_of, first_of, new_app, new_rule, with_rule, with_subcommand}
+use Rattle.std.specs.Prelude.{◌≡◌, ◌≢◌, ◌↔◌, ◌⊎◌, List, [], ◌∷◌, Option, Some, codes, true, ⊤}
+use Rattle.clap.specs.Words.{App, Row, Rule, Shape, Text, fault_of, first_of, new_app, new_rule, subcommand_of, with_rule, with_subcommand}
 use Rattle.clap.specs.Kinds.{IsAmong, Kinds}
 use Rattle.clap.specs.declared.error.ErrorKind.{ErrorKind}
 use Rattle.clap.specs.declared.error.ErrorKind.TheVariants as kind
-use Rattle.px_cli.specs.declared.words.One.{One}
-use Rattle.px_cli.specs.declared.words.One.TheVariants as one
-use Rattle.px_cli.specs.declared.words.Words.{Words}
-use Rattle.px_cli.specs.declared.words.Words.TheVariants as words
+use Rattle.px_words.specs.declared.words.One.{One}
+use Rattle.px_words.specs.declared.words.One.TheVariants as one
+use Rattle.px_words.specs.declared.words.Words.{Words}
+use Rattle.px_words.specs.declared.words.Words.TheVariants as words
 
 -- ---- the command that clap is handed
 
@@ -115,3 +115,8 @@ IsFor kinds (words.Normalise file out) = kinds ≡ []
 IsFor kinds (words.Compare first second) = kinds ≡ []
 IsFor kinds words.Filter = ⊤
 IsFor kinds words.NoMemory = ⊤
+
+-- what these words ask for
+abbrev pub AskedBy : List Text → Words → Type 0
+AskedBy ws asked = (ws ≡ [] ↔ asked ≡ words.Filter) × Asks (subcommand_of exifnorm ws) asked
+    × IsFor (fault_of exifnorm ws) asked × (AreTaken ws → AsksFiles (subcommand_of exifnorm ws) asked)

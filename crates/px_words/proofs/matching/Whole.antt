@@ -9,10 +9,10 @@ use Rattle.clap.specs.Simple.{label_of, marked_built, names_of, rows_at, subcomm
 use Rattle.clap.specs.Takes.{is_given}
 use Rattle.clap.specs.Kinds.{Kinds, check_kinds, or_else}
 use Rattle.clap.specs.Faults.{check_fault, defaults_fault, entered_fault, fault_of, level_fault, settle_fault, walk_fault}
-use Rattle.px_cli.specs.Words.{exifnorm, of_one, of_two}
-use Rattle.px_cli.specs.calls.Met.{IsMet, IsThere, takes_file}
-use Rattle.px_cli.proofs.matching.Rows.{Each, IsPlain, each_found, given_there}
-use Rattle.px_cli.proofs.matching.Walked.{rows_have}
+use Rattle.px_words.specs.Words.{exifnorm, of_one, of_two}
+use Rattle.px_words.specs.calls.Met.{IsMet, IsThere, takes_file}
+use Rattle.px_words.proofs.matching.Rows.{Each, IsPlain, each_found, given_there}
+use Rattle.px_words.proofs.matching.Walked.{rows_have}
 
 -- where two steps have no fault, neither has one
 none_first : (a b : Kinds) → or_else a b ≡ [] → a ≡ []

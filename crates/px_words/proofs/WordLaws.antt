@@ -4,9 +4,9 @@ use Rattle.clap.specs.Words.{Row, Text, kind_of}
 use Rattle.clap.specs.Kinds.{HasKind, IsAmong, Kinds}
 use Rattle.clap.specs.declared.error.Error.{Error}
 use Rattle.clap.specs.declared.error.ErrorKind.TheVariants as kind
-use Rattle.px_cli.specs.declared.words.Words.{Words}
-use Rattle.px_cli.specs.declared.words.Words.TheVariants as words
-use Rattle.px_cli.specs.Words.{AsksFiles, IsFor, IsTold, TellsKind}
+use Rattle.px_words.specs.declared.words.Words.{Words}
+use Rattle.px_words.specs.declared.words.Words.TheVariants as words
+use Rattle.px_words.specs.Words.{AsksFiles, IsFor, IsTold, TellsKind}
 
 -- a match gives no text but that of one word for two files
 pub of_match : (kinds : Kinds) (met : Option (Text × List Row)) (w : Words) → kinds ≡ [] → AsksFiles met w → IsFor kinds w

@@ -1,7 +1,7 @@
 -- Want of memory where the words of a match are copied.
 use Rattle.std.specs.Prelude.{◌≡◌, Bool, true}
-use Rattle.px_cli.specs.declared.words.Words.{Words}
-use Rattle.px_cli.specs.declared.words.Words.TheVariants as words
+use Rattle.px_words.specs.declared.words.Words.{Words}
+use Rattle.px_words.specs.declared.words.Words.TheVariants as words
 
 -- want of memory met a refused growth, and no other answer did. `old` and `new` say whether memory had refused one before the call,
 -- and whether it has behind it

@@ -1,7 +1,7 @@
 use Rattle.std.proofs.Common.{refl}
 use Rattle.clap.proofs.OnLiterals.{clap_on_literals}
-use Rattle.px_cli.specs.Words.{TakesCommands}
-use Rattle.px_cli.proofs.words.commands_are_taken.Goals as goal
+use Rattle.px_words.specs.Words.{TakesCommands}
+use Rattle.px_words.proofs.words.commands_are_taken.Goals as goal
 
 all_taken : TakesCommands
 unfolding clap_on_literals

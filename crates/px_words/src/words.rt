@@ -1,11 +1,11 @@
 // What the arguments of the program ask for.
 ghost use Rattle.std.specs.Prelude.{◌≡◌, ◌↔◌, ◌⊎◌, Some, [], map, codes, IfOk};
 ghost use Rattle.clap.specs.Words.{fault_of, first_of, found_of, kind_of, rows_of, subcommand_of, subcommand_rows_of};
-ghost use Rattle.px_cli.specs.declared.words.Words.TheVariants as words_of;
-ghost use Rattle.px_cli.specs.Words.{exifnorm, name_of, Asks, AsksFiles, AsksIn, AreTaken, IsFor, IsTold, TakesCommands, TellsKind};
+ghost use Rattle.px_words.specs.declared.words.Words.TheVariants as words_of;
+ghost use Rattle.px_words.specs.Words.{exifnorm, name_of, Asks, AsksFiles, AsksIn, AreTaken, IsFor, IsTold, TakesCommands, TellsKind};
 ghost use Rattle.px_bytes.specs.Lacking.{Lacks};
-ghost use Rattle.px_cli.specs.calls.Met.{IsMet, IsThere};
-ghost use Rattle.px_cli.specs.calls.Wanting.{LacksWords};
+ghost use Rattle.px_words.specs.calls.Met.{IsMet, IsThere};
+ghost use Rattle.px_words.specs.calls.Wanting.{LacksWords};
 
 use crate::grammar::command;
 use clap::error::ErrorKind;
@@ -213,9 +213,10 @@ fn commands_are_taken()
     ensures { TakesCommands }
 {}
 
-/// What the arguments ask for. No arguments are `Filter`, and are not handed to clap. `NoMemory` stands
-/// for a growth that was refused; no match leads to it, since each has the words that its command needs.
-pub fn parse<'a, S: AsStr>(alloc: Global, words: &'a [S]) -> Words
+/// What the arguments ask for; the text of the version tells this one. No arguments are `Filter`, and are not
+/// handed to clap. `NoMemory` stands for a growth that was refused; no match leads to it, since each has the
+/// words that its command needs.
+pub fn parse<'a, S: AsStr>(alloc: Global, words: &'a [S], version: &'a str) -> Words
     ensures filter { map S.text words.entry.now ≡ [] ↔ result ≡ words_of.Filter }
     ensures asked { Asks (subcommand_of exifnorm (map S.text words.entry.now)) result }
     ensures told { IsFor (fault_of exifnorm (map S.text words.entry.now)) result }
@@ -224,7 +225,7 @@ pub fn parse<'a, S: AsStr>(alloc: Global, words: &'a [S]) -> Words
     if words.is_empty() {
         return Words::Filter;
     }
-    let Ok(command) = command(alloc) else {
+    let Ok(command) = command(alloc, version) else {
         return Words::NoMemory;
     };
     match command.try_get_matches_from(words) {
