@@ -1,5 +1,5 @@
 // Numbers, values and filler, put behind the bytes that wait for a writer.
-ghost use Rattle.std.specs.Prelude.{◌≡◌, ◌≤◌, ◌%◌, replicate, flat_map};
+ghost use Rattle.std.specs.Prelude.{◌≡◌, ◌≤◌, ◌%◌, length, replicate, flat_map};
 ghost use Rattle.px_bytes.specs.Devices.{CanFail, Counts};
 ghost use Rattle.px_bytes.specs.Numbers.{spelling};
 ghost use Rattle.px_bytes.specs.Waiting.{PutsTo};
@@ -72,10 +72,36 @@ pub(crate) fn put_padding<W: Sink>(
     put_filler(pending, writer, 0, (len % 2) as usize)
 }
 
-// The bytes in which elements are turned round, some at a time: few, since they are zeroed for each value.
-const PIECE: usize = 256;
+// The elements of a value, as many at a time as the piece has room for.
+fn put_by_pieces<W: Sink>(
+    pending: &mut Pending,
+    writer: &mut W,
+    order: Order,
+    value: &Value,
+    piece: &mut [u8],
+) -> Result<(), Failed>
+    requires few { CanFail (W.failed writer.old) }
+    requires room { 8 ≤ length piece.old }
+    ensures bytes { PutsTo W.bytes_taken result writer.old writer.new pending.old pending.new (flat_map (spell order) value.now.elements) }
+    ensures count { Counts result (W.failed writer.old) (W.failed writer.new) }
+{
+    let width = value.width();
+    let mut i = 0;
+    while i < value.count() {
+        let count = value.spell_many(order, i, piece);
+        pending.put(writer, &piece[..count as usize * width as usize])?;
+        i += count;
+    }
+    Ok(())
+}
 
-// The elements of a value, as many at a time as a piece has room for.
+// The bytes in which the elements of a short value are turned round. They are zeroed for each value, so they are few.
+const FEW: usize = 16;
+
+// Those for a longer value: more of them, so that its pieces are few.
+const MANY: usize = 1024;
+
+// The elements of a value.
 fn put_elements<W: Sink>(
     pending: &mut Pending,
     writer: &mut W,
@@ -86,15 +112,10 @@ fn put_elements<W: Sink>(
     ensures bytes { PutsTo W.bytes_taken result writer.old writer.new pending.old pending.new (flat_map (spell order) value.now.elements) }
     ensures count { Counts result (W.failed writer.old) (W.failed writer.new) }
 {
-    let width = value.width();
-    let mut piece = [0; PIECE];
-    let mut i = 0;
-    while i < value.count() {
-        let count = value.spell_many(order, i, &mut piece);
-        pending.put(writer, &piece[..count as usize * width as usize])?;
-        i += count;
+    if value.size() <= FEW as u64 {
+        return put_by_pieces(pending, writer, order, value, &mut [0; FEW]);
     }
-    Ok(())
+    put_by_pieces(pending, writer, order, value, &mut [0; MANY])
 }
 
 // A value. Where its bytes stand in that order as they were read, they go as they are.

@@ -1,7 +1,7 @@
 use Rattle.std.proofs.Common.{◌≡◌, ◌≤◌, ◌-◌, length, take, flat_map}
 use Rattle.px_bytes.specs.lemmas.WaitingLaws.{HasPut}
 use Rattle.px_field.specs.Values.{spell}
-use Rattle.px_layout.proofs.put.put_elements.Given as goal
+use Rattle.px_layout.proofs.put.put_by_pieces.Given as goal
 
 -- the elements so far were put, and no call failed
 abbrev pub invariant-loop-i : goal.invariant-loop-i
