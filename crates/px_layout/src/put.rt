@@ -56,6 +56,9 @@ pub(crate) fn put_filler<W: Sink>(
     ensures bytes { PutsTo W.bytes_taken result writer.old writer.new pending.old pending.new (replicate count filler) }
     ensures count { Counts result (W.failed writer.old) (W.failed writer.new) }
 {
+    if count == 0 {
+        return Ok(());
+    }
     pending.put(writer, &[filler; 4][..count])
 }
 
