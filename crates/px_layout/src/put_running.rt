@@ -1,5 +1,5 @@
 // The entries of a normal form, put behind the bytes that wait for a writer: offsets run along, so that no plan is kept.
-ghost use Rattle.std.specs.Prelude.{◌≡◌, ◌<◌, ◌≤◌, ◌+◌, ◌^◌, Some, None, length, flat_map, unwrap_or, []};
+ghost use Rattle.std.specs.Prelude.{◌≡◌, ◌<◌, ◌≤◌, ◌+◌, ◌++◌, ◌^◌, Some, None, length, flat_map, unwrap_or, []};
 ghost use Rattle.px_bytes.specs.Devices.{CanFail, Counts};
 ghost use Rattle.px_bytes.specs.Parts.{limit};
 ghost use Rattle.px_bytes.specs.Waiting.{PutsTo};
@@ -10,7 +10,7 @@ ghost use Rattle.px_layout.specs.Laid.{long_bytes, item_bytes, entry_bytes, next
 ghost use Rattle.px_layout.specs.Normal.{normal_plan};
 ghost use Rattle.px_layout.specs.Plans.{place};
 ghost use Rattle.px_layout.specs.lemmas.RunLaws.{start, strips_start, value_size};
-ghost use Rattle.px_layout.specs.calls.Given.{last_given, entry_given, strip_list, TellsAll, strips_size, strip_places};
+ghost use Rattle.px_layout.specs.calls.Given.{head_bytes, entry_given, strip_list, TellsAll, strips_size, strip_places};
 ghost use Rattle.px_layout.specs.calls.Forms.{said_in, plan_in, IsForm};
 
 use crate::chunks::Chunk;
@@ -148,31 +148,18 @@ pub(crate) fn put_told_item<W: Sink>(
     }
 }
 
-// The last field of an entry: the value and padding behind it, or where the value stands.
-fn put_given_last<W: Sink>(
-    pending: &mut Pending,
-    writer: &mut W,
-    form: &NormalForm,
-    at: u32,
-    item: Item,
-) -> Result<(), Failed>
-    requires few { CanFail (W.failed writer.old) }
-    requires form { IsForm form.now }
-    requires counted { IsCounted (item_of item) }
-    requires tells { TellsAll (said_in form.now) (item_of item) }
-    ensures bytes { PutsTo W.bytes_taken result writer.old writer.new pending.old pending.new
-        (last_given (plan_in form.now) at (item_of item.entry)) }
-    ensures count { Counts result (W.failed writer.old) (W.failed writer.new) }
+// An entry whose value stands at `at`: its twelve bytes, so that one call puts them.
+fn entry_to(at: u32, entry: &Entry) -> [u8; 12]
+    requires { IsCounted (item_of entry.now.item) }
+    ensures { result ≡ head_bytes Order.Most (entry_of entry.now) ++ long_bytes Order.Most at }
 {
-    let size = item.size();
-    if needs_place(size) {
-        return put_long(pending, writer, Order::Most, at);
-    }
-    put_told_item(pending, writer, form, item)?;
-    put_filler(pending, writer, 0, 4 - size as usize)
+    let mut bytes = [0; 12];
+    bytes[..8].copy_from_slice(&entry_head(Order::Most, entry));
+    Order::Most.put32(at, &mut bytes[8..]);
+    bytes
 }
 
-// An entry, whose value stands at `at` if it has a place of its own.
+// An entry, whose value stands at `at` if it has a place of its own. Else the value is its last field, with padding behind it.
 fn put_given_entry<W: Sink>(
     pending: &mut Pending,
     writer: &mut W,
@@ -188,8 +175,13 @@ fn put_given_entry<W: Sink>(
         (entry_given (plan_in form.now) at (entry_of entry.now)) }
     ensures count { Counts result (W.failed writer.old) (W.failed writer.new) }
 {
+    let size = entry.item.size();
+    if needs_place(size) {
+        return pending.put(writer, &entry_to(at, entry));
+    }
     pending.put(writer, &entry_head(Order::Most, entry))?;
-    put_given_last(pending, writer, form, at, entry.item)
+    put_told_item(pending, writer, form, entry.item)?;
+    put_filler(pending, writer, 0, 4 - size as usize)
 }
 
 // Where the value of the next entry stands.

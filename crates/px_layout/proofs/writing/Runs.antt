@@ -41,13 +41,13 @@ each_read P (y ∷ xs) (suc i) x h e = each_read P xs i x h.1 e
 -- ---- entries
 
 module _ (plan : Plan) where
-  pub last_far : (at : ℕ) (x : Item) → 4 < item_size x → long_bytes Most at ≡ last_given plan at x
+  last_far : (at : ℕ) (x : Item) → 4 < item_size x → long_bytes Most at ≡ last_given plan at x
   unfolding last_given
   last_far at x l =
       sym (cond-true (nat_lt 4 (item_size x)) (long_bytes Most at) (item_bytes plan Most 0 x
       ++ replicate (4 - item_size x) 0) (lt-ltb 4 (item_size x) l))
 
-  pub last_near : (at : ℕ) (x : Item) (n : ℕ) → n ≡ item_size x → n ≤ 4
+  last_near : (at : ℕ) (x : Item) (n : ℕ) → n ≡ item_size x → n ≤ 4
       → item_bytes plan Most 0 x ++ replicate (4 - n) 0 ≡ last_given plan at x
   unfolding last_given
   last_near at x n e l =
@@ -55,7 +55,7 @@ module _ (plan : Plan) where
       ∙ sym (cond-false (nat_lt 4 (item_size x)) (long_bytes Most at) (item_bytes plan Most 0 x
       ++ replicate (4 - item_size x) 0) (le-ltb 4 (item_size x) (omega arith)))
 
-  pub given_as : (at : ℕ) (i : ℕ × Item) (head : List ℕ) → head ≡ head_bytes Most i → head ++ last_given plan at i.1 ≡ entry_given plan at i
+  given_as : (at : ℕ) (i : ℕ × Item) (head : List ℕ) → head ≡ head_bytes Most i → head ++ last_given plan at i.1 ≡ entry_given plan at i
   unfolding entry_given
   given_as at i head e =
       let last = last_given plan at i.1 in
@@ -63,6 +63,16 @@ module _ (plan : Plan) where
       let form = spelling Most 2 (code (item_form i.1)) in
       let count = long_bytes Most (item_count i.1) in
       ap (λ x. x ++ last) e ∙ append_assoc tag (form ++ count) last ∙ ap (λ x. tag ++ x) (append_assoc form count last)
+
+  -- with a place of its own, and without
+  pub given_far : (at : ℕ) (i : ℕ × Item) (n : ℕ) (bytes : List ℕ) → n ≡ item_size i.1 → 4 < n
+      → bytes ≡ head_bytes Most i ++ long_bytes Most at → bytes ≡ entry_given plan at i
+  given_far at i n bytes s l e =
+      e ∙ ap (λ x. head_bytes Most i ++ x) (last_far at i.1 (omega (arith, s, l))) ∙ given_as at i (head_bytes Most i) refl
+
+  pub given_near : (at : ℕ) (i : ℕ × Item) (n : ℕ) (head : List ℕ) → n ≡ item_size i.1 → n ≤ 4 → head ≡ head_bytes Most i
+      → head ++ (item_bytes plan Most 0 i.1 ++ replicate (4 - n) 0) ≡ entry_given plan at i
+  given_near at i n head s l e = ap (λ x. head ++ x) (last_near at i.1 n s l) ∙ given_as at i head e
 
   -- at the place of its value, these are the entry's bytes
   pub given_is : (d : Dir) (at : ℕ) (i : ℕ × Item) → (4 < item_size i.1 → place plan (Placed d i.0) ≡ at)
