@@ -1,5 +1,5 @@
 // What an entry says, put behind the bytes that wait for a writer. TIFF 6.0 section 2, "IFD Entry" and "Value/Offset".
-ghost use Rattle.std.specs.Prelude.{◌≡◌, ◌≤◌, length, map, flat_map};
+ghost use Rattle.std.specs.Prelude.{◌≡◌, ◌≤◌, ◌-◌, ◌*◌, ◌++◌, length, take, map, flat_map};
 ghost use Rattle.std.specs.List.{AllByRecursion, range_with_len};
 ghost use Rattle.px_bytes.specs.Devices.{CanFail, Counts};
 ghost use Rattle.px_bytes.specs.Parts.{limit};
@@ -59,6 +59,25 @@ fn put_strip_offsets<W: Sink>(
     Ok(())
 }
 
+// How many numbers of strips are spelled before they are put.
+pub(crate) const AT_ONCE: usize = 64;
+
+// Spells the lengths of the strips from `start` up to `end`.
+fn spell_lengths(order: Order, strips: &Strips, start: usize, end: usize, into: &mut [u8])
+    requires rising { start ≤ end }
+    requires inside { end ≤ length strips.now }
+    requires short { AllByRecursion (λ n. n ≤ limit) (map (λ x. length x) strips.now) }
+    requires room { length into.old ≡ 4 * (end - start) }
+    ensures { flat_map (long_bytes order) (take end (map (λ x. length x) strips.now))
+        ≡ flat_map (long_bytes order) (take start (map (λ x. length x) strips.now)) ++ into.new }
+{
+    for i in start..end {
+        let at = 4 * (i - start);
+        order.put32(strips.at(i).len() as u32, &mut into[at..at + 4]);
+    }
+}
+
+// The lengths of strips.
 pub(crate) fn put_strip_lengths<W: Sink>(
     pending: &mut Pending,
     writer: &mut W,
@@ -71,8 +90,14 @@ pub(crate) fn put_strip_lengths<W: Sink>(
         (long_bytes order) (map (λ x. length x) strips.now)) }
     ensures count { Counts result (W.failed writer.old) (W.failed writer.new) }
 {
-    for i in 0..strips.len() {
-        put_long(pending, writer, order, strips.at(i).len() as u32)?;
+    let mut piece = [0; 4 * AT_ONCE];
+    let mut i = 0;
+    while i < strips.len() {
+        let count = AT_ONCE.min(strips.len() - i);
+        let bytes = &mut piece[..4 * count];
+        spell_lengths(order, strips, i, i + count, bytes);
+        pending.put(writer, bytes)?;
+        i += count;
     }
     Ok(())
 }

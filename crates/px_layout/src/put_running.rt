@@ -1,5 +1,5 @@
 // The entries of a normal form, put behind the bytes that wait for a writer: offsets run along, so that no plan is kept.
-ghost use Rattle.std.specs.Prelude.{◌≡◌, ◌<◌, ◌≤◌, ◌+◌, ◌++◌, ◌^◌, Some, None, length, flat_map, unwrap_or, []};
+ghost use Rattle.std.specs.Prelude.{◌≡◌, ◌<◌, ◌≤◌, ◌+◌, ◌-◌, ◌*◌, ◌++◌, ◌^◌, ℕ, Some, None, length, take, drop, flat_map, unwrap_or, []};
 ghost use Rattle.px_bytes.specs.Devices.{CanFail, Counts};
 ghost use Rattle.px_bytes.specs.Parts.{limit};
 ghost use Rattle.px_bytes.specs.Waiting.{PutsTo};
@@ -18,7 +18,7 @@ use crate::entries::{Entries, is_there};
 use crate::form::NormalForm;
 use crate::items::{Entry, Item};
 use crate::put::{entry_head, put_filler, put_long, put_short, put_value};
-use crate::put_item::put_strip_lengths;
+use crate::put_item::{AT_ONCE, put_strip_lengths};
 use crate::sizing::table_len;
 use px_bytes::{Failed, Order, Pending, Sink};
 use px_iim::put_iim;
@@ -63,6 +63,27 @@ fn jpeg_at(form: &NormalForm) -> u32
     }
 }
 
+// Spells where the strips from `start` up to `end` stand, the first of them at `at`, and answers where the next one does.
+fn spell_places(at: u32, strips: &Strips, start: usize, end: usize, into: &mut [u8]) -> u32
+    requires rising { start ≤ end }
+    requires inside { end ≤ length strips.now }
+    requires most { at + strips_size (drop start strips.now) ≤ limit }
+    requires room { length into.old ≡ 4 * (end - start) }
+    ensures next { result + strips_size (drop end strips.now) ≡ at + strips_size (drop start strips.now) }
+    ensures spelled { (first : ℕ) → at + strips_size (drop start strips.now) ≡ first + strips_size strips.now
+        → flat_map (long_bytes Order.Most) (take end (strip_places first strips.now))
+        ≡ flat_map (long_bytes Order.Most) (take start (strip_places first strips.now)) ++ into.new }
+{
+    let mut next = at;
+    for i in start..end {
+        let place = 4 * (i - start);
+        Order::Most.put32(next, &mut into[place..place + 4]);
+        let size = strips.at(i).len() as u32;
+        next += size + size % 2;
+    }
+    next
+}
+
 // Where strips stand, the first at `at`.
 fn put_strip_places<W: Sink>(
     pending: &mut Pending,
@@ -76,11 +97,15 @@ fn put_strip_places<W: Sink>(
         (long_bytes Order.Most) (strip_places at strips.now)) }
     ensures count { Counts result (W.failed writer.old) (W.failed writer.new) }
 {
-    let mut at = at;
-    for i in 0..strips.len() {
-        put_long(pending, writer, Order::Most, at)?;
-        let size = strips.at(i).len() as u32;
-        at += size + size % 2;
+    let mut piece = [0; 4 * AT_ONCE];
+    let mut next = at;
+    let mut i = 0;
+    while i < strips.len() {
+        let count = AT_ONCE.min(strips.len() - i);
+        let bytes = &mut piece[..4 * count];
+        next = spell_places(next, strips, i, i + count, bytes);
+        pending.put(writer, bytes)?;
+        i += count;
     }
     Ok(())
 }

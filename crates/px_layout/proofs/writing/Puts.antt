@@ -1,12 +1,15 @@
 -- Parts put one behind another, where the bytes are known by an equation.
 use Rattle.std.proofs.Common.{◌≡◌, ◌<◌, ◌+◌, ◌++◌, ◌∙◌, ℕ, List, take, drop, slice_get, Option, Some, Result, subst, ap, sym, arith}
-use Rattle.std.proofs.Common.{take-append-drop}
+use Rattle.std.proofs.Common.{take-append-drop, ◌≤◌, length, ap₂, append_assoc}
 use Rattle.std.specs.List.{flat_map, range_with_len}
 use Rattle.std.proofs.lemmas.Grind.{flat_map-append}
 use Rattle.std.proofs.lemmas.Option.{slice_get-get_or}
 use Rattle.std.proofs.Math.Seq.{take-add}
+use Rattle.std.proofs.lemmas.Slice.{take-put_mid}
+use borrow.Rule.Slice.PartMut.{put_mid}
 use Rattle.px_bytes.specs.Waiting.{PutsTo}
 use Rattle.px_bytes.specs.lemmas.WaitingLaws.{HasPut, FailsPut, loop_more, loop_stop, put_both, puts_to_both, fails_first, fails_second}
+use Rattle.px_bytes.specs.lemmas.WaitingLaws.{parts_more}
 use Rattle.px_layout.specs.lemmas.StandLaws.{length-range, get_or-range}
 
 -- the numbers from 0 on
@@ -14,6 +17,15 @@ pub slice_get-range : (n i : ℕ) → i < n → slice_get (range_with_len 0 n) i
 slice_get-range n i h =
     slice_get-get_or (range_with_len 0 n) i 0 (let e = length-range 0 n in omega arith)
     ∙ ap (λ (k : ℕ). Some k) (get_or-range 0 n i 0 h ∙ omega arith)
+
+-- one more element is spelled behind those from `start` on
+pub spelled_more : {X : Type 0} (f : X → List ℕ) (xs : List X) (start i : ℕ) (x : X) (a m n : ℕ) (to ys : List ℕ)
+    → slice_get xs i ≡ Some x → ys ≡ f x → flat_map f (take i xs) ≡ flat_map f (take start xs) ++ take a to
+    → n ≡ a + length ys → a ≤ length to → flat_map f (take (i + 1) xs) ≡ flat_map f (take start xs) ++ take n (put_mid a m to ys)
+spelled_more f xs start i x a m n to ys read y h p l =
+    parts_more f xs i x read ∙ ap₂ (λ (u v : List ℕ). u ++ v) h (sym y)
+    ∙ append_assoc (flat_map f (take start xs)) (take a to) ys
+    ∙ ap (λ (u : List ℕ). flat_map f (take start xs) ++ u) (sym (take-put_mid a m to ys n p l))
 
 module _ {W : Type 0} (taken : W → Option (List ℕ)) where
   -- the same bytes
@@ -60,6 +72,24 @@ module _ {W : Type 0} (taken : W → Option (List ℕ)) where
         let all : flat_map f (take i xs) ++ (y ++ rest) ≡ flat_map f xs =
         ap (λ (l : List ℕ). flat_map f (take i xs) ++ l) behind ∙ sym (flat_map-append f (take i xs) (drop i xs))
         ∙ ap (flat_map f) (take-append-drop i xs) in
+        fails_as a c h (flat_map f (take i xs) ++ (y ++ rest)) (flat_map f xs) all (second_of a b c h k (flat_map f (take i xs)) y rest p q)
+
+  -- the elements of a list up to n, behind those up to i, and where a call failed
+  module _ {X : Type 0} (f : X → List ℕ) (xs : List X) (i n : ℕ) (y : List ℕ)
+      (e : flat_map f (take n xs) ≡ flat_map f (take i xs) ++ y) where
+    pub more_behind : (a b c : W) (h k m : List ℕ) → HasPut taken a b h k (flat_map f (take i xs)) → HasPut taken b c k m y
+        → HasPut taken a c h m (flat_map f (take n xs))
+    more_behind a b c h k m p q =
+        has_as a c h m (flat_map f (take i xs) ++ y) (flat_map f (take n xs)) (sym e)
+        (put_both taken a b c h k m (flat_map f (take i xs)) y p q)
+
+    pub stop_behind : (a b c : W) (h k : List ℕ) → HasPut taken a b h k (flat_map f (take i xs)) → FailsPut taken b c k y
+        → FailsPut taken a c h (flat_map f xs)
+    stop_behind a b c h k p q =
+        let rest = flat_map f (drop n xs) in
+        let all : flat_map f (take i xs) ++ (y ++ rest) ≡ flat_map f xs =
+        sym (append_assoc (flat_map f (take i xs)) y rest) ∙ ap (λ (l : List ℕ). l ++ rest) (sym e)
+        ∙ sym (flat_map-append f (take n xs) (drop n xs)) ∙ ap (flat_map f) (take-append-drop n xs) in
         fails_as a c h (flat_map f (take i xs) ++ (y ++ rest)) (flat_map f xs) all (second_of a b c h k (flat_map f (take i xs)) y rest p q)
 
   -- one more element of a list, and one at which a call failed
