@@ -69,6 +69,9 @@ impl Item<'_, '_> {
         requires { IsCounted (item_of self) }
         ensures { result ≡ item_size (item_of self.entry) }
     {
-        u64::from(self.count()) * u64::from(self.form().size())
+        match self {
+            Item::Field(value) => value.size(),
+            _ => u64::from(self.count()) * u64::from(self.form().size()),
+        }
     }
 }

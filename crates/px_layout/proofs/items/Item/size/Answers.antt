@@ -3,6 +3,11 @@ use Rattle.px_field.specs.Forms.{size}
 use Rattle.px_tree.specs.Fits.{item_size}
 use Rattle.px_layout.proofs.items.Item.size.Goals as goal
 
-pub returns : goal.returns
+pub returns-in-Field : goal.returns-in-Field
 unfolding item_size
-returns c = ap₂ (λ x y. x * y) (c.from.ensures ∙ c.count.ensures) (c.from-2.ensures ∙ c.size.ensures ∙ ap size c.form.ensures)
+returns-in-Field c = rw c.in-Field.is c.size.ensures.elements
+
+pub returns-in_default : goal.returns-in_default
+unfolding item_size
+returns-in_default c =
+    ap₂ (λ x y. x * y) (c.from.ensures ∙ c.count.ensures) (c.from-in_default.ensures ∙ c.size-in_default.ensures ∙ ap size c.form.ensures)
