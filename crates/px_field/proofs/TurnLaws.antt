@@ -1,10 +1,11 @@
 -- Elements turned round one after another.
-use Rattle.std.proofs.Common.{◌≡◌, ℕ, zero, suc, ◌+◌, ◌*◌, ◌/◌, ◌-◌, ◌≤◌, Bool, true, false, List, [], ◌∷◌, ◌++◌, map, flat_map, length}
+use Rattle.std.proofs.Common.{◌≡◌, ℕ, zero, suc, ◌+◌, ◌*◌, ◌/◌, ◌<◌, ◌≤◌, Bool, true, false, List, [], ◌∷◌, ◌++◌, map, flat_map, length}
 use Rattle.std.proofs.Common.{take, drop, refl, sym, ◌∙◌, ap, ap₂, arith, append_assoc, append-nil, length-append, length-drop}
 use Rattle.std.specs.Int.{w16, w32}
 use Rattle.std.proofs.lemmas.Grind.{common_steps}
 use Rattle.std.proofs.lemmas.Int.{of_z-to_z}
 use Rattle.std.proofs.lemmas.List.{length-take-le}
+use Rattle.std.proofs.lemmas.Nat.{le-div}
 use Rattle.std.proofs.Math.Nat.{div-mul-le_self, mul-le-mul_right}
 use Rattle.std.proofs.Math.Seq.{drop-drop}
 use Rattle.std.proofs.lemmas.Slice.{take-put_mid}
@@ -163,6 +164,9 @@ read_size false form.Utf8 h = refl
 
 pub room_for : (n width room : ℕ) → n ≤ room / width → n * width ≤ room
 room_for n width room h = let whole = div-mul-le_self room width in let below = mul-le-mul_right width h in omega arith
+
+pub room_of : (n width room : ℕ) → 0 < width → n * width ≤ room → n ≤ room / width
+room_of n width room p h = le-div n room width p h
 
 pub parts_fit : (i n len : ℕ) (f : Form) → i + n ≤ len / size f → i * size f + n * size f ≤ len
 parts_fit i n len f h =

@@ -239,13 +239,16 @@ fn same_elements(a: &Value, b: &Value) -> bool
     true
 }
 
-// How many elements of a width have room in so many bytes, of `rest` elements.
-#[tactic(auto, using(crate::proofs::TurnLaws::room_for))]
+// How many elements of a width have room in so many bytes, of `rest` elements. Mostly all have, which needs no division.
+#[tactic(auto, using(crate::proofs::TurnLaws::room_for, crate::proofs::TurnLaws::room_of))]
 fn how_many(rest: u32, width: u32, room: usize) -> u32
     requires { 0 < width }
     ensures count { result ≡ min rest (room / width) }
     ensures fits { result * width ≤ room }
 {
+    if rest as usize * width as usize <= room {
+        return rest;
+    }
     let most = room / width as usize;
     if most < rest as usize {
         most as u32
