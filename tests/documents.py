@@ -146,10 +146,12 @@ class Listed(unittest.TestCase):
             self.assertLessEqual(statuses, set(re.findall(row, text_of(name), re.M)), name)
 
     def test_what_must_be_read_has_so_many_lines(self):
-        rows = re.findall(r"^\| (px_\w+) \| (`[^|]*) \| (\d+) \|$", text_of("docs/PROOFS.md"), re.M)
+        rows = re.findall(r"^\| (px_\w+) \| ([^|]*) \| (\d+) \|$", text_of("docs/PROOFS.md"), re.M)
         self.assertEqual(len(rows), len(os.listdir(os.path.join(TOP, "crates"))) + 1)
         for crate, files, lines in rows:
             names = [it if "." in it else f"specs/{it}.antt" for it in re.findall(r"`([\w/.]+)`", files)]
+            # a crate of tests alone has no definitions
+            self.assertEqual(bool(names), os.path.isdir(os.path.join(TOP, "crates", crate, "specs")), crate)
             self.assertEqual(sum(text_of(f"crates/{crate}/{it}").count("\n") for it in names), int(lines), crate)
 
     def test_the_version_is_stated_once(self):

@@ -27,8 +27,6 @@ mod marks;
 mod memory;
 mod numbers;
 mod pending;
-#[cfg(test)]
-mod tests;
 mod whole;
 
 pub use blocks::{Block, LIMIT};

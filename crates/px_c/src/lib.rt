@@ -22,8 +22,6 @@ mod giving;
 mod names;
 mod over_memory;
 pub mod statuses;
-#[cfg(test)]
-mod tests;
 
 pub use faults::ExifnormFault;
 use giving::give_text;

@@ -21,8 +21,6 @@
 #![tactic(auto)]
 
 mod faults;
-#[cfg(test)]
-mod flush_tests;
 mod hand;
 mod headline;
 mod input;
@@ -32,8 +30,6 @@ mod labelled;
 pub mod laws;
 mod meanings;
 mod runs;
-#[cfg(test)]
-mod tests;
 mod texts;
 mod version;
 mod writing;

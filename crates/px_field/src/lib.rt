@@ -22,8 +22,6 @@
 mod forms;
 pub mod laws;
 mod spelling;
-#[cfg(test)]
-mod tests;
 mod turning;
 mod values;
 

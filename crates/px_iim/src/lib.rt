@@ -27,8 +27,6 @@ pub mod laws;
 mod length;
 mod read;
 mod same;
-#[cfg(test)]
-mod tests;
 mod walk;
 mod write;
 

@@ -27,8 +27,6 @@ mod legal;
 mod normal;
 mod offsets;
 mod plan;
-#[cfg(test)]
-mod plan_tests;
 mod put;
 mod put_form;
 mod put_item;
@@ -39,10 +37,6 @@ mod records;
 mod sizing;
 mod starts;
 mod with_plan;
-#[cfg(test)]
-mod with_plan_tests;
-#[cfg(test)]
-mod worked_blocks;
 mod write;
 
 pub use chunks::Chunk;

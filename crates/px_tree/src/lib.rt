@@ -34,8 +34,6 @@ mod source;
 mod strips;
 mod tables;
 mod tags;
-#[cfg(test)]
-mod tests;
 mod thumbnail;
 mod tree;
 mod uses;

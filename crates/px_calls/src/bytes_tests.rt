@@ -1,0 +1,34 @@
+// px_bytes: ranges over an allocator, a flush that fails, a write of no byte, and room that is asked for ahead.
+use crate::devices::KeepsBack;
+use px_bytes::{Device, Growing, Memory, Ranges, Sink, Watched};
+use std::test::Fail;
+
+#[test]
+fn a_range_is_held(rt: HostRuntime) {
+    let mut held = Ranges::new(rt.alloc());
+    assert_eq!(rt; held.add(0, 8).ok(), Some(true));
+    assert_eq!(rt; held.add(7, 1).ok(), Some(false));
+}
+
+#[test]
+fn a_failed_flush_is_counted_and_not_tried_again(rt: HostRuntime) {
+    let mut writer = Watched::new(KeepsBack::new());
+    assert!(rt; writer.flush_all().is_err());
+    assert_eq!(rt; writer.failures(), 1);
+    assert_eq!(rt; writer.into_inner().flushes, 1);
+}
+
+#[test]
+fn a_write_of_no_byte_passes(rt: HostRuntime) {
+    let mut writer = Watched::new(KeepsBack::new());
+    assert_eq!(rt; writer.write_some(&[]), Ok(0));
+}
+
+#[test]
+fn a_writer_with_room_grows(rt: HostRuntime) -> Result<(), Fail> {
+    let mut memory = Memory::new(rt.alloc());
+    let mut writer = Growing::with_room_in(&mut memory, 2)?;
+    assert_eq!(rt; writer.write_some(b"II"), Ok(2));
+    assert_eq!(rt; writer.finish_in(&mut memory)?.len(), 2);
+    Ok(())
+}

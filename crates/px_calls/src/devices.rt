@@ -1,0 +1,47 @@
+// Devices that fail where those of no run do.
+ghost use Rattle.std.specs.Prelude.{◌≡◌, ◌+◌, ◌^◌, ◌-◌, min, length, Ok, IsErr};
+ghost use Rattle.std.specs.Io.{WritesAtMost};
+
+use std::io;
+use std::io::{ErrorKind, Write};
+
+/// A writer that takes all that it is handed and fails each flush. It counts the bytes and the flushes.
+#[derive(Drop)]
+pub struct KeepsBack {
+    /// How many bytes it has taken.
+    pub held: usize,
+    /// How often it was asked to flush.
+    pub flushes: u32,
+}
+
+impl KeepsBack {
+    /// No byte, and no flush.
+    pub fn new() -> KeepsBack
+        ensures { result ≡ record { held = 0; flushes = 0 } }
+    {
+        KeepsBack {
+            held: 0,
+            flushes: 0,
+        }
+    }
+}
+
+impl Write for KeepsBack {
+    fn write(&mut self, buf: &[u8]) -> io::Result<usize>
+        ensures all { result ≡ Ok (length buf.now) }
+        ensures held { self.new.held ≡ min (self.old.held + length buf.now) (2 ^ 64 - 1) }
+        ensures flushes { self.new.flushes ≡ self.old.flushes }
+    {
+        self.held = self.held.saturating_add(buf.len());
+        Ok(buf.len())
+    }
+
+    fn flush(&mut self) -> io::Result<()>
+        ensures failed { IsErr result }
+        ensures held { self.new.held ≡ self.old.held }
+        ensures flushes { self.new.flushes ≡ min (self.old.flushes + 1) (2 ^ 32 - 1) }
+    {
+        self.flushes = self.flushes.saturating_add(1);
+        Err(io::Error::from(ErrorKind::Interrupted))
+    }
+}

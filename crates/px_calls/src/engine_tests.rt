@@ -1,0 +1,75 @@
+// px_engine: two files in hand at once, captions as a list, and flushes: each run that writes asks for one, behind the last byte,
+// and tells where it fails. No run of the program shows that.
+use crate::devices::KeepsBack;
+use px_bytes::Watched;
+use px_engine::{Fault, Label, captions, captions_of, normalise, normalise_both, read_any, show};
+use std::process::Abort;
+use std::test::Fail;
+
+// One field: Orientation, SHORT 1.
+const EXIF: &[u8] =
+    b"MM\x00\x2a\x00\x00\x00\x08\x00\x01\x01\x12\x00\x03\x00\x00\x00\x01\x00\x01\x00\x00\x00\x00\x00\x00";
+
+const IIM: &[u8] = b"\x1c\x02\x78\x00\x03abc";
+
+const IIM_EXTENDED: &[u8] = b"\x1c\x02\x78\x80\x04\x00\x00\x00\x03abc";
+
+// A by-line's title that says nothing, and a caption; the charset is declared.
+const LABELLED: &[u8] =
+    b"\x1C\x02\x55\x00\x00\x1C\x02\x78\x00\x02V\\\x1C\x01\x5A\x00\x03\x1B\x25\x47";
+
+#[test]
+fn two_files_are_normalised(rt: HostRuntime) -> Result<(), Fail> {
+    let forms = normalise_both(rt.alloc(), IIM_EXTENDED, LABELLED)?;
+    assert_eq!(rt; forms.first.as_slice(), IIM);
+    assert_eq!(rt; forms.second.len(), 20);
+    Ok(())
+}
+
+#[test]
+fn captions_are_told_by_their_labels(rt: HostRuntime) -> Result<(), Fail> {
+    let said = read_any(rt.alloc(), LABELLED).ok().ok_or("refused")?;
+    let captions = captions_of(rt.alloc(), &said)?;
+    assert!(rt; captions.utf8());
+    assert_eq!(rt; captions.len(), 2);
+    let first = captions.at(0);
+    assert!(rt; first.label == Label::Caption);
+    assert_eq!(rt; first.text.len(), 2);
+    Ok(())
+}
+
+// So many bytes were taken, one flush was asked for, and its failure was told.
+fn check_flushed(rt: &impl Abort, fault: Option<Fault>, writer: Watched<KeepsBack>, bytes: usize) {
+    assert!(rt; matches!(fault, Some(Fault::WriteFailed)));
+    let kept = writer.into_inner();
+    assert_eq!(rt; kept.held, bytes);
+    assert_eq!(rt; kept.flushes, 1);
+}
+
+#[test]
+fn a_flush_stands_behind_the_form_of_an_exif_block(rt: HostRuntime) {
+    let mut writer = Watched::new(KeepsBack::new());
+    let fault = normalise(rt.alloc(), &mut Watched::new(EXIF), &mut writer).err();
+    check_flushed(&rt, fault, writer, 26);
+}
+
+#[test]
+fn a_flush_stands_behind_the_form_of_a_record(rt: HostRuntime) {
+    let mut writer = Watched::new(KeepsBack::new());
+    let fault = normalise(rt.alloc(), &mut Watched::new(IIM), &mut writer).err();
+    check_flushed(&rt, fault, writer, 8);
+}
+
+#[test]
+fn a_flush_stands_behind_a_listing(rt: HostRuntime) {
+    let mut writer = Watched::new(KeepsBack::new());
+    let fault = show(rt.alloc(), &mut Watched::new(IIM), &mut writer).err();
+    check_flushed(&rt, fault, writer, 20);
+}
+
+#[test]
+fn a_flush_stands_behind_captions(rt: HostRuntime) {
+    let mut writer = Watched::new(KeepsBack::new());
+    let fault = captions(rt.alloc(), &mut Watched::new(IIM), &mut writer).err();
+    check_flushed(&rt, fault, writer, 39);
+}
