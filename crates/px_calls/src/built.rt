@@ -9,17 +9,6 @@ pub(crate) fn one() -> Value<'static> {
     read_value(Form::Short, Order::Most, b"\x00\x01")
 }
 
-// A meaning with the fields of its main directory.
-pub(crate) fn with_main<'a>(main: Fields<'a>) -> Meaning<'a> {
-    Meaning {
-        main,
-        iptc: None,
-        exif: None,
-        gps: None,
-        thumb: None,
-    }
-}
-
 // A meaning with one field in its main directory.
 pub(crate) fn with_field<'a>(
     alloc: Global,
@@ -28,5 +17,11 @@ pub(crate) fn with_field<'a>(
 ) -> Result<Meaning<'a>, AllocError> {
     let mut main = Fields::new(alloc);
     let _ = main.put(tag, value)?;
-    Ok(with_main(main))
+    Ok(Meaning {
+        main,
+        iptc: None,
+        exif: None,
+        gps: None,
+        thumb: None,
+    })
 }

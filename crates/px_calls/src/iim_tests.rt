@@ -21,8 +21,7 @@ fn a_record_is_read_and_pushed(rt: HostRuntime) -> Result<(), Fail> {
 #[test]
 fn a_record_is_appended(rt: HostRuntime) -> Result<(), Fail> {
     let read = read_iim(rt.alloc(), CAPTION_EXTENDED)?;
-    let len = normal_len(&read).ok_or("too long")?;
-    assert_eq!(rt; len, 8);
+    assert_eq!(rt; normal_len(&read), Some(8));
     let mut out = Vec::new(rt.alloc());
     assert!(rt; append_iim(&read, &mut out).is_ok());
     assert!(rt; out.as_slice() == CAPTION);
