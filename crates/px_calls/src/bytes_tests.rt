@@ -1,6 +1,9 @@
-// px_bytes: ranges over an allocator, a flush that fails, a write of no byte, and room that is asked for ahead.
+// px_bytes: ranges over an allocator, the texts of refusals, a flush that fails, a write of no byte, and room that is asked for
+// ahead.
 use crate::devices::KeepsBack;
-use px_bytes::{Device, Growing, Memory, Ranges, Sink, Watched};
+use px_bytes::{
+    Cause, Device, Growing, Memory, Ranges, ReadFault, Refusal, Sink, Watched, WriteRefusal,
+};
 use std::test::Fail;
 
 #[test]
@@ -8,6 +11,23 @@ fn a_range_is_held(rt: HostRuntime) {
     let mut held = Ranges::new(rt.alloc());
     assert_eq!(rt; held.add(0, 8).ok(), Some(true));
     assert_eq!(rt; held.add(7, 1).ok(), Some(false));
+}
+
+#[test]
+fn refusals_say_what_they_are(rt: HostRuntime) -> Result<(), Fail> {
+    let content = Cause::Loop.at(22);
+    let text = format!(in rt.alloc();
+        "{content}, {}, {}, {}, {}",
+        Refusal::OutOfMemory,
+        WriteRefusal::NormalTooLong,
+        WriteRefusal::WriteFailed,
+        ReadFault::ReadFailed
+    )?;
+    assert_eq!(rt;
+        text.as_str(),
+        "Loop at 22, out of memory, the normal form is too long, a write failed, a read failed"
+    );
+    Ok(())
 }
 
 #[test]
