@@ -16,7 +16,7 @@ DOUBLES, MOST = 1 << 20, LIMIT + 7  # a list that a file is read into doubles up
 WORDS, CALLS = 48 * 1024, 140  # what reading the command line takes at most: bytes, and calls for memory
 SMALL, RECORDS = 4096, 12 * 1024  # what small lists take at most, and the list of the record numbers
 LONG = 65536  # a list of so many DataSets or more grows by a 32nd
-LARGE, TIMES = 1 << 20, 7.1  # of a file of so many bytes or more, a run asks for so many times its bytes at most, reserve of lists included
+LARGE, TIMES = 1 << 20, 6.3  # of a file of so many bytes or more, a run asks for so many times its bytes at most, reserve of lists included
 # a run takes a tenth of this at most, also on a busy machine; one that looks at all it holds again and again takes far more
 SPENT, BYTES_A_MILLISECOND = 300, 8000
 ITEM, GROUP, FIELD, STRIP = 24, 32, 32, 16  # bytes that are held of a DataSet, a group of them, a field and a strip

@@ -68,7 +68,8 @@ class Many(WithPictures):
 
     def test_stopped_by_the_keyboard(self):
         folder = many()
-        words = [sys.executable, "-m", "exifnorm_pictures", "index", folder, "--catalogue", self.path("c")]
+        # a shell that ran these tests in the background would have the signal ignored
+        words = ["env", "--default-signal=INT", sys.executable, "-m", "exifnorm_pictures", "index", folder, "--catalogue", self.path("c")]
         started = subprocess.Popen(words, stdout=subprocess.DEVNULL, stderr=subprocess.PIPE, env=Studio.environment())
         started.stderr.readline()
         started.send_signal(signal.SIGINT)
