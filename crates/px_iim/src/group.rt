@@ -1,4 +1,4 @@
-// The groups of one record number, in ascending order.
+// The groups of one list, in ascending order: all are of one record number.
 ghost use Rattle.std.specs.Prelude.{◌≡◌, ◌+◌, ◌/◌, ◌<◌, ◌≤◌, ℕ, map, max, MatchResult, MatchOption, vec_len, vec_capacity, OnOk, OnErr};
 ghost use Rattle.std.specs.Prelude.{true, length, slice_index};
 ghost use Rattle.px_bytes.specs.Lacking.{Lacks};
@@ -147,22 +147,21 @@ fn insert<'a>(
     Ok(at)
 }
 
-// Puts the item at its group's end; a group that isn't there is put in its place. Answers where the group stands, which
-// is looked for near a place first.
+// Puts the item at the end of the group of this number; a group that isn't there is put in its place. Answers where the group
+// stands, which is looked for near a place first.
 pub(crate) fn add<'a>(
     memory: &mut Memory,
     groups: &mut Vec<Group<'a>>,
-    rec: u8,
+    number: u8,
     item: Item<'a>,
     near: usize,
 ) -> Result<usize, Refused>
     requires { Rises (numbers groups.old.items) }
-    ensures done { OnOk result (groups_view rec groups.new.items ≡ put (record
-        { rec = rec; number = item.entry.number; octets = item.entry.octets.now }) (groups_view rec groups.old.items)) }
+    ensures done { OnOk result ((r : ℕ) → named r item.entry.number ≡ number → groups_view r groups.new.items ≡ put (record
+        { rec = r; number = item.entry.number; octets = item.entry.octets.now }) (groups_view r groups.old.items)) }
     ensures failed { OnErr result ((r : ℕ) → groups_view r groups.new.items ≡ groups_view r groups.old.items) }
     ensures memory { Lacks result memory.old memory.new }
 {
-    let number = named(rec, item.number);
     match find_near(groups, number, near) {
         Ok(at) => append(memory, groups, at, item),
         Err(at) => insert(memory, groups, at, number, item),

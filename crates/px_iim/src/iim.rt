@@ -4,11 +4,12 @@ ghost use Rattle.px_bytes.specs.Lacking.{Lacks};
 ghost use Rattle.px_bytes.specs.Parts.{limit};
 ghost use Rattle.px_iim.specs.Group.{named, put, items_at, AreGroups};
 ghost use Rattle.px_iim.specs.Record.{normal_iim};
-ghost use Rattle.px_iim.specs.calls.View.{item_view, records_view, part_view, octets_left, octets_of};
+ghost use Rattle.px_iim.specs.calls.View.{item_view, records_view, part_view, octets_left, octets_of, AreInPlace};
 ghost use Rattle.px_iim.specs.Writing.{within};
 
 use crate::group::{All, Group, Item, add, items_of, named};
 use crate::length::longer;
+use crate::quarters::{list_of, record_of};
 use crate::walk::Groups;
 use px_bytes::{Memory, Refused};
 use std::alloc::{AllocError, Global};
@@ -17,17 +18,19 @@ use std::marker::Model;
 /// What an IIM block says: a map from group to a list of DataSets, of which none is empty. Contracts
 /// see it as the list of its groups in ascending order of record, then number. The data are borrowed.
 ///
-/// The groups of one record number stand in a list of their own, so a DataSet finds its group by halving
-/// at most 256 groups and moves at most 256, whatever the order in which groups come. The length of the normal form is kept.
+/// The groups of one record number stand in four lists, each with a quarter of the numbers, so a DataSet finds
+/// its group by halving at most 64 groups and moves at most 63, whatever the order in which groups come. There
+/// are at most 1,024 lists. The length of the normal form is kept.
 #[derive(Drop)]
 pub struct Iim<'a> {
     // For `push`, whose refusals no one else is told.
     own: Memory,
+    // The groups of each list, as `list_of` tells it.
     records: Vec<Vec<Group<'a>>>,
     none: Vec<Item<'a>>,
     // The length of the normal form, counted up to twice LIMIT.
     form_len: Option<u32>,
-    // Where the group of the last DataSet stands, in the list of its record number. It only saves time: any place will do.
+    // Where the group of the last DataSet stands, in its list. It only saves time: any place will do.
     near: usize,
 }
 
@@ -35,26 +38,32 @@ impl<'a> Model for Iim<'a> {
     ghost use Rattle.std.specs.Prelude.{◌≡◌, ◌≤◌, [], length, vec_len};
     ghost use Rattle.px_iim.specs.Group.{Record, AreGroups};
     ghost use Rattle.px_iim.specs.Record.{normal_iim};
-    ghost use Rattle.px_iim.specs.calls.View.{records_view};
+    ghost use Rattle.px_iim.specs.calls.View.{records_view, AreInPlace};
     ghost use Rattle.px_iim.specs.Writing.{within};
 
     ghost Value = { Record };
 
     ghost view = { λ i. records_view 0 i.records.items };
 
-    ghost invariant = { λ i. (i.none.items ≡ []) × (vec_len i.records ≤ 256) × AreGroups (records_view 0 i.records.items)
-        × (i.form_len ≡ within (length (normal_iim (records_view 0 i.records.items)))) };
+    ghost invariant = { λ i. (i.none.items ≡ []) × (vec_len i.records ≤ 1024) × AreGroups (records_view 0 i.records.items)
+        × (i.form_len ≡ within (length (normal_iim (records_view 0 i.records.items)))) × AreInPlace 0 i.records.items };
 }
 
-// Makes room for the groups of a record number.
-fn reach<'a>(memory: &mut Memory, records: &mut Vec<Vec<Group<'a>>>, rec: u8) -> Result<(), Refused>
-    requires { vec_len records.old ≤ 256 }
+// Makes sure that there is a list of this place.
+fn reach<'a>(
+    memory: &mut Memory,
+    records: &mut Vec<Vec<Group<'a>>>,
+    list: usize,
+) -> Result<(), Refused>
+    requires most { list < 1024 }
+    requires few { vec_len records.old ≤ 1024 }
     ensures same { records_view 0 records.new.items ≡ records_view 0 records.old.items }
-    ensures there { OnOk result (rec < vec_len records.new) }
-    ensures bounded { vec_len records.new ≤ 256 }
+    ensures placed { AreInPlace 0 records.old.items → AreInPlace 0 records.new.items }
+    ensures there { OnOk result (list < vec_len records.new) }
+    ensures bounded { vec_len records.new ≤ 1024 }
     ensures memory { Lacks result memory.old memory.new }
 {
-    while records.len() <= rec as usize {
+    while records.len() <= list {
         let none = memory.list();
         memory.push(records, none)?;
     }
@@ -108,10 +117,12 @@ impl<'a> Iim<'a> {
         ensures failed { OnErr result (self.new ≡ self.old) }
         ensures memory { Lacks result memory.old memory.new }
     {
-        reach(memory, &mut self.records, rec)?;
-        let groups = &mut self.records[rec as usize];
+        let name = named(rec, number);
+        let list = list_of(rec, name);
+        reach(memory, &mut self.records, list)?;
+        let groups = &mut self.records[list];
         let item = Item { number, octets };
-        self.near = add(memory, groups, rec, item, self.near)?;
+        self.near = add(memory, groups, name, item, self.near)?;
         self.form_len = longer(self.form_len, &item);
         Ok(())
     }
@@ -143,7 +154,7 @@ impl<'a> Iim<'a> {
     {
         Groups {
             lists: self.records.as_slice(),
-            rec: 0,
+            list: 0,
             at: 0,
         }
     }
@@ -160,10 +171,12 @@ impl<'a> Iim<'a> {
     pub fn group(&self, rec: u8, number: u8) -> &[Item<'a>]
         ensures { map item_view result.now ≡ items_at rec (named rec number) self.now }
     {
-        if rec as usize >= self.records.len() {
+        let name = named(rec, number);
+        let list = list_of(rec, name);
+        if list >= self.records.len() {
             return self.none.as_slice();
         }
-        if let Some(items) = items_of(&self.records[rec as usize], named(rec, number)) {
+        if let Some(items) = items_of(&self.records[list], name) {
             return items;
         }
         self.none.as_slice()
@@ -181,18 +194,18 @@ impl<'a> Iim<'a> {
     }
 
     /// The group at a place, in ascending order of record, then number: the record and the number that
-    /// name it, and its DataSets. The place is below `groups`. It takes no memory, and passes at most 256
-    /// lists.
+    /// name it, and its DataSets. The place is below `groups`. It takes no memory, and passes at most
+    /// 1,024 lists.
     pub fn group_at(&self, i: u32) -> (u8, u8, &[Item<'a>])
         requires { i < length self.now }
         ensures { slice_get self.now i ≡ Some (part_view result) }
     {
         let mut left = i as usize;
-        for rec in 0..self.records.len() {
-            let groups = &self.records[rec];
+        for list in 0..self.records.len() {
+            let groups = &self.records[list];
             if left < groups.len() {
                 let group = &groups[left];
-                return (rec as u8, group.number, group.items.as_slice());
+                return (record_of(list), group.number, group.items.as_slice());
             }
             left -= groups.len();
         }

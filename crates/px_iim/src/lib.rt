@@ -25,6 +25,7 @@ mod head;
 mod iim;
 pub mod laws;
 mod length;
+mod quarters;
 mod read;
 mod same;
 mod walk;

@@ -14,7 +14,7 @@ whole_put d good gs a = record { ascending = put_ascends d gs a.ascending; group
 
 -- ---- there are at most 65,536 groups
 
-named_byte : (r n : ℕ) → n < 256 → named r n < 256
+pub named_byte : (r n : ℕ) → n < 256 → named r n < 256
 unfolding named
 named_byte r n h =
     cond_both (r == 2) _ _ (λ x. x < 256)

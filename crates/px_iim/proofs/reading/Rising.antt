@@ -1,6 +1,6 @@
 -- The numbers of a record's groups rise, so a group is found by halving.
-use Rattle.std.proofs.Common.{◌≡◌, ℕ, ◌<◌, ◌≤◌, zero, suc, true, List, [], ◌∷◌, ◌++◌, length, get_or, slice_index, Vec, Global, Result, Ok}
-use Rattle.std.proofs.Common.{Err, MatchResult, inl, inr, sym, ap, ◌∙◌, arith}
+use Rattle.std.proofs.Common.{◌≡◌, ℕ, ◌/◌, ◌<◌, ◌≤◌, zero, suc, true, List, [], ◌∷◌, ◌++◌, length, get_or, slice_index, Vec, Global}
+use Rattle.std.proofs.Common.{Result, Ok, Err, MatchResult, inl, inr, sym, ap, ◌∙◌, arith}
 use Rattle.std.specs.List.{AllByRecursion}
 use Rattle.std.specs.List.Sorted.{IsSearchInRange, IsBinarySearchResult, IsNonDecreasingBy}
 use Rattle.std.specs.Ordering.{nat_cmp, ordering_index}
@@ -32,13 +32,13 @@ pub ascending_behind : (xs ys : Record) → IsAscending (xs ++ ys) → IsAscendi
 ascending_behind [] ys a = a
 ascending_behind (x ∷ xs) ys a = ascending_behind xs ys a.1
 
--- those of each record number
+-- those of each list
 pub rises_record : (r i : ℕ) (vs : List (Vec CodeGroup Global)) (e : Vec CodeGroup Global) → i < length vs
     → IsAscending (records_view r vs) → Rises (numbers (get_or vs i e).items)
 rises_record r i [] e l a = absurd (omega arith)
-rises_record r zero (v ∷ vs) e l a = rises_front r v.items (records_view (suc r) vs) a
+rises_record r zero (v ∷ vs) e l a = rises_front (r / 4) v.items (records_view (suc r) vs) a
 rises_record r (suc i) (v ∷ vs) e l a =
-    rises_record (suc r) i vs e (omega arith) (ascending_behind (groups_view r v.items) (records_view (suc r) vs) a)
+    rises_record (suc r) i vs e (omega arith) (ascending_behind (groups_view (r / 4) v.items) (records_view (suc r) vs) a)
 
 -- ---- what halving finds
 

@@ -1,6 +1,7 @@
 -- How the code's groups are seen.
 use Rattle.std.specs.Prelude.{◌≡◌, ℕ, suc, ◌==◌, ◌<◌, ◌≤◌, length, slice_index, get_or, insert, if◌then◌else◌, Some, None, List, [], ◌∷◌}
-use Rattle.std.specs.Prelude.{◌++◌, drop, map, filter_map}
+use Rattle.std.specs.Prelude.{◌++◌, ◌+◌, ◌*◌, ◌/◌, drop, map, filter_map, ⊤}
+use Rattle.std.specs.List.{AllByRecursion}
 use Rattle.std.specs.Borrow.{Bor}
 use Rattle.std.proofs.Common.{set}
 use Rattle.std.specs.Prelude.{Vec}
@@ -63,15 +64,28 @@ octets_of n items = filter_map (λ x. if x.0 == n then Some x.1 else None) items
 abbrev pub octets_left : All → List (List ℕ)
 octets_left a = octets_of a.number (map item_view (drop a.at a.items.now))
 
--- the groups of each record number, from r on
-abbrev pub records_view : ℕ → List (Vec CodeGroup Global) → Record
-records_view r [] = []
-records_view r (v ∷ vs) = groups_view r v.items ++ records_view (suc r) vs
+-- the list of a group: four lists in a row have the groups of one record number, each a quarter of the numbers
+abbrev pub list_of : ℕ → ℕ → ℕ
+list_of rec number = 4 * rec + number / 64
 
--- the same, without the first groups of r
+-- the groups of each list, from list k on
+abbrev pub records_view : ℕ → List (Vec CodeGroup Global) → Record
+records_view k [] = []
+records_view k (v ∷ vs) = groups_view (k / 4) v.items ++ records_view (suc k) vs
+
+-- list k is that of each group
+abbrev pub AreOf : ℕ → Record → Type 0
+AreOf k gs = AllByRecursion (λ g. list_of g.rec g.number ≡ k) gs
+
+-- each group stands in its list
+abbrev pub AreInPlace : ℕ → List (Vec CodeGroup Global) → Type 0
+AreInPlace k [] = ⊤
+AreInPlace k (v ∷ vs) = AreOf k (groups_view (k / 4) v.items) × AreInPlace (suc k) vs
+
+-- the same as records_view, without the first groups of list k
 abbrev pub left_view : ℕ → ℕ → List (Vec CodeGroup Global) → Record
-left_view r at [] = []
-left_view r at (v ∷ vs) = groups_view r (drop at v.items) ++ records_view (suc r) vs
+left_view k at [] = []
+left_view k at (v ∷ vs) = groups_view (k / 4) (drop at v.items) ++ records_view (suc k) vs
 
 -- a group as it is handed out: its record, its number, its items
 abbrev pub part_view : ℕ × ℕ × Bor (List Item) → Group

@@ -1,4 +1,4 @@
-use Rattle.std.proofs.Common.{◌≡◌, ◌∙◌, ◌+◌, ◌≤◌, ◌<◌, ◌++◌, ℕ, List, Vec, Global, ap, sym, arith, vec_len, get_or, drop, length}
+use Rattle.std.proofs.Common.{◌≡◌, ◌∙◌, ◌+◌, ◌/◌, ◌≤◌, ◌<◌, ◌++◌, ℕ, List, Vec, Global, ap, sym, arith, vec_len, get_or, drop, length}
 use Rattle.std.proofs.Common.{length-append}
 use Rattle.std.proofs.lemmas.List.{length-map}
 use Rattle.px_iim.specs.declared.group.Group.{Group}
@@ -8,15 +8,15 @@ use Rattle.px_iim.proofs.reading.Order.{few_groups}
 use Rattle.px_iim.proofs.reading.Records.{drop_view}
 use Rattle.px_iim.proofs.iim.Iim.groups.Goals as goal
 
--- the groups of one more record number
+-- the groups of one more list
 more : (vs : List (Vec Group Global)) (i count total : ℕ) (v : Vec Group Global) → i < length vs → v ≡ get_or vs i v
     → count + length (records_view i (drop i vs)) ≡ total → count + vec_len v + length (records_view (i + 1) (drop (i + 1) vs)) ≡ total
 more vs i count total v l e h =
-    let split : length (records_view i (drop i vs)) ≡ length (groups_view i (get_or vs i v).items
+    let split : length (records_view i (drop i vs)) ≡ length (groups_view (i / 4) (get_or vs i v).items
     ++ records_view (i + 1) (drop (i + 1) vs)) = ap length (drop_view vs i v l) in
-    let parts = length-append (groups_view i (get_or vs i v).items) (records_view (i + 1) (drop (i + 1) vs)) in
-    let here : length (groups_view i (get_or vs i v).items) ≡ length v.items =
-    length-map (get_or vs i v).items (group_view i) ∙ ap (λ (x : Vec Group Global). length x.items) (sym e) in
+    let parts = length-append (groups_view (i / 4) (get_or vs i v).items) (records_view (i + 1) (drop (i + 1) vs)) in
+    let here : length (groups_view (i / 4) (get_or vs i v).items) ≡ length v.items =
+    length-map (get_or vs i v).items (group_view (i / 4)) ∙ ap (λ (x : Vec Group Global). length x.items) (sym e) in
     omega (arith, v.ok.0)
 
 few : (vs old : List (Vec Group Global)) → vs ≡ old → AreGroups (records_view 0 old) → length (records_view 0 vs) ≤ 65536
