@@ -1,8 +1,9 @@
 // The entries of a directory by ascending tag, without a list of them: its fields, with at most four
 // further entries put between. TIFF 6.0 section 2, "Sort Order".
 ghost use Rattle.std.specs.Prelude.{◌≡◌, ◌<◌, ◌≤◌, ◌+◌, ◌*◌, ◌^◌, ℕ, List, length, map, slice_get, option_map, option_and_then, is_some};
-ghost use Rattle.std.specs.Prelude.{Some, None, IfSome};
+ghost use Rattle.std.specs.Prelude.{Option, Some, None, IfSome};
 ghost use Rattle.std.specs.List.{AllByRecursion};
+ghost use Rattle.px_layout.specs.declared.entries.Extra.{Extra as CodeExtra};
 ghost use Rattle.px_bytes.specs.Parts.{limit};
 ghost use Rattle.px_tree.specs.calls.Iim.{normal_iim};
 ghost use Rattle.px_tree.specs.Fits as said;
@@ -10,10 +11,9 @@ ghost use Rattle.px_tree.specs.Fits.{Fits, FitsThumb, IsBytes, AtJpeg, JpegSize,
 ghost use Rattle.px_tree.specs.Fits.{main_items, exif_items, thumb_items, field_items};
 ghost use Rattle.px_tree.specs.calls.Seen.{exif_of, thumb_of, meaning_of};
 ghost use Rattle.px_layout.specs.calls.Items.{item_of, entry_of, IsCounted, rank};
-ghost use Rattle.px_layout.specs.calls.Layers.{Stands, Tells, over};
+ghost use Rattle.px_layout.specs.calls.Layers.{Stands, Tells, over, IsClear};
 
 use crate::items::{Entry, Item};
-use crate::records::Record;
 use px_iim::Iim;
 use px_tree::{Dir, ExifPart, Fields, Meaning, Strips, Thumb};
 use std::marker::Model;
@@ -33,10 +33,12 @@ enum Step<'m, 'a> {
 }
 
 /// The entries of a directory by ascending tag. It takes no memory, and an entry is found in a few
-/// comparisons.
+/// comparisons; in one, where it stands before each that is no field.
 #[derive(Drop)]
 pub(crate) struct Entries<'m, 'a> {
     fields: &'m Fields<'a>,
+    // Every entry that is no field stands at this place or behind it.
+    clear: usize,
     first: Option<Extra<'m, 'a>>,
     second: Option<Extra<'m, 'a>>,
     third: Option<Extra<'m, 'a>>,
@@ -116,6 +118,17 @@ fn fields_before(fields: &Fields, tag: u16) -> usize
     low
 }
 
+// The lesser of a place and that of a further entry.
+fn clear_of(extra: &Option<Extra>, most: usize) -> usize
+    ensures clear { IsClear result extra.now }
+    ensures others { (e : Option CodeExtra) → IsClear most e → IsClear result e }
+{
+    match extra {
+        Some(extra) => extra.place.min(most),
+        None => most,
+    }
+}
+
 impl<'m, 'a> Entries<'m, 'a> {
     // The fields, with each further entry put over those before it.
     fn layered(
@@ -132,8 +145,13 @@ impl<'m, 'a> Entries<'m, 'a> {
         requires fourth { Stands fourth (over third (over second (over first (field_items fields.now)))) }
         ensures { result ≡ over fourth.entry (over third.entry (over second.entry (over first.entry (field_items fields.now)))) }
     {
+        let clear = clear_of(&first, fields.len());
+        let clear = clear_of(&second, clear);
+        let clear = clear_of(&third, clear);
+        let clear = clear_of(&fourth, clear);
         Entries {
             fields,
+            clear,
             first,
             second,
             third,
@@ -154,6 +172,22 @@ impl<'m, 'a> Entries<'m, 'a> {
 
     /// The entry at place `i`, counted from 0.
     pub(crate) fn at(&self, i: usize) -> Entry<'m, 'a>
+        requires { i < length self.now }
+        ensures entry { slice_get self.now i ≡ Some (entry_of result) }
+        ensures counted { IsCounted (item_of result.item) }
+    {
+        if i < self.clear {
+            let (tag, value) = self.fields.at(i);
+            return Entry {
+                tag,
+                item: Item::Field(value),
+            };
+        }
+        self.at_between(i)
+    }
+
+    // The same of any place.
+    fn at_between(&self, i: usize) -> Entry<'m, 'a>
         requires { i < length self.now }
         ensures entry { slice_get self.now i ≡ Some (entry_of result) }
         ensures counted { IsCounted (item_of result.item) }
@@ -216,7 +250,7 @@ fn record_item<'m, 'a>(iim: &'m Option<Iim<'a>>) -> Option<Item<'m, 'a>>
     ensures counted { IfSome (option_map item_of result) IsCounted }
 {
     match iim {
-        Some(iim) => Some(Item::Record(Record::new(iim))),
+        Some(iim) => Some(Item::Record(iim)),
         None => None,
     }
 }

@@ -4,8 +4,9 @@ ghost use Rattle.px_field.specs.Values.{form_in};
 ghost use Rattle.px_tree.specs.Fits.{item_form, item_count, item_size};
 ghost use Rattle.px_layout.specs.calls.Items.{item_of, IsCounted};
 
-use crate::records::Record;
+use px_bytes::LIMIT;
 use px_field::{Form, Kind, Value};
+use px_iim::{Iim, normal_len};
 use px_tree::{Dir, Strips};
 
 /// What an entry says: a field, the record, a pointer, the JPEG's offset or its length, or the
@@ -13,7 +14,7 @@ use px_tree::{Dir, Strips};
 #[derive(Clone, Copy)]
 pub(crate) enum Item<'m, 'a> {
     Field(&'m Value<'a>),
-    Record(Record<'m, 'a>),
+    Record(&'m Iim<'a>),
     Link(Dir),
     JpegOffset,
     JpegLength(u32),
@@ -57,7 +58,7 @@ impl Item<'_, '_> {
     {
         match self {
             Item::Field(value) => value.count(),
-            Item::Record(record) => record.len(),
+            Item::Record(iim) => normal_len(iim).unwrap_or(2 * LIMIT),
             Item::StripOffsets(strips) => strips.len() as u32,
             Item::StripLengths(strips) => strips.len() as u32,
             _ => 1,

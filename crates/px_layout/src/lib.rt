@@ -33,7 +33,6 @@ mod put_item;
 mod put_running;
 mod put_table;
 mod put_thumb;
-mod records;
 mod sizing;
 mod starts;
 mod with_plan;

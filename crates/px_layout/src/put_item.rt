@@ -117,7 +117,7 @@ pub(crate) fn put_item<W: Sink>(
 {
     match item {
         Item::Field(value) => put_value(pending, writer, layout.order, value),
-        Item::Record(record) => put_iim(pending, writer, record.iim),
+        Item::Record(iim) => put_iim(pending, writer, iim),
         Item::Link(dir) => put_place(pending, writer, layout, Chunk::Table(dir)),
         Item::JpegOffset => put_place(pending, writer, layout, Chunk::Jpeg),
         Item::JpegLength(len) => put_long(pending, writer, layout.order, len),

@@ -1,26 +1,28 @@
 // The entries of a normal form, put behind the bytes that wait for a writer: offsets run along, so that no plan is kept.
-ghost use Rattle.std.specs.Prelude.{◌≡◌, ◌<◌, ◌≤◌, ◌+◌, ◌-◌, ◌*◌, ◌++◌, ◌^◌, ℕ, Some, None, length, take, drop, flat_map, unwrap_or, []};
+ghost use Rattle.std.specs.Prelude.{◌≡◌, ◌<◌, ◌≤◌, ◌+◌, ◌-◌, ◌*◌, ◌++◌, ◌^◌, ℕ, Some, None, length, take, drop, flat_map, replicate, unwrap_or, []};
 ghost use Rattle.px_bytes.specs.Devices.{CanFail, Counts};
 ghost use Rattle.px_bytes.specs.Parts.{limit};
 ghost use Rattle.px_bytes.specs.Waiting.{PutsTo};
 ghost use Rattle.px_tree.specs.Tree as said;
-ghost use Rattle.px_tree.specs.Fits.{items};
+ghost use Rattle.px_field.specs.Values.{spelled};
+ghost use Rattle.px_tree.specs.Fits.{items, item_size, Field};
 ghost use Rattle.px_layout.specs.calls.Items.{item_of, entry_of, IsCounted};
 ghost use Rattle.px_layout.specs.Laid.{long_bytes, item_bytes, entry_bytes, next_bytes, table_bytes, header};
 ghost use Rattle.px_layout.specs.Normal.{normal_plan};
 ghost use Rattle.px_layout.specs.Plans.{place};
 ghost use Rattle.px_layout.specs.lemmas.RunLaws.{start, strips_start, value_size};
-ghost use Rattle.px_layout.specs.calls.Given.{head_bytes, entry_given, strip_list, TellsAll, strips_size, strip_places};
+ghost use Rattle.px_layout.specs.calls.Given.{head_bytes, entry_given, strip_list, TellsAll, near_given, strips_size, strip_places};
 ghost use Rattle.px_layout.specs.calls.Forms.{said_in, plan_in, IsForm};
 
 use crate::chunks::Chunk;
 use crate::entries::{Entries, is_there};
 use crate::form::NormalForm;
 use crate::items::{Entry, Item};
-use crate::put::{entry_head, put_filler, put_long, put_short, put_value};
+use crate::put::{entry_head, put_filler, put_long, put_short, put_value, spell_whole};
 use crate::put_item::{AT_ONCE, put_strip_lengths};
 use crate::sizing::table_len;
 use px_bytes::{Failed, Order, Pending, Sink};
+use px_field::Value;
 use px_iim::put_iim;
 use px_tree::{Dir, Strips, needs_place};
 
@@ -164,7 +166,7 @@ pub(crate) fn put_told_item<W: Sink>(
 {
     match item {
         Item::Field(value) => put_value(pending, writer, Order::Most, value),
-        Item::Record(record) => put_iim(pending, writer, record.iim),
+        Item::Record(iim) => put_iim(pending, writer, iim),
         Item::Link(dir) => put_long(pending, writer, Order::Most, table_at(form, dir)),
         Item::JpegOffset => put_long(pending, writer, Order::Most, jpeg_at(form)),
         Item::JpegLength(len) => put_long(pending, writer, Order::Most, len),
@@ -184,6 +186,55 @@ fn entry_to(at: u32, entry: &Entry) -> [u8; 12]
     bytes
 }
 
+// The last field of an entry with a value of at most four bytes: the value, and zeros behind it.
+fn last_field(value: &Value) -> [u8; 4]
+    requires { item_size (Field value.now) ≤ 4 }
+    ensures { result ≡ spelled Order.Most value.now ++ replicate (4 - item_size (Field value.now)) 0 }
+{
+    let mut last = [0; 4];
+    let size = value.size() as usize;
+    spell_whole(Order::Most, value, &mut last[..size]);
+    last
+}
+
+// An entry whose value is its last field: its twelve bytes, so that one call puts them.
+fn entry_with(value: &Value, entry: &Entry) -> [u8; 12]
+    requires counted { IsCounted (item_of entry.now.item) }
+    requires short { item_size (Field value.now) ≤ 4 }
+    ensures { result ≡ head_bytes Order.Most (entry_of entry.now)
+        ++ (spelled Order.Most value.now ++ replicate (4 - item_size (Field value.now)) 0) }
+{
+    let mut bytes = [0; 12];
+    bytes[..8].copy_from_slice(&entry_head(Order::Most, entry));
+    bytes[8..].copy_from_slice(&last_field(value));
+    bytes
+}
+
+// An entry whose value is its last field, with padding behind it.
+fn put_near_entry<W: Sink>(
+    pending: &mut Pending,
+    writer: &mut W,
+    form: &NormalForm,
+    entry: &Entry,
+) -> Result<(), Failed>
+    requires few { CanFail (W.failed writer.old) }
+    requires form { IsForm form.now }
+    requires counted { IsCounted (item_of entry.now.item) }
+    requires tells { TellsAll (said_in form.now) (item_of entry.now.item) }
+    requires near { item_size (item_of entry.now.item) ≤ 4 }
+    ensures bytes { PutsTo W.bytes_taken result writer.old writer.new pending.old pending.new
+        (near_given (plan_in form.now) (entry_of entry.now)) }
+    ensures count { Counts result (W.failed writer.old) (W.failed writer.new) }
+{
+    if let Item::Field(value) = entry.item {
+        return pending.put(writer, &entry_with(value, entry));
+    }
+    let size = entry.item.size();
+    pending.put(writer, &entry_head(Order::Most, entry))?;
+    put_told_item(pending, writer, form, entry.item)?;
+    put_filler(pending, writer, 0, 4 - size as usize)
+}
+
 // An entry, whose value stands at `at` if it has a place of its own. Else the value is its last field, with padding behind it.
 fn put_given_entry<W: Sink>(
     pending: &mut Pending,
@@ -200,13 +251,10 @@ fn put_given_entry<W: Sink>(
         (entry_given (plan_in form.now) at (entry_of entry.now)) }
     ensures count { Counts result (W.failed writer.old) (W.failed writer.new) }
 {
-    let size = entry.item.size();
-    if needs_place(size) {
+    if needs_place(entry.item.size()) {
         return pending.put(writer, &entry_to(at, entry));
     }
-    pending.put(writer, &entry_head(Order::Most, entry))?;
-    put_told_item(pending, writer, form, entry.item)?;
-    put_filler(pending, writer, 0, 4 - size as usize)
+    put_near_entry(pending, writer, form, entry)
 }
 
 // Where the value of the next entry stands.

@@ -16,7 +16,7 @@ use Rattle.px_tree.specs.Tree.{Fields, ExifPart, Thumbnail, Meaning}
 use Rattle.px_tree.specs.Fits.{Item, Field, StripSizes, items, put, main_items, exif_items, thumb_items, field_items, FitsFields, FitsExif}
 use Rattle.px_tree.specs.Fits.{FitsThumb, IsBytes}
 use Rattle.px_layout.specs.calls.Items.{item_of, IsCounted, rank}
-use Rattle.px_layout.specs.calls.Layers.{over, Stands, Tells}
+use Rattle.px_layout.specs.calls.Layers.{over, Stands, Tells, IsClear}
 use Rattle.px_layout.specs.declared.entries.Extra.{Extra}
 use Rattle.px_layout.specs.declared.entries.Step.{Step}
 use Rattle.px_layout.specs.declared.entries.Step.TheVariants.{Here, Under}
@@ -177,6 +177,11 @@ Passes p o i = (xs : List (ℕ × Item)) → Stands o xs → i < length (over o 
 pub passes : (p : Step) (o : Option Extra) (e : Extra) (i : ℕ) → o ≡ Some e → Passes p (Some e) i → Passes p o i
 passes p o e i q f = subst (λ o. Passes p o i) (sym q) f
 
+-- an entry that stands at n or behind it leaves each place before n as it is
+pub clear_passes : (o : Option Extra) (n i : ℕ) → IsClear n o → i < n → Passes (Under i) o i
+clear_passes None n i c l xs s h = (refl, h)
+clear_passes (Some e) n i c l xs s h = pass_before e xs i (omega arith) s h
+
 -- past four further entries stands the field at the place that is left
 pub through : (a b c d : Option Extra) (fs : Fields) (i k j h g : ℕ) →
     Passes (Under k) d i → Passes (Under j) c k → Passes (Under h) b j → Passes (Under g) a h →
@@ -194,6 +199,18 @@ through a b c d fs i k j h g pd pc pb pa sa sb sc sd l =
       subst (λ n. g < n)
           (length-map fs (λ (p : ℕ × Value). (p.0, Field p.1))) w.1,
     )
+
+-- before all further entries stand the fields
+pub clear_through : (a b c d : Option Extra) (fs : Fields) (n i : ℕ) →
+    IsClear n a → IsClear n b → IsClear n c → IsClear n d →
+    Stands a (field_items fs) → Stands b (over a (field_items fs)) → Stands c (over b (over a (field_items fs)))
+    → Stands d (over c (over b (over a (field_items fs)))) → i < n →
+    i < length (over d (over c (over b (over a (field_items fs))))) →
+    (slice_get (over d (over c (over b (over a (field_items fs))))) i ≡ option_map (λ p. (p.0, Field p.1)) (slice_get fs i)) × (i < length
+    fs)
+clear_through a b c d fs n i ca cb cc cd sa sb sc sd u l =
+    through a b c d fs i i i i i (clear_passes d n i cd u) (clear_passes c n i cc u) (clear_passes b n i cb u) (clear_passes a n i ca u)
+    sa sb sc sd l
 
 -- ---- fields
 

@@ -12,7 +12,7 @@ use Rattle.px_layout.specs.declared.items.Item.TheVariants as held_as
 -- what an item of the code says
 abbrev pub item_of : held.Item → Item
 item_of (held_as.Field v) = Field v.now
-item_of (held_as.Record r) = Iptc r.iim.now
+item_of (held_as.Record i) = Iptc i.now
 item_of (held_as.Link d) = fits.Link d
 item_of held_as.JpegOffset = AtJpeg
 item_of (held_as.JpegLength n) = JpegSize n

@@ -1,5 +1,5 @@
 -- Entries that are put over a list of entries, each with the place at which it stands.
-use Rattle.std.specs.Prelude.{◌≡◌, ℕ, ◌<◌, ◌^◌, Option, Some, None, ⊤, List, length, slice_get}
+use Rattle.std.specs.Prelude.{◌≡◌, ℕ, ◌<◌, ◌≤◌, ◌^◌, Option, Some, None, ⊤, List, length, slice_get}
 use Rattle.px_tree.specs.Fits.{Item, put, field_items}
 use Rattle.px_layout.specs.calls.Items.{item_of, IsCounted, rank}
 use Rattle.px_layout.specs.declared.entries.Extra.{Extra}
@@ -35,6 +35,11 @@ under_fourth e = over e.third (under_third e)
 abbrev pub entries_of : Inside → List (ℕ × Item)
 entries_of e = over e.fourth (under_fourth e)
 
+-- the entry, where there is one, stands at n or behind it
+abbrev pub IsClear : ℕ → Option Extra → Type 0
+IsClear n None = ⊤
+IsClear n (Some x) = n ≤ x.place
+
 -- each further entry stands at its place
 pub record AreLayers (e : Inside) : Type 0 where
   pub few : length e.fields.now < 2 ^ 16
@@ -42,3 +47,7 @@ pub record AreLayers (e : Inside) : Type 0 where
   pub second : Stands e.second (under_second e)
   pub third : Stands e.third (under_third e)
   pub fourth : Stands e.fourth (under_fourth e)
+  pub clear_first : IsClear e.clear e.first
+  pub clear_second : IsClear e.clear e.second
+  pub clear_third : IsClear e.clear e.third
+  pub clear_fourth : IsClear e.clear e.fourth
