@@ -14,7 +14,7 @@ ROOM = 8192  # what waits for a writer at most
 CHUNK = 65536  # what is read at once at most
 DOUBLES, MOST = 1 << 20, LIMIT + 7  # a list that a file is read into doubles up to so many bytes; so many are read of a file at most
 WORDS, CALLS = 48 * 1024, 140  # what reading the command line takes at most: bytes, and calls for memory
-SMALL, RECORDS = 4096, 12 * 1024  # what small lists take at most, and the list of the record numbers
+SMALL, RECORDS = 4096, 48 * 1024  # what small lists take at most, and the list of the lists of groups, four for each record number
 LONG = 65536  # a list of so many DataSets or more grows by a 32nd
 LARGE, TIMES = 1 << 20, 6.3  # of a file of so many bytes or more, a run asks for so many times its bytes at most, reserve of lists included
 # a run takes a tenth of this at most, also on a busy machine; one that looks at all it holds again and again takes far more
