@@ -1,5 +1,6 @@
 // The entries of a normal form, put behind the bytes that wait for a writer: offsets run along, so that no plan is kept.
-ghost use Rattle.std.specs.Prelude.{◌≡◌, ◌<◌, ◌≤◌, ◌+◌, ◌-◌, ◌*◌, ◌++◌, ◌^◌, ℕ, Some, None, length, take, drop, flat_map, replicate, unwrap_or, []};
+ghost use Rattle.std.specs.Prelude.{◌≡◌, ◌<◌, ◌≤◌, ◌+◌, ◌-◌, ◌*◌, ◌++◌, ◌^◌, ℕ, Some, None, length, take, drop, flat_map, unwrap_or, []};
+ghost use Rattle.std.specs.Prelude.{replicate};
 ghost use Rattle.px_bytes.specs.Devices.{CanFail, Counts};
 ghost use Rattle.px_bytes.specs.Parts.{limit};
 ghost use Rattle.px_bytes.specs.Waiting.{PutsTo};
