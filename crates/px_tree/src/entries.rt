@@ -11,7 +11,7 @@ ghost use Rattle.px_tree.specs.Checks.{shape_checks, entry_checks};
 ghost use Rattle.px_tree.specs.calls.Reading.{Shows, bare, IsShape, Follows, span, span_checks};
 
 use crate::holding::hold;
-use crate::parts::{needs_place, number16, number32};
+use crate::parts::{needs_place, number16, number32, part_of};
 use crate::roles::{Dir, Role, role_of};
 use crate::source::Source;
 use px_bytes::{Cause, Memory, Order, Ranges, Refusal};
@@ -40,11 +40,12 @@ pub fn head_at(block: &[u8], order: Order, at: u32) -> Head
     requires bounded { length block.now ≤ limit }
     ensures { Shows order result (entry order (part block.now at 12)) }
 {
+    let bytes = part_of(block, at, 12);
     Head {
-        tag: number16(block, order, at),
-        code: number16(block, order, at + 2),
-        count: number32(block, order, at + 4),
-        offset: number32(block, order, at + 8),
+        tag: number16(bytes, order, 0),
+        code: number16(bytes, order, 2),
+        count: number32(bytes, order, 4),
+        offset: number32(bytes, order, 8),
     }
 }
 
