@@ -231,6 +231,18 @@ impl Marks {
         if n / WIDTH < self.first.len() {
             return Ok(());
         }
+        self.grow_rows(memory, n)
+    }
+
+    // Makes that room where there is none: a function of its own, since most calls of `reserve` find it made.
+    fn grow_rows(&mut self, memory: &mut Memory, n: usize) -> Result<(), Refused>
+        requires { MayAsk n }
+        ensures same { SameMarks self.old self.new }
+        ensures room { OnOk result (n / 64 < length self.new) }
+        ensures most { length self.new ≤ max (length self.old) (n / 64 + 1) }
+        ensures err { OnErr result (self.new ≡ self.old) }
+        ensures memory { Lacks result memory.old memory.new }
+    {
         grow(
             memory,
             &mut self.fourth,

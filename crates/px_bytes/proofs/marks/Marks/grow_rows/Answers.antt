@@ -1,6 +1,6 @@
 use Rattle.std.proofs.Common.{◌/◌, refl, arith}
 use Rattle.px_bytes.proofs.ranges.MarkLaws.{sums_grown, room_above}
-use Rattle.px_bytes.proofs.marks.Marks.reserve.Goals as goal
+use Rattle.px_bytes.proofs.marks.Marks.grow_rows.Goals as goal
 
 pub invariant_of-self-in_err-grow-2 : goal.invariant_of-self-in_err-grow-2
 invariant_of-self-in_err-grow-2 c =
