@@ -1,3 +1,1 @@
-pub mod Lines
-pub mod Endings
 pub mod Programs

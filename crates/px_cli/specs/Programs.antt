@@ -4,14 +4,14 @@ use Rattle.px_engine.specs.declared.Fault.{Fault}
 use Rattle.px_engine.specs.declared.Fault.TheVariants.{OutOfMemory, ReadFailed, WriteFailed}
 use Rattle.px_engine.specs.declared.Side.{Side}
 use Rattle.px_engine.specs.declared.Side.TheVariants as side
-use Rattle.px_cli.specs.declared.job.Job.{Job}
-use Rattle.px_cli.specs.declared.job.Job.TheVariants as job
+use Rattle.px_jobs.specs.declared.Job.{Job}
+use Rattle.px_jobs.specs.declared.Job.TheVariants as job
 use Rattle.px_words.specs.declared.One.{One}
 use Rattle.px_words.specs.declared.One.TheVariants as one
 use Rattle.px_words.specs.declared.Words.{Words}
 use Rattle.px_words.specs.declared.Words.TheVariants as words
-use Rattle.px_cli.specs.Lines.{Device, TellsFault, TellsWords}
-use Rattle.px_cli.specs.Endings.{Ends, EndsCompare}
+use Rattle.px_jobs.specs.Lines.{Device, TellsFault, TellsWords}
+use Rattle.px_jobs.specs.Endings.{Ends, EndsCompare}
 use Rattle.px_words.specs.Words.{out_is_file, AskedBy}
 
 -- the job that a command asks for

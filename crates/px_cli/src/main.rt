@@ -15,16 +15,12 @@
 ghost use Rattle.std.specs.Prelude.{◌≡◌, drop};
 
 mod files;
-mod job;
-mod lines;
 mod run;
-#[cfg(test)]
-mod tests;
 
-use crate::lines::{say_text, tell};
 use crate::run::run_words;
 use px_bytes::Watched;
 use px_engine::Fault;
+use px_jobs::{say_text, tell};
 use std::io::ErrorKind;
 use std::process::ExitCode;
 use std::{env, io};

@@ -1,15 +1,14 @@
 // What the program does with its arguments.
 ghost use Rattle.std.specs.Prelude.{◌≡◌, map};
-ghost use Rattle.px_cli.specs.declared.job.Job.TheVariants.{Normalise};
-ghost use Rattle.px_cli.specs.Lines.{device};
+ghost use Rattle.px_jobs.specs.declared.Job.TheVariants.{Normalise};
+ghost use Rattle.px_jobs.specs.Lines.{device};
 ghost use Rattle.px_cli.specs.Programs.{job_of, Answers, EndsFile, EndsFiles, EndsForm, EndsJob, EndsPair, EndsWords};
 ghost use Rattle.px_bytes.specs.Devices.{CanFail};
 
 use crate::files::{make_beside, open};
-use crate::job::{Job, run_compare_in, run_one_in};
-use crate::lines::{say_text, tell};
 use px_bytes::{Memory, Sink, Source, Watched};
 use px_engine::{Fault, Side, VERSION};
+use px_jobs::{Job, run_compare_in, run_one_in, say_text, tell};
 use px_words::{OUT_IS_FILE, One, Words, parse};
 use std::alloc::Global;
 use std::convert::AsStr;

@@ -1,0 +1,41 @@
+// px_jobs: a flush stands behind each line of the program, and one that fails is told by the status. No run of the program shows that.
+use crate::devices::KeepsBack;
+use px_bytes::{Memory, Watched};
+use px_jobs::{Job, run_compare_in, run_one_in, say_text};
+use std::io;
+use std::process::Abort;
+
+const CAPTION: &[u8] = b"\x1C\x02\x78\x00\x03abc";
+
+// So many bytes were taken, one flush was asked for, and its failure was told.
+fn check_kept_back(rt: &impl Abort, status: u8, lines: Watched<KeepsBack>, bytes: usize) {
+    assert_eq!(rt; status, 4);
+    let kept = lines.into_inner();
+    assert_eq!(rt; kept.held, bytes);
+    assert_eq!(rt; kept.flushes, 1);
+}
+
+#[test]
+fn a_flush_stands_behind_the_line_of_a_kind(rt: HostRuntime) {
+    let mut memory = Memory::new(rt.alloc());
+    let mut lines = Watched::new(KeepsBack::new());
+    let (mut reader, mut out) = (Watched::new(CAPTION), Watched::new(io::sink()));
+    let status = run_one_in(&mut memory, Job::Check, &mut reader, &mut out, &mut lines);
+    check_kept_back(&rt, status, lines, 7);
+}
+
+#[test]
+fn a_flush_stands_behind_the_line_of_a_fault(rt: HostRuntime) {
+    let mut memory = Memory::new(rt.alloc());
+    let mut lines = Watched::new(KeepsBack::new());
+    let (mut first, mut second) = (Watched::new(CAPTION), Watched::new(b"".as_slice()));
+    let status = run_compare_in(&mut memory, &mut first, &mut second, &mut lines);
+    check_kept_back(&rt, status, lines, 36);
+}
+
+#[test]
+fn a_flush_stands_behind_a_text(rt: HostRuntime) {
+    let mut lines = Watched::new(KeepsBack::new());
+    let status = say_text(&mut lines, "OUT is FILE", 3);
+    check_kept_back(&rt, status, lines, 12);
+}

@@ -1,0 +1,52 @@
+-- A line of five parts that wait, the parts sent, and a flush behind what was written.
+use Rattle.std.proofs.Common.{◌≡◌, ◌+◌, ◌++◌, ◌∙◌, ap, inl, inr, ℕ, List, [], Option, Result, Ok, Err}
+use Rattle.std.specs.Prelude.{⊤}
+use Rattle.std.specs.Io.KnownBytes.{Appends}
+use Rattle.px_bytes.specs.Devices.{AppendsPrefix, Writes}
+use Rattle.px_bytes.specs.Waiting.{Owes, Puts}
+use Rattle.px_bytes.specs.lemmas.WaitingLaws.{from_none, owed_all, owed_prefix, puts_both, puts_first}
+use Rattle.px_bytes.specs.lemmas.WriteLaws.{appends_kept, prefix_all}
+use Rattle.px_jobs.specs.Lines.{device, Flushes, Tells}
+
+-- the first of two parts was put, and a call failed behind it
+stops_behind : (a b c : Option (List ℕ)) (h i xs ys : List ℕ) → Owes a b i (h ++ xs) → AppendsPrefix b c (i ++ ys)
+    → AppendsPrefix a c (h ++ (xs ++ ys))
+stops_behind a b c h i xs ys p q = puts_both {A = ⊤} {E = ⊤} (Err tt) a b c h i [] xs ys p q
+
+module _ (v w x y z : List ℕ) (a b c d e : Option (List ℕ)) (h i j k l : List ℕ) where
+  pub stops_first : AppendsPrefix a b (h ++ v) → AppendsPrefix a b (h ++ (v ++ (w ++ (x ++ (y ++ z)))))
+  stops_first p = puts_first a b h v (w ++ (x ++ (y ++ z))) p
+
+  module _ (one : Owes a b i (h ++ v)) where
+    pub stops_second : AppendsPrefix b c (i ++ w) → AppendsPrefix a c (h ++ (v ++ (w ++ (x ++ (y ++ z)))))
+    stops_second p = stops_behind a b c h i v (w ++ (x ++ (y ++ z))) one (puts_first b c i w (x ++ (y ++ z)) p)
+
+    module _ (two : Owes b c j (i ++ w)) where
+      pub stops_third : AppendsPrefix c d (j ++ x) → AppendsPrefix a d (h ++ (v ++ (w ++ (x ++ (y ++ z)))))
+      stops_third p = stops_behind a b d h i v (w ++ (x ++ (y ++ z))) one
+          (stops_behind b c d i j w (x ++ (y ++ z)) two (puts_first c d j x (y ++ z) p))
+
+      module _ (three : Owes c d k (j ++ x)) where
+        pub stops_fourth : AppendsPrefix d e (k ++ y) → AppendsPrefix a e (h ++ (v ++ (w ++ (x ++ (y ++ z)))))
+        stops_fourth p = stops_behind a b e h i v (w ++ (x ++ (y ++ z))) one
+            (stops_behind b c e i j w (x ++ (y ++ z)) two (stops_behind c d e j k x (y ++ z) three (puts_first d e k y z p)))
+
+        pub puts_all : {A E : Type 0} (r : Result A E) (f : Option (List ℕ)) (m : List ℕ) → Owes d e l (k ++ y) → Puts r e f l m z
+            → Puts r a f h m (v ++ (w ++ (x ++ (y ++ z))))
+        puts_all r f m four p = puts_both r a b f h i m v (w ++ (x ++ (y ++ z))) one
+            (puts_both r b c f i j m w (x ++ (y ++ z)) two (puts_both r c d f j k m x (y ++ z) three (puts_both r d e f k l m y z four p)))
+
+-- nothing waited at first; the bytes were put, and what waits then was sent
+pub sent : {A E : Type 0} (r : Result A E) (a b c : Option (List ℕ)) (h k out : List ℕ) → h ≡ [] → Owes a b k (h ++ out) → Writes r b c k
+    → Writes r a c out
+sent (Ok x) a b c h k out none p w = from_none (Appends a c) h out none (owed_all a b c k (h ++ out) p w)
+sent (Err x) a b c h k out none p w = from_none (AppendsPrefix a c) h out none (owed_prefix a b c k (h ++ out) p w)
+
+-- a line that was written, and then a flush
+pub told : (due : ℕ) (line : List ℕ) (status failed mid now : ℕ) (old written new : Option (List ℕ)) → mid ≡ failed
+    → Appends old written line
+    → Flushes due status (device mid now written new) → Tells due line status (device failed now old new)
+told due line status failed mid now old written new same h f = elim f [
+  | inl f ↦ inl (f.0, f.1 ∙ same, appends_kept old written new line h f.2)
+  | inr f ↦ inr (f.0, f.1 ∙ ap (λ n. n + 1) same, prefix_all old new line (appends_kept old written new line h f.2))
+]

@@ -1,0 +1,99 @@
+-- How the runs of the program end.
+use Rattle.std.specs.Prelude.{◌≡◌, ◌≢◌, ◌⊎◌, ℕ, Bool, true, false, List, Option, Some, None, codes, Result, Ok, Err, ⊤}
+use Rattle.px_engine.specs.declared.BlockKind.{BlockKind}
+use Rattle.px_engine.specs.declared.BlockKind.TheVariants as kind
+use Rattle.px_engine.specs.declared.CompareFault.{CompareFault}
+use Rattle.px_engine.specs.declared.Fault.{Fault}
+use Rattle.px_engine.specs.declared.Fault.TheVariants.{Refused, NormalTooLong, OutOfMemory, ReadFailed, WriteFailed}
+use Rattle.px_engine.specs.Files.{Said}
+use Rattle.px_engine.specs.Listing.{listing}
+use Rattle.px_engine.specs.Captions.{caption_text}
+use Rattle.px_engine.specs.Lacking.{LacksRun, LacksPair}
+use Rattle.px_engine.specs.Runs.{KnownSaid, Stops, Checks, Compares, Normalises, CountsReads, CountsWrites, CountsSides}
+use Rattle.px_jobs.specs.declared.job.Job.{Job}
+use Rattle.px_jobs.specs.declared.job.Job.TheVariants.{Show, Check, Captions, Normalise}
+use Rattle.px_jobs.specs.Lines.{Device, IsFailed, IsWell, Took, TookNothing, TookPrefix, Tells, TellsFault}
+
+-- ---- the status and the line of an outcome
+
+-- a normal form: nothing is said of it
+abbrev pub TellsWritten : Result ℕ Fault → ℕ → Device → Type 0
+TellsWritten (Ok n) status lines = (status ≡ 0) × IsWell lines × TookNothing lines
+TellsWritten (Err e) status lines = TellsFault e None status lines
+
+-- the line of an accepted block
+abbrev pub accepted : BlockKind → List ℕ
+accepted kind.Exif = codes "ok exif\n"
+accepted kind.Iim = codes "ok iim\n"
+
+abbrev pub TellsChecked : Result BlockKind Fault → ℕ → Device → Type 0
+TellsChecked (Ok k) status lines = Tells 0 (accepted k) status lines
+TellsChecked (Err e) status lines = TellsFault e None status lines
+
+-- the line of two accepted blocks, and its status
+abbrev pub compared : Bool → List ℕ
+compared true = codes "same\n"
+compared false = codes "different\n"
+
+abbrev pub compared_status : Bool → ℕ
+compared_status true = 0
+compared_status false = 1
+
+abbrev pub TellsCompared : Result Bool CompareFault → ℕ → Device → Type 0
+TellsCompared (Ok same) status lines = Tells (compared_status same) (compared same) status lines
+TellsCompared (Err e) status lines = TellsFault e.fault (Some e.side) status lines
+
+-- nothing was asked of it
+abbrev pub IsIdle : Device → Type 0
+IsIdle d = (d.failed_now ≡ d.failed) × (d.new ≡ d.old)
+
+-- a failed write of a text has nothing behind it; every other fault came before the text, and has its status and its line
+abbrev pub TellsBehind : Fault → ℕ → Device → Type 0
+TellsBehind e status lines = ((e ≡ WriteFailed) × (status ≡ 4) × IsIdle lines) ⊎ ((e ≢ WriteFailed) × TellsFault e None status lines)
+
+-- what follows a text
+abbrev pub TellsPrinted : {A : Type 0} → Result A Fault → ℕ → Device → Type 0
+TellsPrinted (Ok x) status lines = (status ≡ 0) × IsIdle lines
+TellsPrinted (Err e) status lines = TellsBehind e status lines
+
+-- a text of what the file says: the whole of it; or a part of it, before the lines failed; or the status and the line of a
+-- fault that comes before the text
+abbrev pub TellsText : (Said → List ℕ) → Result ⊤ Fault → Option (List ℕ) → ℕ → Device → Type 0
+TellsText text (Ok x) file status lines = (s : Said) × KnownSaid file s × (status ≡ 0) × IsWell lines × Took lines (text s)
+TellsText text (Err WriteFailed) file status lines =
+    (s : Said) × KnownSaid file s × (status ≡ 4) × IsFailed lines × TookPrefix lines (text s)
+TellsText text (Err (Refused cause place)) file status lines =
+    Stops (Refused cause place) file × TellsFault (Refused cause place) None status lines
+TellsText text (Err OutOfMemory) file status lines = TellsFault OutOfMemory None status lines
+TellsText text (Err ReadFailed) file status lines = TellsFault ReadFailed None status lines
+TellsText text (Err NormalTooLong) file status lines = ⊥
+
+-- ---- whole runs: there is an outcome that the engine allows of the files, and it is told. `refused`
+-- and `refused_now` say whether memory had refused a growth before the run, and whether it has behind it: an outcome that is
+-- want of memory met a refused growth, and behind every other memory is as it was
+
+abbrev pub EndsNormalise : Device → Device → Device → Bool → Bool → ℕ → Type 0
+EndsNormalise reader out lines refused refused_now status = (r : Result ℕ Fault) × Normalises r reader.old out.old out.new
+    × CountsReads r reader.failed reader.failed_now × CountsWrites r out.failed out.failed_now
+    × LacksRun r refused refused_now × TellsWritten r status lines
+
+abbrev pub EndsCheck : Device → Device → Bool → Bool → ℕ → Type 0
+EndsCheck reader lines refused refused_now status = (r : Result BlockKind Fault) × Checks r reader.old
+    × CountsReads r reader.failed reader.failed_now × LacksRun r refused refused_now × TellsChecked r status lines
+
+-- the text of what the file says
+abbrev pub EndsText : (Said → List ℕ) → Device → Device → Bool → Bool → ℕ → Type 0
+EndsText text reader lines refused refused_now status = (r : Result ⊤ Fault) × CountsReads r reader.failed reader.failed_now
+    × LacksRun r refused refused_now × TellsText text r reader.old status lines
+
+-- of the reader, the writer of normal bytes and the writer of lines
+abbrev pub Ends : Job → Device → Device → Device → Bool → Bool → ℕ → Type 0
+Ends Normalise reader out lines refused refused_now status = EndsNormalise reader out lines refused refused_now status
+Ends Check reader out lines refused refused_now status = IsIdle out × EndsCheck reader lines refused refused_now status
+Ends Show reader out lines refused refused_now status = IsIdle out × EndsText listing reader lines refused refused_now status
+Ends Captions reader out lines refused refused_now status = IsIdle out × EndsText caption_text reader lines refused refused_now status
+
+abbrev pub EndsCompare : Device → Device → Device → Bool → Bool → ℕ → Type 0
+EndsCompare first second lines refused refused_now status = (r : Result Bool CompareFault) × Compares r first.old second.old
+    × CountsSides r first.failed first.failed_now second.failed second.failed_now
+    × LacksPair r refused refused_now × TellsCompared r status lines

@@ -1,0 +1,211 @@
+// Lines and exit statuses.
+ghost use Rattle.std.specs.Prelude.{◌≡◌, ◌++◌, None};
+ghost use Rattle.px_bytes.specs.Devices.{CanFail, Counts, Writes};
+ghost use Rattle.px_bytes.specs.Waiting.{Puts};
+ghost use Rattle.px_engine.specs.declared.Fault.TheVariants.{Refused};
+ghost use Rattle.px_jobs.specs.Lines.{name_of, end_of, line_of, status_of, device, Flushes, Tells, TellsFault, TellsWords, is_ended};
+
+use itoa::Buffer;
+use px_bytes::{Cause, Failed, Pending, Sink, write_whole};
+use px_engine::{Fault, Side};
+
+// The name of a cause in a line.
+fn name(cause: Cause) -> &'static [u8]
+    ensures { result.now ≡ name_of cause }
+{
+    match cause {
+        Cause::TooLong => b"TooLong",
+        Cause::UnknownKind => b"UnknownKind",
+        Cause::HeaderCut => b"HeaderCut",
+        Cause::Loop => b"Loop",
+        Cause::DirectoryOutside => b"DirectoryOutside",
+        Cause::EmptyDirectory => b"EmptyDirectory",
+        Cause::Overlap => b"Overlap",
+        Cause::Unsorted => b"Unsorted",
+        Cause::Doubled => b"Doubled",
+        Cause::UnknownType => b"UnknownType",
+        Cause::MisplacedOffset => b"MisplacedOffset",
+        Cause::PointerForm => b"PointerForm",
+        Cause::ValueOutside => b"ValueOutside",
+        Cause::ThumbnailPair => b"ThumbnailPair",
+        Cause::ExtraDirectory => b"ExtraDirectory",
+        Cause::ThumbnailOutside => b"ThumbnailOutside",
+        Cause::NoMarker => b"NoMarker",
+        Cause::LengthForm => b"LengthForm",
+        Cause::DataSetCut => b"DataSetCut",
+    }
+}
+
+// The end of a line: where two files are compared, which of them it is about.
+fn ending(file: Option<Side>) -> &'static [u8]
+    ensures { result.now ≡ end_of file }
+{
+    match file {
+        None => b"\n",
+        Some(Side::First) => b" in file 1\n",
+        Some(Side::Second) => b" in file 2\n",
+    }
+}
+
+// Puts the line of a refusal.
+fn put_refusal<L: Sink>(
+    pending: &mut Pending,
+    lines: &mut L,
+    cause: Cause,
+    place: u32,
+    file: Option<Side>,
+) -> Result<(), Failed>
+    requires { CanFail (L.failed lines.old) }
+    ensures bytes { Puts result (L.bytes_taken lines.old) (L.bytes_taken lines.new) pending.old pending.new
+        (line_of (Refused cause place) file) }
+    ensures count { Counts result (L.failed lines.old) (L.failed lines.new) }
+{
+    let mut digits = Buffer::new();
+    pending.put(lines, b"refused: ")?;
+    pending.put(lines, name(cause))?;
+    pending.put(lines, b" at ")?;
+    pending.put(lines, digits.format(place).as_bytes())?;
+    pending.put(lines, ending(file))
+}
+
+// Puts a text, and the end of its line.
+fn put_ended<L: Sink>(
+    pending: &mut Pending,
+    lines: &mut L,
+    text: &[u8],
+    file: Option<Side>,
+) -> Result<(), Failed>
+    requires { CanFail (L.failed lines.old) }
+    ensures bytes { Puts result (L.bytes_taken lines.old) (L.bytes_taken lines.new) pending.old pending.new (text.now ++ end_of file) }
+    ensures count { Counts result (L.failed lines.old) (L.failed lines.new) }
+{
+    pending.put(lines, text)?;
+    pending.put(lines, ending(file))
+}
+
+// Puts the line of a fault.
+fn put_line<L: Sink>(
+    pending: &mut Pending,
+    lines: &mut L,
+    fault: Fault,
+    file: Option<Side>,
+) -> Result<(), Failed>
+    requires { CanFail (L.failed lines.old) }
+    ensures bytes { Puts result (L.bytes_taken lines.old) (L.bytes_taken lines.new) pending.old pending.new (line_of fault file) }
+    ensures count { Counts result (L.failed lines.old) (L.failed lines.new) }
+{
+    match fault {
+        Fault::Refused { cause, place } => put_refusal(pending, lines, cause, place, file),
+        Fault::NormalTooLong => put_ended(pending, lines, b"refused: NormalTooLong", file),
+        Fault::OutOfMemory => put_ended(pending, lines, b"failed: OutOfMemory", file),
+        Fault::ReadFailed => put_ended(pending, lines, b"failed: ReadFailed", file),
+        Fault::WriteFailed => put_ended(pending, lines, b"failed: WriteFailed", file),
+    }
+}
+
+// Writes the line of a fault, in one write where the writer takes it.
+fn write_line<L: Sink>(lines: &mut L, fault: Fault, file: Option<Side>) -> Result<(), Failed>
+    requires { CanFail (L.failed lines.old) }
+    ensures bytes { Writes result (L.bytes_taken lines.old) (L.bytes_taken lines.new) (line_of fault file) }
+    ensures count { Counts result (L.failed lines.old) (L.failed lines.new) }
+{
+    let mut pending = Pending::new();
+    put_line(&mut pending, lines, fault, file)?;
+    pending.send(lines)
+}
+
+// Writes a text and the end of its line, in one write where the writer takes it and both are short.
+fn write_ended<L: Sink>(lines: &mut L, text: &[u8], file: Option<Side>) -> Result<(), Failed>
+    requires { CanFail (L.failed lines.old) }
+    ensures bytes { Writes result (L.bytes_taken lines.old) (L.bytes_taken lines.new) (text.now ++ end_of file) }
+    ensures count { Counts result (L.failed lines.old) (L.failed lines.new) }
+{
+    let mut pending = Pending::new();
+    put_ended(&mut pending, lines, text, file)?;
+    pending.send(lines)
+}
+
+// The exit status of a fault whose line was written.
+fn status(fault: Fault) -> u8
+    ensures { result ≡ status_of fault }
+{
+    match fault {
+        Fault::Refused { cause: _, place: _ } | Fault::NormalTooLong => 2,
+        Fault::OutOfMemory | Fault::ReadFailed | Fault::WriteFailed => 4,
+    }
+}
+
+// Flushes behind what was written, and answers the exit status: `due`, or 4 where that fails.
+fn flushed<L: Sink>(lines: &mut L, due: u8) -> u8
+    requires { CanFail (L.failed lines.old) }
+    ensures { Flushes due result (device (L.failed lines.old) (L.failed lines.new) (L.bytes_taken lines.old) (L.bytes_taken lines.new)) }
+{
+    match lines.flush_all() {
+        Ok(()) => due,
+        Err(_) => 4,
+    }
+}
+
+/// Writes the line of a fault and flushes, and answers the exit status: the fault's, or 4 where that
+/// fails. `file` is the side that the fault is of, where two files are compared. It takes no memory.
+#[tactic(auto, using(crate::proofs::LineLaws::told))]
+pub fn tell<L: Sink>(lines: &mut L, fault: Fault, file: Option<Side>) -> u8
+    requires { CanFail (L.failed lines.old) }
+    ensures { TellsFault fault file result (device (L.failed lines.old) (L.failed lines.new) (L.bytes_taken lines.old)
+        (L.bytes_taken lines.new)) }
+{
+    match write_line(lines, fault, file) {
+        Ok(()) => flushed(lines, status(fault)),
+        Err(_) => 4,
+    }
+}
+
+/// Writes a line and flushes, and answers the exit status: `due`, or 4 where that fails. It takes no
+/// memory.
+#[tactic(auto, using(crate::proofs::LineLaws::told))]
+pub fn say<L: Sink>(lines: &mut L, line: &[u8], due: u8) -> u8
+    requires { CanFail (L.failed lines.old) }
+    ensures { Tells due line.now result (device (L.failed lines.old) (L.failed lines.new) (L.bytes_taken lines.old)
+        (L.bytes_taken lines.new)) }
+{
+    match write_whole(lines, line) {
+        Ok(()) => flushed(lines, due),
+        Err(_) => 4,
+    }
+}
+
+// Whether a text ends in a line feed.
+fn is_ended(text: &[u8]) -> bool
+    ensures { result ≡ is_ended text.now }
+{
+    match text.last() {
+        Some(last) => *last == b'\n',
+        None => false,
+    }
+}
+
+// Writes a text and a line feed, and flushes, and answers the exit status.
+#[tactic(auto, using(crate::proofs::LineLaws::told))]
+fn say_ended<L: Sink>(lines: &mut L, text: &str, due: u8) -> u8
+    requires { CanFail (L.failed lines.old) }
+    ensures { Tells due (text.now ++ end_of None) result (device (L.failed lines.old) (L.failed lines.new) (L.bytes_taken lines.old)
+        (L.bytes_taken lines.new)) }
+{
+    match write_ended(lines, text.as_bytes(), None) {
+        Ok(()) => flushed(lines, due),
+        Err(_) => 4,
+    }
+}
+
+/// Writes a text, with a line feed behind it where it has none, and flushes, and answers the exit
+/// status: `due`, or 4 where that fails. It takes no memory.
+pub fn say_text<L: Sink>(lines: &mut L, text: &str, due: u8) -> u8
+    requires { CanFail (L.failed lines.old) }
+    ensures { TellsWords due text.now result (device (L.failed lines.old) (L.failed lines.new) (L.bytes_taken lines.old)
+        (L.bytes_taken lines.new)) }
+{
+    if is_ended(text.as_bytes()) {
+        return say(lines, text.as_bytes(), due);
+    }
+    say_ended(lines, text, due)
+}
