@@ -71,7 +71,7 @@ pub form_unwritten : {V : Type 0} (r : Result V Fault) (f : List ℕ) (s : Said)
     → IfErr r (IsUnformed s lacking) → IfErr r (IsUnwritten f lacking)
 form_unwritten (Ok v) f s lacking h k = tt
 form_unwritten (Err NormalTooLong) f s lacking h k = (s, h, k, half (Some f) s h k)
-form_unwritten (Err OutOfMemory) f s lacking h k = k
+form_unwritten (Err OutOfMemory) f s lacking h k = k.0
 form_unwritten (Err (Refused cause place)) f s lacking h k = absurd k
 form_unwritten (Err ReadFailed) f s lacking h k = absurd k
 form_unwritten (Err WriteFailed) f s lacking h k = absurd k

@@ -1,5 +1,5 @@
 -- What calls over files in hand answer.
-use Rattle.std.specs.Prelude.{◌≡◌, ◌↔◌, ◌<◌, ℕ, Bool, true, IsTrue, List, length}
+use Rattle.std.specs.Prelude.{◌≡◌, ◌↔◌, ◌<◌, ◌≤◌, ℕ, Bool, true, IsTrue, List, length}
 use Rattle.px_bytes.specs.Parts.{limit}
 use Rattle.px_engine.specs.declared.faults.Fault.{Fault}
 use Rattle.px_engine.specs.declared.faults.Side.{Side}
@@ -26,10 +26,10 @@ IsUnsaidOn Second f g refused fault = ((s : Said) × IsSaid f s) × IsUnsaid g r
 abbrev pub IsUnsaidAt : List ℕ → List ℕ → Bool → CompareFault → Type 0
 IsUnsaidAt f g refused e = IsUnsaidOn e.side f g refused e.fault
 
--- why what is said has no form
+-- why what is said has no form: one that is too long asks for no memory
 abbrev pub IsUnformed : Said → Bool → Fault → Type 0
 IsUnformed s refused NormalTooLong = limit < length (normal s)
-IsUnformed s refused OutOfMemory = refused ≡ true
+IsUnformed s refused OutOfMemory = (refused ≡ true) × (length (normal s) ≤ limit)
 IsUnformed s refused (Refused cause place) = ⊥
 IsUnformed s refused ReadFailed = ⊥
 IsUnformed s refused WriteFailed = ⊥

@@ -1,23 +1,21 @@
 // Files in hand: judged, normalised, compared and printed without a copy of their bytes.
-ghost use Rattle.std.specs.Prelude.{◌≡◌, ◌≤◌, Bool, length, IfOk, IfErr};
-ghost use Rattle.px_bytes.specs.Parts.{limit};
+ghost use Rattle.std.specs.Prelude.{◌≡◌, Bool, IfOk, IfErr};
 ghost use Rattle.px_engine.specs.Captions.{caption_text};
-ghost use Rattle.px_engine.specs.Files.{Said as AnySaid, CanBeWritten, normal};
-ghost use Rattle.px_engine.specs.Hand.{IsKindOf, SaysSame, IsUnsaidAt, IsUnformed};
+ghost use Rattle.px_engine.specs.Files.{Said as AnySaid};
+ghost use Rattle.px_engine.specs.Hand.{IsKindOf, SaysSame, IsUnsaidAt};
 ghost use Rattle.px_engine.specs.Headline.{IsFormOf, IsUnwritten};
 ghost use Rattle.px_engine.specs.Input.{IsUnsaid};
 ghost use Rattle.px_engine.specs.Lacking.{LacksRun, LacksPair};
 ghost use Rattle.px_engine.specs.Listing.{listing};
 ghost use Rattle.px_engine.specs.Prints.{IsTextOf};
-ghost use Rattle.px_engine.specs.calls.Seen.{said_of};
 
 use crate::faults::{CompareFault, Fault, Side};
+use crate::forms::form_of;
 use crate::judging::{judge, judge_side, kind_in};
 use crate::kinds::BlockKind;
-use crate::meanings::{Said, same};
+use crate::meanings::same;
 use crate::texts::{caption_text, listing};
-use crate::writing::write_said;
-use px_bytes::{Growing, Memory};
+use px_bytes::Memory;
 use std::alloc::Global;
 
 /// Which kind of block a file holds, where that says something. The fault is `Refused`, by the first
@@ -40,24 +38,10 @@ pub fn check_of(alloc: Global, file: &[u8]) -> Result<BlockKind, Fault>
     check_of_in(&mut Memory::new(alloc), file)
 }
 
-// The normal form of what is said.
-fn form_of(memory: &mut Memory, said: &Said) -> Result<Vec<u8>, Fault>
-    requires { CanBeWritten (said_of said.now) }
-    ensures formed { IfOk result (λ v. (v.items ≡ normal (said_of said.now)) × (length v.items ≤ limit)) }
-    ensures unformed { IfErr result (IsUnformed (said_of said.now) memory.new) }
-    ensures memory { LacksRun result memory.old memory.new }
-{
-    let mut writer = Growing::new(memory);
-    match write_said(said, &mut writer) {
-        Err(Fault::NormalTooLong) => Err(Fault::NormalTooLong),
-        _ => Ok(writer.finish_in(memory)?),
-    }
-}
-
 /// The normal form of what a file says, at most `LIMIT` bytes. The fault is `Refused`, by the first fault
 /// of the block; `NormalTooLong`, where the form is longer than `LIMIT`; or `OutOfMemory`, exactly where a
-/// growth was refused. It takes memory for what the file says and for the form, and makes no copy of the
-/// file.
+/// growth was refused. It takes memory for what the file says and, at once, for the form: room for just its
+/// bytes. It makes no copy of the file.
 pub fn normal_form_in(memory: &mut Memory, file: &[u8]) -> Result<Vec<u8>, Fault>
     ensures formed { IfOk result (λ v. (s : AnySaid) × IsFormOf file.now s v.items) }
     ensures unwritten { IfErr result (IsUnwritten file.now memory.new) }

@@ -21,6 +21,7 @@
 #![tactic(auto)]
 
 mod faults;
+mod forms;
 mod hand;
 mod headline;
 mod input;

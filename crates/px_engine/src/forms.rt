@@ -1,0 +1,89 @@
+// The normal form of what is said, in hand: measured first, then written into a vector that has room for just that.
+ghost use Rattle.std.specs.Prelude.{◌≡◌, ◌≤◌, length, IfOk, IfErr};
+ghost use Rattle.px_bytes.specs.Devices.{CanFail, Counts, Writes};
+ghost use Rattle.px_bytes.specs.Parts.{limit};
+ghost use Rattle.px_iim.specs.Record.{normal_iim};
+ghost use Rattle.px_layout.specs.Normal.{normal_exif};
+ghost use Rattle.px_layout.specs.calls.Forms.{said_in, IsForm};
+ghost use Rattle.px_tree.specs.Fits.{Fits};
+ghost use Rattle.px_tree.specs.calls.Seen.{meaning_of};
+ghost use Rattle.px_engine.specs.Files.{CanBeWritten, normal};
+ghost use Rattle.px_engine.specs.Files as said;
+ghost use Rattle.px_engine.specs.Hand.{IsUnformed};
+ghost use Rattle.px_engine.specs.Lacking.{LacksRun};
+ghost use Rattle.px_engine.specs.calls.Seen.{said_of};
+
+use crate::faults::Fault;
+use crate::meanings::Said;
+use px_bytes::{Failed, Growing, LIMIT, Memory, Pending, Sink};
+use px_iim::{Iim, normal_len, put_iim};
+use px_layout::{NormalForm, put_normal};
+use px_tree::Meaning;
+
+// Writes the normal form of a tree, which is measured already.
+fn send_exif<W: Sink>(form: &NormalForm, writer: &mut W) -> Result<(), Failed>
+    requires few { CanFail (W.failed writer.old) }
+    requires form { IsForm form.now }
+    ensures bytes { Writes result (W.bytes_taken writer.old) (W.bytes_taken writer.new) (normal_exif (said_in form.now)) }
+    ensures count { Counts result (W.failed writer.old) (W.failed writer.new) }
+{
+    let mut pending = Pending::new();
+    put_normal(&mut pending, writer, form)?;
+    pending.send(writer)
+}
+
+// Writes the normal form of a record so.
+fn send_record<W: Sink>(iim: &Iim, writer: &mut W) -> Result<(), Failed>
+    requires { CanFail (W.failed writer.old) }
+    ensures bytes { Writes result (W.bytes_taken writer.old) (W.bytes_taken writer.new) (normal_iim iim.now) }
+    ensures count { Counts result (W.failed writer.old) (W.failed writer.new) }
+{
+    let mut pending = Pending::new();
+    put_iim(&mut pending, writer, iim)?;
+    pending.send(writer)
+}
+
+// The normal form of a tree.
+fn exif_form(memory: &mut Memory, m: &Meaning) -> Result<Vec<u8>, Fault>
+    requires { Fits (meaning_of m.now) }
+    ensures formed { IfOk result (λ v. (v.items ≡ normal_exif (meaning_of m.now)) × (length v.items ≤ limit)) }
+    ensures unformed { IfErr result (IsUnformed (said.Exif (meaning_of m.now)) memory.new) }
+    ensures memory { LacksRun result memory.old memory.new }
+{
+    let Ok(form) = NormalForm::new(m) else {
+        return Err(Fault::NormalTooLong);
+    };
+    let mut writer = Growing::with_room_in(memory, form.len() as usize)?;
+    // There is room for all; were a growth refused even so, the writer would tell it at its end.
+    let _ = send_exif(&form, &mut writer);
+    Ok(writer.finish_in(memory)?)
+}
+
+// The normal form of a record.
+fn iim_form(memory: &mut Memory, iim: &Iim) -> Result<Vec<u8>, Fault>
+    ensures formed { IfOk result (λ v. (v.items ≡ normal_iim iim.now) × (length v.items ≤ limit)) }
+    ensures unformed { IfErr result (IsUnformed (said.Iim iim.now) memory.new) }
+    ensures memory { LacksRun result memory.old memory.new }
+{
+    let len = normal_len(iim).unwrap_or(LIMIT + 1);
+    if len > LIMIT {
+        return Err(Fault::NormalTooLong);
+    }
+    let mut writer = Growing::with_room_in(memory, len as usize)?;
+    // As with that of a tree, the writer tells at its end whether a growth was refused.
+    let _ = send_record(iim, &mut writer);
+    Ok(writer.finish_in(memory)?)
+}
+
+// The normal form of what is said.
+pub(crate) fn form_of(memory: &mut Memory, said: &Said) -> Result<Vec<u8>, Fault>
+    requires { CanBeWritten (said_of said.now) }
+    ensures formed { IfOk result (λ v. (v.items ≡ normal (said_of said.now)) × (length v.items ≤ limit)) }
+    ensures unformed { IfErr result (IsUnformed (said_of said.now) memory.new) }
+    ensures memory { LacksRun result memory.old memory.new }
+{
+    match said {
+        Said::Exif(meaning) => exif_form(memory, meaning),
+        Said::Iim(iim) => iim_form(memory, iim),
+    }
+}
