@@ -4,26 +4,18 @@ use Rattle.px_bytes.specs.declared.Cause.{Cause}
 use Rattle.px_bytes.specs.declared.Cause.TheVariants.{TooLong}
 use Rattle.px_bytes.specs.declared.Refusal.{Refusal}
 use Rattle.px_bytes.specs.declared.Refusal.TheVariants as refusal
-use Rattle.px_bytes.specs.Checks.{Refuses, LacksBlock}
-use Rattle.px_bytes.specs.Numbers.{AreBytes}
+use Rattle.px_bytes.specs.Checks.{LacksBlock}
 use Rattle.px_bytes.specs.Parts.{limit}
 use Rattle.px_bytes.specs.Reading.{ReadsUpTo, ConsumesAtMost}
 use Rattle.px_iim.specs.Group.{Record, IsRecord}
 use Rattle.px_iim.specs.Record.{SaysIim}
-use Rattle.px_iim.specs.Check.{iim_checks}
 use Rattle.px_iim.specs.lemmas.BoundLaws as iim
-use Rattle.px_tree.specs.Tree.{Meaning}
-use Rattle.px_tree.specs.Says.{SaysExif}
-use Rattle.px_tree.specs.Fits.{Fits}
-use Rattle.px_tree.specs.Refused as tree
 use Rattle.px_tree.specs.Laws as tree_laws
-use Rattle.px_layout.specs.Laws as layout
-use Rattle.px_engine.specs.declared.kinds.BlockKind.{BlockKind}
 use Rattle.px_engine.specs.declared.kinds.BlockKind.TheVariants as kind
-use Rattle.px_engine.specs.Files.{Said, Exif, Iim, SaysBlock, FirstIn, block_of, kind_of}
+use Rattle.px_engine.specs.Files.{Said, Iim, FirstIn}
 use Rattle.px_engine.specs.declared.faults.Fault.{Fault}
 use Rattle.px_engine.specs.declared.faults.Fault.TheVariants.{Refused, NormalTooLong, OutOfMemory, ReadFailed, WriteFailed}
-use Rattle.px_engine.specs.Input.{IsSaidIn, IsFaultyIn, IsRefusedIn, IsSaid, IsFaulty, IsRefused, IsUnsaid, CountsReadFault}
+use Rattle.px_engine.specs.Input.{IsSaidIn, IsFaultyIn, IsSaid, IsFaulty, IsRefused, IsUnsaid, CountsReadFault}
 use Rattle.px_engine.specs.Lacking.{LacksFault}
 use Rattle.px_engine.specs.Runs.{KnownSaid, Stops}
 use Rattle.px_engine.specs.calls.Faults.{refused}
