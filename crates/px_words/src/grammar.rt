@@ -1,8 +1,8 @@
 // The command that clap is handed: its subcommands, and the words that each must have.
-ghost use Rattle.std.specs.Prelude.{◌≡◌, codes, false, IfOk};
-ghost use Rattle.clap.specs.Words.{app_of, shape_of, with_subcommand};
+ghost use Rattle.std.specs.Prelude.{◌≡◌, codes, false, IfOk, IsOkAnd};
+ghost use Rattle.clap.specs.Words.{AddsSubcommand, app_of, shape_of, with_rule, with_subcommand};
 ghost use Rattle.clap.specs.declared.builder.Command.TheViews.{out-Command};
-ghost use Rattle.px_words.specs.Words.{bare, exifnorm, of_one, of_two};
+ghost use Rattle.px_words.specs.Words.{bare, exifnorm, of_one, of_two, required};
 
 use clap::{Arg, Command};
 use std::alloc::{AllocError, Global};
@@ -21,13 +21,24 @@ const STATUSES: &str = "Statuses:
 
 All text goes to standard output.";
 
+// A subcommand with one more word, which must be there.
+fn with_word<'a>(
+    alloc: Global,
+    command: Command<'a>,
+    word: &'a str,
+) -> Result<Command<'a>, AllocError>
+    ensures shape { IfOk result (λ c. app_of c ≡ with_rule (app_of command.entry) (required word.entry.now)) }
+    ensures local { IfOk result (λ c. (out-Command c).has_globals ≡ (out-Command command.entry).has_globals) }
+{
+    command.arg(Arg::new(alloc, word).required(true))
+}
+
 // A subcommand with one file.
 fn of_one<'a>(alloc: Global, name: &'a str, about: &'a str) -> Result<Command<'a>, AllocError>
     ensures shape { IfOk result (λ c. shape_of c ≡ of_one name.entry.now) }
     ensures local { IfOk result (λ c. (out-Command c).has_globals ≡ false) }
 {
-    let file = Arg::new(alloc, "FILE").required(true);
-    Command::new(alloc, name).about(about).arg(file)
+    with_word(alloc, Command::new(alloc, name).about(about), "FILE")
 }
 
 // A subcommand with two files.
@@ -41,85 +52,109 @@ fn of_two<'a>(
     ensures shape { IfOk result (λ c. shape_of c ≡ of_two name.entry.now first.entry.now second.entry.now) }
     ensures local { IfOk result (λ c. (out-Command c).has_globals ≡ false) }
 {
-    let first = Arg::new(alloc, first).required(true);
-    let second = Arg::new(alloc, second).required(true);
-    Command::new(alloc, name)
-        .about(about)
-        .arg(first)?
-        .arg(second)
+    let with_first = with_word(alloc, Command::new(alloc, name).about(about), first)?;
+    with_word(alloc, with_first, second)
 }
 
 // The command of this version, as yet without its subcommands. Its name stands in usage lines whatever
 // the program's file is called.
 fn bare<'a>(alloc: Global, version: &'a str) -> Result<Command<'a>, AllocError>
     ensures shape { IfOk result (λ c. app_of c ≡ bare) }
-    ensures local { IfOk result (λ c. (out-Command c).has_globals ≡ false) }
 {
-    let named = Command::new(alloc, NAME).bin_name(NAME)?;
-    Ok(
-        named
-            .version(version)
-            .about(ABOUT)
-            .after_help(STATUSES)
-            .no_binary_name(true)
-            .disable_help_subcommand(true)
-            .subcommand_required(true),
-    )
+    Command::new(alloc, NAME)
+        .version(version)
+        .about(ABOUT)
+        .after_help(STATUSES)
+        .no_binary_name(true)
+        .disable_help_subcommand(true)
+        .subcommand_required(true)
+        .bin_name(NAME)
+}
+
+// The command with one more subcommand, where memory sufficed for both. Where it didn't for one, the other
+// is given up by a call, which has that in one place.
+fn joined<'a>(
+    command: Result<Command<'a>, AllocError>,
+    subcommand: Result<Command<'a>, AllocError>,
+) -> Result<Command<'a>, AllocError>
+    ensures { IfOk result (λ c. IsOkAnd command.entry (λ old. IsOkAnd subcommand.entry (λ sub. AddsSubcommand old sub c))) }
+{
+    match command {
+        Ok(command) => match subcommand {
+            Ok(subcommand) => command.subcommand(subcommand),
+            Err(error) => {
+                drop(command);
+                Err(error)
+            }
+        },
+        Err(error) => {
+            drop(subcommand);
+            Err(error)
+        }
+    }
 }
 
 // The command with one more subcommand, which has one file.
 fn with_one<'a>(
     alloc: Global,
-    command: Command<'a>,
+    command: Result<Command<'a>, AllocError>,
     name: &'a str,
     about: &'a str,
 ) -> Result<Command<'a>, AllocError>
-    ensures { IfOk result (λ c. app_of c ≡ with_subcommand (app_of command.entry) (of_one name.entry.now)) }
+    ensures { IfOk result (λ c. IsOkAnd command.entry (λ old. app_of c ≡ with_subcommand (app_of old) (of_one name.entry.now))) }
 {
-    command.subcommand(of_one(alloc, name, about)?)
+    joined(command, of_one(alloc, name, about))
+}
+
+// The command with the subcommands that tell something of one file.
+fn telling<'a>(alloc: Global, version: &'a str) -> Result<Command<'a>, AllocError>
+    ensures { IfOk result (λ c. app_of c ≡ with_subcommand (with_subcommand (with_subcommand bare
+        (of_one (codes "show"))) (of_one (codes "check"))) (of_one (codes "captions"))) }
+{
+    let bare = bare(alloc, version);
+    let shows = with_one(
+        alloc,
+        bare,
+        "show",
+        "Print what the block says, a line for each field",
+    );
+    let checks = with_one(
+        alloc,
+        shows,
+        "check",
+        "Print the block's kind, or why it is refused",
+    );
+    let about = "Print the captions, names, keywords and rights in the block";
+    with_one(alloc, checks, "captions", about)
 }
 
 // The command with `normalise`.
-fn with_normalise<'a>(alloc: Global, command: Command<'a>) -> Result<Command<'a>, AllocError>
-    ensures { IfOk result (λ c. app_of c ≡ with_subcommand (app_of command.entry)
-        (of_two (codes "normalise") (codes "FILE") (codes "OUT"))) }
+fn with_normalise<'a>(
+    alloc: Global,
+    command: Result<Command<'a>, AllocError>,
+) -> Result<Command<'a>, AllocError>
+    ensures { IfOk result (λ c. IsOkAnd command.entry (λ old. app_of c ≡ with_subcommand (app_of old)
+        (of_two (codes "normalise") (codes "FILE") (codes "OUT")))) }
 {
     let about = "Write the block's normal form to OUT, and print nothing";
-    command.subcommand(of_two(alloc, "normalise", about, "FILE", "OUT")?)
+    joined(command, of_two(alloc, "normalise", about, "FILE", "OUT"))
 }
 
 // The command with `compare`.
-fn with_compare<'a>(alloc: Global, command: Command<'a>) -> Result<Command<'a>, AllocError>
-    ensures { IfOk result (λ c. app_of c ≡ with_subcommand (app_of command.entry)
-        (of_two (codes "compare") (codes "FIRST") (codes "SECOND"))) }
+fn with_compare<'a>(
+    alloc: Global,
+    command: Result<Command<'a>, AllocError>,
+) -> Result<Command<'a>, AllocError>
+    ensures { IfOk result (λ c. IsOkAnd command.entry (λ old. app_of c ≡ with_subcommand (app_of old)
+        (of_two (codes "compare") (codes "FIRST") (codes "SECOND")))) }
 {
     let about = "Print whether two blocks say the same or something different";
-    command.subcommand(of_two(alloc, "compare", about, "FIRST", "SECOND")?)
+    joined(command, of_two(alloc, "compare", about, "FIRST", "SECOND"))
 }
 
 /// The command of this version, whose words are those after the program's name.
 pub fn command<'a>(alloc: Global, version: &'a str) -> Result<Command<'a>, AllocError>
     ensures { IfOk result (λ c. app_of c ≡ exifnorm) }
 {
-    let bare = bare(alloc, version)?;
-    let shows = with_one(
-        alloc,
-        bare,
-        "show",
-        "Print what the block says, a line for each field",
-    )?;
-    let checks = with_one(
-        alloc,
-        shows,
-        "check",
-        "Print the block's kind, or why it is refused",
-    )?;
-    let prints = with_one(
-        alloc,
-        checks,
-        "captions",
-        "Print the captions, names, keywords and rights in the block",
-    )?;
-    let normalises = with_normalise(alloc, prints)?;
-    with_compare(alloc, normalises)
+    with_compare(alloc, with_normalise(alloc, telling(alloc, version)))
 }

@@ -1,8 +1,8 @@
-use Rattle.std.proofs.Common.{◌∙◌, ap}
-use Rattle.std.proofs.lemmas.Result.{IfOk-weaker}
-use Rattle.clap.specs.Words.{app_of, with_subcommand}
+use Rattle.std.proofs.Common.{codes}
+use Rattle.px_words.specs.Words.{of_two}
+use Rattle.px_words.proofs.GrammarLaws.{with_known}
 use Rattle.px_words.proofs.grammar.with_normalise.Goals as goal
 
 pub returns : goal.returns
-returns c = IfOk-weaker c.subcommand.result _ _ (λ r h. h.shape c.in_ok-of_two.ensures.local
-    ∙ ap (with_subcommand (app_of c.args.command)) c.in_ok-of_two.ensures.shape) c.subcommand.ensures
+returns c = with_known c.args.command c.of_two.result c.joined.result (of_two (codes "normalise") (codes "FILE") (codes "OUT"))
+    c.of_two.ensures.shape c.of_two.ensures.local c.joined.ensures
