@@ -6,7 +6,7 @@ use Rattle.clap.specs.declared.error.Error.{Error}
 use Rattle.clap.specs.declared.error.ErrorKind.TheVariants as kind
 use Rattle.px_words.specs.declared.words.Words.{Words}
 use Rattle.px_words.specs.declared.words.Words.TheVariants as words
-use Rattle.px_words.specs.Words.{AsksFiles, IsFor, IsTold, TellsKind}
+use Rattle.px_words.specs.Words.{Asks, AsksFiles, IsFor, IsTold, TellsKind}
 
 -- a match gives no text but that of one word for two files
 pub of_match : (kinds : Kinds) (met : Option (Text × List Row)) (w : Words) → kinds ≡ [] → AsksFiles met w → IsFor kinds w
@@ -31,6 +31,16 @@ of_error kinds e (words.Help text) (inr among) memory told k = (kind_of e, among
 of_error kinds e (words.Refused text) (inl lacking) memory told k =
     let bad : words.Refused text ≡ words.NoMemory = memory lacking in absurd (cc)
 of_error kinds e (words.Refused text) (inr among) memory told k = inr (kind_of e, among, k)
+
+-- a text names no file
+pub of_told : (met : Option (Text × List Row)) (w : Words) → IsTold w → Asks met w
+of_told met words.Filter told = tt
+of_told met (words.One what file) told = absurd told
+of_told met (words.Normalise file out) told = absurd told
+of_told met (words.Compare first second) told = absurd told
+of_told met (words.Help text) told = tt
+of_told met (words.Refused text) told = tt
+of_told met words.NoMemory told = tt
 
 -- where there is no kind, memory was refused
 pub of_none : (kinds : Kinds) (e : Error) → kinds ≡ [] → HasKind kinds e → kind_of e ≡ kind.OutOfMemory

@@ -1,7 +1,6 @@
-use Rattle.std.proofs.Common.{◌≡◌, ◌∙◌, ap, false}
+use Rattle.std.proofs.Common.{◌≡◌, ◌∙◌, ap}
 use Rattle.std.proofs.lemmas.Result.{IfOk-weaker}
 use Rattle.clap.specs.Words.{App, app_of, new_app, with_rule}
-use Rattle.clap.specs.declared.builder.Command.TheViews.{out-Command}
 use Rattle.px_words.specs.Words.{required}
 use Rattle.px_words.proofs.GrammarLaws.{about_app, about_local}
 use Rattle.px_words.proofs.grammar.of_two.Goals as goal
