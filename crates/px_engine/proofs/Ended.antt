@@ -5,7 +5,7 @@ use Rattle.px_bytes.specs.Parts.{limit}
 use Rattle.px_bytes.specs.Reading.{ReadsUpTo}
 use Rattle.px_engine.specs.declared.faults.Fault.{Fault}
 use Rattle.px_engine.specs.declared.faults.Fault.TheVariants.{Refused, NormalTooLong, OutOfMemory, ReadFailed, WriteFailed}
-use Rattle.px_engine.specs.declared.faults.Side.TheVariants.{First, Second}
+use Rattle.px_engine.specs.declared.faults.Side.TheVariants.{First}
 use Rattle.px_engine.specs.declared.faults.CompareFault.{CompareFault}
 use Rattle.px_engine.specs.declared.kinds.BlockKind.{BlockKind}
 use Rattle.px_engine.specs.Files.{Said, normal, block_of}
@@ -85,7 +85,3 @@ own_memory P (Err e) lacking h = (lacking, h)
 -- the fault of one of two files
 pub first_stops : (e : CompareFault) (first second : Option (List ℕ)) → e.side ≡ First → Stops e.fault first → Compares (Err e) first second
 first_stops e first second q h = subst (λ z. StopsAt z e.fault first second) (sym q) h
-
-pub second_stops : (e : CompareFault) (first second : Option (List ℕ)) (s : Said) → e.side ≡ Second → KnownSaid first s
-    → Stops e.fault second → Compares (Err e) first second
-second_stops e first second s q k h = subst (λ z. StopsAt z e.fault first second) (sym q) ((s, k), h)

@@ -1,4 +1,5 @@
 pub mod Judged
 pub mod Ended
+pub mod Compared
 pub mod Told
 pub mod Printed

@@ -1,3 +1,4 @@
 -- Words of the contracts of single calls. What the promises rest on stands a folder above.
 pub mod Faults
+pub mod Second
 pub mod Seen

@@ -6,6 +6,8 @@ ghost use Rattle.px_engine.specs.Lacking.{LacksRun, LacksPair};
 ghost use Rattle.px_engine.specs.Listing.{listing};
 ghost use Rattle.px_engine.specs.Prints.{Prints};
 ghost use Rattle.px_engine.specs.Runs.{Checks, Normalises, Compares, CountsReads, CountsWrites, CountsSides, Untouched};
+ghost use Rattle.px_engine.specs.calls.Second.{ComparesSecond, CountsSecond};
+ghost use Rattle.px_engine.specs.calls.Seen.{said_of};
 ghost use Rattle.px_bytes.specs.Devices.{CanFail};
 
 use crate::faults::{CompareFault, Fault, Side};
@@ -13,7 +15,7 @@ use crate::hand::check_of_in;
 use crate::input::{read_all_in, read_side};
 use crate::judging::{judge, judge_side};
 use crate::kinds::BlockKind;
-use crate::meanings::same;
+use crate::meanings::{Said, same};
 use crate::texts::{write_captions, write_listing};
 use crate::writing::write_said;
 use px_bytes::{Memory, Sink, Source};
@@ -165,6 +167,23 @@ pub fn captions<R: Source, W: Sink>(
     captions_in(&mut Memory::new(alloc), reader, writer)
 }
 
+// Reads the second of two files, and answers whether it says what the first does.
+fn compare_second<S: Source>(
+    memory: &mut Memory,
+    said: &Said,
+    second: &mut S,
+) -> Result<bool, CompareFault>
+    requires { CanFail (S.failed second.old) }
+    ensures done { ComparesSecond result (said_of said.now) (S.bytes_left second.old) }
+    ensures lost { ConsumesAtMost (S.bytes_left second.old) (S.bytes_left second.new) 16777223 }
+    ensures reads { CountsSecond result (S.failed second.old) (S.failed second.new) }
+    ensures memory { LacksPair result memory.old memory.new }
+{
+    let file = read_side(memory, second, Side::Second)?;
+    let other = judge_side(memory, &file, Side::Second)?;
+    Ok(same(said, &other))
+}
+
 /// Reads two files and answers whether they say the same: the same tree of directories, or the same
 /// record. The first is read and judged wholly before the second is read: a fault of the first leaves
 /// the second reader as it was. Whether the normal forms can be written doesn't matter.
@@ -187,9 +206,7 @@ pub fn compare_in<R: Source, S: Source>(
 {
     let file = read_side(memory, first, Side::First)?;
     let said = judge_side(memory, &file, Side::First)?;
-    let other_file = read_side(memory, second, Side::Second)?;
-    let other = judge_side(memory, &other_file, Side::Second)?;
-    Ok(same(&said, &other))
+    compare_second(memory, &said, second)
 }
 
 /// The same with memory of its own.

@@ -1,0 +1,16 @@
+-- What reading and judging the second of two files answers, where the first says s.
+use Rattle.std.specs.Prelude.{◌≡◌, ◌↔◌, ℕ, Bool, IsTrue, List, Option, Result, Ok, Err}
+use Rattle.px_engine.specs.declared.faults.CompareFault.{CompareFault}
+use Rattle.px_engine.specs.declared.faults.Side.TheVariants.{Second}
+use Rattle.px_engine.specs.Files.{Said}
+use Rattle.px_engine.specs.Runs.{KnownSaid, Stops, CountsFault}
+
+-- whether it says the same; or the fault is the second file's
+abbrev pub ComparesSecond : Result Bool CompareFault → Said → Option (List ℕ) → Type 0
+ComparesSecond (Ok same) s second = (t : Said) × KnownSaid second t × (IsTrue same ↔ (s ≡ t))
+ComparesSecond (Err e) s second = (e.side ≡ Second) × Stops e.fault second
+
+-- a failed read is answered exactly where the count of its reader rose
+abbrev pub CountsSecond : Result Bool CompareFault → ℕ → ℕ → Type 0
+CountsSecond (Ok same) second second_now = second_now ≡ second
+CountsSecond (Err e) second second_now = CountsFault e.fault second second_now
