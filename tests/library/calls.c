@@ -80,6 +80,7 @@ static int want_of_memory; /* whether a growth of the last call was refused; the
 
 #ifdef REFUSES_GROWTHS
 static long until_refused, live;
+static size_t last_asked; /* the bytes of the last growth that was asked for */
 
 void *__real_malloc(size_t size);
 void *__real_calloc(size_t count, size_t size);
@@ -98,6 +99,7 @@ static int is_refused(void) {
 }
 
 void *__wrap_malloc(size_t size) {
+    last_asked = size;
     void *got = is_refused() ? NULL : __real_malloc(size);
     live += got != NULL;
     return got;
@@ -110,6 +112,7 @@ void *__wrap_calloc(size_t count, size_t size) {
 }
 
 void *__wrap_realloc(void *old, size_t size) {
+    last_asked = size;
     void *got = is_refused() ? NULL : __real_realloc(old, size);
     live += got != NULL && old == NULL;
     return got;
@@ -162,6 +165,9 @@ static void try_room(const struct job *job, uint32_t at, int which, size_t room,
 #ifdef REFUSES_GROWTHS
     until_refused = 0;
     DUE(live == before, "memory was not given back");
+    /* the room for a form is asked for at once, behind all else; std makes no list of fewer than eight bytes */
+    if (which == 0 && due->status == EXIFNORM_DONE && status != EXIFNORM_NO_MEMORY)
+        DUE(last_asked == (due->length < 8 ? 8 : due->length), "the form took other room than its bytes need");
 #endif
     if (status == EXIFNORM_NO_MEMORY && want_of_memory) {
         DUE(written == 987654321 && is_fault(fault, NO_FAULT) && is_filled(out, room), "something changed without memory");
