@@ -26,14 +26,20 @@ HERE = Path(__file__).resolve().parent
 LAUNCHER = HERE.parent / "exifnorm"
 
 # What stands for the toolchain's command. It writes a line when it begins and when it ends, and takes as long as `seconds`
-# says. The program that it makes tells the text of main.rt and its words.
+# says. As the toolchain does, it waits for others that work in these folders, and wants what stands below to be built. The
+# program that it makes tells the text of main.rt and its words.
 RT = r"""#!/bin/sh
 room=ROOM
 if [ "$1" = version ]; then cat "$room/version"; exit; fi
 name=${PWD##*/}
+exec 9<..
+flock 9
+for it in $(sed -n "s/^$name://p" ../../crates.txt); do
+    case $it in px_*) [ -e "../$it/out/rlib/stamp" ] || { echo "$it is not built"; exit 1; } ;; esac
+done
 echo "begin $1 $name $$" >>"$room/log"
 made=out/$name
-mkdir -p out
+mkdir -p out/rlib
 if [ "$1" = run ]; then printf '#!/bin/sh\nexit 0\n' >"$made"; chmod +x "$made"; fi
 sleep "$(cat "$room/seconds")"
 if [ -e "$room/fails-$name" ]; then echo "this crate is not proved"; exit 1; fi
@@ -44,6 +50,7 @@ if [ "$1" = run ]; then
     echo "refused: UnknownKind at 0"
     exit 2
 fi
+touch out/rlib/stamp
 echo "end $1 $name $$" >>"$room/log"
 """
 
@@ -354,6 +361,26 @@ def crates_that_need_not_wait_are_proved_side_by_side(room: Room) -> None:
     due(most_at_once(room.log()) == 2, room.log())
 
 
+def what_is_proved_side_by_side_stands_in_its_own_folder_again(room: Room) -> None:
+    kept = room.top / "crates/px_field/out/kept"
+    kept.parent.mkdir()
+    kept.write_text("from an earlier build")
+    (room.top / "out/beside/px_field").mkdir(parents=True)  # as a build leaves it that was killed
+    due(room.call("a").stdout == "one: a\n", room.log())
+    for name in ("px_bytes", "px_field", "px_iim"):
+        due((room.top / "crates" / name / "out/rlib/stamp").exists(), f"nothing of {name} is kept")
+    due(kept.read_text() == "from an earlier build", "what was kept before is gone")
+    due(not (room.top / "out/beside").exists(), "the folders of their own still stand")
+
+
+def a_crate_is_proved_as_late_as_it_may(room: Room) -> None:
+    crates = "px_a: clap\npx_late: px_a\npx_b: px_a\npx_c: px_b\npx_cli: px_c px_late\n"
+    (room.folder / "late").mkdir()
+    late = Room(room.folder / "late", crates)
+    due(late.call("a").stdout == "one: a\n", late.log())
+    due(late.built()[:2] == ["px_a", "px_b"] and set(late.built()[2:4]) == {"px_c", "px_late"}, late.log())
+
+
 def at_most_three_are_proved_at_once(room: Room) -> None:
     names = "abcde"
     crates = "".join(f"px_{it}: clap\n" for it in names) + "px_cli: " + " ".join(f"px_{it}" for it in names) + "\n"
@@ -469,6 +496,8 @@ TESTS = [
     a_lock_that_cannot_be_removed_ends_the_call,
     a_broom_that_is_left_behind_ends_the_call,
     crates_that_need_not_wait_are_proved_side_by_side,
+    what_is_proved_side_by_side_stands_in_its_own_folder_again,
+    a_crate_is_proved_as_late_as_it_may,
     at_most_three_are_proved_at_once,
     it_says_where_the_built_program_stands,
     names_may_begin_with_a_hyphen,
