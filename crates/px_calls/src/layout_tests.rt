@@ -3,7 +3,7 @@
 use crate::built::{one, with_field};
 use px_bytes::Order;
 use px_field::{Form, read_value};
-use px_layout::{Chunk, Plan, is_legal, plan_normal, write_with};
+use px_plans::{Chunk, Plan, is_legal, plan_normal, write_with};
 use px_tree::{Dir, fits};
 use std::alloc::{AllocError, Global};
 use std::test::Fail;

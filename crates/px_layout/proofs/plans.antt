@@ -1,8 +1,2 @@
--- Plans, and blocks that they lay out.
-pub mod Counting
+-- The entries of directories.
 pub mod EntryLists
-pub mod Built
-pub mod Pieces
-pub mod Walks
-pub mod Lines
-pub mod Verdicts

@@ -18,3 +18,7 @@ pub mod ByteLaws
 pub mod CostLaws
 pub mod PayLaws
 pub mod BoundLaws
+pub mod WalkLaws
+pub mod PutLaws
+pub mod StripLaws
+pub mod EntryBytes

@@ -35,7 +35,7 @@ enum Step<'m, 'a> {
 /// The entries of a directory by ascending tag. It takes no memory, and an entry is found in a few
 /// comparisons; in one, where it stands before each that is no field.
 #[derive(Drop)]
-pub(crate) struct Entries<'m, 'a> {
+pub struct Entries<'m, 'a> {
     fields: &'m Fields<'a>,
     // Every entry that is no field stands at this place or behind it.
     clear: usize,
@@ -160,7 +160,7 @@ impl<'m, 'a> Entries<'m, 'a> {
     }
 
     /// How many there are.
-    pub(crate) fn len(&self) -> usize
+    pub fn len(&self) -> usize
         ensures { result ≡ length self.now }
     {
         self.fields.len()
@@ -171,7 +171,7 @@ impl<'m, 'a> Entries<'m, 'a> {
     }
 
     /// The entry at place `i`, counted from 0.
-    pub(crate) fn at(&self, i: usize) -> Entry<'m, 'a>
+    pub fn at(&self, i: usize) -> Entry<'m, 'a>
         requires { i < length self.now }
         ensures entry { slice_get self.now i ≡ Some (entry_of result) }
         ensures counted { IsCounted (item_of result.item) }
@@ -426,7 +426,7 @@ pub(crate) fn is_there(m: &Meaning, dir: Dir) -> bool
 /// The entries of a directory, where it is there: its fields, pointers, the record, and what names the
 /// thumbnail's bytes.
 #[tactic(auto, using(crate::proofs::plans::EntryLists::items_are))]
-pub(crate) fn entries_in<'m, 'a>(m: &'m Meaning<'a>, dir: Dir) -> Option<Entries<'m, 'a>>
+pub fn entries_in<'m, 'a>(m: &'m Meaning<'a>, dir: Dir) -> Option<Entries<'m, 'a>>
     requires { Fits (meaning_of m.now) }
     ensures { result ≡ items (meaning_of m.now) dir }
 {

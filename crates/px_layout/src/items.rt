@@ -12,21 +12,30 @@ use px_tree::{Dir, Strips};
 /// What an entry says: a field, the record, a pointer, the JPEG's offset or its length, or the
 /// offsets or the lengths of the strips.
 #[derive(Clone, Copy)]
-pub(crate) enum Item<'m, 'a> {
+pub enum Item<'m, 'a> {
+    /// A field.
     Field(&'m Value<'a>),
+    /// The caption record.
     Record(&'m Iim<'a>),
+    /// A pointer to a directory.
     Link(Dir),
+    /// Where the JPEG stands.
     JpegOffset,
+    /// The JPEG's length in bytes.
     JpegLength(u32),
+    /// Where the strips stand.
     StripOffsets(&'m Strips<'a>),
+    /// How many bytes each strip has.
     StripLengths(&'m Strips<'a>),
 }
 
 /// An entry: its tag, and what it says.
 #[derive(Clone, Copy)]
-pub(crate) struct Entry<'m, 'a> {
-    pub(crate) tag: u16,
-    pub(crate) item: Item<'m, 'a>,
+pub struct Entry<'m, 'a> {
+    /// Its tag.
+    pub tag: u16,
+    /// What it says.
+    pub item: Item<'m, 'a>,
 }
 
 // The type of a field: whole numbers are written as LONG.
@@ -41,7 +50,7 @@ fn form_of(value: &Value) -> Form
 
 impl Item<'_, '_> {
     /// The type of the entry.
-    pub(crate) fn form(self) -> Form
+    pub fn form(self) -> Form
         ensures { result ≡ item_form (item_of self.entry) }
     {
         match self {
@@ -52,7 +61,7 @@ impl Item<'_, '_> {
     }
 
     /// The count of the entry.
-    pub(crate) fn count(self) -> u32
+    pub fn count(self) -> u32
         requires { IsCounted (item_of self) }
         ensures { result ≡ item_count (item_of self.entry) }
     {
@@ -65,8 +74,8 @@ impl Item<'_, '_> {
         }
     }
 
-    /// The bytes of the entry's value.
-    pub(crate) fn size(self) -> u64
+    /// How many bytes the entry's value has.
+    pub fn size(self) -> u64
         requires { IsCounted (item_of self) }
         ensures { result ≡ item_size (item_of self.entry) }
     {

@@ -13,8 +13,8 @@ use crate::items::Entry;
 use px_bytes::{Failed, Order, Pending, Sink};
 use px_field::Value;
 
-// A number of two bytes.
-pub(crate) fn put_short<W: Sink>(
+/// Puts a number of two bytes behind those that wait. It takes no memory.
+pub fn put_short<W: Sink>(
     pending: &mut Pending,
     writer: &mut W,
     order: Order,
@@ -29,8 +29,8 @@ pub(crate) fn put_short<W: Sink>(
     pending.put(writer, &bytes)
 }
 
-// A number of four bytes.
-pub(crate) fn put_long<W: Sink>(
+/// Puts a number of four bytes behind those that wait. It takes no memory.
+pub fn put_long<W: Sink>(
     pending: &mut Pending,
     writer: &mut W,
     order: Order,
@@ -45,8 +45,8 @@ pub(crate) fn put_long<W: Sink>(
     pending.put(writer, &bytes)
 }
 
-// Up to four bytes of filler.
-pub(crate) fn put_filler<W: Sink>(
+/// Puts up to four bytes of filler behind those that wait. It takes no memory.
+pub fn put_filler<W: Sink>(
     pending: &mut Pending,
     writer: &mut W,
     filler: u8,
@@ -157,8 +157,9 @@ fn put_elements<W: Sink>(
     put_by_pieces(pending, writer, order, value, &mut [0; MANY])
 }
 
-// A value. Where its bytes stand in that order as they were read, they go as they are.
-pub(crate) fn put_value<W: Sink>(
+/// Puts a value behind the bytes that wait. Where its bytes stand in that order as they were read, they go as they are. It takes no
+/// memory, and ends at the first call that fails.
+pub fn put_value<W: Sink>(
     pending: &mut Pending,
     writer: &mut W,
     order: Order,
@@ -174,8 +175,8 @@ pub(crate) fn put_value<W: Sink>(
     put_elements(pending, writer, order, value)
 }
 
-// An entry up to its last field: tag, type, count.
-pub(crate) fn entry_head(order: Order, entry: &Entry) -> [u8; 8]
+/// An entry up to its last field: tag, type, count. TIFF 6.0 section 2, "IFD Entry".
+pub fn entry_head(order: Order, entry: &Entry) -> [u8; 8]
     requires { IsCounted (item_of entry.now.item) }
     ensures { result ≡ head_bytes order (entry_of entry.now) }
 {

@@ -9,7 +9,7 @@ use Rattle.px_layout.specs.Chunks.{chunks_of_dir, strip_chunks}
 use Rattle.px_layout.specs.Normal.{even, padded_size, normal_plan, normal_exif}
 use Rattle.px_layout.specs.lemmas.LineLaws.{length_normal}
 use Rattle.px_layout.specs.lemmas.RunLaws.{value_size, values_size, values_padded, dir_end, strips_start, strips_part, strips_end}
-use Rattle.px_layout.proofs.plans.Walks.{drop_here}
+use Rattle.px_layout.specs.lemmas.WalkLaws.{drop_here}
 
 -- what the values from an entry on take
 pub values_here : (xs : List (ℕ × Item)) (i : ℕ) (x : ℕ × Item) → slice_get xs i ≡ Some x

@@ -30,7 +30,7 @@ use Rattle.px_layout.specs.calls.Given.{head_bytes, last_given, entry_given, str
 use Rattle.px_layout.specs.calls.Starting.{AreStarts}
 use Rattle.px_tree.specs.Directory.{magic}
 use Rattle.px_layout.proofs.writing.Beginnings.{dir_there, form_end}
-use Rattle.px_layout.proofs.plans.Walks.{drop_here}
+use Rattle.px_layout.specs.lemmas.WalkLaws.{drop_here}
 
 -- what holds of each holds of one that is read
 pub each_read : {X : Type 0} (P : X → Type 0) (xs : List X) (i : ℕ) (x : X) → AllByRecursion P xs → slice_get xs i ≡ Some x → P x

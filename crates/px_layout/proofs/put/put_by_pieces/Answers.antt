@@ -1,7 +1,7 @@
 use Rattle.std.proofs.Common.{◌≡◌, ◌∙◌, ◌*◌, ℕ, List, take, ap, arith}
 use Rattle.std.proofs.lemmas.Result.{err_from_is_err_and}
 use Rattle.px_field.specs.Values.{spell}
-use Rattle.px_layout.proofs.writing.Puts.{more_many, stop_many}
+use Rattle.px_layout.specs.lemmas.PutLaws.{more_many, stop_many}
 use Rattle.px_layout.proofs.put.put_by_pieces.Goals as goal
 
 -- the bytes of n elements, by their width

@@ -5,8 +5,8 @@ use Rattle.px_bytes.specs.lemmas.WaitingLaws.{loop_more, loop_stop}
 use Rattle.px_tree.specs.Directory.{dirs}
 use Rattle.px_layout.specs.calls.Forms.{said_in}
 use Rattle.px_layout.specs.Normal.{normal_plan}
-use Rattle.px_layout.proofs.writing.Puts.{fails_as}
-use Rattle.px_layout.proofs.writing.EntryBytes.{dir_bytes, dirs_as}
+use Rattle.px_layout.specs.lemmas.PutLaws.{fails_as}
+use Rattle.px_layout.specs.lemmas.EntryBytes.{dir_bytes, dirs_as}
 use Rattle.px_layout.proofs.put_form.put_dirs.Goals as goal
 
 pub returns-in_err-put_any_dir-clause-bytes : goal.returns-in_err-put_any_dir-clause-bytes

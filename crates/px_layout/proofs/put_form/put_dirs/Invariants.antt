@@ -3,7 +3,7 @@ use Rattle.px_bytes.specs.lemmas.WaitingLaws.{HasPut}
 use Rattle.px_tree.specs.Directory.{dirs}
 use Rattle.px_layout.specs.calls.Forms.{said_in}
 use Rattle.px_layout.specs.Normal.{normal_plan}
-use Rattle.px_layout.proofs.writing.EntryBytes.{dir_bytes}
+use Rattle.px_layout.specs.lemmas.EntryBytes.{dir_bytes}
 use Rattle.px_layout.proofs.put_form.put_dirs.Given as goal
 
 -- the directories so far were put, and no call failed

@@ -9,7 +9,7 @@ use Rattle.px_layout.specs.Plans.{Plan}
 use Rattle.px_layout.specs.calls.Forms.{plan_in}
 use Rattle.px_layout.specs.calls.Given.{head_bytes, near_given}
 use Rattle.px_layout.specs.calls.Items.{item_of, entry_of}
-use Rattle.px_layout.proofs.writing.Puts.{both_as, first_as, fails_as, second_of, puts_as}
+use Rattle.px_layout.specs.lemmas.PutLaws.{both_as, first_as, fails_as, second_of, puts_as}
 use Rattle.px_layout.proofs.put_running.put_near_entry.Goals as goal
 
 -- where the size is known by another name

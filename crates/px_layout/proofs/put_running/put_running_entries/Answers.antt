@@ -5,8 +5,8 @@ use Rattle.px_layout.specs.calls.Forms.{said_in}
 use Rattle.px_tree.specs.Entry.{table_size}
 use Rattle.px_layout.specs.Laid.{entry_bytes}
 use Rattle.px_layout.specs.Normal.{normal_plan}
-use Rattle.px_layout.proofs.writing.Puts.{more_as, stop_as}
-use Rattle.px_layout.proofs.plans.Walks.{few_there}
+use Rattle.px_layout.specs.lemmas.PutLaws.{more_as, stop_as}
+use Rattle.px_layout.specs.lemmas.WalkLaws.{few_there}
 use Rattle.px_layout.proofs.writing.Beginnings.{values_here}
 use Rattle.px_layout.proofs.writing.Runs.{entry_running, values_most, tells_read}
 use Rattle.px_layout.proofs.put_running.put_running_entries.Goals as goal

@@ -5,7 +5,7 @@ use Rattle.px_bytes.specs.lemmas.WaitingLaws.{HasPut}
 use Rattle.px_bytes.specs.declared.Order.TheVariants.{Most}
 use Rattle.px_layout.specs.Laid.{long_bytes}
 use Rattle.px_layout.specs.calls.Given.{strip_places}
-use Rattle.px_layout.proofs.writing.Puts.{more_behind, stop_behind}
+use Rattle.px_layout.specs.lemmas.PutLaws.{more_behind, stop_behind}
 use Rattle.px_layout.proofs.writing.Runs.{length_places}
 use Rattle.px_layout.proofs.put_running.put_strip_places.Goals as goal
 

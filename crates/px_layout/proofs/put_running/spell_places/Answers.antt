@@ -3,7 +3,7 @@ use Rattle.px_bytes.specs.declared.Order.TheVariants.{Most}
 use Rattle.px_bytes.specs.lemmas.NumberLaws.{length-spelling}
 use Rattle.px_layout.specs.Laid.{long_bytes}
 use Rattle.px_layout.specs.calls.Given.{strip_places}
-use Rattle.px_layout.proofs.writing.Puts.{spelled_more}
+use Rattle.px_layout.specs.lemmas.PutLaws.{spelled_more}
 use Rattle.px_layout.proofs.writing.Runs.{place_read, strips_next}
 use Rattle.px_layout.proofs.put_running.spell_places.Goals as goal
 

@@ -1,6 +1,6 @@
 use Rattle.px_tree.specs.calls.Seen.{thumb_of}
-use Rattle.px_layout.proofs.writing.Puts.{both_as, first_as}
-use Rattle.px_layout.proofs.writing.Strips.{parts_padded}
+use Rattle.px_layout.specs.lemmas.PutLaws.{both_as, first_as}
+use Rattle.px_layout.specs.lemmas.StripLaws.{parts_padded}
 use Rattle.std.proofs.lemmas.Result.{err_from_is_err_and}
 use Rattle.px_layout.proofs.put_thumb.put_parts.Goals as goal
 

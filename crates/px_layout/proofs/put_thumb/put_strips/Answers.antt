@@ -3,8 +3,8 @@ use Rattle.std.proofs.lemmas.List.{take_all}
 use Rattle.std.proofs.lemmas.Result.{err_from_is_err_and}
 use Rattle.px_bytes.specs.lemmas.WaitingLaws.{HasPut, loop_more, loop_stop}
 use Rattle.px_layout.specs.Normal.{padded}
-use Rattle.px_layout.proofs.writing.Puts.{fails_as, has_as}
-use Rattle.px_layout.proofs.writing.Strips.{strips_padded}
+use Rattle.px_layout.specs.lemmas.PutLaws.{fails_as, has_as}
+use Rattle.px_layout.specs.lemmas.StripLaws.{strips_padded}
 use Rattle.px_layout.proofs.put_thumb.put_strips.Goals as goal
 
 pub returns-in_err-put_padded-clause-bytes : goal.returns-in_err-put_padded-clause-bytes

@@ -1,4 +1,0 @@
-use Rattle.px_layout.proofs.put_table.put_next.Goals as goal
-
-pub returns-in-Main-clause-bytes : goal.returns-in-Main-clause-bytes
-returns-in-Main-clause-bytes g c = rw c.in-Main.is c.put_next_of_main.ensures.bytes

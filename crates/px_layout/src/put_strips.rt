@@ -1,0 +1,54 @@
+// The lengths of strips, put behind the bytes that wait for a writer. TIFF 6.0 section 8, "StripByteCounts".
+ghost use Rattle.std.specs.Prelude.{◌≡◌, ◌≤◌, ◌-◌, ◌*◌, ◌++◌, length, take, map, flat_map};
+ghost use Rattle.std.specs.List.{AllByRecursion};
+ghost use Rattle.px_bytes.specs.Devices.{CanFail, Counts};
+ghost use Rattle.px_bytes.specs.Parts.{limit};
+ghost use Rattle.px_bytes.specs.Waiting.{PutsTo};
+ghost use Rattle.px_layout.specs.Laid.{long_bytes};
+
+use px_bytes::{Failed, Order, Pending, Sink};
+use px_tree::Strips;
+
+// How many numbers of strips are spelled before they are put.
+pub(crate) const AT_ONCE: usize = 64;
+
+// Spells the lengths of the strips from `start` up to `end`.
+fn spell_lengths(order: Order, strips: &Strips, start: usize, end: usize, into: &mut [u8])
+    requires rising { start ≤ end }
+    requires inside { end ≤ length strips.now }
+    requires short { AllByRecursion (λ n. n ≤ limit) (map (λ x. length x) strips.now) }
+    requires room { length into.old ≡ 4 * (end - start) }
+    ensures { flat_map (long_bytes order) (take end (map (λ x. length x) strips.now))
+        ≡ flat_map (long_bytes order) (take start (map (λ x. length x) strips.now)) ++ into.new }
+{
+    for i in start..end {
+        let at = 4 * (i - start);
+        order.put32(strips.at(i).len() as u32, &mut into[at..at + 4]);
+    }
+}
+
+/// Puts the lengths of strips in bytes, each a LONG, behind the bytes that wait. It takes no memory, and ends at the first call
+/// that fails.
+pub fn put_strip_lengths<W: Sink>(
+    pending: &mut Pending,
+    writer: &mut W,
+    order: Order,
+    strips: &Strips,
+) -> Result<(), Failed>
+    requires few { CanFail (W.failed writer.old) }
+    requires short { AllByRecursion (λ n. n ≤ limit) (map (λ x. length x) strips.now) }
+    ensures bytes { PutsTo W.bytes_taken result writer.old writer.new pending.old pending.new (flat_map
+        (long_bytes order) (map (λ x. length x) strips.now)) }
+    ensures count { Counts result (W.failed writer.old) (W.failed writer.new) }
+{
+    let mut piece = [0; 4 * AT_ONCE];
+    let mut i = 0;
+    while i < strips.len() {
+        let count = AT_ONCE.min(strips.len() - i);
+        let bytes = &mut piece[..4 * count];
+        spell_lengths(order, strips, i, i + count, bytes);
+        pending.put(writer, bytes)?;
+        i += count;
+    }
+    Ok(())
+}

@@ -1,0 +1,3 @@
+mod Opened
+mod Examples
+pub mod plans

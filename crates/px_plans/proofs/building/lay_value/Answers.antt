@@ -1,0 +1,22 @@
+use Rattle.std.proofs.Common.{sym, ◌∙◌, arith, ltb-true, ltb-false}
+use Rattle.px_layout.specs.calls.Items.{entry_of}
+use Rattle.px_plans.proofs.plans.Pieces.{value_none, value_over, value_room}
+use Rattle.px_plans.proofs.building.lay_value.Goals as goal
+
+pub returns-then-not-needs_place-clause-bytes : goal.returns-then-not-needs_place-clause-bytes
+returns-then-not-needs_place-clause-bytes c =
+    value_none c.args.layout.now c.args.block.now c.args.block.now c.args.dir (entry_of c.args.entry.now)
+    (let s = c.size.ensures in let t = ltb-false 4 _ (sym c.needs_place.ensures ∙ c.if-not-needs_place.true) in omega arith)
+
+pub put_at-requires : goal.put_at-requires
+put_at-requires c =
+    value_room c.args.layout.now c.args.block.now c.args.block.now c.args.dir (entry_of c.args.entry.now)
+    (let s = c.size.ensures in let t = ltb-true 4 _ (sym c.needs_place.ensures ∙ c.if-not-needs_place.false) in omega arith)
+    c.place_of-at.result c.deref.result.now c.place_of-at.ensures (c.deref.ensures.value ∙ c.in_ok-bytes.ensures.bytes) c.requires.inside
+
+pub returns-clause-bytes : goal.returns-clause-bytes
+returns-clause-bytes c =
+    value_over c.args.layout.now c.args.block.now c.put_at.new.block c.args.dir (entry_of c.args.entry.now)
+    (let s = c.size.ensures in let t = ltb-true 4 _ (sym c.needs_place.ensures ∙ c.if-not-needs_place.false) in omega arith)
+    c.place_of-at.result c.deref.result.now c.place_of-at.ensures (c.deref.ensures.value
+    ∙ c.in_ok-bytes.ensures.bytes) c.put_at.ensures.bytes

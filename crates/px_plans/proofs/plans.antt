@@ -1,0 +1,6 @@
+-- Plans, and blocks that they lay out.
+pub mod Counting
+pub mod Built
+pub mod Pieces
+pub mod Lines
+pub mod Verdicts

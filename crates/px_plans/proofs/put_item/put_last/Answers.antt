@@ -1,0 +1,22 @@
+use Rattle.std.proofs.Common.{sym, ◌∙◌, ltb-false}
+use Rattle.std.proofs.lemmas.Result.{err_from_is_err_and}
+use Rattle.px_layout.specs.calls.Items.{entry_of}
+use Rattle.px_plans.specs.calls.Layouts.{said_plan}
+use Rattle.px_layout.specs.lemmas.PutLaws.{both_as, first_as}
+use Rattle.px_layout.specs.lemmas.EntryBytes.{last_inside}
+use Rattle.px_plans.proofs.put_item.put_last.Goals as goal
+
+pub returns-in_err-put_item-clause-bytes : goal.returns-in_err-put_item-clause-bytes
+returns-in_err-put_item-clause-bytes g c =
+    let p = err_from_is_err_and c.from_residual.result c.from_residual.ensures.1 in
+    rw p.1 (first_as g.W.Sink.bytes_taken _ _ c.args.pending.now _ _ _ (last_inside (said_plan c.args.layout.now) c.args.layout.now.order
+    c.args.layout.now.filler c.args.dir (entry_of c.args.entry.now) c.size-size.result c.size-size.ensures
+    (ltb-false 4 _ (sym c.needs_place.ensures ∙ c.if-needs_place.false)))
+    c.in_err-put_item.ensures.bytes)
+
+pub returns-clause-bytes : goal.returns-clause-bytes
+returns-clause-bytes g c =
+    both_as g.W.Sink.bytes_taken c.put_filler.result _ _ _ c.args.pending.now c.put_item.new.pending c.put_filler.new.pending _ _ _
+    (last_inside (said_plan c.args.layout.now) c.args.layout.now.order c.args.layout.now.filler c.args.dir (entry_of c.args.entry.now)
+    c.size-size.result c.size-size.ensures (ltb-false 4 _ (sym c.needs_place.ensures ∙ c.if-needs_place.false)))
+    c.in_ok-put_item.ensures.bytes c.put_filler.ensures.bytes

@@ -1,0 +1,11 @@
+use Rattle.std.proofs.Common.{◌≡◌, ◌++◌, drop, filter_map}
+use Rattle.px_layout.specs.Chunks.{placed_chunk}
+use Rattle.px_plans.proofs.sizing.push_values.Given as goal
+
+-- what is there, and then the chunks of the entries left; and no growth was refused
+abbrev pub invariant-loop-i : goal.invariant-loop-i
+invariant-loop-i l = record {
+  chunks : l.out.items ++ filter_map (placed_chunk l.dir) (drop l.i l.entries) ≡ l.initial.out.items ++ filter_map
+      (placed_chunk l.dir) l.entries;
+  memory : l.memory ≡ l.initial.memory;
+}

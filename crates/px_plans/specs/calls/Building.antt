@@ -1,0 +1,54 @@
+-- A block that is built piece by piece: each piece that is put over it stands before those that it was made of.
+use Rattle.std.specs.Prelude.{◌≡◌, ℕ, ◌+◌, ◌≤◌, ◌<◌, ◌^◌, ⊤, List, ◌++◌, length, map, filter_map}
+use Rattle.std.specs.List.{AllByRecursion, range_with_len}
+use Rattle.px_tree.specs.declared.Dir.{Dir}
+use Rattle.px_tree.specs.Tree.{Meaning}
+use Rattle.px_tree.specs.Fits.{Item, items}
+use Rattle.px_layout.specs.declared.chunks.Chunk.{Chunk}
+use Rattle.px_plans.specs.declared.layout.Layout.{Layout}
+use Rattle.px_plans.specs.declared.building.Piece.{Piece}
+use Rattle.px_plans.specs.declared.building.Piece.TheVariants.{Header, Table, Value}
+use Rattle.px_layout.specs.calls.Items.{item_of, IsCounted}
+use Rattle.px_layout.specs.Plans.{place}
+use Rattle.px_plans.specs.calls.Layouts.{said_plan, said_meaning, header_in, item_in, table_in}
+use Rattle.px_layout.specs.Laid.{placed_content, contents_of_dir, byte_at}
+
+-- the block of n bytes that pieces make
+abbrev pub made : ℕ → ℕ → List (ℕ × List ℕ) → List ℕ
+made n filler xs = map (byte_at filler xs) (range_with_len 0 n)
+
+-- the pieces lie within n bytes
+abbrev pub AreInside : ℕ → List (ℕ × List ℕ) → Type 0
+AreInside n xs = AllByRecursion (λ y. y.0 + length y.1 ≤ n) xs
+
+-- the pieces were put over what the block was made of
+abbrev pub PutsOver : List ℕ → List ℕ → List (ℕ × List ℕ) → Type 0
+PutsOver old new xs = (filler : ℕ) (ys : List (ℕ × List ℕ)) → old ≡ made (length old) filler ys → new ≡ made (length old) filler (xs ++ ys)
+
+-- the bytes of a piece
+abbrev pub piece_bytes : Layout → Piece → List ℕ
+piece_bytes l Header = header_in l
+piece_bytes l (Table d xs) = table_in l d xs.now
+piece_bytes l (Value x) = item_in l (item_of x)
+
+-- a table has fewer than 65,536 entries, and an item's counts are of four bytes
+abbrev pub IsPiece : Piece → Type 0
+IsPiece Header = ⊤
+IsPiece (Table d xs) = length xs.now < 2 ^ 16
+IsPiece (Value x) = IsCounted (item_of x)
+
+-- chunks, each at its place
+abbrev pub at_places : Layout → List (Chunk × List ℕ) → List (ℕ × List ℕ)
+at_places l cs = map (λ c. (place (said_plan l) c.0, c.1)) cs
+
+-- the placed values of entries
+abbrev pub value_pieces : Layout → Dir → List (ℕ × Item) → List (ℕ × List ℕ)
+value_pieces l d xs = at_places l (filter_map (placed_content (said_plan l) l.order l.filler d) xs)
+
+-- the chunks of a directory, where it is there
+abbrev pub contents_in : Layout → Dir → List (Chunk × List ℕ)
+contents_in l d = contents_of_dir (said_plan l) l.order l.filler (said_meaning l) d (items (said_meaning l) d)
+
+-- a directory's table and its placed values
+abbrev pub dir_pieces : Layout → Meaning → Dir → List (ℕ × List ℕ)
+dir_pieces l m d = at_places l (contents_of_dir (said_plan l) l.order l.filler m d (items m d))

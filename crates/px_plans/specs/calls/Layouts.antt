@@ -1,0 +1,36 @@
+-- What a layout says, and the bytes that it lays out.
+use Rattle.std.specs.Prelude.{ℕ, List}
+use Rattle.px_tree.specs.declared.Dir.{Dir}
+use Rattle.px_tree.specs.Tree.{Meaning}
+use Rattle.px_tree.specs.calls.Seen.{meaning_of}
+use Rattle.px_tree.specs.Fits.{Item}
+use Rattle.px_plans.specs.declared.layout.Layout.{Layout}
+use Rattle.px_layout.specs.Laid.{header, item_bytes, last_bytes, entry_bytes, next_bytes, table_bytes}
+use Rattle.px_layout.specs.Plans.{Plan}
+use Rattle.px_plans.specs.calls.Planned.{plan_of}
+
+abbrev pub said_plan : Layout → Plan
+said_plan l = plan_of l.plan.now
+
+abbrev pub said_meaning : Layout → Meaning
+said_meaning l = meaning_of l.m.now
+
+-- ---- the bytes of its parts
+
+abbrev pub header_in : Layout → List ℕ
+header_in l = header (said_plan l) l.order l.filler
+
+abbrev pub item_in : Layout → Item → List ℕ
+item_in l x = item_bytes (said_plan l) l.order l.filler x
+
+abbrev pub last_in : Layout → Dir → ℕ × Item → List ℕ
+last_in l d i = last_bytes (said_plan l) l.order l.filler d i
+
+abbrev pub entry_in : Layout → Dir → ℕ × Item → List ℕ
+entry_in l d i = entry_bytes (said_plan l) l.order l.filler d i
+
+abbrev pub next_in : Layout → Dir → List ℕ
+next_in l d = next_bytes (said_plan l) l.order l.filler (said_meaning l) d
+
+abbrev pub table_in : Layout → Dir → List (ℕ × Item) → List ℕ
+table_in l d xs = table_bytes (said_plan l) l.order l.filler (said_meaning l) d xs

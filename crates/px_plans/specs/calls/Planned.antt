@@ -1,0 +1,22 @@
+-- What a plan of the program says, and what placing a chunk does to a plan.
+use Rattle.std.specs.Prelude.{ℕ, if◌then◌else◌, Some, None}
+use Rattle.px_layout.specs.declared.chunks.Chunk.{Chunk}
+use Rattle.px_plans.specs.declared.plan.Plan.{Plan}
+use Rattle.px_layout.specs.Chunks.{same_chunk}
+use Rattle.px_layout.specs.Plans as said
+use Rattle.px_plans.specs.calls.Kept.{offset_in}
+
+unfoldable pub plan_of : Plan → said.Plan
+plan_of p = record { length = p.len; offset = offset_in p.offsets }
+
+-- no chunk is placed
+abbrev pub bare : ℕ → said.Plan
+bare n = record { length = n; offset = λ c. None }
+
+-- the plan with one more chunk
+abbrev pub with_chunk : said.Plan → Chunk → ℕ → said.Plan
+with_chunk plan c x = record { length = plan.length; offset = λ d. if same_chunk c d then Some x else plan.offset d }
+
+-- the same chunks, in a block of n bytes
+abbrev pub with_length : said.Plan → ℕ → said.Plan
+with_length plan n = record { length = n; offset = plan.offset }

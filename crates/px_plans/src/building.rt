@@ -1,0 +1,266 @@
+// The pieces of a block, put at their places: from the last to the first, so that a piece is put over those behind it.
+ghost use Rattle.std.specs.Prelude.{◌≡◌, ◌≤◌, ◌<◌, ◌+◌, ◌^◌, [], ◌∷◌, length, replicate, Some, option_map, flat_map, IfSome, OnOk, IfOk};
+ghost use Rattle.px_bytes.specs.Devices.{CanFail, Counts};
+ghost use Rattle.px_bytes.specs.Lacking.{Lacks};
+ghost use Rattle.px_bytes.specs.Parts.{limit};
+ghost use Rattle.px_bytes.specs.Waiting.{PutsTo};
+ghost use Rattle.std.specs.Io.KnownBytes.{Appends};
+ghost use Rattle.px_tree.specs.Directory.{dirs};
+ghost use Rattle.px_tree.specs.Fits.{Fits, items};
+ghost use Rattle.px_tree.specs.calls.Seen.{thumb_of};
+ghost use Rattle.px_plans.specs.calls.Building.{AreInside, PutsOver, at_places, contents_in, value_pieces, dir_pieces, piece_bytes};
+ghost use Rattle.px_plans.specs.calls.Building.{IsPiece};
+ghost use Rattle.px_layout.specs.calls.Items.{item_of, entry_of, IsCounted};
+ghost use Rattle.px_plans.specs.calls.Layouts.{said_plan, said_meaning, header_in, table_in};
+ghost use Rattle.px_layout.specs.Laid.{all_strip_contents, jpeg_contents, strip_contents, thumb_contents, header, laid};
+ghost use Rattle.px_layout.specs.Plans.{Legal, place};
+
+use crate::layout::Layout;
+use crate::put_item::{place_of, put_item};
+use crate::put_table::{put_header, put_table};
+use px_bytes::{Failed, Growing, Memory, Pending, Refused, Sink};
+use px_layout::{Chunk, Entries, Entry, Item, entries_in};
+use px_tree::{Dir, Strips, Thumb, needs_place};
+
+// Puts bytes at a place.
+fn put_at(block: &mut [u8], at: u32, bytes: &[u8])
+    requires { at + length bytes.now ≤ length block.old }
+    ensures len { length block.new ≡ length block.old }
+    ensures bytes { PutsOver block.old block.new ((at, bytes.now) ∷ []) }
+{
+    let at = at as usize;
+    block[at..at + bytes.len()].copy_from_slice(bytes);
+}
+
+// ---- bytes of their own
+
+// A piece of a block that is put together: the header, the table of a directory, the value of an entry.
+#[derive(Clone, Copy)]
+pub(crate) enum Piece<'e, 'm, 'a> {
+    Header,
+    Table(Dir, &'e Entries<'m, 'a>),
+    Value(Item<'m, 'a>),
+}
+
+fn put_piece<W: Sink>(
+    pending: &mut Pending,
+    writer: &mut W,
+    layout: &Layout,
+    piece: Piece,
+) -> Result<(), Failed>
+    requires few { CanFail (W.failed writer.old) }
+    requires piece { IsPiece piece }
+    ensures bytes { PutsTo W.bytes_taken result writer.old writer.new pending.old pending.new (piece_bytes layout.now piece.entry) }
+    ensures count { Counts result (W.failed writer.old) (W.failed writer.new) }
+{
+    match piece {
+        Piece::Header => put_header(pending, writer, layout),
+        Piece::Table(dir, entries) => put_table(pending, writer, layout, dir, entries),
+        Piece::Value(item) => put_item(pending, writer, layout, item),
+    }
+}
+
+fn write_piece<W: Sink>(writer: &mut W, layout: &Layout, piece: Piece) -> Result<(), Failed>
+    requires few { CanFail (W.failed writer.old) }
+    requires piece { IsPiece piece }
+    ensures bytes { OnOk result (Appends (W.bytes_taken writer.old) (W.bytes_taken writer.new) (piece_bytes layout.now piece.entry)) }
+    ensures count { Counts result (W.failed writer.old) (W.failed writer.new) }
+{
+    let mut pending = Pending::new();
+    put_piece(&mut pending, writer, layout, piece)?;
+    pending.send(writer)
+}
+
+// The bytes of a piece.
+fn bytes_of(memory: &mut Memory, layout: &Layout, piece: Piece) -> Result<Vec<u8>, Refused>
+    requires { IsPiece piece }
+    ensures bytes { IfOk result (λ v. v.items ≡ piece_bytes layout.now piece.entry) }
+    ensures memory { Lacks result memory.old memory.new }
+{
+    let mut writer = Growing::new(memory);
+    // It fails where a growth was refused, which the writer tells.
+    let _ = write_piece(&mut writer, layout, piece);
+    writer.finish_in(memory)
+}
+
+// ---- pieces at their places
+
+// The strips, the last first.
+fn lay_strips(block: &mut [u8], layout: &Layout, strips: &Strips)
+    requires few { length strips.now ≤ limit }
+    requires inside { AreInside (length block.old) (at_places layout.now (strip_contents 0 strips.now)) }
+    ensures len { length block.new ≡ length block.old }
+    ensures bytes { PutsOver block.old block.new (at_places layout.now (strip_contents 0 strips.now)) }
+{
+    for i in (0..strips.len()).rev() {
+        let at = place_of(layout.plan, Chunk::Strip(i as u32));
+        put_at(block, at, strips.at(i));
+    }
+}
+
+fn lay_all_strips(block: &mut [u8], layout: &Layout, strips: &Option<Strips>)
+    requires few { IfSome strips.now (λ s. length s ≤ limit) }
+    requires inside { AreInside (length block.old) (at_places layout.now (all_strip_contents strips.now)) }
+    ensures len { length block.new ≡ length block.old }
+    ensures bytes { PutsOver block.old block.new (at_places layout.now (all_strip_contents strips.now)) }
+{
+    if let Some(strips) = strips {
+        lay_strips(block, layout, strips);
+    }
+}
+
+fn lay_jpeg(block: &mut [u8], layout: &Layout, jpeg: Option<&[u8]>)
+    requires { AreInside (length block.old) (at_places layout.now (jpeg_contents (option_map (λ x. x.now) jpeg))) }
+    ensures len { length block.new ≡ length block.old }
+    ensures bytes { PutsOver block.old block.new (at_places layout.now (jpeg_contents (option_map (λ x. x.now) jpeg.entry))) }
+{
+    if let Some(bytes) = jpeg {
+        put_at(block, place_of(layout.plan, Chunk::Jpeg), bytes);
+    }
+}
+
+fn lay_parts(block: &mut [u8], layout: &Layout, thumb: &Thumb)
+    requires few { IfSome (thumb_of thumb.now).strips (λ s. length s ≤ limit) }
+    requires strips { AreInside (length block.old) (at_places layout.now (all_strip_contents (thumb_of thumb.now).strips)) }
+    requires jpeg { AreInside (length block.old) (at_places layout.now (jpeg_contents (thumb_of thumb.now).jpeg)) }
+    ensures len { length block.new ≡ length block.old }
+    ensures bytes { PutsOver block.old block.new (at_places layout.now (thumb_contents (Some (thumb_of thumb.now)))) }
+{
+    lay_all_strips(block, layout, &thumb.strips);
+    lay_jpeg(block, layout, thumb.jpeg);
+}
+
+// The thumbnail's bytes.
+fn lay_thumb(block: &mut [u8], layout: &Layout)
+    requires fits { Fits (said_meaning layout.now) }
+    requires legal { Legal (said_meaning layout.now) (said_plan layout.now) }
+    requires len { length block.old ≡ (said_plan layout.now).length }
+    ensures len { length block.new ≡ length block.old }
+    ensures bytes { PutsOver block.old block.new (at_places layout.now (thumb_contents (said_meaning layout.now).thumb)) }
+{
+    match &layout.m.thumb {
+        Some(thumb) => lay_parts(block, layout, thumb),
+        None => {}
+    }
+}
+
+// The value of an entry, where it has a place of its own.
+fn lay_value(
+    memory: &mut Memory,
+    block: &mut [u8],
+    layout: &Layout,
+    dir: Dir,
+    entry: &Entry,
+) -> Result<(), Refused>
+    requires counted { IsCounted (item_of entry.now.item) }
+    requires inside { AreInside (length block.old) (value_pieces layout.now dir (entry_of entry.now ∷ [])) }
+    ensures memory { Lacks result memory.old memory.new }
+    ensures len { length block.new ≡ length block.old }
+    ensures bytes { OnOk result (PutsOver block.old block.new (value_pieces layout.now dir (entry_of entry.now ∷ []))) }
+{
+    let Entry { tag, item } = *entry;
+    if !needs_place(item.size()) {
+        return Ok(());
+    }
+    let bytes = bytes_of(memory, layout, Piece::Value(item))?;
+    let at = place_of(layout.plan, Chunk::Placed(dir, tag));
+    put_at(block, at, &bytes);
+    Ok(())
+}
+
+// The placed values of a directory, the last first.
+fn lay_values(
+    memory: &mut Memory,
+    block: &mut [u8],
+    layout: &Layout,
+    dir: Dir,
+    entries: &Entries,
+) -> Result<(), Refused>
+    requires { AreInside (length block.old) (value_pieces layout.now dir entries.now) }
+    ensures memory { Lacks result memory.old memory.new }
+    ensures len { length block.new ≡ length block.old }
+    ensures bytes { OnOk result (PutsOver block.old block.new (value_pieces layout.now dir entries.now)) }
+{
+    for i in (0..entries.len()).rev() {
+        let entry = entries.at(i);
+        lay_value(memory, block, layout, dir, &entry)?;
+    }
+    Ok(())
+}
+
+fn lay_table(
+    memory: &mut Memory,
+    block: &mut [u8],
+    layout: &Layout,
+    dir: Dir,
+    entries: &Entries,
+) -> Result<(), Refused>
+    requires few { length entries.now < 2 ^ 16 }
+    requires inside { place (said_plan layout.now) (Chunk.Table dir) + length (table_in layout.now dir entries.now) ≤ length block.old }
+    ensures memory { Lacks result memory.old memory.new }
+    ensures len { length block.new ≡ length block.old }
+    ensures bytes { OnOk result (PutsOver block.old block.new
+        ((place (said_plan layout.now) (Chunk.Table dir), table_in layout.now dir entries.now) ∷ [])) }
+{
+    let bytes = bytes_of(memory, layout, Piece::Table(dir, entries))?;
+    put_at(block, place_of(layout.plan, Chunk::Table(dir)), &bytes);
+    Ok(())
+}
+
+// A directory's table and its placed values, where it is there.
+fn lay_dir(memory: &mut Memory, block: &mut [u8], layout: &Layout, dir: Dir) -> Result<(), Refused>
+    requires fits { Fits (said_meaning layout.now) }
+    requires legal { Legal (said_meaning layout.now) (said_plan layout.now) }
+    requires len { length block.old ≡ (said_plan layout.now).length }
+    ensures memory { Lacks result memory.old memory.new }
+    ensures len { length block.new ≡ length block.old }
+    ensures bytes { OnOk result (PutsOver block.old block.new (dir_pieces layout.now (said_meaning layout.now) dir)) }
+{
+    let Some(entries) = entries_in(layout.m, dir) else {
+        return Ok(());
+    };
+    lay_values(memory, block, layout, dir, &entries)?;
+    lay_table(memory, block, layout, dir, &entries)
+}
+
+// All directories, the last first.
+fn lay_dirs(memory: &mut Memory, block: &mut [u8], layout: &Layout) -> Result<(), Refused>
+    requires fits { Fits (said_meaning layout.now) }
+    requires legal { Legal (said_meaning layout.now) (said_plan layout.now) }
+    requires len { length block.old ≡ (said_plan layout.now).length }
+    ensures memory { Lacks result memory.old memory.new }
+    ensures len { length block.new ≡ length block.old }
+    ensures bytes { OnOk result (PutsOver block.old block.new (at_places layout.now (flat_map (contents_in layout.now) dirs))) }
+{
+    lay_dir(memory, block, layout, Dir::Thumb)?;
+    lay_dir(memory, block, layout, Dir::Gps)?;
+    lay_dir(memory, block, layout, Dir::Interop)?;
+    lay_dir(memory, block, layout, Dir::Exif)?;
+    lay_dir(memory, block, layout, Dir::Main)
+}
+
+fn lay_header(memory: &mut Memory, block: &mut [u8], layout: &Layout) -> Result<(), Refused>
+    requires { 8 ≤ length block.old }
+    ensures memory { Lacks result memory.old memory.new }
+    ensures len { length block.new ≡ length block.old }
+    ensures bytes { OnOk result (PutsOver block.old block.new ((0, header_in layout.now) ∷ [])) }
+{
+    let bytes = bytes_of(memory, layout, Piece::Header)?;
+    put_at(block, 0, &bytes);
+    Ok(())
+}
+
+// Lays all of a block out, over filler.
+pub(crate) fn lay_all(memory: &mut Memory, block: &mut [u8], layout: &Layout) -> Result<(), Refused>
+    requires fits { Fits (said_meaning layout.now) }
+    requires legal { Legal (said_meaning layout.now) (said_plan layout.now) }
+    requires len { length block.old ≡ (said_plan layout.now).length }
+    requires bare { block.old ≡ replicate (said_plan layout.now).length layout.now.filler }
+    ensures memory { Lacks result memory.old memory.new }
+    ensures len { length block.new ≡ length block.old }
+    ensures bytes { OnOk result (block.new ≡ laid (said_meaning layout.now) (said_plan layout.now) layout.now.order layout.now.filler) }
+{
+    lay_thumb(block, layout);
+    lay_dirs(memory, block, layout)?;
+    lay_header(memory, block, layout)
+}

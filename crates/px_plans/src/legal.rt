@@ -1,0 +1,115 @@
+// Whether a plan is legal.
+ghost use Rattle.std.specs.Prelude.{◌≡◌, ◌≤◌, true, List, ◌∷◌, [], IfOk, OnErr, IsTrue, ◌↔◌};
+ghost use Rattle.px_bytes.specs.Lacking.{Lacks};
+ghost use Rattle.px_bytes.specs.Parts.{limit};
+ghost use Rattle.px_bytes.specs.Range.{Range, range, Agrees};
+ghost use Rattle.px_tree.specs.Fits.{Fits};
+ghost use Rattle.px_tree.specs.calls.Seen.{meaning_of};
+ghost use Rattle.px_plans.specs.calls.Planned.{plan_of};
+ghost use Rattle.px_layout.specs.Plans.{place, Legal};
+ghost use Rattle.px_plans.specs.calls.Judging.{stands, all_stand};
+
+use crate::plan::Plan;
+use crate::sizing::chunk_sizes;
+use px_bytes::{LIMIT, Memory, Ranges, Refused};
+use px_layout::Chunk;
+use px_tree::Meaning;
+use std::alloc::{AllocError, Global};
+
+// Whether a chunk of `size` bytes is placed, within the plan's length, apart from what is held. Where
+// it is, it is held from now on.
+fn hold(
+    memory: &mut Memory,
+    plan: &Plan,
+    held: &mut Ranges,
+    chunk: Chunk,
+    size: u64,
+) -> Result<bool, Refused>
+    requires { (plan_of plan.now).length ≤ limit }
+    ensures memory { Lacks result memory.old memory.new }
+    ensures free { (taken : List Range) → Agrees taken held.old →
+        IfOk result (λ free. (free ≡ stands (plan_of plan.now) taken (chunk, size))
+        × (free ≡ true → Agrees (range (place (plan_of plan.now) chunk) size ∷ taken) held.new)) }
+{
+    let Some(offset) = plan.offset(chunk) else {
+        return Ok(false);
+    };
+    let len = u64::from(plan.len());
+    if size > len {
+        return Ok(false);
+    }
+    if u64::from(offset) + size > len {
+        return Ok(false);
+    }
+    held.add_in(memory, offset, size as u32)
+}
+
+// The same of all chunks.
+fn hold_all(
+    memory: &mut Memory,
+    plan: &Plan,
+    held: &mut Ranges,
+    chunks: &[(Chunk, u64)],
+) -> Result<bool, Refused>
+    requires { (plan_of plan.now).length ≤ limit }
+    ensures memory { Lacks result memory.old memory.new }
+    ensures free { (taken : List Range) → Agrees taken held.old →
+        IfOk result (λ free. free ≡ all_stand (plan_of plan.now) taken chunks.now) }
+{
+    for i in 0..chunks.len() {
+        let (chunk, size) = chunks[i];
+        if !hold(memory, plan, held, chunk, size)? {
+            return Ok(false);
+        }
+    }
+    Ok(true)
+}
+
+// Whether the chunks are all placed, within the plan's length, apart from the header and one another.
+fn are_apart(memory: &mut Memory, plan: &Plan, chunks: &[(Chunk, u64)]) -> Result<bool, Refused>
+    requires { (plan_of plan.now).length ≤ limit }
+    ensures memory { Lacks result memory.old memory.new }
+    ensures free { IfOk result (λ free. free ≡ all_stand (plan_of plan.now) (range 0 8 ∷ []) chunks.now) }
+{
+    let mut held = Ranges::new_in(memory);
+    held.add_in(memory, 0, 8)?;
+    hold_all(memory, plan, &mut held, chunks)
+}
+
+/// Whether a plan is legal for a meaning that can be written (`fits`): it places exactly the meaning's
+/// chunks, its length is at least 8 and at most `LIMIT`, each chunk lies within it, and no two chunks
+/// share a byte, nor one and the header. TIFF 6.0 section 7, "No Duplicate Pointers".
+///
+/// An error comes where a growth was refused, for a plan of such a length: it takes memory for a list of
+/// the chunks and for their ranges. The cost grows with the number of chunks and its logarithm.
+pub fn is_legal(alloc: Global, m: &Meaning, plan: &Plan) -> Result<bool, AllocError>
+    requires { Fits (meaning_of m.now) }
+    ensures legal { IfOk result (λ legal. IsTrue legal ↔ Legal (meaning_of m.now) (plan_of plan.now)) }
+    ensures least { OnErr result (8 ≤ (plan_of plan.now).length) }
+    ensures most { OnErr result ((plan_of plan.now).length ≤ limit) }
+{
+    Ok(is_legal_in(&mut Memory::new(alloc), m, plan)?)
+}
+
+/// As `is_legal`, with memory that tells whether a growth was refused: where the error came, and there
+/// alone.
+pub fn is_legal_in(memory: &mut Memory, m: &Meaning, plan: &Plan) -> Result<bool, Refused>
+    requires { Fits (meaning_of m.now) }
+    ensures legal { IfOk result (λ legal. IsTrue legal ↔ Legal (meaning_of m.now) (plan_of plan.now)) }
+    ensures least { OnErr result (8 ≤ (plan_of plan.now).length) }
+    ensures most { OnErr result ((plan_of plan.now).length ≤ limit) }
+    ensures memory { Lacks result memory.old memory.new }
+{
+    if plan.len() < 8 {
+        return Ok(false);
+    }
+    if plan.len() > LIMIT {
+        return Ok(false);
+    }
+    let chunks = chunk_sizes(memory, m)?;
+    // Where each of the meaning's chunks is placed, no other is, exactly if there are as many.
+    if plan.count() != chunks.len() as u128 {
+        return Ok(false);
+    }
+    are_apart(memory, plan, &chunks)
+}

@@ -1,0 +1,79 @@
+// The plan of the normal form.
+ghost use Rattle.std.specs.Prelude.{◌≡◌, ◌≤◌};
+ghost use Rattle.px_bytes.specs.Parts.{limit};
+ghost use Rattle.px_bytes.specs.calls.Writing.{LacksWrite};
+ghost use Rattle.px_tree.specs.Fits.{Fits};
+ghost use Rattle.px_tree.specs.calls.Seen.{meaning_of};
+ghost use Rattle.px_plans.specs.calls.Planned.{plan_of, bare};
+ghost use Rattle.px_plans.specs.calls.PlanningNormal.{AnswersNext, AnswersAll, AnswersPlan};
+
+use crate::plan::Plan;
+use crate::sizing::chunk_sizes;
+use px_bytes::{Memory, WriteRefusal};
+use px_layout::{Chunk, behind};
+use px_tree::Meaning;
+use std::alloc::Global;
+
+// Places a chunk, and answers where the next one stands.
+fn place_next(
+    memory: &mut Memory,
+    plan: &mut Plan,
+    at: u32,
+    chunk: Chunk,
+    size: u64,
+) -> Result<u32, WriteRefusal>
+    requires { at ≤ limit }
+    ensures next { AnswersNext result (plan_of plan.old) (plan_of plan.new) at (chunk, size) }
+    ensures memory { LacksWrite result memory.old memory.new }
+{
+    let Some(end) = behind(at, size) else {
+        return Err(WriteRefusal::NormalTooLong);
+    };
+    plan.place_in(memory, chunk, at)?;
+    Ok(end)
+}
+
+// Places chunks one behind the other from the header on, and answers where they end.
+fn place_all(
+    memory: &mut Memory,
+    plan: &mut Plan,
+    chunks: &[(Chunk, u64)],
+) -> Result<u32, WriteRefusal>
+    requires { plan_of plan.old ≡ bare 8 }
+    ensures all { AnswersAll result (plan_of plan.new) chunks.now }
+    ensures memory { LacksWrite result memory.old memory.new }
+{
+    let mut at = 8;
+    for i in 0..chunks.len() {
+        let (chunk, size) = chunks[i];
+        at = place_next(memory, plan, at, chunk, size)?;
+    }
+    Ok(at)
+}
+
+/// The plan of the normal form of a meaning that can be written (`fits`): by directory, the table and
+/// then the placed values by ascending tag, then the JPEG, then the strips; each directly behind the
+/// one before, the first behind the header, and padded to an even number of bytes. The plan is legal.
+///
+/// NormalTooLong where the normal form is longer than `LIMIT`, OutOfMemory where a growth was refused.
+/// It takes memory for the plan, and for a list of the chunks while it works.
+pub fn plan_normal(alloc: Global, m: &Meaning) -> Result<Plan, WriteRefusal>
+    requires { Fits (meaning_of m.now) }
+    ensures { AnswersPlan result (meaning_of m.now) }
+{
+    plan_normal_in(&mut Memory::new(alloc), m)
+}
+
+/// As `plan_normal`, with memory that tells whether a growth was refused: where OutOfMemory is answered,
+/// and there alone.
+pub fn plan_normal_in(memory: &mut Memory, m: &Meaning) -> Result<Plan, WriteRefusal>
+    requires { Fits (meaning_of m.now) }
+    ensures plan { AnswersPlan result (meaning_of m.now) }
+    ensures memory { LacksWrite result memory.old memory.new }
+{
+    let chunks = chunk_sizes(memory, m)?;
+    let mut plan = Plan::new_in(memory, 8);
+    let len = place_all(memory, &mut plan, &chunks)?;
+    plan.set_len(len);
+    Ok(plan)
+}

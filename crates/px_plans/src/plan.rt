@@ -1,0 +1,118 @@
+// Plans: where each chunk of a block stands.
+ghost use Rattle.std.specs.Prelude.{◌≡◌, None, IsSome, IfOk, OnErr, true, false, if◌then◌else◌};
+ghost use Rattle.px_bytes.specs.Lacking.{Lacks};
+ghost use Rattle.px_plans.specs.calls.Kept.{offset_in, size_in};
+ghost use Rattle.px_plans.specs.calls.Counted.{IsCount};
+
+use crate::offsets::Offsets;
+use px_bytes::{Memory, Refused};
+use px_layout::Chunk;
+use std::alloc::{AllocError, Global};
+
+/// A layout: the length of a block in bytes, and where each of its chunks stands. TIFF 6.0 section 2
+/// leaves offsets free.
+///
+/// The offsets of strips that are placed in ascending order from strip 0 on stand in a vector, four
+/// bytes each; those of other strips, and of placed values, in maps, so that any order of placing
+/// costs the logarithm of their number for each.
+#[derive(Drop)]
+pub struct Plan {
+    len: u32,
+    memory: Memory,
+    offsets: Offsets,
+    ghost counted: { IsCount (size_in offsets) (offset_in offsets) },
+}
+
+impl Plan {
+    ghost use Rattle.px_plans.specs.calls.Planned.{plan_of, bare, with_chunk, with_length};
+
+    /// A plan of a block of `len` bytes, in which no chunk is placed. It takes no memory; `alloc`
+    /// serves the chunks that are placed later.
+    pub fn new(alloc: Global, len: u32) -> Plan
+        ensures { plan_of result ≡ bare len }
+    {
+        Plan::new_in(&Memory::new(alloc), len)
+    }
+
+    /// As `new`, with memory that serves the chunks that are placed later.
+    #[tactic(auto, unfolding(crate::specs::calls::Planned::plan_of))]
+    pub fn new_in(memory: &Memory, len: u32) -> Plan
+        ensures { plan_of result ≡ bare len }
+    {
+        Plan {
+            len,
+            memory: memory.fresh(),
+            offsets: Offsets::new(memory),
+        }
+    }
+
+    /// The length of the block in bytes. It takes no memory.
+    #[tactic(auto, unfolding(crate::specs::calls::Planned::plan_of))]
+    pub fn len(&self) -> u32
+        ensures { result ≡ (plan_of self.now).length }
+    {
+        self.len
+    }
+
+    /// The offset of a chunk from the block's first byte, where it is placed. It takes no memory.
+    #[tactic(auto, unfolding(crate::specs::calls::Planned::plan_of))]
+    pub fn offset(&self, chunk: Chunk) -> Option<u32>
+        ensures { result ≡ (plan_of self.now).offset chunk }
+    {
+        self.offsets.offset(chunk)
+    }
+
+    /// Places a chunk at an offset, and answers true; where it is placed already, it answers false and
+    /// nothing changes. Any offset is taken: `is_legal` judges a plan. An error comes where a growth was
+    /// refused, for a chunk that isn't placed, and changes nothing.
+    pub fn place(&mut self, chunk: Chunk, offset: u32) -> Result<bool, AllocError>
+        ensures placed { IfOk result (λ placed. placed ≡ true → (plan_of self.old).offset chunk ≡ None) }
+        ensures there { IfOk result (λ placed. placed ≡ false → IsSome ((plan_of self.old).offset chunk)) }
+        ensures after { IfOk result (λ placed. plan_of self.new
+            ≡ (if placed then with_chunk (plan_of self.old) chunk offset else plan_of self.old)) }
+        ensures err { OnErr result (plan_of self.new ≡ plan_of self.old) }
+        ensures unplaced { OnErr result ((plan_of self.old).offset chunk ≡ None) }
+    {
+        let mut memory = self.memory.fresh();
+        Ok(self.place_in(&mut memory, chunk, offset)?)
+    }
+
+    /// As `place`, with memory that tells whether a growth was refused: where the error came, and there alone.
+    #[tactic(auto, unfolding(crate::specs::calls::Planned::plan_of))]
+    pub fn place_in(
+        &mut self,
+        memory: &mut Memory,
+        chunk: Chunk,
+        offset: u32,
+    ) -> Result<bool, Refused>
+        ensures placed { IfOk result (λ placed. placed ≡ true → (plan_of self.old).offset chunk ≡ None) }
+        ensures there { IfOk result (λ placed. placed ≡ false → IsSome ((plan_of self.old).offset chunk)) }
+        ensures after { IfOk result (λ placed. plan_of self.new
+            ≡ (if placed then with_chunk (plan_of self.old) chunk offset else plan_of self.old)) }
+        ensures err { OnErr result (plan_of self.new ≡ plan_of self.old) }
+        ensures unplaced { OnErr result ((plan_of self.old).offset chunk ≡ None) }
+        ensures memory { Lacks result memory.old memory.new }
+    {
+        if self.offsets.offset(chunk).is_some() {
+            return Ok(false);
+        }
+        self.offsets.put(memory, chunk, offset)?;
+        Ok(true)
+    }
+
+    // How many chunks are placed.
+    #[tactic(auto, unfolding(crate::specs::calls::Planned::plan_of))]
+    pub(crate) fn count(&self) -> u128
+        ensures { IsCount result (plan_of self.now).offset }
+    {
+        self.offsets.size()
+    }
+
+    // Sets the length of the block.
+    #[tactic(auto, unfolding(crate::specs::calls::Planned::plan_of))]
+    pub(crate) fn set_len(&mut self, len: u32)
+        ensures { plan_of self.new ≡ with_length (plan_of self.old) len }
+    {
+        self.len = len;
+    }
+}

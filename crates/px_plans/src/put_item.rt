@@ -1,0 +1,128 @@
+// What an entry says, put behind the bytes that wait for a writer. TIFF 6.0 section 2, "IFD Entry" and "Value/Offset".
+ghost use Rattle.std.specs.Prelude.{◌≡◌, ◌≤◌, ◌-◌, ◌*◌, ◌++◌, length, take, map, flat_map};
+ghost use Rattle.std.specs.List.{AllByRecursion, range_with_len};
+ghost use Rattle.px_bytes.specs.Devices.{CanFail, Counts};
+ghost use Rattle.px_bytes.specs.Parts.{limit};
+ghost use Rattle.px_bytes.specs.Waiting.{PutsTo};
+ghost use Rattle.px_layout.specs.calls.Items.{item_of, entry_of, IsCounted};
+ghost use Rattle.px_plans.specs.calls.Layouts.{said_plan, item_in, last_in, entry_in};
+ghost use Rattle.px_layout.specs.Laid.{long_bytes, item_bytes, last_bytes};
+ghost use Rattle.px_plans.specs.calls.Planned.{plan_of};
+ghost use Rattle.px_layout.specs.Plans.{place};
+
+use crate::layout::Layout;
+use crate::plan::Plan;
+use px_bytes::{Failed, Pending, Sink};
+use px_iim::put_iim;
+use px_layout::{
+    Chunk, Entry, Item, entry_head, put_filler, put_long, put_strip_lengths, put_value,
+};
+use px_tree::{Dir, needs_place};
+
+// Where a chunk stands.
+pub(crate) fn place_of(plan: &Plan, chunk: Chunk) -> u32
+    ensures { result ≡ place (plan_of plan.now) chunk }
+{
+    plan.offset(chunk).unwrap_or(0)
+}
+
+// Where a chunk stands, put in the layout's order.
+pub(crate) fn put_place<W: Sink>(
+    pending: &mut Pending,
+    writer: &mut W,
+    layout: &Layout,
+    chunk: Chunk,
+) -> Result<(), Failed>
+    requires { CanFail (W.failed writer.old) }
+    ensures bytes { PutsTo W.bytes_taken result writer.old writer.new pending.old pending.new
+        (long_bytes layout.now.order (place (said_plan layout.now) chunk)) }
+    ensures count { Counts result (W.failed writer.old) (W.failed writer.new) }
+{
+    put_long(pending, writer, layout.order, place_of(layout.plan, chunk))
+}
+
+// The offsets of the first strips.
+fn put_strip_offsets<W: Sink>(
+    pending: &mut Pending,
+    writer: &mut W,
+    layout: &Layout,
+    count: u32,
+) -> Result<(), Failed>
+    requires { CanFail (W.failed writer.old) }
+    ensures bytes { PutsTo W.bytes_taken result writer.old writer.new pending.old pending.new (flat_map
+        (λ i. long_bytes layout.now.order (place (said_plan layout.now) (Chunk.Strip i))) (range_with_len 0 count)) }
+    ensures count { Counts result (W.failed writer.old) (W.failed writer.new) }
+{
+    for i in 0..count {
+        put_place(pending, writer, layout, Chunk::Strip(i))?;
+    }
+    Ok(())
+}
+
+// The value of an entry.
+#[tactic(auto, unfolding(px_layout::specs::Laid::item_bytes))]
+pub(crate) fn put_item<W: Sink>(
+    pending: &mut Pending,
+    writer: &mut W,
+    layout: &Layout,
+    item: Item,
+) -> Result<(), Failed>
+    requires few { CanFail (W.failed writer.old) }
+    requires counted { IsCounted (item_of item) }
+    ensures bytes { PutsTo W.bytes_taken result writer.old writer.new pending.old pending.new (item_in layout.now (item_of item.entry)) }
+    ensures count { Counts result (W.failed writer.old) (W.failed writer.new) }
+{
+    match item {
+        Item::Field(value) => put_value(pending, writer, layout.order, value),
+        Item::Record(iim) => put_iim(pending, writer, iim),
+        Item::Link(dir) => put_place(pending, writer, layout, Chunk::Table(dir)),
+        Item::JpegOffset => put_place(pending, writer, layout, Chunk::Jpeg),
+        Item::JpegLength(len) => put_long(pending, writer, layout.order, len),
+        Item::StripOffsets(strips) => {
+            put_strip_offsets(pending, writer, layout, strips.len() as u32)
+        }
+        Item::StripLengths(strips) => put_strip_lengths(pending, writer, layout.order, strips),
+    }
+}
+
+// The last field of an entry: the value and filler behind it, or where the value is placed.
+#[tactic(auto, unfolding(px_layout::specs::Laid::last_bytes))]
+fn put_last<W: Sink>(
+    pending: &mut Pending,
+    writer: &mut W,
+    layout: &Layout,
+    dir: Dir,
+    entry: &Entry,
+) -> Result<(), Failed>
+    requires few { CanFail (W.failed writer.old) }
+    requires counted { IsCounted (item_of entry.now.item) }
+    ensures bytes { PutsTo W.bytes_taken result writer.old writer.new pending.old pending.new
+        (last_in layout.now dir (entry_of entry.now)) }
+    ensures count { Counts result (W.failed writer.old) (W.failed writer.new) }
+{
+    let Entry { tag, item } = *entry;
+    let size = item.size();
+    if needs_place(size) {
+        return put_place(pending, writer, layout, Chunk::Placed(dir, tag));
+    }
+    put_item(pending, writer, layout, item)?;
+    put_filler(pending, writer, layout.filler, 4 - size as usize)
+}
+
+// An entry of a directory.
+pub(crate) fn put_entry<W: Sink>(
+    pending: &mut Pending,
+    writer: &mut W,
+    layout: &Layout,
+    dir: Dir,
+    entry: &Entry,
+) -> Result<(), Failed>
+    requires few { CanFail (W.failed writer.old) }
+    requires counted { IsCounted (item_of entry.now.item) }
+    ensures bytes { PutsTo W.bytes_taken result writer.old writer.new pending.old pending.new
+        (entry_in layout.now dir (entry_of entry.now)) }
+    ensures count { Counts result (W.failed writer.old) (W.failed writer.new) }
+{
+    pending.put(writer, &entry_head(layout.order, entry))?;
+    put_last(pending, writer, layout, dir, entry)
+}

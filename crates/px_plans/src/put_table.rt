@@ -1,0 +1,96 @@
+// The header and the tables of directories. TIFF 6.0 section 2, "Image File Header" and "Image File Directory".
+ghost use Rattle.std.specs.Prelude.{◌<◌, ◌^◌, length, flat_map};
+ghost use Rattle.px_bytes.specs.Devices.{CanFail, Counts};
+ghost use Rattle.px_bytes.specs.Waiting.{PutsTo};
+ghost use Rattle.px_plans.specs.calls.Layouts.{header_in, entry_in, next_in, table_in};
+
+use crate::layout::Layout;
+use crate::put_item::{put_entry, put_place};
+use px_bytes::{Failed, Pending, Sink};
+use px_layout::{Chunk, Entries, put_filler, put_long, put_short};
+use px_tree::{Dir, magic_of};
+
+pub(crate) fn put_header<W: Sink>(
+    pending: &mut Pending,
+    writer: &mut W,
+    layout: &Layout,
+) -> Result<(), Failed>
+    requires { CanFail (W.failed writer.old) }
+    ensures bytes { PutsTo W.bytes_taken result writer.old writer.new pending.old pending.new
+        (header_in layout.now) }
+    ensures count { Counts result (W.failed writer.old) (W.failed writer.new) }
+{
+    pending.put(writer, &magic_of(layout.order))?;
+    put_place(pending, writer, layout, Chunk::Table(Dir::Main))
+}
+
+fn put_entries<W: Sink>(
+    pending: &mut Pending,
+    writer: &mut W,
+    layout: &Layout,
+    dir: Dir,
+    entries: &Entries,
+) -> Result<(), Failed>
+    requires { CanFail (W.failed writer.old) }
+    ensures bytes { PutsTo W.bytes_taken result writer.old writer.new pending.old pending.new
+        (flat_map (entry_in layout.now dir) entries.now) }
+    ensures count { Counts result (W.failed writer.old) (W.failed writer.new) }
+{
+    for i in 0..entries.len() {
+        let entry = entries.at(i);
+        put_entry(pending, writer, layout, dir, &entry)?;
+    }
+    Ok(())
+}
+
+// The offset of the thumbnail directory, 0 where there is none.
+fn put_next_of_main<W: Sink>(
+    pending: &mut Pending,
+    writer: &mut W,
+    layout: &Layout,
+) -> Result<(), Failed>
+    requires { CanFail (W.failed writer.old) }
+    ensures bytes { PutsTo W.bytes_taken result writer.old writer.new pending.old pending.new (next_in layout.now Dir.Main) }
+    ensures count { Counts result (W.failed writer.old) (W.failed writer.new) }
+{
+    match &layout.m.thumb {
+        Some(_) => put_place(pending, writer, layout, Chunk::Table(Dir::Thumb)),
+        None => put_long(pending, writer, layout.order, 0),
+    }
+}
+
+// The offset of the next directory.
+fn put_next<W: Sink>(
+    pending: &mut Pending,
+    writer: &mut W,
+    layout: &Layout,
+    dir: Dir,
+) -> Result<(), Failed>
+    requires { CanFail (W.failed writer.old) }
+    ensures bytes { PutsTo W.bytes_taken result writer.old writer.new pending.old pending.new (next_in layout.now dir) }
+    ensures count { Counts result (W.failed writer.old) (W.failed writer.new) }
+{
+    match dir {
+        Dir::Main => put_next_of_main(pending, writer, layout),
+        Dir::Thumb => put_long(pending, writer, layout.order, 0),
+        Dir::Exif | Dir::Interop | Dir::Gps => put_filler(pending, writer, layout.filler, 4),
+    }
+}
+
+// The table of a directory, with fewer than 65,536 entries.
+pub(crate) fn put_table<W: Sink>(
+    pending: &mut Pending,
+    writer: &mut W,
+    layout: &Layout,
+    dir: Dir,
+    entries: &Entries,
+) -> Result<(), Failed>
+    requires few { CanFail (W.failed writer.old) }
+    requires counted { length entries.now < 2 ^ 16 }
+    ensures bytes { PutsTo W.bytes_taken result writer.old writer.new pending.old pending.new (table_in layout.now dir entries.now) }
+    ensures count { Counts result (W.failed writer.old) (W.failed writer.new) }
+{
+    put_short(pending, writer, layout.order, entries.len() as u16)?;
+    put_entries(pending, writer, layout, dir, entries)?;
+    put_next(pending, writer, layout, dir)
+}

@@ -1,0 +1,150 @@
+// The chunks of a meaning, each with its size in bytes.
+ghost use Rattle.std.specs.Prelude.{◌≡◌, ◌++◌, ◌<◌, ◌≤◌, ◌^◌, IfOk, OnOk, IfSome, length, filter_map, option_map};
+ghost use Rattle.std.specs.Option.{option_to_list};
+ghost use Rattle.px_bytes.specs.Lacking.{Lacks};
+ghost use Rattle.px_bytes.specs.Parts.{limit};
+ghost use Rattle.px_tree.specs.Entry.{table_size};
+ghost use Rattle.px_tree.specs.Fits.{Fits, items};
+ghost use Rattle.px_tree.specs.calls.Seen.{thumb_of, meaning_of};
+ghost use Rattle.px_layout.specs.calls.Items.{item_of, entry_of, IsCounted};
+ghost use Rattle.px_layout.specs.Chunks.{placed_chunk, chunks_of_dir, jpeg_chunks, strip_chunks, all_strip_chunks, thumb_chunks, chunks};
+
+use px_bytes::{Memory, Refused};
+use px_layout::{Chunk, Entries, Entry, entries_in, table_len};
+use px_tree::{Dir, Meaning, Strips, Thumb, needs_place};
+
+// Appends the chunk of an entry's value, where the value has a place of its own.
+#[tactic(auto, unfolding(px_layout::specs::Chunks::placed_chunk))]
+fn push_value(
+    memory: &mut Memory,
+    out: &mut Vec<(Chunk, u64)>,
+    dir: Dir,
+    entry: &Entry,
+) -> Result<(), Refused>
+    requires { IsCounted (item_of entry.now.item) }
+    ensures chunks { OnOk result (out.new.items ≡ out.old.items ++ option_to_list (placed_chunk dir (entry_of entry.now))) }
+    ensures memory { Lacks result memory.old memory.new }
+{
+    let Entry { tag, item } = *entry;
+    let size = item.size();
+    if !needs_place(size) {
+        return Ok(());
+    }
+    memory.push(out, (Chunk::Placed(dir, tag), size))?;
+    Ok(())
+}
+
+#[tactic(auto, using(px_layout::specs::lemmas::WalkLaws::values_more, px_layout::specs::lemmas::WalkLaws::values_done))]
+fn push_values(
+    memory: &mut Memory,
+    out: &mut Vec<(Chunk, u64)>,
+    dir: Dir,
+    entries: &Entries,
+) -> Result<(), Refused>
+    ensures chunks { OnOk result (out.new.items ≡ out.old.items ++ filter_map (placed_chunk dir) entries.now) }
+    ensures memory { Lacks result memory.old memory.new }
+{
+    for i in 0..entries.len() {
+        let entry = entries.at(i);
+        push_value(memory, out, dir, &entry)?;
+    }
+    Ok(())
+}
+
+fn push_dir(
+    memory: &mut Memory,
+    out: &mut Vec<(Chunk, u64)>,
+    m: &Meaning,
+    dir: Dir,
+) -> Result<(), Refused>
+    requires { Fits (meaning_of m.now) }
+    ensures chunks { OnOk result (out.new.items ≡ out.old.items ++ chunks_of_dir dir (items (meaning_of m.now) dir)) }
+    ensures memory { Lacks result memory.old memory.new }
+{
+    let Some(entries) = entries_in(m, dir) else {
+        return Ok(());
+    };
+    memory.push(out, (Chunk::Table(dir), table_len(entries.len())))?;
+    push_values(memory, out, dir, &entries)
+}
+
+fn push_jpeg(
+    memory: &mut Memory,
+    out: &mut Vec<(Chunk, u64)>,
+    jpeg: Option<&[u8]>,
+) -> Result<(), Refused>
+    ensures chunks { OnOk result (out.new.items ≡ out.old.items ++ jpeg_chunks (option_map (λ x. x.now) jpeg.entry)) }
+    ensures memory { Lacks result memory.old memory.new }
+{
+    let Some(jpeg) = jpeg else {
+        return Ok(());
+    };
+    memory.push(out, (Chunk::Jpeg, jpeg.len() as u64))?;
+    Ok(())
+}
+
+#[tactic(auto, using(px_layout::specs::lemmas::WalkLaws::strips_done))]
+fn push_strips(
+    memory: &mut Memory,
+    out: &mut Vec<(Chunk, u64)>,
+    strips: &Strips,
+) -> Result<(), Refused>
+    requires { length strips.now ≤ limit }
+    ensures chunks { OnOk result (out.new.items ≡ out.old.items ++ strip_chunks 0 strips.now) }
+    ensures memory { Lacks result memory.old memory.new }
+{
+    for i in 0..strips.len() {
+        memory.push(out, (Chunk::Strip(i as u32), strips.at(i).len() as u64))?;
+    }
+    Ok(())
+}
+
+fn push_optional_strips(
+    memory: &mut Memory,
+    out: &mut Vec<(Chunk, u64)>,
+    strips: &Option<Strips>,
+) -> Result<(), Refused>
+    requires { IfSome strips.now (λ s. length s ≤ limit) }
+    ensures chunks { OnOk result (out.new.items ≡ out.old.items ++ all_strip_chunks strips.now) }
+    ensures memory { Lacks result memory.old memory.new }
+{
+    match strips {
+        Some(strips) => push_strips(memory, out, strips),
+        None => Ok(()),
+    }
+}
+
+#[tactic(auto, unfolding(px_layout::specs::Chunks::thumb_chunks))]
+fn push_thumb(
+    memory: &mut Memory,
+    out: &mut Vec<(Chunk, u64)>,
+    thumb: &Option<Thumb>,
+) -> Result<(), Refused>
+    requires { IfSome (option_map thumb_of thumb.now) (λ t. IfSome t.strips (λ s. length s ≤ limit)) }
+    ensures chunks { OnOk result (out.new.items ≡ out.old.items ++ thumb_chunks (option_map thumb_of thumb.now)) }
+    ensures memory { Lacks result memory.old memory.new }
+{
+    let Some(thumb) = thumb else {
+        return Ok(());
+    };
+    push_jpeg(memory, out, thumb.jpeg)?;
+    push_optional_strips(memory, out, &thumb.strips)
+}
+
+/// The chunks of a meaning in the order of the normal form, each with its size in bytes. It takes
+/// memory for the list.
+#[tactic(auto, using(px_layout::specs::lemmas::WalkLaws::gathered))]
+pub(crate) fn chunk_sizes(memory: &mut Memory, m: &Meaning) -> Result<Vec<(Chunk, u64)>, Refused>
+    requires { Fits (meaning_of m.now) }
+    ensures chunks { IfOk result (λ v. v.items ≡ chunks (meaning_of m.now)) }
+    ensures memory { Lacks result memory.old memory.new }
+{
+    let mut out = memory.list();
+    push_dir(memory, &mut out, m, Dir::Main)?;
+    push_dir(memory, &mut out, m, Dir::Exif)?;
+    push_dir(memory, &mut out, m, Dir::Interop)?;
+    push_dir(memory, &mut out, m, Dir::Gps)?;
+    push_dir(memory, &mut out, m, Dir::Thumb)?;
+    push_thumb(memory, &mut out, &m.thumb)?;
+    Ok(out)
+}

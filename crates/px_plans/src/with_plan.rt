@@ -1,0 +1,59 @@
+// A block by a plan of the caller's.
+ghost use Rattle.std.specs.Prelude.{◌≡◌, IfOk};
+ghost use Rattle.px_bytes.specs.Lacking.{Lacks};
+ghost use Rattle.px_tree.specs.Fits.{Fits};
+ghost use Rattle.px_tree.specs.calls.Seen.{meaning_of};
+ghost use Rattle.px_layout.specs.Laid.{laid};
+ghost use Rattle.px_plans.specs.calls.Planned.{plan_of};
+ghost use Rattle.px_layout.specs.Plans.{Legal};
+
+use crate::building::lay_all;
+use crate::layout::Layout;
+use crate::plan::Plan;
+use px_bytes::{Memory, Order, Refused};
+use px_tree::Meaning;
+use std::alloc::{AllocError, Global};
+
+/// The block that a legal plan lays out: the header, and each chunk at its offset, in either byte order, with the byte
+/// `filler` wherever no chunk stands. It has as many bytes as the plan says, and says the meaning. TIFF 6.0 section 2.
+///
+/// The meaning can be written (`fits`) and the plan is legal for it (`is_legal`); both are the caller's conditions. An error
+/// comes where a growth was refused: it takes memory for the block, and besides for one chunk at a time.
+pub fn write_with(
+    alloc: Global,
+    m: &Meaning,
+    plan: &Plan,
+    order: Order,
+    filler: u8,
+) -> Result<Vec<u8>, AllocError>
+    requires fits { Fits (meaning_of m.now) }
+    requires legal { Legal (meaning_of m.now) (plan_of plan.now) }
+    ensures { IfOk result (λ block. block.items ≡ laid (meaning_of m.now) (plan_of plan.now) order filler) }
+{
+    Ok(write_with_in(&mut Memory::new(alloc), m, plan, order, filler)?)
+}
+
+/// As `write_with`, with memory that tells whether a growth was refused: where the error came, and there alone.
+pub fn write_with_in(
+    memory: &mut Memory,
+    m: &Meaning,
+    plan: &Plan,
+    order: Order,
+    filler: u8,
+) -> Result<Vec<u8>, Refused>
+    requires fits { Fits (meaning_of m.now) }
+    requires legal { Legal (meaning_of m.now) (plan_of plan.now) }
+    ensures block { IfOk result (λ block. block.items ≡ laid (meaning_of m.now) (plan_of plan.now) order filler) }
+    ensures memory { Lacks result memory.old memory.new }
+{
+    let layout = Layout {
+        m,
+        plan,
+        order,
+        filler,
+    };
+    let mut block = memory.list();
+    memory.resize(&mut block, plan.len() as usize, filler)?;
+    lay_all(memory, &mut block, &layout)?;
+    Ok(block)
+}
