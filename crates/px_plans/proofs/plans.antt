@@ -4,3 +4,4 @@ pub mod Built
 pub mod Pieces
 pub mod Lines
 pub mod Verdicts
+pub mod Holding
