@@ -7,7 +7,7 @@ ghost use Rattle.px_tree.specs.Entry.{table_size};
 ghost use Rattle.px_tree.specs.Fits.{Fits, items};
 ghost use Rattle.px_tree.specs.calls.Seen.{thumb_of, meaning_of};
 ghost use Rattle.px_layout.specs.calls.Items.{item_of, entry_of, IsCounted};
-ghost use Rattle.px_layout.specs.Chunks.{placed_chunk, chunks_of_dir, jpeg_chunks, strip_chunks, all_strip_chunks, thumb_chunks, chunks};
+ghost use Rattle.px_layout.specs.Chunks.{placed_chunk, dir_chunks, chunks_of_dir, jpeg_chunks, strip_chunks, all_strip_chunks, thumb_chunks, chunks};
 
 use px_bytes::{Memory, Refused};
 use px_layout::{Chunk, Entries, Entry, entries_in, table_len};
@@ -34,7 +34,6 @@ fn push_value(
     Ok(())
 }
 
-#[tactic(auto, using(px_layout::specs::lemmas::WalkLaws::values_more, px_layout::specs::lemmas::WalkLaws::values_done))]
 fn push_values(
     memory: &mut Memory,
     out: &mut Vec<(Chunk, u64)>,
@@ -51,6 +50,21 @@ fn push_values(
     Ok(())
 }
 
+// A directory's table, and its placed values.
+fn push_entries(
+    memory: &mut Memory,
+    out: &mut Vec<(Chunk, u64)>,
+    dir: Dir,
+    entries: &Entries,
+) -> Result<(), Refused>
+    requires { length entries.now < 2 ^ 16 }
+    ensures chunks { OnOk result (out.new.items ≡ out.old.items ++ dir_chunks dir entries.now) }
+    ensures memory { Lacks result memory.old memory.new }
+{
+    memory.push(out, (Chunk::Table(dir), table_len(entries.len())))?;
+    push_values(memory, out, dir, entries)
+}
+
 fn push_dir(
     memory: &mut Memory,
     out: &mut Vec<(Chunk, u64)>,
@@ -61,11 +75,10 @@ fn push_dir(
     ensures chunks { OnOk result (out.new.items ≡ out.old.items ++ chunks_of_dir dir (items (meaning_of m.now) dir)) }
     ensures memory { Lacks result memory.old memory.new }
 {
-    let Some(entries) = entries_in(m, dir) else {
-        return Ok(());
-    };
-    memory.push(out, (Chunk::Table(dir), table_len(entries.len())))?;
-    push_values(memory, out, dir, &entries)
+    match entries_in(m, dir) {
+        Some(entries) => push_entries(memory, out, dir, &entries),
+        None => Ok(()),
+    }
 }
 
 fn push_jpeg(
@@ -131,20 +144,28 @@ fn push_thumb(
     push_optional_strips(memory, out, &thumb.strips)
 }
 
+// All chunks, in the order of the normal form.
+fn push_all(memory: &mut Memory, out: &mut Vec<(Chunk, u64)>, m: &Meaning) -> Result<(), Refused>
+    requires { Fits (meaning_of m.now) }
+    ensures chunks { OnOk result (out.new.items ≡ out.old.items ++ chunks (meaning_of m.now)) }
+    ensures memory { Lacks result memory.old memory.new }
+{
+    push_dir(memory, out, m, Dir::Main)?;
+    push_dir(memory, out, m, Dir::Exif)?;
+    push_dir(memory, out, m, Dir::Interop)?;
+    push_dir(memory, out, m, Dir::Gps)?;
+    push_dir(memory, out, m, Dir::Thumb)?;
+    push_thumb(memory, out, &m.thumb)
+}
+
 /// The chunks of a meaning in the order of the normal form, each with its size in bytes. It takes
 /// memory for the list.
-#[tactic(auto, using(px_layout::specs::lemmas::WalkLaws::gathered))]
 pub(crate) fn chunk_sizes(memory: &mut Memory, m: &Meaning) -> Result<Vec<(Chunk, u64)>, Refused>
     requires { Fits (meaning_of m.now) }
     ensures chunks { IfOk result (λ v. v.items ≡ chunks (meaning_of m.now)) }
     ensures memory { Lacks result memory.old memory.new }
 {
     let mut out = memory.list();
-    push_dir(memory, &mut out, m, Dir::Main)?;
-    push_dir(memory, &mut out, m, Dir::Exif)?;
-    push_dir(memory, &mut out, m, Dir::Interop)?;
-    push_dir(memory, &mut out, m, Dir::Gps)?;
-    push_dir(memory, &mut out, m, Dir::Thumb)?;
-    push_thumb(memory, &mut out, &m.thumb)?;
+    push_all(memory, &mut out, m)?;
     Ok(out)
 }

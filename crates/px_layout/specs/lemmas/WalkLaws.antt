@@ -45,20 +45,21 @@ pub few_there : (m : Meaning) (d : Dir) (xs : List (ℕ × Item)) → Fits m →
 few_there m d xs f e = few_items d xs (subst (λ (o : Option (List (ℕ × Item))). IfSome o (Good d)) e (good_items m f d))
 
 -- all of them
-pub gathered : (m : Meaning) (a b c d e f g : List (Chunk × ℕ)) → a ≡ [] → b ≡ a ++ chunks_of_dir Main (items m Main)
+pub gathered : (m : Meaning) (a b c d e f : List (Chunk × ℕ)) → b ≡ a ++ chunks_of_dir Main (items m Main)
     → c ≡ b ++ chunks_of_dir Exif (items m Exif) → d ≡ c ++ chunks_of_dir Interop (items m Interop)
-    → e ≡ d ++ chunks_of_dir Gps (items m Gps) → f ≡ e ++ chunks_of_dir Thumb (items m Thumb) → g ≡ f ++ thumb_chunks m.thumb → g ≡ chunks m
+    → e ≡ d ++ chunks_of_dir Gps (items m Gps) → f ≡ e ++ chunks_of_dir Thumb (items m Thumb) → f ++ thumb_chunks m.thumb ≡ a ++ chunks m
 unfolding chunks
-gathered m a b c d e f g ea eb ec ed ee ef eg =
-    eg ∙ ap (λ x. x ++ thumb_chunks m.thumb) (ef ∙ ap (λ x. x ++ of Thumb) (ee ∙ ap (λ x. x ++ of Gps)
-    (ed ∙ ap (λ x. x ++ of Interop) (ec ∙ ap (λ x. x ++ of Exif) (eb ∙ ap (λ x. x ++ of Main) ea))))
-    ∙ line (of Main) (of Exif) (of Interop) (of Gps) (of Thumb))
+gathered m a b c d e f eb ec ed ee ef =
+    ap (λ x. x ++ thumb_chunks m.thumb) (ef ∙ ap (λ x. x ++ of Thumb) (ee ∙ ap (λ x. x ++ of Gps)
+    (ed ∙ ap (λ x. x ++ of Interop) (ec ∙ ap (λ x. x ++ of Exif) eb))))
+    ∙ line a (of Main) (of Exif) (of Interop) (of Gps) (of Thumb) (thumb_chunks m.thumb)
   where
     of : Dir → List (Chunk × ℕ)
     of x = chunks_of_dir x (items m x)
 
-    line : (p q r s t : List (Chunk × ℕ)) → ((((([] ++ p) ++ q) ++ r) ++ s) ++ t) ≡ p ++ (q ++ (r ++ (s ++ (t ++ []))))
-    line p q r s t = simp (append_assoc, append-nil)
+    line : (a p q r s t u : List (Chunk × ℕ))
+        → (((((a ++ p) ++ q) ++ r) ++ s) ++ t) ++ u ≡ a ++ ((p ++ (q ++ (r ++ (s ++ (t ++ []))))) ++ u)
+    line a p q r s t u = simp (append_assoc, append-nil)
 
 -- where a loop is done, nothing is left
 pub values_done : {X Y : Type 0} (h : X → Option Y) (xs : List X) (i : ℕ) (out all : List Y) → length xs ≤ i
