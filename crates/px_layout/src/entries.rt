@@ -214,34 +214,103 @@ impl<'m, 'a> Entries<'m, 'a> {
             item: Item::Field(value),
         }
     }
+}
 
-    // How many entries stand before the first of a greater tag.
-    fn rank(&self, tag: u16) -> usize
-        ensures { result ≡ rank tag self.now }
-    {
-        fields_before(self.fields, tag)
-            + adds(&self.first, tag)
-            + adds(&self.second, tag)
-            + adds(&self.third, tag)
-            + adds(&self.fourth, tag)
-    }
+// ---- further entries, each put over the fields and those before it, where there is one
 
-    // An entry that is put over these, where there is one.
-    fn extra(&self, tag: u16, item: Option<Item<'m, 'a>>) -> Option<Extra<'m, 'a>>
-        requires { IfSome (option_map item_of item) IsCounted }
-        ensures stands { Stands result self.now }
-        ensures over { over result self.now ≡ put_some tag (option_map item_of item.entry) self.now }
-    {
-        let Some(item) = item else {
-            return None;
-        };
-        Some(Extra {
-            place: self.rank(tag),
+fn first_extra<'m, 'a>(
+    fields: &Fields,
+    tag: u16,
+    item: Option<Item<'m, 'a>>,
+) -> Option<Extra<'m, 'a>>
+    requires { IfSome (option_map item_of item) IsCounted }
+    ensures stands { Stands result (field_items fields.now) }
+    ensures over { over result (field_items fields.now) ≡ put_some tag (option_map item_of item.entry) (field_items fields.now) }
+{
+    match item {
+        Some(item) => Some(Extra {
+            place: fields_before(fields, tag),
             tag,
             item,
-        })
+        }),
+        None => None,
     }
 }
+
+fn second_extra<'m, 'a>(
+    fields: &Fields,
+    first: &Option<Extra>,
+    tag: u16,
+    item: Option<Item<'m, 'a>>,
+) -> Option<Extra<'m, 'a>>
+    requires few { length fields.now < 2 ^ 16 }
+    requires counted { IfSome (option_map item_of item) IsCounted }
+    ensures stands { Stands result (over first.now (field_items fields.now)) }
+    ensures over { over result (over first.now (field_items fields.now))
+        ≡ put_some tag (option_map item_of item.entry) (over first.now (field_items fields.now)) }
+{
+    match item {
+        Some(item) => Some(Extra {
+            place: fields_before(fields, tag) + adds(first, tag),
+            tag,
+            item,
+        }),
+        None => None,
+    }
+}
+
+fn third_extra<'m, 'a>(
+    fields: &Fields,
+    first: &Option<Extra>,
+    second: &Option<Extra>,
+    tag: u16,
+    item: Option<Item<'m, 'a>>,
+) -> Option<Extra<'m, 'a>>
+    requires few { length fields.now < 2 ^ 16 }
+    requires counted { IfSome (option_map item_of item) IsCounted }
+    ensures stands { Stands result (over second.now (over first.now (field_items fields.now))) }
+    ensures over { over result (over second.now (over first.now (field_items fields.now)))
+        ≡ put_some tag (option_map item_of item.entry) (over second.now (over first.now (field_items fields.now))) }
+{
+    match item {
+        Some(item) => Some(Extra {
+            place: fields_before(fields, tag) + adds(first, tag) + adds(second, tag),
+            tag,
+            item,
+        }),
+        None => None,
+    }
+}
+
+// The JPEG's offset, where there is a JPEG.
+fn jpeg_extra<'m, 'a>(
+    fields: &Fields,
+    first: &Option<Extra>,
+    second: &Option<Extra>,
+    third: &Option<Extra>,
+    jpeg: Option<&[u8]>,
+) -> Option<Extra<'m, 'a>>
+    requires { length fields.now < 2 ^ 16 }
+    ensures stands { Stands result (over third.now (over second.now (over first.now (field_items fields.now)))) }
+    ensures over { over result (over third.now (over second.now (over first.now (field_items fields.now))))
+        ≡ put_some 0x0201 (option_map (λ _. AtJpeg) (option_map (λ x. x.now) jpeg.entry))
+        (over third.now (over second.now (over first.now (field_items fields.now)))) }
+{
+    let tag = 0x0201;
+    match jpeg {
+        Some(_) => Some(Extra {
+            place: fields_before(fields, tag)
+                + adds(first, tag)
+                + adds(second, tag)
+                + adds(third, tag),
+            tag,
+            item: Item::JpegOffset,
+        }),
+        None => None,
+    }
+}
+
+// ---- what they say
 
 // The record, where there is one, with the length of its normal form.
 fn record_item<'m, 'a>(iim: &'m Option<Iim<'a>>) -> Option<Item<'m, 'a>>
@@ -270,15 +339,6 @@ fn fields_link<'m, 'a>(dir: Dir, fields: &Option<Fields>) -> Option<Item<'m, 'a>
 {
     match fields {
         Some(_) => Some(Item::Link(dir)),
-        None => None,
-    }
-}
-
-fn jpeg_offset<'m, 'a>(jpeg: Option<&[u8]>) -> Option<Item<'m, 'a>>
-    ensures { option_map item_of result ≡ option_map (λ _. AtJpeg) (option_map (λ x. x.now) jpeg.entry) }
-{
-    match jpeg {
-        Some(_) => Some(Item::JpegOffset),
         None => None,
     }
 }
@@ -323,12 +383,9 @@ fn main_entries<'m, 'a>(m: &'m Meaning<'a>) -> Entries<'m, 'a>
     ensures { result ≡ main_items (meaning_of m.now) }
 {
     let fields = &m.main;
-    let alone = Entries::layered(fields, None, None, None, None);
-    let iptc = alone.extra(0x83BB, record_item(&m.iptc));
-    let under = Entries::layered(fields, iptc, None, None, None);
-    let gps = under.extra(0x8825, fields_link(Dir::Gps, &m.gps));
-    let under = Entries::layered(fields, iptc, gps, None, None);
-    let exif = under.extra(0x8769, exif_link(&m.exif));
+    let iptc = first_extra(fields, 0x83BB, record_item(&m.iptc));
+    let gps = second_extra(fields, &iptc, 0x8825, fields_link(Dir::Gps, &m.gps));
+    let exif = third_extra(fields, &iptc, &gps, 0x8769, exif_link(&m.exif));
     Entries::layered(fields, iptc, gps, exif, None)
 }
 
@@ -336,8 +393,11 @@ fn exif_part_entries<'m, 'a>(part: &'m ExifPart<'a>) -> Entries<'m, 'a>
     requires { length part.now.fields < 2 ^ 16 }
     ensures { result ≡ exif_items (exif_of part.now) }
 {
-    let alone = Entries::layered(&part.fields, None, None, None, None);
-    let interop = alone.extra(0xA005, fields_link(Dir::Interop, &part.interop));
+    let interop = first_extra(
+        &part.fields,
+        0xA005,
+        fields_link(Dir::Interop, &part.interop),
+    );
     Entries::layered(&part.fields, interop, None, None, None)
 }
 
@@ -347,14 +407,10 @@ fn thumb_part_entries<'m, 'a>(thumb: &'m Thumb<'a>) -> Entries<'m, 'a>
     ensures { result ≡ thumb_items (thumb_of thumb.now) }
 {
     let fields = &thumb.fields;
-    let alone = Entries::layered(fields, None, None, None, None);
-    let lengths = alone.extra(0x0117, strip_lengths(&thumb.strips));
-    let under = Entries::layered(fields, lengths, None, None, None);
-    let offsets = under.extra(0x0111, strip_offsets(&thumb.strips));
-    let under = Entries::layered(fields, lengths, offsets, None, None);
-    let size = under.extra(0x0202, jpeg_length(thumb.jpeg));
-    let under = Entries::layered(fields, lengths, offsets, size, None);
-    let jpeg = under.extra(0x0201, jpeg_offset(thumb.jpeg));
+    let lengths = first_extra(fields, 0x0117, strip_lengths(&thumb.strips));
+    let offsets = second_extra(fields, &lengths, 0x0111, strip_offsets(&thumb.strips));
+    let size = third_extra(fields, &lengths, &offsets, 0x0202, jpeg_length(thumb.jpeg));
+    let jpeg = jpeg_extra(fields, &lengths, &offsets, &size, thumb.jpeg);
     Entries::layered(fields, lengths, offsets, size, jpeg)
 }
 

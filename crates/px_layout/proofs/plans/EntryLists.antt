@@ -15,6 +15,7 @@ use Rattle.px_tree.specs.Entry.{Rising}
 use Rattle.px_tree.specs.Tree.{Fields, ExifPart, Thumbnail, Meaning}
 use Rattle.px_tree.specs.Fits.{Item, Field, StripSizes, items, put, main_items, exif_items, thumb_items, field_items, FitsFields, FitsExif}
 use Rattle.px_tree.specs.Fits.{FitsThumb, IsBytes}
+use Rattle.px_layout.specs.declared.items.Item as held
 use Rattle.px_layout.specs.calls.Items.{item_of, IsCounted, rank}
 use Rattle.px_layout.specs.calls.Layers.{over, Stands, Tells, IsClear}
 use Rattle.px_layout.specs.declared.entries.Extra.{Extra}
@@ -200,6 +201,24 @@ through a b c d fs i k j h g pd pc pb pa sa sb sc sd l =
           (length-map fs (λ (p : ℕ × Value). (p.0, Field p.1))) w.1,
     )
 
+-- a further entry stands at the place
+pub here_second : (c d : Option Extra) (ys : List (ℕ × Item)) (i k t : ℕ) (x : held.Item) → Passes (Under k) d i → Passes (Here t x) c k
+    → Stands c ys → Stands d (over c ys) → i < length (over d (over c ys)) → Tells (Here t x) d (over c ys) i
+here_second c d ys i k t x pd pc sc sd l = let z = pd (over c ys) sd l in let y = pc ys sc z.1 in (z.0 ∙ y.0, y.1)
+
+pub here_third : (b c d : Option Extra) (ys : List (ℕ × Item)) (i k j t : ℕ) (x : held.Item) → Passes (Under k) d i → Passes (Under j) c k
+    → Passes (Here t x) b j → Stands b ys → Stands c (over b ys) → Stands d (over c (over b ys)) → i < length (over d (over c (over b ys)))
+    → Tells (Here t x) d (over c (over b ys)) i
+here_third b c d ys i k j t x pd pc pb sb sc sd l =
+    let z = pd (over c (over b ys)) sd l in let y = here_second b c ys k j t x pc pb sb sc z.1 in (z.0 ∙ y.0, y.1)
+
+pub here_fourth : (a b c d : Option Extra) (ys : List (ℕ × Item)) (i k j h t : ℕ) (x : held.Item) → Passes (Under k) d i
+    → Passes (Under j) c k → Passes (Under h) b j → Passes (Here t x) a h → Stands a ys → Stands b (over a ys) → Stands c (over b (over a ys))
+    → Stands d (over c (over b (over a ys))) → i < length (over d (over c (over b (over a ys))))
+    → Tells (Here t x) d (over c (over b (over a ys))) i
+here_fourth a b c d ys i k j h t x pd pc pb pa sa sb sc sd l =
+    let z = pd (over c (over b (over a ys))) sd l in let y = here_third a b c ys k j h t x pc pb pa sa sb sc z.1 in (z.0 ∙ y.0, y.1)
+
 -- before all further entries stand the fields
 pub clear_through : (a b c d : Option Extra) (fs : Fields) (n i : ℕ) →
     IsClear n a → IsClear n b → IsClear n c → IsClear n d →
@@ -211,6 +230,11 @@ pub clear_through : (a b c d : Option Extra) (fs : Fields) (n i : ℕ) →
 clear_through a b c d fs n i ca cb cc cd sa sb sc sd u l =
     through a b c d fs i i i i i (clear_passes d n i cd u) (clear_passes c n i cc u) (clear_passes b n i cb u) (clear_passes a n i ca u)
     sa sb sc sd l
+
+-- an item that is there is counted
+pub counted_in : (o : Option held.Item) (x : held.Item) → o ≡ Some x → IfSome (option_map item_of o) IsCounted → IsCounted (item_of x)
+counted_in None x q h = cc
+counted_in (Some y) x q h = let k : y ≡ x = cc in subst (λ z. IsCounted (item_of z)) k h
 
 -- ---- fields
 

@@ -1,0 +1,12 @@
+use Rattle.std.proofs.Common.{arith}
+use Rattle.px_tree.specs.Fits.{field_items}
+use Rattle.px_layout.specs.calls.Layers.{over}
+use Rattle.px_layout.proofs.plans.EntryLists.{counted_in}
+use Rattle.px_layout.proofs.entries.third_extra.Goals as goal
+
+pub returns-in-Some-clause-stands : goal.returns-in-Some-clause-stands
+returns-in-Some-clause-stands c =
+    let f = c.fields_before.ensures.rank in
+    let a = c.adds.ensures.added (field_items c.args.fields.now) in
+    let b = c.adds-in-Some.ensures.added (over c.args.first.now (field_items c.args.fields.now)) in
+    (omega arith, counted_in c.args.item c.in-Some.item c.in-Some.is c.requires.counted)
