@@ -207,7 +207,27 @@ fn lay_table(
     Ok(())
 }
 
-// A directory's table and its placed values, where it is there.
+// A directory's table and its placed values.
+fn lay_entries(
+    memory: &mut Memory,
+    block: &mut [u8],
+    layout: &Layout,
+    dir: Dir,
+    entries: &Entries,
+) -> Result<(), Refused>
+    requires few { length entries.now < 2 ^ 16 }
+    requires values { AreInside (length block.old) (value_pieces layout.now dir entries.now) }
+    requires table { place (said_plan layout.now) (Chunk.Table dir) + length (table_in layout.now dir entries.now) ≤ length block.old }
+    ensures memory { Lacks result memory.old memory.new }
+    ensures len { length block.new ≡ length block.old }
+    ensures bytes { OnOk result (PutsOver block.old block.new
+        ((place (said_plan layout.now) (Chunk.Table dir), table_in layout.now dir entries.now) ∷ value_pieces layout.now dir entries.now)) }
+{
+    lay_values(memory, block, layout, dir, entries)?;
+    lay_table(memory, block, layout, dir, entries)
+}
+
+// The same of a directory, where it is there.
 fn lay_dir(memory: &mut Memory, block: &mut [u8], layout: &Layout, dir: Dir) -> Result<(), Refused>
     requires fits { Fits (said_meaning layout.now) }
     requires legal { Legal (said_meaning layout.now) (said_plan layout.now) }
@@ -216,11 +236,10 @@ fn lay_dir(memory: &mut Memory, block: &mut [u8], layout: &Layout, dir: Dir) -> 
     ensures len { length block.new ≡ length block.old }
     ensures bytes { OnOk result (PutsOver block.old block.new (dir_pieces layout.now (said_meaning layout.now) dir)) }
 {
-    let Some(entries) = entries_in(layout.m, dir) else {
-        return Ok(());
-    };
-    lay_values(memory, block, layout, dir, &entries)?;
-    lay_table(memory, block, layout, dir, &entries)
+    match entries_in(layout.m, dir) {
+        Some(entries) => lay_entries(memory, block, layout, dir, &entries),
+        None => Ok(()),
+    }
 }
 
 // All directories, the last first.

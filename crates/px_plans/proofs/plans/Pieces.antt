@@ -22,7 +22,7 @@ use Rattle.px_layout.specs.lemmas.StandLaws.{piece_range}
 use Rattle.px_layout.specs.lemmas.EntryLaws.{Good, good_items, few_items}
 use Rattle.px_layout.specs.lemmas.SizeLaws.{ranges_are}
 use Rattle.px_plans.specs.calls.Building.{made, AreInside, PutsOver, at_places, value_pieces, dir_pieces}
-use Rattle.px_plans.specs.calls.Layouts.{said_plan}
+use Rattle.px_plans.specs.calls.Layouts.{said_plan, said_meaning, table_in}
 use Rattle.px_plans.proofs.plans.Built.{puts_none, puts_more, none_made, drop_get}
 
 module _ (l : Layout) where
@@ -263,15 +263,13 @@ pub on_ok : {A E : Type 0} (r : Result A E) (P Q : Type 0) → (P → Q) → OnO
 on_ok (Ok x) P Q f p = f p
 on_ok (Err e) P Q f p = p
 
-pub dir_over : (l : Layout) (m : Meaning) (d : Dir) (xs : List (ℕ × Item)) (a b c : List ℕ) → items m d ≡ Some xs → length b ≡ length a →
-    PutsOver a b (value_pieces l d xs) → PutsOver b c ((
-      place (said_plan l) (Table d),
-      table_bytes (said_plan l) l.order l.filler m d
-          xs,
-    ) ∷ []) → PutsOver a c (dir_pieces l m d)
-dir_over l m d xs a b c e n p q =
-    subst (PutsOver a c) (sym (dir_some l m d xs e)) (puts_more a b c ((
-      place (said_plan l) (Table d),
-      table_bytes (said_plan l) l.order
-          l.filler m d xs,
-    ) ∷ []) (value_pieces l d xs) n p q)
+-- a directory's table, put over its placed values
+pub entries_over : (l : Layout) (d : Dir) (xs : List (ℕ × Item)) (a b c : List ℕ) → length b ≡ length a
+    → PutsOver a b (value_pieces l d xs) → PutsOver b c ((place (said_plan l) (Table d), table_in l d xs) ∷ [])
+    → PutsOver a c ((place (said_plan l) (Table d), table_in l d xs) ∷ value_pieces l d xs)
+entries_over l d xs a b c n p q =
+    puts_more a b c ((place (said_plan l) (Table d), table_in l d xs) ∷ []) (value_pieces l d xs) n p q
+
+pub dir_over : (l : Layout) (d : Dir) (xs : List (ℕ × Item)) (a b : List ℕ) → items (said_meaning l) d ≡ Some xs
+    → PutsOver a b ((place (said_plan l) (Table d), table_in l d xs) ∷ value_pieces l d xs) → PutsOver a b (dir_pieces l (said_meaning l) d)
+dir_over l d xs a b e p = subst (PutsOver a b) (sym (dir_some l (said_meaning l) d xs e)) p

@@ -4,27 +4,25 @@ use Rattle.px_plans.specs.calls.Building.{AreInside, value_pieces}
 use Rattle.px_plans.proofs.plans.Pieces.{on_ok, dir_over, values_inside, table_inside, few_entries}
 use Rattle.px_plans.proofs.building.lay_dir.Goals as goal
 
-pub lay_values-requires : goal.lay_values-requires
-lay_values-requires c =
+pub lay_entries-requires-clause-few : goal.lay_entries-requires-clause-few
+lay_entries-requires-clause-few c =
+    few_entries c.args.layout.now (meaning_of c.args.layout.now.m.now) c.requires.fits c.requires.legal c.args.dir c.in-Some.entries
+    (sym c.in-Some.ensures)
+
+pub lay_entries-requires-clause-values : goal.lay_entries-requires-clause-values
+lay_entries-requires-clause-values c =
     subst (λ (n : ℕ). AreInside n (value_pieces c.args.layout.now c.args.dir c.in-Some.entries)) (sym c.requires.len)
     (values_inside c.args.layout.now (meaning_of c.args.layout.now.m.now) c.requires.fits c.requires.legal c.args.dir c.in-Some.entries
     (sym c.in-Some.ensures))
 
-pub lay_table-requires-clause-few : goal.lay_table-requires-clause-few
-lay_table-requires-clause-few c =
-    few_entries c.args.layout.now (meaning_of c.args.layout.now.m.now) c.requires.fits c.requires.legal c.args.dir c.in-Some.entries
-    (sym c.in-Some.ensures)
-
-pub lay_table-requires-clause-inside : goal.lay_table-requires-clause-inside
-lay_table-requires-clause-inside c =
+pub lay_entries-requires-clause-table : goal.lay_entries-requires-clause-table
+lay_entries-requires-clause-table c =
     let t = table_inside c.args.layout.now (meaning_of c.args.layout.now.m.now) c.requires.fits c.requires.legal c.args.dir
     c.in-Some.entries (sym c.in-Some.ensures) in
     let n = c.requires.len in
-    let k = c.lay_values.ensures.len in
     omega arith
 
-pub returns-clause-bytes : goal.returns-clause-bytes
-returns-clause-bytes c =
-    on_ok c.lay_table.result _ _ (dir_over c.args.layout.now (meaning_of c.args.layout.now.m.now) c.args.dir c.in-Some.entries
-    c.args.block.now c.lay_values.new.block c.lay_table.new.block
-    (sym c.in-Some.ensures) c.lay_values.ensures.len c.in_ok-lay_values.ensures.bytes) c.lay_table.ensures.bytes
+pub returns-in-Some-clause-bytes : goal.returns-in-Some-clause-bytes
+returns-in-Some-clause-bytes c =
+    on_ok c.lay_entries.result _ _ (dir_over c.args.layout.now c.args.dir c.in-Some.entries c.args.block.now c.lay_entries.new.block
+    (sym c.in-Some.ensures)) c.lay_entries.ensures.bytes
