@@ -1,12 +1,12 @@
 -- Elements turned round one after another.
-use Rattle.std.proofs.Common.{◌≡◌, ℕ, zero, suc, ◌+◌, ◌*◌, ◌/◌, ◌<◌, ◌≤◌, Bool, true, false, List, [], ◌∷◌, ◌++◌, map, flat_map, length}
-use Rattle.std.proofs.Common.{take, drop, refl, sym, ◌∙◌, ap, ap₂, arith, append_assoc, append-nil, length-append, length-drop}
+use Rattle.std.proofs.Common.{◌≡◌, ℕ, zero, suc, ◌+◌, ◌*◌, ◌/◌, ◌%◌, ◌<◌, ◌≤◌, Bool, true, false, List, [], ◌∷◌, ◌++◌, map, flat_map, length}
+use Rattle.std.proofs.Common.{take, drop, refl, sym, ◌∙◌, ◌-◌, ap, ap₂, arith, subst, replicate, append_assoc, append-nil, length-append, length-drop}
 use Rattle.std.specs.Int.{w16, w32}
 use Rattle.std.proofs.lemmas.Grind.{common_steps}
 use Rattle.std.proofs.lemmas.Int.{of_z-to_z}
-use Rattle.std.proofs.lemmas.List.{length-take-le}
+use Rattle.std.proofs.lemmas.List.{length-take-le, take_all}
 use Rattle.std.proofs.lemmas.Nat.{le-div}
-use Rattle.std.proofs.Math.Nat.{div-mul-le_self, mul-le-mul_right}
+use Rattle.std.proofs.Math.Nat.{div-mul-le_self, mul-le-mul_right, mul-div_cancel}
 use Rattle.std.proofs.Math.Seq.{drop-drop}
 use Rattle.std.proofs.lemmas.Slice.{take-put_mid}
 use borrow.Rule.Slice.PartMut.{put_mid}
@@ -16,13 +16,16 @@ use Rattle.px_bytes.specs.lemmas.NumberLaws.{number-lt, length-spelling}
 use Rattle.px_bytes.specs.Parts.{pieces}
 use Rattle.px_field.specs.declared.forms.Form.{Form}
 use Rattle.px_field.specs.declared.forms.Form.TheVariants as form
+use Rattle.px_field.specs.declared.turning.Width.{Width}
 use Rattle.px_field.specs.declared.turning.Width.TheVariants as width
 use Rattle.px_field.specs.Forms.{size}
-use Rattle.px_field.specs.Values.{spell, element_of, widened, IsWhole, elements, count_in}
+use Rattle.px_field.specs.Values.{Value, spell, spelled, element_of, widened, IsWhole, elements, count_in}
 use Rattle.px_field.specs.calls.Views.{shown}
 use Rattle.px_field.specs.calls.Turning.{width_of, read_by, turned}
 use Rattle.px_field.specs.lemmas.PieceLaws.{bytes_take, bytes_drop}
-use Rattle.px_field.specs.lemmas.ElementLaws.{spell-element_of}
+use Rattle.px_field.specs.lemmas.ElementLaws.{spell-element_of, size-pos}
+use Rattle.px_field.specs.lemmas.ValueLaws.{length-spelled}
+use Rattle.px_field.proofs.ViewLemmas.{length-shown, size-shown, IsValue-shown}
 
 -- ---- pieces
 
@@ -159,6 +162,74 @@ read_size false form.SRational h = refl
 read_size false form.Float h = refl
 read_size false form.Double h = refl
 read_size false form.Utf8 h = refl
+
+-- ---- one element
+
+-- its bytes are turned round
+pub spelled_element : (w : Bool) (r o : Order) (f : Form) (raw : List ℕ) → (w ≡ true → IsWhole f) → AreBytes raw → length raw ≡ size f
+    → spelled o (shown w r f raw) ≡ turned (width_of w f) r o raw
+unfolding spelled
+spelled_element w r o f raw whole are e =
+    let one : length raw ≡ 1 * size f = omega (arith, e) in
+    let count : count_in f raw ≡ 1 = ap (λ (n : ℕ). n / size f) one ∙ mul-div_cancel 1 (size-pos f) in
+    ap (flat_map (spell o)) (sym (take_all 1 (shown w r f raw).elements (omega (arith, length-shown w r f raw, count))))
+    ∙ part_shown w r o f raw 1 0 0 whole are (omega arith) (omega (arith, count)) (omega (arith, e))
+    ∙ append-nil (turned (width_of w f) r o (take (size f) raw))
+    ∙ ap (turned (width_of w f) r o) (take_all (size f) raw (omega (arith, e)))
+
+-- only numbers of one part are widened
+pub pair_plain : (w : Bool) (f : Form) → (w ≡ true → IsWhole f) → width_of false f ≡ width.Pair → w ≡ false
+pair_plain false f h e = refl
+pair_plain true form.Short h e = absurd (cc)
+pair_plain true form.Long h e = absurd (cc)
+pair_plain true _ h e = absurd (h refl)
+
+pub pair_size : (f : Form) → width_of false f ≡ width.Pair → size f ≡ 8
+pair_size f e = sym (read_size false f (λ h. absurd (cc))) ∙ ap read_by e
+
+-- where a value of two numbers takes eight bytes, it was read from eight
+pub pair_raw : (w : Bool) (r o : Order) (f : Form) (raw : List ℕ) → (w ≡ true → IsWhole f) → length raw % size f ≡ 0 → AreBytes raw
+    → width_of false f ≡ width.Pair → length (spelled o (shown w r f raw)) ≡ 8 → length raw ≡ 8
+pair_raw w r o f raw whole rest are e long =
+    sym (size-shown w r f raw rest (pair_plain w f whole e)) ∙ sym (length-spelled o (shown w r f raw) (IsValue-shown w r f raw whole are))
+    ∙ long
+
+pub pair_spelled : (w : Bool) (r o : Order) (f : Form) (raw : List ℕ) → (w ≡ true → IsWhole f) → AreBytes raw
+    → width_of false f ≡ width.Pair → length raw ≡ 8 → spelled o (shown w r f raw) ≡ turned width.Pair r o raw
+pair_spelled w r o f raw whole are e long =
+    spelled_element w r o f raw whole are (long ∙ sym (pair_size f e))
+    ∙ ap (λ (b : Bool). turned (width_of b f) r o raw) (pair_plain w f whole e)
+    ∙ ap (λ (k : Width). turned k r o raw) e
+
+-- the bytes of a value, with zeros up to four
+abbrev pub Padded : Order → Value → List ℕ
+Padded o v = spelled o v ++ replicate (4 - length (spelled o v)) 0
+
+padded_at : (o : Order) (v : Value) (bytes : List ℕ) (n : ℕ) → spelled o v ≡ bytes → length bytes ≡ n
+    → bytes ++ replicate (4 - n) 0 ≡ Padded o v
+padded_at o v bytes n e l = rw e (ap (λ (m : ℕ). bytes ++ replicate (4 - m) 0) (sym l))
+
+pub short_padded : (w : Bool) (r o : Order) (f : Form) (raw : List ℕ) → f ≡ form.Short → w ≡ false → length raw ≡ 2 → AreBytes raw
+    → turned width.Two r o raw ++ 0 ∷ 0 ∷ [] ≡ Padded o (shown w r f raw)
+short_padded false r o form.Short raw s plain long are =
+    padded_at o (shown false r form.Short raw) (turned width.Two r o raw) 2
+    (spelled_element false r o form.Short raw (λ h. absurd (cc)) are long) (length-spelling o 2 _)
+short_padded true r o _ raw s plain long are = absurd (cc)
+short_padded false r o _ raw s plain long are = absurd (cc)
+
+pub long_padded : (w : Bool) (r o : Order) (f : Form) (raw : List ℕ) → f ≡ form.Long → length raw ≡ 4 → (w ≡ true → IsWhole f)
+    → AreBytes raw → turned width.Four r o raw ≡ Padded o (shown w r f raw)
+long_padded w r o f raw is long whole are = rw is (at w (subst (λ (g : Form). w ≡ true → IsWhole g) is whole))
+  where
+    at : (b : Bool) → (b ≡ true → IsWhole form.Long) → turned width.Four r o raw ≡ Padded o (shown b r form.Long raw)
+    at true h =
+        sym (append-nil (turned width.Four r o raw))
+        ∙ padded_at o (shown true r form.Long raw) (turned width.Four r o raw) 4 (spelled_element true r o form.Long raw h are long)
+        (length-spelling o 4 _)
+    at false h =
+        sym (append-nil (turned width.Four r o raw))
+        ∙ padded_at o (shown false r form.Long raw) (turned width.Four r o raw) 4 (spelled_element false r o form.Long raw h are long)
+        (length-spelling o 4 _)
 
 -- ---- what has room
 

@@ -1,5 +1,5 @@
 // Elements turned round many at a time: a loop for each width, which does nothing else.
-ghost use Rattle.std.specs.Prelude.{◌≡◌, ◌≤◌, ◌*◌, length, flat_map};
+ghost use Rattle.std.specs.Prelude.{◌≡◌, ◌≤◌, ◌*◌, ◌++◌, [], ◌∷◌, length, flat_map};
 ghost use Rattle.px_bytes.specs.Parts.{pieces};
 ghost use Rattle.px_bytes.specs.declared.Order.{Order as AnyOrder};
 ghost use Rattle.px_field.specs.declared.turning.Width.TheVariants.{One, Two, Four, Pair, Eight, Widened};
@@ -146,4 +146,36 @@ fn turn_wide(read: Order, write: Order, count: usize, from: &[u8], to: &mut [u8]
         let wide = u32::from(read.get16(&from[at..at + 2]));
         write.put32(wide, &mut to[i * 4..i * 4 + 4]);
     }
+}
+
+// ---- one element, which is turned round with no loop
+
+/// The bytes of one element of two numbers.
+pub fn turned_pair(read: Order, write: Order, from: &[u8]) -> [u8; 8]
+    requires { length from.now ≡ 8 }
+    ensures { result ≡ turned Pair read write from.now }
+{
+    let mut bytes = [0; 8];
+    turn_pair(read, write, from, &mut bytes);
+    bytes
+}
+
+/// Those of one number of two bytes, and zeros behind them.
+pub fn turned_short(read: Order, write: Order, from: &[u8]) -> [u8; 4]
+    requires { length from.now ≡ 2 }
+    ensures { result ≡ turned Two read write from.now ++ 0 ∷ 0 ∷ [] }
+{
+    let mut bytes = [0; 4];
+    write.put16(read.get16(from), &mut bytes[..2]);
+    bytes
+}
+
+/// Those of one number of four bytes.
+pub fn turned_long(read: Order, write: Order, from: &[u8]) -> [u8; 4]
+    requires { length from.now ≡ 4 }
+    ensures { result ≡ turned Four read write from.now }
+{
+    let mut bytes = [0; 4];
+    write.put32(read.get32(from), &mut bytes);
+    bytes
 }

@@ -1,14 +1,17 @@
 // A value: bytes in some order, seen as the elements that they spell.
 ghost use Rattle.std.specs.Prelude.{◌≡◌, ◌<◌, ◌≤◌, ◌+◌, ◌-◌, ◌*◌, ◌/◌, ◌%◌, length, map, flat_map, take, drop, min, Some, slice_get};
-ghost use Rattle.std.specs.Prelude.{IsTrue, ◌↔◌, IsSome, IfSome};
+ghost use Rattle.std.specs.Prelude.{IsTrue, ◌↔◌, ◌++◌, IsSome, IfSome, replicate, true, false};
 ghost use Rattle.px_bytes.specs.declared.Order.{Order};
 ghost use Rattle.px_bytes.specs.Parts.{limit};
+ghost use Rattle.px_field.specs.declared.forms.Form.TheVariants.{Short, Long};
+ghost use Rattle.px_field.specs.declared.turning.Width.TheVariants.{Pair};
+ghost use Rattle.px_field.specs.calls.Turning.{width_of};
 ghost use Rattle.px_field.specs.Forms.{size};
 ghost use Rattle.px_field.specs.Values.{count_in, element_of, elements, form_in, is_bytes, spell, spelled, value_in, whole_in, widened};
 ghost use Rattle.px_field.specs.Values.{IsOf, IsValue, IsWhole};
 
 use crate::forms::{Element, Form, Kind};
-use crate::turning::{Way, Width, turn};
+use crate::turning::{Way, Width, turn, turned_long, turned_pair, turned_short};
 use px_bytes::Order;
 use std::marker::Model;
 
@@ -179,6 +182,58 @@ impl<'a> Value<'a> {
         count
     }
 
+    /// Spells the value whole, in as many bytes as it takes.
+    pub fn spell_all(&self, order: Order, into: &mut [u8])
+        requires { length into.old ≡ length (spelled order self.now) }
+        ensures { into.new ≡ spelled order self.now }
+    {
+        // Named for its invariant alone: the elements take as many bytes as spell them.
+        let _ = &self.raw;
+        if let Some(same) = self.in_order(order) {
+            into.copy_from_slice(same);
+            return;
+        }
+        self.spell_many(order, 0, into);
+    }
+
+    /// The bytes of a value of eight, as of one RATIONAL, which takes no loop.
+    pub fn spell_eight(&self, order: Order) -> [u8; 8]
+        requires { length (spelled order self.now) ≡ 8 }
+        ensures { result ≡ spelled order self.now }
+    {
+        if is_fraction(self.form) {
+            return turned_pair(self.order, order, self.raw);
+        }
+        let mut bytes = [0; 8];
+        self.spell_all(order, &mut bytes);
+        bytes
+    }
+
+    /// The bytes of a value of at most four, and zeros behind them. One SHORT and one LONG take no loop.
+    pub fn spell_four(&self, order: Order) -> [u8; 4]
+        requires { length (spelled order self.now) ≤ 4 }
+        ensures { result ≡ spelled order self.now ++ replicate (4 - length (spelled order self.now)) 0 }
+    {
+        if is_one_short(self.form, self.widened, self.raw) {
+            return turned_short(self.order, order, self.raw);
+        }
+        if is_one_long(self.form, self.raw) {
+            return turned_long(self.order, order, self.raw);
+        }
+        self.spell_few(order)
+    }
+
+    // The same of any value.
+    fn spell_few(&self, order: Order) -> [u8; 4]
+        requires { length (spelled order self.now) ≤ 4 }
+        ensures { result ≡ spelled order self.now ++ replicate (4 - length (spelled order self.now)) 0 }
+    {
+        let mut bytes = [0; 4];
+        let size = self.size() as usize;
+        self.spell_all(order, &mut bytes[..size]);
+        bytes
+    }
+
     /// The number of bytes that spell the value in either order. A value of kind `Whole` takes four for
     /// each element, so one read from SHORT takes twice as many as were read.
     pub fn size(&self) -> u64
@@ -237,6 +292,27 @@ fn same_elements(a: &Value, b: &Value) -> bool
         }
     }
     true
+}
+
+// Whether an element is two numbers of four bytes.
+fn is_fraction(form: Form) -> bool
+    ensures { result ≡ true → width_of false form ≡ Pair }
+{
+    matches!(form, Form::Rational | Form::SRational)
+}
+
+// Whether a value is one SHORT, and is written as one.
+fn is_one_short(form: Form, widened: bool, raw: &[u8]) -> bool
+    ensures { result ≡ true → (form ≡ Short) × (widened ≡ false) × (length raw.now ≡ 2) }
+{
+    form == Form::Short && !widened && raw.len() == 2
+}
+
+// Whether a value is one LONG, widened or not.
+fn is_one_long(form: Form, raw: &[u8]) -> bool
+    ensures { result ≡ true → (form ≡ Long) × (length raw.now ≡ 4) }
+{
+    form == Form::Long && raw.len() == 4
 }
 
 // How many elements of a width have room in so many bytes, of `rest` elements. Mostly all have, which needs no division.
