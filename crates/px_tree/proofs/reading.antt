@@ -6,6 +6,7 @@ pub mod Loop
 pub mod Standing
 pub mod Pointers
 pub mod KeptUses
+pub mod NoUse
 pub mod Named
 pub mod Earlier
 pub mod Parted

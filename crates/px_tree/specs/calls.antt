@@ -7,3 +7,4 @@ pub mod Uses
 pub mod Linked
 pub mod ReadTree
 pub mod Parts
+pub mod Used

@@ -77,8 +77,8 @@ fn field_of<'a>(block: &'a [u8], order: Order, at: u32, shape: Shape) -> Option<
     }
 }
 
-// Keeps the field of an entry, if it is one.
-fn keep_field<'a>(
+// The same of any entry.
+fn keep_any_field<'a>(
     memory: &mut Memory,
     fields: &mut Fields<'a>,
     source: &Source<'a>,
@@ -101,6 +101,34 @@ fn keep_field<'a>(
             Ok(())
         }
         None => Ok(()),
+    }
+}
+
+// Keeps the field of an entry, if it is one. Most are plain.
+fn keep_field<'a>(
+    memory: &mut Memory,
+    fields: &mut Fields<'a>,
+    source: &Source<'a>,
+    at: u32,
+    shape: Shape,
+) -> Result<(), Refusal>
+    requires held { IsHeld source.now.block.now source.now.order at shape.head shape.form }
+    requires rising { Rising (tags fields.old) }
+    requires below { AllByRecursion (λ t. t < shape.head.tag) (tags fields.old) }
+    ensures kept { let b = source.now.block.now in let o = source.now.order in
+        IfOk result (λ _. fields.new ≡ fields.old
+        ++ option_to_list (option_map (λ v. (shape.head.tag, v))
+        (value_in b o (entry o (part b at 12)) shape.role shape.form))) }
+    ensures err { IfErr result (λ e. e ≡ OutOfMemory) }
+    ensures memory { LacksBlock result memory.old memory.new }
+{
+    match shape.role {
+        Role::Plain => {
+            let value = value_at(source.block, source.order, at, shape.head, shape.form);
+            fields.push(memory, shape.head.tag, value)?;
+            Ok(())
+        }
+        _ => keep_any_field(memory, fields, source, at, shape),
     }
 }
 

@@ -1,6 +1,7 @@
 // Directories, and what a tag is in each.
-ghost use Rattle.std.specs.Prelude.{◌≡◌};
+ghost use Rattle.std.specs.Prelude.{◌≡◌, ◌<◌, true};
 ghost use Rattle.px_tree.specs.Roles.{role};
+ghost use Rattle.px_tree.specs.calls.Used.{HasNoUse};
 
 use crate::tags::{
     EXIF_IFD_POINTER, FREE_OFFSETS, GPS_INFO_IFD_POINTER, IMAGE_LENGTH, IMAGE_WIDTH,
@@ -75,9 +76,9 @@ fn common_role(tag: u16) -> Role
     }
 }
 
-/// What a tag is in a directory.
+// What a tag is in a directory, whichever tag it is.
 #[tactic(auto, unfolding(crate::specs::Roles::role))]
-pub fn role_of(dir: Dir, tag: u16) -> Role
+fn any_role(dir: Dir, tag: u16) -> Role
     ensures { result ≡ role dir tag }
 {
     match (dir, tag) {
@@ -94,4 +95,38 @@ pub fn role_of(dir: Dir, tag: u16) -> Role
         (Dir::Thumb, IMAGE_WIDTH | IMAGE_LENGTH | ROWS_PER_STRIP) => Role::Widened,
         _ => common_role(tag),
     }
+}
+
+fn is_between(low: u16, tag: u16, high: u16) -> bool
+    ensures { result ≡ true → (low < tag) × (tag < high) }
+{
+    low < tag && tag < high
+}
+
+/// Whether a tag lies where no directory has a use of its own for any, nor refuses one. Most tags do, and are told by
+/// one comparison or two.
+pub fn has_no_use(tag: u16) -> bool
+    ensures { result ≡ true → HasNoUse tag }
+{
+    if is_between(JPEG_AC_TABLES, tag, IPTC_NAA) {
+        return true;
+    }
+    if is_between(GPS_INFO_IFD_POINTER, tag, PIXEL_X_DIMENSION) {
+        return true;
+    }
+    if tag > INTEROPERABILITY_IFD_POINTER {
+        return true;
+    }
+    tag < IMAGE_WIDTH
+}
+
+/// What a tag is in a directory.
+#[tactic(auto, using(crate::proofs::reading::NoUse::no_use_plain))]
+pub fn role_of(dir: Dir, tag: u16) -> Role
+    ensures { result ≡ role dir tag }
+{
+    if has_no_use(tag) {
+        return Role::Plain;
+    }
+    any_role(dir, tag)
 }

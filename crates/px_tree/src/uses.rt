@@ -5,6 +5,7 @@ ghost use Rattle.px_tree.specs.calls.Uses.{Keeps, NoUses, link_as, found_as};
 
 use crate::entries::Head;
 use crate::links::{Found, Link};
+use crate::roles::has_no_use;
 use crate::tags::{
     EXIF_IFD_POINTER, GPS_INFO_IFD_POINTER, INTEROPERABILITY_IFD_POINTER, IPTC_NAA,
     JPEG_INTERCHANGE_FORMAT, JPEG_INTERCHANGE_FORMAT_LENGTH, STRIP_BYTE_COUNTS, STRIP_OFFSETS,
@@ -48,7 +49,18 @@ fn is_one_long(head: Head) -> bool
 }
 
 // Keeps the entry at a place, if its tag has a use.
+#[tactic(auto, using(crate::proofs::reading::NoUse::keeps_none))]
 pub fn keep_use(uses: &mut Uses, head: Head, place: u32)
+    ensures { Keeps uses.old uses.new (found_as head place) }
+{
+    if has_no_use(head.tag) {
+        return;
+    }
+    keep_any(uses, head, place);
+}
+
+// The same of any tag.
+fn keep_any(uses: &mut Uses, head: Head, place: u32)
     ensures { Keeps uses.old uses.new (found_as head place) }
 {
     let found = Some(Found { head, place });
