@@ -2,3 +2,4 @@
 pub mod Beginnings
 pub mod Runs
 pub mod WriteNormal
+pub mod FieldBytes

@@ -1,15 +1,15 @@
 // Numbers, values and filler, put behind the bytes that wait for a writer.
-ghost use Rattle.std.specs.Prelude.{◌≡◌, ◌≤◌, ◌*◌, ◌%◌, length, replicate, flat_map};
+ghost use Rattle.std.specs.Prelude.{◌≡◌, ◌≤◌, ◌%◌, length, replicate, flat_map};
 ghost use Rattle.px_bytes.specs.Devices.{CanFail, Counts};
 ghost use Rattle.px_bytes.specs.Numbers.{spelling};
 ghost use Rattle.px_bytes.specs.Waiting.{PutsTo};
-ghost use Rattle.px_field.specs.Forms.{size};
-ghost use Rattle.px_field.specs.Values.{form_in, spell, spelled};
+ghost use Rattle.px_field.specs.Values.{spell, spelled};
+ghost use Rattle.px_tree.specs.Fits.{Field};
 ghost use Rattle.px_layout.specs.Laid.{long_bytes};
 ghost use Rattle.px_layout.specs.calls.Given.{head_bytes};
 ghost use Rattle.px_layout.specs.calls.Items.{item_of, entry_of, IsCounted};
 
-use crate::items::Entry;
+use crate::items::{Entry, Item};
 use px_bytes::{Failed, Order, Pending, Sink};
 use px_field::Value;
 
@@ -99,21 +99,8 @@ fn put_by_pieces<W: Sink>(
     Ok(())
 }
 
-// Spells a value whole, in as many bytes as it takes.
-pub(crate) fn spell_whole(order: Order, value: &Value, into: &mut [u8])
-    requires spelled { length into.old ≡ length (spelled order value.now) }
-    requires elements { length into.old ≡ length value.now.elements * size (form_in value.now.kind) }
-    ensures { into.new ≡ spelled order value.now }
-{
-    if let Some(same) = value.in_order(order) {
-        into.copy_from_slice(same);
-        return;
-    }
-    value.spell_many(order, 0, into);
-}
-
 // A value of eight bytes, as one RATIONAL: the most common that is placed.
-fn put_eight<W: Sink>(
+pub(crate) fn put_eight<W: Sink>(
     pending: &mut Pending,
     writer: &mut W,
     order: Order,
@@ -121,13 +108,10 @@ fn put_eight<W: Sink>(
 ) -> Result<(), Failed>
     requires few { CanFail (W.failed writer.old) }
     requires spelled { length (spelled order value.now) ≡ 8 }
-    requires elements { length value.now.elements * size (form_in value.now.kind) ≡ 8 }
     ensures bytes { PutsTo W.bytes_taken result writer.old writer.new pending.old pending.new (spelled order value.now) }
     ensures count { Counts result (W.failed writer.old) (W.failed writer.new) }
 {
-    let mut bytes = [0; 8];
-    spell_whole(order, value, &mut bytes);
-    pending.put(writer, &bytes)
+    pending.put(writer, &value.spell_eight(order))
 }
 
 // The bytes in which the elements of a short value are turned round. They are zeroed for each value, so they are few.
@@ -147,11 +131,7 @@ fn put_elements<W: Sink>(
     ensures bytes { PutsTo W.bytes_taken result writer.old writer.new pending.old pending.new (flat_map (spell order) value.now.elements) }
     ensures count { Counts result (W.failed writer.old) (W.failed writer.new) }
 {
-    let size = value.size();
-    if size == 8 {
-        return put_eight(pending, writer, order, value);
-    }
-    if size <= FEW as u64 {
+    if value.size() <= FEW as u64 {
         return put_by_pieces(pending, writer, order, value, &mut [0; FEW]);
     }
     put_by_pieces(pending, writer, order, value, &mut [0; MANY])
@@ -173,6 +153,18 @@ pub fn put_value<W: Sink>(
         return pending.put(writer, bytes);
     }
     put_elements(pending, writer, order, value)
+}
+
+// The entry of a field, up to its last field.
+pub(crate) fn field_head(order: Order, tag: u16, value: &Value) -> [u8; 8]
+    ensures { result ≡ head_bytes order (tag, Field value.now) }
+{
+    let form = Item::Field(value).form();
+    let mut head = [0; 8];
+    order.put16(tag, &mut head[..2]);
+    order.put16(form.code(), &mut head[2..4]);
+    order.put32(value.count(), &mut head[4..]);
+    head
 }
 
 /// An entry up to its last field: tag, type, count. TIFF 6.0 section 2, "IFD Entry".

@@ -13,15 +13,17 @@ ghost use Rattle.px_layout.specs.Laid.{item_bytes, contents_of_dir, contents};
 ghost use Rattle.px_layout.specs.Normal.{normal_exif, padded};
 ghost use Rattle.px_layout.specs.calls.Given.{TellsAll};
 ghost use Rattle.px_layout.specs.calls.Forms.{said_in, plan_in, IsForm};
-ghost use Rattle.px_layout.specs.Writing.{placed_bytes};
+ghost use Rattle.px_layout.specs.Writing.{placed_bytes, field_bytes};
+ghost use Rattle.px_field.specs.Values.{spelled};
 
 use crate::entries::{Entries, entries_in};
 use crate::form::NormalForm;
-use crate::items::Entry;
-use crate::put::put_padding;
+use crate::items::{Entry, Item};
+use crate::put::{put_eight, put_padding, put_value};
 use crate::put_running::{put_running_header, put_running_table, put_told_item};
 use crate::put_thumb::put_thumb;
 use px_bytes::{Failed, Order, Pending, Sink};
+use px_field::Value;
 use px_tree::{Dir, needs_place};
 
 // The value of an entry, padded.
@@ -46,8 +48,42 @@ fn put_padded_item<W: Sink>(
     put_padding(pending, writer, item.size())
 }
 
+// The value of a field, padded.
+fn put_padded_field<W: Sink>(
+    pending: &mut Pending,
+    writer: &mut W,
+    value: &Value,
+) -> Result<(), Failed>
+    requires few { CanFail (W.failed writer.old) }
+    ensures bytes { PutsTo W.bytes_taken result writer.old writer.new pending.old pending.new (padded (spelled Order.Most value.now)) }
+    ensures count { Counts result (W.failed writer.old) (W.failed writer.new) }
+{
+    put_value(pending, writer, Order::Most, value)?;
+    put_padding(pending, writer, value.size())
+}
+
+// The value of a field, padded; nothing where it stands in its entry.
+fn put_placed_field<W: Sink>(
+    pending: &mut Pending,
+    writer: &mut W,
+    value: &Value,
+) -> Result<(), Failed>
+    requires few { CanFail (W.failed writer.old) }
+    ensures bytes { PutsTo W.bytes_taken result writer.old writer.new pending.old pending.new (field_bytes value.now) }
+    ensures count { Counts result (W.failed writer.old) (W.failed writer.new) }
+{
+    let size = value.size();
+    if size == 8 {
+        return put_eight(pending, writer, Order::Most, value);
+    }
+    if needs_place(size) {
+        return put_padded_field(pending, writer, value);
+    }
+    Ok(())
+}
+
 // A value that is placed; nothing where it stands in its entry.
-fn put_placed<W: Sink>(
+fn put_any_placed<W: Sink>(
     pending: &mut Pending,
     writer: &mut W,
     form: &NormalForm,
@@ -67,6 +103,29 @@ fn put_placed<W: Sink>(
         return put_padded_item(pending, writer, form, dir, entry);
     }
     Ok(())
+}
+
+// The same. Most entries are fields, whose values are put with no look at what else an entry may say.
+fn put_placed<W: Sink>(
+    pending: &mut Pending,
+    writer: &mut W,
+    form: &NormalForm,
+    dir: Dir,
+    entry: &Entry,
+) -> Result<(), Failed>
+    requires few { CanFail (W.failed writer.old) }
+    requires form { IsForm form.now }
+    requires counted { IsCounted (item_of entry.now.item) }
+    requires suits { Suits (role dir entry.now.tag) (item_of entry.now.item) }
+    requires tells { TellsAll (said_in form.now) (item_of entry.now.item) }
+    ensures bytes { PutsTo W.bytes_taken result writer.old writer.new pending.old pending.new
+        (placed_bytes (plan_in form.now) (entry_of entry.now)) }
+    ensures count { Counts result (W.failed writer.old) (W.failed writer.new) }
+{
+    match entry.item {
+        Item::Field(value) => put_placed_field(pending, writer, value),
+        _ => put_any_placed(pending, writer, form, dir, entry),
+    }
 }
 
 // The placed values of a directory, by ascending tag.

@@ -12,14 +12,14 @@ ghost use Rattle.px_layout.specs.Laid.{long_bytes, item_bytes, entry_bytes, next
 ghost use Rattle.px_layout.specs.Normal.{normal_plan};
 ghost use Rattle.px_layout.specs.Plans.{place};
 ghost use Rattle.px_layout.specs.lemmas.RunLaws.{start, strips_start, value_size};
-ghost use Rattle.px_layout.specs.calls.Given.{head_bytes, entry_given, strip_list, TellsAll, near_given, strips_size, strip_places};
+ghost use Rattle.px_layout.specs.calls.Given.{head_bytes, entry_given, field_given, strip_list, TellsAll, near_given, strips_size, strip_places};
 ghost use Rattle.px_layout.specs.calls.Forms.{said_in, plan_in, IsForm};
 
 use crate::chunks::Chunk;
 use crate::entries::{Entries, is_there};
 use crate::form::NormalForm;
 use crate::items::{Entry, Item};
-use crate::put::{entry_head, put_filler, put_long, put_short, put_value, spell_whole};
+use crate::put::{entry_head, field_head, put_filler, put_long, put_short, put_value};
 use crate::put_strips::{AT_ONCE, put_strip_lengths};
 use crate::tables::table_len;
 use px_bytes::{Failed, Order, Pending, Sink};
@@ -187,28 +187,44 @@ fn entry_to(at: u32, entry: &Entry) -> [u8; 12]
     bytes
 }
 
-// The last field of an entry with a value of at most four bytes: the value, and zeros behind it.
-fn last_field(value: &Value) -> [u8; 4]
-    requires { item_size (Field value.now) ≤ 4 }
-    ensures { result ≡ spelled Order.Most value.now ++ replicate (4 - item_size (Field value.now)) 0 }
-{
-    let mut last = [0; 4];
-    let size = value.size() as usize;
-    spell_whole(Order::Most, value, &mut last[..size]);
-    last
-}
-
-// An entry whose value is its last field: its twelve bytes, so that one call puts them.
-fn entry_with(value: &Value, entry: &Entry) -> [u8; 12]
-    requires counted { IsCounted (item_of entry.now.item) }
-    requires short { item_size (Field value.now) ≤ 4 }
-    ensures { result ≡ head_bytes Order.Most (entry_of entry.now)
-        ++ (spelled Order.Most value.now ++ replicate (4 - item_size (Field value.now)) 0) }
+// The entry of a field whose value stands at `at`.
+fn field_to(at: u32, tag: u16, value: &Value) -> [u8; 12]
+    ensures { result ≡ head_bytes Order.Most (tag, Field value.now) ++ long_bytes Order.Most at }
 {
     let mut bytes = [0; 12];
-    bytes[..8].copy_from_slice(&entry_head(Order::Most, entry));
-    bytes[8..].copy_from_slice(&last_field(value));
+    bytes[..8].copy_from_slice(&field_head(Order::Most, tag, value));
+    Order::Most.put32(at, &mut bytes[8..]);
     bytes
+}
+
+// The entry of a field whose value is its last field: the value, and zeros behind it.
+fn field_with(tag: u16, value: &Value) -> [u8; 12]
+    requires { length (spelled Order.Most value.now) ≤ 4 }
+    ensures { result ≡ head_bytes Order.Most (tag, Field value.now)
+        ++ (spelled Order.Most value.now ++ replicate (4 - length (spelled Order.Most value.now)) 0) }
+{
+    let mut bytes = [0; 12];
+    bytes[..8].copy_from_slice(&field_head(Order::Most, tag, value));
+    bytes[8..].copy_from_slice(&value.spell_four(Order::Most));
+    bytes
+}
+
+// The entry of a field, whose value stands at `at` if it has a place of its own.
+fn put_field_entry<W: Sink>(
+    pending: &mut Pending,
+    writer: &mut W,
+    at: u32,
+    tag: u16,
+    value: &Value,
+) -> Result<(), Failed>
+    requires few { CanFail (W.failed writer.old) }
+    ensures bytes { PutsTo W.bytes_taken result writer.old writer.new pending.old pending.new (field_given at tag value.now) }
+    ensures count { Counts result (W.failed writer.old) (W.failed writer.new) }
+{
+    if needs_place(value.size()) {
+        return pending.put(writer, &field_to(at, tag, value));
+    }
+    pending.put(writer, &field_with(tag, value))
 }
 
 // An entry whose value is its last field, with padding behind it.
@@ -227,9 +243,6 @@ fn put_near_entry<W: Sink>(
         (near_given (plan_in form.now) (entry_of entry.now)) }
     ensures count { Counts result (W.failed writer.old) (W.failed writer.new) }
 {
-    if let Item::Field(value) = entry.item {
-        return pending.put(writer, &entry_with(value, entry));
-    }
     let size = entry.item.size();
     pending.put(writer, &entry_head(Order::Most, entry))?;
     put_told_item(pending, writer, form, entry.item)?;
@@ -237,7 +250,7 @@ fn put_near_entry<W: Sink>(
 }
 
 // An entry, whose value stands at `at` if it has a place of its own. Else the value is its last field, with padding behind it.
-fn put_given_entry<W: Sink>(
+fn put_any_entry<W: Sink>(
     pending: &mut Pending,
     writer: &mut W,
     form: &NormalForm,
@@ -256,6 +269,28 @@ fn put_given_entry<W: Sink>(
         return pending.put(writer, &entry_to(at, entry));
     }
     put_near_entry(pending, writer, form, entry)
+}
+
+// The same. Most entries are fields, whose twelve bytes are put with no look at what else an entry may say.
+fn put_given_entry<W: Sink>(
+    pending: &mut Pending,
+    writer: &mut W,
+    form: &NormalForm,
+    at: u32,
+    entry: &Entry,
+) -> Result<(), Failed>
+    requires few { CanFail (W.failed writer.old) }
+    requires form { IsForm form.now }
+    requires counted { IsCounted (item_of entry.now.item) }
+    requires tells { TellsAll (said_in form.now) (item_of entry.now.item) }
+    ensures bytes { PutsTo W.bytes_taken result writer.old writer.new pending.old pending.new
+        (entry_given (plan_in form.now) at (entry_of entry.now)) }
+    ensures count { Counts result (W.failed writer.old) (W.failed writer.new) }
+{
+    match entry.item {
+        Item::Field(value) => put_field_entry(pending, writer, at, entry.tag, value),
+        _ => put_any_entry(pending, writer, form, at, entry),
+    }
 }
 
 // Where the value of the next entry stands.

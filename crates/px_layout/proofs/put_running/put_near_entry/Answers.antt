@@ -1,15 +1,14 @@
-use Rattle.std.proofs.Common.{◌≡◌, ◌∙◌, ◌-◌, ◌++◌, ℕ, List, replicate, refl, sym, ap}
+use Rattle.std.proofs.Common.{◌≡◌, ◌∙◌, ◌-◌, ◌++◌, ℕ, List, replicate, ap}
 use Rattle.std.proofs.lemmas.Result.{err_from_is_err_and}
 use Rattle.px_bytes.specs.lemmas.WaitingLaws.{puts_to_both}
 use Rattle.px_bytes.specs.declared.Order.TheVariants.{Most}
-use Rattle.px_field.specs.Values.{Value, spelled}
-use Rattle.px_tree.specs.Fits.{Item, Field, item_size}
+use Rattle.px_tree.specs.Fits.{Item, item_size}
 use Rattle.px_layout.specs.Laid.{item_bytes}
 use Rattle.px_layout.specs.Plans.{Plan}
 use Rattle.px_layout.specs.calls.Forms.{plan_in}
 use Rattle.px_layout.specs.calls.Given.{head_bytes, near_given}
 use Rattle.px_layout.specs.calls.Items.{item_of, entry_of}
-use Rattle.px_layout.specs.lemmas.PutLaws.{both_as, first_as, fails_as, second_of, puts_as}
+use Rattle.px_layout.specs.lemmas.PutLaws.{both_as, first_as, fails_as, second_of}
 use Rattle.px_layout.proofs.put_running.put_near_entry.Goals as goal
 
 -- where the size is known by another name
@@ -19,19 +18,6 @@ unfolding near_given
 near plan i n head s e =
     ap (λ (k : ℕ). head ++ (item_bytes plan Most 0 i.1 ++ replicate (4 - k) 0)) s
     ∙ ap (λ (x : List ℕ). x ++ (item_bytes plan Most 0 i.1 ++ replicate (4 - item_size i.1) 0)) e
-
--- where the item is a field
-near_field : (plan : Plan) (i : ℕ × Item) (v : Value) → i.1 ≡ Field v
-    → head_bytes Most i ++ (spelled Most v ++ replicate (4 - item_size (Field v)) 0) ≡ near_given plan i
-unfolding near_given item_bytes
-near_field plan i v e =
-    ap (λ (x : Item). head_bytes Most i ++ (item_bytes plan Most 0 x ++ replicate (4 - item_size x) 0)) (sym e)
-
-pub returns-in-Field-clause-bytes : goal.returns-in-Field-clause-bytes
-returns-in-Field-clause-bytes g c =
-    puts_as g.W.Sink.bytes_taken c.put.result _ _ c.args.pending.now c.put.new.self _ _
-    (c.entry_with.ensures ∙ near_field (plan_in c.args.form.now) (entry_of c.args.entry.now) c.in-Field.value.now
-    (ap item_of c.in-Field.is)) (c.put.ensures.bytes, c.put.ensures.waits)
 
 pub returns-in_err-put-clause-bytes : goal.returns-in_err-put-clause-bytes
 returns-in_err-put-clause-bytes g c =
@@ -47,16 +33,16 @@ returns-in_err-put_told_item-clause-bytes g c =
     let spare = replicate (4 - c.size-size.result) 0 in
     rw p.1 (fails_as g.W.Sink.bytes_taken _ _ c.args.pending.now _ _ (near (plan_in c.args.form.now)
     (entry_of c.args.entry.now) c.size-size.result c.entry_head.result c.size-size.ensures c.entry_head.ensures)
-    (second_of g.W.Sink.bytes_taken _ _ _ c.args.pending.now c.put-2.new.self c.entry_head.result value spare
+    (second_of g.W.Sink.bytes_taken _ _ _ c.args.pending.now c.put.new.self c.entry_head.result value spare
     (c.in_ok-put.ensures.bytes, c.in_ok-put.ensures.waits) c.in_err-put_told_item.ensures.bytes))
 
 pub returns-clause-bytes : goal.returns-clause-bytes
 returns-clause-bytes g c =
     let value = item_bytes (plan_in c.args.form.now) Most 0 (item_of c.args.entry.now.item) in
     let spare = replicate (4 - c.size-size.result) 0 in
-    both_as g.W.Sink.bytes_taken c.put_filler.result _ _ _ c.args.pending.now c.put-2.new.self c.put_filler.new.pending _ _ _
+    both_as g.W.Sink.bytes_taken c.put_filler.result _ _ _ c.args.pending.now c.put.new.self c.put_filler.new.pending _ _ _
     (near (plan_in c.args.form.now) (entry_of c.args.entry.now) c.size-size.result c.entry_head.result
     c.size-size.ensures c.entry_head.ensures)
     (c.in_ok-put.ensures.bytes, c.in_ok-put.ensures.waits)
-    (puts_to_both g.W.Sink.bytes_taken c.put_filler.result _ _ _ c.put-2.new.self c.put_told_item.new.pending c.put_filler.new.pending
+    (puts_to_both g.W.Sink.bytes_taken c.put_filler.result _ _ _ c.put.new.self c.put_told_item.new.pending c.put_filler.new.pending
     value spare c.in_ok-put_told_item.ensures.bytes c.put_filler.ensures.bytes)
