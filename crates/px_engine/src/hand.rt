@@ -11,9 +11,8 @@ ghost use Rattle.px_engine.specs.Prints.{IsTextOf};
 
 use crate::faults::{CompareFault, Fault, Side};
 use crate::forms::form_of;
-use crate::judging::{judge, judge_side, kind_in};
+use crate::judging::{judge, judge_side, kind_in, same_second};
 use crate::kinds::BlockKind;
-use crate::meanings::same;
 use crate::texts::{caption_text, listing};
 use px_bytes::Memory;
 use std::alloc::Global;
@@ -27,7 +26,9 @@ pub fn check_of_in(memory: &mut Memory, file: &[u8]) -> Result<BlockKind, Fault>
     ensures memory { LacksRun result memory.old memory.new }
 {
     let said = judge(memory, file)?;
-    Ok(kind_in(&said))
+    let kind = kind_in(&said);
+    drop(said);
+    Ok(kind)
 }
 
 /// The same with memory of its own.
@@ -68,7 +69,9 @@ pub fn show_of_in(memory: &mut Memory, file: &[u8]) -> Result<Vec<u8>, Fault>
     ensures memory { LacksRun result memory.old memory.new }
 {
     let said = judge(memory, file)?;
-    match listing(memory, &said) {
+    let text = listing(memory, &said);
+    drop(said);
+    match text {
         Ok(text) => Ok(text),
         Err(_) => Err(Fault::OutOfMemory),
     }
@@ -91,7 +94,9 @@ pub fn captions_text_in(memory: &mut Memory, file: &[u8]) -> Result<Vec<u8>, Fau
     ensures memory { LacksRun result memory.old memory.new }
 {
     let said = judge(memory, file)?;
-    match caption_text(memory, &said) {
+    let text = caption_text(memory, &said);
+    drop(said);
+    match text {
         Ok(text) => Ok(text),
         Err(_) => Err(Fault::OutOfMemory),
     }
@@ -115,8 +120,9 @@ pub fn same_of_in(memory: &mut Memory, first: &[u8], second: &[u8]) -> Result<bo
     ensures memory { LacksPair result memory.old memory.new }
 {
     let said = judge_side(memory, first, Side::First)?;
-    let other = judge_side(memory, second, Side::Second)?;
-    Ok(same(&said, &other))
+    let same = same_second(memory, &said, second);
+    drop(said);
+    same
 }
 
 /// The same with memory of its own.

@@ -3,12 +3,13 @@ ghost use Rattle.std.specs.Prelude.{◌≡◌, IfOk, IfErr};
 ghost use Rattle.px_engine.specs.Files.{kind_said};
 ghost use Rattle.px_engine.specs.Input.{IsSaid, IsUnsaid};
 ghost use Rattle.px_engine.specs.Lacking.{LacksRun, LacksPair};
+ghost use Rattle.px_engine.specs.calls.Second.{SaysSecond};
 ghost use Rattle.px_engine.specs.calls.Seen.{said_of};
 
 use crate::faults::{CompareFault, Fault, Side};
 use crate::input::read_any_in;
 use crate::kinds::BlockKind;
-use crate::meanings::Said;
+use crate::meanings::{Said, same};
 use px_bytes::Memory;
 
 // What a file says, or the fault of a run.
@@ -38,6 +39,22 @@ pub(crate) fn judge_side<'a>(
         Ok(said) => Ok(said),
         Err(fault) => Err(CompareFault { side, fault }),
     }
+}
+
+// Judges the second of two files, and answers whether it says what the first does. What a file says is
+// given up by a call wherever it is owned: a body that drops it at its end has all its fields to give up.
+pub(crate) fn same_second(
+    memory: &mut Memory,
+    said: &Said,
+    second: &[u8],
+) -> Result<bool, CompareFault>
+    ensures same { SaysSecond result (said_of said.now) second.now memory.new }
+    ensures memory { LacksPair result memory.old memory.new }
+{
+    let other = judge_side(memory, second, Side::Second)?;
+    let same = same(said, &other);
+    drop(other);
+    Ok(same)
 }
 
 // The kind of block that says it.

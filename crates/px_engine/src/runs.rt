@@ -13,9 +13,9 @@ ghost use Rattle.px_bytes.specs.Devices.{CanFail};
 use crate::faults::{CompareFault, Fault, Side};
 use crate::hand::check_of_in;
 use crate::input::{read_all_in, read_side};
-use crate::judging::{judge, judge_side};
+use crate::judging::{judge, judge_side, same_second};
 use crate::kinds::BlockKind;
-use crate::meanings::{Said, same};
+use crate::meanings::Said;
 use crate::texts::{write_captions, write_listing};
 use crate::writing::write_said;
 use px_bytes::{Memory, Sink, Source};
@@ -45,7 +45,9 @@ pub fn normalise_in<R: Source, W: Sink>(
 {
     let file = read_all_in(memory, reader)?;
     let said = judge(memory, &file)?;
-    write_said(&said, writer)
+    let done = write_said(&said, writer);
+    drop(said);
+    done
 }
 
 /// The same with memory of its own.
@@ -112,7 +114,9 @@ pub fn show_in<R: Source, W: Sink>(
 {
     let file = read_all_in(memory, reader)?;
     let said = judge(memory, &file)?;
-    write_listing(&said, writer)
+    let done = write_listing(&said, writer);
+    drop(said);
+    done
 }
 
 /// The same with memory of its own.
@@ -148,7 +152,9 @@ pub fn captions_in<R: Source, W: Sink>(
 {
     let file = read_all_in(memory, reader)?;
     let said = judge(memory, &file)?;
-    write_captions(&said, writer)
+    let done = write_captions(&said, writer);
+    drop(said);
+    done
 }
 
 /// The same with memory of its own.
@@ -180,8 +186,7 @@ fn compare_second<S: Source>(
     ensures memory { LacksPair result memory.old memory.new }
 {
     let file = read_side(memory, second, Side::Second)?;
-    let other = judge_side(memory, &file, Side::Second)?;
-    Ok(same(said, &other))
+    same_second(memory, said, &file)
 }
 
 /// Reads two files and answers whether they say the same: the same tree of directories, or the same
@@ -206,7 +211,9 @@ pub fn compare_in<R: Source, S: Source>(
 {
     let file = read_side(memory, first, Side::First)?;
     let said = judge_side(memory, &file, Side::First)?;
-    compare_second(memory, &said, second)
+    let same = compare_second(memory, &said, second);
+    drop(said);
+    same
 }
 
 /// The same with memory of its own.

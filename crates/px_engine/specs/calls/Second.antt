@@ -3,6 +3,7 @@ use Rattle.std.specs.Prelude.{◌≡◌, ◌↔◌, ℕ, Bool, IsTrue, List, Opt
 use Rattle.px_engine.specs.declared.faults.CompareFault.{CompareFault}
 use Rattle.px_engine.specs.declared.faults.Side.TheVariants.{Second}
 use Rattle.px_engine.specs.Files.{Said}
+use Rattle.px_engine.specs.Input.{IsSaid, IsUnsaid}
 use Rattle.px_engine.specs.Runs.{KnownSaid, Stops, CountsFault}
 
 -- whether it says the same; or the fault is the second file's
@@ -14,3 +15,8 @@ ComparesSecond (Err e) s second = (e.side ≡ Second) × Stops e.fault second
 abbrev pub CountsSecond : Result Bool CompareFault → ℕ → ℕ → Type 0
 CountsSecond (Ok same) second second_now = second_now ≡ second
 CountsSecond (Err e) second second_now = CountsFault e.fault second second_now
+
+-- the same of a file in hand
+abbrev pub SaysSecond : Result Bool CompareFault → Said → List ℕ → Bool → Type 0
+SaysSecond (Ok same) s g refused = (t : Said) × IsSaid g t × (IsTrue same ↔ (s ≡ t))
+SaysSecond (Err e) s g refused = (e.side ≡ Second) × IsUnsaid g refused e.fault

@@ -29,18 +29,18 @@ returns-in_err-said-clause-memory g c =
 
 pub returns-clause-done : goal.returns-clause-done
 returns-clause-done g c =
-    compared c.compare_second.result _ _ (said_of c.in_ok-said.said)
+    compared c.compare_second-same.result _ _ (said_of c.in_ok-said.said)
     (known_said _ _ c.deref.result.now _ (read_as _ _ _ _ c.deref.ensures.value c.in_ok-file.ensures.found) c.in_ok-said.ensures.said)
-    c.compare_second.ensures.done
+    c.compare_second-same.ensures.done
 
 pub returns-clause-untouched : goal.returns-clause-untouched
-returns-clause-untouched g c = untouched c.compare_second.result _ _ _ _ c.compare_second.ensures.done
+returns-clause-untouched g c = untouched c.compare_second-same.result _ _ _ _ c.compare_second-same.ensures.done
 
 pub returns-clause-reads : goal.returns-clause-reads
 returns-clause-reads g c =
-    counted c.compare_second.result _ _ _ _ _ _ c.in_ok-file.ensures.count c.compare_second.ensures.done c.compare_second.ensures.reads
+    counted c.compare_second-same.result _ _ _ _ _ _ c.in_ok-file.ensures.count c.compare_second-same.ensures.done c.compare_second-same.ensures.reads
 
 pub returns-clause-memory : goal.returns-clause-memory
 returns-clause-memory g c =
-    lacks_compared c.compare_second.result _ _ _ (c.in_ok-said.ensures.memory ∙ c.in_ok-file.ensures.memory)
-    c.compare_second.ensures.memory
+    lacks_compared c.compare_second-same.result _ _ _ (c.in_ok-said.ensures.memory ∙ c.in_ok-file.ensures.memory)
+    c.compare_second-same.ensures.memory

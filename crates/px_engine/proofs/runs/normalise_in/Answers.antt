@@ -6,8 +6,8 @@ use Rattle.px_engine.proofs.Ended.{normalised, not_normalised, lacks_nothing, la
 use Rattle.px_engine.proofs.runs.normalise_in.Goals as goal
 
 pub returns-clause-done : goal.returns-clause-done
-returns-clause-done g c = normalised c.write_said.result _ _ c.deref.result.now (said_of c.in_ok-said.said) _ _ _ _
-    (read_as _ _ _ _ c.deref.ensures.value c.in_ok-file.ensures.found) c.in_ok-said.ensures.said c.write_said.ensures
+returns-clause-done g c = normalised c.write_said-done.result _ _ c.deref.result.now (said_of c.in_ok-said.said) _ _ _ _
+    (read_as _ _ _ _ c.deref.ensures.value c.in_ok-file.ensures.found) c.in_ok-said.ensures.said c.write_said-done.ensures
 
 pub returns-in_err-said-clause-done : goal.returns-in_err-said-clause-done
 returns-in_err-said-clause-done g c =
@@ -17,7 +17,7 @@ returns-in_err-said-clause-done g c =
 
 pub returns-clause-memory : goal.returns-clause-memory
 returns-clause-memory g c =
-    lacks_nothing c.write_said.result _ _ _ _ _ _ _ (c.in_ok-said.ensures.memory ∙ c.in_ok-file.ensures.memory) c.write_said.ensures
+    lacks_nothing c.write_said-done.result _ _ _ _ _ _ _ (c.in_ok-said.ensures.memory ∙ c.in_ok-file.ensures.memory) c.write_said-done.ensures
 
 pub returns-in_err-said-clause-memory : goal.returns-in_err-said-clause-memory
 returns-in_err-said-clause-memory g c =
