@@ -1,8 +1,8 @@
 -- Parts put one behind another, by calls that may fail.
-use Rattle.std.proofs.Common.{◌≡◌, ◌++◌, ◌∙◌, ℕ, List, [], ◌∷◌, Option, Result, refl, sym, ap, subst, append_assoc, append-nil}
+use Rattle.std.proofs.Common.{◌≡◌, ◌+◌, ◌++◌, ◌∙◌, ℕ, List, [], ◌∷◌, Option, Result, refl, sym, ap, subst, append_assoc, append-nil}
 use Rattle.std.specs.List.{flat_map}
 use Rattle.std.proofs.KnownBytes.{Appends-nil}
-use Rattle.px_bytes.specs.Devices.{AppendsPrefix}
+use Rattle.px_bytes.specs.Devices.{AppendsPrefix, CanFail, Counts}
 use Rattle.px_bytes.specs.Waiting.{Owes, Puts}
 use Rattle.px_bytes.specs.lemmas.WriteLaws.{prefix_first}
 use Rattle.px_bytes.specs.lemmas.WaitingLaws.{owes_more, owes_stop}
@@ -26,6 +26,17 @@ prefix_as a b h xs ys e p = subst (λ (z : List ℕ). AppendsPrefix a b (h ++ z)
 
 pub owes_as : (a b : Option (List ℕ)) (h k xs ys : List ℕ) → xs ≡ ys → Owes a b k (h ++ xs) → Owes a b k (h ++ ys)
 owes_as a b h k xs ys e p = subst (λ (z : List ℕ). Owes a b k (h ++ z)) e p
+
+-- ---- the count of failures, where none was counted so far
+
+pub can_fail : (old now : ℕ) → now ≡ old → CanFail old → CanFail now
+can_fail old now e h = subst CanFail (sym e) h
+
+pub fails : (old now new : ℕ) → now ≡ old → new ≡ now + 1 → new ≡ old + 1
+fails old now new e h = h ∙ ap (λ (n : ℕ). n + 1) e
+
+pub counts : {A E : Type 0} (r : Result A E) (old now new : ℕ) → now ≡ old → Counts r now new → Counts r old new
+counts r old now new e h = subst (λ (n : ℕ). Counts r n new) e h
 
 -- ---- a walk: the parts of the elements that are left make the rest
 

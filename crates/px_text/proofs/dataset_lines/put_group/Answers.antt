@@ -4,6 +4,7 @@ use Rattle.px_bytes.specs.lemmas.WaitingLaws.{owed_more, owed_stop}
 use Rattle.px_iim.specs.calls.View.{item_view}
 use Rattle.px_text.specs.Listing.{dataset_line}
 use Rattle.px_text.proofs.Parts.{read_at}
+use Rattle.px_text.proofs.Chains.{can_fail, fails}
 use Rattle.px_text.proofs.dataset_lines.put_group.Goals as goal
 
 pub returns-in_err-put_dataset-clause-bytes : goal.returns-in_err-put_dataset-clause-bytes
@@ -20,3 +21,14 @@ loop-item-preserved g c = record {
       _ _ _ c.args.pending.now c.loop-item.pending c.put_dataset.new.pending c.loop-item.invariant.owes c.in_ok-put_dataset.ensures.bytes;
   count = c.in_ok-put_dataset.ensures.count ∙ c.loop-item.invariant.count;
 }
+
+pub put_dataset-requires : goal.put_dataset-requires
+put_dataset-requires g c = can_fail _ _ c.loop-item.invariant.count c.requires
+
+pub returns-in_err-put_dataset-clause-count : goal.returns-in_err-put_dataset-clause-count
+returns-in_err-put_dataset-clause-count g c =
+    let p = err_from_is_err_and c.from_residual.result c.from_residual.ensures.1 in
+    rw p.1 (fails _ _ _ c.loop-item.invariant.count c.in_err-put_dataset.ensures.count)
+
+pub returns-clause-count : goal.returns-clause-count
+returns-clause-count g c = c.loop-item.invariant.count

@@ -4,6 +4,7 @@ use Rattle.std.specs.Prelude.{codes}
 use Rattle.px_bytes.specs.lemmas.WaitingLaws.{owed_more, owed_stop}
 use Rattle.px_field.specs.declared.Element.{Element}
 use Rattle.px_text.specs.Listing.{element_text}
+use Rattle.px_text.proofs.Chains.{can_fail, fails}
 use Rattle.px_text.proofs.field_lines.put_elements.Goals as goal
 
 pub returns-in_err-put_apart-clause-bytes : goal.returns-in_err-put_apart-clause-bytes
@@ -20,3 +21,14 @@ loop-i-preserved g c = record {
       _ _ _ c.args.pending.now c.loop-i.pending c.put_apart.new.pending c.loop-i.invariant.owes c.in_ok-put_apart.ensures.bytes;
   count = c.in_ok-put_apart.ensures.count ∙ c.loop-i.invariant.count;
 }
+
+pub put_apart-requires : goal.put_apart-requires
+put_apart-requires g c = can_fail _ _ c.loop-i.invariant.count c.requires
+
+pub returns-in_err-put_apart-clause-count : goal.returns-in_err-put_apart-clause-count
+returns-in_err-put_apart-clause-count g c =
+    let p = err_from_is_err_and c.from_residual.result c.from_residual.ensures.1 in
+    rw p.1 (fails _ _ _ c.loop-i.invariant.count c.in_err-put_apart.ensures.count)
+
+pub returns-clause-count : goal.returns-clause-count
+returns-clause-count g c = c.loop-i.invariant.count

@@ -3,6 +3,7 @@ use Rattle.std.proofs.lemmas.Result.{err_from_is_err_and}
 use Rattle.px_bytes.specs.lemmas.WaitingLaws.{owed_more, owed_stop}
 use Rattle.px_field.specs.Values.{Value}
 use Rattle.px_text.specs.Listing.{field_line}
+use Rattle.px_text.proofs.Chains.{can_fail, fails}
 use Rattle.px_text.proofs.field_lines.put_fields.Goals as goal
 
 pub returns-in_err-put_field-clause-bytes : goal.returns-in_err-put_field-clause-bytes
@@ -17,3 +18,14 @@ loop-i-preserved g c = record {
       _ _ _ c.args.pending.now c.loop-i.pending c.put_field.new.pending c.loop-i.invariant.owes c.in_ok-put_field.ensures.bytes;
   count = c.in_ok-put_field.ensures.count ∙ c.loop-i.invariant.count;
 }
+
+pub put_field-requires : goal.put_field-requires
+put_field-requires g c = can_fail _ _ c.loop-i.invariant.count c.requires
+
+pub returns-in_err-put_field-clause-count : goal.returns-in_err-put_field-clause-count
+returns-in_err-put_field-clause-count g c =
+    let p = err_from_is_err_and c.from_residual.result c.from_residual.ensures.1 in
+    rw p.1 (fails _ _ _ c.loop-i.invariant.count c.in_err-put_field.ensures.count)
+
+pub returns-clause-count : goal.returns-clause-count
+returns-clause-count g c = c.loop-i.invariant.count

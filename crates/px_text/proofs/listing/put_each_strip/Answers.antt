@@ -2,6 +2,7 @@ use Rattle.std.proofs.Common.{◌∙◌}
 use Rattle.std.proofs.lemmas.Result.{err_from_is_err_and}
 use Rattle.px_bytes.specs.lemmas.WaitingLaws.{owed_more, owed_stop}
 use Rattle.px_text.specs.Listing.{strip_line}
+use Rattle.px_text.proofs.Chains.{can_fail, fails}
 use Rattle.px_text.proofs.listing.put_each_strip.Goals as goal
 
 pub returns-in_err-put_strip-clause-bytes : goal.returns-in_err-put_strip-clause-bytes
@@ -16,3 +17,14 @@ loop-i-preserved g c = record {
       _ _ _ c.args.pending.now c.loop-i.pending c.put_strip.new.pending c.loop-i.invariant.owes c.in_ok-put_strip.ensures.bytes;
   count = c.in_ok-put_strip.ensures.count ∙ c.loop-i.invariant.count;
 }
+
+pub put_strip-requires : goal.put_strip-requires
+put_strip-requires g c = can_fail _ _ c.loop-i.invariant.count c.requires
+
+pub returns-in_err-put_strip-clause-count : goal.returns-in_err-put_strip-clause-count
+returns-in_err-put_strip-clause-count g c =
+    let p = err_from_is_err_and c.from_residual.result c.from_residual.ensures.1 in
+    rw p.1 (fails _ _ _ c.loop-i.invariant.count c.in_err-put_strip.ensures.count)
+
+pub returns-clause-count : goal.returns-clause-count
+returns-clause-count g c = c.loop-i.invariant.count
