@@ -1,6 +1,7 @@
 -- Parts put one behind another, by calls that may fail.
-use Rattle.std.proofs.Common.{◌≡◌, ◌+◌, ◌++◌, ◌∙◌, ℕ, List, [], ◌∷◌, Option, Result, refl, sym, ap, subst, append_assoc, append-nil}
+use Rattle.std.proofs.Common.{◌≡◌, ◌≤◌, ◌+◌, ◌++◌, ◌∙◌, ℕ, List, [], ◌∷◌, length, take, Option, Result, refl, sym, ap, subst, append_assoc, append-nil}
 use Rattle.std.specs.List.{flat_map}
+use Rattle.std.proofs.lemmas.List.{take_all}
 use Rattle.std.proofs.KnownBytes.{Appends-nil}
 use Rattle.px_bytes.specs.Devices.{AppendsPrefix, CanFail, Counts}
 use Rattle.px_bytes.specs.Waiting.{Owes, Puts}
@@ -63,3 +64,8 @@ walk_done {X} f xs out all none e = sym (append-nil out) ∙ ap (λ (ys : List X
 -- nothing was put
 pub none_yet : (a : Option (List ℕ)) (h xs : List ℕ) → xs ≡ [] → Owes a a h (h ++ xs)
 none_yet a h xs e = ([], Appends-nil a, sym (ap (λ (z : List ℕ). h ++ z) e ∙ append-nil h))
+
+-- all was put, once as many elements were as there are
+pub all_put : {X : Type 0} (f : X → List ℕ) (xs : List X) (i : ℕ) → length xs ≤ i → (a b : Option (List ℕ)) (h k : List ℕ)
+    → Owes a b k (h ++ flat_map f (take i xs)) → Owes a b k (h ++ flat_map f xs)
+all_put {X} f xs i most a b h k p = subst (λ (ys : List X). Owes a b k (h ++ flat_map f ys)) (take_all i xs most) p

@@ -1,10 +1,10 @@
-use Rattle.std.proofs.Common.{◌∙◌, map}
+use Rattle.std.proofs.Common.{◌∙◌, map, [], refl}
 use Rattle.std.proofs.lemmas.Result.{err_from_is_err_and}
 use Rattle.px_bytes.specs.lemmas.WaitingLaws.{owed_more, owed_stop}
 use Rattle.px_iim.specs.calls.View.{item_view}
 use Rattle.px_text.specs.Listing.{dataset_line}
 use Rattle.px_text.proofs.Parts.{read_at}
-use Rattle.px_text.proofs.Chains.{can_fail, fails}
+use Rattle.px_text.proofs.Chains.{can_fail, fails, none_yet}
 use Rattle.px_text.proofs.dataset_lines.put_group.Goals as goal
 
 pub returns-in_err-put_dataset-clause-bytes : goal.returns-in_err-put_dataset-clause-bytes
@@ -32,3 +32,6 @@ returns-in_err-put_dataset-clause-count g c =
 
 pub returns-clause-count : goal.returns-clause-count
 returns-clause-count g c = c.loop-item.invariant.count
+
+pub loop-item-init : goal.loop-item-init
+loop-item-init g c = record { owes = none_yet _ c.args.pending.now [] refl; count = refl }

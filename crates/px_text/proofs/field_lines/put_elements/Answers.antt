@@ -1,10 +1,10 @@
-use Rattle.std.proofs.Common.{◌∙◌, ◌++◌}
+use Rattle.std.proofs.Common.{◌∙◌, ◌++◌, [], refl, arith}
 use Rattle.std.proofs.lemmas.Result.{err_from_is_err_and}
 use Rattle.std.specs.Prelude.{codes}
 use Rattle.px_bytes.specs.lemmas.WaitingLaws.{owed_more, owed_stop}
 use Rattle.px_field.specs.declared.Element.{Element}
 use Rattle.px_text.specs.Listing.{element_text}
-use Rattle.px_text.proofs.Chains.{can_fail, fails}
+use Rattle.px_text.proofs.Chains.{all_put, can_fail, fails, none_yet}
 use Rattle.px_text.proofs.field_lines.put_elements.Goals as goal
 
 pub returns-in_err-put_apart-clause-bytes : goal.returns-in_err-put_apart-clause-bytes
@@ -32,3 +32,11 @@ returns-in_err-put_apart-clause-count g c =
 
 pub returns-clause-count : goal.returns-clause-count
 returns-clause-count g c = c.loop-i.invariant.count
+
+pub loop-i-init : goal.loop-i-init
+loop-i-init g c = record { owes = none_yet _ c.args.pending.now [] refl; count = refl }
+
+pub returns-clause-bytes : goal.returns-clause-bytes
+returns-clause-bytes g c =
+    all_put (λ (e : Element). codes " " ++ element_text e) c.args.value.now.elements c.loop-i.i (omega arith) _ _ c.args.pending.now c.loop-i.pending
+    c.loop-i.invariant.owes
