@@ -3,3 +3,4 @@ pub mod Ended
 pub mod Compared
 pub mod Told
 pub mod Printed
+pub mod Room

@@ -1,13 +1,16 @@
 -- What calls over files in hand answer.
-use Rattle.std.specs.Prelude.{◌≡◌, ◌↔◌, ◌<◌, ◌≤◌, ℕ, Bool, true, IsTrue, List, length}
+use Rattle.std.specs.Prelude.{◌≡◌, ◌↔◌, ◌<◌, ◌≤◌, ◌++◌, ℕ, Bool, true, IsTrue, List, length, drop}
 use Rattle.px_bytes.specs.Parts.{limit}
 use Rattle.px_engine.specs.declared.faults.Fault.{Fault}
 use Rattle.px_engine.specs.declared.faults.Side.{Side}
 use Rattle.px_engine.specs.declared.faults.Side.TheVariants.{First, Second}
 use Rattle.px_engine.specs.declared.faults.CompareFault.{CompareFault}
+use Rattle.px_engine.specs.declared.given.Given.{Given}
+use Rattle.px_engine.specs.declared.given.Given.TheVariants.{Whole, Lacks}
 use Rattle.px_engine.specs.declared.kinds.BlockKind.{BlockKind}
 use Rattle.px_engine.specs.declared.faults.Fault.TheVariants.{Refused, NormalTooLong, OutOfMemory, ReadFailed, WriteFailed}
 use Rattle.px_engine.specs.Files.{Said, kind_said, normal}
+use Rattle.px_engine.specs.Headline.{IsFormOf}
 use Rattle.px_engine.specs.Input.{IsSaid, IsUnsaid}
 
 -- the kind of what the file says
@@ -33,3 +36,13 @@ IsUnformed s refused OutOfMemory = (refused ≡ true) × (length (normal s) ≤ 
 IsUnformed s refused (Refused cause place) = ⊥
 IsUnformed s refused ReadFailed = ⊥
 IsUnformed s refused WriteFailed = ⊥
+
+-- Of a form and the room that a caller has for it: the room begins with the form, and is as it was behind it; or it is too little,
+-- and is as it was. In both cases the form's length is told.
+abbrev pub IsPut : Given → List ℕ → List ℕ → List ℕ → Type 0
+IsPut (Whole len) form old new = (len ≡ length form) × (length form ≤ length old) × (new ≡ form ++ drop (length form) old)
+IsPut (Lacks len) form old new = (len ≡ length form) × (length old < length form) × (new ≡ old)
+
+-- the form is that of what the file says
+abbrev pub PutsForm : List ℕ → Given → List ℕ → List ℕ → Type 0
+PutsForm f given old new = (s : Said) × (n : List ℕ) × IsFormOf f s n × IsPut given n old new

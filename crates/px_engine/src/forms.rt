@@ -1,4 +1,5 @@
-// The normal form of what is said, in hand: measured first, then written into a vector that has room for just that.
+// The normal form of what is said, in hand: measured first, then written into a vector that has room for just that, or into
+// room of the caller's.
 ghost use Rattle.std.specs.Prelude.{◌≡◌, ◌≤◌, length, IfOk, IfErr};
 ghost use Rattle.px_bytes.specs.Devices.{CanFail, Counts, Writes};
 ghost use Rattle.px_bytes.specs.Parts.{limit};
@@ -11,9 +12,12 @@ ghost use Rattle.px_engine.specs.Files.{CanBeWritten, normal};
 ghost use Rattle.px_engine.specs.Files as said;
 ghost use Rattle.px_engine.specs.Hand.{IsUnformed};
 ghost use Rattle.px_engine.specs.Lacking.{LacksRun};
+ghost use Rattle.px_engine.specs.calls.Filled.{PutsShort};
 ghost use Rattle.px_engine.specs.calls.Seen.{said_of};
 
 use crate::faults::Fault;
+use crate::filling::Filling;
+use crate::given::Given;
 use crate::meanings::Said;
 use px_bytes::{Failed, Growing, LIMIT, Memory, Pending, Sink};
 use px_iim::{Iim, normal_len, put_iim};
@@ -85,5 +89,67 @@ pub(crate) fn form_of(memory: &mut Memory, said: &Said) -> Result<Vec<u8>, Fault
     match said {
         Said::Exif(meaning) => exif_form(memory, meaning),
         Said::Iim(iim) => iim_form(memory, iim),
+    }
+}
+
+// Writes the normal form of a tree, which is measured already, into room for just its bytes.
+fn fill_exif(form: &NormalForm, room: &mut [u8])
+    requires form { IsForm form.now }
+    requires room { length room.old ≡ length (normal_exif (said_in form.now)) }
+    ensures { room.new ≡ normal_exif (said_in form.now) }
+{
+    let mut writer = Filling::new(room);
+    // There is room for all: a call that failed would have found it full.
+    let _ = send_exif(form, &mut writer);
+}
+
+// Writes the normal form of a record so.
+fn fill_record(iim: &Iim, room: &mut [u8])
+    requires { length room.old ≡ length (normal_iim iim.now) }
+    ensures { room.new ≡ normal_iim iim.now }
+{
+    let mut writer = Filling::new(room);
+    let _ = send_record(iim, &mut writer);
+}
+
+// Puts the normal form of a tree in front of `out`. None where it is longer than `LIMIT`.
+fn put_exif(m: &Meaning, out: &mut [u8]) -> Option<Given>
+    requires { Fits (meaning_of m.now) }
+    ensures { PutsShort result (normal_exif (meaning_of m.now)) out.old out.new }
+{
+    let Ok(form) = NormalForm::new(m) else {
+        return None;
+    };
+    let len = form.len() as usize;
+    if len > out.len() {
+        return Some(Given::Lacks(len));
+    }
+    fill_exif(&form, &mut out[..len]);
+    Some(Given::Whole(len))
+}
+
+// Puts the normal form of a record so.
+fn put_record(iim: &Iim, out: &mut [u8]) -> Option<Given>
+    ensures { PutsShort result (normal_iim iim.now) out.old out.new }
+{
+    let len = normal_len(iim).unwrap_or(LIMIT + 1) as usize;
+    if len > LIMIT as usize {
+        return None;
+    }
+    if len > out.len() {
+        return Some(Given::Lacks(len));
+    }
+    fill_record(iim, &mut out[..len]);
+    Some(Given::Whole(len))
+}
+
+// Puts the normal form of what is said in front of `out`. None where it is longer than `LIMIT`. It takes no memory.
+pub(crate) fn put_said(said: &Said, out: &mut [u8]) -> Option<Given>
+    requires { CanBeWritten (said_of said.now) }
+    ensures { PutsShort result (normal (said_of said.now)) out.old out.new }
+{
+    match said {
+        Said::Exif(meaning) => put_exif(meaning, out),
+        Said::Iim(iim) => put_record(iim, out),
     }
 }

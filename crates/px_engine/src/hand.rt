@@ -1,8 +1,8 @@
 // Files in hand: judged, normalised, compared and printed without a copy of their bytes.
-ghost use Rattle.std.specs.Prelude.{◌≡◌, Bool, IfOk, IfErr};
+ghost use Rattle.std.specs.Prelude.{◌≡◌, Bool, IfOk, IfErr, OnErr};
 ghost use Rattle.px_engine.specs.Captions.{caption_text};
 ghost use Rattle.px_engine.specs.Files.{Said as AnySaid};
-ghost use Rattle.px_engine.specs.Hand.{IsKindOf, SaysSame, IsUnsaidAt};
+ghost use Rattle.px_engine.specs.Hand.{IsKindOf, PutsForm, SaysSame, IsUnsaidAt};
 ghost use Rattle.px_engine.specs.Headline.{IsFormOf, IsUnwritten};
 ghost use Rattle.px_engine.specs.Input.{IsUnsaid};
 ghost use Rattle.px_engine.specs.Lacking.{LacksRun, LacksPair};
@@ -10,7 +10,8 @@ ghost use Rattle.px_engine.specs.Listing.{listing};
 ghost use Rattle.px_engine.specs.Prints.{IsTextOf};
 
 use crate::faults::{CompareFault, Fault, Side};
-use crate::forms::form_of;
+use crate::forms::{form_of, put_said};
+use crate::given::Given;
 use crate::judging::{judge, judge_side, kind_in, same_second};
 use crate::kinds::BlockKind;
 use crate::texts::{caption_text, listing};
@@ -58,6 +59,32 @@ pub fn normal_form(alloc: Global, file: &[u8]) -> Result<Vec<u8>, Fault>
     ensures unwritten { IfErr result (λ e. (refused : Bool) × IsUnwritten file.now refused e) }
 {
     normal_form_in(&mut Memory::new(alloc), file)
+}
+
+/// Puts the normal form of what a file says in front of `out`, where there is room for it. The fault is
+/// `Refused`, by the first fault of the block; `NormalTooLong`, where the form is longer than `LIMIT`; or
+/// `OutOfMemory`, exactly where a growth was refused; `out` is then as it was. It takes memory for what the
+/// file says alone, and makes no copy of the file.
+pub fn put_form_in(memory: &mut Memory, file: &[u8], out: &mut [u8]) -> Result<Given, Fault>
+    ensures put { IfOk result (λ given. PutsForm file.now given out.old out.new) }
+    ensures unwritten { IfErr result (IsUnwritten file.now memory.new) }
+    ensures kept { OnErr result (out.new ≡ out.old) }
+    ensures memory { LacksRun result memory.old memory.new }
+{
+    let said = judge(memory, file)?;
+    match put_said(&said, out) {
+        Some(given) => Ok(given),
+        None => Err(Fault::NormalTooLong),
+    }
+}
+
+/// The same with memory of its own.
+pub fn put_form(alloc: Global, file: &[u8], out: &mut [u8]) -> Result<Given, Fault>
+    ensures put { IfOk result (λ given. PutsForm file.now given out.old out.new) }
+    ensures unwritten { IfErr result (λ e. (refused : Bool) × IsUnwritten file.now refused e) }
+    ensures kept { OnErr result (out.new ≡ out.old) }
+{
+    put_form_in(&mut Memory::new(alloc), file, out)
 }
 
 /// The text that `show` prints of a file. The fault is `Refused`, by the first fault of the block, or

@@ -21,7 +21,9 @@
 #![tactic(auto)]
 
 mod faults;
+mod filling;
 mod forms;
+mod given;
 mod hand;
 mod headline;
 mod input;
@@ -36,9 +38,10 @@ mod version;
 mod writing;
 
 pub use faults::{CompareFault, Fault, Side};
+pub use given::Given;
 pub use hand::{
-    captions_text, captions_text_in, check_of, check_of_in, normal_form, normal_form_in, same_of,
-    same_of_in, show_of, show_of_in,
+    captions_text, captions_text_in, check_of, check_of_in, normal_form, normal_form_in, put_form,
+    put_form_in, same_of, same_of_in, show_of, show_of_in,
 };
 pub use headline::{NormalForms, normalise_both, normalise_both_in};
 pub use input::{read_all, read_all_in, read_any, read_any_in};

@@ -1,0 +1,48 @@
+-- Room that is filled with a form of just its length.
+use Rattle.std.proofs.Common.{◌≡◌, ◌≤◌, ℕ, Bool, List, ◌∷◌, length, take, min, nat_lt, true, false, if◌then◌else◌}
+use Rattle.std.proofs.Common.{Some, Result, Ok, Err, arith, refl, sym, ◌∙◌, ap}
+use Rattle.std.proofs.lemmas.Bool.{ltb-false}
+use Rattle.std.proofs.lemmas.List.{take_all, length-take, length-take-le}
+use Rattle.std.proofs.Math.Nat.{min-le_left}
+use Rattle.px_bytes.specs.Devices.{Counts, Writes}
+use Rattle.px_engine.specs.declared.filling.Filling.{Filling}
+use Rattle.px_engine.specs.calls.Filled.{told_in, refused_in}
+
+no_refusal : (t : Bool) (n : ℕ) → n ≡ 0 → (if t then 0 else n) ≡ 0
+no_refusal true n z = refl
+no_refusal false n z = z
+
+-- one refusal tells that no room is left
+is_full : (held size refusals : ℕ) → (if nat_lt held size then 0 else refusals) ≡ 1 → size ≤ held
+is_full held size refusals c = elim (nat_lt held size) as (λ t. nat_lt held size ≡ t → (if t then 0 else refusals) ≡ 1 → size ≤ held)
+    [ true ↦ λ e q. absurd (omega (arith, q)) | false ↦ λ e q. ltb-false held size e ] refl c
+
+-- a front of it that is as long as all of it
+all_of : (held : ℕ) (now form : List ℕ) → take held now ≡ form → length now ≡ length form → now ≡ form
+all_of held now form t l =
+    let m = ap (λ (z : List ℕ). length z) t in
+    let cut = length-take held now in
+    let least = min-le_left held (length now) in
+    sym (take_all held now (omega arith)) ∙ t
+
+-- The writer began with no byte, in room of the form's length, and found it full where a call failed. So it has put the whole form.
+pub filled : {A E : Type 0} (r : Result A E) (f g : Filling) (slice : ℕ) (old form : List ℕ) → length old ≡ length form
+    → f.room.ghost_name ≡ slice → f.room.now ≡ old → f.held ≡ 0 → f.refusals ≡ 0
+    → Writes r (Some (told_in f)) (Some (told_in g)) form → Counts r (refused_in f) (refused_in g)
+    → (g.room.ghost_name ≡ slice) × (g.room.now ≡ form)
+filled (Ok x) f g slice old form fits s o h z w c =
+    let all : told_in g ≡ slice ∷ length old ∷ form = rw (h, o, s) at w in
+    let front : take g.held g.room.now ≡ form = cc in
+    let size : length g.room.now ≡ length old = cc in
+    (cc, all_of g.held g.room.now form front (size ∙ fits))
+filled (Err x) f g slice old form fits s o h z w c =
+    let n = w.0 in
+    let all : told_in g ≡ slice ∷ length old ∷ take n form = rw (h, o, s) at w.2 in
+    let front : take g.held g.room.now ≡ take n form = cc in
+    let size : length g.room.now ≡ length old = cc in
+    let none = no_refusal (nat_lt f.held (length f.room.now)) f.refusals z in
+    let last = is_full g.held (length g.room.now) g.refusals (omega arith) in
+    let whole : g.room.now ≡ take n form = sym (take_all g.held g.room.now last) ∙ front in
+    let cut = length-take-le n form w.1 in
+    let long = ap (λ (z : List ℕ). length z) whole in
+    (cc, whole ∙ take_all n form (omega arith))

@@ -1,0 +1,70 @@
+// A writer that puts what it takes into room that is there already.
+ghost use Rattle.std.specs.Prelude.{◌≡◌};
+
+use px_bytes::{Device, Failed, Sink};
+
+// A writer that puts the bytes it takes in front of a slice: of each call as many as there is room for. A
+// call fails only where no room is left. It takes no memory.
+#[derive(Drop)]
+pub(crate) struct Filling<'a> {
+    room: &'a mut [u8],
+    held: usize,
+    refusals: u64,
+}
+
+impl<'a> Filling<'a> {
+    // No byte, and no call that failed.
+    pub(crate) fn new(room: &'a mut [u8]) -> Filling<'a>
+        ensures same { result.room.ghost_name ≡ room.entry.ghost_name }
+        ensures room { result.room.now ≡ room.old }
+        ensures none { result.held ≡ 0 }
+        ensures refusals { result.refusals ≡ 0 }
+    {
+        Filling {
+            room,
+            held: 0,
+            refusals: 0,
+        }
+    }
+}
+
+impl<'a> Device for Filling<'a> {
+    ghost use Rattle.px_engine.specs.calls.Filled.{refused_in};
+
+    ghost failed = { λ f. refused_in f };
+
+    fn failures(&self) -> u64 {
+        if self.held < self.room.len() {
+            return 0;
+        }
+        self.refusals
+    }
+}
+
+impl<'a> Sink for Filling<'a> {
+    ghost use Rattle.std.specs.Prelude.{Some};
+    ghost use Rattle.px_engine.specs.calls.Filled.{told_in};
+
+    ghost bytes_taken = { λ f. Some (told_in f) };
+
+    fn write_some(&mut self, buf: &[u8]) -> Result<usize, Failed> {
+        if buf.is_empty() {
+            return Ok(0);
+        }
+        if self.held >= self.room.len() {
+            self.refusals += 1;
+            return Err(Failed);
+        }
+        let n = buf.len().min(self.room.len() - self.held);
+        let end = self.held + n;
+        self.room[self.held..end].copy_from_slice(&buf[..n]);
+        self.held = end;
+        // Only what a full slice refuses is counted: this call is none, and may have filled it.
+        self.refusals = 0;
+        Ok(n)
+    }
+
+    fn flush_all(&mut self) -> Result<(), Failed> {
+        Ok(())
+    }
+}
