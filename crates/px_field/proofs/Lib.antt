@@ -1,2 +1,3 @@
+pub mod FormNumbers
 pub mod TurnLaws
 pub mod ViewLemmas

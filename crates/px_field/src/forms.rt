@@ -1,5 +1,5 @@
 // The types of a field, and the elements of its value.
-ghost use Rattle.std.specs.Prelude.{◌≡◌};
+ghost use Rattle.std.specs.Prelude.{◌≡◌, ◌<◌};
 ghost use Rattle.px_field.specs.Forms.{code, form_of, size};
 
 /// A type of a field: the twelve of TIFF 6.0 section 2, "Types", and UTF-8 of Exif 3.0.
@@ -65,15 +65,27 @@ pub enum Element {
     Double(u64),
 }
 
+// The type of a number above 12: UTF-8, or none.
+#[tactic(auto, using(crate::proofs::FormNumbers::above_none), unfolding(crate::specs::Forms::form_of))]
+fn above_twelve(code: u16) -> Option<Form>
+    requires { 12 < code }
+    ensures { result ≡ form_of code }
+{
+    if code == 129 {
+        return Some(Form::Utf8);
+    }
+    None
+}
+
 impl Form {
     /// The type of that number in an entry, or `None` where the number is none of the thirteen.
     #[tactic(auto, unfolding(crate::specs::Forms::form_of))]
     pub fn of(code: u16) -> Option<Form>
         ensures { result ≡ form_of code }
     {
-        // It stands apart: the numbers 1 to 12 are then found with no table of jumps.
-        if code == 129 {
-            return Some(Form::Utf8);
+        // The numbers 1 to 12 alone are found with no table of jumps.
+        if code > 12 {
+            return above_twelve(code);
         }
         Some(match code {
             1 => Form::Byte,
@@ -108,20 +120,10 @@ impl Form {
     pub fn code(self) -> u16
         ensures { result ≡ code self }
     {
+        // The others stand in the order of their numbers, from 1 on.
         match self {
-            Form::Byte => 1,
-            Form::Ascii => 2,
-            Form::Short => 3,
-            Form::Long => 4,
-            Form::Rational => 5,
-            Form::SByte => 6,
-            Form::Undefined => 7,
-            Form::SShort => 8,
-            Form::SLong => 9,
-            Form::SRational => 10,
-            Form::Float => 11,
-            Form::Double => 12,
             Form::Utf8 => 129,
+            other => other as u16 + 1,
         }
     }
 }
