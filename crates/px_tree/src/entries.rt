@@ -1,5 +1,5 @@
 // One entry of a table, judged. TIFF 6.0 section 2, "IFD Entry", "Sort Order", "Types" and "Value/Offset".
-ghost use Rattle.std.specs.Prelude.{◌≡◌, ◌≤◌, ◌<◌, ◌+◌, ◌*◌, List, ◌++◌, length, option_to_list, IfOk, Some};
+ghost use Rattle.std.specs.Prelude.{◌≡◌, ◌≤◌, ◌<◌, ◌+◌, ◌*◌, List, ◌++◌, length, option_to_list, IfOk, Some, true};
 ghost use Rattle.px_bytes.specs.Parts.{limit, part};
 ghost use Rattle.px_bytes.specs.Range.{Range, Agrees};
 ghost use Rattle.px_bytes.specs.Checks.{ContentOnly, LacksBlock, Judges};
@@ -8,11 +8,12 @@ ghost use Rattle.px_tree.specs.Roles.{role};
 ghost use Rattle.px_tree.specs.Entry.{entry, has_form};
 ghost use Rattle.px_tree.specs.Footprint.{placed_range};
 ghost use Rattle.px_tree.specs.Checks.{shape_checks, entry_checks};
+ghost use Rattle.px_tree.specs.calls.Used.{HasNoUse};
 ghost use Rattle.px_tree.specs.calls.Reading.{Shows, bare, IsShape, Follows, span, span_checks};
 
 use crate::holding::hold;
 use crate::parts::{needs_place, number16, number32, part_of};
-use crate::roles::{Dir, Role, role_of};
+use crate::roles::{Dir, Role, has_no_use, role_where};
 use crate::source::Source;
 use px_bytes::{Cause, Memory, Order, Ranges, Refusal};
 use px_field::Form;
@@ -26,12 +27,13 @@ pub struct Head {
     pub offset: u32,
 }
 
-// An entry with its type, and what its tag is.
+// An entry with its type, and what its tag is: whether no directory has a use for it is told but once.
 #[derive(Clone, Copy)]
 pub struct Shape {
     pub head: Head,
     pub form: Form,
     pub role: Role,
+    pub is_common: bool,
 }
 
 // The entry at a place.
@@ -65,6 +67,7 @@ fn shape_of(dir: Dir, at: u32, before: Option<u16>, head: Head) -> Result<Shape,
     ensures judged { Judges result (shape_checks dir at before (bare head))
         (λ s. (s.head ≡ head) × (form_of head.code ≡ Some s.form) × (s.role ≡ role dir head.tag)) }
     ensures follows { IfOk result (λ _. Follows before head.tag) }
+    ensures common { IfOk result (λ s. s.is_common ≡ true → HasNoUse head.tag) }
     ensures content { ContentOnly result }
 {
     if let Some(last) = before {
@@ -78,14 +81,20 @@ fn shape_of(dir: Dir, at: u32, before: Option<u16>, head: Head) -> Result<Shape,
     let Some(form) = Form::of(head.code) else {
         return Err(Cause::UnknownType.at(at));
     };
-    let role = role_of(dir, head.tag);
+    let is_common = has_no_use(head.tag);
+    let role = role_where(is_common, dir, head.tag);
     if let Role::Forbidden = role {
         return Err(Cause::MisplacedOffset.at(at));
     }
     if !is_formed(role, head) {
         return Err(Cause::PointerForm.at(at));
     }
-    Ok(Shape { head, form, role })
+    Ok(Shape {
+        head,
+        form,
+        role,
+        is_common,
+    })
 }
 
 // Holds the value of the entry at a place, where the value stands at an offset.
@@ -137,6 +146,7 @@ pub fn judge_entry(
         (λ s. 4 < s.head.count * size s.form
         → s.head.offset + s.head.count * size s.form ≤ length source.now.block.now) }
     ensures follows { IfOk result (λ s. Follows before s.head.tag) }
+    ensures common { IfOk result (λ s. s.is_common ≡ true → HasNoUse s.head.tag) }
     ensures memory { LacksBlock result memory.old memory.new }
 {
     let head = head_at(source.block, source.order, at);

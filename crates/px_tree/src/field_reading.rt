@@ -166,7 +166,7 @@ pub fn read_entries<'a>(
     for _ in 0..count {
         let shape = judge_entry(memory, source, held, at, before)?;
         keep_field(memory, &mut fields, source, at, shape)?;
-        keep_use(&mut uses, shape.head, at);
+        keep_use(&mut uses, shape, at);
         before = Some(shape.head.tag);
         at += 12;
     }

@@ -120,13 +120,21 @@ pub fn has_no_use(tag: u16) -> bool
     tag < IMAGE_WIDTH
 }
 
-/// What a tag is in a directory.
+// What a tag is in a directory, where it is known whether no directory has a use for it.
 #[tactic(auto, using(crate::proofs::reading::NoUse::no_use_plain))]
-pub fn role_of(dir: Dir, tag: u16) -> Role
+pub fn role_where(is_common: bool, dir: Dir, tag: u16) -> Role
+    requires { is_common ≡ true → HasNoUse tag }
     ensures { result ≡ role dir tag }
 {
-    if has_no_use(tag) {
+    if is_common {
         return Role::Plain;
     }
     any_role(dir, tag)
+}
+
+/// What a tag is in a directory.
+pub fn role_of(dir: Dir, tag: u16) -> Role
+    ensures { result ≡ role dir tag }
+{
+    role_where(has_no_use(tag), dir, tag)
 }

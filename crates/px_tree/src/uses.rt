@@ -1,11 +1,11 @@
 // The entries of a table that have a use of their own, kept while the table is judged. CIPA DC-008 4.6.3
 // (pointers) and 4.5.5 (the thumbnail's bytes); TIFF 6.0 section 8, "StripOffsets" and "StripByteCounts".
-ghost use Rattle.std.specs.Prelude.{◌≡◌, ◌==◌, ◌&&◌, None, option_map};
+ghost use Rattle.std.specs.Prelude.{◌≡◌, ◌==◌, ◌&&◌, true, None, option_map};
+ghost use Rattle.px_tree.specs.calls.Used.{HasNoUse};
 ghost use Rattle.px_tree.specs.calls.Uses.{Keeps, NoUses, link_as, found_as};
 
-use crate::entries::Head;
+use crate::entries::{Head, Shape};
 use crate::links::{Found, Link};
-use crate::roles::has_no_use;
 use crate::tags::{
     EXIF_IFD_POINTER, GPS_INFO_IFD_POINTER, INTEROPERABILITY_IFD_POINTER, IPTC_NAA,
     JPEG_INTERCHANGE_FORMAT, JPEG_INTERCHANGE_FORMAT_LENGTH, STRIP_BYTE_COUNTS, STRIP_OFFSETS,
@@ -50,13 +50,14 @@ fn is_one_long(head: Head) -> bool
 
 // Keeps the entry at a place, if its tag has a use.
 #[tactic(auto, using(crate::proofs::reading::NoUse::keeps_none))]
-pub fn keep_use(uses: &mut Uses, head: Head, place: u32)
-    ensures { Keeps uses.old uses.new (found_as head place) }
+pub fn keep_use(uses: &mut Uses, shape: Shape, place: u32)
+    requires { shape.is_common ≡ true → HasNoUse shape.head.tag }
+    ensures { Keeps uses.old uses.new (found_as shape.head place) }
 {
-    if has_no_use(head.tag) {
+    if shape.is_common {
         return;
     }
-    keep_any(uses, head, place);
+    keep_any(uses, shape.head, place);
 }
 
 // The same of any tag.
