@@ -131,7 +131,11 @@ fn put_elements<W: Sink>(
     ensures bytes { PutsTo W.bytes_taken result writer.old writer.new pending.old pending.new (flat_map (spell order) value.now.elements) }
     ensures count { Counts result (W.failed writer.old) (W.failed writer.new) }
 {
-    if value.size() <= FEW as u64 {
+    let size = value.size();
+    if size == 8 {
+        return put_eight(pending, writer, order, value);
+    }
+    if size <= FEW as u64 {
         return put_by_pieces(pending, writer, order, value, &mut [0; FEW]);
     }
     put_by_pieces(pending, writer, order, value, &mut [0; MANY])

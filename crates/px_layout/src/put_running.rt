@@ -255,20 +255,20 @@ fn put_any_entry<W: Sink>(
     writer: &mut W,
     form: &NormalForm,
     at: u32,
-    entry: &Entry,
+    entry: Entry,
 ) -> Result<(), Failed>
     requires few { CanFail (W.failed writer.old) }
     requires form { IsForm form.now }
-    requires counted { IsCounted (item_of entry.now.item) }
-    requires tells { TellsAll (said_in form.now) (item_of entry.now.item) }
+    requires counted { IsCounted (item_of entry.item) }
+    requires tells { TellsAll (said_in form.now) (item_of entry.item) }
     ensures bytes { PutsTo W.bytes_taken result writer.old writer.new pending.old pending.new
-        (entry_given (plan_in form.now) at (entry_of entry.now)) }
+        (entry_given (plan_in form.now) at (entry_of entry.entry)) }
     ensures count { Counts result (W.failed writer.old) (W.failed writer.new) }
 {
     if needs_place(entry.item.size()) {
-        return pending.put(writer, &entry_to(at, entry));
+        return pending.put(writer, &entry_to(at, &entry));
     }
-    put_near_entry(pending, writer, form, entry)
+    put_near_entry(pending, writer, form, &entry)
 }
 
 // The same. Most entries are fields, whose twelve bytes are put with no look at what else an entry may say.
@@ -289,7 +289,7 @@ fn put_given_entry<W: Sink>(
 {
     match entry.item {
         Item::Field(value) => put_field_entry(pending, writer, at, entry.tag, value),
-        _ => put_any_entry(pending, writer, form, at, entry),
+        _ => put_any_entry(pending, writer, form, at, *entry),
     }
 }
 
