@@ -11,7 +11,7 @@ ghost use Rattle.px_tree.specs.Fits.{Fits, FitsThumb, IsBytes, AtJpeg, JpegSize,
 ghost use Rattle.px_tree.specs.Fits.{main_items, exif_items, thumb_items, field_items};
 ghost use Rattle.px_tree.specs.calls.Seen.{exif_of, thumb_of, meaning_of};
 ghost use Rattle.px_layout.specs.calls.Items.{item_of, entry_of, IsCounted, rank};
-ghost use Rattle.px_layout.specs.calls.Layers.{Stands, Tells, over, IsClear};
+ghost use Rattle.px_layout.specs.calls.Layers.{Stands, Tells, Finds, over, IsClear};
 
 use crate::items::{Entry, Item};
 use px_iim::Iim;
@@ -71,6 +71,21 @@ fn pass<'m, 'a>(extra: &Option<Extra<'m, 'a>>, i: usize) -> Step<'m, 'a>
         return Step::Here(extra.tag, extra.item);
     }
     Step::Under(i - 1)
+}
+
+// Goes by two, the upper one first.
+fn pass_both<'m, 'a>(
+    upper: &Option<Extra<'m, 'a>>,
+    lower: &Option<Extra<'m, 'a>>,
+    i: usize,
+) -> Step<'m, 'a>
+    ensures { (xs : List (ℕ × said.Item)) → Stands lower.now xs → Stands upper.now (over lower.now xs)
+        → i < length (over upper.now (over lower.now xs)) → Finds result (over upper.now (over lower.now xs)) xs i }
+{
+    match pass(upper, i) {
+        Step::Here(tag, item) => Step::Here(tag, item),
+        Step::Under(i) => pass(lower, i),
+    }
 }
 
 // How many entries it adds.
@@ -192,19 +207,11 @@ impl<'m, 'a> Entries<'m, 'a> {
         ensures entry { slice_get self.now i ≡ Some (entry_of result) }
         ensures counted { IsCounted (item_of result.item) }
     {
-        let i = match pass(&self.fourth, i) {
+        let i = match pass_both(&self.fourth, &self.third, i) {
             Step::Here(tag, item) => return Entry { tag, item },
             Step::Under(i) => i,
         };
-        let i = match pass(&self.third, i) {
-            Step::Here(tag, item) => return Entry { tag, item },
-            Step::Under(i) => i,
-        };
-        let i = match pass(&self.second, i) {
-            Step::Here(tag, item) => return Entry { tag, item },
-            Step::Under(i) => i,
-        };
-        let i = match pass(&self.first, i) {
+        let i = match pass_both(&self.second, &self.first, i) {
             Step::Here(tag, item) => return Entry { tag, item },
             Step::Under(i) => i,
         };

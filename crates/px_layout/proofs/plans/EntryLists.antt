@@ -17,7 +17,7 @@ use Rattle.px_tree.specs.Fits.{Item, Field, StripSizes, items, put, main_items, 
 use Rattle.px_tree.specs.Fits.{FitsThumb, IsBytes}
 use Rattle.px_layout.specs.declared.items.Item as held
 use Rattle.px_layout.specs.calls.Items.{item_of, IsCounted, rank}
-use Rattle.px_layout.specs.calls.Layers.{over, Stands, Tells, IsClear}
+use Rattle.px_layout.specs.calls.Layers.{over, Stands, Tells, Finds, IsClear}
 use Rattle.px_layout.specs.declared.entries.Extra.{Extra}
 use Rattle.px_layout.specs.declared.entries.Step.{Step}
 use Rattle.px_layout.specs.declared.entries.Step.TheVariants.{Here, Under}
@@ -201,23 +201,38 @@ through a b c d fs i k j h g pd pc pb pa sa sb sc sd l =
           (length-map fs (λ (p : ℕ × Value). (p.0, Field p.1))) w.1,
     )
 
--- a further entry stands at the place
-pub here_second : (c d : Option Extra) (ys : List (ℕ × Item)) (i k t : ℕ) (x : held.Item) → Passes (Under k) d i → Passes (Here t x) c k
-    → Stands c ys → Stands d (over c ys) → i < length (over d (over c ys)) → Tells (Here t x) d (over c ys) i
-here_second c d ys i k t x pd pc sc sd l = let z = pd (over c ys) sd l in let y = pc ys sc z.1 in (z.0 ∙ y.0, y.1)
+-- ---- two further entries, the upper one first
 
-pub here_third : (b c d : Option Extra) (ys : List (ℕ × Item)) (i k j t : ℕ) (x : held.Item) → Passes (Under k) d i → Passes (Under j) c k
-    → Passes (Here t x) b j → Stands b ys → Stands c (over b ys) → Stands d (over c (over b ys)) → i < length (over d (over c (over b ys)))
-    → Tells (Here t x) d (over c (over b ys)) i
-here_third b c d ys i k j t x pd pc pb sb sc sd l =
-    let z = pd (over c (over b ys)) sd l in let y = here_second b c ys k j t x pc pb sb sc z.1 in (z.0 ∙ y.0, y.1)
+abbrev pub PassesBoth : Step → Option Extra → Option Extra → ℕ → Type 0
+PassesBoth p d c i = (xs : List (ℕ × Item)) → Stands c xs → Stands d (over c xs) → i < length (over d (over c xs))
+    → Finds p (over d (over c xs)) xs i
 
-pub here_fourth : (a b c d : Option Extra) (ys : List (ℕ × Item)) (i k j h t : ℕ) (x : held.Item) → Passes (Under k) d i
-    → Passes (Under j) c k → Passes (Under h) b j → Passes (Here t x) a h → Stands a ys → Stands b (over a ys) → Stands c (over b (over a ys))
-    → Stands d (over c (over b (over a ys))) → i < length (over d (over c (over b (over a ys))))
-    → Tells (Here t x) d (over c (over b (over a ys))) i
-here_fourth a b c d ys i k j h t x pd pc pb pa sa sb sc sd l =
-    let z = pd (over c (over b (over a ys))) sd l in let y = here_third a b c ys k j h t x pc pb pa sa sb sc z.1 in (z.0 ∙ y.0, y.1)
+found_under : (p : Step) (ys zs xs : List (ℕ × Item)) (i j : ℕ) → slice_get ys i ≡ slice_get zs j → Finds p zs xs j → Finds p ys xs i
+found_under (Here t x) ys zs xs i j e f = (e ∙ f.0, f.1)
+found_under (Under k) ys zs xs i j e f = (e ∙ f.0, f.1)
+
+pub upper_here : (t : ℕ) (x : held.Item) (d c : Option Extra) (i : ℕ) → Passes (Here t x) d i → PassesBoth (Here t x) d c i
+upper_here t x d c i p xs sc sd l = p (over c xs) sd l
+
+pub both : (p : Step) (d c : Option Extra) (i j : ℕ) → Passes (Under j) d i → Passes p c j → PassesBoth p d c i
+both p d c i j pd pc xs sc sd l =
+    let z = pd (over c xs) sd l in found_under p (over d (over c xs)) (over c xs) xs i j z.0 (pc xs sc z.1)
+
+-- past two and two more
+pub both_twice : (p : Step) (a b c d : Option Extra) (ys : List (ℕ × Item)) (i j : ℕ) → PassesBoth (Under j) d c i → PassesBoth p b a j
+    → Stands a ys → Stands b (over a ys) → Stands c (over b (over a ys)) → Stands d (over c (over b (over a ys)))
+    → i < length (over d (over c (over b (over a ys)))) → Finds p (over d (over c (over b (over a ys)))) ys i
+both_twice p a b c d ys i j pd pb sa sb sc sd l =
+    let z = pd (over b (over a ys)) sc sd l in
+    found_under p (over d (over c (over b (over a ys)))) (over b (over a ys)) ys i j z.0 (pb ys sa sb z.1)
+
+-- and the field at the place that is left
+pub field_found : (fs : Fields) (ys : List (ℕ × Item)) (i g : ℕ) → Finds (Under g) ys (field_items fs) i
+    → (slice_get ys i ≡ option_map (λ p. (p.0, Field p.1)) (slice_get fs g)) × (g < length fs)
+field_found fs ys i g w = (
+  w.0 ∙ slice_get-map (λ (p : ℕ × Value). (p.0, Field p.1)) fs g,
+  subst (λ n. g < n) (length-map fs (λ (p : ℕ × Value). (p.0, Field p.1))) w.1,
+)
 
 -- before all further entries stand the fields
 pub clear_through : (a b c d : Option Extra) (fs : Fields) (n i : ℕ) →

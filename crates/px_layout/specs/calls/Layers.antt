@@ -17,10 +17,14 @@ abbrev pub Stands : Option Extra → List (ℕ × Item) → Type 0
 Stands None xs = ⊤
 Stands (Some x) xs = (x.place ≡ rank x.tag xs) × IsCounted (item_of x.item)
 
+-- what stands at a place of the list ys: an entry, or what stands at a place of the list under it
+abbrev pub Finds : Step → List (ℕ × Item) → List (ℕ × Item) → ℕ → Type 0
+Finds (Here t x) ys xs i = (slice_get ys i ≡ Some (t, item_of x)) × IsCounted (item_of x)
+Finds (Under j) ys xs i = (slice_get ys i ≡ slice_get xs j) × (j < length xs)
+
 -- what stands at a place of the list with the entry: the entry, or what stands under it
 abbrev pub Tells : Step → Option Extra → List (ℕ × Item) → ℕ → Type 0
-Tells (Here t x) e xs i = (slice_get (over e xs) i ≡ Some (t, item_of x)) × IsCounted (item_of x)
-Tells (Under j) e xs i = (slice_get (over e xs) i ≡ slice_get xs j) × (j < length xs)
+Tells p e xs i = Finds p (over e xs) xs i
 
 abbrev pub under_second : Inside → List (ℕ × Item)
 under_second e = over e.first (field_items e.fields.now)
