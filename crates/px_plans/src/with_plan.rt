@@ -1,6 +1,6 @@
 // A block by a plan of the caller's.
-ghost use Rattle.std.specs.Prelude.{◌≡◌, IfOk};
-ghost use Rattle.px_bytes.specs.Lacking.{Lacks};
+ghost use Rattle.std.specs.Prelude.{◌≡◌, IfOk, replicate};
+ghost use Rattle.px_bytes.specs.Lacking.{Lacks, MayAsk};
 ghost use Rattle.px_tree.specs.Fits.{Fits};
 ghost use Rattle.px_tree.specs.calls.Seen.{meaning_of};
 ghost use Rattle.px_layout.specs.Laid.{laid};
@@ -52,8 +52,17 @@ pub fn write_with_in(
         order,
         filler,
     };
-    let mut block = memory.list();
-    memory.resize(&mut block, plan.len() as usize, filler)?;
+    let mut block = filled(memory, plan.len() as usize, filler)?;
     lay_all(memory, &mut block, &layout)?;
+    Ok(block)
+}
+
+fn filled(memory: &mut Memory, n: usize, filler: u8) -> Result<Vec<u8>, Refused>
+    requires { MayAsk n }
+    ensures bytes { IfOk result (λ block. block.items ≡ replicate n filler) }
+    ensures memory { Lacks result memory.old memory.new }
+{
+    let mut block = memory.list();
+    memory.resize(&mut block, n, filler)?;
     Ok(block)
 }

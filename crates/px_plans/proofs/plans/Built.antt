@@ -5,7 +5,7 @@ use Rattle.std.proofs.Common.{lt-ltb, le-leb, length-drop, get_or-take, get_or-d
 use Rattle.std.specs.List.{range_with_len}
 use Rattle.std.proofs.lemmas.Bool.{and_from, and_parts, cond-true, cond-false, cases_lt, leb-true, false_from_ne_true}
 use Rattle.std.proofs.lemmas.List.{same_lists, length-append, length-take-le, get_or_append_left, get_or-append_right, drop-drop, drop_more}
-use Rattle.std.proofs.lemmas.List.{drop_all}
+use Rattle.std.proofs.lemmas.List.{drop_all, take_all, take-append-le}
 use Rattle.std.proofs.lemmas.Option.{slice_get_within, get_or_from_slice_get}
 use borrow.Rule.Slice.PartMut.{put_mid}
 use Rattle.px_layout.specs.Laid.{byte_at}
@@ -113,3 +113,7 @@ drop_get xs j k x e q = drop_more xs j x (slice_get_within xs j x q) ∙ ap₂ (
 
 pub drop_end : {X : Type 0} (xs : List X) (n : ℕ) → n ≡ length xs → drop n xs ≡ []
 drop_end xs n e = ap (λ k. drop k xs) e ∙ drop_all (length xs) xs (omega arith)
+
+-- what stands in the place of a whole list
+pub put_whole : (n : ℕ) (xs ys zs : List ℕ) → n ≡ length xs → xs ≡ zs → take n (xs ++ ys) ≡ zs
+put_whole n xs ys zs l e = take-append-le n xs ys (omega arith) ∙ take_all n xs (omega arith) ∙ e
