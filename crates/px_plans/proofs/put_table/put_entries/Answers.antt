@@ -1,9 +1,18 @@
-use Rattle.std.proofs.Common.{◌∙◌}
+use Rattle.std.proofs.Common.{◌≤◌, ℕ, List, length, flat_map, refl, subst, sym, ◌∙◌, arith}
+use Rattle.std.proofs.lemmas.List.{take_all}
 use Rattle.std.proofs.lemmas.Result.{err_from_is_err_and}
-use Rattle.px_bytes.specs.lemmas.WaitingLaws.{loop_more, loop_stop}
+use Rattle.px_bytes.specs.lemmas.WaitingLaws.{HasPut, put_none, loop_more, loop_stop}
+use Rattle.px_bytes.specs.Devices.{CanFail}
+use Rattle.px_tree.specs.Fits.{Item}
 use Rattle.px_layout.specs.Laid.{entry_bytes}
 use Rattle.px_plans.specs.calls.Layouts.{said_plan}
 use Rattle.px_plans.proofs.put_table.put_entries.Goals as goal
+
+pub loop-i-init : goal.loop-i-init
+loop-i-init g c = record { put = put_none g.W.Sink.bytes_taken c.args.writer.now c.args.pending.now; count = refl }
+
+pub put_entry-requires-clause-few : goal.put_entry-requires-clause-few
+put_entry-requires-clause-few g c = subst CanFail (sym c.loop-i.invariant.count) c.requires
 
 pub returns-in_err-put_entry-clause-bytes : goal.returns-in_err-put_entry-clause-bytes
 returns-in_err-put_entry-clause-bytes g c =
@@ -19,3 +28,15 @@ loop-i-preserved g c = record {
       _ _ _ c.args.pending.now c.loop-i.pending c.put_entry.new.pending c.loop-i.invariant.put c.in_ok-put_entry.ensures.bytes;
   count = c.in_ok-put_entry.ensures.count ∙ c.loop-i.invariant.count;
 }
+
+pub returns-clause-bytes : goal.returns-clause-bytes
+returns-clause-bytes g c =
+    let n = c.len-i-end.ensures in
+    let t = c.loop-i-test.false in
+    let l : length c.args.entries.now ≤ c.loop-i.i = omega arith in
+    subst (λ (xs : List (ℕ × Item)). HasPut g.W.Sink.bytes_taken c.args.writer.now c.loop-i.writer c.args.pending.now c.loop-i.pending
+    (flat_map (entry_bytes (said_plan c.args.layout.now) c.args.layout.now.order c.args.layout.now.filler c.args.dir) xs))
+    (take_all c.loop-i.i c.args.entries.now l) c.loop-i.invariant.put
+
+pub returns-clause-count : goal.returns-clause-count
+returns-clause-count g c = c.loop-i.invariant.count

@@ -1,7 +1,7 @@
 use Rattle.std.proofs.Common.{◌≡◌, ℕ, List, length, replicate, ap, ◌∙◌, arith}
 use Rattle.std.proofs.lemmas.List.{length-replicate}
-use Rattle.px_layout.proofs.plans.Built.{put_whole}
-use Rattle.px_layout.proofs.with_plan.write_with_in.Goals as goal
+use Rattle.px_plans.proofs.plans.Built.{put_whole}
+use Rattle.px_plans.proofs.with_plan.write_with_in.Goals as goal
 
 pub lay_all-requires-clause-len : goal.lay_all-requires-clause-len
 lay_all-requires-clause-len c =
