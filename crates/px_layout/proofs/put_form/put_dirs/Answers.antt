@@ -1,7 +1,8 @@
-use Rattle.std.proofs.Common.{◌∙◌}
+use Rattle.std.proofs.Common.{refl, subst, sym, ◌∙◌}
 use Rattle.std.proofs.lemmas.Option.{slice_get-get_or}
 use Rattle.std.proofs.lemmas.Result.{err_from_is_err_and}
-use Rattle.px_bytes.specs.lemmas.WaitingLaws.{loop_more, loop_stop}
+use Rattle.px_bytes.specs.lemmas.WaitingLaws.{put_none, loop_more, loop_stop}
+use Rattle.px_bytes.specs.Devices.{CanFail}
 use Rattle.px_tree.specs.Directory.{dirs}
 use Rattle.px_layout.specs.calls.Forms.{said_in}
 use Rattle.px_layout.specs.Normal.{normal_plan}
@@ -25,3 +26,12 @@ loop-dir-preserved g c = record {
       _ _ _ c.args.pending.now c.loop-dir.pending c.put_any_dir.new.pending c.loop-dir.invariant.put c.in_ok-put_any_dir.ensures.bytes;
   count = c.in_ok-put_any_dir.ensures.count ∙ c.loop-dir.invariant.count;
 }
+
+pub loop-dir-init : goal.loop-dir-init
+loop-dir-init g c = record { put = put_none g.W.Sink.bytes_taken c.args.writer.now c.args.pending.now; count = refl }
+
+pub put_any_dir-requires-clause-few : goal.put_any_dir-requires-clause-few
+put_any_dir-requires-clause-few g c = subst CanFail (sym c.loop-dir.invariant.count) c.requires.few
+
+pub returns-clause-count : goal.returns-clause-count
+returns-clause-count g c = c.loop-dir.invariant.count

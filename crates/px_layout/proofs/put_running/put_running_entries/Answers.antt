@@ -1,6 +1,10 @@
-use Rattle.std.proofs.Common.{◌∙◌, ap, arith}
+use Rattle.std.proofs.Common.{◌≤◌, ℕ, List, length, flat_map, subst, sym, ◌∙◌, ap, arith}
+use Rattle.std.proofs.lemmas.List.{take_all}
 use Rattle.std.proofs.lemmas.Result.{err_from_is_err_and}
 use Rattle.px_bytes.specs.declared.Order.TheVariants.{Most}
+use Rattle.px_bytes.specs.Devices.{CanFail}
+use Rattle.px_bytes.specs.lemmas.WaitingLaws.{HasPut}
+use Rattle.px_tree.specs.Fits.{Item}
 use Rattle.px_layout.specs.calls.Forms.{said_in}
 use Rattle.px_tree.specs.Entry.{table_size}
 use Rattle.px_layout.specs.Laid.{entry_bytes}
@@ -67,3 +71,18 @@ loop-i-preserved g c = record {
   left = (let h = values_here c.args.entries.now c.loop-i.i _ c.at-entry.ensures.entry in let l = c.loop-i.invariant.left in
       let n = c.next_at-at.ensures in omega arith);
 }
+
+pub put_given_entry-requires-clause-few : goal.put_given_entry-requires-clause-few
+put_given_entry-requires-clause-few g c = subst CanFail (sym c.loop-i.invariant.count) c.requires.few
+
+pub returns-clause-bytes : goal.returns-clause-bytes
+returns-clause-bytes g c =
+    let n = c.len-i-end.ensures in
+    let t = c.loop-i-test.false in
+    let l : length c.args.entries.now ≤ c.loop-i.i = omega arith in
+    subst (λ (xs : List (ℕ × Item)). HasPut g.W.Sink.bytes_taken c.args.writer.now c.loop-i.writer c.args.pending.now c.loop-i.pending
+    (flat_map (entry_bytes (normal_plan (said_in c.args.form.now)) Most 0 c.args.dir) xs))
+    (take_all c.loop-i.i c.args.entries.now l) c.loop-i.invariant.put
+
+pub returns-clause-count : goal.returns-clause-count
+returns-clause-count g c = c.loop-i.invariant.count
