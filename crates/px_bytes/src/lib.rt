@@ -23,6 +23,7 @@ mod causes;
 mod devices;
 mod growing;
 mod held;
+mod listed;
 mod marks;
 mod memory;
 mod numbers;

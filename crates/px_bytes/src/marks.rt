@@ -1,60 +1,25 @@
-// Sets of numbers as bits, which tell the greatest number below another.
-ghost use Rattle.std.specs.Prelude.{◌≡◌, ◌≢◌, ◌↔◌, ℕ, ◌+◌, ◌*◌, ◌/◌, ◌<◌, ◌≤◌, List, [], true, false, length, get_or, max, IfSome, IfNone};
-ghost use Rattle.std.specs.Prelude.{OnOk, OnErr};
-ghost use Rattle.std.specs.Int.{bit_at};
+// Places of a block as bits of words: whether any of a range are marked, and marking them.
+ghost use Rattle.std.specs.Prelude.{◌≡◌, ℕ, ◌+◌, ◌*◌, ◌/◌, ◌-◌, ◌^◌, ◌<◌, ◌≤◌, true, false, [], length, get_or, max};
+ghost use Rattle.std.specs.Prelude.{vec_capacity, IfOk, OnOk, OnErr};
 ghost use Rattle.px_bytes.specs.Lacking.{Lacks, MayAsk};
-ghost use Rattle.px_bytes.specs.calls.Marks.{Has, Sums, IsLast, HasNone, IsLastWord, HasNoWord, SameMarks, MarkedAt};
+ghost use Rattle.px_bytes.specs.calls.Marks.{IsClear, HasOne, SameMarks, Puts};
 
 use crate::memory::{Memory, Refused};
-use std::marker::Model;
 
-// How many marks a word has.
+// How many places a word has.
 const WIDTH: usize = 64;
 
-/// A set of numbers, a bit for each. A second row of bits says which words of the first have a bit
-/// that is set, a third which words of the second, and a fourth which of the third. Contracts see the
-/// words of the first row.
-#[derive(Drop)]
-pub struct Marks {
-    first: Vec<u64>,
-    second: Vec<u64>,
-    third: Vec<u64>,
-    fourth: Vec<u64>,
-}
-
-impl Model for Marks {
-    ghost use Rattle.std.specs.Prelude.{List, ℕ};
-    ghost use Rattle.px_bytes.specs.calls.Marks.{Sums};
-
-    ghost Value = { List ℕ };
-
-    ghost view = { λ m. m.first.items };
-
-    // Each further row tells the words of the one before that have a mark.
-    ghost invariant = { λ m. Sums m.first.items m.second.items
-        × Sums m.second.items m.third.items
-        × Sums m.third.items m.fourth.items };
-}
-
-// The greatest bit of a word that is set.
-fn highest(word: u64) -> usize
-    requires { word ≢ 0 }
-    ensures bound { result < 64 }
-    ensures set { bit_at word result ≡ 1 }
-    ensures above { (k : ℕ) → result < k → bit_at word k ≡ 0 }
+// A word of the bits from `low` up to `high`.
+#[inline(always)]
+fn bits(low: usize, high: usize) -> u64
+    requires some { low < high }
+    requires bound { high ≤ 64 }
+    ensures { result ≡ 2 ^ high - 2 ^ low }
 {
-    word.ilog2() as usize
+    (u64::MAX >> (WIDTH - high)) - ((1 << low) - 1)
 }
 
-// The bits of a word below the one at `count`.
-fn bits_below(word: u64, count: usize) -> u64
-    requires { count < 64 }
-    ensures kept { (k : ℕ) → k < count → bit_at result k ≡ bit_at word k }
-    ensures no_more { (k : ℕ) → bit_at result k ≡ 1 → k < count }
-{
-    word & ((1 << count) - 1)
-}
-
+#[inline(always)]
 fn word_at(words: &[u64], at: usize) -> u64
     ensures { result ≡ get_or words.now at 0 }
 {
@@ -64,220 +29,188 @@ fn word_at(words: &[u64], at: usize) -> u64
     }
 }
 
-// The greatest number of the set below `n` in the word of `n`.
-fn last_near(words: &[u64], n: usize) -> Option<usize>
-    ensures some { IfSome result (IsLast words.now n) }
-    ensures none { IfNone result ((q : ℕ) → q < n → Has words.now q → q / 64 < n / 64) }
+// Whether no place of the word at `at` is marked, from its place `low` up to `high`.
+#[inline(always)]
+fn is_word_clear(words: &[u64], at: usize, low: usize, high: usize) -> bool
+    requires some { low < high }
+    requires bound { high ≤ 64 }
+    ensures clear { result ≡ true → IsClear words.now (at * 64 + low) (at * 64 + high) }
+    ensures marked { result ≡ false → HasOne words.now (at * 64 + low) (at * 64 + high) }
 {
-    let lower = bits_below(word_at(words, n / WIDTH), n % WIDTH);
-    if lower == 0 {
-        return None;
-    }
-    Some(n / WIDTH * WIDTH + highest(lower))
+    word_at(words, at) & bits(low, high) == 0
 }
 
-// The greatest number of the set below `n`, where it is in the word at `at`.
-fn last_in(words: &[u64], n: usize, at: usize) -> usize
-    requires near { (q : ℕ) → q < n → Has words.now q → q / 64 < n / 64 }
-    requires word { IsLastWord words.now (n / 64) at }
-    ensures { IsLast words.now n result }
+// Whether no word from `from` up to `to` has a place that is marked.
+fn are_words_clear(words: &[u64], from: usize, to: usize) -> bool
+    ensures clear { result ≡ true → IsClear words.now (from * 64) (to * 64) }
+    ensures marked { result ≡ false → HasOne words.now (from * 64) (to * 64) }
 {
-    at * WIDTH + highest(words[at])
-}
-
-// The place of the last word before `end` with a bit that is set. It looks at one word after another, and
-// serves for the row of a few words alone.
-fn last_word(words: &[u64], end: usize) -> Option<usize>
-    ensures some { IfSome result (IsLastWord words.now end) }
-    ensures none { IfNone result (HasNoWord words.now end) }
-{
-    let mut left = end.min(words.len());
-    while left > 0 {
-        left -= 1;
-        if words[left] != 0 {
-            return Some(left);
+    let end = to.min(words.len());
+    let mut at = from;
+    while at < end {
+        if !is_word_clear(words, at, 0, WIDTH) {
+            return false;
         }
+        at += 1;
     }
-    None
+    true
 }
 
-fn last_of_one(fourth: &[u64], n: usize) -> Option<usize>
-    ensures some { IfSome result (IsLast fourth.now n) }
-    ensures none { IfNone result (HasNone fourth.now n) }
+// Whether no place from `start` up to `end` is marked. It looks at each word that has one of these places.
+fn are_clear(words: &[u64], start: usize, end: usize) -> bool
+    requires { start < end }
+    ensures clear { result ≡ true → IsClear words.now start end }
+    ensures marked { result ≡ false → HasOne words.now start end }
 {
-    if let Some(found) = last_near(fourth, n) {
-        return Some(found);
+    let first = start / WIDTH;
+    let last = (end - 1) / WIDTH;
+    let high = (end - 1) % WIDTH + 1;
+    if first == last {
+        return is_word_clear(words, first, start % WIDTH, high);
     }
-    let at = last_word(fourth, n / WIDTH)?;
-    Some(last_in(fourth, n, at))
+    is_word_clear(words, first, start % WIDTH, WIDTH)
+        && are_words_clear(words, first + 1, last)
+        && is_word_clear(words, last, 0, high)
 }
 
-fn last_of_two(third: &[u64], fourth: &[u64], n: usize) -> Option<usize>
-    requires { Sums third.now fourth.now }
-    ensures some { IfSome result (IsLast third.now n) }
-    ensures none { IfNone result (HasNone third.now n) }
+/// No place, with room for each before `end`, a bit for each: no call of `put` up to there takes memory.
+pub fn with_room(memory: &mut Memory, end: usize) -> Result<Vec<u64>, Refused>
+    requires { MayAsk end }
+    ensures none { IfOk result (λ words. words.items ≡ []) }
+    ensures room { IfOk result (λ words. end ≤ vec_capacity words * 64) }
+    ensures memory { Lacks result memory.old memory.new }
 {
-    if let Some(found) = last_near(third, n) {
-        return Some(found);
-    }
-    let at = last_of_one(fourth, n / WIDTH)?;
-    Some(last_in(third, n, at))
+    let mut words = memory.list();
+    memory.reserve_exact(&mut words, end.div_ceil(WIDTH))?;
+    Ok(words)
 }
 
-fn last_of_three(second: &[u64], third: &[u64], fourth: &[u64], n: usize) -> Option<usize>
-    requires upper { Sums third.now fourth.now }
-    requires lower { Sums second.now third.now }
-    ensures some { IfSome result (IsLast second.now n) }
-    ensures none { IfNone result (HasNone second.now n) }
-{
-    if let Some(found) = last_near(second, n) {
-        return Some(found);
-    }
-    let at = last_of_two(third, fourth, n / WIDTH)?;
-    Some(last_in(second, n, at))
-}
-
-// Makes a row at least so long, with no further mark.
-fn grow(memory: &mut Memory, words: &mut Vec<u64>, len: usize) -> Result<(), Refused>
-    requires { MayAsk len }
+// Makes each place before `end` one that can be marked: a bit for each.
+fn reserve(memory: &mut Memory, words: &mut Vec<u64>, end: usize) -> Result<(), Refused>
+    requires { MayAsk end }
     ensures same { SameMarks words.old.items words.new.items }
-    ensures longer { length words.old.items ≤ length words.new.items }
-    ensures most { length words.new.items ≤ max (length words.old.items) len }
-    ensures room { OnOk result (len ≤ length words.new.items) }
+    ensures room { OnOk result (end ≤ length words.new.items * 64) }
+    ensures most { length words.new.items * 64 < max (length words.old.items * 64) end + 64 }
     ensures err { OnErr result (words.new.items ≡ words.old.items) }
     ensures memory { Lacks result memory.old memory.new }
 {
+    let len = end.div_ceil(WIDTH);
     if len <= words.len() {
         return Ok(());
     }
     memory.resize(words, len, 0)
 }
 
-fn mark(words: &mut Vec<u64>, n: usize)
-    requires { n / 64 < length words.old.items }
-    ensures { MarkedAt words.old.items words.new.items n }
+// Marks places of the word at `at`, from its place `low` up to `high`.
+#[inline(always)]
+fn put_in_word(words: &mut [u64], at: usize, low: usize, high: usize)
+    requires room { at < length words.old }
+    requires some { low < high }
+    requires bound { high ≤ 64 }
+    ensures puts { Puts words.old words.new (at * 64 + low) (at * 64 + high) }
+    ensures room { length words.new ≡ length words.old }
 {
-    words[n / WIDTH] |= 1 << (n % WIDTH);
+    words[at] |= bits(low, high);
 }
 
-// Marks it, and answers whether its word had no mark before.
-fn mark_new(words: &mut Vec<u64>, n: usize) -> bool
-    requires { n / 64 < length words.old.items }
-    ensures marked { MarkedAt words.old.items words.new.items n }
-    ensures new { result ≡ true ↔ (get_or words.old.items (n / 64) 0 ≡ 0) }
+// Marks each place of the words from `from` up to `to`.
+fn put_words(words: &mut [u64], from: usize, to: usize)
+    requires order { from ≤ to }
+    requires room { to ≤ length words.old }
+    ensures puts { Puts words.old words.new (from * 64) (to * 64) }
+    ensures room { length words.new ≡ length words.old }
 {
-    let is_new = words[n / WIDTH] == 0;
-    mark(words, n);
-    is_new
+    let mut at = from;
+    while at < to {
+        put_in_word(words, at, 0, WIDTH);
+        at += 1;
+    }
 }
 
-// Marks it in the third row, and tells it in the fourth. A word that had a mark is told already: most
-// calls look at a single word.
-fn mark_two(third: &mut Vec<u64>, fourth: &mut Vec<u64>, n: usize)
-    requires room { n / 64 < length third.old.items }
-    requires sums { Sums third.old.items fourth.old.items }
-    ensures marked { MarkedAt third.old.items third.new.items n }
-    ensures sums { Sums third.new.items fourth.new.items }
+// Marks each place from `start` up to `end`. It writes each word that has one of these places.
+fn put_all(words: &mut [u64], start: usize, end: usize)
+    requires some { start < end }
+    requires room { end ≤ length words.old * 64 }
+    ensures { Puts words.old words.new start end }
 {
-    if !mark_new(third, n) {
+    let first = start / WIDTH;
+    let last = (end - 1) / WIDTH;
+    let high = (end - 1) % WIDTH + 1;
+    if first == last {
+        put_in_word(words, first, start % WIDTH, high);
         return;
     }
-    mark(fourth, n / WIDTH);
+    put_in_word(words, first, start % WIDTH, WIDTH);
+    put_words(words, first + 1, last);
+    put_in_word(words, last, 0, high);
 }
 
-fn mark_three(second: &mut Vec<u64>, third: &mut Vec<u64>, fourth: &mut Vec<u64>, n: usize)
-    requires room { n / 64 < length second.old.items }
-    requires upper { Sums third.old.items fourth.old.items }
-    requires lower { Sums second.old.items third.old.items }
-    ensures marked { MarkedAt second.old.items second.new.items n }
-    ensures upper { Sums third.new.items fourth.new.items }
-    ensures lower { Sums second.new.items third.new.items }
+// As `put`, for places of more than one word, or of a word that is not there yet.
+#[inline(never)]
+fn put_far(
+    memory: &mut Memory,
+    words: &mut Vec<u64>,
+    start: usize,
+    end: usize,
+) -> Result<bool, Refused>
+    requires some { start < end }
+    requires bounded { MayAsk end }
+    ensures free { IfOk result (λ free. free ≡ true → IsClear words.old.items start end) }
+    ensures puts { IfOk result (λ free. free ≡ true → Puts words.old.items words.new.items start end) }
+    ensures taken { IfOk result (λ free. free ≡ false → HasOne words.old.items start end) }
+    ensures same { IfOk result (λ free. free ≡ false → words.new.items ≡ words.old.items) }
+    ensures err { OnErr result (words.new.items ≡ words.old.items) }
+    ensures memory { Lacks result memory.old memory.new }
 {
-    if !mark_new(second, n) {
-        return;
+    if !are_clear(words, start, end) {
+        return Ok(false);
     }
-    mark_two(third, fourth, n / WIDTH);
+    reserve(memory, words, end)?;
+    put_all(words, start, end);
+    Ok(true)
 }
 
-impl Marks {
-    /// No number. It takes no memory.
-    pub fn new(memory: &Memory) -> Marks
-        ensures { result ≡ [] }
-    {
-        Marks {
-            first: memory.list(),
-            second: memory.list(),
-            third: memory.list(),
-            fourth: memory.list(),
-        }
+// Marks places of the word at `at`, from its place `low` up to `high`, if none of these is marked. It
+// answers whether none was.
+#[inline(always)]
+fn put_near(words: &mut [u64], at: usize, low: usize, high: usize) -> bool
+    requires room { at < length words.old }
+    requires some { low < high }
+    requires bound { high ≤ 64 }
+    ensures free { result ≡ true → IsClear words.old (at * 64 + low) (at * 64 + high) }
+    ensures puts { result ≡ true → Puts words.old words.new (at * 64 + low) (at * 64 + high) }
+    ensures taken { result ≡ false → HasOne words.old (at * 64 + low) (at * 64 + high) }
+    ensures same { result ≡ false → words.new ≡ words.old }
+{
+    if !is_word_clear(words, at, low, high) {
+        return false;
     }
+    put_in_word(words, at, low, high);
+    true
+}
 
-    /// Memory of the allocator that the rows keep.
-    pub fn memory(&self) -> Memory
-        ensures { result ≡ false }
-    {
-        Memory::new(*self.first.allocator())
+/// Marks each place from `start` up to `end`, if none of these is marked, and answers whether none was. It
+/// looks at each word that has one of these places: most calls find a single one, which is there.
+#[inline(always)]
+pub fn put(
+    memory: &mut Memory,
+    words: &mut Vec<u64>,
+    start: usize,
+    end: usize,
+) -> Result<bool, Refused>
+    requires some { start < end }
+    requires bounded { MayAsk end }
+    ensures free { IfOk result (λ free. free ≡ true → IsClear words.old.items start end) }
+    ensures puts { IfOk result (λ free. free ≡ true → Puts words.old.items words.new.items start end) }
+    ensures taken { IfOk result (λ free. free ≡ false → HasOne words.old.items start end) }
+    ensures same { IfOk result (λ free. free ≡ false → words.new.items ≡ words.old.items) }
+    ensures err { OnErr result (words.new.items ≡ words.old.items) }
+    ensures memory { Lacks result memory.old memory.new }
+{
+    let at = start / WIDTH;
+    let last = (end - 1) / WIDTH;
+    if at < last || words.len() <= at {
+        return put_far(memory, words, start, end);
     }
-
-    /// Makes room for each number up to `n`: a bit for each, and a 63rd of that for the further rows.
-    pub fn reserve(&mut self, memory: &mut Memory, n: usize) -> Result<(), Refused>
-        requires { MayAsk n }
-        ensures same { SameMarks self.old self.new }
-        ensures room { OnOk result (n / 64 < length self.new) }
-        ensures most { length self.new ≤ max (length self.old) (n / 64 + 1) }
-        ensures err { OnErr result (self.new ≡ self.old) }
-        ensures memory { Lacks result memory.old memory.new }
-    {
-        if n / WIDTH < self.first.len() {
-            return Ok(());
-        }
-        self.grow_rows(memory, n)
-    }
-
-    // Makes that room where there is none: a function of its own, since most calls of `reserve` find it made.
-    fn grow_rows(&mut self, memory: &mut Memory, n: usize) -> Result<(), Refused>
-        requires { MayAsk n }
-        ensures same { SameMarks self.old self.new }
-        ensures room { OnOk result (n / 64 < length self.new) }
-        ensures most { length self.new ≤ max (length self.old) (n / 64 + 1) }
-        ensures err { OnErr result (self.new ≡ self.old) }
-        ensures memory { Lacks result memory.old memory.new }
-    {
-        grow(
-            memory,
-            &mut self.fourth,
-            n / WIDTH / WIDTH / WIDTH / WIDTH + 1,
-        )?;
-        grow(memory, &mut self.third, n / WIDTH / WIDTH / WIDTH + 1)?;
-        grow(memory, &mut self.second, n / WIDTH / WIDTH + 1)?;
-        grow(memory, &mut self.first, n / WIDTH + 1)
-    }
-
-    /// Puts `n` into the set.
-    pub fn insert(&mut self, n: usize)
-        requires { n / 64 < length self.old }
-        ensures { MarkedAt self.old self.new n }
-    {
-        if !mark_new(&mut self.first, n) {
-            return;
-        }
-        mark_three(
-            &mut self.second,
-            &mut self.third,
-            &mut self.fourth,
-            n / WIDTH,
-        );
-    }
-
-    /// The greatest number of the set below `n`.
-    pub fn last_below(&self, n: usize) -> Option<usize>
-        ensures some { IfSome result (IsLast self.now n) }
-        ensures none { IfNone result (HasNone self.now n) }
-    {
-        if let Some(found) = last_near(&self.first, n) {
-            return Some(found);
-        }
-        let at = last_of_three(&self.second, &self.third, &self.fourth, n / WIDTH)?;
-        Some(last_in(&self.first, n, at))
-    }
+    Ok(put_near(words, at, start % WIDTH, (end - 1) % WIDTH + 1))
 }
