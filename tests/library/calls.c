@@ -80,7 +80,7 @@ static int want_of_memory; /* whether a growth of the last call was refused; the
 
 #ifdef REFUSES_GROWTHS
 static long until_refused, live;
-static size_t last_asked; /* the bytes of the last growth that was asked for */
+static size_t asked; /* the bytes of all growths that were asked for, added up */
 
 void *__real_malloc(size_t size);
 void *__real_calloc(size_t count, size_t size);
@@ -99,20 +99,21 @@ static int is_refused(void) {
 }
 
 void *__wrap_malloc(size_t size) {
-    last_asked = size;
+    asked += size;
     void *got = is_refused() ? NULL : __real_malloc(size);
     live += got != NULL;
     return got;
 }
 
 void *__wrap_calloc(size_t count, size_t size) {
+    asked += count * size;
     void *got = is_refused() ? NULL : __real_calloc(count, size);
     live += got != NULL;
     return got;
 }
 
 void *__wrap_realloc(void *old, size_t size) {
-    last_asked = size;
+    asked += size;
     void *got = is_refused() ? NULL : __real_realloc(old, size);
     live += got != NULL && old == NULL;
     return got;
@@ -125,6 +126,17 @@ void __wrap_free(void *old) {
 #endif
 
 /* ---- calls */
+
+#ifdef REFUSES_GROWTHS
+/* The bytes that judging a block asks for, where nothing is refused. */
+static size_t asked_by_check(const struct job *job) {
+    uint32_t kind;
+    struct exifnorm_fault fault;
+    asked = 0;
+    exifnorm_check(job->block, job->length, &kind, &fault);
+    return asked;
+}
+#endif
 
 static void try_check(const struct job *job, uint32_t at, struct seen *seen) {
     const char *name = "check";
@@ -158,6 +170,8 @@ static void try_room(const struct job *job, uint32_t at, int which, size_t room,
 #ifdef REFUSES_GROWTHS
     long before = live;
     long number = until_refused;
+    size_t judging = asked_by_check(job);
+    asked = 0;
     until_refused = -number;
 #endif
     uint32_t status = text_calls[which](job->block, job->length, out, room, &written, &fault);
@@ -165,9 +179,9 @@ static void try_room(const struct job *job, uint32_t at, int which, size_t room,
 #ifdef REFUSES_GROWTHS
     until_refused = 0;
     DUE(live == before, "memory was not given back");
-    /* the room for a form is asked for at once, behind all else; std makes no list of fewer than eight bytes */
-    if (which == 0 && due->status == EXIFNORM_DONE && status != EXIFNORM_NO_MEMORY)
-        DUE(last_asked == (due->length < 8 ? 8 : due->length), "the form took other room than its bytes need");
+    /* a form is written into the caller's room: memory is taken for what the block says alone */
+    if (which == 0 && status != EXIFNORM_NO_MEMORY)
+        DUE(asked == judging, "the form took memory");
 #endif
     if (status == EXIFNORM_NO_MEMORY && want_of_memory) {
         DUE(written == 987654321 && is_fault(fault, NO_FAULT) && is_filled(out, room), "something changed without memory");

@@ -96,7 +96,8 @@ uint32_t exifnorm_check(const unsigned char *block, size_t block_length, /* the 
                         uint32_t *kind,                                  /* where its kind is put */
                         struct exifnorm_fault *fault);                   /* where a refusal is told */
 
-/* Puts the block's normal form in front of out. A form has at most twice as many bytes as its block.
+/* Puts the block's normal form in front of out. A form has at most twice as many bytes as its block. It is written straight into
+ * out: memory is taken for what the block says alone, and no more than exifnorm_check takes.
  *
  *   DONE             out begins with the form; written is its length. What stands behind it in out is as it was.
  *   REFUSED          fault is set.

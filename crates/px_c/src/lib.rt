@@ -59,7 +59,8 @@ pub extern "C" fn exifnorm_check(
 /// longer than `LIMIT`. `TOO_LITTLE_ROOM`: `out` is shorter than the form, whose length is in `written`.
 /// `NO_MEMORY`: a growth was refused. `out` is changed where it is done alone, and only as far as the form
 /// goes; `written` there and where there is too little room; `fault` where the file is refused. It takes
-/// memory for what the file says and for the form, which has at most twice as many bytes as the block.
+/// memory for what the file says alone: the form, which has at most twice as many bytes as the block, is
+/// written straight into `out`.
 #[unsafe(no_mangle)]
 pub extern "C" fn exifnorm_normalise(
     alloc: Global,

@@ -9,7 +9,7 @@ use crate::faults::{ExifnormFault, told};
 use crate::giving::give;
 use crate::statuses::{DONE, NO_MEMORY, REFUSED, SECOND_REFUSED, TOO_LITTLE_ROOM, TOO_LONG};
 use px_bytes::Memory;
-use px_engine::{BlockKind, Fault, Side};
+use px_engine::{BlockKind, Fault, Given, Side};
 
 // Answers the kind of the block in a file.
 pub(crate) fn check_in(
@@ -62,8 +62,15 @@ pub(crate) fn normalise_in(
     ensures lacking { result ≡ NO_MEMORY → memory.new ≡ true }
     ensures memory { result ≢ NO_MEMORY → memory.new ≡ memory.old }
 {
-    match px_engine::normal_form_in(memory, file) {
-        Ok(form) => give(&form, out, written),
+    match px_engine::put_form_in(memory, file, out) {
+        Ok(Given::Whole(len)) => {
+            *written = len;
+            DONE
+        }
+        Ok(Given::Lacks(needed)) => {
+            *written = needed;
+            TOO_LITTLE_ROOM
+        }
         Err(Fault::Refused { cause, place }) => {
             *fault = told(cause, place);
             REFUSED
