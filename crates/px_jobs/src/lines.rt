@@ -148,7 +148,6 @@ fn flushed<L: Sink>(lines: &mut L, due: u8) -> u8
 
 /// Writes the line of a fault and flushes, and answers the exit status: the fault's, or 4 where that
 /// fails. `file` is the side that the fault is of, where two files are compared. It takes no memory.
-#[tactic(auto, using(crate::proofs::LineLaws::told))]
 pub fn tell<L: Sink>(lines: &mut L, fault: Fault, file: Option<Side>) -> u8
     requires { CanFail (L.failed lines.old) }
     ensures { TellsFault fault file result (device (L.failed lines.old) (L.failed lines.new) (L.bytes_taken lines.old)
@@ -162,7 +161,6 @@ pub fn tell<L: Sink>(lines: &mut L, fault: Fault, file: Option<Side>) -> u8
 
 /// Writes a line and flushes, and answers the exit status: `due`, or 4 where that fails. It takes no
 /// memory.
-#[tactic(auto, using(crate::proofs::LineLaws::told))]
 pub fn say<L: Sink>(lines: &mut L, line: &[u8], due: u8) -> u8
     requires { CanFail (L.failed lines.old) }
     ensures { Tells due line.now result (device (L.failed lines.old) (L.failed lines.new) (L.bytes_taken lines.old)
@@ -185,7 +183,6 @@ fn is_ended(text: &[u8]) -> bool
 }
 
 // Writes a text and a line feed, and flushes, and answers the exit status.
-#[tactic(auto, using(crate::proofs::LineLaws::told))]
 fn say_ended<L: Sink>(lines: &mut L, text: &str, due: u8) -> u8
     requires { CanFail (L.failed lines.old) }
     ensures { Tells due (text.now ++ end_of None) result (device (L.failed lines.old) (L.failed lines.new) (L.bytes_taken lines.old)
