@@ -1,6 +1,6 @@
 -- Elements turned round one after another.
 use Rattle.std.proofs.Common.{◌≡◌, ℕ, zero, suc, ◌+◌, ◌*◌, ◌/◌, ◌%◌, ◌<◌, ◌≤◌, Bool, true, false, List, [], ◌∷◌, ◌++◌, map, flat_map, length}
-use Rattle.std.proofs.Common.{take, drop, refl, sym, ◌∙◌, ◌-◌, ap, ap₂, arith, subst, replicate, append_assoc, append-nil, length-append, length-drop}
+use Rattle.std.proofs.Common.{take, drop, refl, sym, ◌∙◌, ◌-◌, ap, ap₂, arith, subst, replicate, slice_get, unwrap_or, append_assoc, append-nil, length-append, length-drop}
 use Rattle.std.specs.Int.{w16, w32}
 use Rattle.std.proofs.lemmas.Grind.{common_steps}
 use Rattle.std.proofs.lemmas.Int.{of_z-to_z}
@@ -25,7 +25,7 @@ use Rattle.px_field.specs.calls.Turning.{width_of, read_by, turned}
 use Rattle.px_field.specs.lemmas.PieceLaws.{bytes_take, bytes_drop}
 use Rattle.px_field.specs.lemmas.ElementLaws.{spell-element_of, size-pos}
 use Rattle.px_field.specs.lemmas.ValueLaws.{length-spelled}
-use Rattle.px_field.proofs.ViewLemmas.{length-shown, size-shown, IsValue-shown}
+use Rattle.px_field.proofs.ViewLemmas.{length-shown, size-shown, IsValue-shown, spelled-one}
 
 -- ---- pieces
 
@@ -230,6 +230,21 @@ long_padded w r o f raw is long whole are = rw is (at w (subst (λ (g : Form). w
         sym (append-nil (turned width.Four r o raw))
         ∙ padded_at o (shown false r form.Long raw) (turned width.Four r o raw) 4 (spelled_element false r o form.Long raw h are long)
         (length-spelling o 4 _)
+
+-- four bytes, where there are as many, and else zeros
+pub four_bytes : (x : List ℕ) → length x ≤ 4
+    → unwrap_or (slice_get x 0) 0 ∷ unwrap_or (slice_get x 1) 0 ∷ unwrap_or (slice_get x 2) 0 ∷ unwrap_or (slice_get x 3) 0 ∷ []
+    ≡ x ++ replicate (4 - length x) 0
+four_bytes [] h = refl
+four_bytes (a ∷ []) h = refl
+four_bytes (a ∷ b ∷ []) h = refl
+four_bytes (a ∷ b ∷ c ∷ []) h = refl
+four_bytes (a ∷ b ∷ c ∷ d ∷ []) h = refl
+four_bytes (a ∷ b ∷ c ∷ d ∷ e ∷ x) h = absurd (omega arith)
+
+pub bytes_padded : (w : Bool) (r o : Order) (f : Form) (raw : List ℕ) → (w ≡ true → IsWhole f) → size f ≡ 1
+    → raw ++ replicate (4 - length raw) 0 ≡ Padded o (shown w r f raw)
+bytes_padded w r o f raw whole one = padded_at o (shown w r f raw) raw (length raw) (spelled-one w r o f raw whole one) refl
 
 -- ---- what has room
 

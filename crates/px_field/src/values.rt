@@ -1,6 +1,6 @@
 // A value: bytes in some order, seen as the elements that they spell.
 ghost use Rattle.std.specs.Prelude.{◌≡◌, ◌<◌, ◌≤◌, ◌+◌, ◌-◌, ◌*◌, ◌/◌, ◌%◌, length, map, flat_map, take, drop, min, Some, slice_get};
-ghost use Rattle.std.specs.Prelude.{IsTrue, ◌↔◌, ◌++◌, IsSome, IfSome, replicate, true, false};
+ghost use Rattle.std.specs.Prelude.{IsTrue, ◌↔◌, ◌++◌, IsSome, IfSome, replicate, unwrap_or, true, false};
 ghost use Rattle.px_bytes.specs.declared.Order.{Order};
 ghost use Rattle.px_bytes.specs.Parts.{limit};
 ghost use Rattle.px_field.specs.declared.forms.Form.TheVariants.{Short, Long};
@@ -209,7 +209,7 @@ impl<'a> Value<'a> {
         bytes
     }
 
-    /// The bytes of a value of at most four, and zeros behind them. One SHORT and one LONG take no loop.
+    /// The bytes of a value of at most four, and zeros behind them. One SHORT, one LONG and single bytes take no loop.
     pub fn spell_four(&self, order: Order) -> [u8; 4]
         requires { length (spelled order self.now) ≤ 4 }
         ensures { result ≡ spelled order self.now ++ replicate (4 - length (spelled order self.now)) 0 }
@@ -219,6 +219,9 @@ impl<'a> Value<'a> {
         }
         if is_one_long(self.form, self.raw) {
             return turned_long(self.order, order, self.raw);
+        }
+        if self.form.size() == 1 {
+            return padded_four(self.raw);
         }
         self.spell_few(order)
     }
@@ -292,6 +295,30 @@ fn same_elements(a: &Value, b: &Value) -> bool
         }
     }
     true
+}
+
+// The byte at a place, 0 behind the last.
+fn byte_or_zero(raw: &[u8], i: usize) -> u8
+    ensures { result ≡ unwrap_or (slice_get raw.now i) 0 }
+{
+    match raw.get(i) {
+        Some(byte) => *byte,
+        None => 0,
+    }
+}
+
+// At most four bytes, and zeros behind them.
+#[tactic(auto, using(crate::proofs::TurnLaws::four_bytes))]
+fn padded_four(raw: &[u8]) -> [u8; 4]
+    requires { length raw.now ≤ 4 }
+    ensures { result ≡ raw.now ++ replicate (4 - length raw.now) 0 }
+{
+    [
+        byte_or_zero(raw, 0),
+        byte_or_zero(raw, 1),
+        byte_or_zero(raw, 2),
+        byte_or_zero(raw, 3),
+    ]
 }
 
 // Whether an element is two numbers of four bytes.
