@@ -99,7 +99,7 @@ fn put_by_pieces<W: Sink>(
     Ok(())
 }
 
-// A value of eight bytes, as one RATIONAL: the most common that is placed.
+// A value of eight bytes, as one RATIONAL: the most common that is placed. One caller alone has it in its loop.
 pub(crate) fn put_eight<W: Sink>(
     pending: &mut Pending,
     writer: &mut W,
@@ -131,11 +131,7 @@ fn put_elements<W: Sink>(
     ensures bytes { PutsTo W.bytes_taken result writer.old writer.new pending.old pending.new (flat_map (spell order) value.now.elements) }
     ensures count { Counts result (W.failed writer.old) (W.failed writer.new) }
 {
-    let size = value.size();
-    if size == 8 {
-        return put_eight(pending, writer, order, value);
-    }
-    if size <= FEW as u64 {
+    if value.size() <= FEW as u64 {
         return put_by_pieces(pending, writer, order, value, &mut [0; FEW]);
     }
     put_by_pieces(pending, writer, order, value, &mut [0; MANY])
