@@ -1,6 +1,8 @@
-use Rattle.std.proofs.Common.{◌≡◌, ◌∙◌, ◌*◌, ℕ, List, take, ap, arith}
+use Rattle.std.proofs.Common.{refl, subst, sym, ◌≡◌, ◌∙◌, ◌*◌, ℕ, List, take, ap, arith}
 use Rattle.std.proofs.lemmas.Result.{err_from_is_err_and}
 use Rattle.px_field.specs.Values.{spell}
+use Rattle.px_bytes.specs.lemmas.WaitingLaws.{put_none}
+use Rattle.px_bytes.specs.Devices.{CanFail}
 use Rattle.px_layout.specs.lemmas.PutLaws.{more_many, stop_many}
 use Rattle.px_layout.proofs.put.put_by_pieces.Goals as goal
 
@@ -24,3 +26,16 @@ loop-i-preserved g c = record {
       (c.in_ok-put.ensures.bytes, c.in_ok-put.ensures.waits);
   count = c.in_ok-put.ensures.count ∙ c.loop-i.invariant.count;
 }
+
+pub loop-i-init : goal.loop-i-init
+loop-i-init g c = record {
+  inside = omega arith;
+  put = put_none g.W.Sink.bytes_taken c.args.writer.now c.args.pending.now;
+  count = refl;
+}
+
+pub put-requires : goal.put-requires
+put-requires g c = subst CanFail (sym c.loop-i.invariant.count) c.requires.few
+
+pub returns-clause-count : goal.returns-clause-count
+returns-clause-count g c = c.loop-i.invariant.count

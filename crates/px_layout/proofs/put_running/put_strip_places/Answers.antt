@@ -1,10 +1,11 @@
-use Rattle.std.proofs.Common.{◌≡◌, ◌∙◌, ℕ, List, take, flat_map, arith, subst}
+use Rattle.std.proofs.Common.{refl, sym, ◌≡◌, ◌∙◌, ℕ, List, take, flat_map, arith, subst}
 use Rattle.std.proofs.lemmas.List.{take_all}
 use Rattle.std.proofs.lemmas.Result.{err_from_is_err_and}
-use Rattle.px_bytes.specs.lemmas.WaitingLaws.{HasPut}
+use Rattle.px_bytes.specs.lemmas.WaitingLaws.{put_none, HasPut}
 use Rattle.px_bytes.specs.declared.Order.TheVariants.{Most}
 use Rattle.px_layout.specs.Laid.{long_bytes}
 use Rattle.px_layout.specs.calls.Given.{strip_places}
+use Rattle.px_bytes.specs.Devices.{CanFail}
 use Rattle.px_layout.specs.lemmas.PutLaws.{more_behind, stop_behind}
 use Rattle.px_layout.proofs.writing.Runs.{length_places}
 use Rattle.px_layout.proofs.put_running.put_strip_places.Goals as goal
@@ -34,3 +35,17 @@ returns-clause-bytes g c =
     take_all c.loop-i.i (strip_places c.args.at c.args.strips.now) (omega (arith, length_places c.args.at c.args.strips.now)) in
     subst (λ (xs : List ℕ). HasPut g.W.Sink.bytes_taken c.args.writer.now c.loop-i.writer c.args.pending.now c.loop-i.pending
     (flat_map (long_bytes Most) xs)) all c.loop-i.invariant.put
+
+pub loop-i-init : goal.loop-i-init
+loop-i-init g c = record {
+  inside = omega arith;
+  put = put_none g.W.Sink.bytes_taken c.args.writer.now c.args.pending.now;
+  count = refl;
+  left = refl;
+}
+
+pub put-requires : goal.put-requires
+put-requires g c = subst CanFail (sym c.loop-i.invariant.count) c.requires.few
+
+pub returns-clause-count : goal.returns-clause-count
+returns-clause-count g c = c.loop-i.invariant.count

@@ -1,7 +1,8 @@
-use Rattle.std.proofs.Common.{sym, ◌∙◌, ltb-false}
+use Rattle.std.proofs.Common.{ℕ, subst, sym, ◌∙◌, ltb-false}
 use Rattle.std.proofs.lemmas.Result.{err_from_is_err_and}
 use Rattle.px_layout.specs.calls.Items.{entry_of}
 use Rattle.px_plans.specs.calls.Layouts.{said_plan}
+use Rattle.px_bytes.specs.Devices.{CanFail, Counts}
 use Rattle.px_layout.specs.lemmas.PutLaws.{both_as, first_as}
 use Rattle.px_layout.specs.lemmas.EntryBytes.{last_inside}
 use Rattle.px_plans.proofs.put_item.put_last.Goals as goal
@@ -20,3 +21,14 @@ returns-clause-bytes g c =
     (last_inside (said_plan c.args.layout.now) c.args.layout.now.order c.args.layout.now.filler c.args.dir (entry_of c.args.entry.now)
     c.size-size.result c.size-size.ensures (ltb-false 4 _ (sym c.needs_place.ensures ∙ c.if-needs_place.false)))
     c.in_ok-put_item.ensures.bytes c.put_filler.ensures.bytes
+
+pub returns-in_err-put_item-clause-count : goal.returns-in_err-put_item-clause-count
+returns-in_err-put_item-clause-count g c =
+    let p = err_from_is_err_and c.from_residual.result c.from_residual.ensures.1 in rw p.1 c.in_err-put_item.ensures.count
+
+pub put_filler-requires-clause-few : goal.put_filler-requires-clause-few
+put_filler-requires-clause-few g c = subst CanFail (sym c.in_ok-put_item.ensures.count) c.requires.few
+
+pub returns-clause-count : goal.returns-clause-count
+returns-clause-count g c =
+    subst (λ (n : ℕ). Counts c.put_filler.result n (g.W.Device.failed c.put_filler.new.writer)) c.in_ok-put_item.ensures.count c.put_filler.ensures.count
