@@ -1,6 +1,6 @@
 -- Chunks that are held one after the other, and how far that tells whether all stand.
-use Rattle.std.proofs.Common.{◌≡◌, ℕ, suc, ◌+◌, ◌<◌, ◌≤◌, Bool, true, false, ◌&&◌, nat_le, Some, None, List, [], ◌∷◌, drop, length, get_or}
-use Rattle.std.proofs.Common.{refl, sym, ◌∙◌, ap, ap₂, subst, arith, drop-cons, le-leb}
+use Rattle.std.proofs.Common.{◌≡◌, ℕ, suc, ◌+◌, ◌<◌, ◌≤◌, Bool, true, false, ◌&&◌, nat_le, Some, None, List, ◌∷◌, drop, length, get_or}
+use Rattle.std.proofs.Common.{sym, ◌∙◌, ap, ap₂, subst, arith, drop-cons, le-leb}
 use Rattle.std.specs.Prelude.{is_some, unwrap_or, IfOk, Result, Ok, Err}
 use Rattle.std.proofs.lemmas.Bool.{lt-leb}
 use Rattle.std.proofs.lemmas.List.{drop_all}
