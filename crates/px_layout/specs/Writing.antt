@@ -6,9 +6,8 @@ use Rattle.px_bytes.specs.declared.WriteRefusal.TheVariants.{NormalTooLong, OutO
 use Rattle.px_bytes.specs.declared.Order.TheVariants.{Most}
 use Rattle.px_bytes.specs.Devices.{AppendsPrefix}
 use Rattle.px_bytes.specs.Parts.{limit}
-use Rattle.px_field.specs.Values.{Value, spelled}
 use Rattle.px_tree.specs.Tree.{Meaning}
-use Rattle.px_tree.specs.Fits.{Item, Field, item_size}
+use Rattle.px_tree.specs.Fits.{Item, item_size}
 use Rattle.px_layout.specs.Plans.{Plan}
 use Rattle.px_layout.specs.Laid.{item_bytes}
 use Rattle.px_layout.specs.Normal.{padded, normal_exif}
@@ -26,7 +25,3 @@ WritesExif (Err WriteFailed) old new failed failed_now m =
 -- a placed value of the normal form with its padding, nothing where the value stands in its entry
 abbrev pub placed_bytes : Plan → ℕ × Item → List ℕ
 placed_bytes plan i = if nat_lt 4 (item_size i.1) then padded (item_bytes plan Most 0 i.1) else []
-
--- the same of a field's value
-abbrev pub field_bytes : Value → List ℕ
-field_bytes v = if nat_lt 4 (item_size (Field v)) then padded (spelled Most v) else []

@@ -11,9 +11,9 @@ ghost use Rattle.px_layout.specs.lemmas.ItemLaws.{Suits};
 ghost use Rattle.px_layout.specs.calls.Items.{item_of, entry_of, IsCounted};
 ghost use Rattle.px_layout.specs.Laid.{item_bytes, contents_of_dir, contents};
 ghost use Rattle.px_layout.specs.Normal.{normal_exif, padded};
-ghost use Rattle.px_layout.specs.calls.Given.{TellsAll};
+ghost use Rattle.px_layout.specs.calls.Given.{TellsAll, field_bytes};
 ghost use Rattle.px_layout.specs.calls.Forms.{said_in, plan_in, IsForm};
-ghost use Rattle.px_layout.specs.Writing.{placed_bytes, field_bytes};
+ghost use Rattle.px_layout.specs.Writing.{placed_bytes};
 ghost use Rattle.px_field.specs.Values.{spelled};
 
 use crate::entries::{Entries, entries_in};

@@ -1,7 +1,7 @@
 use Rattle.std.proofs.Common.{◌∙◌, [], sym, ltb-true, ltb-false}
 use Rattle.px_bytes.specs.declared.Order.TheVariants.{Most}
 use Rattle.px_bytes.specs.lemmas.WaitingLaws.{put_none}
-use Rattle.px_layout.specs.Writing.{field_bytes}
+use Rattle.px_layout.specs.calls.Given.{field_bytes}
 use Rattle.px_layout.specs.lemmas.PutLaws.{puts_as, has_as}
 use Rattle.px_layout.proofs.writing.FieldBytes.{field_size, field_eight, field_placed, field_inside}
 use Rattle.px_layout.proofs.put_form.put_placed_field.Goals as goal
