@@ -103,21 +103,37 @@ fn is_between(low: u16, tag: u16, high: u16) -> bool
     low < tag && tag < high
 }
 
-/// Whether a tag lies where no directory has a use of its own for any, nor refuses one. Most tags do, and are told by
-/// one comparison or two.
+/// Whether no directory has a use of its own for a tag, nor refuses it. Most tags lie between all those, which one
+/// comparison tells.
+#[tactic(auto, using(crate::proofs::reading::NoUse::between_tables))]
 pub fn has_no_use(tag: u16) -> bool
     ensures { result ≡ true → HasNoUse tag }
 {
     if is_between(JPEG_AC_TABLES, tag, IPTC_NAA) {
         return true;
     }
-    if is_between(GPS_INFO_IFD_POINTER, tag, PIXEL_X_DIMENSION) {
-        return true;
+    match tag {
+        SUB_IFDS
+        | TILE_OFFSETS
+        | FREE_OFFSETS
+        | STRIP_OFFSETS
+        | STRIP_BYTE_COUNTS
+        | ROWS_PER_STRIP
+        | IMAGE_WIDTH
+        | IMAGE_LENGTH
+        | JPEG_INTERCHANGE_FORMAT
+        | JPEG_INTERCHANGE_FORMAT_LENGTH
+        | JPEG_Q_TABLES
+        | JPEG_DC_TABLES
+        | JPEG_AC_TABLES
+        | IPTC_NAA
+        | EXIF_IFD_POINTER
+        | GPS_INFO_IFD_POINTER
+        | PIXEL_X_DIMENSION
+        | PIXEL_Y_DIMENSION
+        | INTEROPERABILITY_IFD_POINTER => false,
+        _ => true,
     }
-    if tag > INTEROPERABILITY_IFD_POINTER {
-        return true;
-    }
-    tag < IMAGE_WIDTH
 }
 
 // What a tag is in a directory, where it is known whether no directory has a use for it.
