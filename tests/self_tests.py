@@ -173,7 +173,7 @@ class Judging(unittest.TestCase):
         """Where a file's bytes would be held twice, or asked for once more, the limits are passed: they leave less than that."""
         size = LIMIT
         most = limits_of(Case("", words=["check", "a"], files={"a": bytes(size)}, holds=[Holds(1, 0, [])]), Outcome(0, b"ok exif\n", b""))
-        judged = size // 4 + size // 100  # the bytes themselves, and marks for them
+        judged = size // 8 + size // 100  # a bit for each of the bytes
         read = reading(size)
         self.assertLess(most.held, read.room + judged + size)
         self.assertLess(most.asked, read.asked + judged + size)
@@ -181,7 +181,7 @@ class Judging(unittest.TestCase):
     def test_a_file_that_is_read_into_a_list_that_doubles_costs_too_much(self):
         size = 9 << 20
         most = limits_of(Case("", words=["check", "a"], files={"a": bytes(size)}, holds=[Holds(1, 0, [])]), Outcome(0, b"ok exif\n", b""))
-        self.assertLess(most.held, (16 << 20) + size // 4)
+        self.assertLess(most.held, (16 << 20) + size // 8)
 
     def test_a_record_that_is_listed_twice_costs_too_much(self):
         size, once = 5 * 3_000_000, growth(3_000_000)

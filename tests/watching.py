@@ -139,13 +139,13 @@ def most_held(sizes, told):
 
 def limits_of(case, outcome):
     """The most that a run may cost. A file is read in whole buffers of one size, into a list that grows, and each of its bytes takes
-    some quarter of a byte more while it is judged; beside that there is what it says. A normal form and a text take no memory. They
+    an eighth of a byte more while it is judged; beside that there is what it says. A normal form and a text take no memory. They
     go out in one write where they fit into what waits, else in writes of which any two make up more than that."""
     sizes = sizes_read(case)
     read = [reading(it) for it in sizes]
     sent = bytes_sent(case, outcome)
     said = [memory_of(held, size) for held, size in zip(case.holds or [None] * len(sizes), sizes)]
-    judged = sum(sizes) * 26 // 100 + CHUNK * len(sizes)
+    judged = sum(sizes) * 13 // 100 + CHUNK * len(sizes)
     words = WORDS if case.words else 0
     held = with_slack(sum(it.room for it in read) + judged + sum(it.room for it in said) + words)
     return Counts(

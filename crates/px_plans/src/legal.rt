@@ -81,7 +81,7 @@ fn are_apart(memory: &mut Memory, plan: &Plan, chunks: &[(Chunk, u64)]) -> Resul
 /// share a byte, nor one and the header. TIFF 6.0 section 7, "No Duplicate Pointers".
 ///
 /// An error comes where a growth was refused, for a plan of such a length: it takes memory for a list of
-/// the chunks and for their ranges. The cost grows with the number of chunks and its logarithm.
+/// the chunks and for their ranges. The cost grows with the number of chunks and its logarithm, and by a word for 64 of their bytes.
 pub fn is_legal(alloc: Global, m: &Meaning, plan: &Plan) -> Result<bool, AllocError>
     requires { Fits (meaning_of m.now) }
     ensures legal { IfOk result (λ legal. IsTrue legal ↔ Legal (meaning_of m.now) (plan_of plan.now)) }
