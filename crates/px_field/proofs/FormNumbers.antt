@@ -1,43 +1,31 @@
 -- The numbers of types: twelve, and one apart.
-use Rattle.std.proofs.Common.{◌≡◌, ◌<◌, ◌==◌, ℕ, Some, None, List, [], ◌∷◌, ◌++◌, refl, ◌∙◌, arith}
-use Rattle.std.specs.List.{AllByRecursion, find}
-use Rattle.std.proofs.lemmas.Bool.{cond-false, ne_eqb}
+use Rattle.std.proofs.Common.{◌≡◌, ◌<◌, ◌==◌, nat_le, ℕ, None, Some, List, [], ◌∷◌, ◌++◌, Bool, true, refl, ◌∙◌, arith}
+use Rattle.std.specs.List.{find, list_all}
+use Rattle.std.proofs.lemmas.Bool.{cond-false, ne_eqb, and_parts, leb-true}
 use Rattle.px_field.specs.declared.forms.Form.{Form}
-use Rattle.px_field.specs.declared.forms.Form.TheVariants as form
+use Rattle.px_field.specs.declared.forms.Form.TheVariants.{Byte, Ascii, Short, Long, Rational, SByte, Undefined, SShort, SLong, SRational}
+use Rattle.px_field.specs.declared.forms.Form.TheVariants.{Float, Double, Utf8}
 use Rattle.px_field.specs.Forms.{code, form_of}
 
--- types of other numbers are passed over
-passed : (n : ℕ) (fs gs : List Form) → AllByRecursion (λ f. code f ≡ n → ⊥) fs
-    → find (λ f. code f == n) (fs ++ gs) ≡ find (λ f. code f == n) gs
-passed n [] gs h = refl
-passed n (f ∷ fs) gs h =
-    cond-false (code f == n) (Some f) (find (λ g. code g == n) (fs ++ gs)) (ne_eqb (code f) n h.0) ∙ passed n fs gs h.1
+abbrev is_low : Form → Bool
+is_low f = nat_le (code f) 12
 
-above : (n : ℕ) → 12 < n → form_of n ≡ find (λ f. code f == n) (form.Utf8 ∷ [])
+abbrev low_forms : List Form
+low_forms = Byte ∷ Ascii ∷ Short ∷ Long ∷ Rational ∷ SByte ∷ Undefined ∷ SShort ∷ SLong ∷ SRational ∷ Float ∷ Double ∷ []
+
+-- types of numbers up to 12 are passed over
+passed : (n : ℕ) (fs gs : List Form) → list_all is_low fs ≡ true → 12 < n
+    → find (λ f. code f == n) (fs ++ gs) ≡ find (λ f. code f == n) gs
+passed n [] gs h l = refl
+passed n (f ∷ fs) gs h l =
+    let parts = and_parts (is_low f) (list_all is_low fs) h in
+    let low = leb-true (code f) 12 parts.0 in
+    cond-false (code f == n) (Some f) (find (λ g. code g == n) (fs ++ gs)) (ne_eqb (code f) n (λ e. omega (arith, low)))
+    ∙ passed n fs gs parts.1 l
+
+above : (n : ℕ) → 12 < n → form_of n ≡ find (λ f. code f == n) (Utf8 ∷ [])
 unfolding form_of
-above n l =
-    passed n (form.Byte ∷ form.Ascii ∷ form.Short ∷ form.Long ∷ form.Rational ∷ form.SByte ∷ form.Undefined ∷ form.SShort ∷ form.SLong ∷ form.SRational ∷ form.Float ∷ form.Double ∷ []) (form.Utf8 ∷ []) (
-      λ e. omega arith,
-      (
-        λ e. omega arith,
-        (
-          λ e. omega arith,
-          (
-            λ e. omega arith,
-            (
-              λ e. omega arith,
-              (
-                λ e. omega arith,
-                (
-                  λ e. omega arith,
-                  (λ e. omega arith, (λ e. omega arith, (λ e. omega arith, (λ e. omega arith, (λ e. omega arith, tt))))),
-                ),
-              ),
-            ),
-          ),
-        ),
-      ),
-    )
+above n l = passed n low_forms (Utf8 ∷ []) refl l
 
 pub above_none : (n : ℕ) → 12 < n → (n ≡ 129 → ⊥) → form_of n ≡ None
-above_none n l h = above n l ∙ cond-false (129 == n) (Some form.Utf8) None (ne_eqb 129 n (λ e. h (omega (arith, e))))
+above_none n l h = above n l ∙ cond-false (129 == n) (Some Utf8) None (ne_eqb 129 n (λ e. h (omega (arith, e))))

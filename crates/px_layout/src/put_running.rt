@@ -12,7 +12,8 @@ ghost use Rattle.px_layout.specs.Laid.{long_bytes, item_bytes, entry_bytes, next
 ghost use Rattle.px_layout.specs.Normal.{normal_plan};
 ghost use Rattle.px_layout.specs.Plans.{place};
 ghost use Rattle.px_layout.specs.lemmas.RunLaws.{start, strips_start, value_size};
-ghost use Rattle.px_layout.specs.calls.Given.{head_bytes, entry_given, field_given, strip_list, TellsAll, near_given, strips_size, strip_places};
+ghost use Rattle.px_layout.specs.calls.Given.{head_bytes, entry_given, field_given, near_given};
+ghost use Rattle.px_layout.specs.calls.Given.{strip_list, TellsAll, strips_size, strip_places};
 ghost use Rattle.px_layout.specs.calls.Forms.{said_in, plan_in, IsForm};
 
 use crate::chunks::Chunk;

@@ -1,6 +1,6 @@
 -- The bytes of fields: their entries, and their values.
-use Rattle.std.proofs.Common.{◌≡◌, ◌<◌, ◌≤◌, ◌-◌, ◌*◌, ◌%◌, ℕ, nat_lt, List, [], ◌++◌, length, replicate, refl, sym, ◌∙◌, ap, arith, append-nil, lt-ltb}
-use Rattle.std.proofs.Common.{ltb-true, ltb-false, inl, inr}
+use Rattle.std.proofs.Common.{◌≡◌, ◌<◌, ◌≤◌, ◌-◌, ◌*◌, ◌%◌, ℕ, nat_lt, List, [], ◌++◌, length, replicate, refl, sym, ◌∙◌, ap, arith}
+use Rattle.std.proofs.Common.{append-nil, lt-ltb, ltb-true, ltb-false, inl, inr}
 use Rattle.std.proofs.lemmas.Bool.{cond-true, cond-false, cases_Bool, le-ltb}
 use Rattle.px_bytes.specs.declared.Order.TheVariants.{Most}
 use Rattle.px_field.specs.Forms.{size}
@@ -24,7 +24,8 @@ field_size v n e = e
 rest : Value → List ℕ
 rest v = spelled Most v ++ replicate (4 - item_size (Field v)) 0
 
-pub field_far : (at t n : ℕ) (v : Value) → n ≡ item_size (Field v) → 4 < n → head_bytes Most (t, Field v) ++ long_bytes Most at ≡ field_given at t v
+pub field_far : (at t n : ℕ) (v : Value) → n ≡ item_size (Field v) → 4 < n
+    → head_bytes Most (t, Field v) ++ long_bytes Most at ≡ field_given at t v
 unfolding rest
 field_far at t n v e l =
     ap (λ (x : List ℕ). head_bytes Most (t, Field v) ++ x)
