@@ -7,7 +7,8 @@ ghost use Rattle.px_tree.specs.Entry.{table_size};
 ghost use Rattle.px_tree.specs.Fits.{Fits, items};
 ghost use Rattle.px_tree.specs.calls.Seen.{thumb_of, meaning_of};
 ghost use Rattle.px_layout.specs.calls.Items.{item_of, entry_of, IsCounted};
-ghost use Rattle.px_layout.specs.Chunks.{placed_chunk, dir_chunks, chunks_of_dir, jpeg_chunks, strip_chunks, all_strip_chunks, thumb_chunks, chunks};
+ghost use Rattle.px_layout.specs.Chunks.{placed_chunk, dir_chunks, chunks_of_dir, jpeg_chunks, strip_chunks, all_strip_chunks};
+ghost use Rattle.px_layout.specs.Chunks.{thumb_chunks, chunks};
 
 use px_bytes::{Memory, Refused};
 use px_layout::{Chunk, Entries, Entry, entries_in, table_len};

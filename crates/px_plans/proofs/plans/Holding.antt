@@ -47,7 +47,8 @@ module _ (plan : Plan) where
 
   -- ---- chunk by chunk
 
-  here : (cs : List (Chunk × ℕ)) (i : ℕ) (c : Chunk × ℕ) (d : Chunk × ℕ) → i < length cs → c ≡ get_or cs i d → drop i cs ≡ c ∷ drop (i + 1) cs
+  here : (cs : List (Chunk × ℕ)) (i : ℕ) (c : Chunk × ℕ) (d : Chunk × ℕ) → i < length cs → c ≡ get_or cs i d → drop i cs ≡ c ∷ drop
+      (i + 1) cs
   here cs i c d l e = let k : suc i ≡ i + 1 = omega arith in
       drop-cons cs i d l ∙ ap₂ (λ y ys. y ∷ ys) (sym e) (ap (λ j. drop j cs) k)
 

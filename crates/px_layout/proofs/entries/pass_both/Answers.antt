@@ -5,4 +5,5 @@ pub returns-in-Here : goal.returns-in-Here
 returns-in-Here c = upper_here c.in-Here.tag c.in-Here.item c.args.upper.now c.args.lower.now c.args.i c.in-Here.ensures
 
 pub returns-in-Under : goal.returns-in-Under
-returns-in-Under c = both c.pass-in-Under.result c.args.upper.now c.args.lower.now c.args.i c.in-Under.i c.in-Under.ensures c.pass-in-Under.ensures
+returns-in-Under c = both c.pass-in-Under.result c.args.upper.now c.args.lower.now c.args.i c.in-Under.i c.in-Under.ensures
+    c.pass-in-Under.ensures

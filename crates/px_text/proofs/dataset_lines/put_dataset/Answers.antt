@@ -53,7 +53,8 @@ returns-in_err-put_decimal-clause-bytes g c =
     let first = decimal c.args.rec in
     let third = decimal c.args.item.now.number in
     let fourth = sized_bytes c.args.item.now.octets.now in
-    rw p.1 (puts_first _ _ held (first ++ codes ":" ++ third) fourth (puts_first _ _ held (first ++ codes ":") third (puts_first _ _ held first
+    rw p.1 (puts_first _ _ held (first ++ codes ":" ++ third) fourth (puts_first _ _ held (first ++ codes ":") third
+        (puts_first _ _ held first
     (codes ":") c.in_err-put_decimal.ensures.bytes)))
 
 pub returns-in_err-put_decimal-clause-count : goal.returns-in_err-put_decimal-clause-count
@@ -78,8 +79,10 @@ returns-in_err-put_decimal-2-clause-count g c =
     rw p.1 (fails _ _ _ (c.in_ok-put.ensures.count ∙ c.in_ok-put_decimal.ensures.count) c.in_err-put_decimal-2.ensures.count)
 
 pub put_sized-requires : goal.put_sized-requires
-put_sized-requires g c = can_fail _ _ (c.in_ok-put_decimal-2.ensures.count ∙ c.in_ok-put.ensures.count ∙ c.in_ok-put_decimal.ensures.count) c.requires
+put_sized-requires g c = can_fail _ _ (c.in_ok-put_decimal-2.ensures.count ∙ c.in_ok-put.ensures.count
+    ∙ c.in_ok-put_decimal.ensures.count) c.requires
 
 pub returns-clause-count : goal.returns-clause-count
 returns-clause-count g c =
-    counts c.put_sized.result _ _ _ (c.in_ok-put_decimal-2.ensures.count ∙ c.in_ok-put.ensures.count ∙ c.in_ok-put_decimal.ensures.count) c.put_sized.ensures.count
+    counts c.put_sized.result _ _ _ (c.in_ok-put_decimal-2.ensures.count ∙ c.in_ok-put.ensures.count
+        ∙ c.in_ok-put_decimal.ensures.count) c.put_sized.ensures.count

@@ -42,7 +42,8 @@ returns-in_err-put_name-clause-bytes g c =
     let first = encode_lower (spelling Most 2 c.args.tag) ++ codes " " ++ type_word c.args.value.now.kind ++ codes " " in
     let second = decimal (length c.args.value.now.elements) in
     rw p.1 (puts_first _ _ held (first ++ second) (codes ":") (puts_first _ _ held first second (prefix_as _ _ held _ _ (ap (λ (k : Kind).
-    encode_lower (spelling Most 2 c.args.tag) ++ codes " " ++ type_word k ++ codes " ") c.kind.ensures.kind) c.in_err-put_name.ensures.bytes)))
+    encode_lower (spelling Most 2 c.args.tag) ++ codes " " ++ type_word k ++ codes " ") c.kind.ensures.kind)
+        c.in_err-put_name.ensures.bytes)))
 
 pub returns-in_err-put_name-clause-count : goal.returns-in_err-put_name-clause-count
 returns-in_err-put_name-clause-count g c =

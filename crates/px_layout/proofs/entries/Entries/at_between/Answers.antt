@@ -46,7 +46,8 @@ returns-in-Here-pass_both-clause-entry c =
     let e = c.self.inside in
     let v = c.self.invariant in
     ap (λ (xs : List (ℕ × Item)). slice_get xs c.args.i) (sym c.self.view_is)
-    ∙ (both_twice (Here c.in-Here-pass_both.tag c.in-Here-pass_both.item) e.first e.second e.third e.fourth (field_items e.fields.now) c.args.i
+    ∙ (both_twice (Here c.in-Here-pass_both.tag c.in-Here-pass_both.item) e.first e.second e.third e.fourth
+        (field_items e.fields.now) c.args.i
     c.in-Under.i c.in-Under.ensures c.in-Here-pass_both.ensures v.first v.second v.third v.fourth
     (subst (λ (xs : List (ℕ × Item)). c.args.i < length xs) (sym c.self.view_is) c.requires)).0
 
@@ -54,6 +55,7 @@ pub returns-in-Here-pass_both-clause-counted : goal.returns-in-Here-pass_both-cl
 returns-in-Here-pass_both-clause-counted c =
     let e = c.self.inside in
     let v = c.self.invariant in
-    (both_twice (Here c.in-Here-pass_both.tag c.in-Here-pass_both.item) e.first e.second e.third e.fourth (field_items e.fields.now) c.args.i
+    (both_twice (Here c.in-Here-pass_both.tag c.in-Here-pass_both.item) e.first e.second e.third e.fourth
+        (field_items e.fields.now) c.args.i
     c.in-Under.i c.in-Under.ensures c.in-Here-pass_both.ensures v.first v.second v.third v.fourth
     (subst (λ (xs : List (ℕ × Item)). c.args.i < length xs) (sym c.self.view_is) c.requires)).1
