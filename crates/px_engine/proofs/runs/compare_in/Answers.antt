@@ -39,7 +39,7 @@ returns-clause-untouched g c = untouched c.compare_second-same.result _ _ _ _ c.
 pub returns-clause-reads : goal.returns-clause-reads
 returns-clause-reads g c =
     counted c.compare_second-same.result _ _ _ _ _ _ c.in_ok-file.ensures.count c.compare_second-same.ensures.done
-        c.compare_second-same.ensures.reads
+    c.compare_second-same.ensures.reads
 
 pub returns-clause-memory : goal.returns-clause-memory
 returns-clause-memory g c =

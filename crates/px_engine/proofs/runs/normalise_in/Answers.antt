@@ -18,7 +18,7 @@ returns-in_err-said-clause-done g c =
 pub returns-clause-memory : goal.returns-clause-memory
 returns-clause-memory g c =
     lacks_nothing c.write_said-done.result _ _ _ _ _ _ _ (c.in_ok-said.ensures.memory ∙ c.in_ok-file.ensures.memory)
-        c.write_said-done.ensures
+    c.write_said-done.ensures
 
 pub returns-in_err-said-clause-memory : goal.returns-in_err-said-clause-memory
 returns-in_err-said-clause-memory g c =

@@ -20,4 +20,4 @@ put_padding-requires g c = subst CanFail (sym c.in_ok-put.ensures.count) c.requi
 pub returns-clause-count : goal.returns-clause-count
 returns-clause-count g c =
     subst (λ (n : ℕ). Counts c.put_padding.result n (g.W.Device.failed c.put_padding.new.writer)) c.in_ok-put.ensures.count
-        c.put_padding.ensures.count
+    c.put_padding.ensures.count

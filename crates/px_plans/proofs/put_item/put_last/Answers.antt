@@ -32,4 +32,4 @@ put_filler-requires-clause-few g c = subst CanFail (sym c.in_ok-put_item.ensures
 pub returns-clause-count : goal.returns-clause-count
 returns-clause-count g c =
     subst (λ (n : ℕ). Counts c.put_filler.result n (g.W.Device.failed c.put_filler.new.writer)) c.in_ok-put_item.ensures.count
-        c.put_filler.ensures.count
+    c.put_filler.ensures.count

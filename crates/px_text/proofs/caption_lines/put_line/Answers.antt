@@ -50,7 +50,7 @@ returns-in_err-put-clause-bytes g c =
     let first = label_word c.args.caption.label in
     let third = escaped c.args.caption.text.now in
     rw p.1 (puts_first _ _ held (first ++ codes ": " ++ third) (codes "\n") (puts_first _ _ held (first ++ codes ": ") third
-        (puts_first _ _ held
+    (puts_first _ _ held
     first (codes ": ") (prefix_as _ _ held _ _ c.label_word.ensures c.in_err-put.ensures.bytes))))
 
 pub returns-in_err-put-clause-count : goal.returns-in_err-put-clause-count
@@ -80,4 +80,4 @@ put-requires-3 g c = can_fail _ _ (c.in_ok-put_escaped.ensures.count ∙ c.in_ok
 pub returns-clause-count : goal.returns-clause-count
 returns-clause-count g c =
     counts c.put-3.result _ _ _ (c.in_ok-put_escaped.ensures.count ∙ c.in_ok-put-2.ensures.count
-        ∙ c.in_ok-put.ensures.count) c.put-3.ensures.count
+    ∙ c.in_ok-put.ensures.count) c.put-3.ensures.count

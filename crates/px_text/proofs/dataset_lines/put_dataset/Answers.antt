@@ -54,7 +54,7 @@ returns-in_err-put_decimal-clause-bytes g c =
     let third = decimal c.args.item.now.number in
     let fourth = sized_bytes c.args.item.now.octets.now in
     rw p.1 (puts_first _ _ held (first ++ codes ":" ++ third) fourth (puts_first _ _ held (first ++ codes ":") third
-        (puts_first _ _ held first
+    (puts_first _ _ held first
     (codes ":") c.in_err-put_decimal.ensures.bytes)))
 
 pub returns-in_err-put_decimal-clause-count : goal.returns-in_err-put_decimal-clause-count
@@ -85,4 +85,4 @@ put_sized-requires g c = can_fail _ _ (c.in_ok-put_decimal-2.ensures.count ∙ c
 pub returns-clause-count : goal.returns-clause-count
 returns-clause-count g c =
     counts c.put_sized.result _ _ _ (c.in_ok-put_decimal-2.ensures.count ∙ c.in_ok-put.ensures.count
-        ∙ c.in_ok-put_decimal.ensures.count) c.put_sized.ensures.count
+    ∙ c.in_ok-put_decimal.ensures.count) c.put_sized.ensures.count

@@ -39,5 +39,5 @@ loop-i-init g c = record { owes = none_yet _ c.args.pending.now [] refl; count =
 pub returns-clause-bytes : goal.returns-clause-bytes
 returns-clause-bytes g c =
     all_put (λ (e : Element). codes " " ++ element_text e) c.args.value.now.elements c.loop-i.i
-        (omega arith) _ _ c.args.pending.now c.loop-i.pending
+    (omega arith) _ _ c.args.pending.now c.loop-i.pending
     c.loop-i.invariant.owes

@@ -43,7 +43,7 @@ returns-in_err-put_name-clause-bytes g c =
     let second = decimal (length c.args.value.now.elements) in
     rw p.1 (puts_first _ _ held (first ++ second) (codes ":") (puts_first _ _ held first second (prefix_as _ _ held _ _ (ap (λ (k : Kind).
     encode_lower (spelling Most 2 c.args.tag) ++ codes " " ++ type_word k ++ codes " ") c.kind.ensures.kind)
-        c.in_err-put_name.ensures.bytes)))
+    c.in_err-put_name.ensures.bytes)))
 
 pub returns-in_err-put_name-clause-count : goal.returns-in_err-put_name-clause-count
 returns-in_err-put_name-clause-count g c =

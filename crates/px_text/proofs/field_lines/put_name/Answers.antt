@@ -48,7 +48,7 @@ returns-in_err-put_digits16-clause-bytes g c =
     let first = encode_lower (spelling Most 2 c.args.tag) in
     let third = type_word c.args.kind in
     rw p.1 (puts_first _ _ held (first ++ codes " " ++ third) (codes " ") (puts_first _ _ held (first ++ codes " ") third
-        (puts_first _ _ held
+    (puts_first _ _ held
     first (codes " ") c.in_err-put_digits16.ensures.bytes)))
 
 pub returns-in_err-put_digits16-clause-count : goal.returns-in_err-put_digits16-clause-count
@@ -78,4 +78,4 @@ put-requires-3 g c = can_fail _ _ (c.in_ok-put-2.ensures.count ∙ c.in_ok-put.e
 pub returns-clause-count : goal.returns-clause-count
 returns-clause-count g c =
     counts c.put-3.result _ _ _ (c.in_ok-put-2.ensures.count ∙ c.in_ok-put.ensures.count ∙ c.in_ok-put_digits16.ensures.count)
-        c.put-3.ensures.count
+    c.put-3.ensures.count

@@ -47,7 +47,7 @@ returns-in-Here-pass_both-clause-entry c =
     let v = c.self.invariant in
     ap (λ (xs : List (ℕ × Item)). slice_get xs c.args.i) (sym c.self.view_is)
     ∙ (both_twice (Here c.in-Here-pass_both.tag c.in-Here-pass_both.item) e.first e.second e.third e.fourth
-        (field_items e.fields.now) c.args.i
+    (field_items e.fields.now) c.args.i
     c.in-Under.i c.in-Under.ensures c.in-Here-pass_both.ensures v.first v.second v.third v.fourth
     (subst (λ (xs : List (ℕ × Item)). c.args.i < length xs) (sym c.self.view_is) c.requires)).0
 
@@ -56,6 +56,6 @@ returns-in-Here-pass_both-clause-counted c =
     let e = c.self.inside in
     let v = c.self.invariant in
     (both_twice (Here c.in-Here-pass_both.tag c.in-Here-pass_both.item) e.first e.second e.third e.fourth
-        (field_items e.fields.now) c.args.i
+    (field_items e.fields.now) c.args.i
     c.in-Under.i c.in-Under.ensures c.in-Here-pass_both.ensures v.first v.second v.third v.fourth
     (subst (λ (xs : List (ℕ × Item)). c.args.i < length xs) (sym c.self.view_is) c.requires)).1
