@@ -1,7 +1,7 @@
 """Builds a small repository from nothing, as users build this one, with the toolchain itself: by the launcher, and by `rt lib`.
 
 ./test builds its program and its library over what `rt ci` has just proved, so the way from nothing is tested here: with a library of
-one function, a program over it, and the same for C. Beside it ./test does what it does, which has to make the same bytes.
+one function, two that are proved side by side over it, a program over all, and the same for C. Beside it ./test does what it does, which has to make the same bytes.
 tests/launcher.py runs these.
 """
 
@@ -16,16 +16,35 @@ from pathlib import Path
 HERE = Path(__file__).resolve().parent
 PROGRAM, ARCHIVE = "crates/px_cli/out/px_cli", "crates/px_c/out/libpx_c.a"
 
+# A library over px_bytes.
+OVER = """// The same under another name.
+#![tactic(auto)]
+
+ghost use Rattle.px_bytes.specs.Echo.{echo_of};
+ghost use Rattle.std.specs.Prelude.{◌≡◌};
+
+/// What `echo` answers.
+pub fn NAME(x: usize) -> usize
+    ensures { result ≡ echo_of x }
+{
+    px_bytes::echo(x)
+}
+"""
+
 # The files besides the library, px_bytes, which is the toolchain's template of one.
 FILES = {
     "HANDLES": "Handles allowed: none.\n",
-    "crates.txt": "px_bytes:\npx_cli: px_bytes\npx_c staticlib: px_bytes\n",
+    "crates.txt": "px_bytes:\npx_one: px_bytes\npx_two: px_bytes\npx_cli: px_bytes px_one px_two\npx_c staticlib: px_bytes\n",
+    "crates/px_one/src/lib.rt": OVER.replace("NAME", "one"),
+    "crates/px_two/src/lib.rt": OVER.replace("NAME", "two"),
     "crates/px_c/include/exifnorm.h": "unsigned long exifnorm_echo(unsigned long x);\n",
     "crates/px_cli/status": "2\n",
     "crates/px_cli/src/main.rt": """// Prints the first of its words. Without any it ends with status 2.
 #![tactic(auto)]
 
 use px_bytes::echo;
+use px_one::one;
+use px_two::two;
 use std::env;
 use std::process::ExitCode;
 
@@ -37,7 +56,7 @@ fn run(rt: &HostRuntime) -> u8 {
         Ok(all) => all,
         Err(_) => return 4,
     };
-    let Some(word) = all.get(echo(1)) else {
+    let Some(word) = all.get(echo(one(two(1)))) else {
         return 2;
     };
     match println!(rt; "one: {word}") {
@@ -119,13 +138,14 @@ def due(is_so: bool, what: object) -> None:
 def the_launcher_proves_builds_and_runs(user: FromNothing, gate: Gate) -> None:
     ran = user.launched
     due((ran.returncode, ran.stdout) == (0, "one: a b\n"), ran)
-    due("proving px_bytes (1 of 2, 1 left)" in ran.stderr and "built" in ran.stderr, ran.stderr)
+    due("proving px_bytes (1 of 4, 3 left)" in ran.stderr and "built" in ran.stderr, ran.stderr)
+    due(all((user.top / f"crates/px_{it}/out/rlib/stamp").exists() for it in ("bytes", "one", "two")), "what was built isn't kept")
     due("logic=proved" in (user.top / "out/build-px_bytes.log").read_text(encoding="utf-8"), "nothing tells of a proof")
 
 
 def the_gate_proves_each_crate_once_and_builds(user: FromNothing, gate: Gate) -> None:
     said = gate.ran.stdout + gate.ran.stderr
-    due(gate.ran.returncode == 0 and gate.ran.stdout.endswith(" seconds\n5 passed, 0 failed\n"), said)
+    due(gate.ran.returncode == 0 and gate.ran.stdout.endswith(" seconds\n7 passed, 0 failed\n"), said)
     due((said.count("fn px_bytes::echo: proved\n"), said.count("fn px_cli::main: proved\n")) == (1, 1), said)
     due("taking the program" in said and "proving px_bytes" not in said and "rt lib" not in said, said)
 

@@ -26,14 +26,17 @@ HERE = Path(__file__).resolve().parent
 LAUNCHER = HERE.parent / "exifnorm"
 
 # What stands for the toolchain's command. It writes a line when it begins and when it ends, and takes as long as `seconds`
-# says. As the toolchain does, it waits for others that work in these folders, and wants what stands below to be built. The
-# program that it makes tells the text of main.rt and its words.
+# says. As the toolchain does, it waits for others that work in these folders, wants a folder for each line of crates.txt, and
+# wants what stands below to be built. The program that it makes tells the text of main.rt and its words.
 RT = r"""#!/bin/sh
 room=ROOM
 if [ "$1" = version ]; then cat "$room/version"; exit; fi
 name=${PWD##*/}
 exec 9<..
 flock 9
+for it in $(sed -n "s/^\(px_[a-z]*\):.*/\1/p" ../../crates.txt); do
+    [ -d "../$it/src" ] || { echo "crates.txt names $it, which has no folder"; exit 1; }
+done
 for it in $(sed -n "s/^$name://p" ../../crates.txt); do
     case $it in px_*) [ -e "../$it/out/rlib/stamp" ] || { echo "$it is not built"; exit 1; } ;; esac
 done
