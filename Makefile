@@ -24,7 +24,7 @@ PYTHONDIR = $(shell $(PYTHON) -c 'import site, sys; below = sys.argv[1] + "/lib"
 VERSION = $(shell sed -n 's/^pub const VERSION: &str = "\(.*\)";$$/\1/p' crates/px_engine/src/version.rt)
 SONAME = libexifnorm.so.1
 built = out/lib
-archive = crates/px_c/out/libpx_c.a
+archive = out/proved/libpx_c.a
 # where ./exifnorm keeps the program that it built
 program = $$(ls out/exifnorm 2>/dev/null || ls crates/px_cli/out/px_cli)
 # of px_c and of the crates that it stands on
@@ -47,9 +47,9 @@ program:
 
 library: $(built)/libexifnorm.a $(built)/libexifnorm.so $(built)/exifnorm.h
 
-# `rt lib` builds the crates below first, where they have changed. It leaves the archive alone where the sources say the same.
+# The crates below are proved first, where they have changed. The archive is left alone where the sources say the same.
 $(archive): $(sources)
-	cd crates/px_c && rt lib
+	python3 build/prove.py px_c
 	touch $@
 
 # The archive and what it needs of the toolchain as one object, which shows exifnorm_* alone.

@@ -1,20 +1,19 @@
-"""Builds a small repository from nothing, as users build this one, with the toolchain itself: by the launcher, and by `rt lib`.
+"""Builds a small repository from nothing, as users build this one, with the toolchain itself: by the launcher and by make.
 
 ./test builds its program and its library over what `rt ci` has just proved, so the way from nothing is tested here: with a library of
-one function, two that are proved side by side over it, a program over all, and the same for C. Beside it ./test does what it does, which has to make the same bytes.
-tests/launcher.py runs these.
+one function, two that are proved side by side over it, a program over all, and the same for C. Beside it ./test does what it does, and
+`rt lib` what it does, which have to make the same bytes. tests/launcher.py runs these.
 """
 
 import os
 import shutil
 import subprocess
-import sys
 import tempfile
 from concurrent.futures import ThreadPoolExecutor
 from pathlib import Path
 
 HERE = Path(__file__).resolve().parent
-PROGRAM, ARCHIVE = "crates/px_cli/out/px_cli", "crates/px_c/out/libpx_c.a"
+PROGRAM, ARCHIVE = "crates/px_cli/out/px_cli", "out/proved/libpx_c.a"
 
 # A library over px_bytes.
 OVER = """// The same under another name.
@@ -99,7 +98,7 @@ class Project:
         for name, text in FILES.items():
             (top / name).parent.mkdir(parents=True, exist_ok=True)
             (top / name).write_text(text, encoding="utf-8")
-        for name in ("exifnorm", "Makefile", "test", "tests/static_library.py"):
+        for name in ("exifnorm", "Makefile", "test", *(f"build/{it.name}" for it in (HERE.parent / "build").glob("*.py"))):
             (top / name).parent.mkdir(exist_ok=True)
             shutil.copy(HERE.parent / name, top / name)
 
@@ -117,7 +116,8 @@ class FromNothing(Project):
 
     def build(self) -> "FromNothing":
         self.launched = self.call("./exifnorm", "a b")
-        self.library = self.call("rt", "lib", folder="crates/px_c")
+        self.library = self.call("make", ARCHIVE)
+        self.by_rt = self.call("rt", "lib", folder="crates/px_c")
         return self
 
 
@@ -139,7 +139,7 @@ def the_launcher_proves_builds_and_runs(user: FromNothing, gate: Gate) -> None:
     ran = user.launched
     due((ran.returncode, ran.stdout) == (0, "one: a b\n"), ran)
     due("proving px_bytes (1 of 4, 3 left)" in ran.stderr and "built" in ran.stderr, ran.stderr)
-    due(all((user.top / f"crates/px_{it}/out/rlib/stamp").exists() for it in ("bytes", "one", "two")), "what was built isn't kept")
+    due(all((user.top / f"out/proved/px_{it}.made-from").exists() for it in ("bytes", "one", "two", "cli")), "what was built isn't kept")
     due("logic=proved" in (user.top / "out/build-px_bytes.log").read_text(encoding="utf-8"), "nothing tells of a proof")
 
 
@@ -147,7 +147,7 @@ def the_gate_proves_each_crate_once_and_builds(user: FromNothing, gate: Gate) ->
     said = gate.ran.stdout + gate.ran.stderr
     due(gate.ran.returncode == 0 and gate.ran.stdout.endswith(" seconds\n7 passed, 0 failed\n"), said)
     due((said.count("fn px_bytes::echo: proved\n"), said.count("fn px_cli::main: proved\n")) == (1, 1), said)
-    due("taking the program" in said and "proving px_bytes" not in said and "rt lib" not in said, said)
+    due("taking the program" in said and "proving px_bytes" not in said and "proving px_c (1 of 1, 0 left)" in said, said)
 
 
 def the_program_that_the_gate_proved_is_the_launcher_s(user: FromNothing, gate: Gate) -> None:
@@ -156,17 +156,20 @@ def the_program_that_the_gate_proved_is_the_launcher_s(user: FromNothing, gate: 
     due(gate.call("./exifnorm", "a b").stdout == "one: a b\n", "it does something else")
 
 
-def the_archive_over_what_was_proved_is_that_of_rt_lib(user: FromNothing, gate: Gate) -> None:
-    due(user.library.returncode == 0, user.library)
-    due(gate.bytes_of(ARCHIVE) == user.bytes_of(ARCHIVE), "another archive")
+def the_archive_is_that_of_rt_lib(user: FromNothing, gate: Gate) -> None:
+    due((user.library.returncode, user.by_rt.returncode) == (0, 0), (user.library, user.by_rt))
+    due("proving px_c (1 of 1, 0 left)" in user.library.stderr, "what the program stands on was proved again")
+    by_rt = user.bytes_of("crates/px_c/out/libpx_c.a")
+    due(user.bytes_of(ARCHIVE) == by_rt, "another archive than that of `rt lib`")
+    due(gate.bytes_of(ARCHIVE) == by_rt, "another archive over what was proved")
     due(gate.is_archived, "make would build it again")
 
 
-def no_archive_is_built_over_what_was_changed_since(user: FromNothing, gate: Gate) -> None:
-    (gate.top / ARCHIVE).unlink()
+def nothing_of_the_gate_is_taken_that_was_changed_since(user: FromNothing, gate: Gate) -> None:
+    shutil.rmtree(gate.top / "out/proved")
     (gate.top / "crates/px_bytes/src/lib.rt").touch()
-    ran = gate.call(sys.executable, "tests/static_library.py")
-    due(ran.returncode == 0 and "left to `rt lib`" in ran.stdout and not (gate.top / ARCHIVE).exists(), ran)
+    ran = gate.call("make", ARCHIVE, EXIFNORM_PROVED=str(gate.top / PROGRAM))
+    due(ran.returncode == 0 and "taking" not in ran.stderr and "proving px_bytes (1 of 2, 1 left)" in ran.stderr, ran)
 
 
 # The last changes what was built.
@@ -174,8 +177,8 @@ TESTS = [
     the_launcher_proves_builds_and_runs,
     the_gate_proves_each_crate_once_and_builds,
     the_program_that_the_gate_proved_is_the_launcher_s,
-    the_archive_over_what_was_proved_is_that_of_rt_lib,
-    no_archive_is_built_over_what_was_changed_since,
+    the_archive_is_that_of_rt_lib,
+    nothing_of_the_gate_is_taken_that_was_changed_since,
 ]
 
 

@@ -25,36 +25,42 @@ import first_build
 HERE = Path(__file__).resolve().parent
 LAUNCHER = HERE.parent / "exifnorm"
 
-# What stands for the toolchain's command. It writes a line when it begins and when it ends, and takes as long as `seconds`
-# says. As the toolchain does, it waits for others that work in these folders, wants a folder for each line of crates.txt, and
-# wants what stands below to be built. The program that it makes tells the text of main.rt and its words.
-RT = r"""#!/bin/sh
+# What stands for the toolchain's command.
+RT = """#!/bin/sh
+case $1 in
+version) cat ROOM/version ;;
+doc) echo ROOM/kit/START-HERE.md ;;
+*) exit 2 ;;
+esac
+"""
+
+# What stands for the compiler. It writes a line when it begins and when it ends, and takes as long as `seconds` says. As the
+# compiler does, it wants what stands below to be built. The program that it makes tells the text of main.rt and its words.
+RATTLE = r"""#!/bin/sh
 room=ROOM
-if [ "$1" = version ]; then cat "$room/version"; exit; fi
-name=${PWD##*/}
-exec 9<..
-flock 9
-for it in $(sed -n "s/^\(px_[a-z]*\):.*/\1/p" ../../crates.txt); do
-    [ -d "../$it/src" ] || { echo "crates.txt names $it, which has no folder"; exit 1; }
+while [ "$#" -gt 0 ]; do
+    case $1 in
+    --crate-name) name=$2 ;;
+    --extern) case $2 in px_*) [ -e "${2#*=}" ] || { echo "${2%%=*} is not built"; exit 1; } ;; esac ;;
+    -o) made=$2 ;;
+    esac
+    shift
 done
-for it in $(sed -n "s/^$name://p" ../../crates.txt); do
-    case $it in px_*) [ -e "../$it/out/rlib/stamp" ] || { echo "$it is not built"; exit 1; } ;; esac
-done
-echo "begin $1 $name $$" >>"$room/log"
-made=out/$name
-mkdir -p out/rlib
-if [ "$1" = run ]; then printf '#!/bin/sh\nexit 0\n' >"$made"; chmod +x "$made"; fi
+echo "begin build $name $$" >>"$room/log"
+touch "$made"
 sleep "$(cat "$room/seconds")"
+if [ -e "$room/killed-$name" ]; then rm "$room/killed-$name"; kill -9 $$; fi
 if [ -e "$room/fails-$name" ]; then echo "this crate is not proved"; exit 1; fi
-if [ "$1" = run ]; then
-    text=$(cat src/main.rt)
-    printf '#!/bin/sh\necho "%s: $*"\n' "$text" >"$made"
-    echo "end $1 $name $$" >>"$room/log"
-    echo "refused: UnknownKind at 0"
-    exit 2
-fi
-touch out/rlib/stamp
-echo "end $1 $name $$" >>"$room/log"
+if [ -e src/main.rt ]; then printf '#!/bin/sh\necho "%s: $*"\n' "$(cat src/main.rt)" >"$made"; fi
+echo "end build $name $(nice)" >>"$room/log"
+if [ -e "$room/silent-$name" ]; then exit 0; fi
+echo "logic=proved functions=1"
+"""
+
+# What stands for the linker.
+LINK = r"""#!/bin/sh
+while [ "$1" != -o ]; do shift; done
+cp "$3" "$2" && chmod +x "$2"
 """
 
 CRATES = """# a comment
@@ -80,20 +86,28 @@ class Room:
         self.top.mkdir()
         self.bin.mkdir()
         shutil.copy(LAUNCHER, self.top / "exifnorm")
+        shutil.copytree(HERE.parent / "build", self.top / "build", ignore=shutil.ignore_patterns("__pycache__"))
         (self.top / "crates.txt").write_text(crates)
         for line in crates.splitlines():
             if ":" in line:
-                for sources in ("src", "specs", "proofs"):
-                    (self.top / "crates" / line.partition(":")[0] / sources).mkdir(parents=True)
-                    (self.top / "crates" / line.partition(":")[0] / sources / "main.rt").write_text("one")
-        self.rt = self.bin / "rt"
-        self.rt.write_text(RT.replace("ROOM", str(folder)))
-        self.rt.chmod(0o755)
+                name = line.partition(":")[0]
+                for file in (f"src/{'main' if name == 'px_cli' else 'lib'}.rt", "specs/Words.antt", "proofs/Answers.antt"):
+                    (self.top / "crates" / name / file).parent.mkdir(parents=True)
+                    (self.top / "crates" / name / file).write_text("one")
+        self.rt = self.command(self.bin / "rt", RT)
+        self.command(folder / "kit" / "bin" / "rattle", RATTLE)
+        self.command(folder / "kit" / "bin" / "rattle-link", LINK)
         (folder / "version").write_text("toolchain 1\n")
         self.takes(0)
         self.proved = self.top / "crates" / "px_cli" / "out" / "px_cli"
         self.mark = self.top / "out" / "proved-since"
         self.named = {}
+
+    def command(self, path: Path, text: str) -> Path:
+        path.parent.mkdir(parents=True, exist_ok=True)
+        path.write_text(text.replace("ROOM", str(self.folder)))
+        path.chmod(0o755)
+        return path
 
     @property
     def main(self) -> Path:
@@ -127,7 +141,7 @@ class Room:
         self.named = {"EXIFNORM_PROVED": str(self.proved)}
 
     def log(self) -> list:
-        """What the toolchain was asked for, a line each: begin or end, the command, the crate, the process."""
+        """What the compiler was asked for, a line each: begin or end, the command, the crate; the process, or how far it gave way."""
         log = self.folder / "log"
         return [line.split() for line in log.read_text().splitlines()] if log.exists() else []
 
@@ -137,6 +151,11 @@ class Room:
 
     def builds(self) -> int:
         return self.built().count("px_cli")
+
+    def builder(self) -> int:
+        """The number of the process that proves."""
+        found = subprocess.run(["pgrep", "-f", f"{self.top}/build/prove.py"], stdout=subprocess.PIPE, text=True).stdout.split()
+        return int(found[0])
 
     def until(self, what: str, name: str) -> str:
         """Waits until the toolchain begins or ends a crate, and returns the number of its process."""
@@ -286,6 +305,12 @@ def a_crate_that_fails_is_told_and_built_by_the_next_call(room: Room) -> None:
     due(room.call("a").stdout == "one: a\n", room.log())
 
 
+def a_crate_of_which_nothing_says_that_it_is_proved_is_not_built(room: Room) -> None:
+    (room.folder / "silent-px_iim").touch()
+    ran = room.call("a")
+    due(ran.returncode == 70 and ran.stdout == "" and "px_iim was not proved" in ran.stderr, ran)
+
+
 def a_last_crate_that_fails_leaves_nothing_that_is_taken_as_built(room: Room) -> None:
     (room.folder / "fails-px_cli").touch()  # a program stands in its folder by then
     due(room.call("a").returncode == 70, room.log())
@@ -364,24 +389,15 @@ def crates_that_need_not_wait_are_proved_side_by_side(room: Room) -> None:
     due(most_at_once(room.log()) == 2, room.log())
 
 
-def what_is_proved_side_by_side_stands_in_its_own_folder_again(room: Room) -> None:
-    kept = room.top / "crates/px_field/out/kept"
-    kept.parent.mkdir()
-    kept.write_text("from an earlier build")
-    (room.top / "out/beside/px_field").mkdir(parents=True)  # as a build leaves it that was killed
-    due(room.call("a").stdout == "one: a\n", room.log())
-    for name in ("px_bytes", "px_field", "px_iim"):
-        due((room.top / "crates" / name / "out/rlib/stamp").exists(), f"nothing of {name} is kept")
-    due(kept.read_text() == "from an earlier build", "what was kept before is gone")
-    due(not (room.top / "out/beside").exists(), "the folders of their own still stand")
-
-
-def a_crate_is_proved_as_late_as_it_may(room: Room) -> None:
+def a_crate_begins_as_soon_as_what_it_stands_on_is_proved(room: Room) -> None:
     crates = "px_a: clap\npx_late: px_a\npx_b: px_a\npx_c: px_b\npx_cli: px_c px_late\n"
     (room.folder / "late").mkdir()
     late = Room(room.folder / "late", crates)
+    late.takes(0.5)
     due(late.call("a").stdout == "one: a\n", late.log())
-    due(late.built()[:2] == ["px_a", "px_b"] and set(late.built()[2:4]) == {"px_c", "px_late"}, late.log())
+    due(late.built()[0] == "px_a" and set(late.built()[1:3]) == {"px_b", "px_late"} and late.built()[3:] == ["px_c", "px_cli"], late.log())
+    given_way = {name: int(by) for what, _, name, by in late.log() if what == "end"}
+    due(given_way["px_late"] > given_way["px_b"] == given_way["px_cli"], late.log())
 
 
 def at_most_three_are_proved_at_once(room: Room) -> None:
@@ -391,7 +407,47 @@ def at_most_three_are_proved_at_once(room: Room) -> None:
     many = Room(room.folder / "many", crates)
     many.takes(0.3)
     many.call()
-    due(most_at_once(many.log()) == 3 and len(many.built()) == 6, many.log())
+    due(most_at_once(many.log()) == min(3, len(os.sched_getaffinity(0))) and len(many.built()) == 6, many.log())
+
+
+def only_what_was_changed_and_what_stands_on_it_is_proved_again(room: Room) -> None:
+    room.call()
+    (room.folder / "log").unlink()
+    (room.top / "crates/px_iim/proofs/Answers.antt").write_text("two")
+    due(room.call("a").stdout == "one: a\n" and room.built() == ["px_iim", "px_cli"], room.log())
+    (room.folder / "log").unlink()
+    (room.top / "out/proved/px_bytes.rlib").unlink()  # another px_bytes: what was built over the old one is not good over it
+    room.main.write_text("two")
+    due(room.call("a").stdout == "two: a\n" and len(room.built()) == 4, room.log())
+
+
+def a_crate_that_is_changed_while_it_is_proved_is_proved_again(room: Room) -> None:
+    room.takes(1)
+    started = room.start("a")
+    room.until("begin", "px_bytes")
+    (room.top / "crates/px_bytes/src/lib.rt").write_text("two")
+    due(started.communicate(timeout=60)[0] == "one: a\n", room.log())
+    room.takes(0)
+    due(room.call("a").stdout == "one: a\n" and sorted(room.built()) == sorted(2 * ["px_bytes", "px_cli", "px_field", "px_iim"]), room.log())
+
+
+def a_proof_that_is_killed_is_tried_again_with_one_job(room: Room) -> None:
+    (room.folder / "killed-px_iim").touch()
+    due(room.call("a").stdout == "one: a\n", room.log())
+    due("once more, with one job" in (room.top / "out/build-px_iim.log").read_text(), "nothing tells of it")
+
+
+def what_a_killed_build_left_is_waited_for(room: Room) -> None:
+    room.takes(3)
+    started = room.start("a")
+    room.until("begin", "px_bytes")
+    for it in (room.builder(), started.pid):
+        os.kill(it, signal.SIGKILL)
+    started.communicate(timeout=20)
+    room.takes(0)
+    ran = room.call("a")
+    due(ran.stdout == "one: a\n" and "waiting for it" in ran.stderr, ran)
+    due([it[0] for it in room.log() if it[2] == "px_bytes"] == ["begin", "end"] * 2, room.log())
 
 
 def it_says_where_the_built_program_stands(room: Room) -> None:
@@ -458,7 +514,7 @@ def is_built_after(room: Room, what: str, change) -> None:
 
 def nothing_is_taken_as_proved_after_a_change(room: Room) -> None:
     is_built_after(room, "edit", lambda it: it.main.write_text("two"))
-    is_built_after(room, "edit-below", lambda it: (it.top / "crates/px_bytes/proofs/main.rt").write_text("two"))
+    is_built_after(room, "edit-below", lambda it: (it.top / "crates/px_bytes/proofs/Answers.antt").write_text("two"))
     is_built_after(room, "edit-of-an-old-time", lambda it: (it.main.write_text("two"), os.utime(it.main, (10**9, 10**9))))
     is_built_after(room, "older-in-its-place", lambda it: os.rename(it.folder / "old.rt", it.main))
     is_built_after(room, "added", lambda it: (it.main.parent / "other.rt").write_text("more"))
@@ -492,6 +548,7 @@ TESTS = [
     another_toolchain_builds_again_and_the_same_elsewhere_does_not,
     a_built_program_runs_without_the_toolchain,
     a_crate_that_fails_is_told_and_built_by_the_next_call,
+    a_crate_of_which_nothing_says_that_it_is_proved_is_not_built,
     a_last_crate_that_fails_leaves_nothing_that_is_taken_as_built,
     a_build_that_is_stopped_is_not_taken_as_built,
     a_build_that_is_killed_is_not_taken_as_built,
@@ -499,9 +556,12 @@ TESTS = [
     a_lock_that_cannot_be_removed_ends_the_call,
     a_broom_that_is_left_behind_ends_the_call,
     crates_that_need_not_wait_are_proved_side_by_side,
-    what_is_proved_side_by_side_stands_in_its_own_folder_again,
-    a_crate_is_proved_as_late_as_it_may,
+    a_crate_begins_as_soon_as_what_it_stands_on_is_proved,
     at_most_three_are_proved_at_once,
+    only_what_was_changed_and_what_stands_on_it_is_proved_again,
+    a_crate_that_is_changed_while_it_is_proved_is_proved_again,
+    a_proof_that_is_killed_is_tried_again_with_one_job,
+    what_a_killed_build_left_is_waited_for,
     it_says_where_the_built_program_stands,
     names_may_begin_with_a_hyphen,
     it_is_called_from_any_folder_and_through_links,

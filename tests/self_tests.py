@@ -3,6 +3,7 @@
 
 The last line is 'N passed, M failed'."""
 
+import doctest
 import json
 import os
 import shutil
@@ -24,10 +25,14 @@ from meanings import ASCII, LIMIT, SHORT, Exif, Layout, Record, Value, laid
 from program import Outcome
 from reading import Fault, said
 from run import case_of, complaints_of
-from static_library import is_proved
 from watching import TIMES, Counts, complaints_of_cost, growth, limits_of, reading, says_failed
 
 HERE = os.path.dirname(os.path.abspath(__file__))
+sys.path.insert(0, os.path.join(os.path.dirname(HERE), "build"))
+
+import crates
+from gate import is_proved
+
 GOOD = {"name": "a case", "block": "1C0205000141", "refused": "NoMarker at 0"}
 
 
@@ -330,8 +335,8 @@ class Gate(unittest.TestCase):
         self.assertEqual(self.ran("rt: px_cli proved", "2 passed, 0 failed"), (0, "2 passed, 0 failed", True))
 
 
-class Archives(unittest.TestCase):
-    """What counts as just proved where the library's archive is built."""
+class Builds(unittest.TestCase):
+    """What counts as just proved where the library's archive is built over it, and in what order crates are proved."""
 
     def is_proved_after(self, change):
         with tempfile.TemporaryDirectory() as folder:
@@ -344,7 +349,11 @@ class Archives(unittest.TestCase):
                 (top / name).touch()
             time.sleep(0.05)
             change(top)
-            return is_proved(top, ["px_bytes"])
+            return is_proved(crates.Crates(top, {"px_bytes": [], "px_c": ["px_bytes"]}, {"px_c"}), "px_c")
+
+    def test_the_examples_of_crates(self):
+        failed, ran = doctest.testmod(crates)
+        self.assertTrue(failed == 0 and ran > 3)
 
     def test_what_was_proved_since_the_mark(self):
         self.assertTrue(self.is_proved_after(lambda top: None))

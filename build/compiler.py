@@ -1,0 +1,84 @@
+"""The toolchain's compiler, called as the toolchain's own command `rt` calls it."""
+
+from __future__ import annotations
+
+import os
+import signal
+import subprocess
+from pathlib import Path
+from threading import Lock
+from typing import IO
+
+from crates import Crates
+
+TARGET = "x86_64-unknown-linux-gnu"
+
+
+def said(*words: str) -> str:
+    """What a command says, in one line."""
+    return subprocess.run(words, stdin=subprocess.DEVNULL, stdout=subprocess.PIPE, text=True, check=True).stdout.strip()
+
+
+class Compiler:
+    """It proves a crate from nothing, over built libraries, and builds it. Calls may come side by side."""
+
+    def __init__(self, crates: Crates, libraries: Path, holds: IO) -> None:
+        """Over the libraries in a folder. Each process holds the open file, until it ends, however this one ends."""
+        self.crates, self.libraries, self.holds = crates, libraries, holds
+        self.kit = os.path.dirname(said("rt", "doc"))
+        self.version = said("rt", "version")
+        self.running: set[subprocess.Popen] = set()
+        self.guard, self.is_stopped = Lock(), False
+
+    def stop(self) -> None:
+        """Ends what runs, with the copies that it made of itself; nothing is started any more."""
+        with self.guard:
+            self.is_stopped = True
+            for it in self.running:
+                os.killpg(it.pid, signal.SIGTERM)
+
+    def call(self, words: list[str], folder: Path, log: IO) -> int:
+        """Runs a command in a group of its own, and returns its status."""
+        how = {"stdin": subprocess.DEVNULL, "stdout": log, "stderr": log, "start_new_session": True}
+        with self.guard:
+            if self.is_stopped:
+                return -signal.SIGTERM
+            started = subprocess.Popen(words, cwd=folder, pass_fds=[self.holds.fileno()], **how)
+            self.running.add(started)
+        status = started.wait()
+        with self.guard:
+            self.running.discard(started)
+        return status
+
+    def words(self, crate: str, made: Path, jobs: int) -> list[str]:
+        """The call that proves and builds a crate: a library for other crates as its statements, which are read sooner than its proofs."""
+        used = {it: self.libraries if it in self.crates.uses else f"{self.kit}/rlibs" for it in ["std", *self.crates.uses[crate]]}
+        words = [f"{self.kit}/bin/rattle", "build", "--crate-name", crate]
+        words += ["src/main.rt" if self.crates.is_program(crate) else "src/lib.rt"]
+        for name, folder in used.items():
+            words += ["--extern", f"{name}={folder}/{name}.rlib"]
+        for folder in (f"{self.kit}/rlibs", self.libraries):
+            words += ["-L", f"dependency={folder}"]
+        words += ["--antt-project", f"{self.kit}/rattle/logic/antt-project.json", "--logic-built", f"{self.kit}/logic_built"]
+        words += ["--jobs", str(jobs), "--links", f"{crate}=", "-o", str(made)]
+        if self.crates.is_program(crate) or crate in self.crates.archives:
+            words += ["--toolchain", f"{self.kit}/toolchain", "--backend", "llvm"]
+            return words + ["--crate-type", "staticlib"] * (crate in self.crates.archives)
+        return [*words, "--statements"]
+
+    def link(self, made: Path, program: Path, log: IO) -> int:
+        """Links a program with the C library."""
+        words = [f"{self.kit}/bin/rattle-link", "--target", TARGET, "--toolchain", f"{self.kit}/toolchain", "-o", str(program)]
+        return self.call([*words, str(made), f"{self.kit}/c/libos_c.a", f"{self.kit}/c/liblibc_c.a"], self.crates.top, log)
+
+    def build(self, crate: str, made: Path, jobs: int, log: IO, gives_way: bool) -> int:
+        """Proves a crate and builds it as `made`. A call that gives way gets what the others leave of the processors."""
+        is_program = self.crates.is_program(crate)
+        object_file = made.with_name(f"{crate}.o") if is_program else made
+        lower = ["nice", "-n", "10"] * gives_way
+        status = self.call([*lower, *self.words(crate, object_file, jobs)], self.crates.folder(crate), log)
+        if status == -signal.SIGKILL and jobs > 1:
+            log.write("the check was killed, most likely for memory: once more, with one job\n")
+            log.flush()
+            return self.build(crate, made, 1, log, gives_way)
+        return self.link(object_file, made, log) if is_program and status == 0 else status

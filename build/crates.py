@@ -1,0 +1,97 @@
+"""The crates of the repository: what each uses, in what order they are proved, and what each is made from."""
+
+from __future__ import annotations
+
+import hashlib
+from dataclasses import dataclass
+from pathlib import Path
+
+
+def uses_of(text: str) -> dict[str, list[str]]:
+    """What each crate of a crates.txt uses.
+
+    >>> uses_of("low: byteorder # a comment\\nhigh staticlib: low\\n")
+    {'low': ['byteorder'], 'high': ['low']}
+    """
+    lines = [line.partition("#")[0].partition(":") for line in text.splitlines()]
+    return {name.split()[0]: used.split() for name, _, used in lines if name.strip()}
+
+
+def archives_of(text: str) -> set[str]:
+    """The crates of a crates.txt that are static libraries.
+
+    >>> archives_of("low: byteorder\\nhigh staticlib: low\\n")
+    {'high'}
+    """
+    names = [line.partition("#")[0].partition(":")[0].split() for line in text.splitlines()]
+    return {name[0] for name in names if "staticlib" in name[1:]}
+
+
+def below(crate: str, uses: dict[str, list[str]]) -> list[str]:
+    """The repository's crates that a crate stands on, each behind those that it uses itself.
+
+    >>> below("c", {"c": ["b", "a", "clap"], "b": ["a"], "a": []})
+    ['a', 'b']
+    """
+    found: list[str] = []
+    for it in uses[crate]:
+        if it in uses:
+            found += [name for name in [*below(it, uses), it] if name not in found]
+    return found
+
+
+def chains(crate: str, uses: dict[str, list[str]]) -> dict[str, int]:
+    """How many crates wait for each one behind the other, at most: the more, the sooner it is due.
+
+    >>> chains("d", {"d": ["c", "late"], "c": ["b"], "b": ["a"], "late": ["a"], "a": []})
+    {'d': 0, 'a': 3, 'b': 2, 'c': 1, 'late': 1}
+    """
+    found = dict.fromkeys([crate, *below(crate, uses)], 0)
+    for it in [crate, *reversed(below(crate, uses))]:
+        for used in uses[it]:
+            if used in found:
+                found[used] = max(found[used], found[it] + 1)
+    return found
+
+
+@dataclass(frozen=True)
+class Crates:
+    """The crates in a folder, as its crates.txt names them."""
+
+    top: Path
+    uses: dict[str, list[str]]
+    archives: set[str]
+
+    @classmethod
+    def read(cls, top: Path) -> Crates:
+        text = (top / "crates.txt").read_text(encoding="utf-8")
+        return cls(top, uses_of(text), archives_of(text))
+
+    def folder(self, crate: str) -> Path:
+        return self.top / "crates" / crate
+
+    def own(self, crate: str) -> list[str]:
+        """The repository's crates that a crate uses itself."""
+        return [it for it in self.uses[crate] if it in self.uses]
+
+    def is_program(self, crate: str) -> bool:
+        return (self.folder(crate) / "src" / "main.rt").exists()
+
+    def product(self, crate: str) -> str:
+        """The name of what is built of a crate: a program, a static library, or a library for other crates."""
+        if self.is_program(crate):
+            return crate
+        return f"lib{crate}.a" if crate in self.archives else f"{crate}.rlib"
+
+    def sources(self, crate: str) -> list[Path]:
+        """The files and folders that a crate is made from."""
+        parts = [self.folder(crate) / part for part in ("src", "specs", "proofs")]
+        return sorted(it for part in parts if part.exists() for it in [part, *part.rglob("*")])
+
+    def sum(self, crate: str) -> str:
+        """A sum of what the crate uses and of its sources, with their names."""
+        found = hashlib.sha256(repr((self.uses[crate], crate in self.archives)).encode())
+        for it in self.sources(crate):
+            if it.is_file():
+                found.update(repr((str(it.relative_to(self.top)), it.read_bytes())).encode())
+        return found.hexdigest()
