@@ -1,6 +1,7 @@
 -- Texts and lists that are made part by part.
 use Rattle.std.proofs.Common.{◌≡◌, ℕ, ◌+◌, ◌-◌, ◌<◌, ◌≤◌, ◌++◌, List, [], ◌∷◌, length, take, drop, map, slice_index, slice_get, get_or}
 use Rattle.std.proofs.Common.{Option, Some, option_map, ◌/◌, ◌%◌, refl, sym, ap, ◌∙◌, arith, append_assoc, length-append, take-append-drop}
+use Rattle.std.specs.Prelude.{codes}
 use Rattle.std.specs.List.{flat_map, filter_map}
 use Rattle.std.proofs.Math.Seq.{take-add}
 use Rattle.px_bytes.specs.Devices.{AppendsPrefix}
@@ -83,6 +84,16 @@ module _ {X A : Type 0} (xs : List X) (i : ℕ) (x : X) (read : slice_get xs i �
       ap (filter_map f) (one_more xs i x read) ∙ filter_map-append f (take i xs) (x ∷ []) in
       h ∙ ap (λ (l : List A). l ++ filter_map f (x ∷ [])) e ∙ append_assoc old (filter_map f (take i xs)) (filter_map f (x ∷ []))
       ∙ ap (λ (l : List A). old ++ l) (sym more)
+
+-- what stands in front of a field's elements: the tag, the type between two spaces, and the count
+pub head_whole : (tag word n : List ℕ) → tag ++ (codes " " ++ word ++ codes " ") ++ (n ++ codes ":") ≡ tag ++ codes " " ++ word ++ codes " "
+    ++ n ++ codes ":"
+head_whole tag word n =
+    let middle = codes " " ++ word ++ codes " " in
+    let apart : tag ++ middle ≡ tag ++ codes " " ++ word ++ codes " " =
+    sym (append_assoc tag (codes " " ++ word) (codes " "))
+    ∙ ap (λ (l : List ℕ). l ++ codes " ") (sym (append_assoc tag (codes " ") word)) in
+    sym (append_assoc (tag ++ middle) n (codes ":")) ∙ ap (λ (l : List ℕ). l ++ n ++ codes ":") apart
 
 -- ---- how many DataSets there are
 

@@ -56,7 +56,6 @@ fn put_line<W: Sink>(pending: &mut Pending, writer: &mut W, caption: Caption) ->
     ensures count { Counts result (W.failed writer.old) (W.failed writer.new) }
 {
     pending.put(writer, label_word(caption.label))?;
-    pending.put(writer, b": ")?;
     put_escaped(pending, writer, caption.text)?;
     pending.put(writer, b"\n")
 }
@@ -107,15 +106,15 @@ fn put_groups<W: Sink>(pending: &mut Pending, writer: &mut W, iim: &Iim) -> Resu
     Ok(())
 }
 
-fn put_charset<W: Sink>(pending: &mut Pending, writer: &mut W, declared: bool) -> Result<(), Failed>
-    requires { CanFail (W.failed writer.old) }
-    ensures bytes { Puts result (W.bytes_taken writer.old) (W.bytes_taken writer.new) pending.old pending.new (charset_line declared) }
-    ensures count { Counts result (W.failed writer.old) (W.failed writer.new) }
+// The line that says whether a record declares UTF-8.
+fn charset_line(declared: bool) -> &'static [u8]
+    ensures { result.now ≡ charset_line declared }
 {
     if declared {
-        return pending.put(writer, b"charset: UTF-8\n");
+        b"charset: UTF-8\n"
+    } else {
+        b"charset: not declared\n"
     }
-    pending.put(writer, b"charset: not declared\n")
 }
 
 // Puts the lines of a record.
@@ -124,7 +123,7 @@ fn put_iim<W: Sink>(pending: &mut Pending, writer: &mut W, iim: &Iim) -> Result<
     ensures bytes { Puts result (W.bytes_taken writer.old) (W.bytes_taken writer.new) pending.old pending.new (iim_lines iim.now) }
     ensures count { Counts result (W.failed writer.old) (W.failed writer.new) }
 {
-    put_charset(pending, writer, declares_utf8(iim))?;
+    pending.put(writer, charset_line(declares_utf8(iim)))?;
     put_groups(pending, writer, iim)
 }
 

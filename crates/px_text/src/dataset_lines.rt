@@ -5,7 +5,7 @@ ghost use Rattle.px_bytes.specs.Waiting.{Puts};
 ghost use Rattle.px_iim.specs.calls.View.{item_view};
 ghost use Rattle.px_text.specs.Listing.{dataset_line, dataset_lines, dataset_count};
 
-use crate::texts::{put_decimal, put_sized};
+use crate::texts::{put_decimal, put_ended, put_sized};
 use px_bytes::{Failed, Pending, Sink};
 use px_iim::{Iim, Item};
 
@@ -21,8 +21,7 @@ fn put_dataset<W: Sink>(
         (dataset_line rec (item_view item.now)) }
     ensures count { Counts result (W.failed writer.old) (W.failed writer.new) }
 {
-    put_decimal(pending, writer, rec)?;
-    pending.put(writer, b":")?;
+    put_ended(pending, writer, rec, b":")?;
     put_decimal(pending, writer, item.number)?;
     put_sized(pending, writer, item.octets)
 }

@@ -8,39 +8,40 @@ ghost use Rattle.px_bytes.specs.Numbers.{spelling};
 ghost use Rattle.px_field.specs.declared.Kind.{Kind};
 ghost use Rattle.px_text.specs.Listing.{type_word, element_text, shown_elements, field_line, field_lines};
 
-use crate::texts::{put_decimal, put_hex, put_shown};
+use crate::texts::{put_decimal, put_ended, put_hex, put_shown};
 use itoa::Integer;
 use px_bytes::{Failed, Order, Pending, Sink};
 use px_field::{Element, Form, Kind, Value};
 use px_tree::Fields;
 
+// The name of a type between two spaces.
 fn form_word(form: Form) -> &'static [u8]
-    ensures { result.now ≡ type_word (Kind.Of form) }
+    ensures { result.now ≡ codes " " ++ type_word (Kind.Of form) ++ codes " " }
 {
     match form {
-        Form::Byte => b"BYTE",
-        Form::Ascii => b"ASCII",
-        Form::Short => b"SHORT",
-        Form::Long => b"LONG",
-        Form::Rational => b"RATIONAL",
-        Form::SByte => b"SBYTE",
-        Form::Undefined => b"UNDEFINED",
-        Form::SShort => b"SSHORT",
-        Form::SLong => b"SLONG",
-        Form::SRational => b"SRATIONAL",
-        Form::Float => b"FLOAT",
-        Form::Double => b"DOUBLE",
-        Form::Utf8 => b"UTF8",
+        Form::Byte => b" BYTE ",
+        Form::Ascii => b" ASCII ",
+        Form::Short => b" SHORT ",
+        Form::Long => b" LONG ",
+        Form::Rational => b" RATIONAL ",
+        Form::SByte => b" SBYTE ",
+        Form::Undefined => b" UNDEFINED ",
+        Form::SShort => b" SSHORT ",
+        Form::SLong => b" SLONG ",
+        Form::SRational => b" SRATIONAL ",
+        Form::Float => b" FLOAT ",
+        Form::Double => b" DOUBLE ",
+        Form::Utf8 => b" UTF8 ",
     }
 }
 
-// The name of a type.
+// So, of either kind.
 fn type_word(kind: Kind) -> &'static [u8]
-    ensures { result.now ≡ type_word kind }
+    ensures { result.now ≡ codes " " ++ type_word kind ++ codes " " }
 {
     match kind {
         Kind::Of(form) => form_word(form),
-        Kind::Whole => b"WHOLE",
+        Kind::Whole => b" WHOLE ",
     }
 }
 
@@ -91,8 +92,7 @@ fn put_fraction<W: Sink, I: Integer>(
         (I.text numerator ++ codes "/" ++ I.text denominator) }
     ensures count { Counts result (W.failed writer.old) (W.failed writer.new) }
 {
-    put_decimal(pending, writer, numerator)?;
-    pending.put(writer, b"/")?;
+    put_ended(pending, writer, numerator, b"/")?;
     put_decimal(pending, writer, denominator)
 }
 
@@ -155,24 +155,6 @@ fn put_value<W: Sink>(pending: &mut Pending, writer: &mut W, value: &Value) -> R
     }
 }
 
-// Puts the tag and the type of a field.
-fn put_name<W: Sink>(
-    pending: &mut Pending,
-    writer: &mut W,
-    tag: u16,
-    kind: Kind,
-) -> Result<(), Failed>
-    requires { CanFail (W.failed writer.old) }
-    ensures bytes { Puts result (W.bytes_taken writer.old) (W.bytes_taken writer.new) pending.old pending.new
-        (encode_lower (spelling Most 2 tag) ++ codes " " ++ type_word kind ++ codes " ") }
-    ensures count { Counts result (W.failed writer.old) (W.failed writer.new) }
-{
-    put_digits16(pending, writer, tag)?;
-    pending.put(writer, b" ")?;
-    pending.put(writer, type_word(kind))?;
-    pending.put(writer, b" ")
-}
-
 // Puts what stands in front of the elements.
 fn put_head<W: Sink>(
     pending: &mut Pending,
@@ -186,9 +168,9 @@ fn put_head<W: Sink>(
         ++ codes ":") }
     ensures count { Counts result (W.failed writer.old) (W.failed writer.new) }
 {
-    put_name(pending, writer, tag, value.kind())?;
-    put_decimal(pending, writer, value.count())?;
-    pending.put(writer, b":")
+    put_digits16(pending, writer, tag)?;
+    pending.put(writer, type_word(value.kind()))?;
+    put_ended(pending, writer, value.count(), b":")
 }
 
 #[tactic(auto, unfolding(crate::specs::Listing::field_line))]

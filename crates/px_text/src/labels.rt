@@ -1,5 +1,5 @@
 // The labels of captions.
-ghost use Rattle.std.specs.Prelude.{◌≡◌};
+ghost use Rattle.std.specs.Prelude.{◌≡◌, ◌++◌, codes};
 ghost use Rattle.px_text.specs.Captions.{label_of, label_word};
 
 /// What a caption is.
@@ -51,22 +51,22 @@ pub(crate) fn label_of(number: u8) -> Option<Label>
     }
 }
 
-// The label in front of a line.
+// The label in front of a line, with what follows it.
 pub(crate) fn label_word(label: Label) -> &'static [u8]
-    ensures { result.now ≡ label_word label }
+    ensures { result.now ≡ label_word label ++ codes ": " }
 {
     match label {
-        Label::Title => b"title",
-        Label::Caption => b"caption",
-        Label::Headline => b"headline",
-        Label::Credit => b"credit",
-        Label::Source => b"source",
-        Label::Copyright => b"copyright",
-        Label::ByLine => b"byline",
-        Label::ByLineTitle => b"byline-title",
-        Label::Keyword => b"keyword",
-        Label::Inventory => b"inventory",
-        Label::Description => b"description",
-        Label::Artist => b"artist",
+        Label::Title => b"title: ",
+        Label::Caption => b"caption: ",
+        Label::Headline => b"headline: ",
+        Label::Credit => b"credit: ",
+        Label::Source => b"source: ",
+        Label::Copyright => b"copyright: ",
+        Label::ByLine => b"byline: ",
+        Label::ByLineTitle => b"byline-title: ",
+        Label::Keyword => b"keyword: ",
+        Label::Inventory => b"inventory: ",
+        Label::Description => b"description: ",
+        Label::Artist => b"artist: ",
     }
 }

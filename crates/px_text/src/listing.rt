@@ -5,6 +5,7 @@ ghost use Rattle.px_bytes.specs.Waiting.{Puts};
 ghost use Rattle.px_tree.specs.calls.Seen.{exif_of, thumb_of, meaning_of};
 ghost use Rattle.px_text.specs.Listing.{field_lines, jpeg_lines, strip_line, strips_lines, record_lines, directory_lines, exif_lines};
 ghost use Rattle.px_text.specs.Listing.{thumb_lines, exif_listing, iim_listing};
+ghost use Rattle.px_text.specs.Words.{sized_bytes};
 
 use crate::dataset_lines::{count_datasets, put_datasets};
 use crate::field_lines::put_fields;
@@ -13,18 +14,7 @@ use px_bytes::{Failed, Pending, Sink};
 use px_iim::Iim;
 use px_tree::{ExifPart, Fields, Meaning, Strips, Thumb};
 
-// Puts how many DataSets there are, and these.
-fn put_counted<W: Sink>(pending: &mut Pending, writer: &mut W, iim: &Iim) -> Result<(), Failed>
-    requires { CanFail (W.failed writer.old) }
-    ensures bytes { Puts result (W.bytes_taken writer.old) (W.bytes_taken writer.new) pending.old pending.new
-        (record_lines (Some iim.now)) }
-    ensures count { Counts result (W.failed writer.old) (W.failed writer.new) }
-{
-    put_number(pending, writer, b"record ", count_datasets(iim), b":\n")?;
-    put_datasets(pending, writer, iim)
-}
-
-// Puts the record in the main directory.
+// Puts the record in the main directory: how many DataSets there are, and these.
 fn put_record<W: Sink>(
     pending: &mut Pending,
     writer: &mut W,
@@ -34,10 +24,11 @@ fn put_record<W: Sink>(
     ensures bytes { Puts result (W.bytes_taken writer.old) (W.bytes_taken writer.new) pending.old pending.new (record_lines iim.now) }
     ensures count { Counts result (W.failed writer.old) (W.failed writer.new) }
 {
-    match iim {
-        Some(iim) => put_counted(pending, writer, iim),
-        None => Ok(()),
-    }
+    let Some(iim) = iim else {
+        return Ok(());
+    };
+    put_number(pending, writer, b"record ", count_datasets(iim), b":\n")?;
+    put_datasets(pending, writer, iim)
 }
 
 // Puts the fields of a directory behind its name.
@@ -74,20 +65,6 @@ fn put_directory<W: Sink>(
     }
 }
 
-fn put_exif_part<W: Sink>(
-    pending: &mut Pending,
-    writer: &mut W,
-    exif: &ExifPart,
-) -> Result<(), Failed>
-    requires { CanFail (W.failed writer.old) }
-    ensures bytes { Puts result (W.bytes_taken writer.old) (W.bytes_taken writer.new) pending.old pending.new
-        (exif_lines (Some (exif_of exif.now))) }
-    ensures count { Counts result (W.failed writer.old) (W.failed writer.new) }
-{
-    put_titled(pending, writer, b"[exif]\n", &exif.fields)?;
-    put_directory(pending, writer, b"[interop]\n", &exif.interop)
-}
-
 fn put_exif<W: Sink>(
     pending: &mut Pending,
     writer: &mut W,
@@ -98,19 +75,26 @@ fn put_exif<W: Sink>(
         (exif_lines (option_map exif_of exif.now)) }
     ensures count { Counts result (W.failed writer.old) (W.failed writer.new) }
 {
-    match exif {
-        Some(exif) => put_exif_part(pending, writer, exif),
-        None => Ok(()),
-    }
+    let Some(exif) = exif else {
+        return Ok(());
+    };
+    put_titled(pending, writer, b"[exif]\n", &exif.fields)?;
+    put_directory(pending, writer, b"[interop]\n", &exif.interop)
 }
 
-fn put_image<W: Sink>(pending: &mut Pending, writer: &mut W, bytes: &[u8]) -> Result<(), Failed>
+// Puts bytes of the thumbnail behind a word for them.
+fn put_part<W: Sink>(
+    pending: &mut Pending,
+    writer: &mut W,
+    word: &[u8],
+    bytes: &[u8],
+) -> Result<(), Failed>
     requires { CanFail (W.failed writer.old) }
     ensures bytes { Puts result (W.bytes_taken writer.old) (W.bytes_taken writer.new) pending.old pending.new
-        (jpeg_lines (Some bytes.now)) }
+        (word.now ++ sized_bytes bytes.now) }
     ensures count { Counts result (W.failed writer.old) (W.failed writer.new) }
 {
-    pending.put(writer, b"jpeg")?;
+    pending.put(writer, word)?;
     put_sized(pending, writer, bytes)
 }
 
@@ -125,18 +109,9 @@ fn put_jpeg<W: Sink>(
     ensures count { Counts result (W.failed writer.old) (W.failed writer.new) }
 {
     match jpeg {
-        Some(bytes) => put_image(pending, writer, bytes),
+        Some(bytes) => put_part(pending, writer, b"jpeg", bytes),
         None => Ok(()),
     }
-}
-
-fn put_strip<W: Sink>(pending: &mut Pending, writer: &mut W, strip: &[u8]) -> Result<(), Failed>
-    requires { CanFail (W.failed writer.old) }
-    ensures bytes { Puts result (W.bytes_taken writer.old) (W.bytes_taken writer.new) pending.old pending.new (strip_line strip.now) }
-    ensures count { Counts result (W.failed writer.old) (W.failed writer.new) }
-{
-    pending.put(writer, b"strip")?;
-    put_sized(pending, writer, strip)
 }
 
 fn put_each_strip<W: Sink>(
@@ -150,26 +125,12 @@ fn put_each_strip<W: Sink>(
     ensures count { Counts result (W.failed writer.old) (W.failed writer.new) }
 {
     for i in 0..strips.len() {
-        put_strip(pending, writer, strips.at(i))?;
+        put_part(pending, writer, b"strip", strips.at(i))?;
     }
     Ok(())
 }
 
 // Puts how many strips there are, and these.
-fn put_all_strips<W: Sink>(
-    pending: &mut Pending,
-    writer: &mut W,
-    strips: &Strips,
-) -> Result<(), Failed>
-    requires { CanFail (W.failed writer.old) }
-    ensures bytes { Puts result (W.bytes_taken writer.old) (W.bytes_taken writer.new) pending.old pending.new
-        (strips_lines (Some strips.now)) }
-    ensures count { Counts result (W.failed writer.old) (W.failed writer.new) }
-{
-    put_number(pending, writer, b"strips ", strips.len(), b":\n")?;
-    put_each_strip(pending, writer, strips)
-}
-
 fn put_strips<W: Sink>(
     pending: &mut Pending,
     writer: &mut W,
@@ -179,25 +140,11 @@ fn put_strips<W: Sink>(
     ensures bytes { Puts result (W.bytes_taken writer.old) (W.bytes_taken writer.new) pending.old pending.new (strips_lines strips.now) }
     ensures count { Counts result (W.failed writer.old) (W.failed writer.new) }
 {
-    match strips {
-        Some(strips) => put_all_strips(pending, writer, strips),
-        None => Ok(()),
-    }
-}
-
-fn put_thumb_part<W: Sink>(
-    pending: &mut Pending,
-    writer: &mut W,
-    thumb: &Thumb,
-) -> Result<(), Failed>
-    requires { CanFail (W.failed writer.old) }
-    ensures bytes { Puts result (W.bytes_taken writer.old) (W.bytes_taken writer.new) pending.old pending.new
-        (thumb_lines (Some (thumb_of thumb.now))) }
-    ensures count { Counts result (W.failed writer.old) (W.failed writer.new) }
-{
-    put_titled(pending, writer, b"[thumb]\n", &thumb.fields)?;
-    put_jpeg(pending, writer, thumb.jpeg)?;
-    put_strips(pending, writer, &thumb.strips)
+    let Some(strips) = strips else {
+        return Ok(());
+    };
+    put_number(pending, writer, b"strips ", strips.len(), b":\n")?;
+    put_each_strip(pending, writer, strips)
 }
 
 fn put_thumb<W: Sink>(
@@ -210,10 +157,12 @@ fn put_thumb<W: Sink>(
         (thumb_lines (option_map thumb_of thumb.now)) }
     ensures count { Counts result (W.failed writer.old) (W.failed writer.new) }
 {
-    match thumb {
-        Some(thumb) => put_thumb_part(pending, writer, thumb),
-        None => Ok(()),
-    }
+    let Some(thumb) = thumb else {
+        return Ok(());
+    };
+    put_titled(pending, writer, b"[thumb]\n", &thumb.fields)?;
+    put_jpeg(pending, writer, thumb.jpeg)?;
+    put_strips(pending, writer, &thumb.strips)
 }
 
 // Puts the first line, and the main directory with its record.

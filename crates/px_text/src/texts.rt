@@ -26,6 +26,21 @@ pub(crate) fn put_decimal<W: Sink, I: Integer>(
     pending.put(writer, digits.format(n).as_bytes())
 }
 
+// Puts a number in decimal before a word.
+pub(crate) fn put_ended<W: Sink, I: Integer>(
+    pending: &mut Pending,
+    writer: &mut W,
+    n: I,
+    after: &[u8],
+) -> Result<(), Failed>
+    requires { CanFail (W.failed writer.old) }
+    ensures bytes { Puts result (W.bytes_taken writer.old) (W.bytes_taken writer.new) pending.old pending.new (I.text n ++ after.now) }
+    ensures count { Counts result (W.failed writer.old) (W.failed writer.new) }
+{
+    put_decimal(pending, writer, n)?;
+    pending.put(writer, after)
+}
+
 // Puts a number in decimal between two words.
 pub(crate) fn put_number<W: Sink, I: Integer>(
     pending: &mut Pending,
@@ -36,12 +51,11 @@ pub(crate) fn put_number<W: Sink, I: Integer>(
 ) -> Result<(), Failed>
     requires { CanFail (W.failed writer.old) }
     ensures bytes { Puts result (W.bytes_taken writer.old) (W.bytes_taken writer.new) pending.old pending.new
-        (before.now ++ I.text n ++ after.now) }
+        (before.now ++ (I.text n ++ after.now)) }
     ensures count { Counts result (W.failed writer.old) (W.failed writer.new) }
 {
     pending.put(writer, before)?;
-    put_decimal(pending, writer, n)?;
-    pending.put(writer, after)
+    put_ended(pending, writer, n, after)
 }
 
 // Puts a few bytes in hexadecimal.

@@ -1,4 +1,6 @@
-use Rattle.std.proofs.Common.{map, ◌∙◌}
+use Rattle.std.proofs.Common.{ℕ, List, map, ◌++◌, ◌∙◌, refl, sym, ap, arith, append-nil}
+use Rattle.std.specs.Prelude.{filter_map}
+use Rattle.std.proofs.lemmas.List.{length-map, take_all}
 use Rattle.px_iim.specs.calls.View.{item_view}
 use Rattle.px_text.specs.Captions.{labelled}
 use Rattle.px_text.specs.calls.CaptionView.{caption_view}
@@ -14,3 +16,17 @@ loop-item-preserved c = record {
       c.loop-item.invariant.list c.in_ok-push_item.ensures.list;
   memory = c.in_ok-push_item.ensures.memory ∙ c.loop-item.invariant.memory;
 }
+
+pub loop-item-init : goal.loop-item-init
+loop-item-init c = record { list = sym (append-nil (map caption_view c.args.list.now.items)); memory = refl }
+
+pub returns-clause-list : goal.returns-clause-list
+returns-clause-list c =
+    let some = filter_map labelled in
+    let all = take_all c.loop-item.item-index (map item_view c.args.items.now) (omega (
+      arith,
+      c.loop-item-test.false,
+      length-map
+          c.args.items.now item_view,
+    )) in
+    c.loop-item.invariant.list ∙ ap (λ (xs : List (ℕ × List ℕ)). map caption_view c.args.list.now.items ++ some xs) all

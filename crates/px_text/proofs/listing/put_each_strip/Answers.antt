@@ -5,26 +5,26 @@ use Rattle.px_text.specs.Listing.{strip_line}
 use Rattle.px_text.proofs.Chains.{all_put, can_fail, fails, none_yet}
 use Rattle.px_text.proofs.listing.put_each_strip.Goals as goal
 
-pub returns-in_err-put_strip-clause-bytes : goal.returns-in_err-put_strip-clause-bytes
-returns-in_err-put_strip-clause-bytes g c =
+pub returns-in_err-put_part-clause-bytes : goal.returns-in_err-put_part-clause-bytes
+returns-in_err-put_part-clause-bytes g c =
     let p = err_from_is_err_and c.from_residual.result c.from_residual.ensures.1 in
     rw p.1 (owed_stop strip_line c.args.strips.now c.loop-i.i c.at.result.now c.at.ensures
-    _ _ _ c.args.pending.now c.loop-i.pending c.loop-i.invariant.owes c.in_err-put_strip.ensures.bytes)
+    _ _ _ c.args.pending.now c.loop-i.pending c.loop-i.invariant.owes c.in_err-put_part.ensures.bytes)
 
 pub loop-i-preserved : goal.loop-i-preserved
 loop-i-preserved g c = record {
   owes = owed_more strip_line c.args.strips.now c.loop-i.i c.at.result.now c.at.ensures
-      _ _ _ c.args.pending.now c.loop-i.pending c.put_strip.new.pending c.loop-i.invariant.owes c.in_ok-put_strip.ensures.bytes;
-  count = c.in_ok-put_strip.ensures.count ∙ c.loop-i.invariant.count;
+      _ _ _ c.args.pending.now c.loop-i.pending c.put_part.new.pending c.loop-i.invariant.owes c.in_ok-put_part.ensures.bytes;
+  count = c.in_ok-put_part.ensures.count ∙ c.loop-i.invariant.count;
 }
 
-pub put_strip-requires : goal.put_strip-requires
-put_strip-requires g c = can_fail _ _ c.loop-i.invariant.count c.requires
+pub put_part-requires : goal.put_part-requires
+put_part-requires g c = can_fail _ _ c.loop-i.invariant.count c.requires
 
-pub returns-in_err-put_strip-clause-count : goal.returns-in_err-put_strip-clause-count
-returns-in_err-put_strip-clause-count g c =
+pub returns-in_err-put_part-clause-count : goal.returns-in_err-put_part-clause-count
+returns-in_err-put_part-clause-count g c =
     let p = err_from_is_err_and c.from_residual.result c.from_residual.ensures.1 in
-    rw p.1 (fails _ _ _ c.loop-i.invariant.count c.in_err-put_strip.ensures.count)
+    rw p.1 (fails _ _ _ c.loop-i.invariant.count c.in_err-put_part.ensures.count)
 
 pub returns-clause-count : goal.returns-clause-count
 returns-clause-count g c = c.loop-i.invariant.count
