@@ -28,7 +28,7 @@ from compiler import Compiler
 from crates import Crates, below, chains
 from store import Store, remove
 
-# The most that one crate's proof was seen to take, in bytes.
+# More than the proof of one crate was seen to take, in bytes.
 MEMORY = 3 << 30
 SIDE_BY_SIDE, JOBS = 3, 4
 
@@ -82,8 +82,8 @@ class Build:
 
     def ready(self) -> list[str]:
         """The crates that wait for no other, first those for which the most wait."""
-        waited_for = {*self.left, *self.running.values()}
-        return [it for it in self.left if not waited_for & {*below(it, self.crates.uses)}]
+        unproved = {*self.left, *self.running.values()}
+        return [it for it in self.left if not unproved & {*below(it, self.crates.uses)}]
 
     def begin(self, crate: str, pool: ThreadPoolExecutor) -> None:
         self.left.remove(crate)
