@@ -5,6 +5,7 @@ from __future__ import annotations
 import os
 import signal
 import subprocess
+import sys
 from pathlib import Path
 from threading import Lock
 from typing import IO
@@ -12,6 +13,10 @@ from typing import IO
 from crates import Crates
 
 TARGET = "x86_64-unknown-linux-gnu"
+
+# A command leads a group, by which it is ended with the copies that it makes of itself. A session would be a group too, but the system
+# shares processors among sessions first, whatever gives way in them.
+GROUP = {"process_group": 0} if sys.version_info >= (3, 11) else {"start_new_session": True}
 
 
 def said(*words: str) -> str:
@@ -39,7 +44,7 @@ class Compiler:
 
     def call(self, words: list[str], folder: Path, log: IO) -> int:
         """Runs a command in a group of its own, and returns its status."""
-        how = {"stdin": subprocess.DEVNULL, "stdout": log, "stderr": log, "start_new_session": True}
+        how = {"stdin": subprocess.DEVNULL, "stdout": log, "stderr": log, **GROUP}
         with self.guard:
             if self.is_stopped:
                 return -signal.SIGTERM
@@ -75,7 +80,7 @@ class Compiler:
         """Proves a crate and builds it as `made`. A call that gives way gets what the others leave of the processors."""
         is_program = self.crates.is_program(crate)
         object_file = made.with_name(f"{crate}.o") if is_program else made
-        lower = ["nice", "-n", "10"] * gives_way
+        lower = ["nice", "-n", "19"] * gives_way
         status = self.call([*lower, *self.words(crate, object_file, jobs)], self.crates.folder(crate), log)
         if status == -signal.SIGKILL and jobs > 1:
             log.write("the check was killed, most likely for memory: once more, with one job\n")
