@@ -327,11 +327,13 @@ def stopped(room: Room, how: int) -> None:
     started = room.start("a")
     working = int(room.until("begin", "px_cli"))
     time.sleep(0.3)
+    began = time.monotonic()
     started.send_signal(how)
     out, _ = started.communicate(timeout=20)
     due(started.returncode != 0 and out == "", (started.returncode, out))
     if how != signal.SIGKILL:
         due(started.returncode == 70, started.returncode)
+        due(time.monotonic() - began < 2, "the build goes on")
         for _ in range(100):
             if not Path(f"/proc/{working}").exists():
                 break
@@ -402,12 +404,13 @@ def a_crate_begins_as_soon_as_what_it_stands_on_is_proved(room: Room) -> None:
 
 def at_most_three_are_proved_at_once(room: Room) -> None:
     names = "abcde"
-    crates = "".join(f"px_{it}: clap\n" for it in names) + "px_cli: " + " ".join(f"px_{it}" for it in names) + "\n"
+    crates = "".join(f"px_{it}: clap\n" for it in names) + "px_f: clap\npx_g: px_f\npx_cli: " + " ".join(f"px_{it}" for it in names + "g") + "\n"
     (room.folder / "many").mkdir()
     many = Room(room.folder / "many", crates)
     many.takes(0.3)
     many.call()
-    due(most_at_once(many.log()) == min(3, len(os.sched_getaffinity(0))) and len(many.built()) == 6, many.log())
+    due(most_at_once(many.log()) == min(3, len(os.sched_getaffinity(0))) and len(many.built()) == 8, many.log())
+    due("px_f" in [it[2] for it in many.log()][:3], "another waits for px_f, so it is among the first")
 
 
 def only_what_was_changed_and_what_stands_on_it_is_proved_again(room: Room) -> None:
@@ -421,6 +424,15 @@ def only_what_was_changed_and_what_stands_on_it_is_proved_again(room: Room) -> N
     due(room.call("a").stdout == "two: a\n" and len(room.built()) == 4, room.log())
 
 
+def what_stands_on_a_crate_that_another_build_proved_again_is_proved_again(room: Room) -> None:
+    other = [sys.executable, str(room.top / "build/prove.py"), "px_other"]
+    for text in ("one", "two"):
+        (room.top / "crates/px_bytes/src/lib.rt").write_text(text)
+        room.call()
+        due(subprocess.run(other, env=room.environment(), capture_output=True, timeout=60).returncode == 0, room.log())
+    due(room.built().count("px_bytes") == room.built().count("px_other") == 2, room.log())
+
+
 def a_crate_that_is_changed_while_it_is_proved_is_proved_again(room: Room) -> None:
     room.takes(1)
     started = room.start("a")
@@ -428,6 +440,7 @@ def a_crate_that_is_changed_while_it_is_proved_is_proved_again(room: Room) -> No
     (room.top / "crates/px_bytes/src/lib.rt").write_text("two")
     due(started.communicate(timeout=60)[0] == "one: a\n", room.log())
     room.takes(0)
+    (room.top / "crates/px_bytes/src/lib.rt").write_text("one")  # what was proved may be of the other text
     due(room.call("a").stdout == "one: a\n" and sorted(room.built()) == sorted(2 * ["px_bytes", "px_cli", "px_field", "px_iim"]), room.log())
 
 
@@ -559,6 +572,7 @@ TESTS = [
     a_crate_begins_as_soon_as_what_it_stands_on_is_proved,
     at_most_three_are_proved_at_once,
     only_what_was_changed_and_what_stands_on_it_is_proved_again,
+    what_stands_on_a_crate_that_another_build_proved_again_is_proved_again,
     a_crate_that_is_changed_while_it_is_proved_is_proved_again,
     a_proof_that_is_killed_is_tried_again_with_one_job,
     what_a_killed_build_left_is_waited_for,
