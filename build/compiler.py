@@ -2,6 +2,7 @@
 
 from __future__ import annotations
 
+import contextlib
 import os
 import signal
 import subprocess
@@ -40,7 +41,8 @@ class Compiler:
         with self.guard:
             self.is_stopped = True
             for it in self.running:
-                os.killpg(it.pid, signal.SIGTERM)
+                with contextlib.suppress(ProcessLookupError):  # it has just ended
+                    os.killpg(it.pid, signal.SIGTERM)
 
     def call(self, words: list[str], folder: Path, log: IO) -> int:
         """Runs a command in a group of its own, and returns its status."""
