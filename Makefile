@@ -1,11 +1,13 @@
-# Builds, checks and installs the program and the library. GNU make.
+# Builds, checks, installs and packages the program and the library. GNU make.
 #
 #   make                                  the proved program, and libexifnorm for C and Python
 #   make check                            every proof and every test (./test)
-#   make install PREFIX=/usr DESTDIR=..   program, man pages, header, libraries, exifnorm.pc, Python packages, ..
-#   make uninstall PREFIX=/usr DESTDIR=.. takes away what install put there
+#   make install PREFIX=/usr DESTDIR=..   program, man pages, header, libraries, exifnorm.pc, Python packages, completion, ..
+#   make uninstall PREFIX=/usr DESTDIR=.. removes what install wrote there, and nothing else
+#   make wheel                            a Python wheel with the library, in out/wheel
+#   make dist                             an archive of all that install writes, its sums and its components, in out/dist
 #
-# The first build proves every crate and takes minutes. Where nothing changed, nothing is built again.
+# The first build proves every crate and takes minutes. Where nothing changed, nothing is built again. docs/PACKAGING.md says more.
 
 PREFIX = /usr/local
 DESTDIR =
@@ -14,29 +16,38 @@ LIBDIR = $(PREFIX)/lib
 INCLUDEDIR = $(PREFIX)/include
 MANDIR = $(PREFIX)/share/man
 DOCDIR = $(PREFIX)/share/doc/exifnorm
-COMPLETIONDIR = $(PREFIX)/share/bash-completion/completions
+BASHDIR = $(PREFIX)/share/bash-completion/completions
+ZSHDIR = $(PREFIX)/share/zsh/site-functions
+FISHDIR = $(PREFIX)/share/fish/vendor_completions.d
+# the prefix as exifnorm.pc has it
+PCPREFIX = $(PREFIX)
+# the list of what install wrote, by which uninstall removes it
+MANIFEST = $(PREFIX)/share/exifnorm/installed
+# strips the shared library that is installed; empty: it stays as it was linked
+STRIP = strip
 PYTHON = python3
+# what the first line of exifnorm-pictures names, where that isn't the file of PYTHON
+INTERPRETER =
 # the first folder below PREFIX in which that Python looks for packages, or the usual one
-PYTHONDIR = $(shell $(PYTHON) -c 'import site, sys; below = sys.argv[1] + "/lib"; \
+PYTHONDIR = $(eval PYTHONDIR := $(shell '$(PYTHON)' -c 'import site, sys; below = sys.argv[1] + "/lib"; \
     print(next((it for it in site.getsitepackages() if it.startswith(below)), \
-    "%s/python%d.%d/site-packages" % (below, *sys.version_info[:2])))' '$(PREFIX)')
+    "%s/python%d.%d/site-packages" % (below, *sys.version_info[:2])))' '$(PREFIX)'))$(PYTHONDIR)
 
-VERSION = $(shell sed -n 's/^pub const VERSION: &str = "\(.*\)";$$/\1/p' crates/px_engine/src/version.rt)
+# each of these is looked up where it is first used, and once
+VERSION = $(eval VERSION := $(shell sed -n 's/^pub const VERSION: &str = "\(.*\)";$$/\1/p' crates/px_engine/src/version.rt))$(VERSION)
 SONAME = libexifnorm.so.1
 built = out/lib
 archive = out/proved/libpx_c.a
 # where ./exifnorm keeps the program that it built
 program = $$(ls out/exifnorm 2>/dev/null || ls crates/px_cli/out/px_cli)
-# of px_c and of the crates that it stands on
-folders = $(addprefix crates/px_,c engine text layout tree iim field bytes)
-sources = crates.txt $(shell find $(folders) \
-    -path '*/out' -prune -o -path '*/must-fail' -prune -o -type f \( -name '*.rt' -o -name '*.antt' \) -print)
-packages = $(notdir $(patsubst %/__init__.py,%,$(wildcard python/*/__init__.py)))
+packages = $(eval packages := $(patsubst python/%/__init__.py,%,$(shell find python -name __init__.py)))$(packages)
 pages = $(wildcard docs/*.1 docs/*.3)
-guides = $(wildcard docs/FORMAT.md docs/RECIPES.md docs/REFUSALS.md)
-installed = $(DESTDIR)$(PYTHONDIR)
+# the licences, and the documents that installed pages, documents and modules refer to
+papers = LICENSE-APACHE LICENSE-MIT CHANGELOG.md $(addprefix docs/,DECISIONS.md FORMAT.md RECIPES.md REFUSALS.md)
+# all that is installed, before it is copied to where it belongs
+stage = out/stage
 
-.PHONY: all program library check install uninstall
+.PHONY: all program library check stage install uninstall wheel dist
 .DELETE_ON_ERROR:
 
 all: program library
@@ -47,13 +58,13 @@ program:
 
 library: $(built)/libexifnorm.a $(built)/libexifnorm.so $(built)/exifnorm.h
 
-# The crates below are proved first, where they have changed. The archive is left alone where the sources say the same.
-$(archive): $(sources)
-	python3 build/prove.py px_c
-	touch $@
+.PHONY: FORCE
+# build/store.py knows what has to be proved and built again, as for the program. What is up to date keeps its time.
+$(archive): FORCE
+	@python3 build/prove.py px_c
 
 # The archive and what it needs of the toolchain as one object, which shows exifnorm_* alone.
-$(built)/exifnorm.o: $(archive)
+$(built)/exifnorm.o: $(archive) Makefile
 	mkdir -p $(built)
 	ld -r -o $@ --whole-archive $(archive) "$$(dirname "$$(rt doc)")/c/liblibc_c.a"
 	objcopy --wildcard --keep-global-symbol='exifnorm_*' $@
@@ -62,8 +73,9 @@ $(built)/libexifnorm.a: $(built)/exifnorm.o
 	rm -f $@
 	ar rcsD $@ $<
 
-$(built)/$(SONAME): $(built)/exifnorm.o
-	$(CC) $(LDFLAGS) -shared -o $@ $< -Wl,-soname,$(SONAME) -Wl,-z,defs -Wl,-z,relro -Wl,-z,now
+$(built)/$(SONAME): $(built)/exifnorm.o packaging/exifnorm.map
+	$(CC) $(LDFLAGS) -shared -o $@ $< -Wl,-soname,$(SONAME) -Wl,--version-script=packaging/exifnorm.map -Wl,-z,defs -Wl,-z,relro \
+	    -Wl,-z,now -Wl,-z,noexecstack
 
 $(built)/libexifnorm.so: $(built)/$(SONAME)
 	ln -sf $(SONAME) $@
@@ -75,36 +87,65 @@ $(built)/exifnorm.h: crates/px_c/include/exifnorm.h
 check:
 	./test
 
-install: all
-	install -d '$(DESTDIR)$(BINDIR)' '$(DESTDIR)$(LIBDIR)/pkgconfig' '$(DESTDIR)$(INCLUDEDIR)' '$(DESTDIR)$(MANDIR)/man1' \
-	    '$(DESTDIR)$(MANDIR)/man3' '$(DESTDIR)$(DOCDIR)' '$(DESTDIR)$(COMPLETIONDIR)' '$(installed)'
-	install -m 755 "$(program)" '$(DESTDIR)$(BINDIR)/exifnorm'
-	install -m 644 crates/px_c/include/exifnorm.h '$(DESTDIR)$(INCLUDEDIR)/exifnorm.h'
-	install -m 644 $(built)/libexifnorm.a '$(DESTDIR)$(LIBDIR)/libexifnorm.a'
-	install -m 755 $(built)/$(SONAME) '$(DESTDIR)$(LIBDIR)/libexifnorm.so.$(VERSION)'
-	ln -sf libexifnorm.so.$(VERSION) '$(DESTDIR)$(LIBDIR)/$(SONAME)'
-	ln -sf $(SONAME) '$(DESTDIR)$(LIBDIR)/libexifnorm.so'
-	printf '%s\n' 'prefix=$(PREFIX)' 'libdir=$(LIBDIR)' 'includedir=$(INCLUDEDIR)' '' 'Name: exifnorm' \
-	    'Description: What blocks of Exif and IPTC metadata say, and their one normal form' 'Version: $(VERSION)' \
-	    'Libs: -L$${libdir} -lexifnorm' 'Cflags: -I$${includedir}' >'$(DESTDIR)$(LIBDIR)/pkgconfig/exifnorm.pc'
-	for page in $(pages); do install -m 644 "$$page" "$(DESTDIR)$(MANDIR)/man$${page##*.}/" || exit 1; done
-	install -m 644 $(guides) '$(DESTDIR)$(DOCDIR)/'
-	install -m 644 docs/exifnorm.bash '$(DESTDIR)$(COMPLETIONDIR)/exifnorm'
+# A folder as exifnorm.pc names it, so that it moves with the prefix.
+below_prefix = $(patsubst $(PREFIX)/%,$${prefix}/%,$(1))
+
+# Everything as it is installed, below out/stage.
+stage: all
+	rm -rf $(stage)
+	install -d '$(stage)$(BINDIR)' '$(stage)$(LIBDIR)/pkgconfig' '$(stage)$(INCLUDEDIR)' '$(stage)$(DOCDIR)' \
+	    '$(stage)$(MANDIR)/man1' '$(stage)$(MANDIR)/man3' '$(stage)$(BASHDIR)' '$(stage)$(ZSHDIR)' '$(stage)$(FISHDIR)'
+	install -m 755 "$(program)" '$(stage)$(BINDIR)/exifnorm'
+	install -m 644 $(built)/exifnorm.h '$(stage)$(INCLUDEDIR)/exifnorm.h'
+	install -m 644 $(built)/libexifnorm.a '$(stage)$(LIBDIR)/libexifnorm.a'
+	install -m 644 $(built)/$(SONAME) '$(stage)$(LIBDIR)/libexifnorm.so.$(VERSION)'
+	$(if $(STRIP),$(STRIP) --strip-unneeded '$(stage)$(LIBDIR)/libexifnorm.so.$(VERSION)')
+	ln -s libexifnorm.so.$(VERSION) '$(stage)$(LIBDIR)/$(SONAME)'
+	ln -s $(SONAME) '$(stage)$(LIBDIR)/libexifnorm.so'
+	printf '%s\n' 'prefix=$(PCPREFIX)' 'libdir=$(call below_prefix,$(LIBDIR))' 'includedir=$(call below_prefix,$(INCLUDEDIR))' '' \
+	    'Name: exifnorm' 'Description: The normal form of Exif and IPTC metadata blocks' 'Version: $(VERSION)' \
+	    'Libs: -L$${libdir} -lexifnorm' 'Cflags: -I$${includedir}' >'$(stage)$(LIBDIR)/pkgconfig/exifnorm.pc'
+	chmod 644 '$(stage)$(LIBDIR)/pkgconfig/exifnorm.pc'
+	for page in $(pages); do install -m 644 "$$page" "$(stage)$(MANDIR)/man$${page##*.}/" || exit 1; done
+	install -m 644 $(papers) '$(stage)$(DOCDIR)/'
 	for package in $(packages); do \
-	    install -d "$(installed)/$$package" && \
-	    install -m 644 python/$$package/*.py python/$$package/py.typed "$(installed)/$$package/" || exit 1; \
+	    install -d "$(stage)$(PYTHONDIR)/$$package" && \
+	    install -m 644 python/$$package/*.py "$(stage)$(PYTHONDIR)/$$package/" || exit 1; \
 	done
-	ln -sf "$$($(PYTHON) -c 'import os, sys; print(os.path.relpath(*sys.argv[1:]))' '$(LIBDIR)/$(SONAME)' '$(PYTHONDIR)/exifnorm')" \
-	    '$(installed)/exifnorm/$(SONAME)'
-	if [ -e python/exifnorm_pictures/main.py ]; then \
-	    printf '%s\n' '#!/usr/bin/env $(PYTHON)' 'import sys' 'from exifnorm_pictures.main import main' 'sys.exit(main())' \
-	        >'$(DESTDIR)$(BINDIR)/exifnorm-pictures' && chmod 755 '$(DESTDIR)$(BINDIR)/exifnorm-pictures'; \
-	fi
+	for typed in $(wildcard python/*/py.typed); do install -m 644 "$$typed" "$(stage)$(PYTHONDIR)/$${typed#python/}" || exit 1; done
+	ln -s "$$(realpath -m --relative-to='$(PYTHONDIR)/exifnorm' '$(LIBDIR)')/$(SONAME)" '$(stage)$(PYTHONDIR)/exifnorm/$(SONAME)'
+	python3 packaging/dist_info.py python '$(stage)$(PYTHONDIR)'
+	'$(PYTHON)' packaging/command.py '$(BINDIR)' '$(PYTHONDIR)' $(if $(INTERPRETER),'$(INTERPRETER)') >'$(stage)$(BINDIR)/exifnorm-pictures'
+	chmod 755 '$(stage)$(BINDIR)/exifnorm-pictures'
+	for command in exifnorm exifnorm-pictures; do \
+	    python3 packaging/completions.py "$(stage)$(BINDIR)/$$command" '$(stage)$(BASHDIR)' '$(stage)$(ZSHDIR)' '$(stage)$(FISHDIR)' || exit 1; \
+	done
+
+install: stage
+	python3 packaging/manifest.py install $(stage) '$(DESTDIR)' '$(MANIFEST)'
 
 uninstall:
-	rm -f '$(DESTDIR)$(BINDIR)/exifnorm' '$(DESTDIR)$(BINDIR)/exifnorm-pictures' '$(DESTDIR)$(INCLUDEDIR)/exifnorm.h' \
-	    '$(DESTDIR)$(LIBDIR)/libexifnorm.a' '$(DESTDIR)$(LIBDIR)/libexifnorm.so.$(VERSION)' '$(DESTDIR)$(LIBDIR)/$(SONAME)' \
-	    '$(DESTDIR)$(LIBDIR)/libexifnorm.so' '$(DESTDIR)$(LIBDIR)/pkgconfig/exifnorm.pc' '$(DESTDIR)$(COMPLETIONDIR)/exifnorm'
-	rm -f $(patsubst docs/%,'$(DESTDIR)$(DOCDIR)/%',$(guides))
-	for page in $(notdir $(pages)); do rm -f "$(DESTDIR)$(MANDIR)/man$${page##*.}/$$page"; done
-	for package in $(packages); do rm -rf "$(installed)/$$package"; done
+	python3 packaging/manifest.py uninstall '$(DESTDIR)' '$(MANIFEST)'
+
+# The date of the version, so that the same sources make the same bytes at any time.
+epoch = $$(date -d "$$(sed -n 's/^ -- .*>  //p' debian/changelog | head -n 1)" +%s)
+
+wheel: library
+	rm -f out/wheel/*.whl
+	SOURCE_DATE_EPOCH=$(epoch) '$(PYTHON)' -m pip wheel --no-build-isolation --no-deps --disable-pip-version-check -w out/wheel ./python
+
+# Everything in one folder that can be unpacked anywhere.
+dist_name = exifnorm-$(VERSION)-$(shell uname -s | tr A-Z a-z)-$(shell uname -m)
+kit = $$(dirname "$$(rt doc)")
+dist:
+	rm -rf out/dist
+	mkdir -p out/dist
+	$(MAKE) stage stage=out/dist/$(dist_name) PREFIX= PCPREFIX='$$$${pcfiledir}/../..' PYTHONDIR=/lib/python3/site-packages \
+	    INTERPRETER='/usr/bin/env python3'
+	python3 packaging/components.py $(VERSION) $(epoch) "$(kit)" out/dist/exifnorm-$(VERSION).spdx.json \
+	    out/dist/$(dist_name)/share/doc/exifnorm/crates
+	cp out/dist/exifnorm-$(VERSION).spdx.json out/dist/$(dist_name)/share/doc/exifnorm/
+	tar --create --sort=name --mtime=@$(epoch) --owner=0 --group=0 --numeric-owner --mode=u=rwX,go=rX --format=gnu -C out/dist $(dist_name) | \
+	    gzip -9 -n >out/dist/$(dist_name).tar.gz
+	rm -r out/dist/$(dist_name)
+	cd out/dist && sha256sum exifnorm-* >SHA256SUMS

@@ -4,6 +4,7 @@ from __future__ import annotations
 
 import contextlib
 import os
+import shutil
 import signal
 import subprocess
 import sys
@@ -25,6 +26,11 @@ def said(*words: str) -> str:
     return subprocess.run(words, stdin=subprocess.DEVNULL, stdout=subprocess.PIPE, text=True, check=True).stdout.strip()
 
 
+def version() -> str:
+    """The toolchain's version line; empty where there is no toolchain on the PATH."""
+    return said("rt", "version") if shutil.which("rt") else ""
+
+
 class Compiler:
     """It proves a crate from nothing, over built libraries, and builds it. Calls may come side by side."""
 
@@ -32,7 +38,6 @@ class Compiler:
         """Over the libraries in a folder. Each process holds the open file, until it ends, however this one ends."""
         self.crates, self.libraries, self.holds = crates, libraries, holds
         self.kit = os.path.dirname(said("rt", "doc"))
-        self.version = said("rt", "version")
         self.running: set[subprocess.Popen] = set()
         self.guard, self.is_stopped = Lock(), False
 
@@ -67,7 +72,7 @@ class Compiler:
         for folder in (f"{self.kit}/rlibs", self.libraries):
             words += ["-L", f"dependency={folder}"]
         words += ["--antt-project", f"{self.kit}/rattle/logic/antt-project.json", "--logic-built", f"{self.kit}/logic_built"]
-        words += ["--jobs", str(jobs), "--links", f"{crate}=", "-o", str(made)]
+        words += ["--jobs", str(jobs), "--links", f"{crate}=", "--empty-contracts", "-o", str(made)]
         if self.crates.is_program(crate) or crate in self.crates.archives:
             words += ["--toolchain", f"{self.kit}/toolchain", "--backend", "llvm"]
             return words + ["--crate-type", "staticlib"] * (crate in self.crates.archives)
@@ -85,6 +90,8 @@ class Compiler:
         lower = ["nice", "-n", "19"] * gives_way
         status = self.call([*lower, *self.words(crate, object_file, jobs)], self.crates.folder(crate), log)
         if status == -signal.SIGKILL and jobs > 1:
+            log.seek(0)
+            log.truncate()
             log.write("the check was killed, most likely for memory: once more, with one job\n")
             log.flush()
             return self.build(crate, made, 1, log, gives_way)

@@ -3,6 +3,7 @@
 from __future__ import annotations
 
 import hashlib
+import os
 from dataclasses import dataclass
 from pathlib import Path
 
@@ -28,7 +29,7 @@ def archives_of(text: str) -> set[str]:
 
 
 def below(crate: str, uses: dict[str, list[str]]) -> list[str]:
-    """The repository's crates that a crate stands on, each behind those that it uses itself.
+    """The repository's crates that a crate stands on, each after those that it uses itself.
 
     >>> below("c", {"c": ["b", "a", "clap"], "b": ["a"], "a": []})
     ['a', 'b']
@@ -41,7 +42,7 @@ def below(crate: str, uses: dict[str, list[str]]) -> list[str]:
 
 
 def chains(crate: str, uses: dict[str, list[str]]) -> dict[str, int]:
-    """How many crates wait for each one behind the other, at most: the more, the sooner it is due.
+    """How many crates wait for each, one after the other, at most: the more, the sooner it is proved.
 
     >>> chains("d", {"d": ["c", "late"], "c": ["b"], "b": ["a"], "late": ["a"], "a": []})
     {'d': 0, 'a': 3, 'b': 2, 'c': 1, 'late': 1}
@@ -84,9 +85,13 @@ class Crates:
         return f"lib{crate}.a" if crate in self.archives else f"{crate}.rlib"
 
     def sources(self, crate: str) -> list[Path]:
-        """The files and folders that a crate is made from."""
+        """The files and folders that a crate is made from. Links are refused, as `rt ci` does: a change behind one would go unnoticed."""
         parts = [self.folder(crate) / part for part in ("src", "specs", "proofs")]
-        return sorted(it for part in parts if part.exists() for it in [part, *part.rglob("*")])
+        found = sorted(it for part in parts if os.path.lexists(part) for it in [part, *part.rglob("*")])
+        for it in found:
+            if it.is_symlink():
+                raise OSError(f"{it} is a link, and sources may not be links")
+        return found
 
     def sum(self, crate: str) -> str:
         """A sum of what the crate uses and of its sources, with their names."""

@@ -1,17 +1,33 @@
+#!/usr/bin/env python3
 """What `rt ci` has just proved, which ./test takes in place of a second proof of the same.
 
+  build/gate.py       prints the sums of all that `rt ci` is about to read
+
 `rt ci` leaves the libraries that it proved without the stamp that other commands of `rt` leave, and it does not build archives.
-./test makes a mark before it calls `rt ci`, and names what that proved by EXIFNORM_PROVED.
+./test writes these sums before it calls `rt ci`, and keeps them as out/proved-since where that proved all; EXIFNORM_PROVED, a full
+name, then names the program that was proved. Both are taken only where the sums are still the same, and where the system noted no
+change of a source since: an edit that was taken back while `rt ci` read the sources counts as one.
 """
 
 from __future__ import annotations
 
 import os
 import shutil
+import sys
 from pathlib import Path
 
+sys.dont_write_bytecode = True
+
+import compiler
 from crates import Crates, below
-from store import Store
+from store import Store, scripts_sum
+from verdict import starts
+
+
+def sums(crates: Crates) -> str:
+    """The toolchain, the scripts that prove, and each crate, a line each with its sum."""
+    lines = [f"toolchain {compiler.version()}", f"scripts {scripts_sum()}"]
+    return "".join(f"{it}\n" for it in [*lines, *(f"{name} {crates.sum(name)}" for name in crates.uses)])
 
 
 def library(crates: Crates, crate: str) -> Path:
@@ -31,20 +47,45 @@ def is_proved(crates: Crates, crate: str) -> bool:
     sources = [crates.top / "crates.txt", Path(shutil.which("rt") or "rt")]
     for it in [*names, crate]:
         sources += crates.sources(it)
+    since = crates.top / "out" / "proved-since"
     try:
-        mark = (crates.top / "out" / "proved-since").stat().st_mtime_ns
+        mark = since.stat().st_mtime_ns
+        if since.read_text(encoding="utf-8") != sums(crates):
+            return False
         unchanged = all(it.stat().st_ctime_ns <= mark for it in sources if it.exists())
     except FileNotFoundError:
         return False
     return unchanged and all(is_of_the_gate(library(crates, it), mark) for it in names)
 
 
+def proved_program(crates: Crates) -> Path | None:
+    """The program that `rt ci` has proved and built since the mark."""
+    program, since = Path(os.environ["EXIFNORM_PROVED"]), crates.top / "out" / "proved-since"
+    try:
+        is_later = program.stat().st_mtime_ns > since.stat().st_mtime_ns
+    except FileNotFoundError:
+        return None
+    return program if is_later and starts(program) else None
+
+
 def take(crates: Crates, crate: str, store: Store) -> bool:
-    """Takes the libraries below a crate into the store, where ./test asks for it and `rt ci` has just proved them."""
-    if "EXIFNORM_PROVED" not in os.environ or not is_proved(crates, crate):
+    """Takes what is unbuilt of a crate into the store, where ./test asks for it and `rt ci` has just proved it."""
+    if not os.path.isabs(os.environ.get("EXIFNORM_PROVED", "")) or not is_proved(crates, crate):
         return False
-    for it in below(crate, crates.uses):
-        made, due = store.making / crates.product(it), store.due(it)
-        shutil.copytree(library(crates, it), made)
-        store.put(it, made, due)
-    return True
+    has_taken = False
+    for it in store.unbuilt(crate):
+        made, expected = store.making / crates.product(it), store.expected(it)
+        program = proved_program(crates) if it == crate and crates.is_program(it) else None
+        if it != crate:
+            shutil.copytree(library(crates, it), made)
+        elif program:
+            shutil.copy(program, made)
+        else:
+            continue
+        store.put(it, made, expected)
+        has_taken = True
+    return has_taken
+
+
+if __name__ == "__main__":
+    print(end=sums(Crates.read(Path(__file__).resolve().parent.parent)))

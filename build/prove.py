@@ -3,17 +3,21 @@
 
   build/prove.py CRATE
 
-What is built stands in out/proved/, each library, program and archive with a note of what it was made from; where that is the same
-it is taken as it is. Else the crate is proved from nothing, as soon as what it stands on is proved, beside others where there are
-processors and memory for them. Standard error tells how far it is, and out/build-NAME.log what the compiler said of a crate.
+What is built is in out/proved/, each library, program and archive with a note of what it was made from; what is up to date by
+build/store.py is left as it is. Else the crate is proved from nothing, as soon as what it stands on is proved, beside others where
+there are processors and memory for them. Standard error says how far it is, and out/build-NAME.log what the compiler said of a crate.
 The status is 0 where all is proved and built, and else 1.
+
+A crate counts as proved where the compiler says so and its verdict names nothing that the proof leaves out, such as functions that may
+never return, and where it finds no contract that no call can meet; and HANDLES must be as it is. `rt ci` judges more, and decides what
+lands: the layout of the files, what the sources may not name, impls that macros write, terms that a tactic chose, which functions of
+the system the linked program calls, the tests, and the wrong bodies that must be refused.
 """
 
 from __future__ import annotations
 
+import contextlib
 import fcntl
-import os
-import re
 import signal
 import subprocess
 import sys
@@ -24,9 +28,11 @@ from typing import IO
 sys.dont_write_bytecode = True
 
 import gate
-from compiler import Compiler
+import machine
+from compiler import Compiler, version
 from crates import Crates, below, chains
 from store import Store, remove
+from verdict import refused_handles, refused_verdict, starts
 
 # More than the proof of one crate was seen to take, in bytes.
 MEMORY = 3 << 30
@@ -40,18 +46,15 @@ class NotBuilt(Exception):
 
 
 def say(what: str) -> None:
-    print(f"exifnorm: {what}", file=sys.stderr, flush=True)
-
-
-def processors() -> int:
-    return len(os.sched_getaffinity(0))
+    """Writes a line to standard error. A build does not end where nobody can read it."""
+    with contextlib.suppress(OSError, AttributeError):  # a full disk, a closed pipe; closed from the start
+        sys.stderr.write(f"exifnorm: {what}\n")
+        sys.stderr.flush()
 
 
 def places() -> int:
     """How many crates are proved side by side: as many as there are processors and free memory for."""
-    free = re.search(r"MemAvailable:\s+(\d+)", Path("/proc/meminfo").read_text(encoding="ascii"))
-    room = int(free[1]) * 1024 // MEMORY if free else 1
-    return max(1, min(SIDE_BY_SIDE, processors(), room))
+    return max(1, min(SIDE_BY_SIDE, machine.processors(), machine.free_memory() // MEMORY))
 
 
 class Build:
@@ -60,25 +63,24 @@ class Build:
     def __init__(self, crates: Crates, crate: str, compiler: Compiler, store: Store) -> None:
         self.crates, self.compiler, self.store = crates, compiler, store
         self.chains = chains(crate, crates.uses)
-        self.left: list[str] = []
-        for it in [*below(crate, crates.uses), crate]:
-            if {*crates.own(it)} & {*self.left} or not store.is_built(it):
-                self.left.append(it)
-        self.left.sort(key=lambda it: -self.chains[it])
+        self.left = sorted(store.unbuilt(crate), key=lambda it: -self.chains[it])
         self.all, self.places = len(self.left), places()
         self.running: dict[Future, str] = {}
 
     def prove(self, crate: str, gives_way: bool) -> None:
         """Proves a crate and puts what is built of it in its place."""
-        due, made = self.store.due(crate), self.store.making / self.crates.product(crate)
+        expected, made = self.store.expected(crate), self.store.making / self.crates.product(crate)
         log = self.crates.top / "out" / f"build-{crate}.log"
         with open(log, "w", encoding="utf-8") as it:
-            status = self.compiler.build(crate, made, min(JOBS, processors()), it, gives_way)
+            status = self.compiler.build(crate, made, min(JOBS, machine.processors()), it, gives_way)
         text = log.read_text(encoding="utf-8", errors="replace")
-        if status or not re.search(r"^logic=proved ", text, re.M):
-            print("\n".join(text.splitlines()[-20:]), file=sys.stderr)
-            raise NotBuilt(f"the crate {crate} was not proved or not built; the end of what was said of it stands above, all of it in {log}")
-        self.store.put(crate, made, due)
+        why = f"the compiler ended with status {status}" if status else refused_verdict(text)
+        if not why and self.crates.is_program(crate) and not starts(made):
+            why = "the program does not start"
+        if why:
+            end = "\n".join(text.splitlines()[-20:])
+            raise NotBuilt(f"{end}\nexifnorm: the crate {crate} was not proved or not built: {why}; its log is {log}")
+        self.store.put(crate, made, expected)
 
     def ready(self) -> list[str]:
         """The crates that wait for no other, first those for which the most wait."""
@@ -112,8 +114,15 @@ def stop(*_) -> None:
     raise NotBuilt("the build was stopped")
 
 
+def listen() -> None:
+    """Has signals stop the build, but for those that the caller has this process ignore, as nohup does."""
+    for it in STOPS:
+        if signal.getsignal(it) != signal.SIG_IGN:
+            signal.signal(it, stop)
+
+
 def take_lock(lock: IO) -> None:
-    """Waits until no other build works here, nor a compiler that one left behind."""
+    """Waits until no other build works here, nor a compiler that one left behind. The system frees a lock whose process has ended."""
     try:
         fcntl.flock(lock, fcntl.LOCK_EX | fcntl.LOCK_NB)
     except BlockingIOError:
@@ -121,27 +130,37 @@ def take_lock(lock: IO) -> None:
         fcntl.flock(lock, fcntl.LOCK_EX)
 
 
-def build(crates: Crates, crate: str) -> None:
-    folder = crates.top / "out" / "proved"
-    folder.mkdir(parents=True, exist_ok=True)
-    with open(folder / "lock", "w", encoding="ascii") as lock:
+def open_store(crates: Crates) -> Store:
+    """What was built of these crates, and the rule of what is up to date."""
+    if why := refused_handles(crates.top):
+        raise NotBuilt(why)
+    return Store(crates, version(), crates.top / "out" / "proved")
+
+
+def build(crate: str, store: Store) -> None:
+    """Proves a crate with what it stands on, as far as that is not built, and builds it."""
+    crates = store.crates
+    if store.is_current(crate):
+        return
+    if not store.version:
+        raise NotBuilt("the crates have to be proved, and there is no command rt: put the Rattle toolchain's bin folder on the PATH")
+    store.folder.mkdir(parents=True, exist_ok=True)
+    with open(store.folder / "lock", "w", encoding="ascii") as lock:
         take_lock(lock)
-        compiler = Compiler(crates, folder, lock)
-        store = Store(crates, compiler.version, folder)
+        store.clear()
         if gate.take(crates, crate, store):
-            say(f"taking what {crate} stands on, which was just proved")
-        Build(crates, crate, compiler, store).run()
+            say(f"taking what was just proved of {crate}")
+        Build(crates, crate, Compiler(crates, store.folder, lock), store).run()
         remove(store.making)
 
 
 def main(crate: str) -> int:
-    for it in STOPS:
-        signal.signal(it, stop)
     try:
+        listen()
         crates = Crates.read(Path(__file__).resolve().parent.parent)
         if crate not in crates.uses:
             raise NotBuilt(f"crates.txt names no crate {crate}")
-        build(crates, crate)
+        build(crate, open_store(crates))
     except (NotBuilt, OSError, subprocess.SubprocessError) as why:
         say(str(why))
         return 1

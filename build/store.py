@@ -8,7 +8,9 @@ import shutil
 import time
 from pathlib import Path
 
-from crates import Crates
+from crates import Crates, below
+
+HERE = Path(__file__).resolve().parent
 
 
 def remove(path: Path) -> None:
@@ -19,14 +21,24 @@ def remove(path: Path) -> None:
         path.unlink()
 
 
+def scripts_sum() -> str:
+    """A sum of the scripts that say how a crate is proved, and what counts as proved."""
+    return hashlib.sha256(b"".join((HERE / it).read_bytes() for it in ("compiler.py", "verdict.py"))).hexdigest()
+
+
 class Store:
-    """Products below a folder. A library is good over the very ones that it was built over: its note names theirs."""
+    """The one rule of what is up to date: each product in a folder has a note of what it was made from.
+
+    A crate is built where its note has the sum of what it would be made from now: the toolchain, the scripts that prove, its sources
+    with their names, and the notes of the libraries below it. Each note has the time of its build, so a crate is good over the very
+    libraries that it was built over. Contents decide, and never the times of files: a copied, moved or touched folder is not built
+    again, whatever the clock shows.
+    """
 
     def __init__(self, crates: Crates, version: str, folder: Path) -> None:
+        """Without a version, which is without a toolchain, nothing can be built, and what was built by any toolchain is taken."""
         self.crates, self.version, self.folder = crates, version, folder
         self.making = folder / "making"
-        remove(self.making)
-        self.making.mkdir()
 
     def product(self, crate: str) -> Path:
         return self.folder / self.crates.product(crate)
@@ -35,26 +47,52 @@ class Store:
         return self.folder / f"{crate}.made-from"
 
     def noted(self, crate: str) -> str:
-        """The note of a crate; nothing where it is not built."""
+        """The note of a crate: the sum, the time, and the toolchain; nothing where there is none."""
         try:
-            return self.note(crate).read_text(encoding="utf-8") if self.product(crate).exists() else ""
-        except FileNotFoundError:
+            return self.note(crate).read_text(encoding="utf-8")
+        except (FileNotFoundError, UnicodeDecodeError):
             return ""
 
-    def due(self, crate: str) -> str:
-        """A sum of what the crate would be made from now: the toolchain, its sources, and the libraries below as they were built."""
+    def expected(self, crate: str) -> str:
+        """The sum of what the crate would be made from now."""
+        version = self.version or "".join(self.noted(crate).splitlines()[2:3])
         notes = [self.noted(it) for it in self.crates.own(crate)]
-        return hashlib.sha256(repr((self.version, self.crates.sum(crate), notes)).encode()).hexdigest()
+        return hashlib.sha256(repr((version, scripts_sum(), self.crates.sum(crate), notes)).encode()).hexdigest()
+
+    def is_noted(self, crate: str) -> bool:
+        return self.noted(crate).partition("\n")[0] == self.expected(crate)
 
     def is_built(self, crate: str) -> bool:
-        return self.noted(crate).partition("\n")[0] == self.due(crate)
+        """Whether a crate can be taken as it is, to build another over it."""
+        return self.product(crate).exists() and self.is_noted(crate)
 
-    def put(self, crate: str, made: Path, due: str) -> None:
-        """Puts what was made in its place. Where the sources were changed meanwhile, no note says what it was made from."""
+    def is_current(self, crate: str) -> bool:
+        """Whether a crate is built from the sources as they are, with all that it stands on: of that the notes are enough."""
+        return self.is_built(crate) and all(map(self.is_noted, below(crate, self.crates.uses)))
+
+    def unbuilt(self, crate: str) -> list[str]:
+        """What has to be built for a crate to be current: each after those that it uses."""
+        found: list[str] = []
+        for it in [] if self.is_current(crate) else [*below(crate, self.crates.uses), crate]:
+            if {*self.crates.own(it)} & {*found} or not self.is_built(it):
+                found.append(it)
+        return found
+
+    def clear(self) -> None:
+        """Begins a build: removes what an interrupted one left."""
+        remove(self.making)
+        self.making.mkdir()
+
+    def put(self, crate: str, made: Path, expected: str) -> None:
+        """Puts what was made in its place, and then its note, so that one is never beside another's note.
+
+        Where the sources were changed meanwhile, no note says what it was made from, and the crate counts as not built.
+        """
         remove(self.note(crate))
-        remove(self.product(crate))
-        os.rename(made, self.product(crate))
-        if due == self.due(crate) and all(map(self.noted, self.crates.own(crate))):
+        if self.product(crate).is_dir():
+            remove(self.product(crate))
+        os.replace(made, self.product(crate))
+        if expected == self.expected(crate) and all(map(self.noted, self.crates.own(crate))):
             noting = self.making / f"{crate}.made-from"
-            noting.write_text(f"{due}\n{time.time_ns()}\n", encoding="utf-8")
-            os.rename(noting, self.note(crate))
+            noting.write_text(f"{expected}\n{time.time_ns()}\n{self.version}\n", encoding="utf-8")
+            os.replace(noting, self.note(crate))

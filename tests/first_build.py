@@ -12,8 +12,20 @@ import tempfile
 from concurrent.futures import ThreadPoolExecutor
 from pathlib import Path
 
+from counting import Counter
+
 HERE = Path(__file__).resolve().parent
 PROGRAM, ARCHIVE = "crates/px_cli/out/px_cli", "out/proved/libpx_c.a"
+
+# The parts of ./test that this repository has: the crates, an edit less and a program more, and what is built.
+PARTS = """Part: rt
+Command: prove
+Least: 5
+
+Part: build
+Command: build
+Least: 2
+"""
 
 # A library over px_bytes.
 OVER = """// The same under another name.
@@ -86,6 +98,37 @@ pub extern "C" fn exifnorm_echo(x: usize) -> usize
 }
 
 
+# Two functions that are proved though no body could be wrong: no call can meet the first contract, and the second may never return.
+NEVER = """// A contract that no call can meet.
+#![tactic(auto)]
+
+ghost use Rattle.std.specs.Prelude.{◌<◌, ◌≡◌};
+
+/// Answers 1.
+pub fn one(n: u32) -> u32
+    requires { n < 0 }
+    ensures { result ≡ 1 }
+{
+    n
+}
+"""
+WAITS = """// A function that may never return.
+#![tactic(auto)]
+
+use std::sync::Wait;
+
+ghost use Rattle.std.specs.Prelude.{◌≡◌};
+
+/// Answers 1.
+pub fn two(rt: &impl Wait) -> u32
+    ensures { result ≡ 1 }
+{
+    for _ in rt.forever() {}
+    2
+}
+"""
+
+
 class Project:
     """The small repository in a folder that is made for it."""
 
@@ -98,9 +141,12 @@ class Project:
         for name, text in FILES.items():
             (top / name).parent.mkdir(parents=True, exist_ok=True)
             (top / name).write_text(text, encoding="utf-8")
-        for name in ("exifnorm", "Makefile", "test", *(f"build/{it.name}" for it in (HERE.parent / "build").glob("*.py"))):
-            (top / name).parent.mkdir(exist_ok=True)
+        shutil.copytree(HERE.parent / "build", top / "build", ignore=shutil.ignore_patterns("__pycache__"))
+        shutil.copytree(HERE.parent / "packaging", top / "packaging")
+        for name in ("exifnorm", "Makefile", "test"):
             shutil.copy(HERE.parent / name, top / name)
+        (top / "tests").mkdir()
+        (top / "tests/parts.txt").write_text(PARTS, encoding="utf-8")
 
     def call(self, *words: str, folder: str = ".", **named: str) -> subprocess.CompletedProcess:
         environment = {key: value for key, value in os.environ.items() if not key.startswith(("RT_", "EXIFNORM_", "MAKE"))}
@@ -125,8 +171,10 @@ class Gate(Project):
     """The repository that ./test proves and builds."""
 
     def build(self) -> "Gate":
-        self.ran = self.call("./test", TEST_PARTS="rt build")
-        self.is_archived = self.call("make", "-q", ARCHIVE).returncode == 0
+        self.ran = self.call("./test")
+        archive = self.top / ARCHIVE
+        before = archive.stat().st_mtime_ns if archive.exists() else 0
+        self.is_archived = self.call("make", ARCHIVE).returncode == 0 and archive.stat().st_mtime_ns == before
         return self
 
 
@@ -138,7 +186,7 @@ def due(is_so: bool, what: object) -> None:
 def the_launcher_proves_builds_and_runs(user: FromNothing, gate: Gate) -> None:
     ran = user.launched
     due((ran.returncode, ran.stdout) == (0, "one: a b\n"), ran)
-    due("proving px_bytes (1 of 4, 3 left)" in ran.stderr and "built" in ran.stderr, ran.stderr)
+    due("proving px_bytes (1 of 4, 3 left)" in ran.stderr, ran.stderr)
     due(all((user.top / f"out/proved/px_{it}.made-from").exists() for it in ("bytes", "one", "two", "cli")), "what was built isn't kept")
     due("logic=proved" in (user.top / "out/build-px_bytes.log").read_text(encoding="utf-8"), "nothing tells of a proof")
 
@@ -147,7 +195,8 @@ def the_gate_proves_each_crate_once_and_builds(user: FromNothing, gate: Gate) ->
     said = gate.ran.stdout + gate.ran.stderr
     due(gate.ran.returncode == 0 and gate.ran.stdout.endswith(" seconds\n7 passed, 0 failed\n"), said)
     due((said.count("fn px_bytes::echo: proved\n"), said.count("fn px_cli::main: proved\n")) == (1, 1), said)
-    due("taking the program" in said and "proving px_bytes" not in said and "proving px_c (1 of 1, 0 left)" in said, said)
+    due("taking what was just proved of px_cli" in said and "proving px_bytes" not in said, said)
+    due("proving px_c (1 of 1, 0 left)" in said, said)
 
 
 def the_program_that_the_gate_proved_is_the_launcher_s(user: FromNothing, gate: Gate) -> None:
@@ -172,28 +221,36 @@ def nothing_of_the_gate_is_taken_that_was_changed_since(user: FromNothing, gate:
     due(ran.returncode == 0 and "taking" not in ran.stderr and "proving px_bytes (1 of 2, 1 left)" in ran.stderr, ran)
 
 
-# The last changes what was built.
+def what_the_gate_refuses_is_not_built(user: FromNothing, gate: Gate) -> None:
+    for name, text, why in (("px_one", NEVER, "no call of `px_one::one`"), ("px_two", WAITS, "may-wait=1")):
+        (user.top / f"crates/{name}/src/lib.rt").write_text(text, encoding="utf-8")
+        ran = user.call("python3", "build/prove.py", name)
+        due(ran.returncode == 1 and f"fn {name}" in ran.stderr and ": proved" in ran.stderr and why in ran.stderr, ran)
+    (user.top / "HANDLES").write_text("Handles allowed: Wait.\n", encoding="utf-8")
+    ran = user.call("python3", "build/prove.py", "px_two")
+    due(ran.returncode == 1 and "HANDLES" in ran.stderr and "proving" not in ran.stderr, ran)
+
+
+# The last two change what was built.
 TESTS = [
     the_launcher_proves_builds_and_runs,
     the_gate_proves_each_crate_once_and_builds,
     the_program_that_the_gate_proved_is_the_launcher_s,
     the_archive_is_that_of_rt_lib,
     nothing_of_the_gate_is_taken_that_was_changed_since,
+    what_the_gate_refuses_is_not_built,
 ]
 
 
-def fault_of(test, user: FromNothing, gate: Gate) -> str:
-    """What is wrong; nothing where the test passes."""
-    try:
-        test(user, gate)
-    except (AssertionError, OSError, subprocess.SubprocessError) as why:
-        return str(why) or repr(why)
-    return ""
-
-
-def faults() -> dict:
-    """What is wrong with each test, by its name."""
+def run(counter: Counter, only: str = "") -> None:
+    """Builds both repositories, and counts the tests whose names have a text."""
+    tests = [it for it in TESTS if only in it.__name__]
+    for test in tests if not shutil.which("rt") else []:
+        counter.skip(test.__name__, "there is no command rt on the PATH")
+    if not tests or not shutil.which("rt"):
+        return
     with tempfile.TemporaryDirectory() as folder, ThreadPoolExecutor(2) as pool:
         made = [FromNothing(Path(folder) / "user"), Gate(Path(folder) / "gate")]
         user, gate = pool.map(lambda it: it.build(), made)
-        return {test.__name__: fault_of(test, user, gate) for test in TESTS}
+        for test in tests:
+            counter.run(test.__name__, lambda it=test: it(user, gate))

@@ -1,14 +1,13 @@
 #!/usr/bin/env python3
 """Tests ./exifnorm, the launcher, with a toolchain that proves nothing: each test has a folder of its own with a few crates. Those of
-first_build.py follow, with the toolchain itself.
+build/, of builds that are interrupted and of the Makefile follow, and those of first_build.py with the toolchain itself.
 
   tests/launcher.py
 
-Each test that fails has a line. The last line is 'N passed, M failed', and the status is 0 only where nothing failed.
+Each test that fails has a line. The last line is 'N passed, N failed', and the status is 0 only where nothing failed.
 """
 
 import os
-import re
 import shutil
 import signal
 import subprocess
@@ -20,169 +19,22 @@ from pathlib import Path
 
 sys.dont_write_bytecode = True
 
+import build_rules
 import first_build
+import interrupted
+import makefile
+from counting import Counter
+from room import HANDLES, Room, due, runs, wait_until
 
-HERE = Path(__file__).resolve().parent
-LAUNCHER = HERE.parent / "exifnorm"
-
-# What stands for the toolchain's command.
-RT = """#!/bin/sh
-case $1 in
-version) cat ROOM/version ;;
-doc) echo ROOM/kit/START-HERE.md ;;
-*) exit 2 ;;
-esac
+# What tells of the process that a program runs as: its number, how it treats signals, and its open files.
+PROGRAM = r"""#!/bin/sh
+[ "$1" != --version ] || exit 0
+echo $$
+while read -r name value; do case $name in SigIgn: | SigBlk:) echo "$name $value" ;; esac; done </proc/$$/status
+for it in 0 1 2; do [ -e /proc/$$/fd/$it ] && echo "$it is open"; done
+echo "this is an error" >&2
+exit "${1:-0}"
 """
-
-# What stands for the compiler. It writes a line when it begins and when it ends, and takes as long as `seconds` says. As the
-# compiler does, it wants what stands below to be built. The program that it makes tells the text of main.rt and its words.
-RATTLE = r"""#!/bin/sh
-room=ROOM
-while [ "$#" -gt 0 ]; do
-    case $1 in
-    --crate-name) name=$2 ;;
-    --extern) case $2 in px_*) [ -e "${2#*=}" ] || { echo "${2%%=*} is not built"; exit 1; } ;; esac ;;
-    -o) made=$2 ;;
-    esac
-    shift
-done
-echo "begin build $name $$" >>"$room/log"
-touch "$made"
-sleep "$(cat "$room/seconds")"
-if [ -e "$room/killed-$name" ]; then rm "$room/killed-$name"; kill -9 $$; fi
-if [ -e "$room/fails-$name" ]; then echo "this crate is not proved"; exit 1; fi
-if [ -e src/main.rt ]; then printf '#!/bin/sh\necho "%s: $*"\n' "$(cat src/main.rt)" >"$made"; fi
-echo "end build $name $(nice)" >>"$room/log"
-if [ -e "$room/silent-$name" ]; then exit 0; fi
-echo "logic=proved functions=1"
-"""
-
-# What stands for the linker.
-LINK = r"""#!/bin/sh
-while [ "$1" != -o ]; do shift; done
-cp "$3" "$2" && chmod +x "$2"
-"""
-
-CRATES = """# a comment
-px_bytes: byteorder
-px_field: px_bytes
-px_iim: px_bytes
-px_cli: px_bytes px_field px_iim clap
-px_other: px_bytes
-"""
-
-
-class Room:
-    """A folder with the launcher, crates and a toolchain.
-
-    >>> with tempfile.TemporaryDirectory() as folder:
-    ...     room = Room(Path(folder))
-    ...     room.call("check", "a").stdout
-    'one: check a\\n'
-    """
-
-    def __init__(self, folder: Path, crates: str = CRATES, name: str = "repository") -> None:
-        self.folder, self.top, self.bin = folder, folder / name, folder / "bin"
-        self.top.mkdir()
-        self.bin.mkdir()
-        shutil.copy(LAUNCHER, self.top / "exifnorm")
-        shutil.copytree(HERE.parent / "build", self.top / "build", ignore=shutil.ignore_patterns("__pycache__"))
-        (self.top / "crates.txt").write_text(crates)
-        for line in crates.splitlines():
-            if ":" in line:
-                name = line.partition(":")[0]
-                for file in (f"src/{'main' if name == 'px_cli' else 'lib'}.rt", "specs/Words.antt", "proofs/Answers.antt"):
-                    (self.top / "crates" / name / file).parent.mkdir(parents=True)
-                    (self.top / "crates" / name / file).write_text("one")
-        self.rt = self.command(self.bin / "rt", RT)
-        self.command(folder / "kit" / "bin" / "rattle", RATTLE)
-        self.command(folder / "kit" / "bin" / "rattle-link", LINK)
-        (folder / "version").write_text("toolchain 1\n")
-        self.takes(0)
-        self.proved = self.top / "crates" / "px_cli" / "out" / "px_cli"
-        self.mark = self.top / "out" / "proved-since"
-        self.named = {}
-
-    def command(self, path: Path, text: str) -> Path:
-        path.parent.mkdir(parents=True, exist_ok=True)
-        path.write_text(text.replace("ROOM", str(self.folder)))
-        path.chmod(0o755)
-        return path
-
-    @property
-    def main(self) -> Path:
-        return self.top / "crates" / "px_cli" / "src" / "main.rt"
-
-    def takes(self, seconds: float) -> None:
-        """Says how long each crate takes from now on."""
-        (self.folder / "seconds").write_text(str(seconds))
-
-    def environment(self, has_rt: bool = True) -> dict:
-        return {"PATH": (f"{self.bin}:" if has_rt else "") + "/usr/bin:/bin", "LANG": "C", **self.named}
-
-    def start(self, *words: str, **how) -> subprocess.Popen:
-        streams = {"stdin": subprocess.DEVNULL, "stdout": subprocess.PIPE, "stderr": subprocess.PIPE, "text": True}
-        return subprocess.Popen([str(self.top / "exifnorm"), *words], env=self.environment(), **{**streams, **how})
-
-    def call(self, *words: str, program: str = "", has_rt: bool = True, **how) -> subprocess.CompletedProcess:
-        it = [program or str(self.top / "exifnorm"), *words]
-        return subprocess.run(
-            it, env=self.environment(has_rt), stdin=subprocess.DEVNULL, capture_output=True, text=True, timeout=60, **how
-        )
-
-    def is_proved(self) -> None:
-        """Leaves the mark and the program that ./test leaves where it has proved everything."""
-        for file, text in ((self.mark, ""), (self.proved, '#!/bin/sh\necho "proved: $*"\n')):
-            time.sleep(0.05)  # longer than a tick of the clock by which files get their times
-            file.parent.mkdir(exist_ok=True)
-            file.write_text(text)
-            file.chmod(0o755)
-        time.sleep(0.05)
-        self.named = {"EXIFNORM_PROVED": str(self.proved)}
-
-    def log(self) -> list:
-        """What the compiler was asked for, a line each: begin or end, the command, the crate; the process, or how far it gave way."""
-        log = self.folder / "log"
-        return [line.split() for line in log.read_text().splitlines()] if log.exists() else []
-
-    def built(self) -> list:
-        """The crates that were built, in the order in which they ended."""
-        return [name for what, _, name, _ in self.log() if what == "end"]
-
-    def builds(self) -> int:
-        return self.built().count("px_cli")
-
-    def builder(self) -> int:
-        """The number of the process that proves."""
-        found = subprocess.run(["pgrep", "-f", f"{self.top}/build/prove.py"], stdout=subprocess.PIPE, text=True).stdout.split()
-        return int(found[0])
-
-    def until(self, what: str, name: str) -> str:
-        """Waits until the toolchain begins or ends a crate, and returns the number of its process."""
-        for _ in range(400):
-            found = [it[3] for it in self.log() if it[0] == what and it[2] == name]
-            if found:
-                return found[-1]
-            time.sleep(0.05)
-        raise AssertionError(f"no {what} of {name}")
-
-
-def due(is_so: bool, what: object) -> None:
-    if not is_so:
-        raise AssertionError(what)
-
-
-def most_at_once(log: list) -> int:
-    """How many crates were being built side by side at most.
-
-    >>> most_at_once([["begin", "lib", "a", "1"], ["begin", "lib", "b", "2"], ["end", "lib", "a", "1"]])
-    2
-    """
-    now = most = 0
-    for what, *_ in log:
-        now += 1 if what == "begin" else -1
-        most = max(most, now)
-    return most
 
 
 def the_first_call_builds_each_crate_once_and_runs(room: Room) -> None:
@@ -195,8 +47,9 @@ def the_first_call_builds_each_crate_once_and_runs(room: Room) -> None:
 
 def a_later_call_builds_nothing_and_says_nothing(room: Room) -> None:
     room.call()
-    ran = room.call("show", "x")
-    due((ran.returncode, ran.stdout, ran.stderr) == (0, "one: show x\n", ""), ran)
+    for _ in range(3):
+        ran = room.call("show", "x")
+        due((ran.returncode, ran.stdout, ran.stderr) == (0, "one: show x\n", ""), ran)
     due(room.builds() == 1, room.log())
 
 
@@ -216,59 +69,66 @@ def an_older_source_in_its_place_is_built(room: Room) -> None:
     due(room.call().stdout == "old: \n", room.log())
 
 
-def what_changes_behind_a_quick_look_is_noticed(room: Room) -> None:
-    old = room.folder / "old.rt"
-    old.write_text("old")
-    os.utime(old, (10**9, 10**9))
-    room.call()
-    time.sleep(1.1)
-    room.call()  # notes that all was as it was
-    due((room.top / "out" / "looked").exists(), "no look is noted")
-    time.sleep(1.1)
-    due((room.call().stdout, room.builds()) == ("one: \n", 1), room.log())
-    os.rename(old, room.main)  # another file in its place, with an older time
-    due(room.call().stdout == "old: \n", room.log())
-    room.call()
-    time.sleep(1.1)
-    room.call()
-    (room.main.parent / "further.rt").write_text("more")
-    room.call()
-    due(room.builds() == 3, room.log())
-
-
-def most_calls_start_one_process_besides_the_program(room: Room) -> None:
-    room.call()
-    time.sleep(1.1)
-    room.call()
-    for name in sorted(os.listdir("/usr/bin")):
-        if re.search(rf"(^|[^\w-]){re.escape(name)}($|[^\w-])", LAUNCHER.read_text()) and not (room.bin / name).exists():
-            (room.bin / name).write_text(f'#!/bin/sh\necho {name} >>"{room.folder}/started"\nexec /usr/bin/{name} "$@"\n')
-            (room.bin / name).chmod(0o755)
-    due({"find", "cmp", "cksum", "sort"} < set(os.listdir(room.bin)), "the launcher calls other commands")
-    ran = room.call("a")
-    due((ran.stdout, ran.stderr) == ("one: a\n", ""), ran)
-    started = (room.folder / "started").read_text().split()
-    due(started == ["find"], f"a call starts {started}")
+def most_calls_are_a_quick_look_without_python(room: Room) -> None:
+    room.settle()
+    for name in ("find", "cmp", "sh", "readlink", "ls", "python3", "rt", "cat", "ps"):
+        real = shutil.which(name, path=room.environment()["PATH"])
+        room.command(room.folder / "counted" / name, f'#!/bin/dash\necho {name} >>"ROOM/started"\nexec "{real}" "$@"\n')
+    # (the one of the PATH stays in the look that was noted)
+    room.named = {"PATH": f"{room.folder}/counted:{room.environment()['PATH']}"}
+    (room.folder / "counted" / "rt").unlink()
+    due(room.call("a").stdout == "one: a\n", "the program does not run")
+    started = sorted((room.folder / "started").read_text().split())
+    due(started == ["cmp", "find", "sh"], f"a call starts {started}")
     room.main.write_text("two")
-    due(room.call("a").stdout == "two: a\n" and len((room.folder / "started").read_text().split()) > 10, "the commands are not counted")
+    due(room.call("a").stdout == "two: a\n" and "python3" in (room.folder / "started").read_text(), "commands are not counted")
 
 
-def a_source_that_is_taken_away_or_added_is_noticed(room: Room) -> None:
-    other = room.main.parent / "other.rt"
-    other.write_text("more")
+def each_source(room: Room):
+    """A further file in each folder of sources of three crates, with the crates that have to be built after a change of it."""
+    above = {"px_bytes": ["px_bytes", "px_cli", "px_field", "px_iim"], "px_iim": ["px_cli", "px_iim"], "px_cli": ["px_cli"]}
+    for crate, built in above.items():
+        for part in ("src", "specs", "specs/calls", "specs/lemmas", "proofs", "proofs/lists"):
+            yield room.top / "crates" / crate / part / ("Further.antt" if part != "src" else "further.rt"), built
+
+
+def every_kind_of_change_in_each_folder_is_noticed(room: Room) -> None:
     room.call()
-    other.unlink()
+    spare = room.folder / "spare"
+    for source, built in each_source(room):
+        source.parent.mkdir(exist_ok=True)
+        kinds = {
+            "added": lambda it: it.write_text("text"),
+            "edited": lambda it: it.write_text("more"),
+            "edited, with its time put back": lambda it: [it.write_text("most"), os.utime(it, (10**9, 10**9))],
+            "another in its place": lambda it: [spare.write_text("text"), os.utime(spare, (10**9, 10**9)), os.rename(spare, it)],
+            "taken away": lambda it: it.unlink(),
+        }
+        for kind, change in kinds.items():
+            room.note()
+            due(room.looks(), "no quick look")
+            change(source)
+            due(not room.looks(), f"the quick look passes over {source}: {kind}")
+        source.write_text("new")
+        room.forget()
+        due(room.call("a").stdout == "one: a\n" and sorted(room.built()) == built, (source, room.log()))
+
+
+def a_look_is_noted_of_nothing_that_has_just_changed(room: Room) -> None:
     room.call()
-    due(room.builds() == 2, room.log())
-    (room.main.parent / "further").mkdir()
-    (room.main.parent / "further" / "file.rt").write_text("more")
-    room.call()
-    due(room.builds() == 3, room.log())
+    looked = room.top / "out" / "looked"
+    for it in (room.main, room.top / "crates.txt", room.rt):
+        room.settle()
+        looked.unlink()
+        it.touch()
+        room.call()
+        due(not looked.exists() or time.time() - it.stat().st_ctime > 1, f"{it} was changed within a tick of the clock")
 
 
 def touched_and_copied_sources_are_not_built_again(room: Room) -> None:
-    room.call()
+    room.settle()
     room.main.touch()
+    due(not room.looks(), "a time is passed over")
     ran = room.call("a")
     due((ran.stdout, ran.stderr, room.builds()) == ("one: a\n", "", 1), ran)
     shutil.copytree(room.top, room.folder / "copy")
@@ -276,15 +136,58 @@ def touched_and_copied_sources_are_not_built_again(room: Room) -> None:
     due((ran.stdout, ran.stderr, room.builds()) == ("one: a\n", "", 1), ran)
 
 
-def another_toolchain_builds_again_and_the_same_elsewhere_does_not(room: Room) -> None:
+def a_clock_that_is_set_back_hides_no_change(room: Room) -> None:
+    room.settle()
+    ahead = room.main.stat().st_mtime + 86_400
+    for it in (room.top / "out").rglob("*"):
+        os.utime(it, (ahead, ahead), follow_symlinks=False)
     room.call()
+    room.main.write_text("two")
+    os.utime(room.main, (10**9, 10**9))
+    due(room.call().stdout == "two: \n", room.log())
+
+
+def another_toolchain_builds_again_and_the_same_elsewhere_does_not(room: Room) -> None:
+    room.settle()
     room.rt.touch()
+    due(not room.looks(), "another command is passed over")
     room.call()
     due(room.builds() == 1, room.log())
     (room.folder / "version").write_text("toolchain 2\n")
     room.rt.touch()
     room.call()
-    due(room.builds() == 2, room.log())
+    due(room.builds() == 2 and len(room.built()) == 8, room.log())
+    room.settle()
+    shutil.copytree(room.bin, room.folder / "other")
+    room.named = {"PATH": f"{room.folder}/other:{room.environment()['PATH']}"}
+    due(not room.looks(), "a command in another folder is passed over")
+    due((room.call("a").stdout, room.builds()) == ("one: a\n", 2), room.log())
+
+
+def other_scripts_that_prove_build_again(room: Room) -> None:
+    room.settle()
+    for name, builds in (("compiler.py", 2), ("verdict.py", 3), ("prove.py", 3), ("launch.py", 3)):
+        with open(room.top / "build" / name, "a", encoding="utf-8") as it:
+            it.write("# changed\n")
+        due(not room.looks(), f"a change of {name} is passed over")
+        due((room.call("a").stdout, room.builds()) == ("one: a\n", builds), (name, room.log()))
+        room.settle()
+
+
+def a_changed_or_missing_program_is_noticed(room: Room) -> None:
+    room.settle()
+    program = room.top / "out/proved/px_cli"
+    program.unlink()
+    due(room.call("a").stdout == "one: a\n" and room.built()[4:] == ["px_cli"], room.log())
+    room.settle()
+    program.touch()
+    due(not room.looks(), "a program that was changed is passed over")
+    room.settle()
+    (room.top / "out/exifnorm").unlink()
+    due(room.call("a").stdout == "one: a\n" and room.builds() == 2, room.log())
+    (room.top / "out/exifnorm").unlink()
+    (room.top / "out/exifnorm").write_text("what another version of this left")
+    due(room.call("a").stdout == "one: a\n" and room.builds() == 2, room.log())
 
 
 def a_built_program_runs_without_the_toolchain(room: Room) -> None:
@@ -296,8 +199,22 @@ def a_built_program_runs_without_the_toolchain(room: Room) -> None:
     due(ran.returncode == 70 and ran.stdout == "" and "no command rt" in ran.stderr, ran)
 
 
+def a_call_without_python_runs_what_is_built_and_builds_nothing(room: Room) -> None:
+    room.settle()
+    few = room.folder / "few"
+    few.mkdir()
+    for name in ("sh", "find", "cmp", "readlink"):
+        (few / name).symlink_to(shutil.which(name))
+    room.named = {"PATH": f"{room.bin}:{few}"}
+    ran = room.call("a")
+    due((ran.returncode, ran.stdout, ran.stderr) == (0, "one: a\n", ""), ran)
+    room.main.write_text("two")
+    ran = room.call("a")
+    due(ran.returncode == 70 and ran.stdout == "" and "python3" in ran.stderr, ran)
+
+
 def a_crate_that_fails_is_told_and_built_by_the_next_call(room: Room) -> None:
-    (room.folder / "fails-px_iim").touch()
+    (room.folder / "fails-px_iim").write_text("this crate is not proved\n")
     ran = room.call("a")
     due(ran.returncode == 70 and ran.stdout == "", ran)
     due("this crate is not proved" in ran.stderr and "px_iim was not proved" in ran.stderr, ran.stderr)
@@ -305,198 +222,220 @@ def a_crate_that_fails_is_told_and_built_by_the_next_call(room: Room) -> None:
     due(room.call("a").stdout == "one: a\n", room.log())
 
 
-def a_crate_of_which_nothing_says_that_it_is_proved_is_not_built(room: Room) -> None:
-    (room.folder / "silent-px_iim").touch()
-    ran = room.call("a")
-    due(ran.returncode == 70 and ran.stdout == "" and "px_iim was not proved" in ran.stderr, ran)
+def a_proof_that_fails_after_a_good_build_is_not_taken(room: Room) -> None:
+    room.settle()
+    for crate, text in (("px_iim", "logic=proved functions=1 sum=1f\nerror: it cannot be written\n"), ("px_cli", "")):
+        fails = room.folder / f"fails-{crate}"
+        fails.write_text(text)
+        (room.top / "crates" / crate / "proofs/Answers.antt").write_text(f"wrong {crate}")
+        for _ in range(2):
+            ran = room.call("a")
+            due(ran.returncode == 70 and ran.stdout == "" and f"{crate} was not proved" in ran.stderr, ran)
+        fails.unlink()
+        due(room.call("a").stdout == "one: a\n", room.log())
+    (room.folder / "fails-px_iim").write_text("no")
+    (room.top / "crates/px_iim/proofs/Answers.antt").write_text("wrong")
+    due(room.call("a").returncode == 70, "it was built")
+    (room.top / "crates/px_iim/proofs/Answers.antt").write_text("wrong px_iim")
+    due(room.call("a").stdout == "one: a\n", "the sources that were proved are taken as they were")
 
 
-def a_last_crate_that_fails_leaves_nothing_that_is_taken_as_built(room: Room) -> None:
-    (room.folder / "fails-px_cli").touch()  # a program stands in its folder by then
-    due(room.call("a").returncode == 70, room.log())
-    (room.folder / "fails-px_cli").unlink()
+# What a compiler says of a crate that is not proved, though it ends with status 0; and what is said of the crate then.
+NOT_PROVED = {
+    "": "0 verdicts",
+    "fn px_iim::one: proved\n": "0 verdicts",
+    "logic=failed functions=1 sum=1f\n": "logic=failed",
+    "logic=proved-in-part functions=1 sum=1f\n": "logic=proved-in-part",
+    " logic=proved functions=1 sum=1f\n": "0 verdicts",
+    "logic=proved functions=1 sum=1f\nlogic=failed functions=1 sum=1f\n": "2 verdicts",
+    "logic=failed functions=1 sum=1f\nlogic=proved functions=1 sum=1f\n": "2 verdicts",
+    **{f"logic=proved functions=1 {it} sum=1f\n": it for it in
+        "may-wait=1 may-abort=1 may-serve=2 partial=1 hides=1 bugs=1 main=Wait foreign=px_iim::c batches=trusted newer-word=3".split()},
+    **{f"logic=proved functions=1 sum=1f native=nat {it}\n": it for it in
+        "cache=trusted incremental=trusted crate-checked=trusted pinned=no".split()},
+    "warning: no call of `px_iim::never` can meet its contract\nlogic=proved functions=1 sum=1f\n": "px_iim::never",
+    "note: the search for empty contracts did not end\nlogic=proved functions=1 sum=1f\n": "did not end",
+}
+
+
+def a_crate_counts_as_proved_by_its_verdict_alone(room: Room) -> None:
+    room.call()
+    says = room.folder / "says-px_iim"
+    for i, (text, why) in enumerate(NOT_PROVED.items()):
+        due(why in build_rules.verdict.refused_verdict(text), text)
+        if i % 4 == 0:
+            says.write_text(text)
+            (room.top / "crates/px_iim/src/lib.rt").write_text(text)
+            ran = room.call("a")
+            due(ran.returncode == 70 and ran.stdout == "" and "px_iim was not proved" in ran.stderr and why in ran.stderr, (text, ran))
+    closure = "warning: no call of `px_iim::one::fn::two` can meet its contract\nlogic=proved functions=1 sum=1f\n"
+    says.write_text(closure)  # |e| match e {} is honest code
     due(room.call("a").stdout == "one: a\n", room.log())
 
 
-def stopped(room: Room, how: int) -> None:
-    """Stops a build in its last step, when half a program stands; the next call must build."""
+def a_compiler_is_asked_for_contracts_that_no_call_can_meet(room: Room) -> None:
     room.call()
-    room.main.write_text("two")
-    room.takes(3)
-    (room.folder / "log").unlink()
-    started = room.start("a")
-    working = int(room.until("begin", "px_cli"))
-    time.sleep(0.3)
-    began = time.monotonic()
-    started.send_signal(how)
-    out, _ = started.communicate(timeout=20)
-    due(started.returncode != 0 and out == "", (started.returncode, out))
-    if how != signal.SIGKILL:
-        due(started.returncode == 70, started.returncode)
-        due(time.monotonic() - began < 2, "the build goes on")
-        for _ in range(100):
-            if not Path(f"/proc/{working}").exists():
-                break
-            time.sleep(0.05)
-        due(not Path(f"/proc/{working}").exists(), "the toolchain's command still runs")
-        due(not os.path.lexists(room.top / "out" / "building"), "the lock stands")
-    room.takes(0)
+    asked = (room.folder / "asked").read_text().splitlines()
+    due(len(asked) == 4 and all("--empty-contracts" in it.split() for it in asked), asked)
+
+
+def changed_handles_are_refused(room: Room) -> None:
+    room.settle()
+    handles = room.top / "HANDLES"
+    for text in ("", "Handles allowed: Wait.\n", "Handles allowed: none", f"{HANDLES}Handles allowed: Wait.\n"):
+        handles.write_text(text)
+        ran = room.call("a")
+        due(ran.returncode == 70 and ran.stdout == "" and "HANDLES" in ran.stderr, (text, ran))
+    handles.unlink()
     ran = room.call("a")
-    due((ran.returncode, ran.stdout) == (0, "two: a\n"), ran)
+    due(ran.returncode == 70 and ran.stdout == "" and "HANDLES" in ran.stderr, ran)
+    handles.write_text(HANDLES)
+    due((room.call("a").stdout, room.builds()) == ("one: a\n", 1), room.log())
 
 
-def a_build_that_is_stopped_is_not_taken_as_built(room: Room) -> None:
-    stopped(room, signal.SIGTERM)
-
-
-def a_build_that_is_killed_is_not_taken_as_built(room: Room) -> None:
-    stopped(room, signal.SIGKILL)
-
-
-def one_build_at_a_time_beside_a_dead_lock(room: Room) -> None:
-    gone = subprocess.Popen(["true"])
-    gone.wait()
-    (room.top / "out").mkdir()
-    os.symlink(str(gone.pid), room.top / "out" / "building")
-    room.takes(0.2)
-    started = [room.start(str(it)) for it in range(6)]
-    said = [it.communicate(timeout=60)[0] for it in started]
-    due(said == [f"one: {it}\n" for it in range(6)], said)
-    due(room.builds() == 1 and len(room.built()) == 4, room.log())
-    due([it.returncode for it in started] == [0] * 6, started)
-
-
-def a_lock_that_cannot_be_removed_ends_the_call(room: Room) -> None:
-    (room.top / "out" / "building").mkdir(parents=True)
-    before, began = os.times(), time.monotonic()
-    ran = room.call("a")
-    due(ran.returncode == 70 and ran.stdout == "" and "remove" in ran.stderr, ran)
-    due(3 < time.monotonic() - began < 30, "it waits a few seconds")
-    due(os.times().children_user - before.children_user < 2, "it spins")
-
-
-def a_broom_that_is_left_behind_ends_the_call(room: Room) -> None:
-    (room.top / "out").mkdir()
-    gone = subprocess.Popen(["true"])
-    gone.wait()
-    for name in ("building", "sweeping"):
-        os.symlink(str(gone.pid), room.top / "out" / name)
-    ran = room.call("a")
-    due(ran.returncode == 70 and "remove" in ran.stderr and "sweeping" in ran.stderr, ran)
-
-
-def crates_that_need_not_wait_are_proved_side_by_side(room: Room) -> None:
-    room.takes(0.5)
-    room.call()
-    due(most_at_once(room.log()) == 2, room.log())
-
-
-def a_crate_begins_as_soon_as_what_it_stands_on_is_proved(room: Room) -> None:
-    crates = "px_a: clap\npx_late: px_a\npx_b: px_a\npx_c: px_b\npx_cli: px_c px_late\n"
-    (room.folder / "late").mkdir()
-    late = Room(room.folder / "late", crates)
-    late.takes(0.5)
-    due(late.call("a").stdout == "one: a\n", late.log())
-    due(late.built()[0] == "px_a" and set(late.built()[1:3]) == {"px_b", "px_late"} and late.built()[3:] == ["px_c", "px_cli"], late.log())
-    given_way = {name: int(by) for what, _, name, by in late.log() if what == "end"}
-    due(given_way["px_late"] > given_way["px_b"] == given_way["px_cli"], late.log())
-
-
-def at_most_three_are_proved_at_once(room: Room) -> None:
-    names = "abcde"
-    crates = "".join(f"px_{it}: clap\n" for it in names) + "px_f: clap\npx_g: px_f\npx_cli: " + " ".join(f"px_{it}" for it in names + "g") + "\n"
-    (room.folder / "many").mkdir()
-    many = Room(room.folder / "many", crates)
-    many.takes(0.3)
-    many.call()
-    due(most_at_once(many.log()) == min(3, len(os.sched_getaffinity(0))) and len(many.built()) == 8, many.log())
-    due("px_f" in [it[2] for it in many.log()][:3], "another waits for px_f, so it is among the first")
-
-
-def only_what_was_changed_and_what_stands_on_it_is_proved_again(room: Room) -> None:
-    room.call()
-    (room.folder / "log").unlink()
-    (room.top / "crates/px_iim/proofs/Answers.antt").write_text("two")
-    due(room.call("a").stdout == "one: a\n" and room.built() == ["px_iim", "px_cli"], room.log())
-    (room.folder / "log").unlink()
-    (room.top / "out/proved/px_bytes.rlib").unlink()  # another px_bytes: what was built over the old one is not good over it
-    room.main.write_text("two")
-    due(room.call("a").stdout == "two: a\n" and len(room.built()) == 4, room.log())
-
-
-def what_stands_on_a_crate_that_another_build_proved_again_is_proved_again(room: Room) -> None:
-    other = [sys.executable, str(room.top / "build/prove.py"), "px_other"]
-    for text in ("one", "two"):
-        (room.top / "crates/px_bytes/src/lib.rt").write_text(text)
-        room.call()
-        due(subprocess.run(other, env=room.environment(), capture_output=True, timeout=60).returncode == 0, room.log())
-    due(room.built().count("px_bytes") == room.built().count("px_other") == 2, room.log())
-
-
-def a_crate_that_is_changed_while_it_is_proved_is_proved_again(room: Room) -> None:
-    room.takes(1)
-    started = room.start("a")
-    room.until("begin", "px_bytes")
-    (room.top / "crates/px_bytes/src/lib.rt").write_text("two")
-    due(started.communicate(timeout=60)[0] == "one: a\n", room.log())
-    room.takes(0)
-    (room.top / "crates/px_bytes/src/lib.rt").write_text("one")  # what was proved may be of the other text
-    due(room.call("a").stdout == "one: a\n" and sorted(room.built()) == sorted(2 * ["px_bytes", "px_cli", "px_field", "px_iim"]), room.log())
-
-
-def a_proof_that_is_killed_is_tried_again_with_one_job(room: Room) -> None:
-    (room.folder / "killed-px_iim").touch()
+def links_among_the_sources_are_refused(room: Room) -> None:
+    room.settle()
+    for part in ("src/further.rt", "specs/calls", "proofs/Further.antt"):
+        link = room.top / "crates/px_iim" / part
+        link.symlink_to(room.folder / "elsewhere")  # which is not there
+        ran = room.call("a")
+        due(ran.returncode == 70 and ran.stdout == "" and "link" in ran.stderr, ran)
+        link.unlink()
     due(room.call("a").stdout == "one: a\n", room.log())
-    due("once more, with one job" in (room.top / "out/build-px_iim.log").read_text(), "nothing tells of it")
 
 
-def what_a_killed_build_left_is_waited_for(room: Room) -> None:
-    room.takes(3)
-    started = room.start("a")
-    room.until("begin", "px_bytes")
-    for it in (room.builder(), started.pid):
-        os.kill(it, signal.SIGKILL)
-    started.communicate(timeout=20)
-    room.takes(0)
-    ran = room.call("a")
-    due(ran.stdout == "one: a\n" and "waiting for it" in ran.stderr, ran)
-    due([it[0] for it in room.log() if it[2] == "px_bytes"] == ["begin", "end"] * 2, room.log())
+def a_program_that_does_not_start_is_never_put_in_place(room: Room) -> None:
+    room.call("a")
+    for text in ("#!/no/such/interpreter\n", "#!/bin/sh\nexit 1\n", "#!/bin/sh\nkill -9 $$\n", ""):
+        (room.folder / "program").write_text(text)
+        room.main.write_text(f"two {text}")
+        ran = room.call("a")
+        due(ran.returncode == 70 and ran.stdout == "" and "does not start" in ran.stderr, (text, ran))
+    (room.folder / "program").unlink()
+    room.main.write_text("one")
+    due(room.call("a").stdout == "one: a\n", room.log())
 
 
-def it_says_where_the_built_program_stands(room: Room) -> None:
+def it_says_where_the_built_program_is(room: Room) -> None:
     ran = room.call("--where", cwd="/")
-    due(ran.stdout == f"{(room.top / 'out' / 'exifnorm').resolve()}\n", ran)
+    due((ran.returncode, ran.stdout) == (0, f"{room.top.resolve() / 'out' / 'exifnorm'}\n"), ran)
     due(room.call("a", program=ran.stdout.strip()).stdout == "one: a\n", ran)
-    due(room.call("--where", "a").stdout == "one: --where a\n", "beside other words it is the program's")
+    room.settle()
+    due(room.call("--where", cwd="/").stdout == ran.stdout, "another call says another place")
+    for words in (("--where", "a"), ("--where", ""), ("", "--where"), ("--where a",)):
+        due(room.call(*words).stdout == f"one: {' '.join(words)}\n", "beside other arguments it is the program's")
 
 
-def names_may_begin_with_a_hyphen(room: Room) -> None:
-    (room.folder / "other").mkdir()
-    other = Room(room.folder / "other", name="-repository")
-    ran = other.call("-a", program="-repository/exifnorm", cwd=other.folder)
-    due((ran.returncode, ran.stdout) == (0, "one: -a\n"), ran)
-    os.symlink("-repository/exifnorm", other.folder / "-link")
-    ran = other.call("b", program="./-link", cwd=other.folder)
-    due((ran.returncode, ran.stdout) == (0, "one: b\n"), ran)
+def odd_names_of_folders_and_arguments(room: Room) -> None:
+    words = ("-a", "", " b  c ", "*", "$(exit 3)", "d\ne", "--")
+    for i, name in enumerate(("-repository", "with space", "a'b\"c", "$HOME", "line\nfeed", "é*?[x]", "\\n")):
+        other = Room(room.folder / str(i), name=name)
+        for _ in range(2):
+            ran = other.call(*words, program=f"{name}/exifnorm", cwd=other.folder)
+            due((ran.returncode, ran.stdout) == (0, f"one: {' '.join(words)}\n"), (name, ran))
+        os.symlink(f"{name}/exifnorm", other.folder / "-link")
+        for program, folder in (("./-link", other.folder), (str(other.folder / "-link"), "/")):
+            ran = other.call("b", program=program, cwd=folder)
+            due((ran.returncode, ran.stdout) == (0, "one: b\n"), (name, ran))
+        other.settle()
+        due(other.looks(), f"no quick look in {name!r}")
+        due(other.call("-", "b", program=f"{name}/exifnorm", cwd=other.folder).stdout == "one: - b\n", name)
 
 
 def it_is_called_from_any_folder_and_through_links(room: Room) -> None:
-    room.call()
+    room.settle()
     ran = room.call("a", program="./exifnorm", cwd=room.top)
     due((ran.stdout, ran.stderr) == ("one: a\n", ""), ran)
     os.symlink(room.top / "exifnorm", room.folder / "first")
     os.symlink("first", room.folder / "second")
-    for program, folder in ((str(room.folder / "second"), "/"), ("./second", room.folder)):
-        due(room.call("b", program=program, cwd=folder).stdout == "one: b\n", program)
-    where = {**room.environment(), "PATH": f"{room.top}:{room.environment()['PATH']}"}
-    ran = subprocess.run(["exifnorm", "c"], env=where, cwd="/", capture_output=True, text=True)
+    os.symlink(room.top, room.folder / "folder")
+    calls = [(str(room.folder / "second"), "/"), ("./second", room.folder), ("folder/exifnorm", room.folder)]
+    for program, folder in calls:
+        ran = room.call("b", program=program, cwd=folder)
+        due((ran.stdout, ran.stderr) == ("one: b\n", ""), ran)
+    shell = ("-c", 'exec "$@"', "", "sh", "exifnorm", "c")
+    ran = room.call(*shell, program="/bin/sh", cwd=room.top)
+    due((ran.stdout, ran.stderr) == ("one: c\n", ""), ran)
+    room.named = {"PATH": f"{room.top}:{room.environment()['PATH']}"}
+    ran = room.call("c", program="exifnorm", cwd="/")
     due((ran.stdout, room.builds()) == ("one: c\n", 1), ran)
+
+
+def a_copy_outside_its_folder_is_an_error(room: Room) -> None:
+    shutil.copy(room.top / "exifnorm", room.folder / "exifnorm")
+    ran = room.call("a", program=str(room.folder / "exifnorm"))
+    due(ran.returncode == 70 and ran.stdout == "" and "folder" in ran.stderr, ran)
 
 
 def a_folder_that_cannot_be_written_is_told(room: Room) -> None:
     (room.top / "out").write_text("a file in place of the folder")
     ran = room.call("a")
-    due(ran.returncode == 70 and ran.stdout == "" and "cannot" in ran.stderr, ran)
+    due(ran.returncode == 70 and ran.stdout == "" and "out" in ran.stderr, ran)
+
+
+def nobody(room: Room) -> dict:
+    """Has the calls made by a user who can write nothing there."""
+    if os.geteuid():
+        return {}
+    for it in (room.folder, *room.folder.rglob("*")):
+        it.chmod(it.stat().st_mode & 0o755 | (0o055 if it.is_dir() else 0o044))
+    return {"user": 65534, "group": 65534, "extra_groups": []}
+
+
+def a_built_program_is_for_all_users(room: Room) -> None:
+    room.call()
+    room.main.touch()
+    how = nobody(room)
+    if not how:
+        (room.top / "out").chmod(0o555)
+    ran = room.call("a", **how)
+    (room.top / "out").chmod(0o755)
+    due((ran.returncode, ran.stdout, ran.stderr) == (0, "one: a\n", ""), ran)
+
+
+def no_shell_and_no_python_stays_beside_the_program(room: Room) -> None:
+    (room.folder / "program").write_text(PROGRAM)
+    said = []
+    for _ in range(2):
+        started = room.start("7")
+        out, why = started.communicate(timeout=300)
+        number, rest = out.split("\n", 1)
+        due((int(number), started.returncode) == (started.pid, 7) and why.endswith("this is an error\n"), (out, why))
+        said.append(rest)
+        room.settle()
+    due(said[0] == said[1] and "SigIgn: 0000000000000000" in said[0] and "SigBlk: 0000000000000000" in said[0], said)
+
+
+def closed_streams_stay_closed(room: Room) -> None:
+    (room.folder / "program").write_text(PROGRAM)
+    file = room.folder / "written"
+    for closes, expected in (("<&-", [1, 2]), ("2>&-", [0, 1]), ("<&- 2>&-", [1])):
+        room.main.write_text(closes)
+        for _ in range(2):
+            words = ("-c", f'exec "$@" {closes} >"{file}"', "", str(room.top / "exifnorm"))
+            ran = room.call(*words, program="/bin/sh")
+            seen = [int(it.split()[0]) for it in file.read_text().splitlines() if it.endswith("open")]
+            due(ran.returncode == 0 and seen == expected, (closes, ran, file.read_text()))
+            room.settle()
+        room.main.write_text(f"{closes} again")
+        (room.folder / "fails-px_cli").write_text("no")
+        ran = room.call(*words, program="/bin/sh")
+        due((ran.returncode, file.read_text()) == (70, ""), (closes, ran, file.read_text()))
+        (room.folder / "fails-px_cli").unlink()
+    ran = room.call("-c", 'exec "$@" >&-', "", str(room.top / "exifnorm"), program="/bin/sh")
+    due(ran.returncode == 0, ran)
+
+
+def an_output_that_takes_nothing_ends_no_build(room: Room) -> None:
+    with open("/dev/full", "w", encoding="ascii") as full:
+        ran = room.call("a", stderr=full)
+        due((ran.returncode, ran.stdout) == (0, "one: a\n"), ran)
+        room.main.write_text("two")
+        (room.folder / "fails-px_cli").write_text("no")
+        ran = room.call("a", stderr=full)
+        due((ran.returncode, ran.stdout) == (70, ""), ran)
+        (room.folder / "fails-px_cli").unlink()
+        due(room.call("--where", stdout=full).returncode == 70, "a place that could not be written was said")
 
 
 def what_was_just_proved_is_taken(room: Room) -> None:
@@ -504,49 +443,59 @@ def what_was_just_proved_is_taken(room: Room) -> None:
     ran = room.call("a")
     due((ran.returncode, ran.stdout, room.log()) == (0, "proved: a\n", []), (ran, room.log()))
     due("taking" in ran.stderr and "proving" not in ran.stderr, ran.stderr)
-    due(room.proved.exists() and not os.path.lexists(room.top / "out" / "building"), "what was proved stands, and no lock")
     ran = room.call("b")
     due((ran.stdout, ran.stderr) == ("proved: b\n", ""), ran)
+    due(room.proved.exists(), "what was proved is gone")
     room.proved.unlink()
-    due(room.call("c", has_rt=False).stdout == "proved: c\n", "the program is a copy")
+    due(room.call("c", has_rt=False).stdout == "proved: c\n", "the program is no copy")
+    room.named = {}
+    due(room.call("d").stdout == "proved: d\n", "it is built again")
     room.main.write_text("two")
-    due(room.call().stdout == "two: \n" and len(room.built()) == 4, room.log())
-
-
-def is_built_after(room: Room, what: str, change) -> None:
-    """A build after this change takes nothing that was proved before it."""
-    (room.folder / what).mkdir()
-    other = Room(room.folder / what)
-    (other.main.parent / "further.rt").write_text("more")
-    (other.folder / "old.rt").write_text("old")
-    other.is_proved()
-    change(other)
-    ran = other.call("a")
-    due(ran.returncode == 0 and ran.stdout != "proved: a\n" and len(other.built()) == 4, (what, ran, other.log()))
-
-
-def nothing_is_taken_as_proved_after_a_change(room: Room) -> None:
-    is_built_after(room, "edit", lambda it: it.main.write_text("two"))
-    is_built_after(room, "edit-below", lambda it: (it.top / "crates/px_bytes/proofs/Answers.antt").write_text("two"))
-    is_built_after(room, "edit-of-an-old-time", lambda it: (it.main.write_text("two"), os.utime(it.main, (10**9, 10**9))))
-    is_built_after(room, "older-in-its-place", lambda it: os.rename(it.folder / "old.rt", it.main))
-    is_built_after(room, "added", lambda it: (it.main.parent / "other.rt").write_text("more"))
-    is_built_after(room, "taken-away", lambda it: (it.main.parent / "further.rt").unlink())
-    is_built_after(room, "crates", lambda it: (it.top / "crates.txt").touch())
-    is_built_after(room, "toolchain", lambda it: it.rt.touch())
-
-
-def no_program_is_taken_that_is_not_of_the_last_proof(room: Room) -> None:
-    is_built_after(room, "no-mark", lambda it: it.mark.unlink())
-    is_built_after(room, "no-program", lambda it: it.proved.unlink())
-    is_built_after(room, "older-program", lambda it: it.mark.touch())
-    is_built_after(room, "no-command", lambda it: it.proved.chmod(0o644))
+    due(room.call().stdout == "two: \n" and room.built() == ["px_cli"], room.log())
 
 
 def a_name_that_is_not_a_full_one_names_nothing_proved(room: Room) -> None:
     room.is_proved()
-    room.named = {"EXIFNORM_PROVED": "crates/px_cli/out/px_cli"}
-    due(room.call("a", cwd=room.top).stdout == "one: a\n", room.log())
+    for name in ("crates/px_cli/out/px_cli", "", "./crates/px_cli/out/px_cli"):
+        room.named = {"EXIFNORM_PROVED": name}
+        due(room.call("a", cwd=room.top).stdout == "one: a\n", room.log())
+
+
+def signals_that_the_caller_ignores_do_not_stop_a_build(room: Room) -> None:
+    room.hold("px_iim")
+    words = ["env", "--default-signal", "--ignore-signal=HUP", str(room.top / "exifnorm"), "a"]
+    started = subprocess.Popen(words, env=room.environment(), stdout=subprocess.PIPE, text=True)
+    room.until("begin", "px_iim")
+    started.send_signal(signal.SIGHUP)
+    room.let_go("px_iim")
+    due(started.communicate(timeout=300)[0] == "one: a\n", "nohup has no effect")
+
+
+def stopped(room: Room, how: int) -> None:
+    """Stops a build in its last step, while the compiler works; the next call must build."""
+    room.call()
+    room.main.write_text("two")
+    room.forget()
+    room.hold("px_cli")
+    (room.folder / "starts-px_cli").touch()
+    started = room.start("a")
+    working = room.until("begin", "px_cli")
+    wait_until(lambda: (room.folder / "starts-px_cli").read_text(), "it starts no process")
+    below = int((room.folder / "starts-px_cli").read_text())
+    due(runs(working) and runs(below), "they have ended by themselves")
+    started.send_signal(how)
+    out, why = started.communicate(timeout=300)
+    due((started.returncode, out) == (70, "") and "stopped" in why, (started.returncode, out, why))
+    wait_until(lambda: not runs(working) and not runs(below), "the compiler still runs, or what it started")
+    (room.folder / "holds-px_cli").unlink()
+    (room.folder / "starts-px_cli").unlink()
+    ran = room.call("a")
+    due((ran.returncode, ran.stdout) == (0, "two: a\n"), ran)
+
+
+def a_build_that_is_stopped_ends_with_all_that_it_started(room: Room) -> None:
+    for how in (signal.SIGTERM, signal.SIGINT, signal.SIGHUP):
+        stopped(Room(room.folder / how.name), how)
 
 
 TESTS = [
@@ -554,63 +503,53 @@ TESTS = [
     a_later_call_builds_nothing_and_says_nothing,
     a_changed_source_is_built,
     an_older_source_in_its_place_is_built,
-    what_changes_behind_a_quick_look_is_noticed,
-    most_calls_start_one_process_besides_the_program,
-    a_source_that_is_taken_away_or_added_is_noticed,
+    most_calls_are_a_quick_look_without_python,
+    every_kind_of_change_in_each_folder_is_noticed,
+    a_look_is_noted_of_nothing_that_has_just_changed,
     touched_and_copied_sources_are_not_built_again,
+    a_clock_that_is_set_back_hides_no_change,
     another_toolchain_builds_again_and_the_same_elsewhere_does_not,
+    other_scripts_that_prove_build_again,
+    a_changed_or_missing_program_is_noticed,
     a_built_program_runs_without_the_toolchain,
+    a_call_without_python_runs_what_is_built_and_builds_nothing,
     a_crate_that_fails_is_told_and_built_by_the_next_call,
-    a_crate_of_which_nothing_says_that_it_is_proved_is_not_built,
-    a_last_crate_that_fails_leaves_nothing_that_is_taken_as_built,
-    a_build_that_is_stopped_is_not_taken_as_built,
-    a_build_that_is_killed_is_not_taken_as_built,
-    one_build_at_a_time_beside_a_dead_lock,
-    a_lock_that_cannot_be_removed_ends_the_call,
-    a_broom_that_is_left_behind_ends_the_call,
-    crates_that_need_not_wait_are_proved_side_by_side,
-    a_crate_begins_as_soon_as_what_it_stands_on_is_proved,
-    at_most_three_are_proved_at_once,
-    only_what_was_changed_and_what_stands_on_it_is_proved_again,
-    what_stands_on_a_crate_that_another_build_proved_again_is_proved_again,
-    a_crate_that_is_changed_while_it_is_proved_is_proved_again,
-    a_proof_that_is_killed_is_tried_again_with_one_job,
-    what_a_killed_build_left_is_waited_for,
-    it_says_where_the_built_program_stands,
-    names_may_begin_with_a_hyphen,
+    a_proof_that_fails_after_a_good_build_is_not_taken,
+    a_crate_counts_as_proved_by_its_verdict_alone,
+    a_compiler_is_asked_for_contracts_that_no_call_can_meet,
+    changed_handles_are_refused,
+    links_among_the_sources_are_refused,
+    a_program_that_does_not_start_is_never_put_in_place,
+    it_says_where_the_built_program_is,
+    odd_names_of_folders_and_arguments,
     it_is_called_from_any_folder_and_through_links,
+    a_copy_outside_its_folder_is_an_error,
     a_folder_that_cannot_be_written_is_told,
+    a_built_program_is_for_all_users,
+    no_shell_and_no_python_stays_beside_the_program,
+    closed_streams_stay_closed,
+    an_output_that_takes_nothing_ends_no_build,
     what_was_just_proved_is_taken,
-    nothing_is_taken_as_proved_after_a_change,
-    no_program_is_taken_that_is_not_of_the_last_proof,
     a_name_that_is_not_a_full_one_names_nothing_proved,
+    signals_that_the_caller_ignores_do_not_stop_a_build,
+    a_build_that_is_stopped_ends_with_all_that_it_started,
 ]
 
 
-def fault_of(test) -> str:
-    """What is wrong; nothing where the test passes."""
+def run_in_a_room(test) -> None:
     with tempfile.TemporaryDirectory() as folder:
-        try:
-            test(Room(Path(folder)))
-        except (AssertionError, OSError, subprocess.SubprocessError) as why:
-            return str(why) or repr(why)
-    return ""
+        test(Room(Path(folder)))
 
 
 def main() -> int:
+    """Runs the tests, four at a time; with TEST_ONLY those whose names have that text."""
+    only = os.environ.get("TEST_ONLY", "")
+    tests = [it for it in [*TESTS, *build_rules.TESTS, *interrupted.TESTS, *makefile.TESTS] if only in it.__name__]
+    counter = Counter()
     with ThreadPoolExecutor(4) as pool:
-        faults = dict(zip((it.__name__ for it in TESTS), pool.map(fault_of, TESTS)))
-    if shutil.which("rt"):
-        faults.update(first_build.faults())
-    else:
-        for test in first_build.TESTS:
-            print(f"skipped: {test.__name__}: there is no command rt on the PATH")
-    for name, fault in faults.items():
-        if fault:
-            print(f"FAILED {name}: {fault}")
-    failed = sum(map(bool, faults.values()))
-    print(f"{len(faults) - failed} passed, {failed} failed")
-    return 1 if failed else 0
+        list(pool.map(lambda it: counter.run(it.__name__, lambda: run_in_a_room(it)), tests))
+    first_build.run(counter, only)
+    return counter.finish()
 
 
 if __name__ == "__main__":

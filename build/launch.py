@@ -1,0 +1,126 @@
+#!/usr/bin/env python3
+"""Builds the program if a source has changed, and runs it: what ./exifnorm calls where its quick look finds a change.
+
+  build/launch.py [WORD ..]
+
+It takes the place of the launcher's process and the program then takes its, with the same arguments and standard streams. Nothing is
+written to standard output before that. Where the program cannot be built the status is 70, which the program never ends with.
+"""
+
+import contextlib
+import os
+import signal
+import subprocess
+import sys
+import time
+import traceback
+from pathlib import Path
+
+sys.dont_write_bytecode = True
+
+MAIN, NOT_BUILT = "px_cli", 70
+TOP = Path(__file__).resolve().parent.parent
+PROGRAM = TOP / "out" / "exifnorm"
+SECOND = 10**9
+# Names of files are bytes, which this keeps.
+TEXT = {"encoding": "utf-8", "errors": "surrogateescape"}
+
+
+def keep_streams_apart() -> None:
+    """Has no file that is opened here take the number of a standard stream that the caller closed. It stays closed for the program."""
+    while os.open(os.devnull, os.O_RDWR) < 3:
+        pass
+
+
+def listing() -> str:
+    """What the launcher's quick look sees: a line for each source, for the program and for the toolchain's command."""
+    return subprocess.run(
+        ["sh", TOP / "build" / "listing.sh"], stdin=subprocess.DEVNULL, stdout=subprocess.PIPE, check=False, **TEXT
+    ).stdout
+
+
+def is_fresh(line: str) -> bool:
+    """Whether a file was changed so lately that a further edit might bear the same time. What is in out/ only builds write."""
+    name, _, changed = line.rpartition(" ")
+    try:
+        return not name.startswith("out/") and abs(time.time_ns() - float(changed) * SECOND) < SECOND
+    except ValueError:
+        return True
+
+
+def note(seen: str) -> None:
+    """Notes what a quick look saw while the program was up to date: where the next one sees the same, nothing was changed."""
+    aside = TOP / "out" / f"looked.{os.getpid()}"
+    try:
+        if seen and not any(map(is_fresh, seen.splitlines())):
+            aside.write_text(seen, **TEXT)
+            os.replace(aside, TOP / "out" / "looked")
+    except OSError:
+        aside.unlink(missing_ok=True)  # a folder that may not be written, or a full disk: the next call looks again
+
+
+def place() -> bool:
+    """Has the program's name, out/exifnorm, lead to what was built. Returns whether it did so before."""
+    target = f"proved/{MAIN}"
+    if PROGRAM.is_symlink() and os.readlink(PROGRAM) == target:
+        return True
+    aside = PROGRAM.with_name(f"exifnorm.{os.getpid()}")
+    aside.symlink_to(target)
+    os.replace(aside, PROGRAM)
+    return False
+
+
+def build() -> None:
+    """Builds the program where it is not up to date. Where this returns, it is."""
+    import prove
+    from crates import Crates
+
+    prove.listen()
+    store = prove.open_store(Crates.read(TOP))
+    for builds in range(3):
+        seen = listing()
+        if store.is_current(MAIN):
+            if place():
+                note(seen)
+            return
+        if builds == 0:
+            prove.say("building the program from its sources, each crate with its proofs; this takes minutes the first time")
+        elif builds == 1:
+            prove.say("a source was changed during the build: building again")
+        else:
+            raise prove.NotBuilt("a source was changed during the build again: call again when the sources are as they should be")
+        prove.build(MAIN, store)
+        place()
+
+
+def run(words: list) -> None:
+    """Runs the program in the place of this process, with the signals that Python ignores as they were."""
+    if words == ["--where"]:
+        os.write(1, os.fsencode(f"{PROGRAM}\n"))
+        return
+    for it in (signal.SIGPIPE, signal.SIGXFSZ):
+        signal.signal(it, signal.SIG_DFL)
+    os.execv(PROGRAM, [os.fspath(PROGRAM), *words])
+
+
+def say_why(why: BaseException) -> None:
+    """Says why there is no program: in one line, or with the place in these scripts where the reason is not one of theirs."""
+    is_known = type(why).__name__ == "NotBuilt" or isinstance(why, (OSError, subprocess.SubprocessError))
+    with contextlib.suppress(OSError, AttributeError):
+        sys.stderr.write(f"exifnorm: {why}\n" if is_known else traceback.format_exc())
+        sys.stderr.flush()
+
+
+def main() -> int:
+    try:
+        keep_streams_apart()
+        build()
+        run(sys.argv[1:])
+    except BaseException as why:
+        say_why(why)
+        return NOT_BUILT
+    return 0
+
+
+if __name__ == "__main__":
+    os._exit(main())
