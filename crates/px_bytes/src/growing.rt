@@ -17,15 +17,15 @@ pub struct Growing {
 }
 
 impl Model for Growing {
-    ghost use Rattle.std.specs.Prelude.{◌≡◌, nat_lt};
+    ghost use Rattle.std.specs.Prelude.{◌≡◌};
     ghost use Rattle.px_bytes.specs.calls.Grown.{Grown};
 
     ghost Value = { Grown };
 
     ghost view = { λ g. record { taken = g.taken.items; refusals = g.refusals } };
 
-    // Its memory has refused a growth exactly where a call has failed.
-    ghost invariant = { λ g. g.memory ≡ nat_lt 0 g.refusals };
+    // Its memory has refused a growth for each call that has failed.
+    ghost invariant = { λ g. g.memory ≡ g.refusals };
 }
 
 impl Growing {
@@ -40,7 +40,7 @@ impl Growing {
         }
     }
 
-    /// The same with room for so many bytes, at most 33,554,432: no call fails until they are taken.
+    /// The same with room for so many bytes, at most sixteen times `LIMIT`: no call fails until they are taken.
     pub fn with_room_in(memory: &mut Memory, room: usize) -> Result<Growing, Refused>
         requires { MayAsk room }
         ensures none { IfOk result (λ g. g ≡ record { taken = []; refusals = 0 }) }

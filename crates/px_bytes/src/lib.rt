@@ -28,6 +28,7 @@ mod marks;
 mod memory;
 mod numbers;
 mod pending;
+mod told;
 mod whole;
 
 pub use blocks::{Block, LIMIT};

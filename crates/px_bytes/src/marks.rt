@@ -160,6 +160,7 @@ fn put_far(
     ensures taken { IfOk result (λ free. free ≡ false → HasOne words.old.items start end) }
     ensures same { IfOk result (λ free. free ≡ false → words.new.items ≡ words.old.items) }
     ensures err { OnErr result (words.new.items ≡ words.old.items) }
+    ensures needed { OnErr result (IsClear words.old.items start end) }
     ensures memory { Lacks result memory.old memory.new }
 {
     if !are_clear(words, start, end) {
@@ -205,6 +206,7 @@ pub fn put(
     ensures taken { IfOk result (λ free. free ≡ false → HasOne words.old.items start end) }
     ensures same { IfOk result (λ free. free ≡ false → words.new.items ≡ words.old.items) }
     ensures err { OnErr result (words.new.items ≡ words.old.items) }
+    ensures needed { OnErr result (IsClear words.old.items start end) }
     ensures memory { Lacks result memory.old memory.new }
 {
     let at = start / WIDTH;

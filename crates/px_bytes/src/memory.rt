@@ -1,10 +1,12 @@
 // Memory, which tells whether it has refused a growth.
-ghost use Rattle.std.specs.Prelude.{◌≡◌, ◌≤◌, ◌<◌, ◌+◌, ◌-◌, ◌++◌, ◌∷◌, [], true, false, length, take, replicate, insert, max, vec_len};
-ghost use Rattle.std.specs.Prelude.{vec_capacity, string_bytes, string_len, string_capacity, is_ok, is_some, if◌then◌else◌, IfOk, OnOk};
-ghost use Rattle.std.specs.Prelude.{OnErr, IsOk, IsErr, ◌↔◌, None, Some};
+ghost use Rattle.std.specs.Prelude.{◌≡◌, ◌≤◌, ◌<◌, ◌+◌, ◌-◌, ◌*◌, ◌++◌, ◌∷◌, [], true, false, length, take, replicate, insert};
+ghost use Rattle.std.specs.Prelude.{max, vec_len, vec_capacity, string_bytes, string_len, string_capacity, is_ok, is_some};
+ghost use Rattle.std.specs.Prelude.{if◌then◌else◌, IfOk, OnOk, OnErr, IsOk, IsErr, ◌↔◌, None, Some};
 ghost use Rattle.std.specs.BTreeMap.{get, insert_entry, btree_map_len, IsUnchanged, Updates};
+ghost use Rattle.std.specs.Mem.{type_size};
 ghost use Rattle.px_bytes.specs.Lacking.{Lacks, MayAsk};
 
+use crate::told::Told;
 use std::alloc::{AllocError, Global};
 use std::collections::BTreeMap;
 use std::marker::Model;
@@ -23,54 +25,60 @@ impl From<Refused> for AllocError {
     }
 }
 
-/// The memory that a run may take. Contracts see whether it has refused a growth, as a truth value that
-/// starts false. Its calls are the only ones that let a vector, a map or a text grow: each one that fails
-/// has met a refused growth, and leaves what should grow as it was.
+/// The memory that a run may take. Contracts see how many growths it has refused, as they see how many
+/// calls of a device have failed. Its calls are the only ones that let a vector, a map or a text grow: each
+/// one that fails has met one refused growth, and leaves what should grow as it was.
 ///
-/// Room for many elements at once is asked for by `reserve` and `resize` alone, and at most for twice as
-/// many as a block has bytes: no request that memory could never meet can pass for a refusal.
+/// Room for many elements at once is asked for by `reserve`, `reserve_exact` and `resize` alone, and no
+/// element or room for elements is larger than sixteen bytes for each byte of the longest block: no request
+/// that memory could never meet can pass for a refusal.
 #[derive(Drop)]
 pub struct Memory {
     alloc: Global,
     refused: bool,
+    // How many growths were refused, which only proofs read.
+    told: Told,
 }
 
 impl Model for Memory {
-    ghost use Rattle.std.specs.Prelude.{Bool};
+    ghost use Rattle.std.specs.Prelude.{◌≡◌, ℕ, nat_lt};
 
-    ghost Value = { Bool };
+    ghost Value = { ℕ };
 
-    ghost view = { λ m. m.refused };
+    ghost view = { λ m. m.told.refusals };
+
+    ghost invariant = { λ m. m.refused ≡ nat_lt 0 m.told.refusals };
 }
 
 impl Memory {
     /// Memory that has refused nothing.
     pub fn new(alloc: Global) -> Memory
-        ensures { result ≡ false }
+        ensures { result ≡ 0 }
     {
         Memory {
             alloc,
             refused: false,
+            told: Told::none(),
         }
     }
 
     /// Whether it has refused a growth.
     pub fn has_refused(&self) -> bool
-        ensures { result ≡ self.now }
+        ensures { result ≡ true ↔ 0 < self.now }
     {
         self.refused
     }
 
     /// Memory of the same allocator that has refused nothing.
     pub fn fresh(&self) -> Memory
-        ensures { result ≡ false }
+        ensures { result ≡ 0 }
     {
         Memory::new(self.alloc)
     }
 
     /// Tells as its own what other memory has refused: `Err` exactly where that has refused a growth.
     pub fn join(&mut self, other: &Memory) -> Result<(), Refused>
-        ensures which { IsErr result ↔ (other.now ≡ true) }
+        ensures which { IsErr result ↔ 0 < other.now }
         ensures memory { Lacks result self.old self.new }
     {
         if other.refused {
@@ -79,11 +87,13 @@ impl Memory {
         Ok(())
     }
 
-    // Tells that a growth was refused.
+    // Tells that one more growth was refused.
     fn refuse(&mut self) -> Refused
-        ensures { self.new ≡ true }
+        ensures { self.new ≡ self.old + 1 }
     {
         self.refused = true;
+        let told = self.told.one_more();
+        self.told = told;
         Refused { _made: () }
     }
 
@@ -114,6 +124,7 @@ impl Memory {
     /// Puts an element behind the others. On `Err` the vector's elements are as they were, and there was
     /// no room for one more.
     pub fn push<T: Drop>(&mut self, list: &mut Vec<T>, x: T) -> Result<(), Refused>
+        requires { MayAsk (type_size T.row) }
         ensures items { list.new.items ≡ (if is_ok result then list.old.items ++ x ∷ [] else list.old.items) }
         ensures len { vec_len list.new ≡ (if is_ok result then vec_len list.old + 1 else vec_len list.old) }
         ensures capacity { vec_capacity list.old ≤ vec_capacity list.new }
@@ -129,7 +140,8 @@ impl Memory {
     /// Puts an element before the one at `index`, which is at most the number of elements. On `Err` the
     /// vector's elements are as they were, and there was no room for one more.
     pub fn insert<T: Drop>(&mut self, list: &mut Vec<T>, index: usize, x: T) -> Result<(), Refused>
-        requires { index ≤ vec_len list.old }
+        requires place { index ≤ vec_len list.old }
+        requires size { MayAsk (type_size T.row) }
         ensures items { list.new.items ≡ (if is_ok result then insert list.old.items index x else list.old.items) }
         ensures len { vec_len list.new ≡ (if is_ok result then vec_len list.old + 1 else vec_len list.old) }
         ensures full { OnErr result (vec_capacity list.old ≤ vec_len list.old) }
@@ -141,10 +153,10 @@ impl Memory {
         }
     }
 
-    /// Makes room for so many more, at most 33,554,432. On `Err` that room was missing; the elements are as
+    /// Makes room for so many more. On `Err` that room was missing; the elements are as
     /// they were in either case.
     pub fn reserve<T>(&mut self, list: &mut Vec<T>, more: usize) -> Result<(), Refused>
-        requires { MayAsk more }
+        requires { MayAsk (more * type_size T.row) }
         ensures items { list.new.items ≡ list.old.items }
         ensures len { vec_len list.new ≡ vec_len list.old }
         ensures room { OnOk result (vec_len list.new + more ≤ vec_capacity list.new) }
@@ -158,9 +170,9 @@ impl Memory {
         }
     }
 
-    /// Makes room for exactly so many more, at most 33,554,432; else as `reserve`.
+    /// Makes room for exactly so many more; else as `reserve`.
     pub fn reserve_exact<T>(&mut self, list: &mut Vec<T>, more: usize) -> Result<(), Refused>
-        requires { MayAsk more }
+        requires { MayAsk (more * type_size T.row) }
         ensures items { list.new.items ≡ list.old.items }
         ensures len { vec_len list.new ≡ vec_len list.old }
         ensures room { OnOk result (vec_len list.new + more ≤ vec_capacity list.new) }
@@ -182,6 +194,7 @@ impl Memory {
         list: &mut Vec<T>,
         more: &[T],
     ) -> Result<(), Refused>
+        requires { MayAsk (type_size T.row) }
         ensures items { list.new.items ≡ (if is_ok result then list.old.items ++ more.now else list.old.items) }
         ensures len { vec_len list.new ≡ (if is_ok result then vec_len list.old + length more.now else vec_len list.old) }
         ensures capacity { vec_capacity list.old ≤ vec_capacity list.new }
@@ -195,10 +208,10 @@ impl Memory {
         }
     }
 
-    /// Cuts it to `n` elements, at most 33,554,432, or fills it up with `x`. On `Err` the vector's elements
+    /// Cuts it to `n` elements, or fills it up with `x`. On `Err` the vector's elements
     /// are as they were, and there was no room for `n`.
     pub fn resize<T: Copy>(&mut self, list: &mut Vec<T>, n: usize, x: T) -> Result<(), Refused>
-        requires { MayAsk n }
+        requires { MayAsk (n * type_size T.row) }
         ensures items { list.new.items ≡ (if is_ok result then take n list.old.items ++ replicate (n - vec_len list.old) x else
             list.old.items) }
         ensures len { vec_len list.new ≡ (if is_ok result then n else vec_len list.old) }
@@ -219,6 +232,7 @@ impl Memory {
         key: K,
         value: V,
     ) -> Result<Option<V>, Refused>
+        requires { MayAsk (type_size K.row + type_size V.row) }
         ensures old { IfOk result (λ old. old ≡ get K.cmp map.old key) }
         ensures updates { OnOk result (Updates K.cmp map.old map.new key (Some value)) }
         ensures entries { OnOk result (map.new.entries ≡ insert_entry K.cmp map.old.entries key value) }

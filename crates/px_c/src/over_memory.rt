@@ -1,5 +1,5 @@
 // The calls over memory. Each answers `NO_MEMORY` exactly where memory refused a growth in that call.
-ghost use Rattle.std.specs.Prelude.{◌≡◌, ◌≢◌, ◌⊎◌, true};
+ghost use Rattle.std.specs.Prelude.{◌≡◌, ◌≢◌, ◌⊎◌, ◌+◌, true};
 ghost use Rattle.px_engine.specs.Captions.{caption_text};
 ghost use Rattle.px_engine.specs.Listing.{listing};
 ghost use Rattle.px_c.specs.Outcomes.{Refuses, Gives, Lacks, GivesForm, LacksForm, IsTooLong};
@@ -23,7 +23,7 @@ pub(crate) fn check_in(
     ensures refused { result ≡ REFUSED → Refuses file.now fault.new }
     ensures kind { result ≢ DONE → kind.new ≡ kind.old }
     ensures fault { result ≢ REFUSED → fault.new ≡ fault.old }
-    ensures lacking { result ≡ NO_MEMORY → memory.new ≡ true }
+    ensures lacking { result ≡ NO_MEMORY → memory.new ≡ memory.old + 1 }
     ensures memory { result ≢ NO_MEMORY → memory.new ≡ memory.old }
 {
     match px_engine::check_of_in(memory, file) {
@@ -59,7 +59,7 @@ pub(crate) fn normalise_in(
     ensures out { result ≢ DONE → out.new ≡ out.old }
     ensures written { result ≢ DONE → result ≢ TOO_LITTLE_ROOM → written.new ≡ written.old }
     ensures fault { result ≢ REFUSED → fault.new ≡ fault.old }
-    ensures lacking { result ≡ NO_MEMORY → memory.new ≡ true }
+    ensures lacking { result ≡ NO_MEMORY → memory.new ≡ memory.old + 1 }
     ensures memory { result ≢ NO_MEMORY → memory.new ≡ memory.old }
 {
     match px_engine::put_form_in(memory, file, out) {
@@ -67,7 +67,7 @@ pub(crate) fn normalise_in(
             *written = len;
             DONE
         }
-        Ok(Given::Lacks(needed)) => {
+        Ok(Given::Needs(needed)) => {
             *written = needed;
             TOO_LITTLE_ROOM
         }
@@ -76,7 +76,9 @@ pub(crate) fn normalise_in(
             REFUSED
         }
         Err(Fault::NormalTooLong) => TOO_LONG,
-        Err(_) => NO_MEMORY,
+        Err(Fault::OutOfMemory) => NO_MEMORY,
+        Err(Fault::ReadFailed) => unreachable!(),
+        Err(Fault::WriteFailed) => unreachable!(),
     }
 }
 
@@ -94,7 +96,7 @@ pub(crate) fn compare_in(
     ensures second { result ≡ SECOND_REFUSED → IsSaying first.now × Refuses second.now fault.new }
     ensures same { result ≢ DONE → same.new ≡ same.old }
     ensures fault { result ≢ REFUSED → result ≢ SECOND_REFUSED → fault.new ≡ fault.old }
-    ensures lacking { result ≡ NO_MEMORY → memory.new ≡ true }
+    ensures lacking { result ≡ NO_MEMORY → memory.new ≡ memory.old + 1 }
     ensures memory { result ≢ NO_MEMORY → memory.new ≡ memory.old }
 {
     match px_engine::same_of_in(memory, first, second) {
@@ -135,7 +137,7 @@ pub(crate) fn show_in(
     ensures out { result ≢ DONE → out.new ≡ out.old }
     ensures written { result ≢ DONE → result ≢ TOO_LITTLE_ROOM → written.new ≡ written.old }
     ensures fault { result ≢ REFUSED → fault.new ≡ fault.old }
-    ensures lacking { result ≡ NO_MEMORY → memory.new ≡ true }
+    ensures lacking { result ≡ NO_MEMORY → memory.new ≡ memory.old + 1 }
     ensures memory { result ≢ NO_MEMORY → memory.new ≡ memory.old }
 {
     match px_engine::show_of_in(memory, file) {
@@ -163,7 +165,7 @@ pub(crate) fn captions_in(
     ensures out { result ≢ DONE → out.new ≡ out.old }
     ensures written { result ≢ DONE → result ≢ TOO_LITTLE_ROOM → written.new ≡ written.old }
     ensures fault { result ≢ REFUSED → fault.new ≡ fault.old }
-    ensures lacking { result ≡ NO_MEMORY → memory.new ≡ true }
+    ensures lacking { result ≡ NO_MEMORY → memory.new ≡ memory.old + 1 }
     ensures memory { result ≢ NO_MEMORY → memory.new ≡ memory.old }
 {
     match px_engine::captions_text_in(memory, file) {

@@ -1,5 +1,5 @@
 -- What the program does with its arguments, its words.
-use Rattle.std.specs.Prelude.{◌≡◌, ◌⊎◌, ℕ, Bool, false, List, Option, Some, None}
+use Rattle.std.specs.Prelude.{◌≡◌, ◌⊎◌, ℕ, List, Option, Some, None}
 use Rattle.px_engine.specs.declared.Fault.{Fault}
 use Rattle.px_engine.specs.declared.Fault.TheVariants.{OutOfMemory, ReadFailed, WriteFailed}
 use Rattle.px_engine.specs.declared.Side.{Side}
@@ -13,6 +13,7 @@ use Rattle.px_words.specs.declared.Words.TheVariants as words
 use Rattle.px_jobs.specs.Lines.{Device, TellsFault, TellsWords}
 use Rattle.px_jobs.specs.Endings.{Ends, EndsCompare}
 use Rattle.px_words.specs.Words.{out_is_file, AskedBy}
+use Rattle.px_words.specs.calls.Wanting.{LacksWords}
 
 -- the job that a command asks for
 abbrev pub job_of : One → Job
@@ -24,43 +25,70 @@ job_of one.Captions = job.Captions
 abbrev pub IsLacking : Fault → Fault → Type 0
 IsLacking due e = (e ≡ OutOfMemory) ⊎ (e ≡ due)
 
--- a file that isn't there is told of
-abbrev pub TellsLacking : Fault → Option Side → ℕ → Device → Type 0
-TellsLacking due file status lines = (e : Fault) × IsLacking due e × TellsFault e file status lines
+-- a file that isn't there is told of: `lacks` says of a fault that it came where the file was opened or made
+abbrev pub TellsLacking : Fault → (Fault → Type 0) → Option Side → ℕ → Device → Type 0
+TellsLacking due lacks file status lines = (e : Fault) × IsLacking due e × lacks e × TellsFault e file status lines
 
--- a job was done with some reader and some writer of normal bytes. Here and below `refused` and `refused_now` say whether
--- memory had refused a growth before, and whether it has now
-abbrev pub EndsJob : Job → Bool → Bool → ℕ → Device → Type 0
-EndsJob job refused refused_now status lines = (reader out : Device) × Ends job reader out lines refused refused_now status
+-- a job was done with a reader that had `bytes` to give, of which no call had failed, and some writer of normal bytes. Here and
+-- below `refused` and `refused_now` say how many growths memory had refused before, and how many it has now
+abbrev pub EndsJob : Job → Option (List ℕ) → ℕ → ℕ → ℕ → Device → Type 0
+EndsJob job bytes refused refused_now status lines = (reader out : Device) × (reader.old ≡ bytes) × (reader.failed ≡ 0)
+    × Ends job reader out lines refused refused_now status
 
--- a comparison was, with some readers
-abbrev pub EndsPair : Bool → Bool → ℕ → Device → Type 0
-EndsPair refused refused_now status lines = (first second : Device) × EndsCompare first second lines refused refused_now status
+-- a comparison was, with such readers
+abbrev pub EndsPair : Option (List ℕ) → Option (List ℕ) → ℕ → ℕ → ℕ → Device → Type 0
+EndsPair bytes other refused refused_now status lines = (first second : Device) × (first.old ≡ bytes) × (first.failed ≡ 0)
+    × (second.old ≡ other) × (second.failed ≡ 0) × EndsCompare first second lines refused refused_now status
 
--- a job was done with a file, or the file isn't there
-abbrev pub EndsFile : Job → Bool → Bool → ℕ → Device → Type 0
-EndsFile job refused refused_now status lines = TellsLacking ReadFailed None status lines ⊎ EndsJob job refused refused_now status lines
+-- a job was done with standard input
+abbrev pub EndsFilter : ℕ → ℕ → ℕ → Device → Type 0
+EndsFilter refused refused_now status lines = (bytes : Option (List ℕ)) × EndsJob job.Normalise bytes refused refused_now status lines
 
--- the normal form of a file went to another; or one of them isn't there; or they are one
-abbrev pub EndsForm : Bool → Bool → ℕ → Device → Type 0
-EndsForm refused refused_now status lines = EndsFile job.Normalise refused refused_now status lines
-    ⊎ (TellsLacking WriteFailed None status lines ⊎ TellsWords 3 out_is_file status lines)
+-- a job was done with a file, which had bytes to give that `gives` tells; or it isn't there
+abbrev pub EndsFile : Job → (Option (List ℕ) → Type 0) → (Fault → Type 0) → ℕ → ℕ → ℕ → Device → Type 0
+EndsFile job gives lacks refused refused_now status lines = (TellsLacking ReadFailed lacks None status lines × (refused_now ≡ refused))
+    ⊎ ((bytes : Option (List ℕ)) × gives bytes × EndsJob job bytes refused refused_now status lines)
+
+-- OUT couldn't be made, or was found to be the file that is read, as `one` says: that is told, and no memory was refused
+abbrev pub EndsUnmade : (Fault → Type 0) → Type 0 → ℕ → ℕ → ℕ → Device → Type 0
+EndsUnmade lacks one refused refused_now status lines =
+    (TellsLacking WriteFailed lacks None status lines ⊎ (one × TellsWords 3 out_is_file status lines)) × (refused_now ≡ refused)
+
+-- the normal form of an open file went to OUT; or there is no such OUT
+abbrev pub EndsBeside : Option (List ℕ) → (Fault → Type 0) → Type 0 → ℕ → ℕ → ℕ → Device → Type 0
+EndsBeside bytes lacks one refused refused_now status lines =
+    EndsJob job.Normalise bytes refused refused_now status lines ⊎ EndsUnmade lacks one refused refused_now status lines
+
+-- the normal form of a file went to OUT; or one of them isn't there; or they are one
+abbrev pub EndsForm : (Option (List ℕ) → Type 0) → (Fault → Type 0) → (Fault → Type 0) → Type 0 → ℕ → ℕ → ℕ → Device → Type 0
+EndsForm gives lacks out_lacks one refused refused_now status lines =
+    EndsFile job.Normalise gives lacks refused refused_now status lines ⊎ EndsUnmade out_lacks one refused refused_now status lines
 
 -- two files were compared, or the first isn't there, or the second
-abbrev pub EndsFiles : Bool → Bool → ℕ → Device → Type 0
-EndsFiles refused refused_now status lines = TellsLacking ReadFailed (Some side.First) status lines
-    ⊎ (TellsLacking ReadFailed (Some side.Second) status lines ⊎ EndsPair refused refused_now status lines)
+abbrev pub EndsFiles : (Option (List ℕ) → Type 0) → (Fault → Type 0) → (Option (List ℕ) → Type 0) → (Fault → Type 0) → ℕ → ℕ → ℕ → Device
+    → Type 0
+EndsFiles gives lacks other_gives other_lacks refused refused_now status lines =
+    ((TellsLacking ReadFailed lacks (Some side.First) status lines ⊎ TellsLacking ReadFailed other_lacks (Some side.Second) status lines)
+    × (refused_now ≡ refused))
+    ⊎ ((bytes other : Option (List ℕ)) × gives bytes × other_gives other × EndsPair bytes other refused refused_now status lines)
 
--- what was asked for was done, and its line and status tell how that ended
-abbrev pub EndsWords : Words → Bool → Bool → ℕ → Device → Type 0
-EndsWords words.Filter refused refused_now status lines = EndsJob job.Normalise refused refused_now status lines
-EndsWords (words.One what file) refused refused_now status lines = EndsFile (job_of what) refused refused_now status lines
-EndsWords (words.Normalise file out) refused refused_now status lines = EndsForm refused refused_now status lines
-EndsWords (words.Compare first second) refused refused_now status lines = EndsFiles refused refused_now status lines
-EndsWords (words.Help text) refused refused_now status lines = TellsWords 0 text status lines
-EndsWords (words.Refused text) refused refused_now status lines = TellsWords 3 text status lines
-EndsWords words.NoMemory refused refused_now status lines = TellsFault OutOfMemory None status lines
+-- what was asked for was done, and its line and status tell how that ended. `gives` and `lacks` tell of a name what a file has to
+-- give that was opened by it, and why none was; `is_read` that it is one of the file that is read
+module _ (gives : List ℕ → Option (List ℕ) → Type 0) (lacks : List ℕ → Fault → Type 0) (is_read : List ℕ → Type 0) where
+  abbrev pub EndsWords : Words → ℕ → ℕ → ℕ → Device → Type 0
+  EndsWords words.Filter refused refused_now status lines = EndsFilter refused refused_now status lines
+  EndsWords (words.One what file) refused refused_now status lines =
+      EndsFile (job_of what) (gives file) (lacks file) refused refused_now status lines
+  EndsWords (words.Normalise file out) refused refused_now status lines =
+      EndsForm (gives file) (lacks file) (lacks out) (is_read out) refused refused_now status lines
+  EndsWords (words.Compare first second) refused refused_now status lines =
+      EndsFiles (gives first) (lacks first) (gives second) (lacks second) refused refused_now status lines
+  EndsWords (words.Help text) refused refused_now status lines = TellsWords 0 text status lines × (refused_now ≡ refused)
+  EndsWords (words.Refused text) refused refused_now status lines = TellsWords 3 text status lines × (refused_now ≡ refused)
+  EndsWords words.NoMemory refused refused_now status lines = TellsFault OutOfMemory None status lines × (refused_now ≡ refused)
+  EndsWords words.Unread refused refused_now status lines = TellsFault OutOfMemory None status lines × (refused_now ≡ refused)
 
--- whatever they ask for was done, with memory that had refused nothing
-abbrev pub Answers : List (List ℕ) → ℕ → Device → Type 0
-Answers ws status lines = (asked : Words) × AskedBy ws asked × ((refused : Bool) × EndsWords asked false refused status lines)
+  -- whatever the words ask for was done: `between` growths had been refused when they were read
+  abbrev pub Answers : List (List ℕ) → ℕ → ℕ → ℕ → Device → Type 0
+  Answers ws refused refused_now status lines = (asked : Words) × (between : ℕ) × AskedBy ws asked × LacksWords asked refused between
+      × EndsWords asked between refused_now status lines

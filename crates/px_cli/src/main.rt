@@ -17,8 +17,9 @@ ghost use Rattle.std.specs.Prelude.{◌≡◌, drop};
 mod files;
 mod run;
 
+use crate::files::System;
 use crate::run::run_words;
-use px_bytes::Watched;
+use px_bytes::{Memory, Watched};
 use px_engine::Fault;
 use px_jobs::{say_text, tell};
 use std::io::ErrorKind;
@@ -49,7 +50,9 @@ fn run_given(rt: &HostRuntime) -> u8 {
         }
         Err(_) => return say_text(&mut lines, "refused words: they are not text", 3),
     };
-    run_words(rt, alloc, behind_name(&all), &mut lines)
+    let mut memory = Memory::new(alloc);
+    let files = System::new(rt);
+    run_words(rt, &files, &mut memory, behind_name(&all), &mut lines)
 }
 
 fn main(rt: HostRuntime) -> ExitCode {

@@ -2,18 +2,17 @@
 ghost use Rattle.std.specs.Prelude.{◌≡◌, map};
 ghost use Rattle.px_jobs.specs.declared.Job.TheVariants.{Normalise};
 ghost use Rattle.px_jobs.specs.Lines.{device};
-ghost use Rattle.px_cli.specs.Programs.{job_of, Answers, EndsFile, EndsFiles, EndsForm, EndsJob, EndsPair, EndsWords};
+ghost use Rattle.px_cli.specs.Programs.{job_of, Answers, EndsFile, EndsBeside, EndsFiles, EndsFilter, EndsForm};
+ghost use Rattle.px_cli.specs.Programs.{EndsJob, EndsPair, EndsWords};
 ghost use Rattle.px_bytes.specs.Devices.{CanFail};
 
-use crate::files::{make_beside, open};
+use crate::files::Opens;
 use px_bytes::{Memory, Sink, Source, Watched};
 use px_engine::{Fault, Side, VERSION};
 use px_jobs::{Job, run_compare_in, run_one_in, say_text, tell};
 use px_words::{OUT_IS_FILE, One, Words, parse};
-use std::alloc::Global;
 use std::convert::AsStr;
 use std::io;
-use std::rt::Files;
 
 /// Does what the arguments ask for, and answers the exit status. All text goes to
 /// `lines`, and the normal form of standard input to standard output.
@@ -23,47 +22,47 @@ use std::rt::Files;
 /// read. A file that can't be opened is a failed read, one that can't be made a failed write. Where
 /// `OUT` is `FILE`, also by another name, the arguments are refused and the file is as it was. Without
 /// arguments standard input is normalised to standard output; else standard input is not read.
-pub fn run_words<'a, S: AsStr, R: Files + Input + Print, L: Sink>(
+pub fn run_words<'a, S: AsStr, R: Input + Print + AllocGlobal, O: Opens, L: Sink>(
     rt: &R,
-    alloc: Global,
+    files: &O,
+    memory: &mut Memory,
     words: &'a [S],
     lines: &mut L,
 ) -> u8
     requires { CanFail (L.failed lines.old) }
-    ensures { Answers (map S.text words.entry.now) result (device (L.failed lines.old) (L.failed lines.new) (L.bytes_taken lines.old)
-        (L.bytes_taken lines.new)) }
+    ensures { Answers (O.gives files.now) (O.lacks files.now) (O.is_read files.now) (map S.text words.entry.now)
+        memory.old memory.new result (device (L.failed lines.old) (L.failed lines.new)
+        (L.bytes_taken lines.old) (L.bytes_taken lines.new)) }
 {
-    run_asked(
-        rt,
-        &mut Memory::new(alloc),
-        parse(alloc, words, VERSION),
-        lines,
-    )
+    let asked = parse(memory, rt.alloc(), words, VERSION);
+    run_asked(rt, files, memory, asked, lines)
 }
 
 // Does what was asked for.
-fn run_asked<R: Files + Input + Print, L: Sink>(
+fn run_asked<R: Input + Print, O: Opens, L: Sink>(
     rt: &R,
+    files: &O,
     memory: &mut Memory,
     asked: Words,
     lines: &mut L,
 ) -> u8
     requires { CanFail (L.failed lines.old) }
-    ensures { EndsWords asked memory.old memory.new result (device (L.failed lines.old) (L.failed lines.new) (L.bytes_taken lines.old)
-        (L.bytes_taken lines.new)) }
+    ensures { EndsWords (O.gives files.now) (O.lacks files.now) (O.is_read files.now) asked
+        memory.old memory.new result (device (L.failed lines.old) (L.failed lines.new)
+        (L.bytes_taken lines.old) (L.bytes_taken lines.new)) }
 {
     match asked {
         Words::Filter => run_filter(rt, memory, lines),
-        Words::One { what, file } => run_file(rt, memory, what, file.as_str(), lines),
+        Words::One { what, file } => run_file(files, memory, what, file.as_str(), lines),
         Words::Normalise { file, out } => {
-            run_form(rt, memory, file.as_str(), out.as_str(), lines)
+            run_form(files, memory, file.as_str(), out.as_str(), lines)
         }
         Words::Compare { first, second } => {
-            run_files(rt, memory, first.as_str(), second.as_str(), lines)
+            run_files(files, memory, first.as_str(), second.as_str(), lines)
         }
         Words::Help(text) => say_text(lines, text.as_str(), 0),
         Words::Refused(text) => say_text(lines, text.as_str(), 3),
-        Words::NoMemory => tell(lines, Fault::OutOfMemory, None),
+        Words::NoMemory | Words::Unread => tell(lines, Fault::OutOfMemory, None),
     }
 }
 
@@ -86,11 +85,12 @@ fn run_job<F: Source + Drop, O: Sink + Drop, L: Sink>(
     mut out: O,
     lines: &mut L,
 ) -> u8
-    requires reading { CanFail (F.failed reader) }
+    requires reading { F.failed reader ≡ 0 }
     requires writing { CanFail (O.failed out) }
     requires telling { CanFail (L.failed lines.old) }
-    ensures { EndsJob job memory.old memory.new result (device (L.failed lines.old) (L.failed lines.new) (L.bytes_taken lines.old)
-        (L.bytes_taken lines.new)) }
+    ensures { EndsJob job (F.bytes_left reader)
+        memory.old memory.new result (device (L.failed lines.old) (L.failed lines.new)
+        (L.bytes_taken lines.old) (L.bytes_taken lines.new)) }
 {
     run_one_in(memory, job, &mut reader, &mut out, lines)
 }
@@ -102,11 +102,12 @@ fn run_pair<F: Source + Drop, S: Source + Drop, L: Sink>(
     mut second: S,
     lines: &mut L,
 ) -> u8
-    requires first { CanFail (F.failed first) }
-    requires second { CanFail (S.failed second) }
+    requires first { F.failed first ≡ 0 }
+    requires second { S.failed second ≡ 0 }
     requires telling { CanFail (L.failed lines.old) }
-    ensures { EndsPair memory.old memory.new result (device (L.failed lines.old) (L.failed lines.new) (L.bytes_taken lines.old)
-        (L.bytes_taken lines.new)) }
+    ensures { EndsPair (F.bytes_left first) (S.bytes_left second)
+        memory.old memory.new result (device (L.failed lines.old) (L.failed lines.new)
+        (L.bytes_taken lines.old) (L.bytes_taken lines.new)) }
 {
     run_compare_in(memory, &mut first, &mut second, lines)
 }
@@ -114,8 +115,9 @@ fn run_pair<F: Source + Drop, S: Source + Drop, L: Sink>(
 // Standard input to standard output.
 fn run_filter<R: Input + Print, L: Sink>(rt: &R, memory: &mut Memory, lines: &mut L) -> u8
     requires { CanFail (L.failed lines.old) }
-    ensures { EndsJob Normalise memory.old memory.new result (device (L.failed lines.old) (L.failed lines.new) (L.bytes_taken lines.old)
-        (L.bytes_taken lines.new)) }
+    ensures { EndsFilter
+        memory.old memory.new result (device (L.failed lines.old) (L.failed lines.new)
+        (L.bytes_taken lines.old) (L.bytes_taken lines.new)) }
 {
     let reader = Watched::new(rt.reader());
     let out = Watched::new(io::writer(rt));
@@ -123,18 +125,19 @@ fn run_filter<R: Input + Print, L: Sink>(rt: &R, memory: &mut Memory, lines: &mu
 }
 
 // What a command prints of a file.
-fn run_file<R: Files, L: Sink>(
-    rt: &R,
+fn run_file<O: Opens, L: Sink>(
+    files: &O,
     memory: &mut Memory,
     what: One,
     name: &str,
     lines: &mut L,
 ) -> u8
     requires { CanFail (L.failed lines.old) }
-    ensures { EndsFile (job_of what) memory.old memory.new result (device (L.failed lines.old) (L.failed lines.new)
+    ensures { EndsFile (job_of what) (O.gives files.now name.now) (O.lacks files.now name.now)
+        memory.old memory.new result (device (L.failed lines.old) (L.failed lines.new)
         (L.bytes_taken lines.old) (L.bytes_taken lines.new)) }
 {
-    match open(rt, name) {
+    match files.open(name) {
         Ok(file) => {
             let none = Watched::new(io::sink());
             run_job(memory, job_of(what), Watched::new(file), none, lines)
@@ -144,18 +147,19 @@ fn run_file<R: Files, L: Sink>(
 }
 
 // The normal form of an open file goes to another, unless that is the same.
-fn run_beside<R: Files, L: Sink>(
-    rt: &R,
+fn run_beside<O: Opens, L: Sink>(
+    files: &O,
     memory: &mut Memory,
-    file: R::File,
+    file: O::Reader,
     out_name: &str,
     lines: &mut L,
 ) -> u8
     requires { CanFail (L.failed lines.old) }
-    ensures { EndsForm memory.old memory.new result (device (L.failed lines.old) (L.failed lines.new) (L.bytes_taken lines.old)
-        (L.bytes_taken lines.new)) }
+    ensures { EndsBeside (O.Reader.remaining file) (O.lacks files.now out_name.now) (O.is_read files.now out_name.now)
+        memory.old memory.new result (device (L.failed lines.old) (L.failed lines.new)
+        (L.bytes_taken lines.old) (L.bytes_taken lines.new)) }
 {
-    match make_beside(rt, out_name, &file) {
+    match files.make_beside(out_name, &file) {
         Ok(Some(out)) => {
             let out = Watched::new(out);
             run_job(memory, Job::Normalise, Watched::new(file), out, lines)
@@ -166,40 +170,44 @@ fn run_beside<R: Files, L: Sink>(
 }
 
 // The normal form of a file goes to another.
-fn run_form<R: Files, L: Sink>(
-    rt: &R,
+fn run_form<O: Opens, L: Sink>(
+    files: &O,
     memory: &mut Memory,
     name: &str,
     out_name: &str,
     lines: &mut L,
 ) -> u8
     requires { CanFail (L.failed lines.old) }
-    ensures { EndsForm memory.old memory.new result (device (L.failed lines.old) (L.failed lines.new) (L.bytes_taken lines.old)
-        (L.bytes_taken lines.new)) }
+    ensures { EndsForm (O.gives files.now name.now) (O.lacks files.now name.now) (O.lacks files.now out_name.now)
+        (O.is_read files.now out_name.now)
+        memory.old memory.new result (device (L.failed lines.old) (L.failed lines.new)
+        (L.bytes_taken lines.old) (L.bytes_taken lines.new)) }
 {
-    match open(rt, name) {
-        Ok(file) => run_beside(rt, memory, file, out_name, lines),
+    match files.open(name) {
+        Ok(file) => run_beside(files, memory, file, out_name, lines),
         Err(fault) => tell(lines, fault, None),
     }
 }
 
 // Two files are compared.
-fn run_files<R: Files, L: Sink>(
-    rt: &R,
+fn run_files<O: Opens, L: Sink>(
+    files: &O,
     memory: &mut Memory,
     first: &str,
     second: &str,
     lines: &mut L,
 ) -> u8
     requires { CanFail (L.failed lines.old) }
-    ensures { EndsFiles memory.old memory.new result (device (L.failed lines.old) (L.failed lines.new) (L.bytes_taken lines.old)
-        (L.bytes_taken lines.new)) }
+    ensures { EndsFiles (O.gives files.now first.now) (O.lacks files.now first.now) (O.gives files.now second.now)
+        (O.lacks files.now second.now)
+        memory.old memory.new result (device (L.failed lines.old) (L.failed lines.new)
+        (L.bytes_taken lines.old) (L.bytes_taken lines.new)) }
 {
-    let first = match open(rt, first) {
+    let first = match files.open(first) {
         Ok(first) => Watched::new(first),
         Err(fault) => return tell(lines, fault, Some(Side::First)),
     };
-    match open(rt, second) {
+    match files.open(second) {
         Ok(second) => run_pair(memory, first, Watched::new(second), lines),
         Err(fault) => tell(lines, fault, Some(Side::Second)),
     }

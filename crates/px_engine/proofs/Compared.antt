@@ -33,36 +33,36 @@ pub counted : (r : Result Bool CompareFault) (a b c d : ℕ) (second : Option (L
 counted (Ok same) a b c d second s e h k = (e, k)
 counted (Err fault) a b c d second s e h k = subst (λ z. CountsAt z fault.fault a b c d) (sym h.0) (e, k)
 
-pub lacks_compared : (r : Result Bool CompareFault) (first mid last : Bool) → mid ≡ first → LacksPair r mid last → LacksPair r first last
+pub lacks_compared : (r : Result Bool CompareFault) (first mid last : ℕ) → mid ≡ first → LacksPair r mid last → LacksPair r first last
 lacks_compared r first mid last e h = subst (λ z. LacksPair r z last) e h
 
 -- ---- the second file, read and then judged in hand
 
-pub second_read : (r : Result Bool CompareFault) (s : Said) (left left_now : Option (List ℕ)) (bytes : List ℕ) (lacking : Bool)
+pub second_read : (r : Result Bool CompareFault) (s : Said) (left left_now : Option (List ℕ)) (bytes : List ℕ) (lacking : ℕ)
     → ReadsUpTo left left_now 16777223 bytes → SaysSecond r s bytes lacking → ComparesSecond r s left
 second_read (Ok same) s left left_now bytes lacking x h = (h.0, known_said left left_now bytes h.0 x h.1, h.2)
 second_read (Err e) s left left_now bytes lacking x h = (h.0, known_stops left left_now bytes lacking e.fault x h.1)
 
-counted_fault : (fault : Fault) (bytes : List ℕ) (lacking : Bool) (a b : ℕ) → b ≡ a → IsUnsaid bytes lacking fault → CountsFault fault a b
+counted_fault : (fault : Fault) (bytes : List ℕ) (lacking : ℕ) (a b : ℕ) → b ≡ a → IsUnsaid bytes lacking fault → CountsFault fault a b
 counted_fault (Refused cause place) bytes lacking a b e h = e
 counted_fault OutOfMemory bytes lacking a b e h = e
 counted_fault ReadFailed bytes lacking a b e h = absurd h
 counted_fault NormalTooLong bytes lacking a b e h = e
 counted_fault WriteFailed bytes lacking a b e h = e
 
-pub second_counted : (r : Result Bool CompareFault) (s : Said) (bytes : List ℕ) (lacking : Bool) (a b : ℕ) → b ≡ a
+pub second_counted : (r : Result Bool CompareFault) (s : Said) (bytes : List ℕ) (lacking : ℕ) (a b : ℕ) → b ≡ a
     → SaysSecond r s bytes lacking → CountsSecond r a b
 second_counted (Ok same) s bytes lacking a b e h = e
 second_counted (Err fault) s bytes lacking a b e h = counted_fault fault.fault bytes lacking a b e h.1
 
 -- ---- two files in hand
 
-pub says_same : (r : Result Bool CompareFault) (f g : List ℕ) (s : Said) (lacking : Bool) → IsSaid f s → SaysSecond r s g lacking
+pub says_same : (r : Result Bool CompareFault) (f g : List ℕ) (s : Said) (lacking : ℕ) → IsSaid f s → SaysSecond r s g lacking
     → IfOk r (SaysSame f g)
 says_same (Ok same) f g s lacking x h = (s, h.0, x, h.1, h.2)
 says_same (Err e) f g s lacking x h = tt
 
-pub second_unsaid : (r : Result Bool CompareFault) (f g : List ℕ) (s : Said) (lacking : Bool) → IsSaid f s → SaysSecond r s g lacking
+pub second_unsaid : (r : Result Bool CompareFault) (f g : List ℕ) (s : Said) (lacking : ℕ) → IsSaid f s → SaysSecond r s g lacking
     → IfErr r (IsUnsaidAt f g lacking)
 second_unsaid (Ok same) f g s lacking x h = tt
 second_unsaid (Err e) f g s lacking x h = subst (λ z. IsUnsaidOn z f g lacking e.fault) (sym h.0) ((s, x), h.1)

@@ -32,7 +32,7 @@ normalised (Err ReadFailed) left left_now bytes s old new a b x h w = absurd w
 normalised (Err (Refused cause place)) left left_now bytes s old new a b x h w = absurd w
 
 -- a writer takes no memory
-pub lacks_nothing : (r : Result ℕ Fault) (old new : Option (List ℕ)) (a b : ℕ) (s : Said) (first last : Bool) → last ≡ first
+pub lacks_nothing : (r : Result ℕ Fault) (old new : Option (List ℕ)) (a b : ℕ) (s : Said) (first last : ℕ) → last ≡ first
     → WritesSaid r old new a b s → LacksRun r first last
 lacks_nothing (Ok n) old new a b s first last q w = q
 lacks_nothing (Err NormalTooLong) old new a b s first last q w = q
@@ -42,11 +42,11 @@ lacks_nothing (Err ReadFailed) old new a b s first last q w = absurd w
 lacks_nothing (Err (Refused cause place)) old new a b s first last q w = absurd w
 
 -- what lacked memory lacked it from the first call on, where none before it did
-pub lacks_later : (fault : Fault) (first mid last : Bool) → mid ≡ first → LacksFault fault mid last → LacksFault fault first last
+pub lacks_later : (fault : Fault) (first mid last : ℕ) → mid ≡ first → LacksFault fault mid last → LacksFault fault first last
 lacks_later fault first mid last q h = subst (λ z. LacksFault fault z last) q h
 
 -- the bytes that were read say nothing
-pub not_normalised : (fault : Fault) (left left_now : Option (List ℕ)) (bytes : List ℕ) (lacking : Bool) (old : Option (List ℕ)) →
+pub not_normalised : (fault : Fault) (left left_now : Option (List ℕ)) (bytes : List ℕ) (lacking : ℕ) (old : Option (List ℕ)) →
     ReadsUpTo left left_now 16777223 bytes → IsUnsaid bytes lacking fault → Normalises (Err fault) left old old
 not_normalised (Refused cause place) left left_now bytes lacking old x h =
     (known_stops left left_now bytes lacking (Refused cause place) x h, refl)
@@ -55,7 +55,7 @@ not_normalised ReadFailed left left_now bytes lacking old x h = absurd h
 not_normalised NormalTooLong left left_now bytes lacking old x h = absurd h
 not_normalised WriteFailed left left_now bytes lacking old x h = absurd h
 
-pub checked : (r : Result BlockKind Fault) (left left_now : Option (List ℕ)) (bytes : List ℕ) (lacking : Bool)
+pub checked : (r : Result BlockKind Fault) (left left_now : Option (List ℕ)) (bytes : List ℕ) (lacking : ℕ)
     → ReadsUpTo left left_now 16777223 bytes
     → IfOk r (IsKindOf bytes) → IfErr r (IsUnsaid bytes lacking) → Checks r left
 checked (Ok kind) left left_now bytes lacking x h k = (h.0, known_said left left_now bytes h.0 x h.1, h.2)
@@ -67,7 +67,7 @@ pub form_formed : {V : Type 0} (items : V → List ℕ) (r : Result V Fault) (f 
 form_formed items (Ok v) f s h k = (s, (h, k.0, k.1))
 form_formed items (Err e) f s h k = tt
 
-pub form_unwritten : {V : Type 0} (r : Result V Fault) (f : List ℕ) (s : Said) (lacking : Bool) → IsSaid f s
+pub form_unwritten : {V : Type 0} (r : Result V Fault) (f : List ℕ) (s : Said) (lacking : ℕ) → IsSaid f s
     → IfErr r (IsUnformed s lacking) → IfErr r (IsUnwritten f lacking)
 form_unwritten (Ok v) f s lacking h k = tt
 form_unwritten (Err NormalTooLong) f s lacking h k = (s, h, k, half (Some f) s h k)
@@ -77,8 +77,8 @@ form_unwritten (Err ReadFailed) f s lacking h k = absurd k
 form_unwritten (Err WriteFailed) f s lacking h k = absurd k
 
 -- a call with memory of its own
-pub own_memory : {A E : Type 0} (P : Bool → E → Type 0) (r : Result A E) (lacking : Bool) → IfErr r (P lacking)
-    → IfErr r (λ e. (refused : Bool) × P refused e)
+pub own_memory : {A E : Type 0} (P : ℕ → E → Type 0) (r : Result A E) (lacking : ℕ) → IfErr r (P lacking)
+    → IfErr r (λ e. (refused : ℕ) × P refused e)
 own_memory P (Ok x) lacking h = tt
 own_memory P (Err e) lacking h = (lacking, h)
 

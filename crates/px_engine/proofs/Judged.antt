@@ -51,12 +51,12 @@ whole_faulty f c p h =
       unsaid = λ s x. h.unsaid s ((file.taken_tells.0 f s).1 x);
     }
 
-pub unsaid : (bytes : List ℕ) (lacking : Bool) (e : Refusal) (fault : Fault) → fault ≡ refused e → IsRefused bytes lacking e
+pub unsaid : (bytes : List ℕ) (lacking : ℕ) (e : Refusal) (fault : Fault) → fault ≡ refused e → IsRefused bytes lacking e
     → IsUnsaid bytes lacking fault
 unsaid bytes lacking (refusal.Content cause place) fault q h = subst (IsUnsaid bytes lacking) (sym q) h
 unsaid bytes lacking refusal.OutOfMemory fault q h = subst (IsUnsaid bytes lacking) (sym q) h
 
-pub lacks_refused : (e : Refusal) (fault : Fault) (old new : Bool) → fault ≡ refused e → LacksBlock {X = Unit {0}} (Err e) old new
+pub lacks_refused : (e : Refusal) (fault : Fault) (old new : ℕ) → fault ≡ refused e → LacksBlock {X = Unit {0}} (Err e) old new
     → LacksFault fault old new
 lacks_refused (refusal.Content cause place) fault old new q h = subst (λ z. LacksFault z old new) (sym q) h
 lacks_refused refusal.OutOfMemory fault old new q h = subst (λ z. LacksFault z old new) (sym q) h
@@ -68,7 +68,7 @@ pub known_said : (old new : Option (List ℕ)) (bytes : List ℕ) (s : Said) →
 known_said None new bytes s r h = tt
 known_said (Some f) new bytes s r h = whole_said f s (subst (λ z. IsSaid z s) r.0 h)
 
-pub known_stops : (old new : Option (List ℕ)) (bytes : List ℕ) (lacking : Bool) (fault : Fault) → ReadsUpTo old new 16777223 bytes
+pub known_stops : (old new : Option (List ℕ)) (bytes : List ℕ) (lacking : ℕ) (fault : Fault) → ReadsUpTo old new 16777223 bytes
     → IsUnsaid bytes lacking fault → Stops fault old
 known_stops None new bytes lacking (Refused cause place) r h = (h.bounded, tt)
 known_stops (Some f) new bytes lacking (Refused cause place) r h =

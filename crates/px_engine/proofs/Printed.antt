@@ -37,7 +37,7 @@ printed text (Err ReadFailed) left left_now bytes s old new a b read h w = absur
 printed text (Err NormalTooLong) left left_now bytes s old new a b read h w = absurd w
 
 -- the bytes that were read say nothing
-pub not_printed : (A : Type 0) (text : Said → List ℕ) (fault : Fault) (left left_now : Option (List ℕ)) (bytes : List ℕ) (lacking : Bool)
+pub not_printed : (A : Type 0) (text : Said → List ℕ) (fault : Fault) (left left_now : Option (List ℕ)) (bytes : List ℕ) (lacking : ℕ)
     (old : Option (List ℕ))
     → ReadsUpTo left left_now 16777223 bytes → IsUnsaid bytes lacking fault → Prints {A = A} text (Err fault) left old old
 not_printed A text (Refused cause place) left left_now bytes lacking old x h =
@@ -48,7 +48,7 @@ not_printed A text NormalTooLong left left_now bytes lacking old x h = absurd h
 not_printed A text WriteFailed left left_now bytes lacking old x h = absurd h
 
 -- nor does a writer of texts take memory
-pub lacks_no_text : {A : Type 0} (r : Result A Fault) (old new : Option (List ℕ)) (a b : ℕ) (sent : List ℕ) (first last : Bool)
+pub lacks_no_text : {A : Type 0} (r : Result A Fault) (old new : Option (List ℕ)) (a b : ℕ) (sent : List ℕ) (first last : ℕ)
     → last ≡ first → WritesText r old new a b sent → LacksRun r first last
 lacks_no_text (Ok x) old new a b sent first last q w = q
 lacks_no_text (Err WriteFailed) old new a b sent first last q w = q

@@ -1,11 +1,12 @@
 -- The headline, from what normalising two files answers and the laws of files.
-use Rattle.std.proofs.Common.{◌≤◌, ◌*◌, ℕ, List, length, sym, ◌∙◌, ap, subst, arith}
+use Rattle.std.proofs.Common.{◌≡◌, ◌≤◌, ◌*◌, ◌↔◌, ℕ, Bool, IsTrue, List, length, Some, Ok, sym, refl, ◌∙◌, ap, subst, arith}
 use Rattle.px_bytes.specs.Parts.{limit}
 use Rattle.px_engine.specs.Files.{Said, Says, normal, block_of}
 use Rattle.px_engine.specs.Input.{IsSaid}
 use Rattle.px_engine.specs.Laws.{OneSaid, NormalSays}
 use Rattle.px_engine.specs.lemmas.FileLaws.{own_block}
-use Rattle.px_engine.specs.Headline.{IsFormOf, IsItsOwn, Headline}
+use Rattle.px_engine.specs.Headline.{IsFormOf, IsItsOwn, Headline, RunsTell, ComparingTells}
+use Rattle.px_engine.specs.Runs.{Compares}
 
 module _ (one : OneSaid) (says : NormalSays) where
   form_says : (s : Said) (n : List ℕ) (f : List ℕ) → IsFormOf f s n → Says n s
@@ -42,3 +43,18 @@ module _ (one : OneSaid) (says : NormalSays) where
     first_again = its_own s m f h;
     second_again = its_own t n g k;
   }
+
+  pub runs_tell : RunsTell
+  runs_tell f g i j old new other_old other_new x y = (
+    normal x.0,
+    normal y.0,
+    x.2,
+    y.2,
+    told f g (normal x.0) (normal y.0) x.0 y.0 (x.1, refl, subst (λ z. z ≤ limit) x.3 x.4) (y.1, refl, subst (λ z. z ≤ limit) y.3 y.4),
+  )
+
+pub comparing_tells : ComparingTells
+comparing_tells f g m n same h c =
+    let s : c.0 ≡ h.first = h.first_alone c.0 c.2.says in
+    let t : c.1 ≡ h.second = h.second_alone c.1 c.3.says in
+    (λ e. h.tells.1 (sym s ∙ c.4.0 e ∙ t), λ e. c.4.1 (s ∙ h.tells.0 e ∙ sym t))

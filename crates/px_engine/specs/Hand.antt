@@ -1,12 +1,12 @@
 -- What calls over files in hand answer.
-use Rattle.std.specs.Prelude.{◌≡◌, ◌↔◌, ◌<◌, ◌≤◌, ◌++◌, ℕ, Bool, true, IsTrue, List, length, drop}
+use Rattle.std.specs.Prelude.{◌≡◌, ◌↔◌, ◌<◌, ◌≤◌, ◌++◌, ℕ, Bool, IsTrue, List, length, drop}
 use Rattle.px_bytes.specs.Parts.{limit}
 use Rattle.px_engine.specs.declared.faults.Fault.{Fault}
 use Rattle.px_engine.specs.declared.faults.Side.{Side}
 use Rattle.px_engine.specs.declared.faults.Side.TheVariants.{First, Second}
 use Rattle.px_engine.specs.declared.faults.CompareFault.{CompareFault}
 use Rattle.px_engine.specs.declared.given.Given.{Given}
-use Rattle.px_engine.specs.declared.given.Given.TheVariants.{Whole, Lacks}
+use Rattle.px_engine.specs.declared.given.Given.TheVariants.{Whole, Needs}
 use Rattle.px_engine.specs.declared.kinds.BlockKind.{BlockKind}
 use Rattle.px_engine.specs.declared.faults.Fault.TheVariants.{Refused, NormalTooLong, OutOfMemory, ReadFailed, WriteFailed}
 use Rattle.px_engine.specs.Files.{Said, kind_said, normal}
@@ -22,17 +22,17 @@ abbrev pub SaysSame : List ℕ → List ℕ → Bool → Type 0
 SaysSame f g same = (s t : Said) × IsSaid f s × IsSaid g t × (IsTrue same ↔ (s ≡ t))
 
 -- a fault of the first file; or one of the second, where the first says something
-abbrev pub IsUnsaidOn : Side → List ℕ → List ℕ → Bool → Fault → Type 0
+abbrev pub IsUnsaidOn : Side → List ℕ → List ℕ → ℕ → Fault → Type 0
 IsUnsaidOn First f g refused fault = IsUnsaid f refused fault
 IsUnsaidOn Second f g refused fault = ((s : Said) × IsSaid f s) × IsUnsaid g refused fault
 
-abbrev pub IsUnsaidAt : List ℕ → List ℕ → Bool → CompareFault → Type 0
+abbrev pub IsUnsaidAt : List ℕ → List ℕ → ℕ → CompareFault → Type 0
 IsUnsaidAt f g refused e = IsUnsaidOn e.side f g refused e.fault
 
 -- why what is said has no form: one that is too long asks for no memory
-abbrev pub IsUnformed : Said → Bool → Fault → Type 0
+abbrev pub IsUnformed : Said → ℕ → Fault → Type 0
 IsUnformed s refused NormalTooLong = limit < length (normal s)
-IsUnformed s refused OutOfMemory = (refused ≡ true) × (length (normal s) ≤ limit)
+IsUnformed s refused OutOfMemory = (0 < refused) × (length (normal s) ≤ limit)
 IsUnformed s refused (Refused cause place) = ⊥
 IsUnformed s refused ReadFailed = ⊥
 IsUnformed s refused WriteFailed = ⊥
@@ -41,7 +41,7 @@ IsUnformed s refused WriteFailed = ⊥
 -- and is as it was. In both cases the form's length is told.
 abbrev pub IsPut : Given → List ℕ → List ℕ → List ℕ → Type 0
 IsPut (Whole len) form old new = (len ≡ length form) × (length form ≤ length old) × (new ≡ form ++ drop (length form) old)
-IsPut (Lacks len) form old new = (len ≡ length form) × (length old < length form) × (new ≡ old)
+IsPut (Needs len) form old new = (len ≡ length form) × (length old < length form) × (new ≡ old)
 
 -- the form is that of what the file says
 abbrev pub PutsForm : List ℕ → Given → List ℕ → List ℕ → Type 0

@@ -1,13 +1,15 @@
 -- The headline: two files, and the normal forms that are written of them.
-use Rattle.std.specs.Prelude.{◌≡◌, ◌<◌, ◌≤◌, ◌*◌, ◌↔◌, ℕ, Bool, true, List, length}
+use Rattle.std.specs.Prelude.{◌≡◌, ◌<◌, ◌≤◌, ◌*◌, ◌↔◌, ℕ, Bool, IsTrue, List, length, Option, Some, Ok}
+use Rattle.std.specs.Io.KnownBytes.{Appends}
 use Rattle.px_bytes.specs.Parts.{limit}
 use Rattle.px_engine.specs.declared.faults.Fault.{Fault}
-use Rattle.px_engine.specs.declared.faults.Fault.TheVariants.{Refused, NormalTooLong, OutOfMemory, ReadFailed, WriteFailed}
+use Rattle.px_engine.specs.declared.faults.Fault.TheVariants.{NormalTooLong}
 use Rattle.px_engine.specs.declared.faults.CompareFault.{CompareFault}
 use Rattle.px_engine.specs.declared.faults.Side.{Side}
 use Rattle.px_engine.specs.declared.faults.Side.TheVariants.{First, Second}
 use Rattle.px_engine.specs.Files.{Said, Says, normal, block_of}
-use Rattle.px_engine.specs.Input.{IsSaid, IsFaulty}
+use Rattle.px_engine.specs.Input.{IsSaid, IsUnsaid}
+use Rattle.px_engine.specs.Runs.{Normalises, Compares}
 
 -- n is the normal form of what the file f says
 abbrev pub IsFormOf : List ℕ → Said → List ℕ → Type 0
@@ -36,17 +38,27 @@ pub record Headline (f g m n : List ℕ) : Type 0 where
 
 -- Why nothing was written of f: it says nothing, for its content's first fault; or the form of what it says is too long; or
 -- memory has refused a growth. No device is asked, so none fails.
-abbrev pub IsUnwritten : List ℕ → Bool → Fault → Type 0
-IsUnwritten f refused (Refused cause place) = IsFaulty f cause place
+abbrev pub IsUnwritten : List ℕ → ℕ → Fault → Type 0
 IsUnwritten f refused NormalTooLong = (s : Said) × IsSaid f s × (limit < length (normal s)) × (limit < 2 * length (block_of f))
-IsUnwritten f refused OutOfMemory = refused ≡ true
-IsUnwritten f refused ReadFailed = ⊥
-IsUnwritten f refused WriteFailed = ⊥
+IsUnwritten f refused fault = IsUnsaid f refused fault
 
 -- the fault of the first file; or of the second, where the first has a form
-abbrev pub IsUnwrittenOn : Side → List ℕ → List ℕ → Bool → Fault → Type 0
+abbrev pub IsUnwrittenOn : Side → List ℕ → List ℕ → ℕ → Fault → Type 0
 IsUnwrittenOn First f g refused fault = IsUnwritten f refused fault
 IsUnwrittenOn Second f g refused fault = ((s : Said) × (n : List ℕ) × IsFormOf f s n) × IsUnwritten g refused fault
 
-abbrev pub IsUnwrittenAt : List ℕ → List ℕ → Bool → CompareFault → Type 0
+abbrev pub IsUnwrittenAt : List ℕ → List ℕ → ℕ → CompareFault → Type 0
 IsUnwrittenAt f g refused e = IsUnwrittenOn e.side f g refused e.fault
+
+-- ---- the headline of runs
+
+-- Two runs that normalise two files and are done, whatever their devices took before: of each file the normal form was taken, and
+-- the forms say all of the above.
+abbrev pub RunsTell : Type 0
+RunsTell = (f g : List ℕ) (i j : ℕ) (old new other_old other_new : Option (List ℕ)) → Normalises (Ok i) (Some f) old new
+    → Normalises (Ok j) (Some g) other_old other_new
+    → (m n : List ℕ) × Appends old new m × Appends other_old other_new n × Headline f g m n
+
+-- Comparing two files that have normal forms answers whether these are equal.
+abbrev pub ComparingTells : Type 0
+ComparingTells = (f g m n : List ℕ) (same : Bool) → Headline f g m n → Compares (Ok same) (Some f) (Some g) → IsTrue same ↔ (m ≡ n)

@@ -1,5 +1,5 @@
 -- What reading a file answers.
-use Rattle.std.specs.Prelude.{◌≡◌, ◌≤◌, ◌+◌, ◌*◌, ℕ, Bool, true, List, length, Result, Ok, Err}
+use Rattle.std.specs.Prelude.{◌≡◌, ◌<◌, ◌≤◌, ◌+◌, ◌*◌, ℕ, List, length, Result, Ok, Err}
 use Rattle.px_bytes.specs.declared.Cause.{Cause}
 use Rattle.px_bytes.specs.declared.Refusal.{Refusal}
 use Rattle.px_bytes.specs.declared.Refusal.TheVariants as refusal
@@ -24,9 +24,9 @@ pub record IsFaultyIn (k : BlockKind) (b : List ℕ) (cause : Cause) (place : �
   pub unsaid : (s : Said) → SaysBlock k b s → ⊥
 
 -- a refusal of content names such a fault; want of memory comes where memory has refused a growth
-abbrev pub IsRefusedIn : BlockKind → List ℕ → Bool → Refusal → Type 0
+abbrev pub IsRefusedIn : BlockKind → List ℕ → ℕ → Refusal → Type 0
 IsRefusedIn k b refused (refusal.Content cause place) = IsFaultyIn k b cause place
-IsRefusedIn k b refused refusal.OutOfMemory = refused ≡ true
+IsRefusedIn k b refused refusal.OutOfMemory = 0 < refused
 
 -- the same of the block in a file
 abbrev pub IsSaid : List ℕ → Said → Type 0
@@ -35,13 +35,13 @@ IsSaid f s = IsSaidIn (kind_of f) (block_of f) s
 abbrev pub IsFaulty : List ℕ → Cause → ℕ → Type 0
 IsFaulty f cause place = IsFaultyIn (kind_of f) (block_of f) cause place
 
-abbrev pub IsRefused : List ℕ → Bool → Refusal → Type 0
+abbrev pub IsRefused : List ℕ → ℕ → Refusal → Type 0
 IsRefused f refused r = IsRefusedIn (kind_of f) (block_of f) refused r
 
 -- the same as the fault of a run
-abbrev pub IsUnsaid : List ℕ → Bool → Fault → Type 0
+abbrev pub IsUnsaid : List ℕ → ℕ → Fault → Type 0
 IsUnsaid f refused (Refused cause place) = IsFaulty f cause place
-IsUnsaid f refused OutOfMemory = refused ≡ true
+IsUnsaid f refused OutOfMemory = 0 < refused
 IsUnsaid f refused ReadFailed = ⊥
 IsUnsaid f refused NormalTooLong = ⊥
 IsUnsaid f refused WriteFailed = ⊥

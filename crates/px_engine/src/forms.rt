@@ -122,7 +122,7 @@ fn put_exif(m: &Meaning, out: &mut [u8]) -> Option<Given>
     };
     let len = form.len() as usize;
     if len > out.len() {
-        return Some(Given::Lacks(len));
+        return Some(Given::Needs(len));
     }
     fill_exif(&form, &mut out[..len]);
     Some(Given::Whole(len))
@@ -137,7 +137,7 @@ fn put_record(iim: &Iim, out: &mut [u8]) -> Option<Given>
         return None;
     }
     if len > out.len() {
-        return Some(Given::Lacks(len));
+        return Some(Given::Needs(len));
     }
     fill_record(iim, &mut out[..len]);
     Some(Given::Whole(len))

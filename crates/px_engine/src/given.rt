@@ -6,5 +6,5 @@ pub enum Given {
     /// It was: the room begins with the form, of so many bytes, behind which it is as it was.
     Whole(usize),
     /// There is too little room, which is as it was: so many bytes are needed.
-    Lacks(usize),
+    Needs(usize),
 }

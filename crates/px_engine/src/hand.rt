@@ -1,5 +1,5 @@
 // Files in hand: judged, normalised, compared and printed without a copy of their bytes.
-ghost use Rattle.std.specs.Prelude.{◌≡◌, Bool, IfOk, IfErr, OnErr};
+ghost use Rattle.std.specs.Prelude.{◌≡◌, ℕ, IfOk, IfErr, OnErr};
 ghost use Rattle.px_engine.specs.Captions.{caption_text};
 ghost use Rattle.px_engine.specs.Files.{Said as AnySaid};
 ghost use Rattle.px_engine.specs.Hand.{IsKindOf, PutsForm, SaysSame, IsUnsaidAt};
@@ -35,7 +35,7 @@ pub fn check_of_in(memory: &mut Memory, file: &[u8]) -> Result<BlockKind, Fault>
 /// The same with memory of its own.
 pub fn check_of(alloc: Global, file: &[u8]) -> Result<BlockKind, Fault>
     ensures kind { IfOk result (IsKindOf file.now) }
-    ensures unsaid { IfErr result (λ e. (refused : Bool) × IsUnsaid file.now refused e) }
+    ensures unsaid { IfErr result (λ e. (refused : ℕ) × IsUnsaid file.now refused e) }
 {
     check_of_in(&mut Memory::new(alloc), file)
 }
@@ -56,7 +56,7 @@ pub fn normal_form_in(memory: &mut Memory, file: &[u8]) -> Result<Vec<u8>, Fault
 /// The same with memory of its own.
 pub fn normal_form(alloc: Global, file: &[u8]) -> Result<Vec<u8>, Fault>
     ensures formed { IfOk result (λ v. (s : AnySaid) × IsFormOf file.now s v.items) }
-    ensures unwritten { IfErr result (λ e. (refused : Bool) × IsUnwritten file.now refused e) }
+    ensures unwritten { IfErr result (λ e. (refused : ℕ) × IsUnwritten file.now refused e) }
 {
     normal_form_in(&mut Memory::new(alloc), file)
 }
@@ -81,7 +81,7 @@ pub fn put_form_in(memory: &mut Memory, file: &[u8], out: &mut [u8]) -> Result<G
 /// The same with memory of its own.
 pub fn put_form(alloc: Global, file: &[u8], out: &mut [u8]) -> Result<Given, Fault>
     ensures put { IfOk result (λ given. PutsForm file.now given out.old out.new) }
-    ensures unwritten { IfErr result (λ e. (refused : Bool) × IsUnwritten file.now refused e) }
+    ensures unwritten { IfErr result (λ e. (refused : ℕ) × IsUnwritten file.now refused e) }
     ensures kept { OnErr result (out.new ≡ out.old) }
 {
     put_form_in(&mut Memory::new(alloc), file, out)
@@ -107,7 +107,7 @@ pub fn show_of_in(memory: &mut Memory, file: &[u8]) -> Result<Vec<u8>, Fault>
 /// The same with memory of its own.
 pub fn show_of(alloc: Global, file: &[u8]) -> Result<Vec<u8>, Fault>
     ensures text { IfOk result (λ text. IsTextOf listing file.now text.items) }
-    ensures unsaid { IfErr result (λ e. (refused : Bool) × IsUnsaid file.now refused e) }
+    ensures unsaid { IfErr result (λ e. (refused : ℕ) × IsUnsaid file.now refused e) }
 {
     show_of_in(&mut Memory::new(alloc), file)
 }
@@ -132,7 +132,7 @@ pub fn captions_text_in(memory: &mut Memory, file: &[u8]) -> Result<Vec<u8>, Fau
 /// The same with memory of its own.
 pub fn captions_text(alloc: Global, file: &[u8]) -> Result<Vec<u8>, Fault>
     ensures text { IfOk result (λ text. IsTextOf caption_text file.now text.items) }
-    ensures unsaid { IfErr result (λ e. (refused : Bool) × IsUnsaid file.now refused e) }
+    ensures unsaid { IfErr result (λ e. (refused : ℕ) × IsUnsaid file.now refused e) }
 {
     captions_text_in(&mut Memory::new(alloc), file)
 }
@@ -155,7 +155,7 @@ pub fn same_of_in(memory: &mut Memory, first: &[u8], second: &[u8]) -> Result<bo
 /// The same with memory of its own.
 pub fn same_of(alloc: Global, first: &[u8], second: &[u8]) -> Result<bool, CompareFault>
     ensures same { IfOk result (SaysSame first.now second.now) }
-    ensures unsaid { IfErr result (λ e. (refused : Bool) × IsUnsaidAt first.now second.now refused e) }
+    ensures unsaid { IfErr result (λ e. (refused : ℕ) × IsUnsaidAt first.now second.now refused e) }
 {
     same_of_in(&mut Memory::new(alloc), first, second)
 }

@@ -1,5 +1,5 @@
 // The headline, for two files in hand.
-ghost use Rattle.std.specs.Prelude.{◌≡◌, Bool, IfOk, IfErr};
+ghost use Rattle.std.specs.Prelude.{◌≡◌, ℕ, IfOk, IfErr};
 ghost use Rattle.px_engine.specs.Files.{Said};
 ghost use Rattle.px_engine.specs.Lacking.{LacksPair};
 ghost use Rattle.px_engine.specs.Headline.{IsFormOf, IsUnwritten, Headline, IsUnwrittenAt};
@@ -66,7 +66,7 @@ pub fn normalise_both(
     second: &[u8],
 ) -> Result<NormalForms, CompareFault>
     ensures done { IfOk result (λ forms. Headline first.now second.now forms.first.items forms.second.items) }
-    ensures failed { IfErr result (λ e. (refused : Bool) × IsUnwrittenAt first.now second.now refused e) }
+    ensures failed { IfErr result (λ e. (refused : ℕ) × IsUnwrittenAt first.now second.now refused e) }
 {
     normalise_both_in(&mut Memory::new(alloc), first, second)
 }

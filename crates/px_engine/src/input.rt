@@ -1,5 +1,5 @@
 // A file, read whole and judged.
-ghost use Rattle.std.specs.Prelude.{◌≡◌, Bool, IfOk, IfErr};
+ghost use Rattle.std.specs.Prelude.{◌≡◌, ℕ, IfOk, IfErr};
 ghost use Rattle.px_bytes.specs.Checks.{LacksBlock};
 ghost use Rattle.px_bytes.specs.Reading.{ReadsUpTo, ConsumesAtMost};
 ghost use Rattle.px_tree.specs.calls.Seen.{meaning_of};
@@ -109,7 +109,7 @@ pub fn read_any_in<'a>(memory: &mut Memory, file: &'a [u8]) -> Result<Said<'a>, 
 /// The same with memory of its own.
 pub fn read_any<'a>(alloc: Global, file: &'a [u8]) -> Result<Said<'a>, Refusal>
     ensures said { IfOk result (λ s. IsSaid file.now (said_of s)) }
-    ensures refused { IfErr result (λ r. (refused : Bool) × IsRefused file.now refused r) }
+    ensures refused { IfErr result (λ r. (refused : ℕ) × IsRefused file.now refused r) }
 {
     read_any_in(&mut Memory::new(alloc), file)
 }

@@ -3,6 +3,7 @@
 //! what reading and writing promise they are the headline: see `normalise_both`.
 ghost use Rattle.px_engine.specs.Laws.{OneSaid, SaidCanBeWritten, NormalSays, NormalTells, NormalIsItsOwn, NormalBound, FaultsTell};
 ghost use Rattle.px_engine.specs.Laws.{TakenTells};
+ghost use Rattle.px_engine.specs.Headline.{RunsTell, ComparingTells};
 
 /// A file says at most one thing.
 pub fn one_said()
@@ -54,4 +55,18 @@ pub fn faults_tell()
 /// Of a file no more than its first `LIMIT` + 7 bytes matters: these say what the file says, and have its first fault.
 pub fn taken_tells()
     ensures { TakenTells }
+{}
+
+/// The headline of any two runs of `normalise` that are done: the two files say the same exactly if the bytes written of them are
+/// equal, and what was written of a file says what the file says, and is itself the normal form of that.
+pub fn runs_tell()
+    ensures { RunsTell }
+{
+    one_said();
+    normal_says();
+}
+
+/// Of two files that have normal forms `compare` answers whether these are equal.
+pub fn comparing_tells()
+    ensures { ComparingTells }
 {}

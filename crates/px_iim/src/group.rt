@@ -81,16 +81,16 @@ fn room_for(len: usize) -> usize
     ensures some { 1 ≤ result }
     ensures most { result ≤ max 3 (len / 2) }
     ensures long { LONG < len → result ≤ len / 32 }
-    ensures bounded { result ≤ limit }
+    ensures bounded { result ≤ limit / 2 }
 {
     if len > LONG {
-        return (len / 32).min(LIMIT as usize);
+        return (len / 32).min(LIMIT as usize / 2);
     }
     (len / 2).max(3)
 }
 
 // Makes room for one more in a full list: in an empty one for that one alone, since most groups have one DataSet.
-fn make_room<T>(memory: &mut Memory, list: &mut Vec<T>) -> Result<(), Refused>
+fn make_room<'a>(memory: &mut Memory, list: &mut Vec<Item<'a>>) -> Result<(), Refused>
     ensures items { list.new.items ≡ list.old.items }
     ensures len { vec_len list.new ≡ vec_len list.old }
     ensures room { OnOk result (vec_len list.new < vec_capacity list.new) }

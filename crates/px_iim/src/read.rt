@@ -1,5 +1,5 @@
 // A whole block, read DataSet by DataSet.
-ghost use Rattle.std.specs.Prelude.{◌≡◌, ◌≤◌, Bool, length, Some, is_some, IfOk, IfErr};
+ghost use Rattle.std.specs.Prelude.{◌≡◌, ◌≤◌, ℕ, length, Some, is_some, IfOk, IfErr};
 ghost use Rattle.px_bytes.specs.Checks.{Judges, LacksBlock};
 ghost use Rattle.px_bytes.specs.Parts.{limit};
 ghost use Rattle.px_iim.specs.Group.{IsRecord};
@@ -54,7 +54,7 @@ pub fn read_iim<'a>(alloc: Global, bytes: &'a [u8]) -> Result<Iim<'a>, Refusal>
     ensures judged { Judges result (iim_checks bytes.now) (SaysIim bytes.now) }
     ensures computed { IfOk result (λ i. iim_of bytes.now ≡ Some i) }
     ensures whole { IfOk result IsRecord }
-    ensures stands { IfErr result (λ e. (refused : Bool) × RefusesIim bytes.now refused e) }
+    ensures stands { IfErr result (λ e. (refused : ℕ) × RefusesIim bytes.now refused e) }
 {
     read_iim_in(&mut Memory::new(alloc), bytes)
 }

@@ -1,3 +1,4 @@
 pub mod EndLaws
 pub mod LineLaws
 pub mod TextLaws
+pub mod Headlines

@@ -69,31 +69,31 @@ TellsText text (Err ReadFailed) file status lines = TellsFault ReadFailed None s
 TellsText text (Err NormalTooLong) file status lines = ⊥
 
 -- ---- whole runs: there is an outcome that the engine allows of the files, and it is told. `refused`
--- and `refused_now` say whether memory had refused a growth before the run, and whether it has behind it: an outcome that is
--- want of memory met a refused growth, and behind every other memory is as it was
+-- and `refused_now` say how many growths memory had refused before the run, and how many it has behind it: an outcome that is
+-- want of memory met one refused growth, and behind every other memory is as it was
 
-abbrev pub EndsNormalise : Device → Device → Device → Bool → Bool → ℕ → Type 0
+abbrev pub EndsNormalise : Device → Device → Device → ℕ → ℕ → ℕ → Type 0
 EndsNormalise reader out lines refused refused_now status = (r : Result ℕ Fault) × Normalises r reader.old out.old out.new
     × CountsReads r reader.failed reader.failed_now × CountsWrites r out.failed out.failed_now
     × LacksRun r refused refused_now × TellsWritten r status lines
 
-abbrev pub EndsCheck : Device → Device → Bool → Bool → ℕ → Type 0
+abbrev pub EndsCheck : Device → Device → ℕ → ℕ → ℕ → Type 0
 EndsCheck reader lines refused refused_now status = (r : Result BlockKind Fault) × Checks r reader.old
     × CountsReads r reader.failed reader.failed_now × LacksRun r refused refused_now × TellsChecked r status lines
 
 -- the text of what the file says
-abbrev pub EndsText : (Said → List ℕ) → Device → Device → Bool → Bool → ℕ → Type 0
+abbrev pub EndsText : (Said → List ℕ) → Device → Device → ℕ → ℕ → ℕ → Type 0
 EndsText text reader lines refused refused_now status = (r : Result ⊤ Fault) × CountsReads r reader.failed reader.failed_now
     × LacksRun r refused refused_now × TellsText text r reader.old status lines
 
 -- of the reader, the writer of normal bytes and the writer of lines
-abbrev pub Ends : Job → Device → Device → Device → Bool → Bool → ℕ → Type 0
+abbrev pub Ends : Job → Device → Device → Device → ℕ → ℕ → ℕ → Type 0
 Ends Normalise reader out lines refused refused_now status = EndsNormalise reader out lines refused refused_now status
 Ends Check reader out lines refused refused_now status = IsIdle out × EndsCheck reader lines refused refused_now status
 Ends Show reader out lines refused refused_now status = IsIdle out × EndsText listing reader lines refused refused_now status
 Ends Captions reader out lines refused refused_now status = IsIdle out × EndsText caption_text reader lines refused refused_now status
 
-abbrev pub EndsCompare : Device → Device → Device → Bool → Bool → ℕ → Type 0
+abbrev pub EndsCompare : Device → Device → Device → ℕ → ℕ → ℕ → Type 0
 EndsCompare first second lines refused refused_now status = (r : Result Bool CompareFault) × Compares r first.old second.old
     × CountsSides r first.failed first.failed_now second.failed second.failed_now
     × LacksPair r refused refused_now × TellsCompared r status lines

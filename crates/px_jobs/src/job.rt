@@ -180,7 +180,7 @@ fn run_captions<R: Source, L: Sink>(memory: &mut Memory, reader: &mut R, lines: 
 /// of `Check`, and the line of a fault, `refused: CAUSE at PLACE`, `refused: NormalTooLong`, `failed:
 /// OutOfMemory`, `failed: ReadFailed` or `failed: WriteFailed`. A flush follows the line or the text.
 /// Where the lines fail the status is 4, and no more is asked of them. A line takes no memory.
-/// `failed: OutOfMemory` means that memory refused a growth: in this run, where it had refused none before.
+/// `failed: OutOfMemory` means that memory refused a growth in this run.
 pub fn run_one_in<R: Source, O: Sink, L: Sink>(
     memory: &mut Memory,
     job: Job,
@@ -207,8 +207,8 @@ pub fn run_one_in<R: Source, O: Sink, L: Sink>(
 /// Tells whether two files say the same, and answers the exit status: 0 with the line `same`, 1 with
 /// the line `different`, 2 where a block is refused, 4 where a device or memory fails. The line of a
 /// fault ends in ` in file 1` or ` in file 2`. The first file is read and judged wholly before the
-/// second is read. A line takes no memory. `failed: OutOfMemory` means that memory refused a growth: in
-/// this run, where it had refused none before.
+/// second is read. A line takes no memory. `failed: OutOfMemory` means that memory refused a growth in
+/// this run.
 #[tactic(auto, using(crate::proofs::EndLaws::ends_compare))]
 pub fn run_compare_in<R: Source, S: Source, L: Sink>(
     memory: &mut Memory,

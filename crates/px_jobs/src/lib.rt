@@ -19,6 +19,7 @@
 #![tactic(auto)]
 
 mod job;
+pub mod laws;
 mod lines;
 
 pub use job::{Job, run_compare_in, run_one_in};

@@ -18,6 +18,7 @@ mod offsets;
 mod plan;
 mod put_item;
 mod put_table;
+mod reading;
 mod sizing;
 mod with_plan;
 
@@ -25,4 +26,5 @@ pub use legal::{is_legal, is_legal_in};
 pub use normal::{plan_normal, plan_normal_in};
 pub use plan::Plan;
 pub use px_layout::Chunk;
+pub use reading::read_back_in;
 pub use with_plan::{write_with, write_with_in};

@@ -1,5 +1,5 @@
 -- A block that is refused.
-use Rattle.std.specs.Prelude.{◌≡◌, ℕ, ◌≤◌, Bool, true, List}
+use Rattle.std.specs.Prelude.{◌≡◌, ◌<◌, ℕ, ◌≤◌, List}
 use Rattle.px_bytes.specs.declared.Cause.{Cause}
 use Rattle.px_bytes.specs.declared.Refusal.{Refusal}
 use Rattle.px_bytes.specs.declared.Refusal.TheVariants.{Content, OutOfMemory}
@@ -17,6 +17,6 @@ pub record IsFaulty (b : List ℕ) (cause : Cause) (place : ℕ) : Type 0 where
   pub unsaid : (m : Meaning) → SaysExif b m → ⊥
 
 -- a refusal of content names such a fault; want of memory is told where a growth was refused, and says nothing of the block
-abbrev pub IsRefused : List ℕ → Bool → Refusal → Type 0
+abbrev pub IsRefused : List ℕ → ℕ → Refusal → Type 0
 IsRefused b refused (Content cause place) = IsFaulty b cause place
-IsRefused b refused OutOfMemory = refused ≡ true
+IsRefused b refused OutOfMemory = 0 < refused

@@ -1,5 +1,5 @@
 // A whole block: its header, its directories, the thumbnail's bytes, and the record.
-ghost use Rattle.std.specs.Prelude.{◌≡◌, ◌≤◌, Bool, length, IfOk, IfErr, option_map};
+ghost use Rattle.std.specs.Prelude.{◌≡◌, ◌≤◌, ℕ, length, IfOk, IfErr, option_map};
 ghost use Rattle.px_bytes.specs.Parts.{limit};
 ghost use Rattle.px_bytes.specs.Checks.{LacksBlock, Judges};
 ghost use Rattle.px_tree.specs.Fits.{Fits};
@@ -88,7 +88,7 @@ fn read_tree<'a>(memory: &mut Memory, block: &'a [u8], order: Order) -> Result<M
 pub fn read_block<'a>(alloc: Global, block: Block<'a>) -> Result<Meaning<'a>, Refusal>
     ensures says { IfOk result (λ m. SaysExif block.entry (meaning_of m)) }
     ensures fits { IfOk result (λ m. Fits (meaning_of m)) }
-    ensures refused { IfErr result (λ e. (refused : Bool) × IsRefused block.entry refused e) }
+    ensures refused { IfErr result (λ e. (refused : ℕ) × IsRefused block.entry refused e) }
 {
     let mut memory = Memory::new(alloc);
     read_block_in(&mut memory, block)

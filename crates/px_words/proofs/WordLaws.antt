@@ -1,5 +1,5 @@
 -- Why the words are answered by a text.
-use Rattle.std.proofs.Common.{◌≡◌, inl, inr, List, [], Option, subst}
+use Rattle.std.proofs.Common.{◌≡◌, ℕ, inl, inr, List, [], Option, refl, subst}
 use Rattle.clap.specs.Words.{Row, Text, kind_of}
 use Rattle.clap.specs.Kinds.{HasKind, IsAmong, Kinds}
 use Rattle.clap.specs.declared.error.Error.{Error}
@@ -7,6 +7,7 @@ use Rattle.clap.specs.declared.error.ErrorKind.TheVariants as kind
 use Rattle.px_words.specs.declared.words.Words.{Words}
 use Rattle.px_words.specs.declared.words.Words.TheVariants as words
 use Rattle.px_words.specs.Words.{Asks, AsksFiles, IsFor, IsTold, TellsKind}
+use Rattle.px_words.specs.calls.Wanting.{LacksWords}
 
 -- a match gives no text but that of one word for two files
 pub of_match : (kinds : Kinds) (met : Option (Text × List Row)) (w : Words) → kinds ≡ [] → AsksFiles met w → IsFor kinds w
@@ -17,19 +18,21 @@ of_match kinds met (words.Compare first second) none h = none
 of_match kinds met (words.Help text) none h = absurd h
 of_match kinds met (words.Refused text) none h = inl (none, h.2)
 of_match kinds met words.NoMemory none h = tt
+of_match kinds met words.Unread none h = tt
 
 -- an error gives a text of its kind, which is among the kinds that there may be, or want of memory
-pub of_error : (kinds : Kinds) (e : Error) (w : Words) → HasKind kinds e → (kind_of e ≡ kind.OutOfMemory → w ≡ words.NoMemory)
+pub of_error : (kinds : Kinds) (e : Error) (w : Words) → HasKind kinds e → (kind_of e ≡ kind.OutOfMemory → w ≡ words.Unread)
     → IsTold w → TellsKind (kind_of e) w → IsFor kinds w
 of_error kinds e words.Filter h memory told k = tt
 of_error kinds e (words.One what file) h memory told k = absurd told
 of_error kinds e (words.Normalise file out) h memory told k = absurd told
 of_error kinds e (words.Compare first second) h memory told k = absurd told
-of_error kinds e words.NoMemory h memory told k = tt
-of_error kinds e (words.Help text) (inl lacking) memory told k = let bad : words.Help text ≡ words.NoMemory = memory lacking in absurd (cc)
+of_error kinds e words.NoMemory h memory told k = absurd told
+of_error kinds e words.Unread h memory told k = tt
+of_error kinds e (words.Help text) (inl lacking) memory told k = let bad : words.Help text ≡ words.Unread = memory lacking in absurd (cc)
 of_error kinds e (words.Help text) (inr among) memory told k = (kind_of e, among, k)
 of_error kinds e (words.Refused text) (inl lacking) memory told k =
-    let bad : words.Refused text ≡ words.NoMemory = memory lacking in absurd (cc)
+    let bad : words.Refused text ≡ words.Unread = memory lacking in absurd (cc)
 of_error kinds e (words.Refused text) (inr among) memory told k = inr (kind_of e, among, k)
 
 -- a text names no file
@@ -40,7 +43,19 @@ of_told met (words.Normalise file out) told = absurd told
 of_told met (words.Compare first second) told = absurd told
 of_told met (words.Help text) told = tt
 of_told met (words.Refused text) told = tt
-of_told met words.NoMemory told = tt
+of_told met words.NoMemory told = absurd told
+of_told met words.Unread told = tt
+
+-- nor does it tell of a growth that memory refused
+pub lacks_told : (w : Words) (n : ℕ) → IsTold w → LacksWords w n n
+lacks_told words.Filter n told = absurd told
+lacks_told (words.One what file) n told = absurd told
+lacks_told (words.Normalise file out) n told = absurd told
+lacks_told (words.Compare first second) n told = absurd told
+lacks_told (words.Help text) n told = refl
+lacks_told (words.Refused text) n told = refl
+lacks_told words.NoMemory n told = absurd told
+lacks_told words.Unread n told = refl
 
 -- where there is no kind, memory was refused
 pub of_none : (kinds : Kinds) (e : Error) → kinds ≡ [] → HasKind kinds e → kind_of e ≡ kind.OutOfMemory

@@ -88,11 +88,11 @@ TakesCommands = AreTaken (codes "show" ∷ codes "a" ∷ []) × AreTaken (codes 
 abbrev pub AsksIn : Option (Text × List Row) → Words → Type 0
 AsksIn met w = Asks met w × AsksFiles met w
 
--- a text, or want of memory
+-- a text, or that clap wanted memory
 abbrev pub IsTold : Words → Type 0
 IsTold (words.Help text) = ⊤
 IsTold (words.Refused text) = ⊤
-IsTold words.NoMemory = ⊤
+IsTold words.Unread = ⊤
 IsTold _ = ⊥
 
 -- clap answers with what was asked of it, and not for a mistake in the words
@@ -115,6 +115,7 @@ IsFor kinds (words.Normalise file out) = kinds ≡ []
 IsFor kinds (words.Compare first second) = kinds ≡ []
 IsFor kinds words.Filter = ⊤
 IsFor kinds words.NoMemory = ⊤
+IsFor kinds words.Unread = ⊤
 
 -- what these words ask for
 abbrev pub AskedBy : List Text → Words → Type 0

@@ -3,14 +3,15 @@
 //! what a file holds.
 //!
 //! ```
-//! parse(rt.alloc(), &["check", "a"], "1.0.0"); // One, with Check and the file a
-//! parse(rt.alloc(), &["normalise", "a", "b"], "1.0.0"); // Normalise, with the files a and b
-//! parse(rt.alloc(), &["normalise", "a", "a"], "1.0.0"); // Refused: OUT_IS_FILE
-//! parse(rt.alloc(), &["--version"], "1.0.0"); // Help: exifnorm 1.0.0
+//! let mut memory = Memory::new(rt.alloc());
+//! parse(&mut memory, rt.alloc(), &["check", "a"], "1.0.0"); // One, with Check and the file a
+//! parse(&mut memory, rt.alloc(), &["normalise", "a", "b"], "1.0.0"); // Normalise, with the files a and b
+//! parse(&mut memory, rt.alloc(), &["normalise", "a", "a"], "1.0.0"); // Refused: OUT_IS_FILE
+//! parse(&mut memory, rt.alloc(), &["--version"], "1.0.0"); // Help: exifnorm 1.0.0
 //! ```
 #![tactic(auto)]
 
 mod grammar;
 mod words;
 
-pub use words::{OUT_IS_FILE, One, Text, Words, parse};
+pub use words::{OUT_IS_FILE, One, Text, Words, commands_are_taken, parse};

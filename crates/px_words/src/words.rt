@@ -74,8 +74,10 @@ pub enum Words {
     Help(Text),
     /// The arguments are refused, with this text.
     Refused(Text),
-    /// Memory was refused while the arguments were read.
+    /// A growth was refused while the words of a match were kept.
     NoMemory,
+    /// clap, which takes memory of its own, wanted some while it read the arguments or told of them.
+    Unread,
 }
 
 /// The text of a refusal where `normalise` has one file under both names.
@@ -192,14 +194,14 @@ fn read_match(memory: &mut Memory, matches: &ArgMatches<'_>) -> Words
 fn read_error(alloc: Global, error: &Error) -> Words
     ensures asked { IsTold result }
     ensures kind { TellsKind (kind_of error.now) result }
-    ensures memory { kind_of error.now ≡ ErrorKind.OutOfMemory → result ≡ words_of.NoMemory }
+    ensures memory { kind_of error.now ≡ ErrorKind.OutOfMemory → result ≡ words_of.Unread }
 {
     let kind = error.kind();
     if kind == ErrorKind::OutOfMemory {
-        return Words::NoMemory;
+        return Words::Unread;
     }
     let Ok(text) = format!(in alloc; "{error}") else {
-        return Words::NoMemory;
+        return Words::Unread;
     };
     if kind == ErrorKind::DisplayHelp || kind == ErrorKind::DisplayVersion {
         return Words::Help(Text { text });
@@ -207,29 +209,34 @@ fn read_error(alloc: Global, error: &Error) -> Words
     Words::Refused(Text { text })
 }
 
-// What users write is taken by the command: each of its commands with its files.
-#[allow(dead_code)]
-fn commands_are_taken()
+/// What users write is taken by the command: each of its commands with its files. It does nothing: its contract is a law.
+pub fn commands_are_taken()
     ensures { TakesCommands }
 {}
 
 /// What the arguments ask for; the text of the version tells this one. No arguments are `Filter`, and are not
-/// handed to clap. `NoMemory` stands for a growth that was refused; no match leads to it, since each has the
-/// words that its command needs.
-pub fn parse<'a, S: AsStr>(alloc: Global, words: &'a [S], version: &'a str) -> Words
+/// handed to clap. `NoMemory` comes exactly where a growth was refused. clap takes `alloc`, and what that
+/// refuses it is `Unread`.
+pub fn parse<'a, S: AsStr>(
+    memory: &mut Memory,
+    alloc: Global,
+    words: &'a [S],
+    version: &'a str,
+) -> Words
     ensures filter { map S.text words.entry.now ≡ [] ↔ result ≡ words_of.Filter }
     ensures asked { Asks (subcommand_of exifnorm (map S.text words.entry.now)) result }
     ensures told { IsFor (fault_of exifnorm (map S.text words.entry.now)) result }
     ensures taken { AreTaken (map S.text words.entry.now) → AsksFiles (subcommand_of exifnorm (map S.text words.entry.now)) result }
+    ensures memory { LacksWords result memory.old memory.new }
 {
     if words.is_empty() {
         return Words::Filter;
     }
     let Ok(command) = command(alloc, version) else {
-        return Words::NoMemory;
+        return Words::Unread;
     };
     match command.try_get_matches_from(words) {
-        Ok(matches) => read_match(&mut Memory::new(alloc), &matches),
+        Ok(matches) => read_match(memory, &matches),
         Err(error) => read_error(alloc, &error),
     }
 }

@@ -14,7 +14,7 @@ use Rattle.px_bytes.specs.calls.Marked.{Marked}
 
 -- ---- the marks decide
 
-free_clear : (held : List (ℕ × ℕ)) (words : List ℕ) (start end : ℕ) → Marked held words → IsClear words start end
+pub free_clear : (held : List (ℕ × ℕ)) (words : List ℕ) (start end : ℕ) → Marked held words → IsClear words start end
     → IsFree held start end
 free_clear held words start end m clear s e holds = elim (cases_lt (max s start) (min e end)) [
   | inl l ↦ absurd (clear (max s start) (omega arith) (omega arith) (m.marked s e (max s start) holds (omega arith) (omega arith)))

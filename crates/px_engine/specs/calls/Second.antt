@@ -17,6 +17,6 @@ CountsSecond (Ok same) second second_now = second_now ≡ second
 CountsSecond (Err e) second second_now = CountsFault e.fault second second_now
 
 -- the same of a file in hand
-abbrev pub SaysSecond : Result Bool CompareFault → Said → List ℕ → Bool → Type 0
+abbrev pub SaysSecond : Result Bool CompareFault → Said → List ℕ → ℕ → Type 0
 SaysSecond (Ok same) s g refused = (t : Said) × IsSaid g t × (IsTrue same ↔ (s ≡ t))
 SaysSecond (Err e) s g refused = (e.side ≡ Second) × IsUnsaid g refused e.fault

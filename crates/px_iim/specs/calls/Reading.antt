@@ -1,5 +1,5 @@
 -- What was read of a block, and what a refusal of it tells.
-use Rattle.std.specs.Prelude.{◌≡◌, ◌≤◌, ℕ, Bool, true, List, drop, Some, None, Result, Ok, Err}
+use Rattle.std.specs.Prelude.{◌≡◌, ◌<◌, ◌≤◌, ℕ, Bool, true, List, drop, Some, None, Result, Ok, Err}
 use Rattle.px_bytes.specs.declared.Refusal.{Refusal}
 use Rattle.px_bytes.specs.declared.Refusal.TheVariants.{Content, OutOfMemory}
 use Rattle.px_bytes.specs.Checks.{first_false}
@@ -27,6 +27,6 @@ JudgesAt (Err OutOfMemory) x at = ⊥
 
 -- a refusal of content carries a fault that stands, at a place up to the limit, and the block says nothing; want of memory
 -- tells that memory has refused a growth
-abbrev pub RefusesIim : List ℕ → Bool → Refusal → Type 0
+abbrev pub RefusesIim : List ℕ → ℕ → Refusal → Type 0
 RefusesIim x refused (Content cause place) = Fault x cause place × (place ≤ limit) × (iim_of x ≡ None) × ((i : Record) → SaysIim x i → ⊥)
-RefusesIim x refused OutOfMemory = refused ≡ true
+RefusesIim x refused OutOfMemory = 0 < refused

@@ -118,7 +118,7 @@ refused m f OutOfMemory plan cs s h = tt
 refused m f WriteFailed plan cs s h = h
 
 -- what a refusal tells of memory, where none was refused before
-pub write_lacks : (X Y : Type 0) (e : WriteRefusal) (a b c : Bool) → b ≡ a → LacksWrite {X = X} (Err e) b c → LacksWrite {X = Y} (Err e) a c
+pub write_lacks : (X Y : Type 0) (e : WriteRefusal) (a b c : ℕ) → b ≡ a → LacksWrite {X = X} (Err e) b c → LacksWrite {X = Y} (Err e) a c
 write_lacks X Y NormalTooLong a b c e h = h ∙ e
-write_lacks X Y OutOfMemory a b c e h = h
+write_lacks X Y OutOfMemory a b c e h = h ∙ ap (λ (n : ℕ). n + 1) e
 write_lacks X Y WriteFailed a b c e h = h ∙ e

@@ -1,5 +1,5 @@
 -- What the answer to a whole block tells.
-use Rattle.std.proofs.Common.{◌≡◌, ℕ, ◌≤◌, Bool, List, Option, Some, None, Result, Ok, Err, refl, length, sym, ap, ◌∙◌, subst}
+use Rattle.std.proofs.Common.{◌≡◌, ℕ, ◌≤◌, List, Option, Some, None, Result, Ok, Err, refl, length, sym, ap, ◌∙◌, subst, arith}
 use Rattle.std.specs.Prelude.{IfOk, IfErr}
 use Rattle.px_bytes.specs.declared.Order.{Order}
 use Rattle.px_bytes.specs.declared.Cause.{Cause}
@@ -33,15 +33,15 @@ faulty_says_none x c p h = go (iim_of x) refl
     go (Some i) e = let q : ◌≡◌ {A = Option (Cause × ℕ)} None (Some (c, p)) = sym (said_clean x i (computed_said x i e)) ∙ h in cc
 
 -- a refusal, where want of memory met a refused growth
-pub refused_by : (X : Type 0) (b : List ℕ) (e : Refusal) (old new : Bool) → length b ≤ limit → Refuses e (checks b)
+pub refused_by : (X : Type 0) (b : List ℕ) (e : Refusal) (old new : ℕ) → length b ≤ limit → Refuses e (checks b)
     → LacksBlock {X = X} (Err e) old new → IsRefused b new e
 refused_by X b (Content c p) old new l h k =
     let f = first_stands b c p h in
     record { first = h; stands = f; bounded = fault_bounded b c p l f; unsaid = λ m s. stands_unsaid b c p m f s }
-refused_by X b OutOfMemory old new l h k = k
+refused_by X b OutOfMemory old new l h k = omega (arith, k)
 
 -- a refusal of content alone
-pub refused_only : (X : Type 0) (b : List ℕ) (e : Refusal) (refused : Bool) → length b ≤ limit → Refuses e (checks b)
+pub refused_only : (X : Type 0) (b : List ℕ) (e : Refusal) (refused : ℕ) → length b ≤ limit → Refuses e (checks b)
     → ContentOnly {X = X} (Err e) → IsRefused b refused e
 refused_only X b (Content c p) refused l h k = refused_by X b (Content c p) refused refused l h refl
 refused_only X b OutOfMemory refused l h k = absurd k
@@ -73,7 +73,7 @@ module _ (b : List ℕ) (o : Order) (headed : first_false (header_checks b) ≡ 
     tree_said (Ok m) j = subst (SaysExif b) (sym j.1) (tree_says j.0)
     tree_said (Err e) j = tt
 
-    pub tree_refused : (r : Result M Refusal) (old new : Bool) → length b ≤ limit → Judges r (tree_checks b o) (λ m. see m ≡ meaning b o)
+    pub tree_refused : (r : Result M Refusal) (old new : ℕ) → length b ≤ limit → Judges r (tree_checks b o) (λ m. see m ≡ meaning b o)
         → LacksBlock r old new → IfErr r (IsRefused b new)
     tree_refused (Ok m) old new l j k = tt
     tree_refused (Err e) old new l j k = refused_by M b e old new l (tree_refuses e j) k

@@ -29,7 +29,7 @@ pub filter_not : {X : Type 0} (f : X → Text) (xs : List X) (w : Words) → fal
 filter_not f [] w some other = absurd (true≢false (sym some))
 filter_not f (x ∷ xs) w some other = (λ none. cc, λ is. absurd (other is))
 
-pub without_memory : words.NoMemory ≡ words.Filter → ⊥
+pub without_memory : words.Unread ≡ words.Filter → ⊥
 without_memory is = cc
 
 pub asks_no_filter : (met : Option (Text × List Row)) (w : Words) → AsksFiles met w → w ≡ words.Filter → ⊥
@@ -58,7 +58,7 @@ module _ (ws : List Text) (app : App) (is : app ≡ exifnorm) where
 
   -- an error
   pub failed : (e : Error) (w : Words) → (is_simple_and_free app ≡ true → HasKind (fault_of app ws) e) → IsTold w
-      → TellsKind (kind_of e) w → (kind_of e ≡ kind.OutOfMemory → w ≡ words.NoMemory)
+      → TellsKind (kind_of e) w → (kind_of e ≡ kind.OutOfMemory → w ≡ words.Unread)
       → Asks (subcommand_of exifnorm ws) w × IsFor (fault_of exifnorm ws) w × (AreTaken ws → AsksFiles (subcommand_of exifnorm ws) w)
   failed e w had told tells memory =
       let has = subst (λ (a : App). HasKind (fault_of a ws) e) is (had (ap is_simple_and_free is ∙ is_free)) in (

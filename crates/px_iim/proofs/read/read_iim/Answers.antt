@@ -1,10 +1,10 @@
-use Rattle.std.proofs.Common.{ℕ, Bool, List, Result, Ok, Err, IfErr}
+use Rattle.std.proofs.Common.{ℕ, List, Result, Ok, Err, IfErr}
 use Rattle.px_bytes.specs.declared.Refusal.{Refusal}
 use Rattle.px_iim.specs.calls.Reading.{RefusesIim}
 use Rattle.px_iim.proofs.read.read_iim.Goals as goal
 
-some_refused : {X : Type 0} (r : Result X Refusal) (x : List ℕ) (b : Bool) → IfErr r (RefusesIim x b)
-    → IfErr r (λ e. (refused : Bool) × RefusesIim x refused e)
+some_refused : {X : Type 0} (r : Result X Refusal) (x : List ℕ) (b : ℕ) → IfErr r (RefusesIim x b)
+    → IfErr r (λ e. (refused : ℕ) × RefusesIim x refused e)
 some_refused (Ok i) x b h = tt
 some_refused (Err e) x b h = (b, h)
 

@@ -1,4 +1,4 @@
-use Rattle.std.proofs.Common.{◌≡◌, ℕ, ◌≤◌, Bool, Option, Some, None, List, length, Result, Ok, Err, IfOk, IfErr, ap, refl, arith}
+use Rattle.std.proofs.Common.{◌≡◌, ℕ, ◌≤◌, Option, Some, None, List, length, Result, Ok, Err, IfOk, IfErr, ap, refl, arith}
 use Rattle.std.proofs.Common.{length-append}
 use Rattle.px_bytes.specs.declared.Refusal.{Refusal}
 use Rattle.px_bytes.specs.declared.Refusal.TheVariants.{Content, OutOfMemory}
@@ -34,17 +34,17 @@ place x LengthForm p s l = behind_place x s.0 s.1 p s.2 l
 place x DataSetCut p s l = behind_place x s.0 s.1 p s.2 l
 place x _ p s l = absurd s
 
-refuses : (x : List ℕ) (refused : Bool) (c : Cause) (p : ℕ) → FirstFault x c p → p ≤ limit → RefusesIim x refused (Content c p)
+refuses : (x : List ℕ) (refused : ℕ) (c : Cause) (p : ℕ) → FirstFault x c p → p ≤ limit → RefusesIim x refused (Content c p)
 refuses x refused c p f l =
     let s = first_stands x c p f in
     let none = λ (i : Record) (t : SaysIim x i). stands_unsaid x c p i s t in
     (s, l, nothing x none, none)
 
-stands : {X : Type 0} (r : Result X Refusal) (x : List ℕ) (good : X → Type 0) (old new : Bool) → length x ≤ limit
+stands : {X : Type 0} (r : Result X Refusal) (x : List ℕ) (good : X → Type 0) (old new : ℕ) → length x ≤ limit
     → Judges r (iim_checks x) good → LacksBlock r old new → IfErr r (RefusesIim x new)
 stands (Ok i) x good old new l j m = tt
 stands (Err (Content c p)) x good old new l j m = refuses x new c p j (place x c p (first_stands x c p j) l)
-stands (Err OutOfMemory) x good old new l j m = m
+stands (Err OutOfMemory) x good old new l j m = omega (arith, m)
 
 wholes : (r : Result Record Refusal) (x : List ℕ) → AreBytes x → Judges r (iim_checks x) (λ i. iim_of x ≡ Some i) → IfOk r IsRecord
 wholes (Ok i) x b j = said_is_record x i b ((computes x i).1 j.1)

@@ -1,4 +1,4 @@
-use Rattle.std.proofs.Common.{◌≤◌, length, refl, ◌∙◌, arith}
+use Rattle.std.proofs.Common.{◌≤◌, ◌+◌, ℕ, length, refl, ap, ◌∙◌, arith}
 use Rattle.std.proofs.lemmas.Result.{err_from_is_err_and}
 use Rattle.px_layout.specs.calls.Items.{entry_of}
 use Rattle.px_layout.specs.Chunks.{placed_chunk}
@@ -14,7 +14,8 @@ returns-in_err-push_value-clause-chunks c =
 
 pub returns-in_err-push_value-clause-memory : goal.returns-in_err-push_value-clause-memory
 returns-in_err-push_value-clause-memory c =
-    let p = err_from_is_err_and c.from_residual.result c.from_residual.ensures.1 in rw p.1 c.in_err-push_value.ensures.memory
+    let p = err_from_is_err_and c.from_residual.result c.from_residual.ensures.1 in
+    rw p.1 (c.in_err-push_value.ensures.memory ∙ ap (λ (n : ℕ). n + 1) c.loop-i.invariant.memory)
 
 pub loop-i-preserved : goal.loop-i-preserved
 loop-i-preserved c = record {

@@ -2,6 +2,7 @@ use Rattle.std.proofs.Common.{◌≡◌, ◌==◌, false, length, map}
 use Rattle.clap.specs.Words.{app_of, subcommand_rows_of}
 use Rattle.px_words.specs.declared.words.Words.TheVariants as words_of
 use Rattle.px_words.proofs.matching.Parsed.{asks_no_filter, failed, filter_not, matched, met_in, tells_no_filter, without_memory}
+use Rattle.px_words.proofs.WordLaws.{lacks_told}
 use Rattle.px_words.proofs.words.parse.Goals as goal
 
 pub read_match-requires : goal.read_match-requires
@@ -13,7 +14,7 @@ read_match-requires g c =
 pub returns-in_default-clause-filter : goal.returns-in_default-clause-filter
 returns-in_default-clause-filter g c =
     let some : false ≡ (length c.args.words.now == 0) = cc in
-    filter_not g.S.AsStr.text c.args.words.now words_of.NoMemory some without_memory
+    filter_not g.S.AsStr.text c.args.words.now words_of.Unread some without_memory
 
 pub returns-in-Ok-try_get_matches_from : goal.returns-in-Ok-try_get_matches_from
 returns-in-Ok-try_get_matches_from g c =
@@ -28,6 +29,7 @@ returns-in-Ok-try_get_matches_from g c =
       asked = says.0;
       told = says.1;
       taken = λ taken. says.2;
+      memory = c.read_match.ensures.memory;
     }
 
 pub returns-in-Err : goal.returns-in-Err
@@ -43,4 +45,5 @@ returns-in-Err g c =
       asked = says.0;
       told = says.1;
       taken = says.2;
+      memory = lacks_told w c.args.memory.now tells.asked;
     }

@@ -1,0 +1,27 @@
+// A block that was laid out, read again.
+ghost use Rattle.std.specs.Prelude.{◌≡◌, ℕ, IfOk, IfErr};
+ghost use Rattle.px_bytes.specs.declared.Order.{Order};
+ghost use Rattle.px_bytes.specs.Checks.{LacksBlock};
+ghost use Rattle.px_layout.specs.Laid.{laid};
+ghost use Rattle.px_layout.specs.Plans.{Plan, Legal};
+ghost use Rattle.px_plans.specs.RoundTrip.{ReadsBack};
+ghost use Rattle.px_tree.specs.Fits.{Fits};
+ghost use Rattle.px_tree.specs.Refused.{IsRefused};
+ghost use Rattle.px_tree.specs.Says.{SaysExif};
+ghost use Rattle.px_tree.specs.Tree.{Meaning as Tree};
+ghost use Rattle.px_tree.specs.calls.Seen.{meaning_of};
+
+use px_bytes::{Block, Memory, Refusal};
+use px_tree::{Meaning, read_block_in};
+
+/// The round trip: a block that any legal plan lays out for a meaning, in either byte order and with any filler, is read as that
+/// meaning, or a growth was refused: `OutOfMemory` comes there alone. Of every other block it answers what `read_block_in` does.
+pub fn read_back_in<'a>(memory: &mut Memory, block: Block<'a>) -> Result<Meaning<'a>, Refusal>
+    ensures back { (m : Tree) (plan : Plan) (o : Order) (filler : ℕ) → Fits m → Legal m plan → block.entry ≡ laid m plan o filler →
+        ReadsBack meaning_of result m memory.old memory.new }
+    ensures says { IfOk result (λ m. SaysExif block.entry (meaning_of m)) }
+    ensures refused { IfErr result (IsRefused block.entry memory.new) }
+    ensures memory { LacksBlock result memory.old memory.new }
+{
+    read_block_in(memory, block)
+}
