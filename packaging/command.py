@@ -1,0 +1,58 @@
+#!/usr/bin/env python3
+"""Prints the script exifnorm-pictures for the Python that runs this file, or for what INTERPRETER says, as '/usr/bin/env python3'.
+
+  PYTHON packaging/command.py BINDIR PYTHONDIR [INTERPRETER]
+
+The script finds the packages by the way from its own folder to theirs, so that it also runs from a staged installation, and from
+a prefix in which that Python looks for no packages.
+"""
+
+import os
+import sys
+
+LONGEST = 127  # bytes of a first line that every Linux reads
+
+SCRIPT = '''"""Runs exifnorm-pictures with the packages that were installed with it."""
+import os
+import sys
+
+packages = os.path.normpath(os.path.join(os.path.dirname(os.path.realpath(__file__)), {way!r}))
+if packages not in sys.path:
+    sys.path.insert(1, packages)
+
+from exifnorm_pictures.main import main
+
+sys.exit(main())
+'''
+
+
+def first_lines(python):
+    """What starts a script with a Python: a line for the system, or where that can't hold the name, lines for the shell, which are a
+    text to Python.
+
+    >>> first_lines("/usr/bin/python3")
+    '#!/usr/bin/python3\\n'
+    >>> print(first_lines("/my python/bin/python3"), end="")
+    #!/bin/sh
+    '''exec' '/my python/bin/python3' "$0" "$@"
+    ' '''
+    """
+    if len(python) + 2 <= LONGEST and (" " not in python or python.startswith("/usr/bin/env ")):
+        return f"#!{python}\n"
+    return f"#!/bin/sh\n'''exec' '{python}' \"$0\" \"$@\"\n' '''\n"
+
+
+def script(python, programs, packages):
+    """The script in the folder of programs, for packages in another folder."""
+    return first_lines(python) + SCRIPT.format(way=os.path.relpath(packages, programs))
+
+
+def main(words):
+    if len(words) not in (2, 3):
+        sys.exit(__doc__)
+    programs, packages, python = [*words, sys.executable][:3]
+    sys.stdout.write(script(python, programs, packages))
+
+
+if __name__ == "__main__":
+    main(sys.argv[1:])

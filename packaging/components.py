@@ -1,0 +1,139 @@
+#!/usr/bin/env python3
+"""Lists what the program and the libraries are linked from, as an SPDX document, and copies the licences of these crates.
+
+  packaging/components.py VERSION SECONDS KIT LIST LICENCES
+
+SECONDS is the time of the document since 1970. KIT is the folder of the Rattle toolchain, LIST the SPDX file (JSON), and LICENCES the
+folder for the licences, which gets a folder for each crate that has some.
+"""
+
+from __future__ import annotations
+
+import json
+import re
+import shutil
+import sys
+from dataclasses import dataclass
+from datetime import datetime, timezone
+from pathlib import Path
+from typing import Any, Iterator
+
+TOP = Path(__file__).resolve().parent.parent
+BUILT = ("px_cli", "px_c")  # the crates of the program and of the library
+OWN = "MIT OR Apache-2.0"
+UNKNOWN = "NOASSERTION"
+MIT_BEGINS = "Permission is hereby granted, free of charge"
+
+
+@dataclass
+class Crate:
+    """A crate of the toolchain: the version of the Rust crate that it is a port of, its licence and the files with it."""
+
+    name: str
+    version: str
+    licence: str
+    files: list[Path]
+
+
+def uses(lines: str) -> dict[str, list[str]]:
+    """What each crate of crates.txt uses.
+
+    >>> uses("a: b c\\nd staticlib: a  # more\\n")
+    {'a': ['b', 'c'], 'd': ['a']}
+    """
+    found = (line.partition("#")[0].partition(":") for line in lines.splitlines())
+    return {head.split()[0]: rest.split() for head, _, rest in found if head.strip()}
+
+
+def below(names: tuple[str, ...], table: dict[str, list[str]]) -> set[str]:
+    """Everything that crates use, over any number of steps."""
+    found: set[str] = set()
+    left = list(names)
+    while left:
+        new = set(table.get(left.pop(), ())) - found
+        found |= new
+        left += new
+    return found
+
+
+def kit_crates(kit: Path, names: set[str]) -> set[str]:
+    """Crates of the toolchain, and its standard library, with those that are below them."""
+    direct = {*names, "std"}
+    return {*direct, *(it.name for name in direct for it in (kit / "rlibs" / f"{name}.rlib" / "below").glob("*"))}
+
+
+def licence_of(files: list[Path]) -> str:
+    """The licence that files of these names and words give, as SPDX writes it."""
+    names = {it.name for it in files}
+    if {"LICENSE-APACHE", "LICENSE-MIT"} <= names:
+        return "Apache-2.0 OR MIT"
+    if names in ({"LICENSE"}, {"LICENSE-MIT"}) and MIT_BEGINS in " ".join(files[0].read_text(encoding="utf-8").split()):
+        return "MIT"
+    return UNKNOWN
+
+
+def crate_of(kit: Path, name: str) -> Crate:
+    """What the toolchain says of a crate."""
+    folder = kit / "rattle" / name
+    page = folder / "README.md"
+    said = page.read_text(encoding="utf-8") if page.exists() else ""
+    version = re.search(rf"Rust crate `{name}` (\d+\.\d+\.\d+)", said)
+    files = sorted(folder.glob("LICENSE*"))
+    return Crate(name, version[1] if version else UNKNOWN, licence_of(files), files)
+
+
+def package(name: str, version: str, licence: str) -> dict[str, Any]:
+    """An SPDX package."""
+    return {
+        "SPDXID": f"SPDXRef-{name.replace('_', '-')}",
+        "name": name,
+        "versionInfo": version,
+        "downloadLocation": UNKNOWN,
+        "filesAnalyzed": False,
+        "licenseConcluded": licence,
+        "licenseDeclared": licence,
+        "copyrightText": UNKNOWN,
+    }
+
+
+def relations(packages: list[dict[str, Any]]) -> Iterator[dict[str, str]]:
+    """The document describes the first package, which is linked with the others."""
+    first = packages[0]["SPDXID"]
+    yield {"spdxElementId": "SPDXRef-DOCUMENT", "relationshipType": "DESCRIBES", "relatedSpdxElement": first}
+    for it in packages[1:]:
+        yield {"spdxElementId": first, "relationshipType": "STATIC_LINK", "relatedSpdxElement": it["SPDXID"]}
+
+
+def document(version: str, seconds: int, crates: list[Crate]) -> dict[str, Any]:
+    """The SPDX document."""
+    packages = [package("exifnorm", version, OWN), *(package(it.name, it.version, it.licence) for it in crates)]
+    created = datetime.fromtimestamp(seconds, timezone.utc).strftime("%Y-%m-%dT%H:%M:%SZ")
+    return {
+        "spdxVersion": "SPDX-2.3",
+        "dataLicense": "CC0-1.0",
+        "SPDXID": "SPDXRef-DOCUMENT",
+        "name": f"exifnorm-{version}",
+        "documentNamespace": f"https://spdx.org/spdxdocs/exifnorm-{version}-{seconds}",
+        "creationInfo": {"created": created, "creators": ["Tool: exifnorm packaging/components.py"]},
+        "packages": packages,
+        "relationships": list(relations(packages)),
+    }
+
+
+def main(words: list[str]) -> None:
+    if len(words) != 5:
+        sys.exit(__doc__)
+    version, seconds, kit = words[0], int(words[1]), Path(words[2])
+    table = uses((TOP / "crates.txt").read_text(encoding="utf-8"))
+    names = kit_crates(kit, {it for it in below(BUILT, table) if it not in table})
+    crates = [crate_of(kit, it) for it in sorted(names)]
+    Path(words[3]).write_text(json.dumps(document(version, seconds, crates), indent=1) + "\n", encoding="utf-8")
+    for crate in crates:
+        for file in crate.files:
+            folder = Path(words[4], crate.name)
+            folder.mkdir(parents=True, exist_ok=True)
+            shutil.copyfile(file, folder / file.name)
+
+
+if __name__ == "__main__":
+    main(sys.argv[1:])

@@ -1,0 +1,69 @@
+#!/usr/bin/env python3
+"""Writes the dist-info folder of the Python packages, by which importlib.metadata and pip know what is installed.
+
+  packaging/dist_info.py PROJECT FOLDER
+
+PROJECT is the folder of pyproject.toml, FOLDER the one that the packages are installed in. There is no RECORD, as of packages that a
+distribution installs: pip lists the packages and leaves their removal to what installed them.
+"""
+
+from __future__ import annotations
+
+import shutil
+import sys
+import tomllib
+from pathlib import Path
+from typing import Any
+
+
+def metadata(project: dict[str, Any]) -> str:
+    """The core metadata of a project's table.
+
+    >>> print(metadata({"name": "a", "version": "1", "description": "b", "requires-python": ">=3.9", "license": {"text": "MIT"},
+    ...                 "classifiers": []}), end="")
+    Metadata-Version: 2.1
+    Name: a
+    Version: 1
+    Summary: b
+    License: MIT
+    Requires-Python: >=3.9
+    """
+    fields = [
+        ("Metadata-Version", "2.1"),
+        ("Name", project["name"]),
+        ("Version", project["version"]),
+        ("Summary", project["description"]),
+        ("License", project["license"]["text"]),
+        *(("Classifier", it) for it in project["classifiers"]),
+        ("Requires-Python", project["requires-python"]),
+    ]
+    return "".join(f"{name}: {value}\n" for name, value in fields)
+
+
+def entry_points(scripts: dict[str, str]) -> str:
+    """The commands of a project's table, as entry_points.txt has them."""
+    return "[console_scripts]\n" + "".join(f"{name} = {call}\n" for name, call in scripts.items())
+
+
+def write(source: Path, folder: Path) -> None:
+    """Writes the dist-info of the project in a folder into another."""
+    project = tomllib.loads((source / "pyproject.toml").read_text(encoding="utf-8"))["project"]
+    made = folder / f"{project['name']}-{project['version']}.dist-info"
+    made.mkdir()
+    (made / "METADATA").write_text(metadata(project), encoding="utf-8")
+    (made / "entry_points.txt").write_text(entry_points(project["scripts"]), encoding="utf-8")
+    (made / "INSTALLER").write_text("make\n", encoding="utf-8")
+    for licence in sorted(source.glob("LICENSE-*")):
+        shutil.copyfile(licence, made / licence.name)
+    for file in made.iterdir():
+        file.chmod(0o644)
+
+
+def main(words: list[str]) -> None:
+    if len(words) != 2:
+        sys.exit(__doc__)
+    write(Path(words[0]), Path(words[1]))
+
+
+if __name__ == "__main__":
+    main(sys.argv[1:])

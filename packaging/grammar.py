@@ -1,0 +1,110 @@
+"""What a program takes on its command line, read from its own --help and that of each of its commands."""
+
+from __future__ import annotations
+
+import os
+import re
+import subprocess
+from dataclasses import dataclass, field
+from typing import Iterator
+
+WIDE = "1000"  # columns, so that no help text is wrapped
+MANY = 99  # operands
+COMMANDS = ("Commands:", "positional arguments:")
+OPERANDS = ("Arguments:", "positional arguments:")
+OPTIONS = ("Options:", "options:", "optional arguments:")
+NO_FILES = ("N", "TEXT", "TITLE")  # values that are no file names
+
+
+@dataclass
+class Option:
+    """An option: its names, what its value is called where it has one, and its text."""
+
+    names: list[str]
+    value: str
+    text: str
+
+    @property
+    def choices(self) -> list[str]:
+        """The values that an option takes, where its help lists them: {both,exif} are both and exif."""
+        return self.value[1:-1].split(",") if self.value.startswith("{") else []
+
+    @property
+    def takes_file(self) -> bool:
+        return bool(self.value) and not self.choices and self.value not in NO_FILES
+
+
+@dataclass
+class Command:
+    """A command: its name and text, its options, and how many operands it takes."""
+
+    name: str
+    text: str
+    options: list[Option] = field(default_factory=list)
+    operands: int = 0
+
+
+@dataclass
+class Program:
+    """A program with its own options and its commands."""
+
+    name: str
+    options: list[Option]
+    commands: list[Command]
+
+
+def help_of(program: str, *words: str) -> str:
+    """What a program prints for --help."""
+    surroundings = {**os.environ, "COLUMNS": WIDE, "LC_ALL": "C.UTF-8", "PYTHONDONTWRITEBYTECODE": "1"}
+    return subprocess.run([program, *words, "--help"], env=surroundings, stdout=subprocess.PIPE, check=True, encoding="utf-8").stdout
+
+
+def section(text: str, headings: tuple[str, ...]) -> list[str]:
+    """The lines of a help text below one of the headings, up to an empty line."""
+    lines = text.splitlines()
+    starts = [i for i, line in enumerate(lines) if line in headings]
+    if not starts:
+        return []
+    rest = lines[starts[0] + 1 :]
+    return rest[: rest.index("") if "" in rest else len(rest)]
+
+
+def options_of(text: str) -> Iterator[Option]:
+    """The options in a help text.
+
+    >>> list(options_of("options:\\n  -n N, --jobs N   how many"))
+    [Option(names=['-n', '--jobs'], value='N', text='how many')]
+    >>> list(options_of("options:\\n  --kind {both,exif,iptc}\\n                which blocks"))
+    [Option(names=['--kind'], value='{both,exif,iptc}', text='which blocks')]
+    """
+    for line in re.sub(r"\n +(?=[^ -])", "  ", "\n".join(section(text, OPTIONS))).splitlines():
+        heads, _, words = line.strip().partition("  ")
+        heads = re.sub(r"\{[^}]*\}", lambda it: it[0].replace(", ", ","), heads)
+        parts = [it.split(" ", 1) for it in re.split(r", (?=-)", heads)]
+        value = "".join(it[1] for it in parts[-1:] if len(it) > 1).strip("<>")
+        yield Option([it[0] for it in parts], value, words.strip())
+
+
+def operands_of(text: str) -> int:
+    """How many operands a command takes. Where options may stand between them they aren't counted."""
+    lines = section(text, OPERANDS)
+    if not lines:
+        return 0
+    usage = next(it for it in text.splitlines() if it.lower().startswith("usage:"))
+    has_own = any(it.names != ["-h", "--help"] for it in options_of(text))
+    return MANY if "..." in usage or has_own else len(lines)
+
+
+def commands_of(program: str, text: str) -> Iterator[Command]:
+    """The commands that a program's help lists, each with its own help."""
+    for line in section(text, COMMANDS):
+        name, _, words = line.strip().partition("  ")
+        if re.fullmatch(r"[a-z][a-z-]*", name):
+            own = help_of(program, name)
+            yield Command(name, words.strip(), list(options_of(own)), operands_of(own))
+
+
+def program_of(path: str) -> Program:
+    """The grammar of the program with this path."""
+    text = help_of(path)
+    return Program(os.path.basename(path), list(options_of(text)), list(commands_of(path, text)))
