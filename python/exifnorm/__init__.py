@@ -25,8 +25,11 @@ is tested, and not proved.
 from ._calls import Block, digest, kind, normal, same, show, version
 from ._captions import Caption, captions
 from ._errors import LibraryMissing, NormalTooLong, Refused
-from ._fields import Field, Ratio, Values, fields
+from ._fields import Field, Ratio, Values
 from ._library import Status
+from ._reading import fields
+
+__version__ = "1.0.0"
 
 __all__ = [
     "Block",

@@ -2,10 +2,10 @@
 
 from __future__ import annotations
 
-import contextlib
 import ctypes
+import functools
 import hashlib
-from typing import Any, Callable, Iterator, NoReturn, Optional, Tuple, Union
+from typing import Any, Callable, List, NoReturn, Optional, TypeVar, Union
 
 from ._errors import NormalTooLong, Refused
 from ._library import LIMIT, NAME_ROOM, Fault, Status, library
@@ -13,11 +13,16 @@ from ._library import LIMIT, NAME_ROOM, Fault, Status, library
 Block = Union[bytes, bytearray, memoryview]
 """A block's bytes. Whatever else gives its bytes in one piece, as an mmap, serves too."""
 
+Made = TypeVar("Made")
+
+_DONE = int(Status.DONE)
 _KINDS = {1: "exif", 2: "iim"}
+_KEPT_ROOM = 65_536  # bytes of the output that is kept from one call to the next
+_KEPT_SIZE = ctypes.c_size_t(_KEPT_ROOM)
 
 
 class _View(ctypes.Structure):
-    """Python's Py_buffer: the bytes of an object, which can't be moved or freed until the view is given back."""
+    """Python's Py_buffer: the bytes of an object, which can't be moved or freed until the view is released."""
 
     _fields_ = [
         ("buf", ctypes.c_void_p),
@@ -38,19 +43,48 @@ _SIMPLE = 0  # PyBUF_SIMPLE: the bytes in one piece, only to be read
 _get_view = ctypes.PYFUNCTYPE(ctypes.c_int, ctypes.py_object, ctypes.POINTER(_View), ctypes.c_int)(
     ("PyObject_GetBuffer", ctypes.pythonapi)
 )
-_give_back = ctypes.PYFUNCTYPE(None, ctypes.POINTER(_View))(("PyBuffer_Release", ctypes.pythonapi))
+_release = ctypes.PYFUNCTYPE(None, ctypes.POINTER(_View))(("PyBuffer_Release", ctypes.pythonapi))
+
+# A bytes object whose bytes are not set yet, by its address. Nothing else refers to it until it is filled and cut to its length.
+_new_bytes = ctypes.PYFUNCTYPE(ctypes.c_void_p, ctypes.c_void_p, ctypes.c_ssize_t)(("PyBytes_FromStringAndSize", ctypes.pythonapi))
+_resize = ctypes.PYFUNCTYPE(ctypes.c_int, ctypes.POINTER(ctypes.c_void_p), ctypes.c_ssize_t)(("_PyBytes_Resize", ctypes.pythonapi))
+_drop = ctypes.PYFUNCTYPE(None, ctypes.c_void_p)(("Py_DecRef", ctypes.pythonapi))
+_FIRST_BYTE = bytes.__basicsize__ - 1  # where the bytes stand in such an object, which counts a zero behind them
 
 
-@contextlib.contextmanager
-def _bytes_of(block: Block) -> Iterator[Tuple[int, int]]:
-    """Where the block's bytes lie, and how many they are."""
+class _Places:
+    """Where one call writes: its output, and the numbers beside it."""
+
+    def __init__(self) -> None:
+        kept = ctypes.create_string_buffer(_KEPT_ROOM)
+        self.kept = memoryview(kept).cast("B")
+        self.out = ctypes.c_void_p(ctypes.addressof(kept))
+        self.written, self.number, self.fault = ctypes.c_size_t(), ctypes.c_uint32(), Fault()
+        self.to_written, self.to_number, self.to_fault = map(ctypes.byref, (self.written, self.number, self.fault))
+
+
+# A call takes its places off this list and puts them back, so that threads, and a handler of a signal, never share any.
+_free_places: List[_Places] = []
+
+
+def _take_places() -> _Places:
+    try:
+        return _free_places.pop()
+    except IndexError:
+        return _Places()
+
+
+def _over_bytes(block: Block, use: Callable[[Any, int], Made]) -> Made:
+    """Calls `use` with the address of a block's bytes and their number."""
+    if type(block) is bytes:
+        return use(block, len(block))
     view = _View()
     _get_view(block, ctypes.byref(view), _SIMPLE)
     try:
-        # where there are no bytes, any place serves but null
-        yield view.buf or ctypes.addressof(view), view.len
+        # where there are no bytes, any address serves but null
+        return use(view.buf or ctypes.addressof(view), view.len)
     finally:
-        _give_back(ctypes.byref(view))
+        _release(ctypes.byref(view))
 
 
 def _text(call: Callable[..., int], *first: Any) -> str:
@@ -60,9 +94,11 @@ def _text(call: Callable[..., int], *first: Any) -> str:
     return out.value.decode("ascii")
 
 
-def _fail(status: int, fault: Fault, side: Optional[int] = None) -> NoReturn:
+def _fail(status: int, places: _Places, side: Optional[int] = None) -> NoReturn:
+    cause, place = places.fault.cause, places.fault.place
+    _free_places.append(places)
     if status in (Status.REFUSED, Status.SECOND_REFUSED):
-        raise Refused(_text(library().exifnorm_cause_name, fault.cause), fault.place, side)
+        raise Refused(_text(library().exifnorm_cause_name, cause), place, side)
     if status == Status.TOO_LONG:
         raise NormalTooLong
     if status == Status.NO_MEMORY:
@@ -70,18 +106,51 @@ def _fail(status: int, fault: Fault, side: Optional[int] = None) -> NoReturn:
     raise AssertionError(f"libexifnorm answered the status {status}")
 
 
-def _made(call: Callable[..., int], block: Block, first_room: Callable[[int], int]) -> bytes:
-    """The bytes that a call makes of a block, by a first guess at the room that they need."""
-    with _bytes_of(block) as (at, length):
-        room = first_room(length)
-        while True:
-            out, written, fault = ctypes.create_string_buffer(room), ctypes.c_size_t(), Fault()
-            status = call(at, length, out, room, ctypes.byref(written), ctypes.byref(fault))
-            if status == Status.DONE:
-                return ctypes.string_at(out, written.value)
-            if status != Status.TOO_LITTLE_ROOM:
-                _fail(status, fault)
-            room = written.value
+def _made(call: Callable[..., int], at: Any, length: int, room: int) -> bytes:
+    """The bytes that a call makes of a block, which mostly fit into so much room."""
+    places = _take_places()
+    if room <= _KEPT_ROOM:
+        status = call(at, length, places.out, _KEPT_SIZE, places.to_written, places.to_fault)
+        if status == _DONE:
+            made = places.kept[: places.written.value].tobytes()
+            _free_places.append(places)
+            return made
+        if status != Status.TOO_LITTLE_ROOM:
+            _fail(status, places)
+        room = places.written.value
+    return _made_in_new(call, at, length, room, places)
+
+
+def _made_in_new(call: Callable[..., int], at: Any, length: int, room: int, places: _Places) -> bytes:
+    """The same, written into a new bytes object, which is neither cleared before nor copied behind."""
+    while True:
+        made = ctypes.c_void_p(_new_bytes(None, room))
+        try:
+            out = ctypes.c_void_p(made.value + _FIRST_BYTE)
+            status = call(at, length, out, ctypes.c_size_t(room), places.to_written, places.to_fault)
+            if status == _DONE:
+                _resize(ctypes.byref(made), places.written.value)
+                _free_places.append(places)
+                return ctypes.cast(made, ctypes.py_object).value
+        finally:
+            if made:
+                _drop(made)
+        if status != Status.TOO_LITTLE_ROOM:
+            _fail(status, places)
+        room = places.written.value
+
+
+def _form(at: Any, length: int) -> bytes:
+    # a form has at most twice as many bytes as its block
+    return _made(library().exifnorm_normalise, at, length, min(2 * length, LIMIT) + 1)
+
+
+def _listing(at: Any, length: int) -> bytes:
+    return _made(library().exifnorm_show, at, length, min(4 * length, 4 * LIMIT) + 1024)
+
+
+def _captions(at: Any, length: int) -> bytes:
+    return _made(library().exifnorm_captions, at, length, min(2 * length, 2 * LIMIT) + 1024)
 
 
 def version() -> str:
@@ -99,12 +168,14 @@ def kind(block: Block) -> str:
     >>> kind(b"\\x1c\\x02\\x78\\x00\\x04Vase")
     'iim'
     """
-    number, fault = ctypes.c_uint32(), Fault()
-    with _bytes_of(block) as (at, length):
-        status = library().exifnorm_check(at, length, ctypes.byref(number), ctypes.byref(fault))
-    if status != Status.DONE:
-        _fail(status, fault)
-    return _KINDS[number.value]
+    places = _take_places()
+    check = library().exifnorm_check
+    status = _over_bytes(block, lambda at, length: check(at, length, places.to_number, places.to_fault))
+    if status != _DONE:
+        _fail(status, places)
+    number = places.number.value
+    _free_places.append(places)
+    return _KINDS[number]
 
 
 def normal(block: Block) -> bytes:
@@ -116,17 +187,22 @@ def normal(block: Block) -> bytes:
     >>> normal(b"\\x1c\\x02\\x78\\x80\\x04\\x00\\x00\\x00\\x04Vase\\x00")
     b'\\x1c\\x02x\\x00\\x04Vase'
     """
-    return _made(library().exifnorm_normalise, block, lambda length: min(2 * length + 1, LIMIT))
+    return _over_bytes(block, _form)
 
 
 def digest(block: Block, algorithm: str = "sha256") -> str:
     """The digest of the block's normal form in hexadecimal digits: the same for all blocks that say the same. The algorithm is
-    one of hashlib's. Raises what `normal` raises, so no digest comes of a block that is refused.
+    one of hashlib's whose digests have one length; of another name a ValueError is raised. Raises what `normal` raises, so no
+    digest comes of a block that is refused.
 
     >>> digest(b"\\x1c\\x02\\x78\\x80\\x04\\x00\\x00\\x00\\x04Vase") == digest(b"\\x1c\\x02\\x78\\x00\\x04Vase")
     True
     """
-    return hashlib.new(algorithm, normal(block)).hexdigest()
+    counted = hashlib.new(algorithm)
+    if not counted.digest_size:
+        raise ValueError(f"digests of {algorithm} have no length of their own")
+    counted.update(normal(block))
+    return counted.hexdigest()
 
 
 def same(first: Block, second: Block) -> bool:
@@ -136,12 +212,18 @@ def same(first: Block, second: Block) -> bool:
     >>> same(b"\\x1c\\x02\\x78\\x00\\x04Vase", b"\\x1c\\x02\\x78\\x00\\x03Urn")
     False
     """
-    answer, fault = ctypes.c_uint32(), Fault()
-    with _bytes_of(first) as one, _bytes_of(second) as two:
-        status = library().exifnorm_compare(*one, *two, ctypes.byref(answer), ctypes.byref(fault))
-    if status != Status.DONE:
-        _fail(status, fault, 2 if status == Status.SECOND_REFUSED else 1)
-    return answer.value == 1
+    places = _take_places()
+
+    def beside(at: Any, length: int) -> int:
+        compare = functools.partial(library().exifnorm_compare, at, length)
+        return _over_bytes(second, lambda *other: compare(*other, places.to_number, places.to_fault))
+
+    status = _over_bytes(first, beside)
+    if status != _DONE:
+        _fail(status, places, 2 if status == Status.SECOND_REFUSED else 1)
+    answer = places.number.value
+    _free_places.append(places)
+    return answer == 1
 
 
 def show(block: Block) -> str:
@@ -152,9 +234,9 @@ def show(block: Block) -> str:
     iim
     2:120 4: 56617365
     """
-    return _made(library().exifnorm_show, block, lambda length: min(4 * length, 4 * LIMIT) + 1024).decode("ascii")
+    return _over_bytes(block, _listing).decode("ascii")
 
 
 def captions_text(block: Block) -> str:
     """The text that the command `exifnorm captions` prints."""
-    return _made(library().exifnorm_captions, block, lambda length: min(2 * length, 2 * LIMIT) + 1024).decode("ascii")
+    return _over_bytes(block, _captions).decode("ascii")

@@ -7,7 +7,7 @@ from dataclasses import dataclass
 from typing import List, Optional, Set
 
 from ._calls import Block, captions_text
-from ._fields import fields
+from ._reading import fields
 
 _ESCAPE = re.compile(rb"\\([0-9a-f]{2})")
 _EXIF_TAGS = {"description": 0x010E, "artist": 0x013B, "copyright": 0x8298}

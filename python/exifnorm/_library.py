@@ -37,17 +37,16 @@ class Fault(ctypes.Structure):
 
 
 _BLOCK = [ctypes.c_void_p, ctypes.c_size_t]
-_OUT = [ctypes.c_void_p, ctypes.c_size_t, ctypes.POINTER(ctypes.c_size_t)]
-_NUMBER = [ctypes.POINTER(ctypes.c_uint32)]
-_FAULT = [ctypes.POINTER(Fault)]
+_TEXT = [ctypes.c_void_p, ctypes.c_size_t, ctypes.POINTER(ctypes.c_size_t)]
+# The arguments that ctypes converts. Those behind them are ctypes objects, which are made once and passed as they are.
 CALLS = {
-    "exifnorm_check": _BLOCK + _NUMBER + _FAULT,
-    "exifnorm_normalise": _BLOCK + _OUT + _FAULT,
-    "exifnorm_compare": _BLOCK + _BLOCK + _NUMBER + _FAULT,
-    "exifnorm_show": _BLOCK + _OUT + _FAULT,
-    "exifnorm_captions": _BLOCK + _OUT + _FAULT,
-    "exifnorm_cause_name": [ctypes.c_uint32, *_OUT],
-    "exifnorm_version": _OUT,
+    "exifnorm_check": _BLOCK,
+    "exifnorm_normalise": _BLOCK,
+    "exifnorm_compare": _BLOCK + _BLOCK,
+    "exifnorm_show": _BLOCK,
+    "exifnorm_captions": _BLOCK,
+    "exifnorm_cause_name": [ctypes.c_uint32, *_TEXT],
+    "exifnorm_version": _TEXT,
 }
 
 

@@ -1,0 +1,129 @@
+#!/usr/bin/env python3
+"""Times the Python package exifnorm beside piexif and beside the library's own calls, in one interleaved run, and prints a table.
+
+  bench/python/run.py LIBRARY [--rounds N] [BLOCK ..]
+
+LIBRARY is the folder with libexifnorm.a, libexifnorm.so.1 and exifnorm.h; each BLOCK is a file with a block, and without any a block
+as a camera writes it is timed. piexif is Debian's python3-piexif; where this Python hasn't it, /usr/bin/python3 may. A time is the
+least of all rounds, of which each makes every call many times; below 1 a ratio says that exifnorm is quicker.
+"""
+
+import argparse
+import ctypes
+import os
+import subprocess
+import sys
+import tempfile
+import time
+from pathlib import Path
+from typing import Callable, Dict
+
+HERE = Path(__file__).resolve().parent
+TOP = HERE.parent.parent
+sys.path[:0] = [str(TOP / "tests"), str(TOP / "python")]
+sys.dont_write_bytecode = True
+
+import kinds
+from meanings import Layout, laid
+
+PREFIX = b"Exif\0\0"
+SECONDS = 0.01  # of each call in a round
+
+
+def camera() -> bytes:
+    """A block as a camera writes it: 46 fields, a MakerNote and a thumbnail."""
+    return laid(next(iter(kinds.camera())).meaning, Layout("<"))
+
+
+def microseconds(call: Callable[[], object], times: int) -> float:
+    began = time.perf_counter()
+    for _ in range(times):
+        call()
+    return (time.perf_counter() - began) / times * 1e6
+
+
+def driver(library: str, folder: str) -> str:
+    """The C program of bench/peers that times the library, where cc is there."""
+    out, peers = os.path.join(folder, "driver"), TOP / "bench" / "peers"
+    words = ["cc", "-O2", "-o", out, str(peers / "exifnorm.c"), "-I", library, os.path.join(library, "libexifnorm.a")]
+    return out if subprocess.run(words, capture_output=True, check=False).returncode == 0 else ""
+
+
+def in_c(program: str, mode: str, path: str) -> float:
+    ran = subprocess.run([program, mode, str(SECONDS), path], capture_output=True, text=True, check=True)
+    return float(ran.stdout)
+
+
+def calls_over(block: bytes, path: str, library: str, folder: str) -> Dict[str, Callable[[], float]]:
+    """What is timed, by name."""
+    import exifnorm
+    from exifnorm import _calls
+
+    out, written, fault = ctypes.create_string_buffer(2 * len(block) + 1), ctypes.c_size_t(), _calls.Fault()
+    to = out, len(out), ctypes.byref(written), ctypes.byref(fault)
+    bare, size = _calls.library().exifnorm_normalise, len(block)
+    python = {
+        "ctypes: normalise": lambda: bare(block, size, *to),
+        "exifnorm.kind": lambda: exifnorm.kind(block),
+        "exifnorm.normal": lambda: exifnorm.normal(block),
+        "exifnorm.digest": lambda: exifnorm.digest(block),
+        "exifnorm.fields": lambda: exifnorm.fields(block),
+        "exifnorm.captions": lambda: exifnorm.captions(block),
+    }
+    try:
+        import piexif
+    except ImportError:
+        print("piexif is not installed, and is left out")
+    else:
+        whole = block if block.startswith(PREFIX) else PREFIX + block
+        python["piexif.load"] = lambda: piexif.load(whole)
+    counts = {name: max(1, int(SECONDS * 1e6 / microseconds(call, 10))) for name, call in python.items()}
+    timed = {name: lambda name=name: microseconds(python[name], counts[name]) for name in python}
+    program = driver(library, folder)
+    if program:
+        timed["C: check"] = lambda: in_c(program, "parse", path)
+        timed["C: normalise"] = lambda: in_c(program, "write", path)
+    return timed
+
+
+def race(timed: Dict[str, Callable[[], float]], rounds: int) -> Dict[str, float]:
+    """The least time of each call over all rounds."""
+    least: Dict[str, float] = {}
+    for _ in range(rounds):
+        for name, call in timed.items():
+            least[name] = min(call(), least.get(name, float("inf")))
+    return least
+
+
+RATIOS = (
+    ("exifnorm.fields", "piexif.load"),
+    ("exifnorm.normal", "C: normalise"),
+    ("exifnorm.normal", "ctypes: normalise"),
+    ("exifnorm.kind", "C: check"),
+)
+
+
+def main() -> None:
+    words = argparse.ArgumentParser(description=__doc__, formatter_class=argparse.RawDescriptionHelpFormatter)
+    words.add_argument("library")
+    words.add_argument("blocks", nargs="*")
+    words.add_argument("--rounds", type=int, default=40)
+    words = words.parse_args()
+    library = os.path.abspath(words.library)
+    os.environ.setdefault("EXIFNORM_LIBRARY", os.path.join(library, "libexifnorm.so.1"))
+    blocks = {it: Path(it).read_bytes() for it in words.blocks} or {"a block as a camera writes it": camera()}
+    with tempfile.TemporaryDirectory() as folder:
+        for name, block in blocks.items():
+            path = os.path.join(folder, "block")
+            Path(path).write_bytes(block)
+            least = race(calls_over(block, path, library, folder), words.rounds)
+            print(f"\n{name}, {len(block):,} bytes")
+            for call, spent in sorted(least.items(), key=lambda it: it[1]):
+                print(f"  {call}: {spent:,.2f} microseconds")
+            for call, over in RATIOS:
+                if call in least and over in least:
+                    print(f"  {call} over {over}: {least[call] / least[over]:.2f}", flush=True)
+
+
+if __name__ == "__main__":
+    main()
