@@ -57,7 +57,7 @@ def name_of(test):
 def main():
     words = argparse.ArgumentParser(description=__doc__, formatter_class=argparse.RawDescriptionHelpFormatter)
     words.add_argument("program", nargs="?")
-    words.add_argument("--only", default="", help="the tests whose name has this text")
+    words.add_argument("--only", default=os.environ.get("TEST_ONLY", ""), help="the tests whose name has this text")
     asked = words.parse_args()
     Studio.open(asked.program)
     try:

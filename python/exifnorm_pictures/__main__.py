@@ -1,8 +1,13 @@
 """`python3 -m exifnorm_pictures`."""
 
+import os
 import sys
 
-from .main import main
+# Python puts the current folder first, where a file could pass for one of Python's own modules.
+_HERE = os.path.dirname(os.path.dirname(os.path.abspath(__file__)))
+sys.path[:] = [it for it in sys.path if os.path.abspath(it) == _HERE or os.path.abspath(it) != os.getcwd()]
+
+from .main import main  # noqa: E402
 
 if __name__ == "__main__":
     sys.exit(main())

@@ -1,7 +1,7 @@
 """The catalogue: a SQLite file that keeps, for each picture, what was found in it.
 
 A catalogue is written in transactions of many pictures, with a write-ahead log: what was committed stays when the program is
-killed. The tables can be read by any SQLite tool; `about` tells their version.
+killed. The tables can be read by any SQLite tool. A file is only written to when its head says that it is a catalogue.
 """
 
 from __future__ import annotations
@@ -9,15 +9,17 @@ from __future__ import annotations
 import contextlib
 import os
 import sqlite3
-from dataclasses import dataclass, field
-from typing import Dict, Iterable, Iterator, List, Optional, Tuple
+import stat
+import urllib.parse
+import zlib
+from typing import Callable, Dict, Iterable, Iterator, List, NamedTuple, Optional, Sequence, Tuple, TypeVar
 
-from .engine import ACCEPTED, REFUSED, Judgement
-from .extraction import Taken
+from .formats.found import NotRead
+from .kept import Block, Entry, Picture, Stamp, block_of_row, digests, not_read_of_row, picture_of_row
 from .listing import Field, unpacked
 
 APPLICATION = 0x45584E50  # 'EXNP', by which a catalogue is told from other SQLite files
-VERSION = 1
+VERSION = 2
 
 _TABLES = """
 CREATE TABLE runs (
@@ -32,16 +34,29 @@ CREATE TABLE pictures (
     path BLOB NOT NULL UNIQUE,      -- absolute, as the file system has it
     root BLOB NOT NULL,             -- the folder that was indexed
     size INTEGER,                   -- bytes
-    modified INTEGER,               -- nanoseconds since 1970
-    type TEXT NOT NULL,             -- ExifTool's word for the kind of file
-    problem TEXT,                   -- why no block was taken: Vanished, Unreadable, NoPicture, SeveralBlocks, NeedsExiv2, ToolFailed
+    modified INTEGER,               -- nanoseconds since 1970, in 64 bits
+    changed INTEGER,                -- the same of the last change of the file's status (ctime)
+    inode INTEGER,
+    type TEXT NOT NULL,             -- the format: JPEG, PNG .., or ExifTool's word
+    extractor TEXT NOT NULL,        -- which reader answered: own, exiftool
+    problem TEXT,                   -- why there are no blocks: Vanished, Moved, Unreadable, NoPicture, ToolFailed ..
     detail TEXT NOT NULL,
-    copies INTEGER NOT NULL,        -- further blocks, which were not looked at
+    exif TEXT,                      -- what all blocks of a kind say: SHA-256; empty: no such block; NULL: refused or not known
+    iptc TEXT,
+    xmp TEXT,
+    not_read TEXT,                  -- SHA-256 of what was not read; empty: all was read; NULL: it can't be compared
+    exif_octets TEXT NOT NULL,      -- SHA-256 of the blocks of a kind as they stand; empty where there is none
+    iptc_octets TEXT NOT NULL,
+    xmp_octets TEXT NOT NULL,
     run INTEGER NOT NULL REFERENCES runs(id)
 );
 CREATE TABLE blocks (
     picture INTEGER NOT NULL REFERENCES pictures(id) ON DELETE CASCADE,
-    kind TEXT NOT NULL,             -- exif, iim
+    number INTEGER NOT NULL,        -- the order in the file
+    kind TEXT NOT NULL,             -- exif, iptc, xmp
+    name TEXT NOT NULL,             -- Exif, IPTC, XMP; of further blocks a name of their own
+    source TEXT NOT NULL,           -- where it stands in the file
+    extractor TEXT NOT NULL,
     status TEXT NOT NULL,           -- accepted, refused, too long, failed
     digest TEXT,                    -- SHA-256 of the normal form, of an accepted block alone
     cause TEXT,                     -- of a refused block: docs/FORMAT.md, section 5
@@ -49,93 +64,113 @@ CREATE TABLE blocks (
     length INTEGER NOT NULL,        -- bytes of the block
     octets TEXT NOT NULL,           -- SHA-256 of the block as it stands
     fields BLOB,                    -- what it says, field by field: JSON, compressed by zlib
-    PRIMARY KEY (picture, kind)
+    PRIMARY KEY (picture, number)
 ) WITHOUT ROWID;
-CREATE INDEX blocks_by_digest ON blocks (digest);
+CREATE TABLE not_read (
+    picture INTEGER NOT NULL REFERENCES pictures(id) ON DELETE CASCADE,
+    number INTEGER NOT NULL,
+    what TEXT NOT NULL,             -- a part of the file that was not read
+    digest TEXT NOT NULL,           -- SHA-256 of its bytes; empty: not known
+    PRIMARY KEY (picture, number)
+) WITHOUT ROWID;
+CREATE INDEX pictures_by_content ON pictures (exif, iptc, xmp, not_read) WHERE problem IS NULL;
 """
 
+_OCTETS = "exif_octets, iptc_octets, xmp_octets"
+_PICTURE = f"id, path, root, type, extractor, problem, detail, size, modified, inode, not_read, exif, iptc, xmp, {_OCTETS}"
+_BLOCK = "number, kind, name, source, extractor, status, digest, cause, place, length, octets"
 
 Run = Tuple[str, Optional[str], Optional[str], Optional[str]]  # when it began and ended, ExifTool's version, exiv2's
+Made = TypeVar("Made")
 
 
 class NoCatalogue(Exception):
-    """The file is missing, or is no catalogue of this version."""
+    """The file is missing, is no catalogue of this version, or is damaged."""
 
 
-@dataclass
-class Block:
-    """A block as the catalogue keeps it."""
+class Known(NamedTuple):
+    """What is known of a picture before it is looked at."""
 
-    kind: str
-    status: str
-    digest: Optional[str]
-    cause: Optional[str]
-    place: Optional[int]
-    length: int
-    octets: str
-    kept: Optional[bytes] = None
-
-    def fields(self) -> List[Field]:
-        """What the block says, field by field."""
-        return unpacked(self.kept) if self.kept else []
-
-    @property
-    def refusal(self) -> str:
-        """The cause and place of a refusal in a line."""
-        return f"{self.cause} at {self.place}" if self.place is not None else str(self.cause)
-
-
-@dataclass
-class Picture:
-    """A picture as the catalogue keeps it."""
-
-    path: bytes
-    root: bytes
-    type: str
+    id: int
+    stamp: Optional[Stamp]
     problem: Optional[str]
-    detail: str
-    copies: int
-    blocks: Dict[str, Block] = field(default_factory=dict)
 
-    @property
-    def state(self) -> str:
-        """One word for the whole picture: a problem, `refused`, `accepted`, or `no block`."""
-        if self.problem:
-            return self.problem
-        if any(it.status != ACCEPTED for it in self.blocks.values()):
-            return REFUSED
-        return ACCEPTED if self.blocks else "no block"
+
+def head_is_ours(head: bytes) -> bool:
+    """Whether the first 100 bytes are those of a catalogue, of any version."""
+    return head[:16] == b"SQLite format 3\0" and int.from_bytes(head[68:72], "big") == APPLICATION
+
+
+def _check_head(name: str, make: bool) -> None:
+    """Raises `NoCatalogue` for what is no catalogue, after reading its head alone. Nothing is written, also no journal."""
+    if not name:
+        raise NoCatalogue("the catalogue's name is empty")
+    try:
+        kind = os.stat(name).st_mode
+    except FileNotFoundError:
+        if make:
+            return
+        raise NoCatalogue(f"there is no catalogue {name}") from None
+    if not stat.S_ISREG(kind):
+        raise NoCatalogue(f"{name} is no catalogue: it is no regular file")
+    with open(name, "rb") as file:
+        head = file.read(100)
+    if not head and make:
+        return
+    if not head_is_ours(head):
+        raise NoCatalogue(f"{name} is no catalogue")
+    version = int.from_bytes(head[60:64], "big")
+    if version < VERSION:
+        raise NoCatalogue(
+            f"{name} is a catalogue of an earlier release (version {version}, here {VERSION}), whose answers were about fewer blocks."
+            " Make a new one: exifnorm-pictures index FOLDER --catalogue NEW"
+        )
+    if version > VERSION:
+        raise NoCatalogue(f"{name} is a catalogue of a later release (version {version}, here {VERSION})")
 
 
 class Catalogue:
     """A catalogue that is open. Use it in a `with`."""
 
     def __init__(self, name: str, make: bool = False) -> None:
-        """Opens a catalogue; with `make` a missing one is made. Raises `NoCatalogue`."""
+        """Opens a catalogue to read it, or with `make` to write to it; then a missing one is made. Raises `NoCatalogue`."""
+        self.name = name
         self._made = make
-        if not make and not os.path.exists(name):
-            raise NoCatalogue(f"there is no catalogue {name}")
-        try:
-            self._base = sqlite3.connect(name, timeout=60, isolation_level=None)
-            self._base.execute("PRAGMA foreign_keys = ON")
-            self._ready(name, make)
-        except sqlite3.DatabaseError as error:
-            raise NoCatalogue(f"{name} is no catalogue: {error}") from error
+        _check_head(name, make)
+        quoted = urllib.parse.quote(os.fsencode(os.path.abspath(name)))
+        with self.guarded():
+            self.base = sqlite3.connect(f"file:{quoted}?mode={'rwc' if make else 'ro'}", timeout=60, isolation_level=None, uri=True)
+            self.base.execute("PRAGMA foreign_keys = ON")
+            if make:
+                self._prepare()
+            else:
+                self._check_tables()
 
-    def _ready(self, name: str, make: bool) -> None:
-        application = self._base.execute("PRAGMA application_id").fetchone()[0]
-        tables = self._base.execute("SELECT count(*) FROM sqlite_master").fetchone()[0]
-        if make:
-            self._base.execute("PRAGMA journal_mode = WAL")
-            self._base.execute("PRAGMA synchronous = FULL")
-        if make and not application and not tables:
-            self._base.executescript(
-                f"BEGIN; PRAGMA application_id = {APPLICATION}; PRAGMA user_version = {VERSION}; {_TABLES} COMMIT;"
-            )
-            return
-        version = self._base.execute("PRAGMA user_version").fetchone()[0]
-        if application != APPLICATION or version != VERSION:
-            raise NoCatalogue(f"{name} is no catalogue of this version")
+    def _prepare(self) -> None:
+        """Makes the tables where there are none; of two runs that begin at once one makes them."""
+        self.base.execute("BEGIN IMMEDIATE")
+        if not self.base.execute("SELECT count(*) FROM sqlite_master").fetchone()[0]:
+            self.base.execute(f"PRAGMA application_id = {APPLICATION}")
+            self.base.execute(f"PRAGMA user_version = {VERSION}")
+            for statement in _TABLES.split(";\n"):
+                self.base.execute(statement)
+        self._check_tables()
+        self.base.execute("COMMIT")
+        self.base.execute("PRAGMA journal_mode = WAL")
+        self.base.execute("PRAGMA synchronous = FULL")
+
+    def _check_tables(self) -> None:
+        self.base.execute("SELECT count(*) FROM (SELECT 1 FROM pictures, blocks, not_read, runs LIMIT 1)").fetchone()
+
+    @contextlib.contextmanager
+    def guarded(self) -> Iterator[None]:
+        """Turns what SQLite, or a value of a wrong kind, raises into `NoCatalogue` with the catalogue's name."""
+        try:
+            yield
+        except sqlite3.OperationalError as error:
+            raise NoCatalogue(f"{self.name}: {error}") from error
+        except (sqlite3.Error, zlib.error, TypeError, ValueError, KeyError, IndexError, AttributeError, RecursionError) as error:
+            raise NoCatalogue(f"{self.name} is damaged: {error}") from error
 
     def __enter__(self) -> "Catalogue":
         return self
@@ -146,95 +181,138 @@ class Catalogue:
     def close(self) -> None:
         """Closes the catalogue; what was committed then stands in its one file, which can be read where nothing can be written."""
         if self._made:
-            with contextlib.suppress(sqlite3.OperationalError):  # another run is at work on it
-                self._base.execute("PRAGMA journal_mode = DELETE")
-        self._base.close()
+            with contextlib.suppress(sqlite3.Error):  # another run is at work on it, or the disk is full
+                self.base.execute("PRAGMA journal_mode = DELETE")
+        self.base.close()
+
+    # Writing
 
     def begin_run(self, started: str) -> int:
         """A new run; its number."""
-        return int(self._base.execute("INSERT INTO runs (started) VALUES (?)", (started,)).lastrowid or 0)
+        with self.guarded():
+            return int(self.base.execute("INSERT INTO runs (started) VALUES (?)", (started,)).lastrowid or 0)
 
-    def set_versions(self, run: int, exiftool: str, exiv2: Optional[str]) -> None:
+    def set_versions(self, run: int, exiftool: Optional[str], exiv2: Optional[str]) -> None:
         """Keeps with which programs a run takes blocks."""
-        self._base.execute("UPDATE runs SET exiftool = ?, exiv2 = ? WHERE id = ?", (exiftool, exiv2, run))
+        with self.guarded():
+            self.base.execute("UPDATE runs SET exiftool = ?, exiv2 = ? WHERE id = ?", (exiftool, exiv2, run))
 
     def end_run(self, run: int, ended: str) -> None:
         """Says that a run came to its end."""
-        self._base.execute("UPDATE runs SET ended = ? WHERE id = ?", (ended, run))
+        with self.guarded():
+            self.base.execute("UPDATE runs SET ended = ? WHERE id = ?", (ended, run))
+
+    @contextlib.contextmanager
+    def transaction(self) -> Iterator[None]:
+        """All that is written inside is kept, or nothing of it."""
+        with self.guarded():
+            self.base.execute("BEGIN IMMEDIATE")
+            try:
+                yield
+                self.base.execute("COMMIT")
+            except BaseException:
+                with contextlib.suppress(sqlite3.Error):  # a full disk has rolled it back already
+                    self.base.execute("ROLLBACK")
+                raise
+
+    def put(self, run: int, entries: Iterable[Entry]) -> None:
+        """Keeps some pictures, in one transaction."""
+        with self.transaction():
+            for it in entries:
+                self._put_one(run, it)
+
+    def _put_one(self, run: int, it: Entry) -> None:
+        if it.problem in ("Vanished", "Unreadable"):  # what it said is kept for those who look for it
+            words = (it.problem, it.detail, run, it.path)
+            if self.base.execute("UPDATE pictures SET problem = ?, detail = ?, run = ? WHERE path = ?", words).rowcount:
+                return
+        self.base.execute("DELETE FROM pictures WHERE path = ?", (it.path,))
+        said = digests(it)
+        stamp = it.stamp or (None, None, None, None)
+        row = (it.path, it.root, *stamp, it.type, it.extractor, it.problem, it.detail, *said, run)
+        columns = "path, root, size, modified, changed, inode, type, extractor, problem, detail, exif, iptc, xmp, not_read"
+        added = self.base.execute(f"INSERT INTO pictures ({columns}, {_OCTETS}, run) VALUES (?{', ?' * 17})", row).lastrowid
+        self.base.executemany(
+            f"INSERT INTO blocks (picture, {_BLOCK}, fields) VALUES (?{', ?' * 12})",
+            [(added, number, *block.row(), block.kept) for number, block in enumerate(it.blocks)],
+        )
+        self.base.executemany(
+            "INSERT INTO not_read VALUES (?, ?, ?, ?)", [(added, number, part.what, part.digest) for number, part in enumerate(it.not_read)]
+        )
+
+    # Reading
+
+    def rows(self, query: str, values: Sequence[object] = (), made: Callable[..., Made] = tuple) -> Iterator[Made]:
+        """What `made` makes of each row of a query."""
+        with self.guarded():
+            cursor = self.base.execute(query, values)
+        while True:
+            with self.guarded():
+                row = cursor.fetchone()
+                if row is None:
+                    return
+                it = made(row)
+            yield it
 
     def runs(self) -> List[Run]:
         """Each run, the first one first."""
-        return self._base.execute("SELECT started, ended, exiftool, exiv2 FROM runs ORDER BY id").fetchall()
+        return list(self.rows("SELECT started, ended, exiftool, exiv2 FROM runs ORDER BY id"))
 
-    def known(self) -> Dict[bytes, Tuple[Optional[int], Optional[int], Optional[str]]]:
-        """The size, time and problem of each picture that is kept."""
-        rows = self._base.execute("SELECT path, size, modified, problem FROM pictures")
-        return {bytes(path): (size, modified, problem) for path, size, modified, problem in rows}
+    def known(self, path: bytes) -> Optional[Known]:
+        """What is known of one picture."""
+        query = "SELECT id, size, modified, changed, inode, problem FROM pictures WHERE path = ?"
+        return next(self.rows(query, (path,), _known), None)
 
-    def put(self, run: int, entries: Iterable["Entry"]) -> None:
-        """Keeps some pictures, in one transaction."""
-        self._base.execute("BEGIN IMMEDIATE")
-        try:
-            for it in entries:
-                self._put_one(run, it)
-        except BaseException:
-            self._base.execute("ROLLBACK")
-            raise
-        self._base.execute("COMMIT")
+    def below(self, folder: bytes) -> Iterator[Tuple[int, bytes, Optional[str]]]:
+        """The number, path and problem of each picture below a folder, by path."""
+        start = folder.rstrip(b"/") + b"/"
+        yield from self.rows("SELECT id, path, problem FROM pictures WHERE path > ? AND path < ? ORDER BY path", (start, start[:-1] + b"0"))
 
-    def _put_one(self, run: int, it: "Entry") -> None:
-        taken = it.taken
-        if taken.problem == "Vanished":  # what it said is kept for those who look for it
-            words = (taken.problem, taken.detail, run, taken.path)
-            changed = self._base.execute("UPDATE pictures SET problem = ?, detail = ?, run = ? WHERE path = ?", words)
-            if changed.rowcount:
-                return
-        self._base.execute("DELETE FROM pictures WHERE path = ?", (taken.path,))
-        row = (taken.path, it.root, it.size, it.modified, taken.type, taken.problem, taken.detail, taken.copies, run)
-        columns = "path, root, size, modified, type, problem, detail, copies, run"
-        added = self._base.execute(f"INSERT INTO pictures ({columns}) VALUES (?, ?, ?, ?, ?, ?, ?, ?, ?)", row)
-        for block in it.judgements:
-            told = (block.kind, block.status, block.digest, block.cause, block.place, block.length, block.octets, block.fields)
-            self._base.execute("INSERT INTO blocks VALUES (?, ?, ?, ?, ?, ?, ?, ?, ?)", (added.lastrowid, *told))
+    def pictures(self, only: Optional[str] = None) -> Iterator[Picture]:
+        """Each picture, by path; `only` is a table of paths, as `choose` makes it."""
+        where = f"WHERE path IN {only}" if only else ""
+        yield from self.rows(f"SELECT {_PICTURE} FROM pictures {where} ORDER BY path", (), picture_of_row)
 
-    def pictures(self, with_fields: bool = False) -> Iterator[Picture]:
-        """Each picture with its blocks, by path; what the blocks say only where it is asked for."""
-        kept = "fields" if with_fields else "NULL"
-        rows = self._base.execute(
-            "SELECT path, root, type, problem, detail, copies, kind, status, digest, cause, place, length, octets,"
-            f" {kept} FROM pictures LEFT JOIN blocks ON picture = id ORDER BY path, kind"
-        )
-        last: Optional[Picture] = None
-        for path, root, kind, problem, detail, copies, *block in rows:
-            if last is None or last.path != path:
-                if last is not None:
-                    yield last
-                last = Picture(bytes(path), bytes(root), kind, problem, detail, copies)
-            if block[0] is not None:
-                last.blocks[block[0]] = Block(*block)
-        if last is not None:
-            yield last
+    def blocks_of(self, picture: Picture) -> List[Block]:
+        """A picture's blocks, in the order of the file, without their fields."""
+        return list(self.rows(f"SELECT {_BLOCK} FROM blocks WHERE picture = ? ORDER BY number", (picture.id,), block_of_row))
 
-    def fields_of(self, path: bytes, kind: str) -> List[Field]:
+    def not_read_of(self, picture: Picture) -> List[NotRead]:
+        """The parts of a picture that were not read."""
+        query = "SELECT what, digest FROM not_read WHERE picture = ? ORDER BY number"
+        return list(self.rows(query, (picture.id,), not_read_of_row))
+
+    def choose(self, paths: Iterable[bytes]) -> str:
+        """A temporary table of paths; its name."""
+        with self.guarded():
+            self.base.execute("CREATE TEMP TABLE chosen (path BLOB PRIMARY KEY) WITHOUT ROWID")
+            self.base.executemany("INSERT OR IGNORE INTO chosen VALUES (?)", ((it,) for it in paths))
+        return "temp.chosen"
+
+    def fields_of(self, picture: Picture, block: Block) -> List[Field]:
         """What one block says, field by field; nothing where it isn't kept."""
-        query = "SELECT fields FROM blocks JOIN pictures ON picture = id WHERE path = ? AND kind = ?"
-        row = self._base.execute(query, (path, kind)).fetchone()
-        return unpacked(row[0]) if row and row[0] else []
+        query = "SELECT fields FROM blocks WHERE picture = ? AND number = ?"
+        return next(self.rows(query, (picture.id, block.number), lambda row: unpacked(row[0]) if row[0] else []), [])
+
+    def roots(self) -> List[bytes]:
+        """Each folder that was indexed."""
+        return [it[0] for it in self.rows("SELECT DISTINCT root FROM pictures ORDER BY root")]
 
     def copy_to(self, name: str) -> None:
         """Copies the whole catalogue to another file."""
-        other = sqlite3.connect(name)
-        with other:
-            self._base.backup(other)
-        other.close()
+        with self.guarded():
+            other = sqlite3.connect(name)
+            try:
+                self.base.backup(other)
+                other.execute("PRAGMA journal_mode = DELETE")
+            finally:
+                other.close()
 
 
-@dataclass(frozen=True)
-class Entry:
-    """What is known of a picture after it was looked at, as `Catalogue.put` takes it."""
+def _known(row: Tuple[int, Optional[int], int, int, int, Optional[str]]) -> Known:
+    return Known(row[0], None if row[1] is None else Stamp(*row[1:5]), row[5])
 
-    taken: Taken
-    root: bytes
-    size: Optional[int]
-    modified: Optional[int]
-    judgements: Tuple[Judgement, ...]
+
+def counted(catalogue: Catalogue, query: str, values: Sequence[object] = ()) -> Dict[str, int]:
+    """The rows of a query as a table: the first column names, the second counts."""
+    return {str(name): int(count) for name, count in catalogue.rows(query, values)}

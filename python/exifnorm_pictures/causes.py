@@ -43,7 +43,8 @@ _CAUSES = (
         "UnknownKind",
         "What was given is neither an Exif block nor an IPTC record.",
         "An Exif block begins with `II*\\0` or `MM\\0*`, an IPTC record with the octet 1C. An empty block, a whole JPEG, XMP and"
-        " Photoshop resources begin otherwise. A picture without metadata gives an empty block.",
+        " Photoshop resources begin otherwise, and so does a BigTIFF (`II+\\0` or `MM\\0+`), whose offsets have eight bytes: it is"
+        " not read at all. A picture without metadata gives an empty block.",
         "3C 78 3A 78 6D 70 ..      <x:xmp .. is XMP\nFF D8 FF E1 ..            a whole JPEG\n!",
         (("pictures without metadata, through a tool that gives an empty block with status 0", "many"),),
         "ExifTool: `Malformed APP1 EXIF segment`. exiv2: `This does not look like a TIFF image`. exif: `Corrupt data`. Pillow:"
@@ -156,14 +157,16 @@ _CAUSES = (
     Cause(
         "MisplacedOffset",
         "A field holds offsets of data outside the directory, at a place where they aren't followed.",
-        "Offsets of strips and tiles lead to the pixels of a TIFF picture, SubIFDs to further directories. A form that moves things"
-        " would leave them dangling.",
+        "Offsets of strips (StripOffsets) and of tiles (TileOffsets) lead to the pixels of a TIFF picture, SubIFDs to further"
+        " directories, as to the smaller copies of a pyramid. A form that moves things would leave them dangling. So a whole TIFF"
+        " picture, with strips or with tiles, is no block; each of its pages is one without these entries.",
         "0111 StripOffsets: 8  in the main directory --> pixels?\n!",
-        (("every TIFF and raw picture, where the whole file is given as a block", "all"),),
+        (("every TIFF and raw picture, tiled and pyramid TIFFs too, where the whole file is given as a block", "all"),),
         "ExifTool, exiv2, exif, Pillow and piexif show the offsets as numbers.",
-        "Of a TIFF or raw picture take the block through exiv2, which leaves the pixels' tags out; `exifnorm-pictures` does so by"
-        " itself. In a JPEG such fields lead nowhere: the rebuild leaves them out.",
-        "The tags of the pixels (widths, strips), which are no metadata of the picture's making.",
+        "Give the picture itself to `exifnorm-pictures`, without `--block`. It takes each page and each SubIFD of a TIFF as a block of"
+        " its own and leaves these entries out, and takes the block of a raw picture through exiv2. In a JPEG such fields lead"
+        " nowhere: the rebuild leaves them out.",
+        "None of a TIFF: where its pixels are is no metadata. exiv2 also leaves out other tags of the pixels of a raw picture.",
     ),
     Cause(
         "PointerForm",

@@ -5,8 +5,10 @@ from __future__ import annotations
 from dataclasses import dataclass, field
 from typing import List, Optional
 
+from . import xmp
 from .causes import CAUSES, Cause
-from .engine import ACCEPTED, REFUSED, Judgement, judge
+from .engine import ACCEPTED, REFUSED, Judgement, judge, judge_packet
+from .formats.found import XMP
 from .layout import EntryAt, Layout, Part, hexadecimal
 from .texts import Members
 
@@ -15,7 +17,10 @@ _OTHER_FILES = (
     (b"\x89PNG", "This is a whole PNG; cut the block out: exiftool -b -Exif PICTURE"),
     (b"8BIM", "These are Photoshop resources; the IPTC record inside: exiftool -b -IPTC PICTURE"),
     (b"Photoshop 3.0", "These are Photoshop resources; the IPTC record inside: exiftool -b -IPTC PICTURE"),
-    (b"<", "This is XML, perhaps XMP, which exifnorm doesn't read."),
+    (b"II+\0", "This is a BigTIFF, whose offsets have eight bytes; it is not read."),
+    (b"MM\0+", "This is a BigTIFF, whose offsets have eight bytes; it is not read."),
+    (b"RIFF", "This is a whole WebP; give it without --block."),
+    (b"<", "This is XML, perhaps XMP, which is compared in whole pictures: give the picture without --block."),
 )
 
 
@@ -32,7 +37,7 @@ class Explanation:
     def lines(self) -> List[str]:
         """The explanation as text."""
         if self.cause is None:
-            return [f"{self.kind}: {self.judgement.line}"]
+            return [f"{self.kind}: {self.judgement.line}", *(f"  {it}" for it in self.here)]
         found = [f"{self.kind}: {self.judgement.line}", f"  {self.cause.sentence} {self.cause.meaning}"]
         found += [f"  {it}" for it in self.here]
         found += [f"    {it}" for it in self.octets]
@@ -44,6 +49,8 @@ class Explanation:
     def members(self) -> Members:
         """The explanation as a JSON object."""
         known: Members = {"kind": self.kind, "status": self.judgement.status, "cause": self.judgement.cause, "place": self.judgement.place}
+        if self.cause is None and self.here:
+            known["sentence"] = self.here[0]
         if self.cause is not None:
             known.update(sentence=self.cause.sentence, meaning=self.cause.meaning, here=self.here, bytes=self.octets)
             known.update(writers=[list(it) for it in self.cause.writers], remedy=self.cause.remedy, cost=self.cause.cost)
@@ -52,6 +59,8 @@ class Explanation:
 
 def explain(kind: str, block: bytes) -> Explanation:
     """Explains one block that was taken as one of `kind`; of an accepted one there is nothing to say."""
+    if kind == XMP:
+        return explain_packet(judge_packet(block))
     judgement = judge(kind, block)
     cause = CAUSES.get(judgement.cause or "") if judgement.status == REFUSED else None
     if cause is None or judgement.place is None:
@@ -61,6 +70,14 @@ def explain(kind: str, block: bytes) -> Explanation:
     layout = Layout(block)
     here = _said_of(layout, judgement.cause or "", judgement.place)
     return Explanation(kind, judgement, cause, here, hexadecimal(layout.block, judgement.place))
+
+
+def explain_packet(judgement: Judgement) -> Explanation:
+    """Explains an XMP packet that was judged; of one that was read there is nothing to say."""
+    return Explanation(XMP, judgement, here=[xmp.CAUSES[judgement.cause]] if judgement.cause else [])
+
+
+_PIXELS = (0x0111, 0x0144, 0x014A)  # StripOffsets, TileOffsets, SubIFDs
 
 
 def _said_of(layout: Layout, cause: str, place: int) -> List[str]:
@@ -146,6 +163,8 @@ def _entry(layout: Layout, cause: str, place: int) -> List[str]:
     it = layout.entries.get(place)
     if it is None:
         return found
+    if cause == "MisplacedOffset" and it.where == "main" and it.tag in _PIXELS:
+        found.append("This seems to be a whole TIFF picture: give it without --block, and each of its pages is taken as a block.")
     before = layout.entries.get(place - 12)
     if cause in ("Unsorted", "Doubled") and before is not None:
         found.append(f"Before it stands {before.label}, {before.form}, last field {before.last}.")

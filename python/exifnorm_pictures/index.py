@@ -3,197 +3,177 @@
 from __future__ import annotations
 
 import os
-import sys
 import time
-from collections import Counter, deque
-from concurrent.futures import Future, ThreadPoolExecutor
+from collections import Counter
+from dataclasses import dataclass, field
 from datetime import datetime, timezone
-from typing import Callable, Deque, Dict, Iterable, List, Optional, TextIO, Tuple
+from typing import Callable, Dict, Iterable, Iterator, List, Optional, Sequence, Set, Tuple
 
-from . import extraction, tools
-from .catalogue import Catalogue, Entry
-from .engine import Judgement, judge
-from .extraction import Taken
-from .walk import Found, below
+from . import looking, tools
+from .catalogue import Catalogue, Known
+from .extraction import PROBLEMS
+from .kept import Entry
+from .looking import How
+from .moves import Departed
+from .progress import Progress
+from .walk import Found, Unlisted, below
 
 BATCH = 100  # pictures of one transaction
 LONGEST_WAIT = 2.0  # seconds until what was found is committed, where pictures are slow
+GONE = ("Vanished", "Moved")
+NEEDED = {"NeedsExifTool": "exiftool", "NeedsExiv2": "exiv2"}
+
+Tell = Callable[[Entry], None]
+Look = Callable[[Sequence[Found], How], Iterator[Entry]]
 
 
-class Progress:
-    """Says on standard error how many pictures are done; on a terminal in one line, elsewhere a line now and then."""
+@dataclass
+class Asked:
+    """What a run is about, and how it goes."""
 
-    def __init__(self, total: int, stream: Optional[TextIO] = None, quiet: bool = False) -> None:
-        self.total = total
-        self.stream = stream or sys.stderr
-        self.quiet = quiet
-        self.began = time.monotonic()
-        self.last = 0.0
-
-    def done(self, count: int) -> None:
-        """Tells that `count` pictures are committed."""
-        now = time.monotonic()
-        on_terminal = self.stream.isatty()
-        if self.quiet or not self.total or (count < self.total and now - self.last < (0.2 if on_terminal else 1.0)):
-            return
-        self.last = now
-        rate = count / max(now - self.began, 0.001)
-        text = f"{count} of {self.total} pictures, {self.total - count} left, {rate:.0f} a second"
-        end = "\n" if not on_terminal or count == self.total else ""
-        print(("\r\x1b[K" if on_terminal else "") + text, end=end, file=self.stream, flush=True)
+    names: Sequence[bytes]
+    again: bool = False  # also the pictures that haven't changed
+    quiet: bool = False
+    how: How = How()
+    tell: Optional[Tell] = None  # called for each picture that was looked at, once it is committed
+    look: Look = looking.looked
 
 
-def index(
-    names: Iterable[bytes],
-    catalogue: Catalogue,
-    catalogue_name: str = "",
-    again: bool = False,
-    jobs: int = 0,
-    quiet: bool = False,
-    told: Optional[Callable[[Entry], None]] = None,
-) -> "Counter[str]":
-    """Looks at the pictures below some folders, or named by themselves; `told` is called for each that was looked at.
+@dataclass
+class Work:
+    """What a run has found that it has to do."""
 
-    What was looked at before, with this size and time, is left as it is, but with `again`. Answers how many pictures of each
-    state there are, and how many are `unchanged`.
+    due: List[Found] = field(default_factory=list)
+    new: Set[bytes] = field(default_factory=set)  # those of them that the catalogue doesn't know
+    unlisted: List[Unlisted] = field(default_factory=list)
+    counts: "Counter[str]" = field(default_factory=Counter)
+    seen: Dict[int, int] = field(default_factory=dict)  # a set of row numbers, 4,096 in a number
+
+
+def index(asked: Asked, catalogue: Catalogue) -> "Counter[str]":
+    """Looks at the pictures below some folders, or named by themselves; how many there are of each state, and how many `unchanged`.
+
+    What was looked at before, with this size, these times and this inode, is left as it is, but with `again`.
     """
-    tools.needed("exiftool")
     run = catalogue.begin_run(_now())
-    found, tops = _found(names, catalogue_name)
-    work, counts = _due(found, catalogue, again)
-    progress = Progress(len(work), quiet=quiet)
-    gone = _gone(found, tops, catalogue)
+    work = _work(asked, catalogue)
+    gone, departed = _gone(asked.names, work, catalogue)
     if gone:
         catalogue.put(run, gone)
-    for entry in gone:
-        counts[_state(entry)] += 1
-        if told:
-            told(entry)
-    _look(work, catalogue, run, jobs or (os.cpu_count() or 1), progress, counts, told)
+    _Looking(asked, catalogue, run, work, departed).all()
+    for it in [*departed.settle(catalogue, run, gone), *_named_wrong(work, catalogue)]:
+        work.counts[it.state] += 1
+        if asked.tell:
+            asked.tell(it)
     catalogue.end_run(run, _now())
-    return counts
+    return work.counts
 
 
 def _now() -> str:
     return datetime.now(timezone.utc).strftime("%Y-%m-%dT%H:%M:%SZ")
 
 
-def _found(names: Iterable[bytes], catalogue_name: str) -> Tuple[List[Found], List[bytes]]:
-    """All files that are to be known, each once, and the folders that were named."""
-    own = os.path.abspath(os.fsencode(catalogue_name)) if catalogue_name else b""
-    given = list(names)
-    unique: Dict[bytes, Found] = {}
-    for it in below(given, leave_out=(own, own + b"-wal", own + b"-shm", own + b"-journal")):
-        unique.setdefault(it.path, it)
-    return list(unique.values()), [os.path.abspath(it) for it in given if os.path.isdir(it)]
+def _own_files(name: str) -> Tuple[bytes, ...]:
+    """The catalogue itself and what SQLite puts beside it, by each name that they may be met under."""
+    names = {os.path.abspath(os.fsencode(name)), os.path.realpath(os.fsencode(name))}
+    return tuple(it + ending for it in names for ending in (b"", b"-wal", b"-shm", b"-journal"))
 
 
-Due = Tuple[Found, Optional[int], Optional[int]]
-
-
-def _due(found: List[Found], catalogue: Catalogue, again: bool) -> Tuple[List[Due], "Counter[str]"]:
-    """The files that have to be looked at, with size and time, and how many are unchanged."""
-    known = catalogue.known()
-    work: List[Due] = []
-    counts: "Counter[str]" = Counter()
-    for it in found:
-        size, modified = _size_and_time(it.path)
-        before = known.get(it.path)
-        if not again and size is not None and before and before[:2] == (size, modified) and not _worth_another(before[2]):
-            counts["unchanged"] += 1
+def _work(asked: Asked, catalogue: Catalogue) -> Work:
+    """The files that have to be looked at, and how many are unchanged; each file once."""
+    work = Work()
+    named: Set[bytes] = set()
+    many = len(asked.names) > 1
+    for it in below(asked.names, work.unlisted.append, _own_files(catalogue.name)):
+        if many:
+            if it.path in named:
+                continue
+            named.add(it.path)
+        known = catalogue.known(it.path)
+        if known is None:
+            work.new.add(it.path)
         else:
-            work.append((it, size, modified))
-    return work, counts
+            work.seen[known.id >> 12] = work.seen.get(known.id >> 12, 0) | 1 << (known.id & 4095)
+        if asked.again or not _is_unchanged(it, known):
+            work.due.append(it)
+        else:
+            work.counts["unchanged"] += 1
+    return work
 
 
-def _size_and_time(path: bytes) -> Tuple[Optional[int], Optional[int]]:
-    try:
-        now = os.stat(path)
-    except OSError:
-        return None, None
-    return now.st_size, now.st_mtime_ns
+def _is_unchanged(it: Found, known: Optional[Known]) -> bool:
+    return known is not None and it.stamp is not None and known.stamp == it.stamp and not _worth_another(known.problem)
 
 
 def _worth_another(problem: Optional[str]) -> bool:
     """Whether a problem may have gone though the file is the same: rights, a program that was installed, a file that is back."""
-    return problem in ("Unreadable", "ToolFailed", "Vanished") or (problem == "NeedsExiv2" and tools.is_there("exiv2"))
+    program = NEEDED.get(problem or "")
+    return problem in ("Unreadable", "ToolFailed", *GONE) or (program is not None and tools.is_there(program))
 
 
-def _gone(found: List[Found], tops: List[bytes], catalogue: Catalogue) -> List[Entry]:
-    """The pictures below the folders that were there before and are not any more."""
-    here = {it.path for it in found}
-    gone = []
-    for path, (_, _, problem) in catalogue.known().items():
-        if path in here or problem == "Vanished" or not any(path.startswith(it.rstrip(b"/") + b"/") for it in tops):
-            continue
-        if not os.path.lexists(path):
-            taken = Taken(path, problem="Vanished", detail=extraction.PROBLEMS["Vanished"])
-            gone.append(Entry(taken, b"", None, None, ()))
-    return gone
+def _gone(names: Iterable[bytes], work: Work, catalogue: Catalogue) -> Tuple[List[Entry], Departed]:
+    """The pictures below the folders that were there before and are not any more, and by what they are known again elsewhere.
+
+    Those of a folder that can't be read aren't gone: nothing is known of them.
+    """
+    hidden = tuple(it.path.rstrip(b"/") + b"/" for it in work.unlisted)
+    gone, departed = [], Departed()
+    for top in {os.path.abspath(it) for it in names if os.path.isdir(it)}:
+        for number, path, problem in catalogue.below(top):
+            if work.seen.get(number >> 12, 0) >> (number & 4095) & 1 or problem in GONE or path.startswith(hidden):
+                continue
+            if not os.path.lexists(path):
+                gone.append(Entry(path, b"", problem="Vanished", detail=PROBLEMS["Vanished"]))
+                departed.add(catalogue, number, path)
+    return gone, departed
 
 
-Judged = Tuple[Taken, Tuple[Judgement, ...]]
+def _named_wrong(work: Work, catalogue: Catalogue) -> Iterator[Entry]:
+    """A line for each folder that can't be read, and for each name that leads nowhere. Nothing of it is kept."""
+    for it in work.unlisted:
+        known = sum(1 for _ in catalogue.below(it.path))
+        kept = f"; its {known} pictures stay as they were" if known else ""
+        yield Entry(it.path, b"", problem="Unreadable", detail=it.reason + kept)
 
 
-def _judged(taken: Taken) -> Judged:
-    """Judges the blocks of a picture. The engine and the compression run beside one another in several threads."""
-    return taken, tuple(judge(kind, block, with_fields=True) for kind, block in taken.blocks())
+def _version(program: str) -> Optional[str]:
+    try:
+        return tools.version(program)
+    except tools.Failed as error:
+        return str(error)
 
 
-def _versions() -> Tuple[str, Optional[str]]:
-    return tools.version("exiftool") or "", tools.version("exiv2")
+class _Looking:
+    """Looks at pictures and commits what was found in batches; then it is told."""
 
+    def __init__(self, asked: Asked, catalogue: Catalogue, run: int, work: Work, departed: Departed) -> None:
+        self.asked, self.catalogue, self.run, self.work, self.departed = asked, catalogue, run, work, departed
+        self.progress = Progress(len(work.due), quiet=asked.quiet)
+        self.ready: List[Entry] = []
+        self.done = 0
+        self.last = time.monotonic()
 
-def _look(
-    work: List[Due],
-    catalogue: Catalogue,
-    run: int,
-    jobs: int,
-    progress: Progress,
-    counts: "Counter[str]",
-    told: Optional[Callable[[Entry], None]],
-) -> None:
-    """Takes the blocks, judges them in several threads, and commits what was found in batches; then it is told."""
-    about = {it.path: (it.root, size, modified) for it, size, modified in work}
-    waiting: Deque["Future[Judged]"] = deque()
-    ready: List[Entry] = []
-    done = 0
-    last = time.monotonic()
+    def all(self) -> None:
+        """Looks at all that is due."""
+        if not self.work.due:
+            return
+        self.catalogue.set_versions(self.run, _version("exiftool"), _version("exiv2"))
+        for it in self.asked.look(self.work.due, self.asked.how):
+            self.ready.append(it)
+            if len(self.ready) >= BATCH or time.monotonic() - self.last > LONGEST_WAIT:
+                self.commit()
+        self.commit()
 
-    def commit() -> None:
-        nonlocal done, last
-        if not done:
-            catalogue.set_versions(run, *versions.result())
-        catalogue.put(run, ready)
-        done += len(ready)
-        for entry in ready:
-            counts[_state(entry)] += 1
-            if told:
-                told(entry)
-        ready.clear()
-        last = time.monotonic()
-        progress.done(done)
-
-    def settle(most: int) -> None:
-        while len(waiting) > most:
-            taken, judgements = waiting.popleft().result()
-            root, size, modified = about[taken.path]
-            ready.append(Entry(taken, root, size, modified, judgements))
-
-    with ThreadPoolExecutor(jobs) as pool:
-        versions = pool.submit(_versions)
-        for taken in extraction.take(list(about)):
-            waiting.append(pool.submit(_judged, taken))
-            settle(4 * jobs)
-            if len(ready) >= BATCH or time.monotonic() - last > LONGEST_WAIT:
-                commit()
-        settle(0)
-        commit()
-
-
-def _state(entry: Entry) -> str:
-    if entry.taken.problem:
-        return entry.taken.problem
-    if any(it.status != "accepted" for it in entry.judgements):
-        return "refused"
-    return "accepted" if entry.judgements else "no block"
+    def commit(self) -> None:
+        """Keeps what was found."""
+        self.catalogue.put(self.run, self.ready)
+        self.done += len(self.ready)
+        for it in self.ready:
+            self.work.counts[it.state] += 1
+            if it.path in self.work.new:
+                self.departed.meet(it)
+            if self.asked.tell:
+                self.asked.tell(it)
+        self.ready.clear()
+        self.last = time.monotonic()
+        self.progress.done(self.done)

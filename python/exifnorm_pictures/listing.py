@@ -145,6 +145,9 @@ def readable(found: List[Field], kind: str) -> Iterator[str]:
             where = it.where
             yield f"  [{where}]"
         name = it.name.partition(":")[2]
+        if where == "xmp":
+            yield f"    {name:<35} {it.type:<14} {shortened(it.shown)}"
+            continue
         count = f"{it.type.lower()}[{it.elements}]"
         yield f"    {it.key:<6} {name:<28} {count:<14} {shortened(it.shown)}".rstrip()
 
@@ -200,17 +203,19 @@ def only_maker_note(before: List[Field], after: List[Field]) -> bool:
     return [it for it in before if it[:2] != MAKER_NOTE] == [it for it in after if it[:2] != MAKER_NOTE] and before != after
 
 
-_PLACES = ["main", "exif", "interop", "gps", "thumb", "iptc"]
+_PLACES = ["main", "exif", "interop", "gps", "thumb", "iptc", "xmp"]
 
 
-def _order(key: Tuple[str, str]) -> Tuple[int, Tuple[int, ...]]:
+def _order(key: Tuple[str, str]) -> Tuple[int, Tuple[int, ...], str]:
     where, tag = key
     number: Tuple[int, ...]
-    if ":" in tag:
+    if where == "xmp":
+        number = ()
+    elif ":" in tag:
         number = tuple(int(it) for it in tag.split(":"))
     else:
         number = (int(tag, 16),) if re.fullmatch("[0-9a-f]{4}", tag) else (1 << 16,)  # a thumbnail, behind all tags
-    return (_PLACES.index(where) if where in _PLACES else len(_PLACES), number)
+    return (_PLACES.index(where) if where in _PLACES else len(_PLACES), number, tag)
 
 
 _Value = Tuple[str, int, str]  # type, elements, as it is shown
@@ -230,4 +235,4 @@ def _one_line(values: Optional[List[_Value]]) -> Optional[str]:
 
 
 def _with_type(kind: str, count: int, shown: str) -> str:
-    return shortened(shown) if kind in ("ASCII", "octets") else f"{kind.lower()}[{count}] {shortened(shown)}"
+    return shortened(shown) if kind in ("ASCII", "octets", "text", "URI") else f"{kind.lower()}[{count}] {shortened(shown)}"

@@ -10,9 +10,10 @@ from collections import Counter
 from dataclasses import dataclass, field
 from typing import Callable, Dict, List, Optional, Tuple
 
-from . import tools
-from .engine import ACCEPTED, judge
-from .extraction import Taken, take_one
+from . import tools, writing
+from .engine import ACCEPTED, judge_all
+from .extraction import blocks_of
+from .formats.found import Blocks
 
 COPY, NONE = "copy", "none"
 STEPS = ("touch", "exiv2", "rebuild")
@@ -40,34 +41,43 @@ class Mended:
     problem: str = ""
 
 
-def mend(picture: bytes, out: bytes) -> Mended:
-    """Writes a copy with accepted blocks to `out`, which must not be there; raises `NotWritten`, `tools.Missing`.
+def mend(picture: bytes, out: bytes, room: str) -> Mended:
+    """Writes a copy with accepted blocks to `out`, which must not be there; raises `NotWritten`, `tools.Missing`, `tools.Failed`.
 
     The steps are tried in the order of `STEPS`. The first that changes no printed value is taken, otherwise the one that loses
-    fewest, and of these the one that adds fewest. What ExifTool prints is compared, without offsets.
+    fewest, and of these the one that adds fewest. What ExifTool prints is compared, without offsets. Temporary files are made in
+    the folder `room`.
     """
     tools.needed("exiftool")
     if os.path.lexists(out):
         raise NotWritten("the copy is there already")
-    taken = take_one(picture)
+    taken = blocks_of(picture)
     if taken.problem:
         return Mended(NONE, {}, problem=f"{taken.problem}: {taken.detail}")
     before = _refusals(taken)
-    with tempfile.TemporaryDirectory(prefix="exifnorm-") as room:
-        if not before:
-            _copy(picture, out)
-            return Mended(COPY, {})
-        best = _best(picture, room)
+    if not before:
+        _put(picture, picture, out)
+        return Mended(COPY, {})
+    with tempfile.TemporaryDirectory(dir=room) as own:
+        best = _best(picture, own)
         if best is None:
             return Mended(NONE, before)
         step, made, lost, gained = best
-        _copy(os.fsencode(made), out)
+        _put(os.fsencode(made), picture, out)
         return Mended(step, before, lost, gained)
 
 
-def _refusals(taken: Taken) -> Dict[str, str]:
-    judged = [judge(kind, block) for kind, block in taken.blocks()]
-    return {it.kind: it.line for it in judged if it.status != ACCEPTED}
+def _put(made: bytes, picture: bytes, out: bytes) -> None:
+    """Writes the bytes of `made` to `out`, with the mode and times of the picture."""
+    try:
+        writing.copy_new(made, out, like=os.stat(picture))
+    except OSError as error:
+        raise NotWritten("the copy is there already" if isinstance(error, FileExistsError) else error.strerror or str(error)) from error
+
+
+def _refusals(taken: Blocks) -> Dict[str, str]:
+    """The refusal of each block that isn't accepted, by the block's name."""
+    return {it.name: it.line for it in judge_all(taken) if it.status != ACCEPTED}
 
 
 Result = Tuple[str, str, List[str], List[str]]
@@ -77,7 +87,7 @@ def _best(picture: bytes, room: str) -> Optional[Result]:
     extension = re.search(rb"\.[A-Za-z0-9]{1,8}\Z", picture)
     suffix = extension[0].decode("ascii") if extension else ""
     first = os.path.join(room, "first" + suffix)
-    _copy(picture, os.fsencode(first))
+    shutil.copyfile(picture, os.fsencode(first))
     said = _printed(first)
     best: Optional[Result] = None
     for step in STEPS:
@@ -85,7 +95,7 @@ def _best(picture: bytes, room: str) -> Optional[Result]:
         shutil.copyfile(first, made)
         if not _REMEDIES[step](made):
             continue
-        taken = take_one(os.fsencode(made))
+        taken = blocks_of(os.fsencode(made))
         if taken.problem or _refusals(taken):
             continue
         after = _printed(made)
@@ -97,20 +107,12 @@ def _best(picture: bytes, room: str) -> Optional[Result]:
     return best
 
 
-def _copy(source: bytes, target: bytes) -> None:
-    try:
-        with open(source, "rb") as given, open(target, "xb") as made:
-            shutil.copyfileobj(given, made)
-    except OSError as error:
-        raise NotWritten(error.strerror or str(error)) from error
-
-
 _FREE = ("PageName", "DocumentName", "HostComputer")
 
 
 def _free_field(name: str) -> Optional[str]:
     """A field of the main directory that the picture doesn't have, so that adding and taking it away changes none."""
-    said = tools.run([tools.needed("exiftool"), "-q", "-q", "-m", "-s", *(f"-IFD0:{it}" for it in _FREE), name]).stdout
+    said = tools.run(tools.exiftool("-q", "-q", "-m", "-s", *(f"-IFD0:{it}" for it in _FREE), name)).stdout
     there = {line.split(b":")[0].strip().decode("ascii", "replace") for line in said.split(b"\n")}
     return next((it for it in _FREE if it not in there), None)
 
@@ -121,10 +123,10 @@ def _touch(name: str) -> bool:
     if free is None:
         return False
     adding, taking = [f"-IFD0:{free}=zz"], [f"-IFD0:{free}="]
-    if tools.run([tools.needed("exiftool"), "-q", "-q", "-m", "-b", "-IPTC", name]).stdout:
+    if tools.run(tools.exiftool("-q", "-q", "-m", "-b", "-IPTC", name)).stdout:
         adding.append("-IPTC:SubjectReference+=exifnorm:01000000:mend")
         taking.append("-IPTC:SubjectReference-=exifnorm:01000000:mend")
-    call = [tools.needed("exiftool"), "-q", "-q", "-m", "-overwrite_original"]
+    call = tools.exiftool("-q", "-q", "-m", "-overwrite_original")
     return tools.run([*call, *adding, name]).returncode == 0 and tools.run([*call, *taking, name]).returncode == 0
 
 
@@ -139,7 +141,7 @@ def _by_exiv2(name: str) -> bool:
 
 def _rebuild(name: str) -> bool:
     words = ["-q", "-q", "-m", "-overwrite_original", "-all=", "-tagsfromfile", "@", "-all:all", "-unsafe", name]
-    return tools.run([tools.needed("exiftool"), *words]).returncode == 0
+    return tools.run(tools.exiftool(*words)).returncode == 0
 
 
 _REMEDIES: Dict[str, Callable[[str], bool]] = {"touch": _touch, "exiv2": _by_exiv2, "rebuild": _rebuild}
@@ -150,7 +152,7 @@ _OFFSETS = re.compile(rb"Offset|Start |Padding|IPTCDigest")
 def _printed(name: str) -> "Counter[str]":
     """All values that ExifTool prints, without those that say where something stands."""
     words = ["-q", "-q", "-m", "-a", "-u", "-s", "-G1", "-x", "System:all", "-x", "File:all", "-x", "Composite:all"]
-    said = tools.run([tools.needed("exiftool"), *words, "-x", "ExifTool:all", "-x", "JFIF:all", name]).stdout
+    said = tools.run(tools.exiftool(*words, "-x", "ExifTool:all", "-x", "JFIF:all", name)).stdout
     lines = [it for it in said.split(b"\n") if it and not _OFFSETS.search(it)]
     cleaned = (re.sub(rb", use -b.*", b"", it).decode("utf-8", "backslashreplace") for it in lines)
     return Counter(re.sub(r"\s+", " ", it) for it in cleaned)

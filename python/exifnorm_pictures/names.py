@@ -14,6 +14,7 @@ DIRECTORIES: Dict[str, str] = {
     "gps": "GPS directory",
     "thumb": "thumbnail directory (1st IFD)",
     "iptc": "IPTC record",
+    "xmp": "XMP packet",
 }
 
 
@@ -107,6 +108,8 @@ def name_of(where: str, key: str) -> str:
     >>> name_of("main", "010f"), name_of("gps", "0002"), name_of("iptc", "2:25"), name_of("main", "fe01")
     ('Make', 'GPSLatitude', 'Keywords', 'Tag fe01')
     """
+    if where == "xmp":
+        return key  # which is a name
     for table in _TABLES.get(where, ()):
         if key in table:
             return table[key]

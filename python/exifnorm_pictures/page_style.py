@@ -36,5 +36,11 @@ td, th { border-top: 1px solid var(--line); padding: 5px 12px 5px 0; vertical-al
   object-fit: contain; background: var(--ground); border-radius: 6px; margin-bottom: 5px; align-items: center;
   justify-content: center; color: var(--faint); }
 footer { padding-bottom: 40px; font-size: 13px; }
+@media (max-width: 560px) { header, main, footer { padding: 0 10px; } section { padding: 14px 12px; border-radius: 8px; }
+  h1 { font-size: 22px; overflow-wrap: anywhere; } .cards { grid-template-columns: repeat(2, minmax(0, 1fr)); }
+  .cards b { font-size: 21px; } .cards li { padding: 8px 10px; font-size: 13px; }
+  .small { grid-template-columns: repeat(2, minmax(0, 1fr)); } table, tbody, tr, th, td { display: block; width: auto; }
+  .fields th, .fields td { width: auto; } tr { border-top: 1px solid var(--line); padding: 5px 0; } td, th { border: 0; padding: 1px 0; }
+  td, th, li, summary, p { overflow-wrap: anywhere; } ul { padding-left: 18px; } svg text { font-size: 20px; } }
 @media print { section { break-inside: avoid; border: 0; padding: 0; } }
 """

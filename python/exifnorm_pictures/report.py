@@ -1,105 +1,222 @@
-"""`report`: what is known of a catalogue, gathered, and one self-contained page about it without any script."""
+"""`report`: what is known of a catalogue, gathered, and one self-contained page about it without any script.
+
+The page shows counts and the first hundreds of what there is, so that it opens at once; the rest is in `members`.
+"""
 
 from __future__ import annotations
 
+import heapq
+import json
 from collections import Counter
 from dataclasses import dataclass, field
 from datetime import datetime, timezone
 from html import escape
-from typing import Dict, Iterator, List, Optional, Set, Tuple
+from typing import Any, Dict, Iterator, List, Optional, Set, Tuple
 
-from . import compare
-from .catalogue import Catalogue, Picture, Run
+from . import changed, groups
+from .catalogue import Catalogue, Run
 from .causes import CAUSES
-from .compare import Compared, Group
-from .engine import ACCEPTED, KIND_NAMES
+from .changed import Compared, Equal
 from .extraction import PROBLEMS
+from .kept import KIND_OF, WORDS, Picture, has
 from .page_style import STYLE
 from .texts import Members, path_members, shown_path
 from .thumbnails import small_pictures
 
-MOST_GROUPS, MOST_OF_GROUP, MOST_CHANGES, MOST_OPEN, MOST_FIELDS, MOST_REFUSED = 40, 12, 300, 8, 40, 60
+MOST_GROUPS, MOST_OF_GROUP, MOST_CHANGES, MOST_OPEN, MOST_FIELDS, MOST_REFUSED, MOST_NAMES = 40, 12, 300, 8, 40, 60, 60
 
 STATE_WORDS = {
     "accepted": "accepted: all blocks say something",
-    "refused": "with a block that is refused",
-    "no block": "without an Exif or IPTC block",
+    "refused": "with a block that is refused or unreadable",
+    "no block": "without an Exif, IPTC or XMP block",
     "NoPicture": "no picture",
     "Unreadable": "not readable",
     "Vanished": "gone since an earlier run",
+    "Moved": "moved since an earlier run",
     "SeveralBlocks": "with several Exif blocks (CR3)",
-    "NeedsExiv2": "TIFF or raw, for want of exiv2",
+    "BigTIFF": "BigTIFF, which is not read",
+    "NeedsExiv2": "raw, and exiv2 is not installed",
+    "NeedsExifTool": "of another format, and ExifTool is not installed",
     "ToolFailed": "at which a program failed",
 }
 
 
 @dataclass
+class About:
+    """What a report is about: a catalogue, an older one, and the pictures that were chosen."""
+
+    catalogue: Catalogue
+    old: Optional[Catalogue] = None
+    only: Optional[Set[bytes]] = None
+    _table: Optional[str] = None
+
+    def table(self) -> Optional[str]:
+        """The chosen paths as a temporary table."""
+        if self.only is not None and self._table is None:
+            self._table = self.catalogue.choose(self.only)
+        return self._table
+
+
+@dataclass(frozen=True)
+class Refused:
+    """A block that isn't accepted."""
+
+    path: bytes
+    kind: str
+    name: str
+    cause: str
+    place: Optional[int]
+
+    @property
+    def refusal(self) -> str:
+        return self.cause if self.place is None else f"{self.cause} at {self.place}"
+
+
+@dataclass
+class EqualChanges:
+    """A difference, in how many pictures it is, and the first of their names."""
+
+    result: str
+    note: str
+    lines: List[Tuple[str, Optional[str], Optional[str]]]
+    count: int
+    names: List[bytes]
+
+
+@dataclass
 class Gathered:
-    """What a report tells."""
+    """What a page shows."""
 
     total: int = 0
     states: "Counter[str]" = field(default_factory=Counter)
     causes: "Counter[str]" = field(default_factory=Counter)
-    refused: Dict[str, List[Tuple[bytes, str, str]]] = field(default_factory=dict)  # by cause: path, kind, refusal
+    refused: Dict[str, List[Refused]] = field(default_factory=dict)  # the first of each cause
+    parts: "Counter[str]" = field(default_factory=Counter)  # what was not read, in how many pictures
+    unread: int = 0
     problems: List[Picture] = field(default_factory=list)
-    groups: List[Group] = field(default_factory=list)
+    all_problems: int = 0
+    groups: List[Tuple[int, str, List[bytes]]] = field(default_factory=list)  # how many, what is the same, the first pictures
+    all_groups: Tuple[int, int] = (0, 0)  # groups, and pictures in them
     results: "Counter[str]" = field(default_factory=Counter)
-    changed: List[Compared] = field(default_factory=list)
+    changed: List[EqualChanges] = field(default_factory=list)
+    all_changed: int = 0  # different changes
     fields: "Counter[str]" = field(default_factory=Counter)
     since: bool = False
     runs: List[Run] = field(default_factory=list)
     roots: List[bytes] = field(default_factory=list)
 
 
-def gather(catalogue: Catalogue, old: Optional[Catalogue] = None, only: Optional[Set[bytes]] = None) -> Gathered:
-    """What a catalogue tells, and what changed since an older one."""
-    found = Gathered(runs=catalogue.runs(), since=old is not None)
-    roots: Set[bytes] = set()
-    for picture in catalogue.pictures():
-        if only is not None and picture.path not in only:
-            continue
+def gather(about: About) -> Gathered:
+    """What a catalogue tells, and what changed since an older one: counts, and the first of each list."""
+    catalogue = about.catalogue
+    found = Gathered(runs=catalogue.runs(), since=about.old is not None, roots=catalogue.roots())
+    later: List[Picture] = []
+    for picture in catalogue.pictures(about.table()):
         found.total += 1
         found.states[picture.state] += 1
-        roots.add(picture.root)
         if picture.problem:
-            found.problems.append(picture)
-            continue
-        for block in picture.blocks.values():
-            if block.status != ACCEPTED:
-                found.causes[block.cause or block.status] += 1
-                found.refused.setdefault(block.cause or block.status, []).append((picture.path, block.kind, block.refusal))
-    found.roots = sorted(roots)
-    found.groups = compare.groups(catalogue, only=only)
-    if old is not None:
-        _gather_changes(found, old, catalogue)
+            found.all_problems += 1
+            kept = later if picture.problem == "NoPicture" else found.problems
+            if len(kept) < MOST_CHANGES:
+                kept.append(picture)
+    found.problems = (found.problems + later)[:MOST_CHANGES]
+    for it in _refused(about):
+        found.causes[it.cause] += 1
+        kept_ = found.refused.setdefault(it.cause, [])
+        if len(kept_) < MOST_REFUSED:
+            kept_.append(it)
+    _gather_parts(found, about)
+    found.all_groups = groups.totals(catalogue, only=about.table())
+    for group in groups.groups(catalogue, only=about.table(), most=MOST_GROUPS):
+        found.groups.append((group.count, group.sentence(), list(group.pictures(MOST_OF_GROUP))))
+    if about.old is not None:
+        _gather_changes(found, about)
     return found
 
 
-def _gather_changes(found: Gathered, old: Catalogue, catalogue: Catalogue) -> None:
-    for it in compare.changed(old, catalogue):
+def _chosen(about: About) -> str:
+    return f"problem IS NULL AND path IN {about.table()}" if about.table() else "problem IS NULL"
+
+
+def _refused(about: About) -> Iterator[Refused]:
+    """Each block that isn't accepted."""
+    query = (
+        "SELECT path, kind, name, ifnull(cause, status), place FROM blocks JOIN pictures ON pictures.id = picture"
+        f" WHERE status != 'accepted' AND {_chosen(about)} ORDER BY path, number"
+    )
+    yield from about.catalogue.rows(query, (), _refused_of_row)
+
+
+def _refused_of_row(row: Tuple[Any, ...]) -> Refused:
+    path, kind, name, cause, place = row
+    has(bytes, path)
+    has(str, name, cause)
+    return Refused(path, KIND_OF[kind], name, cause, place)
+
+
+def _gather_parts(found: Gathered, about: About) -> None:
+    query = f"SELECT what, count(*) FROM not_read JOIN pictures ON pictures.id = picture WHERE {_chosen(about)} GROUP BY what"
+    for what, count in about.catalogue.rows(query):
+        found.parts[what] += count
+    query = f"SELECT count(*) FROM pictures WHERE not_read IS NOT '' AND {_chosen(about)}"
+    found.unread = next(about.catalogue.rows(query))[0]
+
+
+def _gather_changes(found: Gathered, about: About) -> None:
+    assert about.old is not None
+    equal = Equal(about.catalogue)
+    for it in changed.changed(about.old, about.catalogue, about.only):
         found.results[it.result] += 1
-        if it.result in compare.UNCHANGED:
+        if it.result in changed.UNCHANGED:
             continue
-        found.fields.update(set(change.name for change in it.changes))
-        found.changed.append(it)
-    found.changed.sort(key=lambda it: (compare.RESULTS.index(it.result), it.name))
+        found.fields.update({change.name for change in it.changes})
+        to = f"to {shown_path(it.moved_to)}" if it.moved_to is not None else ""
+        said = [it.result, it.note or to, [(one.name, one.before, one.after) for one in it.changes]]
+        equal.add(json.dumps(said), it.name)
+
+    def heads() -> Iterator[Tuple[int, int, int, EqualChanges]]:
+        for number, (said, count, names) in enumerate(equal.all()):
+            result, note, lines = json.loads(said)
+            found.all_changed += 1
+            kept = [name for name, _ in zip(names, range(MOST_NAMES))]
+            yield changed.RESULTS.index(result), -count, number, EqualChanges(result, note, lines, count, kept)
+
+    found.changed = [it[3] for it in heapq.nsmallest(MOST_CHANGES, heads(), key=lambda it: it[:3])]
 
 
-def members(found: Gathered) -> Iterator[Members]:
-    """What is told, as JSON objects."""
-    yield {"pictures": found.total, "states": dict(found.states), "causes": dict(found.causes)}
-    for group in found.groups:
-        yield {"same": [path_members(it) for it in group.pictures], "same_bytes": group.same_octets}
-    if found.since:
-        yield {"results": dict(found.results), "fields": dict(found.fields)}
-    for it in found.changed:
+def members(about: About) -> Iterator[Members]:
+    """All that is known, as JSON objects."""
+    catalogue = about.catalogue
+    states: "Counter[str]" = Counter(it.state for it in catalogue.pictures(about.table()))
+    causes: "Counter[str]" = Counter(it.cause for it in _refused(about))
+    yield {"pictures": sum(states.values()), "states": dict(states), "causes": dict(causes)}
+    for group in groups.groups(catalogue, only=about.table()):
+        known = {"said": group.sentence(), "same_bytes": group.same_bytes, "wholly_read": not group.unread}
+        yield {"same": [path_members(it) for it in group.pictures()], **known}
+    if about.old is not None:
+        yield from _changed_members(about)
+    for it in _refused(about):
+        yield {"refused": path_members(it.path), "kind": WORDS[it.kind], "name": it.name, "cause": it.cause, "refusal": it.refusal}
+    for picture in catalogue.pictures(about.table()):
+        if picture.problem:
+            yield {"problem": picture.problem, **path_members(picture.path), "detail": picture.detail}
+        elif picture.unread != "":
+            yield {"not_read": [it.what for it in catalogue.not_read_of(picture)], **path_members(picture.path)}
+
+
+def _changed_members(about: About) -> Iterator[Members]:
+    assert about.old is not None
+    results: "Counter[str]" = Counter()
+    fields: "Counter[str]" = Counter()
+    for it in changed.changed(about.old, about.catalogue, about.only):
+        results[it.result] += 1
+        if it.result in changed.UNCHANGED:
+            continue
+        fields.update({change.name for change in it.changes})
         changes = [{"name": change.name, "before": change.before, "after": change.after} for change in it.changes]
-        yield {"changed": path_members(it.name), "result": it.result, "note": it.note, "fields": changes}
-    for cause, pictures in found.refused.items():
-        for path, kind, refusal in pictures:
-            yield {"refused": path_members(path), "kind": kind, "cause": cause, "refusal": refusal}
-    for picture in found.problems:
-        yield {"problem": picture.problem, **path_members(picture.path), "detail": picture.detail}
+        moved = {} if it.moved_to is None else {"moved_to": path_members(it.moved_to)}
+        yield {"changed": path_members(it.name), "result": it.result, "note": it.note, **moved, "fields": changes}
+    yield {"results": dict(results), "fields": dict(fields)}
 
 
 # The page
@@ -110,7 +227,7 @@ def page(found: Gathered, title: str) -> str:
     parts = [_head(found, title), _overview(found)]
     if found.since:
         parts.append(_changes(found))
-    parts += [_groups(found), _refusals(found), _problems(found), _foot()]
+    parts += [_groups(found), _refusals(found), _parts(found), _problems(found), _foot()]
     return "".join(parts)
 
 
@@ -128,7 +245,7 @@ def _name(path: bytes, roots: List[bytes]) -> str:
 def _head(found: Gathered, title: str) -> str:
     now = datetime.now(timezone.utc).strftime("%Y-%m-%d %H:%M UTC")
     folders = ", ".join(_text(shown_path(it)) for it in found.roots[:5]) + (" .." if len(found.roots) > 5 else "")
-    tool = f" &middot; blocks cut out by ExifTool {_text(found.runs[-1][2])}" if found.runs and found.runs[-1][2] else ""
+    tool = f" &middot; ExifTool {_text(found.runs[-1][2])}" if found.runs and found.runs[-1][2] else ""
     return f"""<!DOCTYPE html>
 <html lang="en"><head><meta charset="utf-8">
 <meta http-equiv="Content-Security-Policy" content="default-src 'none'; img-src data:; style-src 'unsafe-inline'">
@@ -146,11 +263,12 @@ def _overview(found: Gathered) -> str:
         f'<li class="{_TONES.get(state, "odd")}"><b>{count:,}</b> {_text(STATE_WORDS.get(state, state))}</li>'
         for state, count in found.states.most_common()
     )
-    same = sum(len(it.pictures) for it in found.groups)
-    groups = _counted(len(found.groups), "group")
-    cards += f'<li class="plain"><b>{same:,}</b> say the same as another, in {groups}</li>'
+    number, same = found.all_groups
+    cards += f'<li class="plain"><b>{same:,}</b> say the same as another, in {_counted(number, "group")}</li>'
+    cards += f'<li class="odd"><b>{found.unread:,}</b> not wholly read</li>' if found.unread else ""
     if found.since:
-        cards += f'<li class="odd"><b>{len(found.changed):,}</b> changed since the older catalogue</li>'
+        count = sum(found.results[it] for it in found.results if it not in changed.UNCHANGED)
+        cards += f'<li class="odd"><b>{count:,}</b> changed since the older catalogue</li>'
     return f'<section><h2>At a glance</h2><ul class="cards">{cards}</ul>{_share(found)}</section>\n'
 
 
@@ -184,38 +302,49 @@ def _bars(counts: List[Tuple[str, int]], tone: str, tones: Optional[Dict[str, st
 
 
 _RESULT_TONES = {
-    compare.SAME: "good",
-    compare.ONLY_MAKER_NOTE: "plain",
-    compare.REFUSED_SAME: "plain",
-    compare.REFUSED: "bad",
-    compare.NOT_READ: "bad",
+    changed.SAME: "good",
+    changed.ONLY_MAKER_NOTE: "plain",
+    changed.REFUSED_SAME: "plain",
+    changed.REFUSED: "bad",
+    changed.NOT_READ: "bad",
 }
 
 
 def _changes(found: Gathered) -> str:
-    results = [(it, found.results[it]) for it in compare.RESULTS if found.results[it]]
+    results = [(it, found.results[it]) for it in changed.RESULTS if found.results[it]]
     parts = ["<section><h2>What changed</h2>", _bars(results, "odd", _RESULT_TONES)]
     if found.fields:
         parts += ["<h3>Fields that differ, by number of pictures</h3>", _bars(found.fields.most_common(20), "odd")]
-    for number, it in enumerate(found.changed[:MOST_CHANGES]):
-        tone = _RESULT_TONES.get(it.result, "odd")
-        note = f' <span class="note">{_text(it.note)}</span>' if it.note else ""
-        label = f'<span class="tag {tone}">{_text(it.result)}</span> {_name(it.name, [])}{note}'
-        opened = " open" if number < MOST_OPEN else ""
-        details = f"<details{opened}><summary>{label}</summary>{_fields(it)}</details>"
-        parts.append(details if it.changes else f'<p class="row">{label}</p>')
-    parts.append(_more(len(found.changed), MOST_CHANGES, "pictures"))
+        parts.append(_more(len(found.fields), 20, "fields"))
+    for number, it in enumerate(found.changed):
+        parts.append(_equal(it, number < MOST_OPEN))
+    parts.append(_more(found.all_changed, MOST_CHANGES, "differences"))
     if not found.changed:
         parts.append("<p>Nothing: all pictures say what they said.</p>")
     return "".join(parts) + "</section>\n"
 
 
-def _fields(it: Compared) -> str:
+def _equal(it: EqualChanges, opened: bool) -> str:
+    """One difference and the pictures that it is in."""
+    tone = _RESULT_TONES.get(it.result, "odd")
+    note = f' <span class="note">{_text(it.note)}</span>' if it.note else ""
+    if it.count == 1:
+        label = f'<span class="tag {tone}">{_text(it.result)}</span> {_name(it.names[0], [])}{note}'
+        if not it.lines:
+            return f'<p class="row">{label}</p>'
+        inside = ""
+    else:
+        label = f'<span class="tag {tone}">{_text(it.result)}</span> {it.count:,} pictures{note}'
+        inside = "<ul>" + "".join(f"<li>{_name(name, [])}</li>" for name in it.names) + "</ul>" + _more(it.count, MOST_NAMES, "pictures")
+    fields = _fields(it.lines) if it.lines else ""
+    return f"<details{' open' if opened and it.count == 1 else ''}><summary>{label}</summary>{fields}{inside}</details>"
+
+
+def _fields(lines: List[Tuple[str, Optional[str], Optional[str]]]) -> str:
     rows = "".join(
-        f"<tr><th>{_text(change.name)}</th><td>{_value(change.before)}</td><td>{_value(change.after)}</td></tr>"
-        for change in it.changes[:MOST_FIELDS]
+        f"<tr><th>{_text(name)}</th><td>{_value(before)}</td><td>{_value(after)}</td></tr>" for name, before, after in lines[:MOST_FIELDS]
     )
-    more = _more(len(it.changes), MOST_FIELDS, "fields")
+    more = _more(len(lines), MOST_FIELDS, "fields")
     return f'<table class="fields"><tr><th>Field</th><th>before</th><th>after</th></tr>{rows}</table>{more}'
 
 
@@ -228,24 +357,32 @@ def _counted(count: int, what: str) -> str:
 
 
 def _more(count: int, most: int, what: str) -> str:
-    return f'<p class="note">.. and {count - most:,} more {what}</p>' if count > most else ""
+    return f'<p class="note">.. and {count - most:,} more {what}, which --json lists</p>' if count > most else ""
 
 
 def _groups(found: Gathered) -> str:
-    shown = found.groups[:MOST_GROUPS]
-    small = small_pictures([path for it in shown for path in it.pictures[:MOST_OF_GROUP]])
+    small = small_pictures([path for _, _, pictures in found.groups for path in pictures])
     parts = ["<section><h2>Pictures that say the same</h2>"]
-    if not shown:
+    if not found.groups:
         parts.append("<p>No two pictures say the same.</p>")
-    for it in shown:
-        octets = "the same bytes" if it.same_octets else "laid out in different bytes"
-        parts.append(f'<div class="group"><h3>{len(it.pictures)} pictures <span class="note">{octets}</span></h3><ul class="small">')
-        for path in it.pictures[:MOST_OF_GROUP]:
+    for count, sentence, pictures in found.groups:
+        parts.append(f'<div class="group"><h3>{count:,} pictures <span class="note">{_text(sentence)}</span></h3><ul class="small">')
+        for path in pictures:
             image = f'<img src="{small[path]}" alt="">' if path in small else '<span class="empty">no small picture</span>'
             parts.append(f"<li>{image}{_name(path, found.roots)}</li>")
-        parts.append("</ul>" + _more(len(it.pictures), MOST_OF_GROUP, "pictures") + "</div>")
-    parts.append(_more(len(found.groups), MOST_GROUPS, "groups"))
+        parts.append("</ul>" + _more(count, MOST_OF_GROUP, "pictures") + "</div>")
+    parts.append(_more(found.all_groups[0], MOST_GROUPS, "groups"))
     return "".join(parts) + "</section>\n"
+
+
+def _parts(found: Gathered) -> str:
+    """What was not read."""
+    if not found.parts:
+        return ""
+    rows = "".join(f"<tr><td>{count:,}</td><td>{_text(what)}</td></tr>" for what, count in found.parts.most_common(MOST_REFUSED))
+    more = _more(len(found.parts), MOST_REFUSED, "parts")
+    words = "These parts were compared by a digest of their bytes at most; pictures that differ in them are in no group."
+    return f"<section><h2>What was not read</h2><p>{words}</p><table>{rows}</table>{more}</section>\n"
 
 
 def _refusals(found: Gathered) -> str:
@@ -259,13 +396,12 @@ def _refusals(found: Gathered) -> str:
         if cause:
             parts.append(f"<p><b>{_text(cause.sentence)}</b> {_marked(cause.meaning)}</p>")
             parts.append(f'<p class="remedy"><b>Remedy.</b> {_marked(cause.remedy)} <b>Cost.</b> {_marked(cause.cost)}</p>')
-        pictures = found.refused[name]
         rows = "".join(
-            f"<li>{_name(path, found.roots)} <span class='note'>{KIND_NAMES[kind]}, {_text(refusal)}</span></li>"
-            for path, kind, refusal in pictures[:MOST_REFUSED]
+            f"<li>{_name(it.path, found.roots)} <span class='note'>{_text(it.name)}, {_text(it.refusal)}</span></li>"
+            for it in found.refused[name]
         )
-        parts.append(f"<details><summary>{_counted(len(pictures), 'block')}</summary><ul>{rows}</ul>")
-        parts.append(_more(len(pictures), MOST_REFUSED, "blocks") + "</details>")
+        parts.append(f"<details><summary>{_counted(found.causes[name], 'block')}</summary><ul>{rows}</ul>")
+        parts.append(_more(found.causes[name], MOST_REFUSED, "blocks") + "</details>")
     return "".join(parts) + "</section>\n"
 
 
@@ -276,21 +412,20 @@ def _marked(text: str) -> str:
 
 
 def _problems(found: Gathered) -> str:
-    shown = [it for it in found.problems if it.problem != "NoPicture"] + [it for it in found.problems if it.problem == "NoPicture"]
-    if not shown:
+    if not found.problems:
         return ""
     rows = "".join(
         f"<tr><td><span class='tag {_TONES.get(it.problem or '', 'odd')}'>{_text(it.problem or '')}</span></td>"
         f"<td>{_name(it.path, found.roots)}</td><td class='note'>{_text(it.detail or PROBLEMS.get(it.problem or '', ''))}</td></tr>"
-        for it in shown[:MOST_CHANGES]
+        for it in found.problems
     )
-    more = _more(len(shown), MOST_CHANGES, "files")
+    more = _more(found.all_problems, MOST_CHANGES, "files")
     return f"<section><h2>Files without an answer</h2><table class='files'>{rows}</table>{more}</section>\n"
 
 
 def _foot() -> str:
     return (
-        "</main><footer><p>Two pictures say the same where the normal forms of their Exif and IPTC blocks are equal; pixels and XMP"
-        " are not looked at. Values are shown short, long ones by the first digits of their SHA-256. Made by exifnorm-pictures."
-        "</p></footer></body></html>\n"
+        "</main><footer><p>Two pictures say the same where the normal forms of their Exif and IPTC blocks are equal, which is proved,"
+        " and the statements of their XMP, which is tested. Pixels are not looked at. Values are shown short, long ones by the first"
+        " digits of their SHA-256. Made by exifnorm-pictures.</p></footer></body></html>\n"
     )

@@ -9,6 +9,7 @@ from typing import Dict, Optional, Sequence
 import exifnorm
 
 from . import engine, extraction, tools
+from .formats.found import EXIF
 from .listing import thumbnail
 
 LARGEST = 32_768  # bytes of one small picture
@@ -20,16 +21,22 @@ _BEGINNINGS = ((b"\xff\xd8\xff", "image/jpeg"), (b"\x89PNG\r\n\x1a\n", "image/pn
 def small_pictures(paths: Sequence[bytes]) -> Dict[bytes, str]:
     """A data URI for each of these pictures that has a small picture, up to the bound; the pictures are read anew."""
     found: Dict[bytes, str] = {}
-    if not paths or not tools.is_there("exiftool"):
-        return found
     left = MOST
-    for taken in extraction.take(paths):
-        octets = _embedded(taken.exif) or _by_itself(taken.path)
+    for path in dict.fromkeys(paths):
+        octets = _embedded(_exif(path)) or _by_itself(path)
         kind = _kind(octets) if octets else None
         if octets and kind and len(octets) <= min(LARGEST, left):
             left -= len(octets)
-            found[taken.path] = f"data:{kind};base64,{base64.b64encode(octets).decode('ascii')}"
+            found[path] = f"data:{kind};base64,{base64.b64encode(octets).decode('ascii')}"
     return found
+
+
+def _exif(path: bytes) -> Optional[bytes]:
+    """The first Exif block of a picture, as far as it can be read."""
+    try:
+        return next((it.data for it in extraction.blocks_of(path).of_kind(EXIF)), None)
+    except (tools.Missing, tools.Failed):
+        return None
 
 
 def _kind(octets: bytes) -> Optional[str]:
@@ -41,7 +48,7 @@ def _embedded(block: Optional[bytes]) -> Optional[bytes]:
         return None
     try:
         return thumbnail(engine.listing(block))
-    except (exifnorm.Refused, MemoryError):
+    except (exifnorm.Refused, exifnorm.NormalTooLong, MemoryError):
         return None
 
 

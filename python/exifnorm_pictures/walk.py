@@ -1,44 +1,103 @@
-"""The files that a command is about: all below some folders, or those that are named on standard input."""
+"""The files that a command is about: all below some folders, or those that are named in a list."""
 
 from __future__ import annotations
 
 import os
+import stat
 import sys
-from typing import BinaryIO, Iterable, Iterator, List, NamedTuple, Optional
+from typing import BinaryIO, Callable, Collection, Iterable, Iterator, List, NamedTuple, Optional
+
+from .kept import Stamp
 
 
 class Found(NamedTuple):
-    """A file, and the folder below which it was found (or that it stands in, where it was named by itself)."""
+    """A file, the folder below which it was found (or that it stands in, where it was named by itself), and its marks."""
 
     path: bytes
     root: bytes
+    stamp: Optional[Stamp]  # missing where the file system gives none
 
 
-def below(names: Iterable[bytes], leave_out: Iterable[bytes] = ()) -> Iterator[Found]:
+class Unlisted(NamedTuple):
+    """A folder whose files can't be listed, or a name that leads nowhere, and why."""
+
+    path: bytes
+    reason: str
+
+
+class BadList(ValueError):
+    """A list of names that can't be used."""
+
+
+Tell = Callable[[Unlisted], None]
+
+
+def below(names: Iterable[bytes], unlisted: Tell, leave_out: Collection[bytes] = ()) -> Iterator[Found]:
     """Each file that is named, and all files below each folder that is named, in the order of their names.
 
-    Paths are absolute. Links to folders aren't followed. Hidden files and folders count like others; the files of
-    `leave_out` don't.
+    Paths are absolute. Links to folders aren't followed. Hidden files and folders count like others; the files of `leave_out`
+    don't. A folder that can't be read, and a name that leads nowhere, go to `unlisted`, and the others are looked at all the same.
     """
-    without = set(leave_out)
     for name in names:
         top = os.path.abspath(name)
-        if not os.path.isdir(top):
-            yield Found(top, os.path.dirname(top))
+        try:
+            now = os.stat(top)
+        except OSError as error:
+            if isinstance(error, FileNotFoundError) and os.path.lexists(top):
+                yield Found(top, os.path.dirname(top), None)  # a link to nothing
+            else:
+                unlisted(Unlisted(top, reason(error)))
             continue
-        for folder, folders, files in os.walk(top):
-            folders.sort()
-            for file in sorted(files):
-                path = os.path.join(folder, file)
-                if path not in without:
-                    yield Found(path, top)
+        if stat.S_ISDIR(now.st_mode):
+            yield from _below(top, unlisted, leave_out)
+        elif top not in leave_out:
+            yield Found(top, os.path.dirname(top), Stamp.of(now))
+
+
+def _below(top: bytes, unlisted: Tell, leave_out: Collection[bytes]) -> Iterator[Found]:
+    waiting = [top]
+    while waiting:
+        folder = waiting.pop()
+        try:
+            with os.scandir(folder) as entries:
+                found = sorted(entries, key=lambda it: it.name)
+        except OSError as error:
+            unlisted(Unlisted(folder, reason(error)))
+            continue
+        waiting += [it.path for it in reversed(found) if it.is_dir(follow_symlinks=False)]
+        for it in found:
+            if not _leads_to_folder(it) and it.path not in leave_out:
+                yield Found(it.path, top, _stamp(it))
+
+
+def _leads_to_folder(it: "os.DirEntry[bytes]") -> bool:
+    try:
+        return it.is_dir()
+    except OSError:  # a link that leads to itself
+        return False
+
+
+def _stamp(it: "os.DirEntry[bytes]") -> Optional[Stamp]:
+    try:
+        return Stamp.of(it.stat())
+    except OSError:
+        return None
+
+
+def reason(error: OSError) -> str:
+    """Why the system refused something, as a message has it."""
+    return (error.strerror or type(error).__name__).lower()
 
 
 def listed(name: str, by_nul: bool, stdin: Optional[BinaryIO] = None) -> List[bytes]:
-    """The names that a file lists, `-` being standard input: one a line, or each ended by a NUL."""
+    """The names that a file lists, `-` being standard input: one a line, or each ended by a NUL. Raises `BadList`."""
     if name == "-":
+        if stdin is None and sys.stdin is None:
+            raise BadList("standard input is closed")
         octets = (stdin or sys.stdin.buffer).read()
     else:
         with open(name, "rb") as file:
             octets = file.read()
+    if not by_nul and b"\0" in octets:
+        raise BadList(f"the list {name} holds a NUL: are its names ended by NUL, as -0 says?")
     return [it for it in octets.split(b"\0" if by_nul else b"\n") if it]

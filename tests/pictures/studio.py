@@ -26,7 +26,7 @@ SMALL_JPEG = base64.b64decode(
 IIM_CAUSES = ("NoMarker", "LengthForm", "DataSetCut")
 PROGRAMS = {"exiftool": "libimage-exiftool-perl", "exiv2": "exiv2", "convert": "imagemagick", "chromium": "chromium",
             "parallel": "parallel", "sqlite3": "sqlite3", "perl": "perl"}  # fmt: skip
-MODULES = {"piexif": "python3-piexif", "distributed": "python3-distributed", "PIL": "python3-pil"}
+MODULES = {"piexif": "python3-piexif", "distributed": "python3-distributed", "PIL": "python3-pil", "rdflib": "python3-rdflib"}
 
 
 def interpreter_with(module):
@@ -54,7 +54,7 @@ class Studio:
             os.environ.setdefault("EXIFNORM_LIBRARY", built)
         os.mkdir(os.path.join(cls.room, "bin"))
         cls.wrapper("exifnorm", f'exec "{cls.program}" "$@"')
-        cls.wrapper("exifnorm-pictures", f'exec "{sys.executable}" -m exifnorm_pictures "$@"')
+        cls.wrapper("exifnorm-pictures", f'exec "{interpreter_with("distributed") or sys.executable}" -m exifnorm_pictures "$@"')
         cls.wrapper("python3", f'exec "{interpreter_with("distributed") or sys.executable}" "$@"')
 
     @classmethod

@@ -23,7 +23,7 @@ class Index(WithPictures):
         lines = self.asked("index", "pictures", "--catalogue", "c")
         self.assertEqual(lines[-1], "4 accepted, 1 NoPicture, 1 no block, 1 refused")
         self.assertIn(": Exif: refused: Overlap at 34", lines[0])
-        self.assertIn("7 of 7 pictures, 0 left", self.complaint)
+        self.assertIn("7 of 7 pictures, ", self.complaint)
         self.assertEqual([it for it in os.listdir(self.folder) if it.startswith("c")], ["c"])
         base = sqlite3.connect(self.path("c"))
         rows = base.execute("SELECT path, problem, type, cause, place, digest FROM pictures LEFT JOIN blocks ON picture = id").fetchall()
@@ -60,7 +60,7 @@ class Index(WithPictures):
         self.assertEqual(told[-1]["counts"]["Vanished"], 1)
         changed = self.asked("changed", "old", "c", status=1)
         self.assertEqual(changed[0], "bare.jpg: missing after")
-        self.assertEqual(changed[1:3], ["first.jpg: different", '  ~ main:Artist: "Zürich" -> "Other"'])
+        self.assertEqual(changed[1:3], ["first.jpg: different (IPTC is the same, Exif is different, no XMP)", '  ~ main:Artist: "Zürich" -> "Other"'])
         self.assertEqual(changed[3], "new.jpg: missing before")
 
     def test_again_looks_at_all(self):
@@ -95,7 +95,7 @@ class SameAndChanged(WithPictures):
         self.assertEqual(len(found), 1)
         names = [os.path.basename(it["path"]) for it in found[0]["pictures"]]
         self.assertEqual((sorted(names), found[0]["same_bytes"]), (["copy.jpg", "first.jpg", "turned.jpg"], False))
-        lines = self.asked("same", "--catalogue", "c", "--kind", "iim")
+        lines = self.asked("same", "--catalogue", "c", "--kind", "iptc")
         self.assertEqual(len(lines), 4)
         named = os.fsencode(self.path("pictures", "first.jpg"))
         self.assertEqual(self.asked("same", "--catalogue", "c", "--files-from", "-", given=named), [])
@@ -106,7 +106,7 @@ class SameAndChanged(WithPictures):
             write(self.path(side, "a.jpg"), with_maker_note(note))
             write(self.path(side, "b.jpg"), with_maker_note(b"the same"))
         lines = self.asked("changed", "before", "after", status=1)
-        self.assertEqual(lines[0], "a.jpg: only MakerNote differs")
+        self.assertEqual(lines[0], "a.jpg: only MakerNote differs (Exif is different, no IPTC and no XMP)")
         self.assertEqual(lines[-1], "1 same, 1 only MakerNote differs")
 
     def test_refused_in_the_same_bytes_is_no_change(self):
@@ -115,8 +115,8 @@ class SameAndChanged(WithPictures):
             write(self.path(side, "a.jpg"), with_exif(SMALL_JPEG, BLOCKS["Overlap"]()))
         self.assertEqual(self.asked("changed", "before", "after"), ["1 refused, the same bytes"])
         write(self.path("after", "a.jpg"), with_exif(SMALL_JPEG, BLOCKS["Doubled"]()))
-        lines = self.asked("changed", "before", "after", status=1)
-        self.assertEqual(lines[0], "a.jpg: refused (Exif: before Overlap at 34, after Doubled at 34)")
+        lines = self.asked("changed", "before", "after", status=2)
+        self.assertEqual(lines[0], "a.jpg: refused (Exif is refused, no IPTC and no XMP; Exif: before Overlap at 34, after Doubled at 34)")
 
     def test_a_block_that_came(self):
         for side in ("before", "after"):
@@ -124,7 +124,7 @@ class SameAndChanged(WithPictures):
             write(self.path(side, "a.jpg"), SMALL_JPEG)
         tool(self.folder, "exiftool", "-q", "-overwrite_original", "-IPTC:Keywords=one", "after/a.jpg")
         found = [json.loads(it) for it in self.asked("changed", "before", "after", "--json", status=1)]
-        self.assertEqual((found[0]["result"], found[0]["note"]), ("different", "no IPTC block before"))
+        self.assertEqual((found[0]["result"], found[0]["note"]), ("different", "IPTC is different, no Exif and no XMP; no IPTC before"))
         self.assertIn({"name": "iptc:Keywords", "before": None, "after": '"one"'}, found[0]["fields"])
 
     def test_the_same_folder_twice(self):
@@ -163,10 +163,10 @@ class ShowAndCaptions(WithPictures):
         self.copied(collection())
         lines = self.asked("show", "picture.jpg", "refused.jpg", status=2)
         self.assertIn("== picture.jpg", lines)
-        self.assertEqual(lines[-1], "exif: refused: Overlap at 34")
+        self.assertEqual(lines[-1], "Exif: refused: Overlap at 34")
         lines = self.asked("show", "nothing.jpg", "picture.jpg", status=4)
         self.assertIn("Vanished: there is no such file any more", lines)
-        self.assertEqual(self.asked("captions", "small.jpg"), ["no Exif or IPTC block"])
+        self.assertEqual(self.asked("captions", "small.jpg"), ["no Exif, IPTC or XMP block"])
 
     @needs("exiv2")
     def test_tiff(self):
@@ -200,8 +200,8 @@ class Explain(WithPictures):
     @needs("exiftool")
     def test_of_a_picture(self):
         self.copied(collection())
-        self.assertEqual(self.asked("explain", "refused.jpg", status=2)[0], "exif: refused: Overlap at 34")
-        self.assertEqual(self.asked("explain", "picture.jpg"), ["exif: ok exif", "iim: ok iim"])
+        self.assertEqual(self.asked("explain", "refused.jpg", status=2)[0], "Exif: refused: Overlap at 34")
+        self.assertEqual(self.asked("explain", "picture.jpg"), ["Exif: ok", "IPTC: ok"])
 
     def test_damaged_blocks_never_fail(self):
         good = BLOCKS["Overlap"]()
@@ -285,34 +285,35 @@ class Words(WithPictures):
             self.assertIn("Statuses:", text)
             self.assertIn("130", text)
 
-    def test_without_exiftool(self):
-        write(self.path("a.jpg"), SMALL_JPEG)
-        os.mkdir(self.path("bin"))
-        import sys
-
-        words = [sys.executable, "-m", "exifnorm_pictures"]
-        for more in (["index", ".", "--catalogue", "c"], ["show", "a.jpg"], ["mend", "a.jpg", "b.jpg"]):
-            from studio import Studio
-            import subprocess
-
-            environment = {**Studio.environment(), "PATH": self.path("bin")}
-            done = subprocess.run([*words, *more], cwd=self.folder, capture_output=True, env=environment)
-            self.assertEqual(done.returncode, 4)
-            self.assertIn(b"apt-get install libimage-exiftool-perl", done.stderr)
-
-    @needs("exiftool")
-    def test_without_exiv2_a_tiff_is_told(self):
-        self.copied(collection())
+    def without(self, *programs):
+        """How the command is run where these programs alone are installed."""
         import subprocess
         import sys
 
         from studio import Studio
 
         os.mkdir(self.path("bin"))
-        for name in ("exiftool", "perl"):
+        for name in programs:
             os.symlink(shutil.which(name), self.path("bin", name))
-        words = [sys.executable, "-m", "exifnorm_pictures", "index", "pictures", "--catalogue", "c", "--quiet"]
         environment = {**Studio.environment(), "PATH": self.path("bin")}
-        done = subprocess.run(words, cwd=self.folder, capture_output=True, env=environment)
-        self.assertEqual(done.returncode, 0, done.stderr)
-        self.assertIn(b"scan.tif: NeedsExiv2: ", done.stdout)
+
+        def asked(*words):
+            return subprocess.run([sys.executable, "-m", "exifnorm_pictures", *words], cwd=self.folder, capture_output=True, env=environment)
+
+        return asked
+
+    def test_without_exiftool(self):
+        write(self.path("a.gif"), b"GIF89a\x01\0\x01\0\0\0\0;")
+        asked = self.without()
+        for words in (["index", "a.gif", "--catalogue", "c"], ["show", "a.gif"], ["mend", "a.gif", "b.gif"]):
+            done = asked(*words)
+            self.assertEqual(done.returncode, 4, done)
+            self.assertIn(b"apt-get install libimage-exiftool-perl", done.stdout + done.stderr)
+
+    @needs("exiftool")
+    def test_without_exiv2_a_raw_picture_is_a_line(self):
+        self.copied(collection())
+        os.rename(self.path("pictures", "scan.tif"), self.path("pictures", "scan.nef"))
+        done = self.without("exiftool", "perl")("index", "pictures", "--catalogue", "c", "--quiet")
+        self.assertEqual(done.returncode, 4, done.stderr)
+        self.assertIn(b"scan.nef: NeedsExiv2: ", done.stdout)

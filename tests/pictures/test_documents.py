@@ -12,7 +12,7 @@ from made_blocks import BLOCKS
 from studio import MODULES, PROGRAMS, TOP, Studio, WithPictures, collection, interpreter_with, needs, read
 
 # What a section needs besides ExifTool and the folder of pictures.
-WORDS = {"exiv2": "exiv2", "parallel": "parallel", "sqlite3": "sqlite3", "perl": "perl", "dask.distributed": "distributed"}
+WORDS = {"exiv2": "exiv2", "parallel": "parallel", "sqlite3": "sqlite3", "perl": "perl", "dask_scheduler": "distributed"}
 
 
 def sections(name):
@@ -46,7 +46,7 @@ class Documents(WithPictures):
         try:
             for text in blocks:
                 words = ["bash", "-e", "-u", "-o", "pipefail", "-c", text]
-                done = subprocess.run(words, cwd=folder, capture_output=True, env=Studio.environment(HOME=self.folder), timeout=120)
+                done = subprocess.run(words, cwd=folder, capture_output=True, env=Studio.environment(HOME=self.folder), timeout=600)
                 self.assertEqual(done.returncode, 0, f"{text}\n{done.stdout.decode()}\n{done.stderr.decode()}")
         finally:
             shutil.rmtree(folder)
@@ -69,13 +69,14 @@ class Documents(WithPictures):
 
     def test_examples_in_the_modules(self):
         sys.path.insert(0, os.path.join(TOP, "python"))
-        folder = os.path.join(TOP, "python", "exifnorm_pictures")
-        for file in sorted(it for it in os.listdir(folder) if it.endswith(".py") and it != "__main__.py"):
-            with self.subTest(file):
-                module = importlib.import_module("exifnorm_pictures." + file[:-3]) if file != "__init__.py" else None
-                if module:
-                    failed, _ = doctest.testmod(module, verbose=False)
-                    self.assertEqual(failed, 0)
+        python = os.path.join(TOP, "python")
+        found = [os.path.join(where, it) for where, _, names in os.walk(os.path.join(python, "exifnorm_pictures")) for it in names]
+        modules = sorted(os.path.relpath(it, python)[:-3].replace(os.sep, ".") for it in found if it.endswith(".py") and "__" not in it)
+        for name in modules:
+            with self.subTest(name):
+                failed, _ = doctest.testmod(importlib.import_module(name), verbose=False)
+                self.assertEqual(failed, 0)
+        self.assertGreater(len(modules), 20)
 
     def test_manual_page(self):
         text = read(os.path.join(TOP, "docs", "exifnorm-pictures.1")).decode()

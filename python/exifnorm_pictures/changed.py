@@ -1,0 +1,203 @@
+"""`changed`: two states of an archive compared picture by picture, in memory that doesn't grow with them."""
+
+from __future__ import annotations
+
+from dataclasses import dataclass, field
+from typing import Any, Callable, Dict, Iterator, List, Optional, Set, Tuple, TypeVar
+
+from .catalogue import Catalogue
+from .formats.found import EXIF, NAMES
+from .kept import Block, Picture
+from .listing import Change, changes, only_maker_note
+from .moves import Key, best, content_key
+from .verdicts import (
+    ABSENT, ACCEPTED, DIFFERENT, NOT_WHOLLY_READ, REFUSED, SAME, UNREADABLE, Verdict, left_open, result, sentence, verdicts,
+)  # fmt: skip
+
+ONLY_MAKER_NOTE = "only MakerNote differs"
+REFUSED_SAME, UNREADABLE_SAME = f"{REFUSED}, the same bytes", f"{UNREADABLE}, the same bytes"
+MISSING_BEFORE, MISSING_AFTER, MOVED, NOT_READ = "missing before", "missing after", "moved", "not read"
+DIFFERENCES = (DIFFERENT, ONLY_MAKER_NOTE, MOVED, MISSING_BEFORE, MISSING_AFTER)
+OPEN = (REFUSED, UNREADABLE, NOT_WHOLLY_READ)  # nothing can be said
+UNCHANGED = (SAME, REFUSED_SAME, UNREADABLE_SAME)  # nothing is told to differ
+RESULTS = (SAME, *DIFFERENCES, REFUSED, REFUSED_SAME, UNREADABLE, UNREADABLE_SAME, NOT_WHOLLY_READ, NOT_READ)
+GONE = ("Vanished", "Moved")
+
+
+@dataclass
+class Compared:
+    """One picture before and after."""
+
+    name: bytes
+    result: str
+    note: str = ""  # what was compared, and what came of it
+    changes: List[Change] = field(default_factory=list)
+    verdicts: List[Verdict] = field(default_factory=list)
+    moved_to: Optional[bytes] = None
+
+
+Pair = Tuple[bytes, Optional[Picture], Optional[Picture]]
+Row = TypeVar("Row")
+
+
+class Sides:
+    """Two catalogues, and how their pictures are paired.
+
+    Where each catalogue has one folder, pictures are the same by their names below it; otherwise by their whole paths.
+    """
+
+    def __init__(self, before: Catalogue, after: Catalogue) -> None:
+        self.before, self.after = before, after
+        roots = [it.roots() for it in (before, after)]
+        by_root = all(len(it) <= 1 for it in roots)
+        self.heads = [(it[0].rstrip(b"/") + b"/" if by_root and it else b"") for it in roots]
+
+    def named(self, side: int, path: bytes) -> bytes:
+        """The name of a picture by which it is paired."""
+        return path[len(self.heads[side]) :] if path.startswith(self.heads[side]) else path
+
+    def pairs(self) -> Iterator[Pair]:
+        """The pictures of both by their names. Paths are in order, and so are names, since all begin with the same folder."""
+        yield from _merged(self._there(0, self.before), self._there(1, self.after))
+
+    def _there(self, side: int, catalogue: Catalogue) -> Iterator[Tuple[bytes, Picture]]:
+        for it in catalogue.pictures():
+            if it.problem not in GONE:
+                yield self.named(side, it.path), it
+
+
+def _merged(one: Iterator[Tuple[bytes, Row]], other: Iterator[Tuple[bytes, Row]]) -> Iterator[Tuple[bytes, Optional[Row], Optional[Row]]]:
+    """Two sequences in order as one; what both have stands together."""
+    first, second = next(one, None), next(other, None)
+    while first or second:
+        if second is None or (first is not None and first[0] < second[0]):
+            assert first is not None
+            yield first[0], first[1], None
+            first = next(one, None)
+        elif first is None or second[0] < first[0]:
+            yield second[0], None, second[1]
+            second = next(other, None)
+        else:
+            yield first[0], first[1], second[1]
+            first, second = next(one, None), next(other, None)
+
+
+def _moves(sides: Sides) -> Dict[bytes, bytes]:
+    """Where the pictures went that are missing afterwards, as far as they can be recognised: by the file, or by what it says."""
+    gone: List[Tuple[bytes, List[Key]]] = []
+    came: Dict[Key, List[bytes]] = {}
+    for name, one, other in sides.pairs():
+        it = one or other
+        if it is None or (one and other) or it.problem:
+            continue
+        keys = [key for key in (it.file, content_key(it.octets, it.unread, it.size)) if key]
+        if one:
+            gone.append((name, keys))
+        else:
+            for key in keys:
+                came.setdefault(key, []).append(name)
+    found: Dict[bytes, bytes] = {}
+    taken: Set[bytes] = set()
+    for name, keys in gone:
+        to = next(filter(None, (best([it for it in came.get(key, ()) if it not in taken], name) for key in keys)), None)
+        if to is not None:
+            found[name] = to
+            taken.add(to)
+    return found
+
+
+def changed(before: Catalogue, after: Catalogue, only: Optional[Set[bytes]] = None) -> Iterator[Compared]:
+    """Each picture of two catalogues compared, in the order of their names; of some pictures alone, by name or by path."""
+    sides = Sides(before, after)
+    moves = _moves(sides)
+    came = set(moves.values())
+    for name, one, other in sides.pairs():
+        if only is not None and not only.intersection([name, *(it.path for it in (one, other) if it)]):
+            continue
+        if one is not None and other is not None:
+            yield _compared(name, one, other, sides)
+        elif one is not None:
+            to = moves.get(name)
+            yield Compared(name, MISSING_AFTER) if to is None else Compared(name, MOVED, moved_to=to)
+        elif name not in came:
+            yield Compared(name, MISSING_BEFORE)
+
+
+def _compared(name: bytes, one: Picture, other: Picture, sides: Sides) -> Compared:
+    if one.problem or other.problem:
+        if one.problem == other.problem == "NoPicture":
+            return Compared(name, SAME, "no picture")
+        notes = [f"{word}: {it.problem}" for word, it in (("before", one), ("after", other)) if it.problem]
+        return Compared(name, NOT_READ, ", ".join(notes))
+    found = verdicts(one.sides(), other.sides())
+    parts: List[str] = []
+    if one.unread is None or one.unread != other.unread:
+        parts = left_open(sides.before.not_read_of(one), sides.after.not_read_of(other))
+    it = Compared(name, result(found, parts), sentence(found, parts), [], found)
+    if any(one.result in (DIFFERENT, REFUSED, UNREADABLE) for one in found):
+        _add_details(it, one, other, sides)
+    return it
+
+
+Named = Dict[Tuple[str, str], Block]
+
+
+def _add_details(it: Compared, one: Picture, other: Picture, sides: Sides) -> None:
+    """Adds the fields that differ, and the causes of refusals."""
+    first: Named = {(block.kind, block.name): block for block in sides.before.blocks_of(one)}
+    second: Named = {(block.kind, block.name): block for block in sides.after.blocks_of(other)}
+    maker_note = [verdict.kind for verdict in it.verdicts if verdict.result == DIFFERENT] == [EXIF]
+    for key in dict.fromkeys([*first, *second]):
+        pair = first.get(key), second.get(key)
+        if all(block is None or block.status == ACCEPTED for block in pair):
+            fields = [sides.before.fields_of(one, pair[0]) if pair[0] else [], sides.after.fields_of(other, pair[1]) if pair[1] else []]
+            if all(pair) and pair[0].digest == pair[1].digest:  # type: ignore[union-attr]
+                continue
+            maker_note = maker_note and all(pair) and only_maker_note(*fields)
+            head = "" if key[1] == NAMES[key[0]] else f"{key[1]}: "
+            it.changes += [Change(head + change.name, change.before, change.after) for change in changes(*fields)]
+        it.note += _told_of(key[1], *pair)
+    if it.result == DIFFERENT and maker_note:
+        it.result = ONLY_MAKER_NOTE
+
+
+def _told_of(name: str, one: Optional[Block], other: Optional[Block]) -> str:
+    """What is to be told of one block beside its fields: that it is on one side alone, or why it is refused."""
+    said = [None if it is None else it.refusal if it.status != ACCEPTED else "accepted" for it in (one, other)]
+    if one and other and one.octets == other.octets and one.status != ACCEPTED:
+        return f"; {name}: {one.refusal}"
+    if said == ["accepted", "accepted"]:
+        return ""
+    if None in said and "accepted" in said:
+        return f"; no {name} {'before' if one is None else 'after'}"
+    return f"; {name}: " + ", ".join(f"{word} {text}" for word, text in zip(("before", "after"), said) if text)
+
+
+Spell = Callable[[Compared], Tuple[str, Any]]
+
+
+class Equal:
+    """Pictures whose changes are equal, kept in a temporary table until all are known."""
+
+    def __init__(self, catalogue: Catalogue) -> None:
+        self.catalogue = catalogue
+        with catalogue.guarded():
+            catalogue.base.execute("CREATE TEMP TABLE heads (id INTEGER PRIMARY KEY, said TEXT UNIQUE)")
+            catalogue.base.execute("CREATE TEMP TABLE names (head INTEGER, name BLOB)")
+            catalogue.base.execute("BEGIN")
+
+    def add(self, said: str, name: bytes) -> None:
+        """Notes what is said of a picture."""
+        with self.catalogue.guarded():
+            self.catalogue.base.execute("INSERT OR IGNORE INTO heads (said) VALUES (?)", (said,))
+            self.catalogue.base.execute("INSERT INTO names SELECT id, ? FROM heads WHERE said = ?", (name, said))
+
+    def all(self) -> Iterator[Tuple[str, int, Iterator[bytes]]]:
+        """What is said, of how many pictures, and their names; in the order in which it was first said."""
+        with self.catalogue.guarded():
+            self.catalogue.base.execute("COMMIT")
+            self.catalogue.base.execute("CREATE INDEX temp.names_by_head ON names (head, name)")
+        for number, said in self.catalogue.rows("SELECT id, said FROM heads ORDER BY id"):
+            count = next(self.catalogue.rows("SELECT count(*) FROM names WHERE head = ?", (number,)))[0]
+            names = self.catalogue.rows("SELECT name FROM names WHERE head = ? ORDER BY name", (number,), lambda row: bytes(row[0]))
+            yield said, count, names

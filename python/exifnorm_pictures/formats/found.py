@@ -1,0 +1,104 @@
+"""What a reader of a picture format returns: the blocks, byte for byte as they are in the file, and the parts it did not read."""
+
+from __future__ import annotations
+
+import hashlib
+from dataclasses import dataclass, field
+from typing import Dict, List, Optional
+
+EXIF, IPTC, XMP = "exif", "iim", "xmp"
+NAMES = {EXIF: "Exif", IPTC: "IPTC", XMP: "XMP"}
+OWN, EXIFTOOL, EXIV2 = "own", "exiftool", "exiv2"  # which program extracted a block
+
+
+_ORDINALS = ("first", "second", "third", "fourth", "fifth", "sixth", "seventh", "eighth", "ninth")
+
+
+def ordinal(number: int) -> str:
+    """The word for a place in a row, from 1 on.
+
+    >>> ordinal(2), ordinal(12)
+    ('second', '12th')
+    """
+    return _ORDINALS[number - 1] if number <= len(_ORDINALS) else f"{number}th"
+
+
+class Broken(Exception):
+    """The file does not follow its format where a block may stand. Its text says what is wrong, and where."""
+
+
+class LeftToOthers(Exception):
+    """The file is of a kind that is read by ExifTool and exiv2 alone."""
+
+
+@dataclass(frozen=True)
+class Found:
+    """A block, without the words that its format puts in front of it, as the six bytes `Exif\\0\\0`.
+
+    The first block of a kind has the name of its kind, and each further block a name of its own, as `second Exif` or `page 2`.
+    """
+
+    kind: str  # EXIF, IPTC or XMP
+    data: bytes
+    name: str
+    where: str  # the place in the file, for people: `APP1 segment at 20`
+    extractor: str = OWN
+    extends: str = ""  # of extended XMP: the digest by which its main packet names it
+
+
+@dataclass(frozen=True)
+class NotRead:
+    """A part of a file that may hold metadata and was not read."""
+
+    what: str
+    digest: str  # SHA-256 of its bytes in hexadecimal digits; empty where they were not compared either
+
+    @classmethod
+    def of(cls, what: str, data: bytes) -> "NotRead":
+        """A part whose bytes are at hand.
+
+        >>> NotRead.of("trailer of 3 bytes", b"abc").digest[:8]
+        'ba7816bf'
+        """
+        return cls(what, hashlib.sha256(data).hexdigest())
+
+
+@dataclass
+class Blocks:
+    """All that was found in a file, in the order of the file.
+
+    `problem` is one of `extraction.PROBLEMS` where the file could not be read at all; it then has no block.
+    """
+
+    found: List[Found] = field(default_factory=list)
+    not_read: List[NotRead] = field(default_factory=list)
+    extractor: str = OWN  # EXIFTOOL if any block, or the answer that there is none, comes from ExifTool or exiv2
+    type: str = ""  # the format's name: JPEG, PNG, WEBP, TIFF, or ExifTool's word
+    problem: Optional[str] = None
+    detail: str = ""
+    counts: Dict[str, int] = field(default_factory=dict, repr=False)  # of blocks by name
+    has_more: bool = False  # whether a part that was not read is of a kind that ExifTool may find blocks in
+
+    def add(self, kind: str, data: bytes, where: str, part: str = "", extractor: str = OWN) -> None:
+        """Adds the next block of a kind, in the whole file or in one part of it.
+
+        >>> some = Blocks()
+        >>> some.add(EXIF, b"MM", "APP1 segment at 2"); some.add(EXIF, b"II", "APP1 segment at 30")
+        >>> [it.name for it in some.found]
+        ['Exif', 'second Exif']
+        """
+        name = NAMES[kind] + (f" of {part}" if part else "")
+        number = self.counts[name] = self.counts.get(name, 0) + 1
+        self.found.append(Found(kind, data, name if number == 1 else f"{ordinal(number)} {name}", where, extractor))
+
+    def leave(self, what: str, data: bytes) -> None:
+        """Notes a part that is not read, whose bytes are at hand."""
+        self.not_read.append(NotRead.of(what, data))
+
+    def of_kind(self, kind: str) -> List[Found]:
+        """The blocks of one kind.
+
+        >>> Blocks([Found(EXIF, b"MM", "Exif", "eXIf chunk at 33")]).of_kind(XMP)
+        []
+        """
+        return [it for it in self.found if it.kind == kind]

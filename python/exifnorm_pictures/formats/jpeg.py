@@ -1,0 +1,158 @@
+"""JPEG: Exif in APP1, also split over segments, IPTC in the Photoshop resources of APP13, XMP in APP1 and extended XMP, in the picture
+itself and in those of its MPF index (CIPA DC-008 4.7, CIPA DC-007, XMP part 3).
+
+Not compared, because they hold no Exif, IPTC or XMP: JFIF and its thumbnail, ICC profiles, comments, JUMBF, and other APPn segments.
+"""
+
+from __future__ import annotations
+
+import re
+from typing import BinaryIO, List, Set, Tuple
+
+from . import mpf, photoshop
+from .extended_xmp import HEAD as EXTENDED
+from .extended_xmp import Pieces
+from .found import EXIF, XMP, Blocks, Broken, NotRead
+from .jpeg_segments import APP1, APP2, APP3, APP13, SOS, Budget, Segment, segments
+from .jpeg_tail import WINDOW, Tail, tail
+from .streams import digest_of, is_blank, read_at, size_of
+from .trailers import known_trailer
+
+START = b"\xff\xd8\xff"
+_SIX = b"Exif\0\0"
+_XMP = b"http://ns.adobe.com/xap/1.0/\0"
+_TIFF = (b"II*\0", b"MM\0*")
+# Some writers put up to four bytes in front, or spell the word otherwise; ExifTool reads these as well.
+_EXIF_LIKE = re.compile(rb".{0,4}?Exif\0.", re.I | re.S)
+_META = (b"Meta\0\0", b"META\0\0", b"Exif\0\0")  # Kodak's APP3, which has the structure of an Exif block
+
+
+def read(stream: BinaryIO, whole: bool = False) -> Blocks:
+    """The blocks of a JPEG. Raises `Broken`."""
+    blocks = Blocks(type="JPEG")
+    budget = Budget()
+    end = size_of(stream)
+    head = _Head(blocks)
+    head.read(stream, 0, budget)
+    starts = _further(stream, head, end)
+    whole = whole or head.index_is_wrong
+    _read_behind(stream, head, (starts + [end])[0], whole)
+    for number, start in enumerate(starts):
+        one = _Head(blocks, f"MPF picture {number + 2}")
+        one.read(stream, start, budget)
+        _read_behind(stream, one, (starts + [end])[number + 1], whole)
+    return blocks
+
+
+class _Head:
+    """The segments of one picture in front of its first scan."""
+
+    def __init__(self, blocks: Blocks, part: str = "") -> None:
+        self.blocks = blocks
+        self.part = part
+        self.of = f" of {part}" if part else ""
+        self.end = 0  # behind the header of the first scan, or behind the end mark
+        self.has_scan = False
+        self.indexes: List[Tuple[int, bytes]] = []  # MPF indexes, each with the place of its header
+        self.index_is_wrong = False
+        self._exif: List[Tuple[str, List[bytes]]] = []  # the place of each block, and its pieces
+        self._runs: List[Tuple[str, List[bytes]]] = []  # Photoshop resources, the same way
+        self._pieces = Pieces()
+        self._last = b""  # what kind the last segment had
+
+    def read(self, stream: BinaryIO, start: int, budget: Budget) -> None:
+        """Reads the picture that begins at `start`."""
+        self.end = start + 2
+        for it in segments(stream, start, budget):
+            kind = b""
+            self.end, self.has_scan = it.end, it.marker == SOS
+            if it.marker == APP1:
+                kind = self._app1(it)
+            elif it.marker == APP2 and it.data.startswith(mpf.HEAD):
+                self.indexes.append((it.at + 8, it.data[4:]))
+            elif it.marker == APP3 and it.data.startswith(_META):
+                self._leave("APP3 segment Meta", it)
+            elif it.marker == APP13:
+                kind = self._app13(it)
+            self._last = kind
+        self._put_together()
+
+    def _leave(self, what: str, it: Segment) -> None:
+        self.blocks.leave(what + self.of, it.data)
+
+    def _app1(self, it: Segment) -> bytes:
+        place = f"APP1 segment at {it.at}"
+        if it.data.startswith(_SIX):
+            # What is too long for one segment goes on in the next, behind the same six bytes and without a header.
+            if self._last == _SIX and it.data[6:10] not in _TIFF:
+                self._exif[-1][1].append(it.data[6:])
+            else:
+                self._exif.append((place, [it.data[6:]]))
+            return _SIX
+        if it.data.startswith(_XMP):
+            self.blocks.add(XMP, it.data[len(_XMP) :], place, self.part)
+        elif it.data.startswith(EXTENDED):
+            if not self._pieces.add(it.data, place):
+                self._leave("piece of extended XMP that does not fit the others", it)
+        elif like := _EXIF_LIKE.match(it.data):
+            self._exif.append((place, [it.data[like.end() :]]))
+        else:
+            self._leave("APP1 segment of an unknown kind", it)
+        return b""
+
+    def _app13(self, it: Segment) -> bytes:
+        place = f"APP13 segment at {it.at}"
+        if it.data.startswith(photoshop.HEAD):
+            if self._last == photoshop.HEAD:
+                self._runs[-1][1].append(it.data[len(photoshop.HEAD) :])
+            else:
+                self._runs.append((place, [it.data[len(photoshop.HEAD) :]]))
+            return photoshop.HEAD
+        if it.data.startswith(photoshop.OLD_HEAD):
+            self._runs.append((place, [it.data[photoshop.OLD_HEAD_LENGTH :]]))
+        elif not it.data.startswith(b"Adobe_CM"):
+            self._leave("APP13 segment of an unknown kind", it)
+        return b""
+
+    def _put_together(self) -> None:
+        for place, data in self._exif:
+            self.blocks.add(EXIF, b"".join(data), place, self.part)
+        photoshop.add_resources(self.blocks, [(place, b"".join(data)) for place, data in self._runs], self.part)
+        self._pieces.put_together(self.blocks, self.part)
+
+
+def _further(stream: BinaryIO, head: _Head, end: int) -> List[int]:
+    """Where the further pictures of the MPF index begin. An index that does not fit the file is noted, and not followed."""
+    found: Set[int] = set()
+    for at, data in head.indexes:
+        try:
+            places = mpf.further_pictures(data, at)
+            for it in places:
+                if it.start < head.end or it.start + it.length > end or read_at(stream, it.start, 3) != START:
+                    raise Broken(f"no picture at {it.start}")
+            found.update(it.start for it in places)
+        except Broken as why:
+            head.index_is_wrong = True
+            head.blocks.leave(f"MPF index that does not fit the file ({why})", data)
+    return sorted(found)
+
+
+def _read_behind(stream: BinaryIO, head: _Head, end: int, whole: bool) -> None:
+    """Looks behind a picture's first scan, up to the next picture or the end of the file."""
+    found = tail(stream, head.end, end, whole) if head.has_scan else Tail([], min(head.end, end), True)
+    for at, length in found.segments:
+        what = f"metadata segment behind the first scan{head.of}"
+        head.blocks.not_read.append(NotRead(what, digest_of(stream, at, min(at + length, end))))
+    trailer = known_trailer(stream, end)
+    start = found.end if found.has_mark or trailer is None else max(head.end, end - WINDOW)
+    if start >= end or is_blank(stream, start, end):
+        return
+    head.blocks.has_more = head.blocks.has_more or (trailer is not None and trailer.may_hold_blocks)
+    what = f"{trailer.name} trailer" if trailer else _kind_of_rest(stream, start, end)
+    head.blocks.not_read.append(NotRead(f"{what} of {end - start:,} bytes{head.of}", digest_of(stream, start, end)))
+
+
+def _kind_of_rest(stream: BinaryIO, at: int, end: int) -> str:
+    stream.seek(at)
+    first = stream.read(min(64, end - at)).lstrip(b"\0")
+    return "second picture" if first.startswith(START) else "trailer"

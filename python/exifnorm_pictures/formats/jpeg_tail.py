@@ -1,0 +1,108 @@
+"""What is behind the first scan of a JPEG picture: further segments of metadata, the end mark, and a trailer.
+
+Picture data is long, and nothing of interest is in it: behind FF there is 00, a restart mark, or the marker of another scan's tables.
+Unless everything is asked for, a long picture is read only in its last bytes. If these show nothing but picture data and an end mark as
+the last two bytes, the rest is taken for picture data; otherwise everything is read.
+"""
+
+from __future__ import annotations
+
+import re
+from typing import BinaryIO, List, NamedTuple
+
+from .found import Broken
+from .jpeg_segments import APP1, APP13, EOI, SOI
+from .streams import CHUNK
+
+WINDOW = 1 << 16  # bytes
+MOST_PLACES = 1000  # of metadata segments behind the first scan
+
+_MARKER = re.compile(rb"\xff[\x01-\xcf\xd8-\xfe]")
+_TABLES = frozenset((0xC4, 0xCC, 0xDA, 0xDB, 0xDD))  # DHT, DAC, SOS, DQT, DRI
+
+
+class Tail(NamedTuple):
+    """What was found: the metadata segments by their places and lengths, and where the picture ends."""
+
+    segments: "List[tuple[int, int]]"
+    end: int  # behind the end mark, or the end of the part if there is none
+    has_mark: bool
+
+
+def tail(stream: BinaryIO, start: int, end: int, whole: bool) -> Tail:
+    """The tail of the picture whose first scan begins at `start`, in a part of the file that ends at `end`. Raises `Broken`."""
+    if not whole and end - start > WINDOW:
+        first = end - WINDOW
+        stream.seek(first - 1)
+        first -= stream.read(1) == b"\xff"
+        if _is_plain(_Markers(stream, first, end)):
+            return Tail([], end, True)
+    return _scanned(_Markers(stream, start, end))
+
+
+class _Markers:
+    """The markers of a part of a file, in their order. Each piece of the file is read once."""
+
+    def __init__(self, stream: BinaryIO, at: int, end: int) -> None:
+        self.stream = stream
+        self.at = at  # behind the last marker, or behind the segment that was passed over
+        self.end = end
+        self._start = at  # of the piece that is at hand
+        self._piece = b""
+
+    def following(self) -> int:
+        """The next marker; 0 at the end of the part."""
+        while self.at < self.end:
+            mark = _MARKER.search(self._piece, self.at - self._start)
+            if mark is not None:
+                self.at = self._start + mark.end()
+                return self._piece[mark.end() - 1]
+            last = self._start + len(self._piece)
+            # FF as the last byte may begin a marker
+            self._read(max(last - self._piece.endswith(b"\xff"), self.at))
+            if len(self._piece) < 2:
+                break
+        self.at = self.end
+        return 0
+
+    def _read(self, at: int) -> None:
+        self.stream.seek(at)
+        self._start = self.at = at
+        self._piece = self.stream.read(max(min(CHUNK, self.end - at), 0))
+
+    def pass_over(self) -> int:
+        """Passes over the segment whose marker was the last one; its length."""
+        if self.at + 2 > self._start + len(self._piece):
+            self._read(self.at)
+        at = self.at - self._start
+        length = max(int.from_bytes(self._piece[at : at + 2], "big"), 2)
+        self.at += length
+        return length
+
+
+def _is_plain(markers: _Markers) -> bool:
+    """Whether a part shows nothing but picture data, its tables, and the end mark as its last two bytes."""
+    while True:
+        marker = markers.following()
+        if marker == EOI:
+            return markers.at == markers.end
+        if marker not in _TABLES:
+            return False
+        markers.pass_over()
+
+
+def _scanned(markers: _Markers) -> Tail:
+    """Looks at all that is behind the first scan's header."""
+    places: "List[tuple[int, int]]" = []
+    while True:
+        marker = markers.following()
+        if marker in (0, EOI):
+            return Tail(places, markers.at, marker == EOI)
+        if marker < 0xC0 or marker == SOI:
+            continue  # no marker that may be here: damaged picture data
+        at = markers.at - 2
+        length = markers.pass_over() + 2
+        if marker in (APP1, APP13):
+            places.append((at, length))
+            if len(places) > MOST_PLACES:
+                raise Broken(f"more than {MOST_PLACES} metadata segments behind the first scan")

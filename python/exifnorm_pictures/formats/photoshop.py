@@ -1,0 +1,69 @@
+"""Photoshop's image resources, as they are in APP13 segments, in the TIFF tag 8649 and in profiles of PNG files.
+
+A resource is a signature of four letters, a number, a name padded to an even length, the length of its data, and the data padded to
+an even length (Adobe Photoshop File Formats Specification, "Image Resource Blocks").
+"""
+
+from __future__ import annotations
+
+from typing import List, NamedTuple, Sequence, Tuple
+
+from .found import EXIF, IPTC, XMP, Blocks
+
+HEAD = b"Photoshop 3.0\0"
+OLD_HEAD = b"Adobe_Photoshop2.5:"
+OLD_HEAD_LENGTH = 27  # with the eight bytes behind the words
+SIGNATURES = (b"8BIM", b"PHUT", b"AgHg", b"DCSR", b"MeSa")  # Photoshop, PhotoDeluxe, Lightroom, and two that are not documented
+
+_KINDS = {0x0404: IPTC, 0x0422: EXIF, 0x0424: XMP}
+_MORE_EXIF = 0x0423
+_SIX = b"Exif\0\0"
+
+
+class Resource(NamedTuple):
+    """One resource."""
+
+    number: int
+    data: bytes
+
+
+def resources(data: bytes) -> Tuple[List[Resource], bytes]:
+    """The resources, and the bytes behind the last whole one; zeros there do not count.
+
+    >>> resources(b"8BIM" + b"\\x04\\x04" + b"\\0\\0" + b"\\0\\0\\0\\x03" + b"abc\\0")
+    ([Resource(number=1028, data=b'abc')], b'')
+    """
+    found: List[Resource] = []
+    at = 0
+    while data[at : at + 4] in SIGNATURES and at + 12 <= len(data):
+        start = at + 6 + (data[at + 6] + 2) // 2 * 2
+        length = int.from_bytes(data[start : start + 4], "big")
+        if start + 4 + length > len(data):
+            break
+        found.append(Resource(int.from_bytes(data[at + 4 : at + 6], "big"), data[start + 4 : start + 4 + length]))
+        at = start + 4 + length + length % 2
+    rest = data[at:]
+    return found, rest if rest.strip(b"\0") else b""
+
+
+def add_resources(blocks: Blocks, runs: Sequence[Tuple[str, bytes]], part: str = "") -> None:
+    """Adds the blocks that some runs of resources hold, each run with its place. A resource that goes on from one run into the next is
+    joined, as exiv2 does."""
+    if len(runs) > 1 and any(resources(data)[1] for _, data in runs[:-1]):
+        runs = [(runs[0][0], b"".join(data for _, data in runs))]
+    for where, data in runs:
+        found, rest = resources(data)
+        for it in found:
+            _add_one(blocks, it, where, part)
+        if rest:
+            blocks.leave(f"bytes behind the Photoshop resources in the {where}", rest)
+
+
+def _add_one(blocks: Blocks, it: Resource, where: str, part: str) -> None:
+    place = f"Photoshop resource {it.number:04x} in the {where}"
+    kind = _KINDS.get(it.number)
+    if kind is not None:
+        data = it.data[len(_SIX) :] if kind == EXIF and it.data.startswith(_SIX) else it.data
+        blocks.add(kind, data, place, part)
+    elif it.number == _MORE_EXIF:
+        blocks.leave(place, it.data)

@@ -1,0 +1,156 @@
+"""PNG: Exif in eXIf chunks, XMP in text chunks, and the raw profiles of text chunks that ImageMagick, ExifTool and others write
+(PNG specification, third edition, 11.3.3 and 11.3.4; XMP part 3).
+
+Not compared, because they hold no Exif, IPTC or XMP: text chunks with other keywords, and colour profiles.
+"""
+
+from __future__ import annotations
+
+import zlib
+from typing import BinaryIO
+
+from . import photoshop
+from .found import EXIF, IPTC, XMP, Blocks, Broken, NotRead
+from .streams import digest_of, is_blank, read_at, size_of
+
+START = b"\x89PNG\r\n\x1a\n"
+MOST_CHUNKS = 100_000
+MOST_BYTES = 64 << 20  # of chunks that are kept, and of what they are once inflated
+
+_SIX = b"Exif\0\0"
+_XMP_KEYWORD = b"xml:com.adobe.xmp"
+_XMP_HEAD = b"http://ns.adobe.com/xap/1.0/\0"
+_PROFILE = b"raw profile type "
+_TEXTS = (b"tEXt", b"zTXt", b"iTXt")
+
+
+class _Unreadable(Exception):
+    """A text chunk does not follow its form."""
+
+
+def read(stream: BinaryIO, whole: bool = False) -> Blocks:
+    """The blocks of a PNG, which is always read to its end. Raises `Broken`."""
+    reader = _Reader(stream)
+    at = len(START)
+    for _ in range(MOST_CHUNKS):
+        length, kind = reader.head(at)
+        reader.chunk(at, length, kind)
+        at += 12 + length
+        if kind == b"IEND":
+            reader.rest(at)
+            return reader.blocks
+    raise Broken(f"more than {MOST_CHUNKS:,} chunks")
+
+
+class _Reader:
+    """The chunks of one file."""
+
+    def __init__(self, stream: BinaryIO) -> None:
+        self.stream = stream
+        self.size = size_of(stream)
+        self.blocks = Blocks(type="PNG")
+        self.left = MOST_BYTES
+
+    def head(self, at: int) -> "tuple[int, bytes]":
+        """The length and the kind of the chunk at a place."""
+        head = read_at(self.stream, at, 8)
+        length = int.from_bytes(head[:4], "big")
+        if at + 12 + length > self.size:
+            raise Broken(f"the file ends inside the chunk at {at}")
+        return length, head[4:]
+
+    def chunk(self, at: int, length: int, kind: bytes) -> None:
+        """Takes the blocks of a chunk."""
+        if kind not in (b"eXIf", b"zxIf", *_TEXTS):
+            return
+        self.left -= length
+        if self.left < 0:
+            raise Broken(f"more than {MOST_BYTES:,} bytes of metadata chunks")
+        data = read_at(self.stream, at + 8, length)
+        if zlib.crc32(kind + data) != int.from_bytes(read_at(self.stream, at + 8 + length, 4), "big"):
+            raise Broken(f"wrong check sum of the chunk at {at}")
+        where = f"{kind.decode('ascii')} chunk at {at}"
+        if kind == b"eXIf":
+            self.blocks.add(EXIF, data[len(_SIX) :] if data.startswith(_SIX) else data, where)
+        elif kind in _TEXTS:
+            self._text(kind, data, where)
+        else:
+            self.blocks.leave("compressed Exif chunk", data)
+
+    def rest(self, at: int) -> None:
+        """What is behind the last chunk."""
+        if not is_blank(self.stream, at, self.size):
+            self.blocks.not_read.append(NotRead(f"trailer of {self.size - at:,} bytes", digest_of(self.stream, at, self.size)))
+
+    def _text(self, kind: bytes, data: bytes, where: str) -> None:
+        keyword, _, text = data.partition(b"\0")
+        keyword = keyword.lower()
+        if keyword != _XMP_KEYWORD and not keyword.startswith(_PROFILE):
+            return
+        try:
+            text = self._opened(kind, text)
+            if keyword == _XMP_KEYWORD:
+                self.blocks.add(XMP, text, where)
+            else:
+                self._profile(keyword[len(_PROFILE) :], _profile_data(text), where)
+        except _Unreadable as why:
+            self.blocks.leave(f"text chunk that cannot be read ({why})", data)
+
+    def _opened(self, kind: bytes, text: bytes) -> bytes:
+        """The text of a chunk behind its keyword, inflated if it is compressed."""
+        if kind == b"tEXt":
+            return text
+        if kind == b"zTXt":
+            return self._inflated(text[:1], text[1:])
+        parts = text[2:].split(b"\0", 2)
+        if len(text) < 2 or len(parts) < 3:
+            raise _Unreadable("its fields are cut")
+        return self._inflated(text[1:2], parts[2]) if text[:1] != b"\0" else parts[2]
+
+    def _inflated(self, method: bytes, data: bytes) -> bytes:
+        if method != b"\0":
+            raise _Unreadable("its compression is not known")
+        opened = zlib.decompressobj()
+        try:
+            found = opened.decompress(data, max(self.left, 1))
+        except zlib.error:
+            raise _Unreadable("its compressed data is damaged") from None
+        self.left -= len(found)
+        if not opened.eof:
+            raise _Unreadable("its compressed data is cut or too long")
+        return found
+
+    def _profile(self, kind: bytes, data: bytes, where: str) -> None:
+        if kind in (b"exif", b"app1"):
+            if data.startswith(_XMP_HEAD):
+                self.blocks.add(XMP, data[len(_XMP_HEAD) :], where)
+            else:
+                self.blocks.add(EXIF, data[len(_SIX) :] if data.startswith(_SIX) else data, where)
+        elif kind in (b"iptc", b"8bim"):
+            if data[:1] == b"\x1c":
+                self.blocks.add(IPTC, data, where)
+            else:
+                bare = data[len(photoshop.HEAD) :] if data.startswith(photoshop.HEAD) else data
+                photoshop.add_resources(self.blocks, [(where, bare)])
+        elif kind == b"xmp":
+            self.blocks.add(XMP, data, where)
+        elif kind not in (b"icc", b"icm"):
+            self.blocks.leave("raw profile of another kind", data)
+
+
+def _profile_data(text: bytes) -> bytes:
+    """The data of a raw profile: a line with its name, its length, and hexadecimal digits.
+
+    >>> _profile_data(b"\\nIPTC profile\\n       5\\n1c02190000\\n")
+    b'\\x1c\\x02\\x19\\x00\\x00'
+    """
+    parts = text.lstrip().partition(b"\n")[2].split(None, 1)
+    if not parts or not parts[0].isdigit() or len(parts[0]) > 10:
+        raise _Unreadable("its profile has no length")
+    try:
+        data = bytes.fromhex(b"".join(parts[1].split()).decode("ascii")) if len(parts) > 1 else b""
+    except ValueError:
+        raise _Unreadable("its profile has other characters than hexadecimal digits") from None
+    if len(data) != int(parts[0]):
+        raise _Unreadable("its profile has another length than it says")
+    return data

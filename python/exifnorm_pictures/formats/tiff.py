@@ -1,0 +1,197 @@
+"""TIFF: each page and each SubIFD is an Exif block by itself, without the entries that lead to pixels and without those whose values
+are blocks of their own: XMP, IPTC and Photoshop's resources (TIFF 6.0; Adobe PageMaker 6.0 TIFF Technical Notes; XMP part 3).
+
+Raw pictures have the same structure, and private pointers besides; they are left to ExifTool and exiv2.
+"""
+
+from __future__ import annotations
+
+from collections import deque
+from typing import BinaryIO, Deque, Dict, Iterator, List, NamedTuple, Optional, Set, Tuple
+
+from . import photoshop
+from .found import EXIF, IPTC, XMP, Blocks, Broken, LeftToOthers, NotRead
+from .streams import digest_of, is_blank, read_at
+from .tiff_block import Layout, Table, is_pointer
+from .tiff_directories import HEADS, IFD, LONG, MOST_DIRECTORIES, Directories, Directory, Entry
+
+__all__ = ["BIG_HEADS", "HEADS", "read", "read_big"]
+
+BIG_HEADS = (b"II+\0", b"MM\0+")
+DEEPEST = 10  # SubIFDs below one another
+MOST_STRIPS = 4_000_000  # of which the end is looked for
+LIMIT = 16_777_216  # bytes of a block that the engine judges
+
+PIXELS: Dict[int, str] = {
+    0x0111: "StripOffsets",
+    0x0117: "StripByteCounts",
+    0x0120: "FreeOffsets",
+    0x0121: "FreeByteCounts",
+    0x0144: "TileOffsets",
+    0x0145: "TileByteCounts",
+    0x0201: "JPEGInterchangeFormat",
+    0x0202: "JPEGInterchangeFormatLength",
+    0x0207: "JPEGQTables",
+    0x0208: "JPEGDCTables",
+    0x0209: "JPEGACTables",
+}
+_PAIRS = ((0x0111, 0x0117), (0x0144, 0x0145), (0x0201, 0x0202))
+_SUB_IFDS, _XMP, _IPTC, _PHOTOSHOP, _LAYERS = 0x014A, 0x02BC, 0x83BB, 0x8649, 0x935C
+_POINTERS = {0x8769: {0xA005: {}}, 0x8825: {}}  # Exif with Interoperability, GPS
+_OTHER_POINTERS = {0x0190: "GlobalParametersIFD", 0x8290: "Kodak's IFD", 0x8606: "Leaf's IFD", 0xFE00: "Kodak's IFD"}
+_DNG_VERSION = 0xC612
+
+
+_Place = Tuple[int, str, int]  # where a directory is, the name of the row that it is in, and its number there
+
+
+class _Page(NamedTuple):
+    """A directory of pixels, and its name: none for the first page."""
+
+    directory: Directory
+    part: str
+
+
+def read(stream: BinaryIO, whole: bool = False) -> Blocks:
+    """The blocks of a TIFF. Raises `Broken`, and `LeftToOthers` for a raw picture."""
+    if read_at(stream, 8, 2) == b"CR":
+        raise LeftToOthers("a raw picture of Canon")
+    reader = _Reader(Directories(stream))
+    for page in reader.pages():
+        reader.take(page)
+    reader.directories.check()
+    reader.rest()
+    return reader.blocks
+
+
+def read_big(stream: BinaryIO, whole: bool = False) -> Blocks:
+    """A BigTIFF, which is not read."""
+    return Blocks(type="BTF", problem="BigTIFF", detail="a BigTIFF, whose offsets have eight bytes, is not read")
+
+
+class _Reader:
+    """The pages of one file."""
+
+    def __init__(self, directories: Directories) -> None:
+        self.directories = directories
+        self.blocks = Blocks(type="TIFF")
+        self._end: Optional[int] = 8  # behind all that the directories lead to; nothing if that is not known
+
+    def pages(self) -> Iterator[_Page]:
+        """Each page, followed by its SubIFDs."""
+        number = 0
+        at = self.directories.first
+        while at or not number:
+            number += 1
+            page = self._read(at)
+            yield _Page(page, "" if number == 1 else f"page {number}")
+            yield from self._below(page, f"page {number}")
+            at = page.following
+
+    def _below(self, page: Directory, part: str) -> Iterator[_Page]:
+        """The SubIFDs of a page, each with those that follow it and those below it."""
+        waiting: Deque[_Place] = deque(self._named(page, part))
+        while waiting:
+            at, name, number = waiting.popleft()
+            it = self._read(at)
+            part = name if number == 1 else f"{name}, directory {number}"
+            yield _Page(it, part)
+            waiting += self._named(it, part)
+            if it.following:
+                waiting.appendleft((it.following, name, number + 1))
+
+    def _named(self, it: Directory, part: str) -> List[_Place]:
+        entries = [entry for entry in it.entries if entry.tag == _SUB_IFDS]
+        if entries and part.count("SubIFD") >= DEEPEST:
+            raise Broken(f"more than {DEEPEST} SubIFDs below one another")
+        if sum(entry.count for entry in entries) > MOST_DIRECTORIES:
+            raise Broken(f"more than {MOST_DIRECTORIES:,} SubIFDs")
+        places = [place for entry in entries for place in self.directories.numbers(entry)]
+        return [(place, f"SubIFD {number} of {part}", 1) for number, place in enumerate(places, 1)]
+
+    def _read(self, at: int) -> Directory:
+        it = self.directories.read(at)
+        if any(entry.tag == _DNG_VERSION for entry in it.entries):
+            raise LeftToOthers("a DNG")
+        self._reaches(at + 2 + 12 * len(it.entries) + 4)
+        for entry in it.entries:
+            place = self.directories.place_of(entry) if entry.size > 4 else None
+            if place:
+                self._reaches(place[1])
+        self._pixels_reach(it)
+        return it
+
+    def _reaches(self, end: int) -> None:
+        if self._end is not None:
+            self._end = max(self._end, end)
+
+    def _pixels_reach(self, it: Directory) -> None:
+        by_tag = {entry.tag: entry for entry in it.entries}
+        for offsets, lengths in _PAIRS:
+            if offsets not in by_tag:
+                continue
+            pair = [by_tag[tag] for tag in (offsets, lengths) if tag in by_tag]
+            if len(pair) < 2 or pair[0].count != pair[1].count or pair[0].count > MOST_STRIPS:
+                self._end = None  # old files do not say how long their strips are
+                continue
+            starts, sizes = (self.directories.numbers(entry) for entry in pair)
+            self._reaches(max((start + size for start, size in zip(starts, sizes)), default=0))
+
+    def take(self, page: _Page) -> None:
+        """Takes the blocks of a page."""
+        left_out: Set[str] = set()
+        kept: List[Entry] = []
+        for it in page.directory.entries:
+            if it.tag in PIXELS:
+                left_out.add(PIXELS[it.tag])
+            elif it.tag == _SUB_IFDS:
+                left_out.add("SubIFDs")
+            elif not self._is_block(it, page.part):
+                kept.append(it)
+        if not kept:
+            return
+        layout = Layout(self.directories, self._table(kept, _POINTERS))
+        of = page.part or "page 1"
+        if layout.length > LIMIT:
+            raise Broken(f"{of} has more than {LIMIT:,} bytes of values")
+        where = f"directory at {page.directory.at}" + (f", without {', '.join(sorted(left_out))}" if left_out else "")
+        self.blocks.add(EXIF, layout.block(), where, page.part)
+
+    def _is_block(self, it: Entry, part: str) -> bool:
+        """Takes an entry whose value is a block, or that leads away; whether it is taken out of its directory."""
+        of = part or "page 1"
+        where = f"tag {it.tag:04x} of {of}"
+        data = self.directories.value(it) if it.tag in (_XMP, _IPTC, _PHOTOSHOP) else b""
+        if it.tag == _XMP and data:
+            self.blocks.add(XMP, data, where, part)
+        elif it.tag == _IPTC and data[:1] == b"\x1c":
+            self.blocks.add(IPTC, data, where, part)
+        elif it.tag == _PHOTOSHOP and data:
+            photoshop.add_resources(self.blocks, [(where, data)], part)
+        elif it.tag == _LAYERS and it.size > 4 and (place := self.directories.place_of(it)):
+            self.directories.spend(it.size)
+            self.blocks.not_read.append(NotRead(f"Photoshop's layers of {of}", digest_of(self.directories.stream, *place)))
+        else:
+            if it.tag in _OTHER_POINTERS and it.type in (LONG, IFD):
+                self.blocks.not_read.append(NotRead(f"{_OTHER_POINTERS[it.tag]} of {of}", ""))
+            return False
+        return True
+
+    def _table(self, entries: List[Entry], pointers: "Dict[int, dict]") -> Table:
+        below: Dict[int, Table] = {}
+        for it in entries:
+            if it.tag in pointers and is_pointer(it) and it.tag not in below:
+                directory = self.directories.read(self.directories.number(it.last))
+                self._reaches(directory.at + 2 + 12 * len(directory.entries) + 4)
+                below[it.tag] = self._table(directory.entries, pointers[it.tag])
+        for it in entries:
+            place = self.directories.place_of(it) if it.size > 4 else None
+            if place:
+                self._reaches(place[1])
+        return Table(entries, below)
+
+    def rest(self) -> None:
+        """What is behind all that the directories lead to."""
+        stream, size = self.directories.stream, self.directories.size
+        if self._end is not None and self._end < size and not is_blank(stream, self._end, size):
+            self.blocks.not_read.append(NotRead(f"trailer of {size - self._end:,} bytes", digest_of(stream, self._end, size)))

@@ -1,0 +1,92 @@
+"""A directory of a TIFF file as an Exif block by itself: the tables first, then the values, without the entries that are left out.
+
+Values that share bytes in the file share them in the block, so that what the engine refuses in the file it refuses here. A value
+that leads out of the file leads out of the block.
+"""
+
+from __future__ import annotations
+
+import struct
+from bisect import bisect_right
+from typing import Dict, List, NamedTuple, Tuple
+
+from .tiff_directories import LONG, Directories, Entry
+
+NOWHERE = 0xFFFFFFFF
+
+
+class Table(NamedTuple):
+    """A directory that goes into a block: its entries, and the tables that pointers among them lead to, by their tags."""
+
+    entries: List[Entry]
+    below: "Dict[int, Table]"
+
+
+def is_pointer(it: Entry) -> bool:
+    """Whether an entry has the form of a pointer, which is followed."""
+    return it.type == LONG and it.count == 1
+
+
+class Layout:
+    """The block of a table: where its tables and its values are. Raises `Broken` through the directories."""
+
+    def __init__(self, directories: Directories, table: Table) -> None:
+        self._directories = directories
+        self._tables = [table]
+        for it in self._tables:  # which grows meanwhile
+            self._tables += it.below.values()
+        self._parts = _joined([
+            place for it in self._tables for entry in it.entries
+            if entry.size > 4 and (place := directories.place_of(entry)) is not None
+        ])  # fmt: skip
+        self._places: Dict[int, int] = {}
+        self.length = 8
+        for it in self._tables:
+            self._places[id(it)] = self.length
+            self.length += 6 + 12 * len(it.entries)
+        self._offsets: List[int] = []
+        for start, end in self._parts:
+            self._offsets.append(self.length)
+            self.length += end - start
+
+    def block(self) -> bytes:
+        """The bytes of the block."""
+        order = self._directories.order
+        written = [b"II*\0" if order == "<" else b"MM\0*", struct.pack(order + "I", 8)]
+        for it in self._tables:
+            written.append(struct.pack(order + "H", len(it.entries)))
+            for entry in it.entries:
+                written.append(struct.pack(order + "HHI", entry.tag, entry.type, entry.count) + self._last_field(it, entry))
+            written.append(bytes(4))
+        written += [self._directories.part(start, end) for start, end in self._parts]
+        return b"".join(written)
+
+    def _last_field(self, table: Table, entry: Entry) -> bytes:
+        if entry.tag in table.below:
+            offset = self._places[id(table.below[entry.tag])]
+        elif entry.size <= 4:
+            return entry.last
+        else:
+            place = self._directories.place_of(entry)
+            offset = self._moved(place[0]) if place else NOWHERE
+        return struct.pack(self._directories.order + "I", offset)
+
+    def _moved(self, place: int) -> int:
+        """Where a place of the file, at which a value begins, is in the block."""
+        number = bisect_right(self._parts, (place, NOWHERE)) - 1
+        return self._offsets[number] + place - self._parts[number][0]
+
+
+def _joined(places: List[Tuple[int, int]]) -> List[Tuple[int, int]]:
+    """The parts of a file that some ranges cover, those that share bytes being one part.
+
+    >>> _joined([(20, 30), (8, 12), (25, 40), (12, 20)])
+    [(8, 12), (12, 20), (20, 40)]
+    """
+    found: List[Tuple[int, int]] = []
+    for start, end in sorted(places):
+        if found and start < found[-1][1]:
+            found[-1] = (found[-1][0], max(end, found[-1][1]))
+        else:
+            found.append((start, end))
+    return found

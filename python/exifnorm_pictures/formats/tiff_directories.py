@@ -1,0 +1,119 @@
+"""The directories of a TIFF file as they are in it (TIFF 6.0, section 2; TIFF Technical Note 1 for SubIFDs).
+
+A directory is read once. No two directories share bytes; values may, as the engine refuses that by itself.
+"""
+
+from __future__ import annotations
+
+import struct
+from bisect import bisect_left
+from typing import BinaryIO, Dict, List, NamedTuple, Optional, Tuple
+
+from .found import Broken
+from .streams import read_at, size_of
+
+HEADS = (b"II*\0", b"MM\0*")
+SIZES = {1: 1, 2: 1, 3: 2, 4: 4, 5: 8, 6: 1, 7: 1, 8: 2, 9: 4, 10: 8, 11: 4, 12: 8, 13: 4, 129: 1}
+LONG, IFD = 4, 13
+MOST_DIRECTORIES = 10_000
+MOST_ENTRIES = 1_000_000
+MOST_BYTES = 256 << 20  # of values and blocks that are read from one file, whose directories may lead to the same bytes
+
+
+class Entry(NamedTuple):
+    """An entry: its last field is a value of at most four bytes, or the place of the value."""
+
+    tag: int
+    type: int
+    count: int
+    last: bytes
+
+    @property
+    def size(self) -> int:
+        """The bytes of the value; 0 for a type that is not known."""
+        return SIZES.get(self.type, 0) * self.count
+
+
+class Directory(NamedTuple):
+    """A directory: its place, its entries in their order, and the place of the next one."""
+
+    at: int
+    entries: List[Entry]
+    following: int
+
+
+class Directories:
+    """The directories of one file."""
+
+    def __init__(self, stream: BinaryIO) -> None:
+        self.stream = stream
+        self.size = size_of(stream)
+        head = read_at(stream, 0, 8)
+        self.order = "<" if head[:2] == b"II" else ">"
+        self.first = self.number(head[4:])
+        self._starts: List[int] = [0]  # of the header and of the directories that were read
+        self._ends: Dict[int, int] = {0: 8}
+        self._entries = 0
+        self._left = MOST_BYTES
+        self._values: List[Tuple[int, int]] = []
+
+    def number(self, data: bytes) -> int:
+        """A number in the file's byte order."""
+        return int.from_bytes(data, "little" if self.order == "<" else "big")
+
+    def read(self, at: int) -> Directory:
+        """The directory at a place. Raises `Broken`."""
+        count = self.number(read_at(self.stream, at, 2))
+        table = read_at(self.stream, at + 2, 12 * count + 4)
+        self._claim(at, at + 2 + 12 * count + 4)
+        self._entries += count
+        if len(self._starts) > MOST_DIRECTORIES or self._entries > MOST_ENTRIES:
+            raise Broken("more directories than any picture has")
+        entries = [Entry(*it) for it in struct.iter_unpack(self.order + "HHI4s", table[: 12 * count])]
+        return Directory(at, entries, self.number(table[12 * count :]))
+
+    def _claim(self, start: int, end: int) -> None:
+        place = bisect_left(self._starts, start)
+        before = self._ends[self._starts[place - 1]] if place else 0
+        after = self._starts[place] if place < len(self._starts) else end
+        if start < before or after < end:
+            raise Broken(f"the directory at {start} shares bytes with another one")
+        self._starts.insert(place, start)
+        self._ends[start] = end
+
+    def place_of(self, it: Entry) -> Optional[Tuple[int, int]]:
+        """Where a value begins and ends that is not in the entry itself; nothing if it is not wholly in the file."""
+        start = self.number(it.last)
+        return (start, start + it.size) if 8 <= start and start + it.size <= self.size else None
+
+    def value(self, it: Entry) -> bytes:
+        """The value of an entry; no bytes if it is not wholly in the file. Raises `Broken`."""
+        if it.size <= 4:
+            return it.last[: it.size]
+        place = self.place_of(it)
+        return self.part(*place) if place else b""
+
+    def part(self, start: int, end: int) -> bytes:
+        """The bytes of a part of the file in which values are. Raises `Broken`."""
+        self.spend(end - start)
+        self._values.append((start, end))
+        return read_at(self.stream, start, end - start)
+
+    def spend(self, length: int) -> None:
+        """Counts bytes that are read. Raises `Broken` where they are more than any picture needs."""
+        self._left -= length
+        if self._left < 0:
+            raise Broken(f"more than {MOST_BYTES:,} bytes of values")
+
+    def check(self) -> None:
+        """Raises `Broken` if a value that was read shares bytes with a directory or with the header."""
+        for start, end in self._values:
+            place = bisect_left(self._starts, end) - 1
+            if self._ends[self._starts[place]] > start:
+                raise Broken(f"the value at {start} shares bytes with a directory")
+
+    def numbers(self, it: Entry) -> List[int]:
+        """The values of an entry that holds SHORT, LONG or IFD; none if it holds something else. Raises `Broken`."""
+        code = {3: "H", LONG: "I", IFD: "I"}.get(it.type)
+        data = self.value(it)
+        return [number for number, in struct.iter_unpack(self.order + code, data)] if code and len(data) == it.size else []

@@ -1,0 +1,37 @@
+"""What programs append behind a picture, recognised by its last bytes."""
+
+from __future__ import annotations
+
+import re
+from typing import BinaryIO, NamedTuple, Optional
+
+
+class Trailer(NamedTuple):
+    """A kind of trailer."""
+
+    name: str
+    may_hold_blocks: bool  # that ExifTool can extract
+
+
+_SIGNS = (
+    (re.compile(rb"AXS[!*].{8}\Z", re.S), Trailer("AFCP", True)),
+    (re.compile(rb"\xa1\xb2\xc3\xd4\Z"), Trailer("FotoStation", True)),
+    (re.compile(rb"cbipcbbl\Z"), Trailer("PhotoMechanic", True)),
+    (re.compile(rb"\0\0(?:QDIOBS|SEFT)\Z"), Trailer("Samsung", False)),
+    (re.compile(rb"zmie~\0\0[\x06\x0a].{4,8}[\x10\x18][\x04\x08]\Z", re.S), Trailer("MIE", True)),
+    (re.compile(rb"CANON OPTIONAL DATA\0.{44}\Z", re.S), Trailer("Canon VRD", True)),
+)
+_LONGEST = 64
+
+
+def known_trailer(stream: BinaryIO, end: int) -> Optional[Trailer]:
+    """The kind of the trailer that ends at a place, if it is known.
+
+    >>> import io
+    >>> known_trailer(io.BytesIO(b"...." + bytes.fromhex("a1b2c3d4")), 8)
+    Trailer(name='FotoStation', may_hold_blocks=True)
+    """
+    start = max(end - _LONGEST, 0)
+    stream.seek(start)
+    last = stream.read(end - start)
+    return next((it for sign, it in _SIGNS if sign.search(last)), None)

@@ -1,0 +1,60 @@
+"""WebP: the chunks EXIF and XMP (RFC 9649, 2.7). Pillow and others put the six bytes `Exif\\0\\0` in front of the Exif block."""
+
+from __future__ import annotations
+
+import struct
+from typing import BinaryIO
+
+from .found import EXIF, XMP, Blocks, Broken, NotRead
+from .streams import digest_of, is_blank, read_at, size_of
+
+MOST_CHUNKS = 100_000
+MOST_BYTES = 64 << 20  # of chunks that are kept
+_SIX = b"Exif\0\0"
+
+
+def is_webp(head: bytes) -> bool:
+    """Whether a file with these first twelve bytes is a WebP.
+
+    >>> is_webp(b"RIFF\\x04\\0\\0\\0WEBP")
+    True
+    """
+    return head[:4] == b"RIFF" and head[8:12] == b"WEBP"
+
+
+def read(stream: BinaryIO, whole: bool = False) -> Blocks:
+    """The blocks of a WebP, which is always read to its end. Raises `Broken`."""
+    blocks = Blocks(type="WEBP")
+    size = size_of(stream)
+    end = 8 + int.from_bytes(read_at(stream, 4, 4), "little")
+    if end > size:
+        raise Broken("the file is shorter than its header says")
+    left = MOST_BYTES
+    at = 12
+    for _ in range(MOST_CHUNKS):
+        if at + 8 > end:
+            _rest(blocks, stream, min(at, end), size)
+            return blocks
+        kind, length = struct.unpack("<4sI", read_at(stream, at, 8))
+        if at + 8 + length > end:
+            raise Broken(f"the chunk at {at} is longer than the file")
+        if kind in (b"EXIF", b"XMP "):
+            left -= length
+            if left < 0:
+                raise Broken(f"more than {MOST_BYTES:,} bytes of metadata chunks")
+            _add(blocks, kind, read_at(stream, at + 8, length), at)
+        at += 8 + length + length % 2
+    raise Broken(f"more than {MOST_CHUNKS:,} chunks")
+
+
+def _add(blocks: Blocks, kind: bytes, data: bytes, at: int) -> None:
+    where = f"{kind.decode('ascii').strip()} chunk at {at}"
+    if kind == b"XMP ":
+        blocks.add(XMP, data, where)
+    else:
+        blocks.add(EXIF, data[len(_SIX) :] if data.startswith(_SIX) else data, where)
+
+
+def _rest(blocks: Blocks, stream: BinaryIO, at: int, size: int) -> None:
+    if not is_blank(stream, at, size):
+        blocks.not_read.append(NotRead(f"trailer of {size - at:,} bytes", digest_of(stream, at, size)))

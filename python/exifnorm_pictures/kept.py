@@ -1,0 +1,181 @@
+"""What is kept of a picture: its blocks, what was not read, and by which marks of the file system an edit is noticed."""
+
+from __future__ import annotations
+
+import hashlib
+import os
+from dataclasses import dataclass, field
+from typing import Any, Dict, Iterable, List, NamedTuple, Optional, Sequence, Tuple
+
+from .engine import Judgement
+from .formats.found import EXIF, IPTC, NAMES, XMP, Blocks, NotRead
+from .verdicts import ABSENT, ACCEPTED, REFUSED, UNREADABLE, Side, side
+
+KINDS = (EXIF, IPTC, XMP)
+WORDS = {EXIF: "exif", IPTC: "iptc", XMP: "xmp"}  # as people and the catalogue have them: archivists know IPTC, the engine IIM
+KIND_OF = {word: kind for kind, word in WORDS.items()}
+
+
+def _in_64_bits(number: int) -> int:
+    """A number as a signed one of 64 bits, which is what SQLite keeps: times behind the year 2262 and great inodes have more."""
+    return (number + (1 << 63)) % (1 << 64) - (1 << 63)
+
+
+class Stamp(NamedTuple):
+    """The marks by which an edit is noticed. ctime tells also of one that keeps size and mtime, as by `exiftool -P`."""
+
+    size: int
+    modified: int
+    changed: int
+    inode: int
+
+    @classmethod
+    def of(cls, it: os.stat_result) -> "Stamp":
+        return cls(it.st_size, _in_64_bits(it.st_mtime_ns), _in_64_bits(it.st_ctime_ns), _in_64_bits(it.st_ino))
+
+
+@dataclass
+class Block:
+    """A block: what it is called, where it stands in the file, which reader gave it, and how it was judged."""
+
+    kind: str
+    name: str
+    source: str
+    extractor: str
+    status: str
+    digest: Optional[str]
+    cause: Optional[str]
+    place: Optional[int]
+    length: int
+    octets: str
+    kept: Optional[bytes] = None  # the fields, packed
+    number: int = 0
+
+    @classmethod
+    def of(cls, it: Judgement) -> "Block":
+        """A block that was judged."""
+        return cls(it.kind, it.name, it.where, it.extractor, it.status, it.digest, it.cause, it.place, it.length, it.octets, it.fields)
+
+    def row(self) -> Tuple[Any, ...]:
+        """The block as a row of the catalogue, without its fields."""
+        return (WORDS[self.kind], self.name, self.source, self.extractor, self.status, self.digest, self.cause, self.place,
+                self.length, self.octets)  # fmt: skip
+
+    @property
+    def refusal(self) -> str:
+        """The cause and place of a refusal in a line."""
+        return f"{self.cause} at {self.place}" if self.place is not None else str(self.cause)
+
+
+@dataclass(frozen=True)
+class Entry:
+    """What is known of a picture after it was looked at."""
+
+    path: bytes
+    root: bytes
+    stamp: Optional[Stamp] = None
+    type: str = ""
+    extractor: str = ""
+    problem: Optional[str] = None
+    detail: str = ""
+    blocks: Tuple[Block, ...] = ()
+    not_read: Tuple[NotRead, ...] = ()
+
+    @classmethod
+    def of(cls, path: bytes, root: bytes, stamp: Optional[Stamp], it: Blocks, judged: Sequence[Judgement] = ()) -> "Entry":
+        """What was found in a file."""
+        blocks = tuple(Block.of(one) for one in judged)
+        return cls(path, root, stamp, it.type, it.extractor, it.problem, it.detail, blocks, tuple(it.not_read))
+
+    @property
+    def state(self) -> str:
+        """One word for the whole picture: a problem, `refused`, `accepted`, or `no block`."""
+        return state_of(self.problem, self.blocks)
+
+
+@dataclass
+class Picture:
+    """A picture as the catalogue keeps it."""
+
+    id: int
+    path: bytes
+    root: bytes
+    type: str
+    extractor: str
+    problem: Optional[str]
+    detail: str
+    size: Optional[int]
+    unread: Optional[str]  # the digest of all that was not read; empty: all was read; None: it can't be compared
+    said: Tuple[Optional[str], ...]  # by KINDS: a digest, empty where there is no block, None where that isn't known
+    octets: Tuple[str, ...]  # by KINDS: the digest of the blocks as they stand, empty where there is none
+    file: Optional[Tuple[int, int, int]] = None  # size, modified and inode, which a file keeps where it is renamed
+
+    @property
+    def state(self) -> str:
+        """One word for the whole picture: a problem, `refused`, `accepted`, or `no block`."""
+        if self.problem:
+            return self.problem
+        return REFUSED if None in self.said else ACCEPTED if any(self.said) else "no block"
+
+    def sides(self) -> Dict[str, Side]:
+        """What it says, for each kind of block."""
+        found = {}
+        for kind, digest, octets in zip(KINDS, self.said, self.octets):
+            status = ABSENT if digest == "" else ACCEPTED if digest else UNREADABLE if kind == XMP else REFUSED
+            found[kind] = Side(status, digest or "", octets)
+        return found
+
+
+def state_of(problem: Optional[str], blocks: Iterable[Block]) -> str:
+    """A problem, `refused` where a block isn't accepted, `accepted`, or `no block`."""
+    if problem:
+        return problem
+    states = {it.status for it in blocks}
+    return "no block" if not states else ACCEPTED if states == {ACCEPTED} else REFUSED
+
+
+def digests(it: Entry) -> Tuple[Optional[str], ...]:
+    """The columns exif, iptc, xmp and not_read of a picture, and those of its blocks' octets."""
+    if it.problem:
+        return (None, None, None, None, "", "", "")
+    sides = [side(kind, it.blocks) for kind in KINDS]
+    said = [one.digest if one.status == ACCEPTED else "" if one.status == ABSENT else None for one in sides]
+    parts: Optional[str] = ""
+    if it.not_read:
+        parts = _together(f"{one.what} {one.digest}" for one in it.not_read) if all(one.digest for one in it.not_read) else None
+    return (*said, parts, *(one.octets for one in sides))
+
+
+def _together(texts: Iterable[str]) -> str:
+    return hashlib.sha256("\n".join(texts).encode("utf-8", "surrogatepass")).hexdigest()
+
+
+def not_read_of_row(row: Tuple[Any, ...]) -> NotRead:
+    """A part that was not read, of a row `what, digest`."""
+    has(str, *row)
+    return NotRead(*row)
+
+
+def has(kind: type, *values: object) -> None:
+    """Raises `ValueError` where a value of a row isn't of this kind."""
+    for it in values:
+        if not isinstance(it, kind):
+            raise ValueError(f"{it!r} stands where a value of another kind must stand")
+
+
+def picture_of_row(row: Tuple[Any, ...]) -> Picture:
+    """A picture of a row `id, path, root, problem, detail, size, modified, inode, not_read`, what it says by KINDS, and its octets."""
+    number, path, root, kind, extractor, problem, detail, size, modified, inode, unread, *by_kind = row
+    has(int, number, *(it for it in (size, modified, inode) if it is not None))
+    has(bytes, path, root)
+    has(str, kind, extractor, detail, *by_kind[3:], *(it for it in (problem, unread, *by_kind[:3]) if it is not None))
+    file = None if size is None else (size, modified, inode)
+    return Picture(number, path, root, kind, extractor, problem, detail, size, unread, tuple(by_kind[:3]), tuple(by_kind[3:]), file)
+
+
+def block_of_row(row: Tuple[Any, ...]) -> Block:
+    """A block of a row `number, kind, name, source, extractor, status, digest, cause, place, length, octets`."""
+    number, kind, name, source, extractor, status, digest, cause, place, length, octets = row
+    has(str, kind, name, source, extractor, status, octets, *(it for it in (digest, cause) if it is not None))
+    has(int, number, length, *(it for it in (place,) if it is not None))
+    return Block(KIND_OF[kind], name, source, extractor, status, digest, cause, place, length, octets, number=number)

@@ -1,0 +1,157 @@
+"""Looks at pictures, one after another or in several processes, and answers in the order in which they were given."""
+
+from __future__ import annotations
+
+import ctypes
+import itertools
+import multiprocessing
+import os
+import signal
+from collections import deque
+from concurrent.futures import Future, ProcessPoolExecutor
+from concurrent.futures.process import BrokenProcessPool
+from dataclasses import dataclass
+from typing import Deque, Iterator, List, Optional, Sequence, Tuple
+
+from . import engine, extraction, session, tools
+from .formats.found import Blocks
+from .kept import Entry, Stamp
+from .walk import Found, reason
+
+CHUNK = 32  # pictures that a process is given at once
+FEW = 64  # pictures for which no further process is worth its start
+
+
+@dataclass(frozen=True)
+class How:
+    """How pictures are looked at."""
+
+    jobs: int = 0  # processes; 0 for as many as there are processors
+    whole: bool = False  # every byte of a JPEG, and not its head and tail alone
+    seconds: float = tools.SECONDS  # that a program may take for one file
+    room: str = ""  # a folder for temporary files
+
+    @property
+    def processes(self) -> int:
+        """How many processes that is."""
+        return self.jobs or len(os.sched_getaffinity(0))
+
+
+def look(it: Found, whole: bool) -> Entry:
+    """What one file holds. Whatever happens, the answer is about this file alone."""
+    try:
+        blocks = extraction.blocks_of(it.path, whole)
+        judged = [] if blocks.problem else engine.judge_all(blocks, with_fields=True)
+    except tools.Failed as error:
+        return _failed(it, str(error))
+    except OSError as error:
+        return Entry(it.path, it.root, problem="Unreadable", detail=reason(error))
+    except tools.Missing as error:
+        return Entry.of(it.path, it.root, it.stamp, Blocks(problem="NeedsExifTool", detail=str(error)))
+    except engine.exifnorm.LibraryMissing:
+        raise
+    except Exception as error:  # a mistake of a reader costs this one file
+        return _failed(it, f"it could not be read: {type(error).__name__}: {error}")
+    return Entry.of(it.path, it.root, _unless_changed(it), blocks, judged)
+
+
+def _failed(it: Found, why: str) -> Entry:
+    return Entry.of(it.path, it.root, it.stamp, Blocks(problem="ToolFailed", detail=why))
+
+
+def _unless_changed(it: Found) -> Optional[Stamp]:
+    """The marks by which the file is known again; none where it was written to meanwhile, so that the next run looks again."""
+    try:
+        return it.stamp if it.stamp == Stamp.of(os.stat(it.path)) else None
+    except OSError:
+        return None
+
+
+def look_at_all(chunk: Sequence[Found], whole: bool) -> List[Entry]:
+    """What a process does with some pictures."""
+    return [look(it, whole) for it in chunk]
+
+
+_PR_SET_PDEATHSIG = 1
+
+
+def _begin(how: How, parent: int) -> None:
+    """What a process does at first. The parent alone answers signals, and where it is killed its processes end."""
+    ctypes.CDLL(None).prctl(_PR_SET_PDEATHSIG, signal.SIGKILL)
+    if os.getppid() != parent:
+        os._exit(1)
+    signal.signal(signal.SIGINT, signal.SIG_IGN)
+    signal.signal(signal.SIGHUP, signal.SIG_DFL)
+    signal.signal(signal.SIGTERM, signal.SIG_DFL)
+    tools.set_limit(how.seconds)
+    session.begin(how.room)
+
+
+def looked(work: Sequence[Found], how: How) -> Iterator[Entry]:
+    """What each of these files holds, in their order."""
+    if how.processes == 1 or len(work) <= FEW:
+        tools.set_limit(how.seconds)
+        session.begin(how.room)
+        try:
+            for it in work:
+                yield look(it, how.whole)
+        finally:
+            session.finish()
+        return
+    chunks = iter([work[at : at + CHUNK] for at in range(0, len(work), CHUNK)])
+    broken: List[Sequence[Found]] = [[]]
+    while broken:
+        broken = []
+        yield from _by_processes(chunks, how, broken)
+        for chunk in broken:
+            yield from _one_by_one(chunk, how)
+
+
+_Waiting = Tuple[Sequence[Found], "Future[List[Entry]]"]
+
+
+def _by_processes(chunks: Iterator[Sequence[Found]], how: How, broken: List[Sequence[Found]]) -> Iterator[Entry]:
+    """The answers of several processes. Where one of them dies, the chunks that were given out go to `broken`."""
+    waiting: Deque[_Waiting] = deque()
+    pool = _pool(how, how.processes)
+    try:
+        while True:
+            for chunk in itertools.islice(chunks, 4 * how.processes - len(waiting)):
+                broken.append(chunk)
+                waiting.append((chunk, pool.submit(look_at_all, chunk, how.whole)))
+            if not waiting:
+                break
+            found = waiting[0][1].result()
+            waiting.popleft()
+            broken.pop(0)
+            yield from found
+        pool.shutdown()
+    except BrokenProcessPool:
+        return
+    finally:
+        end_children()
+        pool.shutdown(wait=True, cancel_futures=True)
+
+
+def _pool(how: How, processes: int) -> ProcessPoolExecutor:
+    context = multiprocessing.get_context("fork")
+    return ProcessPoolExecutor(processes, mp_context=context, initializer=_begin, initargs=(how, os.getpid()))
+
+
+def _one_by_one(chunk: Sequence[Found], how: How) -> Iterator[Entry]:
+    """The answers on a chunk at which a process died: each file in a process of its own, so that one alone is given up."""
+    for it in chunk:
+        pool = _pool(how, 1)
+        try:
+            yield from pool.submit(look_at_all, [it], how.whole).result()
+        except BrokenProcessPool:
+            yield _failed(it, "the process that looked at it died twice")
+        finally:
+            end_children()
+            pool.shutdown(wait=True, cancel_futures=True)
+
+
+def end_children() -> None:
+    """Ends all processes that look at pictures, with their programs, which the system ends with them."""
+    for it in multiprocessing.active_children():
+        it.kill()

@@ -1,0 +1,64 @@
+"""Which picture that is gone is there again under another name: recognised by what it says, and by the file system's marks."""
+
+from __future__ import annotations
+
+import os
+from typing import Dict, Iterator, List, Optional, Sequence, Tuple
+
+from .catalogue import Catalogue
+from .kept import Entry, digests
+from .texts import shown_path
+
+Key = Tuple[object, ...]
+
+
+def content_key(octets: Sequence[Optional[str]], unread: Optional[str], size: Optional[int]) -> Optional[Key]:
+    """What tells a picture apart from others, wherever it stands; nothing where it has no block and so says nothing."""
+    return None if not any(octets) or unread is None or size is None else (*octets, unread, size)
+
+
+class Departed:
+    """The pictures that are gone, until it is known where they went."""
+
+    def __init__(self) -> None:
+        self.by_content: Dict[Key, List[bytes]] = {}
+        self.by_file: Dict[Key, bytes] = {}
+        self.went: Dict[bytes, bytes] = {}
+
+    def add(self, catalogue: Catalogue, number: int, path: bytes) -> None:
+        """Notes a picture that is gone."""
+        query = "SELECT size, modified, inode, not_read, exif_octets, iptc_octets, xmp_octets FROM pictures WHERE id = ?"
+        for size, modified, inode, unread, *octets in catalogue.rows(query, (number,)):
+            if size is not None:
+                self.by_file[(size, modified, inode)] = path
+            key = content_key(octets, unread, size)
+            if key:
+                self.by_content.setdefault(key, []).append(path)
+
+    def meet(self, it: Entry) -> None:
+        """Notes a picture that is new: one that is gone may have become it."""
+        if it.problem or it.stamp is None or not (self.by_content or self.by_file):
+            return
+        same = self.by_file.get((it.stamp.size, it.stamp.modified, it.stamp.inode))
+        if same is None or same in self.went:
+            _, _, _, unread, *octets = digests(it)
+            key = content_key(octets, unread, it.stamp.size)
+            same = best([one for one in self.by_content.get(key or (), []) if one not in self.went], it.path)
+        if same is not None:
+            self.went[same] = it.path
+
+    def settle(self, catalogue: Catalogue, run: int, gone: Sequence[Entry]) -> Iterator[Entry]:
+        """What is to be told of each picture that is gone: it was moved, or it is missing."""
+        if self.went:
+            with catalogue.transaction():
+                words = ((f"to {shown_path(to)}", path) for path, to in self.went.items())
+                catalogue.base.executemany("UPDATE pictures SET problem = 'Moved', detail = ? WHERE path = ?", words)
+        for it in gone:
+            to = self.went.get(it.path)
+            yield it if to is None else Entry(it.path, b"", problem="Moved", detail=f"to {shown_path(to)}")
+
+
+def best(candidates: Sequence[bytes], name: bytes) -> Optional[bytes]:
+    """Of several pictures the one with the same name in its folder, or else the first."""
+    last = os.path.basename(name)
+    return next((it for it in candidates if os.path.basename(it) == last), candidates[0] if candidates else None)

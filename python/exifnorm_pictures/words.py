@@ -1,0 +1,177 @@
+"""The words of the command line, and what `--help` says."""
+
+from __future__ import annotations
+
+import argparse
+import sys
+from typing import IO, Callable, NoReturn, Optional, Tuple
+
+from . import tools
+from .kept import KIND_OF
+
+REFUSED_WORDS = 3
+
+_STATUSES = """Statuses:
+  0    done (index: also where pictures are refused, which the catalogue records)
+  1    it differs (changed: something differs, was moved or is missing; mend: the copy differs in a printed value)
+  2    it can't be compared (changed, show, captions, explain: a block is refused or unreadable, or a picture isn't wholly
+       read; mend: no remedy helped)
+  3    the arguments are refused
+  4    a file, a folder, a program, a stream or the catalogue failed; the others were looked at all the same
+  130  stopped by the keyboard; what was reported is kept, and the same command goes on from there
+Where several apply, the status is the greatest of them. SIGTERM and SIGHUP end the command as signals do.
+
+A file that can't be read, that is gone, that is no picture or holds no block is a line, and the others are looked at all the
+same. Names are shown with control characters and undecodable bytes escaped; with --json as "path", and as "path_hex" too where
+the name is no UTF-8. Without --json lines are for people, with it each line is one object.
+
+ExifTool reads what has no reader here (Debian: libimage-exiftool-perl)."""
+
+
+class _Parser(argparse.ArgumentParser):
+    """A parser that ends with the status of refused arguments."""
+
+    def error(self, message: str) -> NoReturn:
+        self.print_usage(sys.stderr)
+        self.exit(REFUSED_WORDS, f"{self.prog}: {message}\n")
+
+    def exit(self, status: int = 0, message: Optional[str] = None) -> NoReturn:
+        """Ends with this status. What --help printed is flushed before, so that a failed write is reported."""
+        sys.stdout.flush()
+        super().exit(status, message)
+        raise SystemExit(status)
+
+    def _print_message(self, message: str, file: Optional[IO[str]] = None) -> None:
+        """Writes a message. argparse ignores a failed write: on standard output it must be reported."""
+        if file is sys.stdout:
+            file.write(message)
+        else:
+            super()._print_message(message, file)
+
+
+class _Version(argparse.Action):
+    """Prints the version of this command and of the library, and ends."""
+
+    def __call__(self, whole: argparse.ArgumentParser, *_: object) -> None:  # type: ignore[override]
+        import exifnorm
+
+        print(f"exifnorm-pictures {exifnorm.version()}")
+        whole.exit()
+
+
+def parser() -> argparse.ArgumentParser:
+    """The words of the command."""
+    whole = _Parser(
+        prog="exifnorm-pictures",
+        description="What many pictures say in their Exif, IPTC and XMP metadata: which say the same, which changed and in which"
+        " fields, which are refused and what helps.",
+        epilog=_STATUSES,
+        formatter_class=argparse.RawDescriptionHelpFormatter,
+    )
+    whole.add_argument("--version", action=_Version, nargs=0, help="the version")
+    commands = whole.add_subparsers(dest="command", metavar="COMMAND", required=True)
+    for name, words, build in _COMMANDS:
+        one = commands.add_parser(name, help=words, description=words[0].upper() + words[1:] + ".", epilog=_STATUSES,
+                                  formatter_class=argparse.RawDescriptionHelpFormatter)  # fmt: skip
+        build(one)
+        one.add_argument("--json", action="store_true", help="one JSON object a line")
+        if name != "merge":
+            one.add_argument("--files-from", metavar="LIST", help="take names from the file LIST, - for standard input: one a line")
+            one.add_argument("-0", "--null", action="store_true", help="the names of LIST are ended by NUL, as by find -print0")
+    return whole
+
+
+def _positive(text: str) -> int:
+    number = int(text)
+    if number < 1:
+        raise argparse.ArgumentTypeError(f"{text} is less than 1")
+    return number
+
+
+def _seconds(text: str) -> float:
+    number = float(text)
+    if not 0 < number < 1e6:
+        raise argparse.ArgumentTypeError(f"{text} is no number of seconds")
+    return number
+
+
+def _name(text: str) -> str:
+    if not text or "\0" in text:
+        raise argparse.ArgumentTypeError("a name is empty")
+    return text
+
+
+def _limit_words(it: argparse.ArgumentParser) -> None:
+    it.add_argument("--limit", type=_seconds, default=tools.SECONDS, metavar="SECONDS",
+                    help=f"how long ExifTool may take for a file ({tools.SECONDS:g})")  # fmt: skip
+
+
+def _looking_words(it: argparse.ArgumentParser) -> None:
+    _limit_words(it)
+    it.add_argument("--whole", action="store_true", help="read every byte of a JPEG, and not its head and tail alone")
+
+
+def _many_words(it: argparse.ArgumentParser) -> None:
+    _looking_words(it)
+    it.add_argument("--jobs", type=_positive, default=0, metavar="N", help="processes that look at pictures (as many as processors)")
+    it.add_argument("--quiet", action="store_true", help="no progress on standard error")
+
+
+def _index_words(it: argparse.ArgumentParser) -> None:
+    it.add_argument("folders", nargs="*", type=_name, metavar="FOLDER", help="a folder, with all below it, or a picture")
+    it.add_argument("--catalogue", required=True, type=_name, metavar="FILE", help="the catalogue; made where it is missing")
+    it.add_argument("--keep-old", type=_name, metavar="OLD", help="first copy the catalogue to OLD, for changed and report --since")
+    it.add_argument("--again", action="store_true", help="look at all pictures, also at those that haven't changed")
+    it.add_argument("--scheduler", metavar="tcp://HOST:PORT", help="look at the pictures on the workers of this Dask cluster")
+    it.add_argument("--elsewhere", type=_name, metavar="PATH", help="the path of FOLDER on the workers")
+    _many_words(it)
+
+
+def _merge_words(it: argparse.ArgumentParser) -> None:
+    it.add_argument("catalogues", nargs="+", type=_name, metavar="CATALOGUE", help="a catalogue; of one picture the last one counts")
+    it.add_argument("--catalogue", required=True, type=_name, metavar="ALL", help="the catalogue to be written; made where it is missing")
+
+
+def _same_words(it: argparse.ArgumentParser) -> None:
+    it.add_argument("--catalogue", required=True, type=_name, metavar="FILE")
+    it.add_argument("--kind", choices=("all", *KIND_OF), default="all", help="which blocks have to say the same (all)")
+
+
+def _changed_words(it: argparse.ArgumentParser) -> None:
+    it.add_argument("before", type=_name, metavar="BEFORE", help="a catalogue or a folder")
+    it.add_argument("after", type=_name, metavar="AFTER", help="a catalogue or a folder")
+    it.add_argument("--all", action="store_true", help="also the pictures that say the same, or are refused in the same bytes")
+    _many_words(it)
+
+
+def _pictures_words(it: argparse.ArgumentParser) -> None:
+    it.add_argument("pictures", nargs="*", type=_name, metavar="PICTURE")
+    it.add_argument("--block", action="store_true", help="each PICTURE is a block by itself, cut out before")
+    _looking_words(it)
+
+
+def _report_words(it: argparse.ArgumentParser) -> None:
+    it.add_argument("--catalogue", required=True, type=_name, metavar="FILE")
+    it.add_argument("--since", type=_name, metavar="OLD", help="an older catalogue: also what changed")
+    it.add_argument("--html", type=_name, metavar="PAGE", help="the page to be written")
+    it.add_argument("--title", default="Pictures and what they say", help="the page's title")
+    _limit_words(it)
+
+
+def _mend_words(it: argparse.ArgumentParser) -> None:
+    it.add_argument("names", nargs="+", type=_name, metavar="PICTURE OUT",
+                    help="the picture and the copy; with --files-from a folder OUT alone")  # fmt: skip
+    _limit_words(it)
+
+
+_COMMANDS: Tuple[Tuple[str, str, Callable[[argparse.ArgumentParser], None]], ...] = (
+    ("index", "look at all new and changed pictures, and keep in a catalogue what they say", _index_words),
+    ("merge", "join catalogues of several folders or machines", _merge_words),
+    ("same", "groups of pictures that say the same", _same_words),
+    ("changed", "what two catalogues or folders say differently, with the fields", _changed_words),
+    ("show", "what pictures say, field by field", _pictures_words),
+    ("captions", "captions, names, keywords and rights of pictures", _pictures_words),
+    ("explain", "why a block is refused, and what helps", _pictures_words),
+    ("report", "one page about a catalogue", _report_words),
+    ("mend", "a copy of a picture whose block is accepted", _mend_words),
+)

@@ -1,0 +1,21 @@
+"""XMP compared by its RDF statements. This is tested, and not proved.
+
+Two packets say the same if they make the same statements about the picture. What makes no statement is ignored:
+
+- the packet's wrapper and padding, white space between elements, comments, prefixes, the order of properties, and whether a property
+  is written as an attribute or as an element;
+- `x:xmpmeta` with its attribute `x:xmptk`, which names the program that wrote the packet;
+- `rdf:about`: the subject is the picture that the packet is in. A packet about several subjects is unreadable;
+- the order of an `rdf:Bag`, which has none. `rdf:Seq` and `rdf:Alt` keep theirs.
+
+Dates and identifiers that programs renew at each saving are statements as all others. Extended XMP belongs to the packet that names
+it. A packet that is not well-formed, that has a document type declaration, that is too long or nested too deep is unreadable: no
+entity is expanded and nothing is fetched.
+"""
+
+from .packets import CAUSES, Unreadable
+from .reading import digest, statements
+from .shown import fields
+from .tree import Statements
+
+__all__ = ["CAUSES", "Statements", "Unreadable", "digest", "fields", "statements"]

@@ -1,0 +1,98 @@
+"""The element rdf:RDF of a packet, after a look for what a packet must not have."""
+
+from __future__ import annotations
+
+import codecs
+import re
+from xml.etree import ElementTree
+
+from .tree import RDF
+
+LONGEST = 16 << 20  # bytes
+MOST_TAGS = 500_000
+DEEPEST = 100  # elements in one another
+
+CAUSES = {
+    "TooLong": f"The packet has more than {LONGEST:,} bytes or more than {MOST_TAGS:,} tags.",
+    "NotText": "The packet is no text in UTF-8, UTF-16 or UTF-32, or declares another encoding.",
+    "DocumentType": "The packet has a document type declaration, which XMP does not allow.",
+    "NotWellFormed": "The packet is not well-formed XML.",
+    "NoRDF": "The packet is not x:xmpmeta around one rdf:RDF, nor rdf:RDF by itself.",
+    "TooDeep": f"More than {DEEPEST} elements are nested in one another.",
+    "NotRDF": "What is inside rdf:RDF does not follow the syntax of RDF/XML.",
+    "SeveralSubjects": "The packet makes statements about several subjects.",
+    "Shared": "A node of the packet has several names or leads back to itself.",
+    "ExtensionMissing": "The packet names extended XMP that is not there.",
+    "ExtensionNotNamed": "There is extended XMP that no packet names.",
+    "ExtensionDamaged": "The extended XMP is not the one that the packet names, by its MD5.",
+    "NeedsRdflib": "The packet has a rare form of RDF/XML, for which the Python package rdflib is needed (package python3-rdflib).",
+}
+
+_OUTER = ("{adobe:ns:meta/}xmpmeta", "{adobe:ns:meta/}xapmeta")
+_RDF = f"{{{RDF}}}RDF"
+_MARKS = (
+    (codecs.BOM_UTF32_LE, "utf-32-le"), (codecs.BOM_UTF32_BE, "utf-32-be"),
+    (codecs.BOM_UTF16_LE, "utf-16-le"), (codecs.BOM_UTF16_BE, "utf-16-be"), (codecs.BOM_UTF8, "utf-8"),
+    (b"<\0\0\0", "utf-32-le"), (b"\0\0\0<", "utf-32-be"), (b"<\0", "utf-16-le"), (b"\0<", "utf-16-be"),
+)  # fmt: skip
+_DECLARATION = re.compile(r"""<\?xml\s[^>]*?\?>\s*""")
+_ENCODING = re.compile(r"""encoding\s*=\s*["']\s*(utf-?(8|16|16-?le|16-?be|32|32-?le|32-?be))\s*["']""", re.I)
+
+
+class Unreadable(ValueError):
+    """A packet that has no statements to compare; `cause` is one of `CAUSES`."""
+
+    def __init__(self, cause: str) -> None:
+        super().__init__(f"{cause}: {CAUSES[cause]}")
+        self.cause = cause
+
+
+def rdf_of(packet: bytes) -> ElementTree.Element:
+    """The packet's rdf:RDF element. Raises `Unreadable`.
+
+    >>> rdf_of(b"<x:xmpmeta xmlns:x='adobe:ns:meta/'/>")
+    Traceback (most recent call last):
+    exifnorm_pictures.xmp.packets.Unreadable: NoRDF: The packet is not x:xmpmeta around one rdf:RDF, nor rdf:RDF by itself.
+    """
+    if len(packet) > LONGEST or packet.count(b"<") > MOST_TAGS:
+        raise Unreadable("TooLong")
+    text = _text(packet)
+    if "<!DOCTYPE" in text:
+        raise Unreadable("DocumentType")
+    try:
+        root = ElementTree.fromstring(text)
+    except (ElementTree.ParseError, ValueError):
+        raise Unreadable("NotWellFormed") from None
+    _check_depth(root)
+    if root.tag in _OUTER:
+        inner = list(root)
+        if len(inner) == 1 and not (root.text or "").strip() and not (inner[0].tail or "").strip():
+            root = inner[0]
+    if root.tag != _RDF:
+        raise Unreadable("NoRDF")
+    root.tail = None
+    return root
+
+
+def _text(packet: bytes) -> str:
+    """The text of a packet without what is around its XML."""
+    mark, encoding = next((it for it in _MARKS if packet.startswith(it[0])), (b"", "utf-8"))
+    try:
+        text = packet.decode(encoding).lstrip("\ufeff").strip("\0 \t\r\n")
+    except UnicodeDecodeError:
+        raise Unreadable("NotText") from None
+    declared = _DECLARATION.match(text)
+    if declared:
+        if "encoding" in declared[0] and not _ENCODING.search(declared[0]):
+            raise Unreadable("NotText")
+        text = text[declared.end() :]
+    return text
+
+
+def _check_depth(root: ElementTree.Element) -> None:
+    row = [root]
+    for _ in range(DEEPEST):
+        row = [child for it in row for child in it]
+        if not row:
+            return
+    raise Unreadable("TooDeep")

@@ -1,0 +1,137 @@
+"""The usual forms of RDF/XML, as XMP writers use them (XMP part 1, 7). What is not usual is left to rdflib."""
+
+from __future__ import annotations
+
+import functools
+import re
+from typing import Dict, List, Tuple
+from xml.etree.ElementTree import Element
+
+from .packets import Unreadable
+from .tree import MEMBER, RDF, TYPE, Literal, Node, Resource, Statement, Statements, Value
+
+_R = f"{{{RDF}}}"
+_XML = "{http://www.w3.org/XML/1998/namespace}"
+_LANG = _XML + "lang"
+_ABOUT, _RESOURCE, _PARSE_TYPE, _LI = _R + "about", _R + "resource", _R + "parseType", _R + "li"
+_DESCRIPTION = _R + "Description"
+_NODES = (_DESCRIPTION, _R + "Bag", _R + "Seq", _R + "Alt")
+_PLAIN = re.compile(re.escape(_R) + r"(?:value|type)\Z")  # words of RDF that are properties as all others
+_NOT_IN_URI = re.compile(r"[\s<>\"{|\\^`]")
+_ABSOLUTE = re.compile(r"[A-Za-z][A-Za-z0-9+.-]*:[^\s<>\"{}|\\^`]*\Z")
+
+
+_LANGUAGE = re.compile(r"(?:[A-Za-z]{1,8}(?:-[A-Za-z0-9]{1,8})*)?\Z")
+
+
+class Unusual(Exception):
+    """A form that is left to rdflib."""
+
+
+def statements(root: Element) -> Statements:
+    """The statements of an rdf:RDF element. Raises `Unusual` and `Unreadable`."""
+    if set(root.attrib) - {_LANG} or _says(root.text):
+        raise Unusual
+    found: List[Statement] = []
+    subjects = set()
+    for node in root:
+        if node.tag != _DESCRIPTION or _says(node.tail):
+            raise Unusual
+        subjects.add(node.get(_ABOUT, ""))
+        found += _node(node, _language(root, ""))
+    if len(subjects - {""}) > 1:
+        raise Unreadable("SeveralSubjects")
+    return tuple(found)
+
+
+def _says(text: "str | None") -> bool:
+    return bool(text) and not text.isspace()  # type: ignore[union-attr]
+
+
+def _language(it: Element, outer: str) -> str:
+    """The language of an element's texts, which it has from the elements around it unless it has its own."""
+    found = it.get(_LANG)
+    if found is None:
+        return outer
+    if not _LANGUAGE.match(found):
+        raise Unusual
+    return found.lower()
+
+
+@functools.lru_cache(maxsize=4096)
+def _uri(name: str) -> str:
+    """The URI of an element or attribute."""
+    space, _, local = name[1:].partition("}")
+    if name[:1] != "{" or name.startswith(_XML) or (name.startswith(_R) and not _PLAIN.match(name)) or _NOT_IN_URI.search(name[1:]):
+        raise Unusual
+    return space + local
+
+
+def _node(node: Element, language: str) -> List[Statement]:
+    """What a node element says: by its type, its attributes, and its property elements."""
+    if node.tag not in _NODES or _says(node.text):
+        raise Unusual
+    language = _language(node, language)
+    found: List[Statement] = []
+    if node.tag != _DESCRIPTION:
+        found.append(Statement(TYPE, Resource(RDF + node.tag[len(_R) :])))
+    for name, text in node.attrib.items():
+        if name == _R + "type":
+            found.append(Statement(TYPE, _resource(text)))
+        elif name not in (_LANG, _ABOUT):
+            found.append(Statement(_uri(name), Literal(text, language)))
+    return found + _properties(node, language)
+
+
+def _properties(node: Element, language: str) -> List[Statement]:
+    found: List[Statement] = []
+    number = 0
+    for it in node:
+        if _says(it.tail):
+            raise Unusual
+        if it.tag == _LI:
+            number += 1
+            predicate = f"{RDF}_{number}"
+        else:
+            predicate = _uri(it.tag)
+        if MEMBER.match(predicate) and it.tag != _LI:
+            raise Unusual
+        found.append(Statement(predicate, _value(it, _language(it, language))))
+    return found
+
+
+def _resource(uri: str) -> Resource:
+    if not _ABSOLUTE.match(uri):
+        raise Unusual
+    return Resource(uri)
+
+
+def _value(it: Element, language: str) -> Value:
+    """The value of a property element."""
+    own = {name: text for name, text in it.attrib.items() if name != _LANG}
+    if not own:
+        return _content(it, language)
+    if own == {_PARSE_TYPE: "Resource"}:
+        if _says(it.text):
+            raise Unusual
+        return Node(tuple(_properties(it, language)))
+    if len(it) or _says(it.text):
+        raise Unusual
+    if list(own) == [_RESOURCE]:
+        return _resource(own[_RESOURCE])
+    return _by_attributes(own, language)
+
+
+def _content(it: Element, language: str) -> Value:
+    if not len(it):
+        return Literal(it.text or "", language)
+    if len(it) > 1 or _says(it.text) or _says(it[0].tail) or _ABOUT in it[0].attrib:
+        raise Unusual
+    return Node(tuple(_node(it[0], language)))
+
+
+def _by_attributes(own: Dict[str, str], language: str) -> Node:
+    """The attributes of a property element without content are a node of their own."""
+    if any(name.startswith(_R) for name in own):
+        raise Unusual
+    return Node(tuple(Statement(_uri(name), Literal(text, language)) for name, text in own.items()))

@@ -1,0 +1,93 @@
+"""The statements of a packet as a tree: what is said, without how it is written."""
+
+from __future__ import annotations
+
+import hashlib
+import re
+from typing import List, NamedTuple, Tuple, Union
+
+RDF = "http://www.w3.org/1999/02/22-rdf-syntax-ns#"
+TYPE = RDF + "type"
+CONTAINERS = {RDF + "Bag": "Bag", RDF + "Seq": "Seq", RDF + "Alt": "Alt"}
+MEMBER = re.compile(re.escape(RDF) + r"_([0-9]+)\Z")
+
+
+class Literal(NamedTuple):
+    """A text with its language and its type, either of which may be empty."""
+
+    text: str
+    language: str = ""
+    datatype: str = ""
+
+
+class Resource(NamedTuple):
+    """A name in the form of a URI."""
+
+    uri: str
+
+
+class Node(NamedTuple):
+    """A value with statements of its own: a structure, an array, or a text with qualifiers."""
+
+    statements: "Tuple[Statement, ...]"
+
+    @property
+    def container(self) -> str:
+        """`Bag`, `Seq` or `Alt`, or nothing."""
+        types = {it.value for it in self.statements if it.predicate == TYPE and not isinstance(it.value, Node)}
+        first = next(iter(types), None)
+        return CONTAINERS.get(first.uri, "") if len(types) == 1 and isinstance(first, Resource) else ""
+
+
+Value = Union[Literal, Resource, Node]
+
+
+class Statement(NamedTuple):
+    """A predicate and its value."""
+
+    predicate: str
+    value: Value
+
+
+Statements = Tuple[Statement, ...]
+
+
+def key_of(value: Value) -> str:
+    """A text that is equal for two values exactly if they say the same, as far as SHA-256 tells.
+
+    >>> key_of(Literal("Z", "de")), key_of(Resource("http://x/"))
+    ('"2:de0:Z', '<http://x/')
+    """
+    if isinstance(value, Literal):
+        return f'"{len(value.language)}:{value.language}{len(value.datatype)}:{value.datatype}{value.text}'
+    if isinstance(value, Resource):
+        return "<" + value.uri
+    return "_" + digest_of(value.statements, value.container == "Bag")
+
+
+def unique(statements: Statements) -> "List[Statement]":
+    """Each statement once: a statement about a name or a text is the same each time it is made. Nodes have no name, and stay.
+
+    >>> len(unique((Statement("a", Literal("1")), Statement("a", Literal("1")), Statement("a", Node(())), Statement("a", Node(())))))
+    3
+    """
+    plain = dict.fromkeys(it for it in statements if not isinstance(it.value, Node))
+    return [*plain, *(it for it in statements if isinstance(it.value, Node))]
+
+
+def digest_of(statements: Statements, is_bag: bool = False) -> str:
+    """A digest that is equal for the same statements in any order.
+
+    >>> one, other = Statement("a", Literal("1")), Statement("b", Literal("2"))
+    >>> digest_of((one, other)) == digest_of((other, one)), digest_of((one,)) == digest_of((other,))
+    (True, False)
+    """
+    lines: List[str] = []
+    for predicate, value in unique(statements):
+        word = "member" if is_bag and MEMBER.match(predicate) else predicate
+        lines.append(f"{len(word)}:{word}{key_of(value)}")
+    found = hashlib.sha256()
+    for line in sorted(lines):
+        octets = line.encode("utf-8", "surrogatepass")
+        found.update(b"%d:" % len(octets) + octets)
+    return found.hexdigest()

@@ -1,0 +1,265 @@
+"""The states of an archive, run by run: what `index` says of each picture, and what the catalogue then holds."""
+
+import json
+import os
+import shutil
+import sqlite3
+import subprocess
+import sys
+
+from made_blocks import BLOCKS, MAKE, MODEL, block, with_exif, with_iptc
+from studio import SMALL_JPEG, Studio, WithPictures, needs, read, run, tool, write
+
+ONE, OTHER, THIRD = (with_exif(SMALL_JPEG, block([MAKE[:-4] + it])) for it in (b"One\0", b"Two\0", b"Ten\0"))
+GIF = b"GIF89a\x01\0\x01\0\0\0\0;"
+
+
+class Archive(WithPictures):
+    def setUp(self):
+        super().setUp()
+        os.mkdir(self.path("p"))
+        os.mkdir(self.path("p", "sub"))
+        for name, octets in (("a.jpg", ONE), ("b.jpg", OTHER), ("sub/c.jpg", THIRD), ("sub/plain.jpg", SMALL_JPEG)):
+            write(self.path("p", name), octets)
+        self.asked("index", "p", "--catalogue", "c", "--quiet")
+        self.before = self.rows()
+
+    def rows(self, name="c"):
+        """Each picture's row: its problem, and the digests of its blocks."""
+        base = sqlite3.connect(self.path(name))
+        query = "SELECT path, problem, (SELECT group_concat(digest) FROM blocks WHERE picture = id) FROM pictures"
+        found = {os.path.relpath(os.fsdecode(path), self.path("p")): tuple(row) for path, *row in base.execute(query)}
+        base.close()
+        return found
+
+    def run_again(self, *words, status=0):
+        """What a further run says, by the names of the files."""
+        lines = self.asked("index", "p", "--catalogue", "c", "--quiet", "--json", *words, status=status)
+        found = [json.loads(it) for it in lines]
+        named = {os.path.relpath(it["path"], self.path("p")): it.get("problem", "looked at") for it in found[:-1]}
+        return named, found[-1]["counts"]
+
+    def changed_rows(self):
+        after = self.rows()
+        return {it: (self.before.get(it), after.get(it)) for it in {*self.before, *after} if self.before.get(it) != after.get(it)}
+
+    def test_nothing(self):
+        self.assertEqual(self.run_again(), ({}, {"unchanged": 4}))
+        self.assertEqual(self.changed_rows(), {})
+
+    def test_an_edit_that_keeps_size_and_time(self):
+        for edit in ("in place", "replaced", "by exiftool -P"):
+            with self.subTest(edit):
+                path = self.path("p", "a.jpg")
+                then = os.stat(path)
+                octets = read(path).replace(b"One\0", b"New\0") if b"One\0" in read(path) else read(path).replace(b"New\0", b"One\0")
+                if edit == "in place":
+                    with open(path, "r+b") as file:
+                        file.write(octets)
+                elif edit == "replaced":
+                    write(path + ".new", octets)
+                    os.replace(path + ".new", path)
+                else:
+                    tool(self.folder, "exiftool", "-q", "-P", "-overwrite_original", "-Make=Alt", path)
+                os.utime(path, ns=(then.st_atime_ns, then.st_mtime_ns))
+                self.assertEqual(os.stat(path).st_size, then.st_size)
+                before = self.rows()["a.jpg"]
+                self.assertEqual(self.run_again(), ({"a.jpg": "looked at"}, {"unchanged": 3, "accepted": 1}))
+                self.assertNotEqual(self.rows()["a.jpg"], before)
+
+    def test_another_mode(self):
+        os.chmod(self.path("p", "b.jpg"), 0o600)
+        self.assertEqual(self.run_again(), ({"b.jpg": "looked at"}, {"unchanged": 3, "accepted": 1}))
+        self.assertEqual(self.changed_rows(), {})
+
+    def test_deleted_and_back(self):
+        octets = read(self.path("p", "a.jpg"))
+        os.remove(self.path("p", "a.jpg"))
+        self.assertEqual(self.run_again(), ({"a.jpg": "Vanished"}, {"unchanged": 3, "Vanished": 1}))
+        self.assertEqual(self.changed_rows(), {"a.jpg": (self.before["a.jpg"], ("Vanished", self.before["a.jpg"][1]))})
+        self.assertEqual(self.run_again(), ({}, {"unchanged": 3}))
+        write(self.path("p", "a.jpg"), octets)
+        self.assertEqual(self.run_again(), ({"a.jpg": "looked at"}, {"unchanged": 3, "accepted": 1}))
+        self.assertEqual(self.changed_rows(), {})
+
+    def test_moved_and_copied(self):
+        shutil.copy(self.path("c"), self.path("old"))
+        os.rename(self.path("p", "a.jpg"), self.path("p", "sub", "a.jpg"))
+        os.rename(self.path("p", "sub", "plain.jpg"), self.path("p", "plain2.jpg"))
+        write(self.path("p", "new.jpg"), read(self.path("p", "b.jpg")))  # a copy is no move
+        os.remove(self.path("p", "b.jpg"))  # but then it is one
+        os.remove(self.path("p", "sub", "c.jpg"))
+        named, counts = self.run_again()
+        self.assertEqual(counts, {"Moved": 3, "accepted": 2, "no block": 1, "Vanished": 1})
+        self.assertEqual({it for it in named if named[it] == "Moved"}, {"a.jpg", "b.jpg", "sub/plain.jpg"})
+        self.assertEqual(named["sub/c.jpg"], "Vanished")
+        found = [json.loads(it) for it in self.asked("changed", "old", "c", "--json", status=1)]
+        moves = {it["path"]: it.get("moved_to", {}).get("path") for it in found[:-1]}
+        self.assertEqual(moves, {"a.jpg": "sub/a.jpg", "b.jpg": "new.jpg", "sub/plain.jpg": "plain2.jpg", "sub/c.jpg": None})
+        self.assertEqual(found[-1]["counts"], {"moved": 3, "missing after": 1})
+        self.assertEqual(self.run_again()[1], {"unchanged": 3})
+
+    def test_a_folder_that_is_gone_and_back(self):
+        os.rename(self.path("p"), self.path("away"))
+        lines = self.asked("index", "p", "--catalogue", "c", "--quiet", status=4)
+        self.assertEqual(lines, [f"{self.path('p')}: Unreadable: no such file or directory; its 4 pictures stay as they were", "1 Unreadable"])
+        self.assertEqual(self.changed_rows(), {})
+        os.rename(self.path("away"), self.path("p"))
+        self.assertEqual(self.run_again(), ({}, {"unchanged": 4}))
+
+    def test_a_folder_too_deep_for_a_path(self):
+        here = os.open(self.path("p"), os.O_RDONLY)
+        for number in range(20):
+            os.mkdir("d" * 250, dir_fd=here)
+            below = os.open("d" * 250, os.O_RDONLY, dir_fd=here)
+            os.close(here)
+            here = below
+        os.close(here)
+        named, counts = self.run_again(status=4)
+        self.assertEqual(counts, {"unchanged": 4, "Unreadable": 1})
+        subprocess.run(["rm", "-rf", self.path("p", "d" * 250)], check=True)
+
+    def test_times_and_links(self):
+        os.utime(self.path("p", "a.jpg"), (13_569_465_600, 13_569_465_600))  # the year 2400
+        os.symlink("loop", self.path("p", "loop"))
+        os.symlink("missing", self.path("p", "nowhere"))
+        os.symlink(".", self.path("p", "sub", "self"))
+        named, counts = self.run_again(status=4)
+        self.assertEqual(named, {"a.jpg": "looked at", "loop": "Unreadable", "nowhere": "Vanished"})
+        self.assertEqual(self.run_again(status=4)[1]["unchanged"], 4)
+
+    def test_the_catalogue_inside_the_folder(self):
+        for _ in range(2):
+            self.asked("index", "p", "--catalogue", "p/c", "--quiet")
+        self.assertEqual(self.asked("index", "p", "--catalogue", "p/c", "--quiet"), ["4 unchanged"])
+        self.assertNotIn("c", self.rows("p/c"))
+
+    def test_again_and_jobs(self):
+        self.assertEqual(self.run_again("--again")[1], {"accepted": 3, "no block": 1})
+        for number in range(200):
+            write(self.path("p", f"m{number}.jpg"), ONE)
+        one = self.run_again("--jobs", "1")
+        self.asked("index", "p", "--catalogue", "d", "--quiet", "--jobs", "3")
+        self.assertEqual(one[1], {"unchanged": 4, "accepted": 200})
+        self.assertEqual(self.rows(), self.rows("d"))
+
+    def test_quiet_and_progress(self):
+        self.asked("index", "p", "--catalogue", "d")
+        self.assertRegex(self.complaint, r"^4 of 4 pictures, \d+ a second\n$")
+        self.asked("index", "p", "--catalogue", "e", "--quiet")
+        self.assertEqual(self.complaint, "")
+
+
+@needs("exiftool")
+class Rights(WithPictures):
+    """Files and folders that an ordinary user can't read. The tests run as root, which reads everything, so another user asks."""
+
+    def as_nobody(self, *words):
+        os.chmod(Studio.room, 0o755)
+        os.chmod(self.folder, 0o777)
+        environment = Studio.environment(TMPDIR=self.folder, HOME=self.folder)
+        call = [sys.executable, "-m", "exifnorm_pictures", *words]
+        if os.geteuid() == 0:
+            call = ["setpriv", "--reuid=65534", "--regid=65534", "--clear-groups", *call]
+        return subprocess.run(call, cwd=self.folder, env=environment, capture_output=True, timeout=120, stdin=subprocess.DEVNULL)
+
+    def test_unreadable_files_and_folders(self):
+        os.makedirs(self.path("p", "closed"))
+        for name in ("a.jpg", "b.jpg", "closed/c.jpg"):
+            write(self.path("p", name), ONE)
+        first = self.as_nobody("index", "p", "--catalogue", "c", "--quiet")
+        self.assertEqual((first.returncode, first.stdout), (0, b"3 accepted\n"), first)
+        os.chmod(self.path("p", "b.jpg"), 0)
+        os.chmod(self.path("p", "closed"), 0)
+        done = self.as_nobody("index", "p", "--catalogue", "c", "--quiet", "--json")
+        self.assertEqual(done.returncode, 4, done)
+        *found, counts = [json.loads(it) for it in done.stdout.splitlines()]
+        said = {os.path.basename(it["path"]): (it["problem"], it["detail"]) for it in found}
+        self.assertEqual(said, {"b.jpg": ("Unreadable", "permission denied"),
+                                "closed": ("Unreadable", "permission denied; its 1 pictures stay as they were")})  # fmt: skip
+        self.assertEqual(counts["counts"], {"unchanged": 1, "Unreadable": 2})
+        base = sqlite3.connect(self.path("c"))
+        kept = base.execute("SELECT problem FROM pictures WHERE CAST(path AS TEXT) LIKE '%c.jpg'").fetchall()
+        self.assertEqual(kept, [(None,)])
+        os.chmod(self.path("p", "b.jpg"), 0o644)
+        os.chmod(self.path("p", "closed"), 0o755)
+        done = self.as_nobody("index", "p", "--catalogue", "c", "--quiet")
+        self.assertEqual((done.returncode, done.stdout), (0, b"2 unchanged, 1 accepted\n"), done)
+
+    def test_a_folder_that_nothing_can_be_written_to(self):
+        os.makedirs(self.path("shut"))
+        write(self.path("a.jpg"), ONE)
+        os.chmod(self.path("shut"), 0o555)
+        for words in (["index", "a.jpg", "--catalogue", "shut/c", "--quiet"], ["mend", "a.jpg", "shut/out"]):
+            done = self.as_nobody(*words)
+            self.assertEqual((done.returncode, len(done.stderr.splitlines() + done.stdout.splitlines())), (4, 1), done)
+        self.assertEqual(os.listdir(self.path("shut")), [])
+
+
+class Kinds(WithPictures):
+    """Each kind of block by itself."""
+
+    def compared(self, one, other, status=1):
+        for side, octets in (("before", one), ("after", other)):
+            os.makedirs(self.path(side), exist_ok=True)
+            write(self.path(side, "a.jpg"), octets)
+        return json.loads(self.asked("changed", "before", "after", "--json", "--all", status=status)[0])
+
+    def test_a_refused_exif_block_hides_no_caption(self):
+        refused = with_exif(SMALL_JPEG, BLOCKS["Overlap"]())
+        found = self.compared(with_iptc(refused, b"\x1c\x02\x78\0\x03one"), with_iptc(refused, b"\x1c\x02\x78\0\x03two"))
+        self.assertEqual((found["result"], found["kinds"]), ("different", {"exif": "refused", "iptc": "different", "xmp": "absent"}))
+        self.assertEqual(found["fields"], [{"name": "iptc:CaptionAbstract", "before": '"one"', "after": '"two"'}])
+        self.assertIn("Exif: Overlap at 34", found["note"])
+
+    def test_refused_pictures_are_in_no_group(self):
+        os.mkdir(self.path("p"))
+        for name in ("a.jpg", "b.jpg"):
+            write(self.path("p", name), with_exif(SMALL_JPEG, BLOCKS["Overlap"]()))
+        self.asked("index", "p", "--catalogue", "c", "--quiet")
+        self.assertEqual(self.asked("same", "--catalogue", "c", "--json"), [])
+        self.assertEqual(self.asked("same", "--catalogue", "c"), ["2 pictures in no group: a block is refused or unreadable, or a part was not read"])
+
+    def test_groups_by_each_kind(self):
+        os.mkdir(self.path("p"))
+        captions = {"a": (ONE, b"one"), "b": (ONE, b"two"), "c": (OTHER, b"two"), "d": (THIRD, b"ten")}
+        for name, (octets, caption) in captions.items():
+            write(self.path("p", name + ".jpg"), with_iptc(octets, b"\x1c\x02\x78\0\x03" + caption))
+        self.asked("index", "p", "--catalogue", "c", "--quiet")
+        for kind, due in (("all", []), ("exif", [["a.jpg", "b.jpg"]]), ("iptc", [["b.jpg", "c.jpg"]]), ("xmp", [])):
+            found = [json.loads(it) for it in self.asked("same", "--catalogue", "c", "--kind", kind, "--json")]
+            self.assertEqual([[os.path.basename(it["path"]) for it in one["pictures"]] for one in found], due, kind)
+
+    def test_equal_changes_stand_together(self):
+        for side, artist in (("before", b"Old\0"), ("after", b"New\0")):
+            os.mkdir(self.path(side))
+            for number in range(12):
+                write(self.path(side, f"{number:02}.jpg"), with_exif(SMALL_JPEG, block([MAKE[:-4] + artist])))
+            write(self.path(side, "other.jpg"), with_exif(SMALL_JPEG, block([MAKE, MODEL[:-4] + artist])))
+        lines = self.asked("changed", "before", "after", status=1)
+        self.assertEqual(lines[:2], ["12 pictures: different (Exif is different, no IPTC and no XMP)", '  ~ main:Make: "Old" -> "New" in 12 pictures'])
+        self.assertEqual([it.strip() for it in lines[2:14]], [f"{number:02}.jpg" for number in range(12)])
+        self.assertEqual(lines[14].split(":")[0], "other.jpg")
+        self.assertEqual(lines[-1], "13 different")
+
+
+class Json(WithPictures):
+    @needs("exiftool")
+    def test_each_command(self):
+        os.mkdir(self.path("p"))
+        for name, octets in (("a.jpg", ONE), ("b.jpg", ONE), ("refused.jpg", with_exif(SMALL_JPEG, BLOCKS["Overlap"]())), ("n.txt", b"no\n"),
+                             ("g.gif", GIF)):  # fmt: skip
+            write(self.path("p", name), octets)
+        self.asked("index", "p", "--catalogue", "old", "--quiet")
+        write(self.path("p", "b.jpg"), OTHER)
+        calls = (["index", "p", "--catalogue", "c", "--quiet"], ["merge", "old", "--catalogue", "all"], ["same", "--catalogue", "old"],
+                 ["changed", "old", "c"], ["show", "p/a.jpg", "p/refused.jpg"], ["captions", "p/a.jpg"], ["explain", "p/refused.jpg"],
+                 ["report", "--catalogue", "c", "--since", "old"], ["mend", "p/refused.jpg", "out.jpg"])  # fmt: skip
+        keys = {"index": "counts", "merge": "pictures", "same": "digests", "changed": "counts", "show": "kind", "captions": "captions",
+                "explain": "sentence", "report": "states", "mend": "step"}  # fmt: skip
+        for call in calls:
+            with self.subTest(call[0]):
+                done = run(["exifnorm-pictures", *call, "--json"], self.folder)
+                found = [json.loads(it) for it in done.stdout.splitlines()]
+                self.assertTrue(found and all(isinstance(it, dict) for it in found), done)
+                self.assertTrue(any(keys[call[0]] in it for it in found), found)

@@ -1,0 +1,380 @@
+"""Faults made on purpose: each is a line or a clear error with its documented status, and nothing is lost or left behind."""
+
+import json
+import os
+import shutil
+import signal
+import sqlite3
+import subprocess
+import sys
+
+from made_blocks import BLOCKS, MAKE, block, with_exif
+from studio import SMALL_JPEG, Studio, WithPictures, needs, read, run, write
+
+GIF = b"GIF89a\x01\0\x01\0\0\0\0;"
+GOOD = with_exif(SMALL_JPEG, block([MAKE]))
+PAGE = b"<!DOCTYPE html>an earlier page"
+
+# What a fake ExifTool prints in place of an answer about `$name`, and the words of the line about that file.
+ANSWERS = {
+    "a text": ("echo this is no JSON", "no JSON"),
+    "an object without a name": ("echo '[{\"EXIF\":\"x\"}]'", "another file"),
+    "another file": ("echo '[{\"SourceFile\":\"/other.gif\"}]'", "another file"),
+    "a number for a name": ("echo '[{\"SourceFile\":7}]'", "another file"),
+    "a file twice": ("printf '[{\"SourceFile\":\"%s\"},{\"SourceFile\":\"%s\"}]\\n' \"$name\" \"$name\"", "isn't one object"),
+    "no object": ("echo '[7]'", "isn't one object"),
+    "JSON nested too deep": ("head -c 200000 /dev/zero | tr '\\0' '['; echo", "no JSON"),
+    "a list for a block": ("printf '[{\"SourceFile\":\"%s\",\"A:EXIF\":[1,2]}]\\n' \"$name\"", "neither a text nor a number"),
+    "broken base64": ("printf '[{\"SourceFile\":\"%s\",\"A:EXIF\":\"base64:!!\"}]\\n' \"$name\"", "no base64"),
+    "nothing but its end": ("exit 3", "ended with status 3"),
+    "death by a signal": ("kill -9 $$", "ended with status -9"),
+    "silence": ("exec sleep 1000", "took longer than"),
+}
+
+# Reads questions as ExifTool does with -stay_open; the answer about a file that is called bad*.gif is the fault.
+FAKE = """#!/bin/sh
+if [ "$3" = -ver ]; then echo 12.57; exit; fi
+name=
+while read -r line; do
+    case "$line" in
+    /*|./*) name=$line ;;
+    "{done"*) done=$line ;;
+    -execute)
+        case "$name" in
+        */bad*) %s ;;
+        *) printf '[{"SourceFile":"%%s","A:FileType":"GIF","A:MIMEType":"image/gif"}]\\n' "$name" ;;
+        esac
+        echo "$done" ;;
+    esac
+done
+"""
+
+
+class Tools(WithPictures):
+    """An ExifTool of a few lines that goes wrong at one file."""
+
+    def fake(self, name, text):
+        os.makedirs(self.path("bin"), exist_ok=True)
+        write(self.path("bin", name), text.encode())
+        os.chmod(self.path("bin", name), 0o755)
+        return {"PATH": self.path("bin") + os.pathsep + Studio.environment()["PATH"]}
+
+    def pictures(self):
+        os.mkdir(self.path("p"))
+        for name in ("a.gif", "bad.gif", "c.gif"):
+            write(self.path("p", name), GIF)
+
+    def test_each_wrong_answer_costs_one_file(self):
+        self.pictures()
+        for what, (answer, words) in ANSWERS.items():
+            with self.subTest(what):
+                limit = "3" if what == "silence" else "60"
+                environment = self.fake("exiftool", FAKE % answer)
+                lines = self.asked("index", "p", "--catalogue", "c", "--again", "--quiet", "--json", "--limit", limit,
+                                   status=4, **environment)  # fmt: skip
+                found = {os.path.basename(it["path"]): it for it in map(json.loads, lines[:-1])}
+                self.assertEqual([found[it].get("problem") for it in ("a.gif", "bad.gif", "c.gif")], [None, "ToolFailed", None])
+                self.assertIn(words, found["bad.gif"]["detail"])
+
+    def test_one_that_hangs_at_its_version(self):
+        self.pictures()
+        environment = self.fake("exiftool", "#!/bin/sh\nexec sleep 1000\n")
+        lines = self.asked("index", "p/a.gif", "--catalogue", "c", "--quiet", "--limit", "1", status=4, **environment)
+        self.assertIn("a.gif: ToolFailed: exiftool took longer than 1 seconds", lines[0])
+        self.asked("show", "p/a.gif", "--limit", "1", status=4, **environment)
+        self.asked("mend", "p/a.gif", "out", "--limit", "1", status=4, **environment)
+        self.assertFalse(os.path.exists(self.path("out")))
+
+    @needs("exiftool")
+    def test_exiv2_that_hangs(self):
+        write(self.path("a.nef"), b"II*\0\x08\0\0\0\0\0\0\0\0\0")
+        environment = self.fake("exiv2", '#!/bin/sh\n[ "$1" = --version ] && echo exiv2 0.27.6 && exit\nexec sleep 1000\n')
+        lines = self.asked("index", "a.nef", "--catalogue", "c", "--quiet", "--limit", "5", status=4, **environment)
+        self.assertIn("a.nef: ToolFailed: exiv2 took longer than 5 seconds", lines[0])
+
+    @needs("exiftool")
+    def test_no_configuration_file_is_read(self):
+        write(self.path("a.gif"), GIF[:-1] + b"!\xff\x0bXMP DataXMP" + b"<x:xmpmeta/>" + bytes([1, *range(255, -1, -1), 0]) + b";")
+        write(self.path(".ExifTool_config"), b'die "a configuration file was read\\n";')
+        self.asked("index", "a.gif", "--catalogue", "c", "--quiet", HOME=self.folder, EXIFTOOL_HOME=self.folder)
+        run_ = sqlite3.connect(self.path("c")).execute("SELECT exiftool FROM runs").fetchone()[0]
+        self.assertRegex(run_, r"^\d+\.\d+$")
+        self.assertEqual(read(self.path(".ExifTool_config"))[:3], b"die")
+
+    def test_no_program_and_no_folder_is_left_behind(self):
+        self.pictures()
+        own = self.path("own")
+        os.mkdir(own)
+        pids = self.path("pids")
+        environment = self.fake("exiftool", f'#!/bin/sh\n[ "$3" = -ver ] && echo 12.57 && exit\necho $$ >> "{pids}"\nexec sleep 1000\n')
+        for number in (signal.SIGTERM, signal.SIGHUP, signal.SIGINT, signal.SIGKILL):
+            with self.subTest(number.name):
+                write(pids, b"")
+                words = ["env", f"--default-signal={number.name[3:]}", sys.executable, "-m", "exifnorm_pictures", "index", "p",
+                         "--catalogue", self.path("c"), "--quiet"] if number != signal.SIGKILL else [
+                         sys.executable, "-m", "exifnorm_pictures", "index", "p", "--catalogue", self.path("c"), "--quiet"]  # fmt: skip
+                started = subprocess.Popen(words, cwd=self.folder, env={**Studio.environment(**environment), "TMPDIR": own},
+                                           stdout=subprocess.DEVNULL, stderr=subprocess.DEVNULL)  # fmt: skip
+                while not read(pids).endswith(b"\n"):
+                    self.assertIsNone(started.poll())
+                tool = int(read(pids).split()[-1])
+                started.send_signal(number)
+                due = 130 if number == signal.SIGINT else -number
+                self.assertEqual(started.wait(60), due)
+                self.wait_for_end(tool)
+                if number != signal.SIGKILL:
+                    self.assertEqual(os.listdir(own), [])
+        self.assertEqual(len(os.listdir(own)), 1)
+        self.asked("index", "p", "--catalogue", "d", "--quiet", TMPDIR=own, **self.fake("exiftool", FAKE % ":"))
+        self.assertEqual(os.listdir(own), [], "what a killed run left is removed by the next one")
+
+    def wait_for_end(self, pid):
+        """Waits until a process that isn't ours has ended; the system has already been asked to end it."""
+        for _ in range(2000):
+            try:
+                with open(f"/proc/{pid}/stat") as file:
+                    if file.read().rsplit(")", 1)[1].split()[0] in "ZX":
+                        return
+            except (FileNotFoundError, ProcessLookupError):
+                return
+            os.sched_yield()
+            subprocess.run(["true"], check=True)
+        self.fail(f"{pid} still runs")
+
+    @needs("exiftool")
+    def test_a_folder_for_temporary_files_with_an_odd_name(self):
+        odd = self.path("line\nfeed")
+        os.mkdir(odd)
+        write(self.path("odd\nname.gif"), GIF)
+        self.assertEqual(self.asked("index", "odd\nname.gif", "--catalogue", "c", "--quiet", TMPDIR=odd)[-1], "1 no block")
+        self.assertEqual(os.listdir(odd), [])
+
+
+class Catalogues(WithPictures):
+    """What isn't ours, or is damaged."""
+
+    def setUp(self):
+        super().setUp()
+        os.mkdir(self.path("p"))
+        write(self.path("p", "a.jpg"), GOOD)
+
+    def refused(self, name, words):
+        before = read(self.path(name))
+        for call in (["index", "p", "--catalogue", name, "--quiet"], ["same", "--catalogue", name], ["changed", name, name],
+                     ["report", "--catalogue", name, "--json"], ["merge", name, "--catalogue", name]):  # fmt: skip
+            with self.subTest(name, call=call[0]):
+                self.asked(*call, status=4)
+                self.assertIn(words, self.complaint)
+                self.assertEqual(len(self.complaint.splitlines()), 1)
+        self.assertEqual(read(self.path(name)), before)
+        self.assertFalse([it for it in os.listdir(self.folder) if it.startswith(name + "-")])
+
+    def database(self, name, *statements):
+        base = sqlite3.connect(self.path(name), isolation_level=None)
+        for it in statements:
+            base.execute(it)
+        base.close()
+
+    def test_files_that_are_none_are_not_written_to(self):
+        write(self.path("text"), b"a text\n")
+        self.database("foreign", "CREATE TABLE x (y)")
+        self.database("empty", "PRAGMA application_id = 7", "VACUUM")
+        self.database("bare", "CREATE TABLE x (y)", "DROP TABLE x", "VACUUM")
+        for name in ("text", "foreign", "empty", "bare"):
+            self.refused(name, f"{name} is no catalogue")
+        os.mkdir(self.path("folder"))
+        os.mkfifo(self.path("pipe"))
+        for name in ("folder", "pipe"):
+            self.asked("index", "p", "--catalogue", name, status=4)
+            self.assertIn("no regular file", self.complaint)
+
+    def test_other_versions(self):
+        for version, words in ((1, "an earlier release"), (99, "a later release")):
+            self.asked("index", "p", "--catalogue", f"v{version}", "--quiet")
+            self.database(f"v{version}", f"PRAGMA user_version = {version}")
+            self.refused(f"v{version}", words)
+        self.asked("same", "--catalogue", "v1", status=4)
+        self.assertIn("exifnorm-pictures index FOLDER --catalogue NEW", self.complaint)
+
+    def test_damaged_ones(self):
+        self.asked("index", "p", "--catalogue", "good", "--quiet")
+        faults = {
+            "text for a path": "UPDATE pictures SET path = 'p/a.jpg'",
+            "number for a word": "UPDATE blocks SET status = x'00'",
+            "unknown kind": "UPDATE blocks SET kind = 'other'",
+            "fields": "UPDATE blocks SET fields = x'0011'",
+            "place": "UPDATE blocks SET place = 'x', status = 'refused'",
+        }
+        for number, (what, statement) in enumerate(faults.items()):
+            name = f"damaged{number}"
+            shutil.copy(self.path("good"), self.path(name))
+            self.database(name, statement, "UPDATE pictures SET exif = NULL" if what != "text for a path" else "SELECT 1")
+            with self.subTest(what):
+                for call in (["changed", name, "good"], ["changed", "good", name], ["report", "--catalogue", name, "--json"]):
+                    done = run(["exifnorm-pictures", *call], self.folder)
+                    self.assertIn(done.returncode, (0, 1, 2, 4), call)
+                    self.assertNotIn(b"Traceback", done.stderr)
+                    self.assertNotIn(b"internal error", done.stderr)
+        for table in ("runs", "pictures", "blocks", "not_read"):
+            shutil.copy(self.path("good"), self.path(f"no_{table}"))
+            self.database(f"no_{table}", "PRAGMA foreign_keys = OFF", f"DROP TABLE {table}")
+            self.refused(f"no_{table}", f"no such table: {table}")
+        octets = read(self.path("good"))
+        write(self.path("cut"), octets[: len(octets) // 2])
+        for call in (["same", "--catalogue", "cut"], ["index", "p", "--catalogue", "cut", "--quiet"]):
+            self.asked(*call, status=4)
+            self.assertEqual(len(self.complaint.splitlines()), 1)
+
+    def test_names_that_sqlite_takes_for_something_else(self):
+        for name in (":memory:", "file:x?mode=memory"):
+            self.asked("index", "p", "--catalogue", name, "--quiet")
+            self.assertEqual(self.asked("index", "p", "--catalogue", name, "--quiet"), ["1 unchanged"])
+            self.assertTrue(os.path.exists(self.path(name)))
+        self.asked("index", "p", "--catalogue", "", status=3)
+
+    def test_two_first_runs_at_once(self):
+        words = [sys.executable, "-m", "exifnorm_pictures", "index", "p", "--catalogue", "c", "--quiet"]
+        started = [subprocess.Popen(words, cwd=self.folder, env=Studio.environment(), stderr=subprocess.PIPE) for _ in range(4)]
+        for it in started:
+            _, said = it.communicate(timeout=120)
+            self.assertEqual((it.returncode, said), (0, b""))
+        self.assertEqual(self.asked("index", "p", "--catalogue", "c", "--quiet"), ["1 unchanged"])
+
+
+class Outputs(WithPictures):
+    """Files that are written, and those that must not be."""
+
+    def setUp(self):
+        super().setUp()
+        os.mkdir(self.path("p"))
+        write(self.path("p", "a.jpg"), GOOD)
+        write(self.path("p", "refused.jpg"), with_exif(SMALL_JPEG, BLOCKS["Overlap"]()))
+        self.asked("index", "p", "--catalogue", "c", "--quiet")
+        self.asked("index", "p", "--catalogue", "d", "--quiet")
+
+    def kept(self, *words, files, status=4):
+        """A call that must fail and leave these files and no other."""
+        before = {it: read(self.path(it)) for it in files if not os.path.isdir(self.path(it))}
+        there = sorted(os.listdir(self.folder))
+        self.asked(*words, status=status)
+        self.assertEqual({it: read(self.path(it)) for it in before}, before)
+        self.assertEqual(sorted(os.listdir(self.folder)), there)
+
+    def test_keep_old(self):
+        write(self.path("text"), b"a text\n")
+        sqlite3.connect(self.path("foreign")).executescript("CREATE TABLE x (y);")
+        os.link(self.path("c"), self.path("same"))
+        for name in ("text", "foreign", "c", "same", "missing/old", "p", "/dev/null"):
+            with self.subTest(name):
+                self.kept("index", "p", "--catalogue", "c", "--quiet", "--keep-old", name, files=["foreign", "text", "d"])
+        self.asked("index", "p", "--catalogue", "c", "--quiet", "--keep-old", "d")
+        self.asked("index", "p", "--catalogue", "c", "--quiet", "--keep-old", "new")
+        self.assertEqual(self.asked("changed", "d", "new"), ["1 same, 1 refused, the same bytes"])
+
+    def test_page(self):
+        write(self.path("text"), b"a text\n")
+        os.symlink("c", self.path("link"))
+        for name in ("c", "d", "link", "text", "p/a.jpg", "p", "/dev/null", "missing/page"):
+            with self.subTest(name):
+                self.kept("report", "--catalogue", "c", "--since", "d", "--html", name, files=["c", "d", "text", "p/a.jpg"])
+        write(self.path("page"), PAGE)
+        self.asked("report", "--catalogue", "c", "--html", "page")
+        self.assertIn(b"</html>", read(self.path("page")))
+
+    def full(self, *words, blocks=0, **more):
+        """A call that may write no file longer than some blocks of 1,024 bytes."""
+        line = f'ulimit -f {blocks}; exec "$0" "$@"'
+        return run(["bash", "-c", line, sys.executable, "-m", "exifnorm_pictures", *words], self.folder, **more)
+
+    def test_full_disk(self):
+        write(self.path("page"), PAGE)
+        there = sorted(os.listdir(self.folder))
+        for words in (["index", "p", "--catalogue", "new", "--quiet"], ["index", "p", "--catalogue", "c", "--again", "--quiet"],
+                      ["index", "p", "--catalogue", "c", "--quiet", "--keep-old", "old"], ["report", "--catalogue", "c", "--html", "page"],
+                      ["report", "--catalogue", "c", "--html", "page2"], ["mend", "p/refused.jpg", "out.jpg"],
+                      ["mend", "p/a.jpg", "out.jpg"]):  # fmt: skip
+            with self.subTest(words):
+                done = self.full(*words)
+                self.assertEqual(done.returncode, 4, done)
+                self.assertEqual(len(done.stderr.splitlines()) + len(done.stdout.splitlines()), 1, done)
+                left = [it for it in os.listdir(self.folder) if not it.startswith("new")]
+                self.assertEqual(sorted(left), there)
+        self.assertEqual(read(self.path("page")), PAGE)
+        self.assertEqual(self.asked("index", "p", "--catalogue", "c", "--quiet"), ["2 unchanged"])
+        self.asked("index", "p", "--catalogue", "new", "--quiet")
+
+    def test_streams(self):
+        calls = (["same", "--catalogue", "c"], ["show", "p/a.jpg"], ["report", "--catalogue", "c", "--json"], ["changed", "c", "d", "--all"],
+                 ["index", "p", "--catalogue", "c", "--again"], ["--help"], ["--version"])  # fmt: skip
+        for words in calls:
+            for redirected, due in ((">/dev/full", 4), (">&-", 4), ("2>/dev/full", 0), ("2>&-", 0), ("<&-", 0)):
+                with self.subTest(words, stream=redirected):
+                    line = f'exec "$0" "$@" {redirected}'
+                    done = run(["bash", "-c", line, sys.executable, "-m", "exifnorm_pictures", *words], self.folder)
+                    self.assertEqual(done.returncode, due, done)
+                    self.assertNotIn(b"Traceback", done.stderr)
+                    self.assertNotIn(b"Exception", done.stderr)
+
+    def test_a_reader_that_went_away(self):
+        line = 'set -o pipefail; "$0" "$@" | true'
+        words = ["show", "--json", *["p/a.jpg", "./p/a.jpg"] * 1]
+        done = run(["bash", "-c", line, sys.executable, "-m", "exifnorm_pictures", *words], self.folder)
+        self.assertIn((done.returncode, done.stderr), ((4, b""), (0, b"")))
+
+    def test_mend_keeps_the_picture_as_it_is(self):
+        for name in ("a.jpg", "refused.jpg"):
+            picture = self.path("p", name)
+            os.chmod(picture, 0o640)
+            os.utime(picture, ns=(1_000_000_007, 2_000_000_009))
+            before = read(picture), os.stat(picture)
+            self.asked("mend", picture, name)
+            after, copy = os.stat(picture), os.stat(self.path(name))
+            self.assertEqual((read(picture), after.st_mtime_ns, after.st_mode, after.st_ino, after.st_nlink),
+                             (before[0], before[1].st_mtime_ns, before[1].st_mode, before[1].st_ino, 1))  # fmt: skip
+            self.assertEqual((copy.st_mode, copy.st_mtime_ns, copy.st_nlink), (after.st_mode, after.st_mtime_ns, 1))
+            self.assertNotEqual(copy.st_ino, after.st_ino)
+
+
+class Arguments(WithPictures):
+    def test_refused_arguments(self):
+        write(self.path("a.jpg"), GOOD)
+        for words in (["index", "a.jpg", "--catalogue", "c", "--jobs=-1"], ["index", "a.jpg", "--catalogue", "c", "--jobs", "0"],
+                      ["index", "", "--catalogue", "c"], ["show", ""], ["show", "a.jpg", "--limit", "0"], ["show", "a.jpg", "--limit", "x"],
+                      ["same", "--catalogue", "c", "--kind", "iim"]):  # fmt: skip
+            with self.subTest(words):
+                self.asked(*words, status=3)
+        self.asked("show", "--files-from", "-", status=3, given=b"a.jpg\0b.jpg\0")
+        self.assertIn("-0", self.complaint)
+
+    def test_one_picture_by_two_names(self):
+        write(self.path("a.jpg"), GOOD)
+        lines = self.asked("show", "a.jpg", "./a.jpg")
+        self.assertEqual([it for it in lines if it.startswith("==")], ["== a.jpg", "== ./a.jpg"])
+
+    def test_a_name_that_leads_nowhere(self):
+        lines = self.asked("index", "typo", "--catalogue", "c", "--quiet", status=4)
+        self.assertEqual(lines, [f"{self.path('typo')}: Unreadable: no such file or directory", "1 Unreadable"])
+        self.assertEqual(sqlite3.connect(self.path("c")).execute("SELECT count(*) FROM pictures").fetchone(), (0,))
+
+    def test_a_list_of_absolute_names(self):
+        for side, artist in (("one", b"Abc\0"), ("two", b"Xyz\0")):
+            os.mkdir(self.path(side))
+            for name in ("a.jpg", "b.jpg"):
+                write(self.path(side, name), with_exif(SMALL_JPEG, block([MAKE[:-4] + artist])))
+            self.asked("index", side, "--catalogue", side + ".c", "--quiet")
+        for listed in (os.fsencode(self.path("two", "a.jpg")), os.fsencode(self.path("one", "a.jpg")), b"a.jpg"):
+            lines = self.asked("changed", "one.c", "two.c", "--files-from", "-", given=listed, status=1)
+            self.assertEqual(lines[-1], "1 different")
+        given = os.fsencode(self.path("two", "a.jpg"))
+        found = [json.loads(it) for it in self.asked("report", "--catalogue", "two.c", "--since", "one.c", "--json", "--files-from", "-",
+                                                      given=given)]  # fmt: skip
+        self.assertEqual([it["changed"]["path"] for it in found if "changed" in it], ["a.jpg"])
+
+    def test_modules_in_the_current_folder(self):
+        for name in ("sqlite3.py", "exifnorm.py", "json.py", "argparse.py"):
+            write(self.path(name), b"raise SystemExit('a file of the current folder was taken')\n")
+        done = run([sys.executable, "-m", "exifnorm_pictures", "--version"], self.folder)
+        self.assertEqual((done.returncode, done.stderr), (0, b""))
+
+    def test_version(self):
+        self.assertRegex(self.asked("--version")[0], r"^exifnorm-pictures \d+\.\d+\.\d+$")

@@ -1,0 +1,436 @@
+"""The readers of picture formats: beside ExifTool and exiv2 on files of real tools, and on damaged files and files that mean harm."""
+
+import hashlib
+import io
+import os
+import random
+import re
+import struct
+import unittest
+import zlib
+
+from made_blocks import ASCII, LONG, segment
+from made_files import (
+    app1, app1_xmp, app13, chunk, exif, extension, iim, jpeg, mpf, page, png, png_xmp, profile, resource, tiff, title, webp, xmp,
+)  # fmt: skip
+from studio import SMALL_JPEG, WithPictures, interpreter_with, needs, read, tool, write
+
+A, B, K, T = exif(b"Abc"), exif(b"Xyz"), iim(b"one"), title("one")
+
+
+def reader_of(octets):
+    from exifnorm_pictures.formats import jpeg as jpeg_, png as png_, tiff as tiff_, webp as webp_
+
+    if octets[:3] == b"\xff\xd8\xff":
+        return jpeg_.read
+    if octets[:8] == png_.START:
+        return png_.read
+    return webp_.read if webp_.is_webp(octets[:12]) else tiff_.read
+
+
+class Counting(io.BytesIO):
+    """A file that counts the bytes and the calls of its readers."""
+
+    def __init__(self, octets):
+        super().__init__(octets)
+        self.octets = self.calls = 0
+
+    def read(self, size=-1):
+        found = super().read(size)
+        self.octets += len(found)
+        self.calls += 1
+        return found
+
+
+def found_in(octets, whole=False):
+    return reader_of(octets)(io.BytesIO(octets), whole)
+
+
+def named(blocks):
+    return [(it.kind, it.name, it.data) for it in blocks.found]
+
+
+class Found(unittest.TestCase):
+    """Each block has its name and its bytes, in the order of the file."""
+
+    def test_jpeg(self):
+        pieces, _ = extension(T)
+        whole = jpeg(app1(A), app13(resource(0x404, K), resource(0x425, b"x" * 16)), app1_xmp(T), *pieces, app1(B), app1(b"more"))
+        found = found_in(whole)
+        self.assertEqual(
+            sorted(named(found)),
+            sorted([("exif", "Exif", A), ("exif", "second Exif", B + b"more"), ("iim", "IPTC", K), ("xmp", "XMP", T), ("xmp", "extended XMP", T)]),
+        )
+        self.assertEqual((found.not_read, found.type), ([], "JPEG"))
+        self.assertEqual(found.of_kind("exif")[0].where, "APP1 segment at 2")
+        further = found_in(mpf(app1(A), jpeg(app1(B)), jpeg(app13(resource(0x404, K)))))
+        self.assertEqual([it[1] for it in named(further)], ["Exif", "Exif of MPF picture 2", "IPTC of MPF picture 3"])
+
+    def test_words_in_front(self):
+        self.assertEqual(named(found_in(jpeg(segment(0xE1, b"\0exif\0\xff" + A)))), [("exif", "Exif", A)])
+        self.assertEqual(named(found_in(webp((b"EXIF", b"Exif\0\0" + A)))), named(found_in(png(chunk(b"eXIf", A)))))
+
+    def test_what_was_not_read_has_a_digest(self):
+        for octets, what, data in (
+            (jpeg(app1(A), behind=b"trailer"), "trailer of 7 bytes", b"trailer"),
+            (jpeg(segment(0xE1, b"unknown")), "APP1 segment of an unknown kind", b"unknown"),
+            (jpeg(segment(0xED, b"unknown")), "APP13 segment of an unknown kind", b"unknown"),
+            (png(behind=b"trailer"), "trailer of 7 bytes", b"trailer"),
+            (webp((b"EXIF", A), behind=b"trailer"), "trailer of 7 bytes", b"trailer"),
+            (tiff(page(), behind=b"trailer"), "trailer of 7 bytes", b"trailer"),
+        ):
+            found = found_in(octets).not_read
+            self.assertEqual([(it.what, it.digest) for it in found], [(what, hashlib.sha256(data).hexdigest())])
+
+    def test_an_index_that_does_not_fit(self):
+        octets = mpf(app1(A), jpeg(app1(B)))
+        for wrong in (octets[:-60] + b"", octets.replace(b"MPF\0MM", b"MPF\0XX")):
+            found = found_in(wrong)
+            self.assertTrue(any(it.what.startswith("MPF index that does not fit the file") for it in found.not_read), found.not_read)
+
+    def test_pages_without_pixels(self):
+        octets = tiff(page((0x010F, ASCII, b"Maker one\0"), (0x014A, LONG, page((0x010F, ASCII, b"below\0")))), page())
+        found = found_in(octets)
+        self.assertEqual([it[1] for it in named(found)], ["Exif", "Exif of SubIFD 1 of page 1", "Exif of page 2"])
+        where = [it.where for it in found.found]
+        self.assertRegex(where[0], r"^directory at \d+, without StripByteCounts, StripOffsets, SubIFDs$")
+        tags = [struct.unpack_from(">H", found.found[0].data, at)[0] for at in range(10, 10 + 12 * 8, 12)]
+        self.assertEqual(tags, [0x100, 0x101, 0x102, 0x103, 0x106, 0x10F, 0x115, 0x116])
+        self.assertIn(b"Maker one\0", found.found[0].data)
+
+    def test_engine_refuses_in_the_page_what_it_refuses_in_the_file(self):
+        from exifnorm_pictures import engine
+
+        shared = bytearray(tiff(page((0x010F, ASCII, b"Abcdefgh"), (0x0110, ASCII, b"Ijklmnop"))))
+        at = shared.index(struct.pack(">HHI", 0x0110, ASCII, 8)) + 8
+        first = shared.index(b"Abcdefgh")
+        for place, cause in ((first + 2, "Overlap"), (100000, "ValueOutside")):
+            struct.pack_into(">I", shared, at, place)
+            judged = engine.judge_all(found_in(bytes(shared)))
+            self.assertEqual([it.cause for it in judged], [cause])
+
+
+@needs("exiftool")
+class BesideOthers(WithPictures):
+    """The same bytes as ExifTool's and exiv2's, on files that ImageMagick, Pillow and ExifTool wrote."""
+
+    FIELDS = ("-Make=Leica", "-Artist=Zürich", "-UserComment=a comment", "-GPSLatitude=47.5", "-GPSLatitudeRef=N")
+
+    def real(self, name):
+        tool(self.folder, "convert", "-size", "40x30", "plasma:tomato-steelblue", name)
+        more = [] if name.endswith("webp") else ["-IPTC:Keywords=one", "-IPTC:Caption-Abstract=Zürich"]
+        tool(self.folder, "exiftool", "-config", "", "-q", "-q", "-m", "-overwrite_original", *self.FIELDS, *more, "-XMP:Title=Title", name)
+        return self.path(name)
+
+    def block(self, tag, path):
+        return tool(self.folder, "exiftool", "-config", "", "-q", "-q", "-b", tag, path)
+
+    @needs("convert")
+    def test_exiftools_blocks(self):
+        for name in ("a.jpg", "a.png", "a.webp"):
+            with self.subTest(name):
+                path = self.real(name)
+                found = found_in(read(path))
+                self.assertEqual(found.not_read, [])
+                for tag, kind in (("-EXIF:Exif", "exif"), ("-IPTC:IPTC", "iim"), ("-XMP:XMP", "xmp")):
+                    if kind == "iim" and name == "a.webp":
+                        continue
+                    blocks = found.of_kind(kind)
+                    self.assertEqual([it.data for it in blocks], [self.block(tag, path)], kind)
+
+    @needs("convert", "exiv2")
+    def test_exiv2s_list_of_segments(self):
+        path = self.real("a.jpg")
+        octets = read(path)
+        said = tool(self.folder, "exiv2", "-pS", path).decode("utf-8", "replace")
+        places = [(int(at), int(size)) for at, size in re.findall(r"(?m)^ *(\d+) \| 0xffe1 APP1 +\| +(\d+) \| Exif", said)]
+        found = found_in(octets).of_kind("exif")
+        self.assertEqual([octets[at + 10 : at + 2 + size] for at, size in places], [it.data for it in found])
+        self.assertEqual([f"APP1 segment at {at}" for at, _ in places], [it.where for it in found])
+        packet = tool(self.folder, "exiv2", "-pX", path)
+        self.assertEqual([it.data.strip() for it in found_in(octets).of_kind("xmp")], [packet.strip()])
+
+    @needs("convert", "PIL")
+    def test_pillows_files(self):
+        call = (
+            "from PIL import Image; it = Image.new('RGB', (8, 8)); e = it.getexif(); e[0x10f] = 'Leica'; e[0x131] = 'Pillow';"
+            "[it.save('p.' + name, exif=e) for name in ('jpg', 'png', 'webp')]; open('due', 'wb').write(e.tobytes()[6:])"
+        )
+        tool(self.folder, interpreter_with("PIL"), "-c", call)
+        for name in ("jpg", "png", "webp"):
+            found = found_in(read(self.path("p." + name)))
+            self.assertEqual(named(found), [("exif", "Exif", read(self.path("due")))], name)
+
+    @needs("convert")
+    def test_exiftool_reads_the_same_in_a_page(self):
+        """ExifTool prints the same tags of a page that was extracted as of the page in its file."""
+        one, two = self.real("a.tif"), self.real("b.tif")
+        tool(self.folder, "exiftool", "-config", "", "-q", "-overwrite_original", "-Make=Other", "-GPSLatitude=12", two)
+        tool(self.folder, "convert", one, two, "both.tif")
+        for name in ("a.tif", "both.tif"):
+            found = found_in(read(self.path(name)))
+            self.assertEqual(found.not_read, [])
+            for number, it in enumerate(found.of_kind("exif")):
+                write(self.path("page.tif"), it.data)
+                due = self.printed(self.path(name), f"IFD{number}")
+                self.assertEqual(self.printed(self.path("page.tif"), "IFD0"), due)
+                self.assertGreater(len(due), 8)
+
+    def printed(self, path, group):
+        more = ["-ExifIFD:all", "-GPS:all"] if group == "IFD0" else []
+        said = tool(self.folder, "exiftool", "-config", "", "-a", "-u", "-D", "-G1", "-s", f"-{group}:all", *more, path).decode("utf-8", "replace")
+        left_out = {0x111, 0x117, 0x144, 0x145}
+        lines = (re.match(r"\[(\w+)\] +(\d+) (\w+) *: (.*)", line) for line in said.splitlines())
+        return sorted((it[2], it[3], it[4]) for it in lines if it and int(it[2]) not in left_out)
+
+
+def bases():
+    """A file of each format with a block of each kind."""
+    pieces, name = extension(xmp("<dc:title>two</dc:title>"))
+    asking = xmp("", f"note:HasExtendedXMP='{name}'")
+    # the segments of a split block are shorter here than programs make them
+    first = app1(A) + app13(resource(0x404, K), resource(0x422, B)) + app1_xmp(asking) + b"".join(pieces) + app1(B) + app1(b"goes on")
+    return [
+        mpf(first, jpeg(app1(B), behind=bytes(3))) + b"trailer",
+        png(chunk(b"eXIf", A), profile(b"iptc", resource(0x404, K)), png_xmp(T), png_xmp(T, True), behind=b"trailer"),
+        webp((b"VP8X", bytes(10)), (b"EXIF", b"Exif\0\0" + A), (b"XMP ", T), behind=b"trailer"),
+        tiff(page((0x02BC, 1, T), (0x83BB, 7, K), (0x014A, LONG, page((0x010F, ASCII, b"below it\0"))), (0x8769, LONG, [(0x9286, 7, b"a comment")])),
+             page((0x8649, 1, resource(0x404, K))), order="<", behind=b"trailer"),
+    ]  # fmt: skip
+
+
+def damaged(octets, chance):
+    """A file with one or two faults: bytes that are other ones, a piece that is gone, twice there or elsewhere, and its end cut off."""
+    made = bytearray(octets)
+    for _ in range(chance.randint(1, 2)):
+        at = chance.randrange(len(made)) if made else 0
+        way = chance.randrange(16) // 3
+        if way == 0 and made:
+            made[at] = chance.choice((0, 1, 0x7F, 0x80, 0xFF, chance.randrange(256)))
+        elif way == 1:
+            made[at : at + 4] = chance.choice((bytes(4), b"\xff" * 4, struct.pack(">I", chance.randrange(len(octets))), struct.pack("<I", at)))
+        elif way == 2:
+            del made[at : at + chance.randint(1, 30)]
+        elif way == 3:
+            made[at:at] = made[at : at + chance.randint(1, 60)]
+        elif way == 4:
+            made[at:at] = bytes(chance.choice((0xFF, 0xD8, 0xE1, 0xED, 0xD9)) for _ in range(chance.randint(1, 6)))
+        else:
+            del made[chance.randrange(len(made) + 1) :]
+    return bytes(made) if made[:3] == octets[:3] else octets[:12] + bytes(made[12:])
+
+
+def with_what_is_packed(octets):
+    """The bytes of a file, and those that its compressed or hexadecimal parts stand for."""
+    found = [octets]
+    for at in (it.start() for it in re.finditer(rb"\x78[\x01\x5e\x9c\xda]", octets)):
+        opened = zlib.decompressobj()
+        try:
+            found.append(opened.decompress(octets[at:]))
+        except zlib.error:
+            continue
+    for text in list(found):
+        digits = b"".join(re.findall(rb"[0-9a-f]{2}", b"".join(text.split(None, 2)[2:]).replace(b"\n", b"")))
+        found.append(bytes.fromhex(digits.decode()))
+    return found
+
+
+def is_made_of(data, sources):
+    """Whether bytes are pieces of the sources behind one another: few pieces, so that not any bytes would pass."""
+    pieces = 0
+    while data:
+        length = len(data)
+        while length and not any(data[:length] in it for it in sources):
+            length = length * 3 // 4
+        if not length or pieces > 60:
+            return False
+        data = data[length:]
+        pieces += 1
+    return True
+
+
+class Damaged(unittest.TestCase):
+    COUNT = 2500  # of each format
+
+    def test_damaged_files(self):
+        """10,000 files: an answer or `Broken`, only bytes that are in the file, and few reads."""
+        from exifnorm_pictures.formats.found import Broken, LeftToOthers
+
+        answers = {"read": 0, "broken": 0, "blocks": 0}
+        for number, base in enumerate(bases()):
+            chance = random.Random(number)
+            for _ in range(self.COUNT):
+                octets = damaged(base, chance)
+                stream = Counting(octets)
+                try:
+                    found = reader_of(octets)(stream, chance.random() < 0.5)
+                except (Broken, LeftToOthers):
+                    answers["broken"] += 1
+                    found = None
+                self.assertLess(stream.octets, 12 * len(octets) + 4096)
+                self.assertLess(stream.calls, 4 * len(octets) + 64)
+                if found is not None:
+                    answers["read"] += 1
+                    answers["blocks"] += len(found.found)
+                    self.check(octets, found)
+        print(f"{4 * self.COUNT:,} damaged files: {answers}", flush=True)
+        self.assertGreater(min(answers["read"], answers["broken"]), self.COUNT // 4)
+
+    def check(self, octets, found):
+        sources = None
+        for it in found.found:
+            data = it.data
+            if data in octets:
+                continue
+            if found.type == "TIFF" and it.kind == "exif":
+                self.check_page(octets, data)
+                continue
+            sources = sources or with_what_is_packed(octets)
+            self.assertTrue(is_made_of(data, sources), (it, octets))
+
+    def check_page(self, octets, data):
+        """The entries of a page, but for their offsets, and its values are in the file."""
+        order = "<" if data[:2] == b"II" else ">"
+        tables, last = [8], 8
+        for at in tables:
+            (count,) = struct.unpack_from(order + "H", data, at)
+            last = max(last, at + 6 + 12 * count)
+            for place in range(at + 2, at + 2 + 12 * count, 12):
+                tag, kind, number, below = struct.unpack_from(order + "HHII", data, place)
+                self.assertIn(data[place : place + 8], octets)
+                if tag in (0x8769, 0x8825, 0xA005) and (kind, number) == (4, 1) and below < len(data):
+                    tables.append(below)
+        self.assertTrue(is_made_of(data[last:], [octets]), octets)
+
+    def test_markers_beside_a_plain_search(self):
+        from exifnorm_pictures.formats import jpeg_tail
+
+        chance = random.Random(3)
+        before = jpeg_tail.CHUNK
+        try:
+            for size in (4, 7, 64, before):
+                jpeg_tail.CHUNK = size
+                for _ in range(3000):
+                    octets = bytes(chance.choice((255, 255, 0xD9, 0xE1, 0, 1, 2, 3, 0xD8, 0xDA, 16)) for _ in range(chance.randrange(60)))
+                    at = chance.randrange(len(octets) + 1)
+                    markers = jpeg_tail._Markers(io.BytesIO(octets), at, len(octets))
+                    self.assertEqual(tuple(jpeg_tail._scanned(markers)), plain_search(octets, at), (size, octets, at))
+        finally:
+            jpeg_tail.CHUNK = before
+
+
+def plain_search(octets, at):
+    places = []
+    while mark := re.compile(rb"\xff[\x01-\xcf\xd8-\xfe]").search(octets, at):
+        at, marker = mark.end(), octets[mark.end() - 1]
+        if marker == 0xD9:
+            return places, at, True
+        if marker >= 0xC0 and marker != 0xD8:
+            length = max(int.from_bytes(octets[at : at + 2], "big"), 2)
+            if marker in (0xE1, 0xED):
+                places.append((at - 2, length + 2))
+            at += length
+    return places, len(octets), False
+
+
+class Harm(unittest.TestCase):
+    """Files made to cost time or memory: what is read of them is counted."""
+
+    def broken(self, octets, most=None):
+        from exifnorm_pictures.formats.found import Broken
+
+        stream = Counting(octets)
+        with self.assertRaises(Broken) as caught:
+            reader_of(octets)(stream, True)
+        self.assertLess(stream.octets, (most or 4 * len(octets)) + 4096)
+        return str(caught.exception)
+
+    def test_lengths(self):
+        self.broken(b"\xff\xd8\xff\xe1\xff\xff" + b"Exif\0\0")
+        self.broken(b"\xff\xd8\xff\xe1\0\1" + bytes(10))
+        self.broken(png()[:33] + struct.pack(">I", 0xFFFFFFFF) + b"eXIf")
+        self.broken(b"RIFF\xff\xff\xff\xffWEBPEXIF")
+        self.broken(b"RIFF\x10\0\0\0WEBPEXIF\xff\xff\xff\xff" + bytes(8))
+        self.broken(b"MM\0*\0\0\0\x08\xff\xff" + bytes(100))
+        self.broken(b"MM\0*" + b"\xff" * 4)
+        self.assertIn("wrong check sum", self.broken(png(chunk(b"eXIf", A, wrong=1))))
+
+    def test_loops(self):
+        octets = bytearray(tiff(page(), page()))
+        struct.pack_into(">I", octets, len(octets) - 4, 8)
+        self.broken(bytes(octets))
+        one = bytearray(tiff(page()))
+        at = struct.unpack_from(">I", one, 4)[0]
+        struct.pack_into(">I", one, len(one) - 4, at)
+        self.broken(bytes(one))
+        below = bytearray(tiff(page((0x014A, LONG, 8))))
+        at = below.index(struct.pack(">HHI", 0x014A, LONG, 1)) + 8
+        struct.pack_into(">I", below, at, struct.unpack_from(">I", below, 4)[0])
+        self.broken(bytes(below))
+        value = bytearray(tiff(page((0x010F, ASCII, b"Abcdefgh"))))
+        at = value.index(struct.pack(">HHI", 0x010F, ASCII, 8)) + 8
+        struct.pack_into(">I", value, at, struct.unpack_from(">I", value, 4)[0])
+        self.assertIn("shares bytes with a directory", self.broken(bytes(value)))
+
+    def test_depth(self):
+        below = page()
+        for _ in range(10):
+            below = page((0x014A, LONG, below))
+        self.assertEqual(len(found_in(tiff(below)).found), 11)
+        self.assertIn("below one another", self.broken(tiff(page((0x014A, LONG, below)))))
+
+    def test_many_markers(self):
+        self.broken(b"\xff\xd8" + b"\xff\xe1\0\2" * 100_001)
+        self.broken(b"\xff\xd8" + b"\xff" * 200_000)
+        many = SMALL_JPEG[:-2] + b"\xff\xc0\0\2" * 200_000
+        stream = Counting(many)
+        self.assertEqual(reader_of(many)(stream, True).found, [])
+        self.assertLess(stream.octets, 3 * len(many))
+        self.broken(SMALL_JPEG[:-2] + b"\xff\xe1\0\2" * 1001)
+
+    def test_values_that_are_read_again_and_again(self):
+        """400 pages whose XMP is the same megabyte."""
+        value = b"<" * (1 << 20)
+        octets = bytearray(b"MM\0*" + struct.pack(">I", 8 + len(value)) + value)
+        for number in range(400):
+            following = len(octets) + 18 if number < 399 else 0
+            octets += struct.pack(">HHHIII", 1, 0x02BC, 1, len(value), 8, following)
+        self.assertIn("bytes of values", self.broken(bytes(octets), most=300 << 20))
+
+    def test_compressed_texts_that_are_too_long(self):
+        from exifnorm_pictures.formats import png as reader
+
+        bomb = chunk(b"zTXt", b"Raw profile type exif\0\0" + zlib.compress(bytes(reader.MOST_BYTES + 1), 9))
+        found = found_in(png(bomb))
+        self.assertEqual(found.found, [])
+        self.assertIn("cut or too long", found.not_read[0].what)
+        self.broken(png(bomb, bomb))
+
+    def test_an_index_of_pictures_in_one_another(self):
+        inner = jpeg(*[app1_xmp(b"x" * 60000)] * 20)
+        octets = mpf(app1(A), *[inner] * 60)
+        self.broken(octets, most=2 * len(octets))
+
+
+class Opened(WithPictures):
+    def test_what_is_no_file(self):
+        """A pipe is not opened, which would wait for its other end; a link to nothing has vanished."""
+        from exifnorm_pictures import extraction
+
+        os.mkfifo(self.path("pipe"))
+        os.symlink("nothing", self.path("link"))
+        for name, problem in (("pipe", "Unreadable"), ("link", "Vanished"), (".", "Unreadable")):
+            self.assertEqual(extraction.blocks_of(os.fsencode(self.path(name))).problem, problem)
+
+
+class Kept(unittest.TestCase):
+    def test_few_bytes_of_a_long_picture_are_read(self):
+        """By default the head and the tail of a long picture are read, and not what is between."""
+        long = SMALL_JPEG[:-2] + b"\x11" * 4_000_000 + SMALL_JPEG[-2:]
+        stream = Counting(jpeg(app1(A), base=long))
+        self.assertEqual(len(reader_of(long)(stream, False).found), 1)
+        self.assertLess(stream.octets, 80_000)
+        whole = Counting(jpeg(app1(A), base=long))
+        reader_of(long)(whole, True)
+        self.assertGreater(whole.octets, 4_000_000)
+

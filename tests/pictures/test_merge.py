@@ -1,0 +1,77 @@
+"""`merge`: catalogues of several folders and machines become one."""
+
+import os
+import shutil
+import sqlite3
+import sys
+
+from made_blocks import BLOCKS, MAKE, block, with_exif, with_iptc
+from studio import SMALL_JPEG, WithPictures, run, write
+
+ONE, OTHER = (with_exif(SMALL_JPEG, block([MAKE[:-4] + it])) for it in (b"One\0", b"Two\0"))
+TABLES = ("path, root, size, modified, changed, inode, type, extractor, problem, detail, exif, iptc, xmp, not_read, exif_octets,"
+          " iptc_octets, xmp_octets")  # fmt: skip
+
+
+class Merge(WithPictures):
+    def setUp(self):
+        super().setUp()
+        for folder, names in (("one", ("a.jpg", "b.jpg", "both.jpg")), ("two", ("c.jpg", "d.jpg", "both.jpg"))):
+            os.mkdir(self.path(folder))
+            for name in names:
+                write(self.path(folder, name), with_iptc(ONE, b"\x1c\x02\x78\0\x01" + name[:1].encode()))
+        write(self.path("two", "refused.jpg"), with_exif(SMALL_JPEG, BLOCKS["Overlap"]()))
+        write(self.path("two", "trailer.jpg"), ONE + b"\0" * 100 + b"a trailer that isn't known")
+        for folder in ("one", "two"):
+            self.asked("index", folder, "--catalogue", folder + ".c", "--quiet")
+
+    def contents(self, *names):
+        """All that stands in some catalogues, without the numbers of rows."""
+        found = []
+        for name in names:
+            base = sqlite3.connect(self.path(name))
+            found += base.execute(f"SELECT {TABLES} FROM pictures").fetchall()
+            found += base.execute("SELECT path, number, kind, name, status, digest, cause, place, fields FROM blocks JOIN pictures"
+                                  " ON id = picture").fetchall()  # fmt: skip
+            found += base.execute("SELECT path, what, digest FROM not_read JOIN pictures ON id = picture").fetchall()
+            self.assertEqual(base.execute("PRAGMA foreign_key_check").fetchall(), [])
+            base.close()
+        return sorted(map(repr, found))
+
+    def test_all_that_stood_in_each(self):
+        self.assertEqual(self.asked("merge", "one.c", "two.c", "--catalogue", "all"), ["8 pictures"])
+        self.assertEqual(self.contents("all"), self.contents("one.c", "two.c"))
+        self.asked("index", "one", "two", "--catalogue", "at once", "--quiet")
+        self.assertEqual(self.contents("all"), self.contents("at once"))
+        self.assertEqual(self.asked("same", "--catalogue", "all", "--json"), self.asked("same", "--catalogue", "at once", "--json"))
+        self.assertEqual(self.asked("index", "one", "two", "--catalogue", "all", "--quiet"), ["8 unchanged"])
+
+    def test_a_picture_in_several_is_there_once(self):
+        write(self.path("one", "a.jpg"), OTHER)
+        self.asked("index", "one", "--catalogue", "newer.c", "--quiet")
+        for names, due in ((("one.c", "newer.c"), "newer.c"), (("newer.c", "one.c"), "one.c"), (("one.c", "one.c"), "one.c")):
+            self.asked("merge", *names, "--catalogue", "all")
+            self.assertEqual(self.contents("all"), self.contents(due), names)
+            os.remove(self.path("all"))
+        self.asked("merge", "one.c", "--catalogue", "two.c")
+        self.assertEqual(sqlite3.connect(self.path("two.c")).execute("SELECT count(*) FROM pictures").fetchone(), (8,))
+
+    def test_what_is_no_catalogue(self):
+        write(self.path("text"), b"a text\n")
+        shutil.copy(self.path("one.c"), self.path("v99"))
+        sqlite3.connect(self.path("v99")).execute("PRAGMA user_version = 99")
+        for name in ("text", "missing", "v99", "one", "all"):
+            with self.subTest(name):
+                self.asked("merge", "one.c", "--catalogue", "all")
+                before = self.contents("all")
+                self.asked("merge", "two.c", name, "--catalogue", "all", status=4)
+                self.assertEqual(len(self.complaint.splitlines()), 1)
+                self.assertEqual(self.contents("all"), before, "nothing was added")
+
+    def test_a_full_disk(self):
+        self.asked("merge", "one.c", "--catalogue", "all")
+        before = self.contents("all")
+        line = 'ulimit -f 0; exec "$0" "$@"'
+        done = run(["bash", "-c", line, sys.executable, "-m", "exifnorm_pictures", "merge", "two.c", "--catalogue", "all"], self.folder)
+        self.assertEqual((done.returncode, len(done.stderr.splitlines())), (4, 1), done)
+        self.assertEqual(self.contents("all"), before)

@@ -1,0 +1,367 @@
+"""For each kind of block and each format a pair of pictures that must not be called the same, and one that must.
+
+What is expected is known from how each pair was made: one block of one picture was changed, or only what means nothing.
+"""
+
+import json
+import os
+import shutil
+import struct
+import threading
+import zlib
+
+from made_blocks import ASCII, LONG, BLOCKS, block, entry, segment
+from made_files import (
+    app1, app1_xmp, app13, chunk, exif, extension, iim, jpeg, mpf, page, png, png_xmp, profile, resource, tiff, title, webp, xmp,
+)  # fmt: skip
+from studio import SMALL_JPEG, WithPictures, needs, tool, write
+
+_ASKED = threading.Lock()  # of one ExifTool in this process
+
+
+def sides(path, whole=False):
+    """What a picture says for each kind, and what was not read."""
+    from exifnorm_pictures import engine, extraction, verdicts
+
+    with _ASKED:
+        blocks = extraction.blocks_of(os.fsencode(path), whole)
+    assert not blocks.problem, (blocks.problem, blocks.detail)
+    judged = engine.judge_all(blocks)
+    return {kind: verdicts.side(kind, judged) for kind in verdicts.NAMES}, blocks.not_read
+
+
+def turned(octets):
+    """The Exif block of one short field in the other byte order, which says the same."""
+    (count,) = struct.unpack_from(">H", octets, 8)
+    found = b"II*\0\x08\0\0\0" + struct.pack("<H", count)
+    for at in range(10, 10 + 12 * count, 12):
+        tag, kind, number = struct.unpack_from(">HHI", octets, at)
+        found += struct.pack("<HHI", tag, kind, number) + octets[at + 8 : at + 12]
+    return found + bytes(4)
+
+
+A, B = exif(b"Abc"), exif(b"Xyz")
+K, L = iim(b"one"), iim(b"two")
+T, U = title("one"), title("two")
+T_OTHERWISE = xmp("", "dc:format='one'", "x:xmptk='another toolkit'") + b" " * 50
+
+
+class Pairs(WithPictures):
+    def answer(self, one, other, whole=False, name="jpg"):
+        from exifnorm_pictures import verdicts
+
+        write(self.path(f"one.{name}"), one)
+        write(self.path(f"other.{name}"), other)
+        first, second = sides(self.path(f"one.{name}"), whole), sides(self.path(f"other.{name}"), whole)
+        found = verdicts.verdicts(first[0], second[0])
+        return verdicts.result(found, verdicts.left_open(first[1], second[1])), verdicts.sentence(
+            found, verdicts.left_open(first[1], second[1])
+        )
+
+    def same(self, one, other, **more):
+        result, words = self.answer(one, other, **more)
+        self.assertEqual(result, "same", words)
+        return words
+
+    def not_same(self, one, other, due="different", **more):
+        result, words = self.answer(one, other, **more)
+        self.assertEqual(result, due, words)
+        return words
+
+
+class Jpeg(Pairs):
+    def test_each_kind(self):
+        base = (app1(A), app13(resource(0x404, K)), app1_xmp(T))
+        words = self.same(jpeg(*base), jpeg(app1(turned(A)), app13(resource(0x404, K + b"\0")), app1_xmp(T_OTHERWISE)))
+        self.assertEqual(words, "Exif, IPTC and XMP are the same")
+        words = self.not_same(jpeg(*base), jpeg(app1(B), *base[1:]))
+        self.assertEqual(words, "IPTC and XMP are the same, Exif is different")
+        self.not_same(jpeg(*base), jpeg(base[0], app13(resource(0x404, L)), base[2]))
+        words = self.not_same(jpeg(*base), jpeg(*base[:2], app1_xmp(U)))
+        self.assertEqual(words, "Exif and IPTC are the same, XMP is different")
+        words = self.not_same(jpeg(app1(A)), jpeg(app1(A), app1_xmp(U)))
+        self.assertEqual(words, "Exif is the same, XMP is different, no IPTC")
+
+    def test_blocks_behind_the_first(self):
+        first = app1(A)
+        self.not_same(jpeg(first), jpeg(first, app1(A)))
+        self.not_same(jpeg(first, app1(A)), jpeg(first, app1(B)))
+        self.same(jpeg(first, app1(A)), jpeg(first, app1(turned(A))))
+        records = app13(resource(0x404, K))
+        self.not_same(jpeg(records), jpeg(app13(resource(0x404, K), resource(0x404, K))))
+        self.not_same(jpeg(records, first, app13(resource(0x404, K))), jpeg(records, first, app13(resource(0x404, L))))
+        self.not_same(jpeg(app13(resource(0x422, A))), jpeg(app13(resource(0x422, B))))
+        self.same(jpeg(app13(resource(0x422, A))), jpeg(app13(resource(0x422, b"Exif\0\0" + turned(A)))))
+        self.not_same(jpeg(app13(resource(0x404, K, b"AgHg"))), jpeg(app13(resource(0x404, L, b"AgHg"))))
+        self.same(jpeg(app13(resource(0x404, K, b"AgHg"))), jpeg(app13(resource(0x404, K))))
+        self.not_same(jpeg(app1_xmp(T), app1_xmp(T)), jpeg(app1_xmp(T), app1_xmp(U)))
+
+    def test_split_blocks(self):
+        long = [block([entry(0x010E, ASCII, 70000, 26)]) + it * 69999 + b"\0" for it in (b"a", b"b")]
+        split = [jpeg(app1(it[:65000]), app1(it[65000:])) for it in long]
+        self.not_same(*split)
+        self.same(split[0], jpeg(app1(long[0][:40000]), app1(long[0][40000:])))
+        records = b"".join(resource(0x404, iim(b"k" * 30000 + it) + iim(b"k" * 30000 + it)) for it in (b"a",))
+        other = b"".join(resource(0x404, iim(b"k" * 30000 + it) + iim(b"k" * 30000 + it)) for it in (b"b",))
+        head = b"Photoshop 3.0\0"
+
+        def split_at(data, at):
+            return jpeg(segment(0xED, head + data[:at]), segment(0xED, head + data[at:]))
+
+        self.same(split_at(records, 100), split_at(records, 50000))
+        self.not_same(split_at(records, 100), split_at(other, 100))
+        apart = [[segment(0xED, head + it[:100]), app1(A), segment(0xED, head + it[100:])] for it in (records, other)]
+        self.same(jpeg(*apart[0]), jpeg(apart[0][1], apart[0][0], apart[0][2]))
+        self.not_same(jpeg(*apart[0]), jpeg(*apart[1]))
+
+    def test_extended_xmp(self):
+        def whole(text, size=100, name=None, claimed=None):
+            pieces, name = extension(title(text), size, name)
+            return jpeg(app1_xmp(xmp("", f"note:HasExtendedXMP='{claimed or name}'")), *pieces)
+
+        self.same(whole("one"), whole("one", size=37))
+        self.not_same(whole("one"), whole("two"))
+        self.not_same(whole("one", name=b"0" * 32), whole("two", name=b"0" * 32), "unreadable")
+        self.not_same(whole("one"), whole("one", claimed="1" * 32), "unreadable")
+        self.same(whole("one"), jpeg(app1_xmp(T)))
+
+    def test_a_refusal_hides_no_other_change(self):
+        refused = app1(BLOCKS["Overlap"]())
+        words = self.not_same(jpeg(refused, app13(resource(0x404, K))), jpeg(refused, app13(resource(0x404, L))))
+        self.assertEqual(words, "IPTC is different, Exif is refused in the same bytes, no XMP")
+        self.not_same(jpeg(refused), jpeg(app1(BLOCKS["Doubled"]())), "refused")
+        self.not_same(jpeg(refused), jpeg(refused), "refused, the same bytes")
+        words = self.not_same(jpeg(app1(A), app1_xmp(b"<x")), jpeg(app1(A), app1_xmp(b"<y")), "unreadable")
+        self.assertEqual(words, "Exif is the same, XMP is unreadable, no IPTC")
+
+    def test_what_is_behind(self):
+        one = jpeg(app1(A))
+        words = self.not_same(one, one + b"trailer", "not wholly read")
+        self.assertEqual(words, "Exif is the same, no IPTC and no XMP; not wholly read: trailer of 7 bytes")
+        self.not_same(one + b"trailer", one + b"Trailer", "not wholly read")
+        self.same(one + b"trailer", one + b"trailer")
+        self.same(one, one + bytes(16))
+        words = self.not_same(one, one + jpeg(app1(B)), "not wholly read")
+        self.assertIn("second picture of", words)
+        self.not_same(jpeg(segment(0xE1, b"who knows")), jpeg(segment(0xE1, b"what it is")), "not wholly read")
+        self.not_same(jpeg(segment(0xE3, b"Meta\0\0" + A)), jpeg(segment(0xE3, b"Meta\0\0" + B)), "not wholly read")
+        in_picture = [SMALL_JPEG[:-2] + app1(it) + SMALL_JPEG[-2:] for it in (A, B)]
+        self.not_same(*in_picture, "not wholly read")
+
+    def test_further_pictures(self):
+        one = mpf(app1(A), jpeg(app1(A)))
+        self.same(one, mpf(app1(A), jpeg(app1(turned(A))), order="<"))
+        words = self.not_same(one, mpf(app1(A), jpeg(app1(B))))
+        self.assertEqual(words, "Exif is different, no IPTC and no XMP")
+        self.not_same(one, mpf(app1(A), jpeg(app1(A), app1_xmp(U))))
+        self.not_same(one, mpf(app1(A), jpeg(app1(A)), jpeg(app1(A))))
+        self.not_same(mpf(app1(A), jpeg(app1(A), behind=b"one")), mpf(app1(A), jpeg(app1(A), behind=b"two")), "not wholly read")
+
+    def test_what_only_the_whole_file_shows(self):
+        """A segment far in front of the end of a long picture is not seen by default, and is with `whole`."""
+        data = b"\x11" * 100000
+        long = [SMALL_JPEG[:-2] + app1(it) + data + SMALL_JPEG[-2:] for it in (A, B)]
+        self.same(*long)
+        self.not_same(*long, "not wholly read", whole=True)
+        appended = [SMALL_JPEG[:-2] + data + SMALL_JPEG[-2:] + it for it in (b"one", b"two")]
+        self.not_same(*appended, "not wholly read")
+
+
+class Png(Pairs):
+    def test_each_place(self):
+        for made in (lambda it: chunk(b"eXIf", it), lambda it: profile(b"exif", b"Exif\0\0" + it), lambda it: profile(b"APP1", it)):
+            self.same(png(made(A)), png(made(turned(A))))
+            self.not_same(png(made(A)), png(made(B)))
+            self.same(png(made(A)), jpeg(app1(A)))
+        for made in (lambda it: profile(b"iptc", it), lambda it: profile(b"8bim", resource(0x404, it)),
+                     lambda it: profile(b"iptc", b"Photoshop 3.0\0" + resource(0x404, it))):  # fmt: skip
+            self.same(png(made(K)), png(made(K + b"\0")))
+            self.not_same(png(made(K)), png(made(L)))
+        for made in (png_xmp, lambda it: png_xmp(it, True), lambda it: profile(b"xmp", it)):
+            self.same(png(made(T)), png(made(T_OTHERWISE)))
+            self.not_same(png(made(T)), png(made(U)))
+
+    def test_what_is_beside_the_first(self):
+        self.not_same(png(chunk(b"eXIf", A), profile(b"exif", A)), png(chunk(b"eXIf", A), profile(b"exif", B)))
+        self.not_same(png(chunk(b"eXIf", A), behind=b"one"), png(chunk(b"eXIf", A), behind=b"two"), "not wholly read")
+        self.same(png(chunk(b"eXIf", A), behind=b"one"), png(chunk(b"eXIf", turned(A)), behind=b"one"))
+        self.not_same(png(chunk(b"zxIf", A)), png(chunk(b"zxIf", B)), "not wholly read")
+        damaged = [png(chunk(b"zTXt", b"Raw profile type exif\0\0" + zlib.compress(it)[:-6])) for it in (A, B)]
+        self.not_same(*damaged, "not wholly read")
+        self.not_same(png(profile(b"other", A)), png(profile(b"other", B)), "not wholly read")
+        self.same(png(chunk(b"tEXt", b"Comment\0one")), png(chunk(b"tEXt", b"Comment\0two")))
+
+
+class WebP(Pairs):
+    def test_each_place(self):
+        self.same(webp((b"EXIF", A)), webp((b"EXIF", b"Exif\0\0" + turned(A))))
+        self.not_same(webp((b"EXIF", A)), webp((b"EXIF", B)))
+        self.not_same(webp((b"EXIF", A), (b"EXIF", A)), webp((b"EXIF", A), (b"EXIF", B)))
+        self.same(webp((b"XMP ", T)), webp((b"XMP ", T_OTHERWISE)))
+        self.not_same(webp((b"XMP ", T)), webp((b"XMP ", U)))
+        self.not_same(webp((b"EXIF", A), behind=b"one"), webp((b"EXIF", A), behind=b"two"), "not wholly read")
+
+    @needs("PIL")
+    def test_as_pillow_writes_it(self):
+        from studio import interpreter_with
+
+        for name, words in (("one", "One"), ("two", "Two")):
+            call = f"from PIL import Image; it = Image.new('RGB', (8, 8)); e = it.getexif(); e[0x10f] = '{words}'; it.save('{name}.webp', exif=e)"
+            tool(self.folder, interpreter_with("PIL"), "-c", call)
+        one, two = (sides(self.path(f"{it}.webp"))[0]["exif"] for it in ("one", "two"))
+        self.assertEqual((one.status, two.status), ("accepted", "accepted"))
+        self.assertNotEqual(one.digest, two.digest)
+
+
+class Tiff(Pairs):
+    def test_each_place(self):
+        def with_(*more):
+            return tiff(page(*more))
+
+        make, other = (0x010F, ASCII, b"Abcdef\0"), (0x010F, ASCII, b"Xyzdef\0")
+        self.same(with_(make), tiff(page(make), order="<"))
+        self.not_same(with_(make), with_(other))
+        gps = [(0, 1, b"\2\3\0\0"), (1, ASCII, b"N\0")], [(0, 1, b"\2\3\0\0"), (1, ASCII, b"S\0")]
+        self.not_same(*(with_((0x8825, LONG, it)) for it in gps))
+        self.same(with_((0x8825, LONG, gps[0])), tiff(page((0x8825, LONG, gps[0])), order="<"))
+        self.not_same(*(with_((0x8769, LONG, [(0x9286, 7, it)])) for it in (b"comment 1", b"comment 2")))
+        self.same(*(with_((0x02BC, 1, it)) for it in (T, T_OTHERWISE)))
+        self.not_same(*(with_((0x02BC, 1, it)) for it in (T, U)))
+        self.same(*(with_((0x83BB, 7, it)) for it in (K, K + b"\0")))
+        self.not_same(*(with_((0x83BB, 7, it)) for it in (K, L)))
+        self.not_same(*(with_((0x8649, 1, resource(0x404, it))) for it in (K, L)))
+        self.not_same(*(with_((0x8649, 1, resource(0x422, it))) for it in (A, B)))
+
+    def test_where_pixels_are_means_nothing(self):
+        self.same(tiff(page()), tiff(page((0x111, LONG, 20))))
+        tiles = [(0x142, LONG, 16), (0x143, LONG, 16), (0x144, LONG, 8), (0x145, LONG, 4)]
+        words = self.same(tiff(page(*tiles)), tiff(page(*tiles[:2], (0x144, LONG, 9), (0x145, LONG, 5))))
+        self.assertEqual(words, "Exif is the same, no IPTC and no XMP")
+
+    def test_further_pages(self):
+        def two(text, below=None):
+            more = [(0x014A, LONG, page((0x010F, ASCII, below)))] if below else []
+            return tiff(page(*more), page((0x010F, ASCII, text)))
+
+        self.same(two(b"second one\0"), two(b"second one\0"))
+        self.not_same(two(b"second one\0"), two(b"second two\0"))
+        self.not_same(two(b"second one\0"), tiff(page()))
+        self.not_same(two(b"second one\0", b"below one\0"), two(b"second one\0", b"below two\0"))
+        self.not_same(two(b"second one\0", b"below one\0"), two(b"second one\0"))
+        below = page((0x010F, ASCII, b"the same\0"))
+        self.not_same(tiff(page((0x014A, LONG, below))), tiff(page(), below))
+        deep = [tiff(page((0x014A, LONG, page((0x014A, LONG, page((0x010F, ASCII, it))))))) for it in (b"one\0", b"two\0")]
+        self.not_same(*deep)
+
+    def test_a_row_of_sub_directories(self):
+        def behind(octets, at):
+            return at + 2 + 12 * struct.unpack_from(">H", octets, at)[0]
+
+        def row(text):
+            """A SubIFD that is followed by what was the second page."""
+            octets = bytearray(tiff(page((0x014A, LONG, page())), page((0x010F, ASCII, text))))
+            place = octets.index(struct.pack(">HHI", 0x014A, LONG, 1)) + 8
+            last = behind(octets, struct.unpack_from(">I", octets, place)[0])
+            link = behind(octets, struct.unpack_from(">I", octets, 4)[0])
+            octets[last : last + 4], octets[link : link + 4] = octets[link : link + 4], bytes(4)
+            return bytes(octets)
+
+        self.not_same(row(b"one\0"), row(b"two\0"))
+        self.same(row(b"one\0"), row(b"one\0"))
+
+    def test_what_was_not_read(self):
+        self.not_same(tiff(page(), behind=b"one"), tiff(page(), behind=b"two"), "not wholly read")
+        self.same(tiff(page(), behind=b"one"), tiff(page(), behind=b"one"))
+        layers = [tiff(page((0x935C, 7, b"layers of " + it))) for it in (b"one", b"two")]
+        self.not_same(*layers, "not wholly read")
+        pointer = tiff(page((0x0190, LONG, 8)))
+        self.not_same(pointer, pointer, "not wholly read")
+
+    def test_big_tiff_is_not_read(self):
+        from exifnorm_pictures import extraction
+
+        write(self.path("big.tif"), b"II+\0\x08\0\0\0" + bytes(24))
+        found = extraction.blocks_of(os.fsencode(self.path("big.tif")))
+        self.assertEqual((found.problem, found.found), ("BigTIFF", []))
+
+
+@needs("exiftool")
+class Others(Pairs):
+    """What ExifTool extracts is never wholly read, unless the files have the same bytes."""
+
+    def pair(self, name, *words):
+        for side, text in (("one", "One"), ("two", "Two")):
+            there = self.path(f"{side}.{name}")
+            tool(self.folder, "convert", "-size", "8x8", "xc:gray", there)
+            tool(self.folder, "exiftool", "-config", "", "-q", "-overwrite_original", *(f"{it}={text}" for it in words), there)
+        shutil.copy(self.path(f"one.{name}"), self.path(f"copy.{name}"))
+        return [open(self.path(f"{it}.{name}"), "rb").read() for it in ("one", "two", "copy")]
+
+    @needs("convert")
+    def test_gif_and_psd(self):
+        for name, words in (("gif", ["-XMP:Title"]), ("psd", ["-XMP:Title"]), ("psd", ["-IPTC:Keywords"]), ("psd", ["-IFD0:Artist"])):
+            one, two, copy = self.pair(name, *words)
+            self.not_same(one, two, name=name)
+            self.same(one, copy, name=name)
+
+    @needs("convert")
+    def test_same_blocks_but_not_wholly_read(self):
+        one, _, _ = self.pair("gif", "-XMP:Title")
+        comment = one[:-1] + b"\x21\xfe\x03abc\0" + one[-1:]
+        words = self.not_same(one, comment, "not wholly read", name="gif")
+        self.assertIn("what ExifTool does not extract from a GIF file", words)
+
+    def test_broken_jpeg(self):
+        base = jpeg(app1(A))
+        words = self.not_same(base[: 2 + 4 + 6 + len(A)] + b"\0\0" + base[40:], base[: 2 + 4 + 6 + len(A)] + b"\0\1" + base[40:],
+                              "not wholly read")  # fmt: skip
+        self.assertIn("broken: no marker", words)
+
+    def test_iptc_in_a_trailer(self):
+        def fotostation(record):
+            data = struct.pack(">HI", 1, len(record)) + record
+            return jpeg(behind=record + struct.pack(">HI", 1, len(record) + 10) + bytes.fromhex("a1b2c3d4")) if data else b""
+
+        words = self.not_same(fotostation(K), fotostation(L))
+        self.assertIn("IPTC is different", words)
+
+
+class Explained(WithPictures):
+    """`explain` says what tiled, pyramid and Big TIFFs are, and why a packet is unreadable."""
+
+    def explained(self, kind, octets):
+        from exifnorm_pictures import explain
+
+        return "\n".join(explain.explain(kind, octets).lines())
+
+    def test_whole_tiffs(self):
+        tiles = tiff([(0x100, LONG, 1), (0x142, LONG, 16), (0x143, LONG, 16), (0x144, LONG, 8), (0x145, LONG, 4)])
+        pyramid = tiff([(0x100, LONG, 1), (0x014A, LONG, page())])
+        for octets, tag in ((tiles, "TileOffsets (0144)"), (pyramid, "SubIFDs (014a)")):
+            words = self.explained("exif", octets)
+            self.assertIn("refused: MisplacedOffset", words)
+            self.assertIn(f"{tag} of the main directory", words)
+            self.assertIn("This seems to be a whole TIFF picture: give it without --block", words)
+        for octets in (b"II+\0\x08\0\0\0", b"MM\0+\0\x08\0\0"):
+            self.assertIn("This is a BigTIFF", self.explained("exif", octets))
+
+    def test_packets(self):
+        self.assertEqual(self.explained("xmp", b"<x"), "xmp: unreadable: NotWellFormed\n  The packet is not well-formed XML.")
+        self.assertEqual(self.explained("xmp", T), "xmp: ok xmp")
+
+    def test_of_a_picture(self):
+        write(self.path("a.jpg"), jpeg(app1(A), app1_xmp(b"<x")))
+        lines = self.asked("explain", "a.jpg", status=2)
+        self.assertEqual(lines, ["XMP: unreadable: NotWellFormed", "  The packet is not well-formed XML.", "Exif: ok"])
+        found = json.loads(self.asked("explain", "--json", "a.jpg", status=2)[0])
+        self.assertEqual((found["kind"], found["sentence"]), ("xmp", "The packet is not well-formed XML."))
+
+    def test_show_and_changed_name_the_properties(self):
+        for side, text in (("before", "one"), ("after", "two")):
+            os.mkdir(self.path(side))
+            write(self.path(side, "a.jpg"), jpeg(app1(A), app1_xmp(title(text))))
+        lines = self.asked("show", "before/a.jpg")
+        self.assertIn(["dc:format", "text", '"one"'], [it.split() for it in lines])
+        words = "\n".join(self.asked("changed", "before", "after", status=1))
+        self.assertIn('xmp:dc:format: "one" -> "two"', words)
+        self.assertIn("Exif is the same, XMP is different, no IPTC", words)

@@ -1,0 +1,161 @@
+"""XMP: which packets say the same, beside rdflib on packets made at random, and packets that mean harm."""
+
+import hashlib
+import json
+import os
+import subprocess
+import sys
+import unittest
+
+from made_files import SPACES, title, xmp
+from packets import packets
+from studio import HERE, interpreter_with, needs
+
+LI = "<rdf:li>{}</rdf:li>"
+
+
+def said(packet, extensions=None):
+    from exifnorm_pictures import xmp as reading
+
+    return reading.digest(reading.statements(packet, extensions or {}, set()))
+
+
+def cause(packet, extensions=None):
+    from exifnorm_pictures import xmp as reading
+
+    try:
+        reading.statements(packet, extensions or {}, set())
+    except reading.Unreadable as why:
+        return why.cause
+    return None
+
+
+def array(kind, *members):
+    return xmp(f"<dc:subject><rdf:{kind}>{''.join(LI.format(it) for it in members)}</rdf:{kind}></dc:subject>")
+
+
+class Packets(unittest.TestCase):
+    def test_what_means_nothing(self):
+        base = title("one")
+        bare = f"<rdf:RDF {SPACES}><rdf:Description><dc:format>one</dc:format></rdf:Description></rdf:RDF>"
+        other_prefix = bare.replace("dc:", "q:").replace(":dc=", ":q=")
+        for packet in (
+            base + b"   \n" * 500 + b"\0", xmp("", "dc:format='one'"), xmp("<dc:format>one</dc:format>", outer="x:xmptk='XMP Core 6'"),
+            xmp("\n  <!-- a comment --><dc:format>one</dc:format>\n"), xmp("<dc:format>one</dc:format><dc:format>one</dc:format>"),
+            bare.encode(), other_prefix.encode(), bare.replace("Description>", "Description rdf:about='uuid:1'>", 1).encode(),
+            bare.encode("utf-16"), bare.encode("utf-16-be"), bare.encode("utf-32"), b"\xef\xbb\xbf" + bare.encode(),
+            b"<?xml version='1.0' encoding='UTF-8'?>" + bare.encode(),
+        ):  # fmt: skip
+            self.assertEqual(said(packet), said(base), packet)
+        self.assertEqual(said(array("Bag", "a", "b", "b")), said(array("Bag", "b", "a", "b")))
+        one = xmp("<xmp:s><rdf:Description xmp:a='1' xmp:b='2'/></xmp:s>")
+        for inside in ("<xmp:s rdf:parseType='Resource'><xmp:b>2</xmp:b><xmp:a>1</xmp:a></xmp:s>", "<xmp:s xmp:a='1' xmp:b='2'/>"):
+            self.assertEqual(said(xmp(inside)), said(one))
+
+    def test_what_means_something(self):
+        packets_ = [
+            title("one"), title("One"), title(" one"), xmp("<dc:title>one</dc:title>"), xmp("<xmp:format>one</xmp:format>"),
+            xmp("<dc:format xml:lang='en'>one</dc:format>"), xmp("<dc:format rdf:resource='http://one/'/>"), xmp(""),
+            xmp("<dc:format>one</dc:format><dc:format>two</dc:format>"), xmp("<dc:format>one</dc:format>", "xmp:ModifyDate='2026'"),
+            array("Bag", "a", "b"), array("Bag", "a", "b", "b"), array("Seq", "a", "b"), array("Seq", "b", "a"), array("Alt", "a", "b"),
+            xmp("<xmp:s xmp:a='1' xmp:b='2'/>"), xmp("<xmp:s xmp:a='12'/>"), xmp("<xmp:s xmp:a='1'/><xmp:s xmp:b='2'/>"),
+            xmp("<xmp:s xmp:a='1'/><xmp:s xmp:a='1'/>"), xmp("<xmp:s xmp:a='1'/>"),
+            xmp("<dc:title rdf:parseType='Resource'><rdf:value>one</rdf:value><xmp:q>1</xmp:q></dc:title>"),
+            xmp("<dc:title rdf:parseType='Resource'><rdf:value>one</rdf:value><xmp:q>2</xmp:q></dc:title>"),
+        ]  # fmt: skip
+        self.assertEqual(len({said(it) for it in packets_}), len(packets_))
+
+    def test_rare_forms_are_left_to_rdflib(self):
+        from exifnorm_pictures.xmp import packets as rdf, reader
+
+        for inside in (
+            "<xmp:d><rdf:Description rdf:about='http://x/' xmp:a='7'/></xmp:d>", "<xmp:d><rdf:Description rdf:about='' xmp:a='7'/></xmp:d>",
+            "<xmp:d rdf:parseType='Literal'>1</xmp:d>", "<xmp:d rdf:nodeID='n'/>", "<xmp:d rdf:datatype='http://t/'>1</xmp:d>", "text",
+            "<xmp:d rdf:resource='relative'/>", "<xmp:d><rdf:Description/>text</xmp:d>", "<xmp:d xml:lang='!'>1</xmp:d>",
+        ):  # fmt: skip
+            with self.assertRaises(reader.Unusual, msg=inside):
+                reader.statements(rdf.rdf_of(xmp(inside)))
+
+    def test_extended(self):
+        more = xmp("<dc:title>two</dc:title>")
+        name = hashlib.md5(more).hexdigest().upper()
+        asking = xmp("<dc:format>one</dc:format>", f"note:HasExtendedXMP='{name}'")
+        both = xmp("<dc:title>two</dc:title><dc:format>one</dc:format>")
+        self.assertEqual(said(asking, {name: more}), said(both))
+        self.assertEqual(cause(asking), "ExtensionMissing")
+        self.assertEqual(cause(asking, {name: more + b" "}), "ExtensionDamaged")
+
+    def test_properties_are_named(self):
+        from exifnorm_pictures import listing
+        from exifnorm_pictures import xmp as reading
+
+        def fields(packet):
+            return reading.fields(reading.statements(packet, {}, set()))
+
+        one = fields(xmp("<dc:format>one</dc:format><dc:subject><rdf:Bag><rdf:li>b</rdf:li><rdf:li>a</rdf:li></rdf:Bag></dc:subject>"))
+        other = fields(xmp("<dc:format>two</dc:format><dc:subject><rdf:Bag><rdf:li>a</rdf:li><rdf:li>b</rdf:li></rdf:Bag></dc:subject>"))
+        self.assertEqual([tuple(it) for it in listing.changes(one, other)], [("xmp:dc:format", '"one"', '"two"')])
+        self.assertEqual(one[1][1:], ("dc:subject", "Bag", 2, 'Bag["a", "b"]'))
+        lines = list(listing.readable(one, "xmp"))
+        self.assertEqual([it.split() for it in lines[1:3]], [["[xmp]"], ["dc:format", "text", '"one"']])
+        long = [fields(title("x" * 1000 + it))[0].shown for it in "ab"]
+        self.assertNotEqual(*long)
+        self.assertLess(len(long[0]), 200)
+        control = fields(title("a&#10;b\u202e"))[0].shown
+        self.assertEqual(control, '"a\\nb\\u202e"')
+
+
+class Harm(unittest.TestCase):
+    """Packets that would cost memory, time or files are unreadable; none of them is expanded."""
+
+    def test_causes(self):
+        entities = "<!DOCTYPE x [<!ENTITY a 'aaaaaaaaaa'>" + "".join(f"<!ENTITY b{it} '&a;&a;&a;'>" for it in range(9)) + "]>"
+        file_ = "<!DOCTYPE x [<!ENTITY a SYSTEM 'file:///etc/hostname'>]>"
+        bare = f"<rdf:RDF {SPACES}><rdf:Description><dc:format>&a;</dc:format></rdf:Description></rdf:RDF>"
+        deep = "<xmp:a rdf:parseType='Resource'>" * 200 + "</xmp:a>" * 200
+        due = {
+            entities + bare: "DocumentType", file_ + bare: "DocumentType", bare: "NotWellFormed", "<x:y": "NotWellFormed", "": "NotWellFormed",
+            "<a/>": "NoRDF", f"<x:xmpmeta xmlns:x='adobe:ns:meta/'><rdf:RDF {SPACES}/><rdf:RDF {SPACES}/></x:xmpmeta>": "NoRDF",
+            xmp(deep).decode(): "TooDeep", "<a>" * 500_001: "TooLong", " " * (16 << 20) + "<a/>": "TooLong",
+            "<?xml version='1.0' encoding='cp037'?>" + bare: "NotText",
+            f"<rdf:RDF {SPACES}><rdf:Description rdf:about='a:1'/><rdf:Description rdf:about='a:2'/></rdf:RDF>": "SeveralSubjects",
+        }  # fmt: skip
+        for packet, why in due.items():
+            self.assertEqual(cause(packet.encode()), why, packet[:100])
+        self.assertEqual(cause(b"<a>\xff</a>"), "NotText")
+
+    def test_many_levels_do_not_exhaust_the_stack(self):
+        self.assertEqual(cause(b"<a>" * 499_999), "NotWellFormed")
+        self.assertEqual(cause(b"<a>" * 200_000 + b"</a>" * 200_000), "TooDeep")
+
+    def test_damaged_packets_have_an_answer(self):
+        answers = {cause(it) for it in packets(5, 1000)}
+        self.assertLessEqual({None, "NotWellFormed"}, answers)
+
+    def test_nothing_is_fetched(self):
+        """The readers open no file and no connection, whatever stands in a packet."""
+        call = (
+            "import sys; opened = []; sys.addaudithook(lambda name, it: opened.append(name) if name in"
+            " ('socket.connect', 'socket.getaddrinfo', 'urllib.Request') or name == 'open' and 'etc' in str(it[0]) else None);"
+            "from test_xmp import cause; from made_files import xmp, SPACES;"
+            "cause(xmp(\"<dc:format rdf:resource='http://localhost:1/'/><dc:x rdf:datatype='http://localhost:1/'>1</dc:x>\"));"
+            "cause(b\"<!DOCTYPE x SYSTEM 'http://localhost:1/'><x/>\"); cause(b\"<!DOCTYPE x [<!ENTITY a SYSTEM '/etc/hostname'>]><x>&a;</x>\");"
+            "print(opened)"
+        )
+        python = interpreter_with("rdflib") or sys.executable
+        path = os.pathsep.join([HERE, os.path.join(os.path.dirname(os.path.dirname(HERE)), "python")])
+        done = subprocess.run([python, "-c", call], capture_output=True, env={**os.environ, "PYTHONPATH": path, "PYTHONDONTWRITEBYTECODE": "1"})
+        self.assertEqual((done.stdout, done.stderr), (b"[]\n", b""))
+
+
+@needs("rdflib")
+class BesideRdflib(unittest.TestCase):
+    def test_packets_made_at_random(self):
+        words = [interpreter_with("rdflib"), os.path.join(HERE, "beside_rdflib.py"), "1", "3000"]
+        done = subprocess.run(words, capture_output=True)
+        self.assertEqual(done.returncode, 0, done.stderr.decode())
+        found = json.loads(done.stdout.splitlines()[-1])
+        print(f"3,000 packets beside rdflib: {found['counts']}", flush=True)
+        self.assertEqual((found["differ"], found["canonical_graphs_differ"]), ([], 0))
+        self.assertGreater(found["counts"]["read by both"], 500)
+        self.assertGreater(found["counts"]["compared by canonical graphs"], 100)
