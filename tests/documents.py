@@ -5,7 +5,7 @@
 
 LIBRARY is the folder with libexifnorm.so and exifnorm.h. In a block ```console of a document a line `$ COMMAND` is run in a folder
 with the blocks that FILES names, and what stands below it, up to the next such line, is what must come. Blocks ```c and ```python
-are compiled and run in the same folder, and must end with status 0. The last line is 'N passed, M failed'.
+are compiled and run in the same folder, and must end with status 0. The last line is 'N passed, N failed'.
 """
 
 import json
@@ -19,7 +19,9 @@ from pathlib import Path
 
 sys.dont_write_bytecode = True
 
+import named
 from blocks import Blocks
+from counting import examples, run_suite
 
 HERE = os.path.dirname(os.path.abspath(__file__))
 TOP = os.path.dirname(HERE)
@@ -148,13 +150,24 @@ class Listed(unittest.TestCase):
 
     def test_what_must_be_read_has_so_many_lines(self):
         rows = re.findall(r"^\| (px_\w+) \| ([^|]*) \| (\d+) \|$", text_of("docs/PROOFS.md"), re.M)
-        self.assertEqual(len(rows), len(os.listdir(os.path.join(TOP, "crates"))) + 1)
+        code = {("px_bytes", "src/memory.rt"), ("px_bytes", "src/devices.rt"), ("px_cli", "src/files.rt")}
+        self.assertEqual(len(rows), len(os.listdir(os.path.join(TOP, "crates"))) + len(code))
         for crate, files, lines in rows:
             names = [it if "." in it else f"specs/{it}.antt" for it in re.findall(r"`([\w/.]+)`", files)]
             # all definitions of the crate are named, but where a row has files of src/
             stand = {f"specs/{it.name}" for it in Path(TOP, "crates", crate, "specs").glob("[A-Z]*.antt")} - {"specs/Lib.antt"}
-            self.assertTrue(set(names) == stand or set(names) == {"src/memory.rt"}, (crate, names, stand))
+            self.assertTrue(set(names) == stand or {(crate, it) for it in names} <= code, (crate, names, stand))
             self.assertEqual(sum(text_of(f"crates/{crate}/{it}").count("\n") for it in names), int(lines), crate)
+
+    def test_what_must_be_read_comes_in_order(self):
+        """A definition stands behind those that it uses."""
+        seen = set()
+        for crate, files in re.findall(r"^\| (px_\w+) \| ([^|]*) \| \d+ \|$", text_of("docs/PROOFS.md"), re.M):
+            for name in re.findall(r"`(\w+)`", files):
+                text = text_of(f"crates/{crate}/specs/{name}.antt")
+                used = set(re.findall(r"^(?:pub )?use Rattle\.(px_\w+)\.specs\.([A-Z]\w*)\b", text, re.M))
+                self.assertLessEqual(used, seen, f"{crate}: {name}")
+                seen.add((crate, name))
 
     def test_the_version_is_stated_once(self):
         stated = re.search(r'VERSION: &str = "([^"]+)"', text_of("crates/px_engine/src/version.rt")).group(1)
@@ -167,14 +180,25 @@ class Listed(unittest.TestCase):
 class Written(unittest.TestCase):
     """How documents and sources are written."""
 
+    def test_examples(self):
+        examples(named)
+
     def test_the_readme_is_short(self):
-        self.assertLessEqual(len(text_of("README.md").split()), 1000)
+        self.assertLessEqual(len(text_of("README.md").split()), 700)
 
     def test_links_lead_to_files(self):
         for name in DOCUMENTS:
             for target in re.findall(r"\]\(([^)#]+)[^)]*\)", text_of(name)):
                 if "://" not in target:
                     self.assertTrue(os.path.exists(os.path.join(TOP, os.path.dirname(name), target)), f"{name}: {target}")
+
+    def test_the_packages_are_installed_by_one_command(self):
+        command = "apt-get install -y --no-install-recommends $(./test --packages)"
+        for name in ("README.md", ".ci/run"):
+            self.assertIn(command, text_of(name), name)
+        for name in (*DOCUMENTS, ".ci/run"):
+            for found in re.findall(r"apt-get install[^`\n]*", text_of(name)):
+                self.assertTrue(found.startswith((command, command.replace("$(./test --packages)", '"$package"'))), f"{name}: {found}")
 
     def test_the_picture_is_drawn_of_the_cases(self):
         self.assertEqual(subprocess.run([sys.executable, os.path.join(TOP, "docs", "draw.py"), "--check"]).returncode, 0)
@@ -197,12 +221,8 @@ def main(words):
         sys.exit(__doc__)
     global PROGRAM, LIBRARY
     PROGRAM, LIBRARY = map(os.path.abspath, words)
-    ran = unittest.TextTestRunner(stream=sys.stdout, verbosity=0).run(unittest.defaultTestLoader.loadTestsFromModule(sys.modules[__name__]))
-    for test, why in ran.skipped:
-        print(f"skipped: {test.id().split('.')[-1]}: {why}")
-    failed = len(ran.failures) + len(ran.errors)
-    print(f"{ran.testsRun - len(ran.skipped) - failed} passed, {failed} failed")
-    return 1 if failed or not ran.testsRun else 0
+    load = unittest.defaultTestLoader.loadTestsFromModule
+    return run_suite(unittest.TestSuite(map(load, (sys.modules[__name__], named))))
 
 
 if __name__ == "__main__":

@@ -4,8 +4,8 @@ installs everything into an empty folder, and uses it from there.
 
   tests/library.py PROGRAM
 
-Each test that fails has a line. The last line is 'N passed, M failed', and the status is 0 only where nothing failed. It needs make,
-cc, ld, objcopy, nm and readelf besides Python 3; valgrind, c++, man and pkg-config are used where they are there.
+It needs make, cc, ld and objcopy besides Python 3; tests with valgrind, man, bash and pkg-config are skipped where these are not
+installed. interface.py tests the header.
 """
 
 import os
@@ -20,9 +20,10 @@ sys.dont_write_bytecode = True
 HERE = os.path.dirname(os.path.abspath(__file__))
 TOP = os.path.dirname(HERE)
 PARTS = os.path.join(HERE, "library")
-sys.path.insert(0, PARTS)
+sys.path[:0] = [PARTS, HERE]
 
 from answers import CAUSES, all_answers, blocks_of_cases, write_jobs
+from counting import Counter, SkipTest
 
 BUILT = os.path.join(TOP, "out", "lib")
 LAUNCHER = os.path.join(TOP, "exifnorm")
@@ -66,6 +67,12 @@ def due(holds, why):
         raise Failed(why)
 
 
+def need(tool):
+    """Skips a test whose tool isn't installed."""
+    if not shutil.which(tool):
+        raise SkipTest(f"{tool} is not installed")
+
+
 def times():
     """When each file was last written that make builds."""
     paths = [*(os.path.join(BUILT, it) for it in os.listdir(BUILT)), os.path.join(TOP, "out", "exifnorm")]
@@ -92,55 +99,15 @@ class Library:
         due(run(LAUNCHER, "--where", folder="/") == f"{launched}\n", "the launcher names another place")
         with open(launched, "rb") as one, open(self.program, "rb") as other:
             due(one.read() == other.read(), "the launcher built another program")
-        due(text_of("out", "built-with").split("\n")[0] == run("rt", "version").strip(), "it tells another toolchain")
+        note = text_of("out", "proved", "px_cli.made-from").splitlines()
+        due(note[2] == run("rt", "version").strip(), "it was built by another toolchain")
         due(run(LAUNCHER, "--version", folder="/") == run(self.program, "--version"), "a later call says more")
-
-    def shows_its_calls_alone(self):
-        shown = run("nm", "-D", "--defined-only", SHARED).split("\n")
-        due({it.split()[-1] for it in shown if it} == EXPORTS, f"the shared library shows {shown}")
-        shown = [it.split()[-1] for it in run("nm", "-g", "--defined-only", ARCHIVE).split("\n") if " T " in it or " D " in it]
-        due(set(shown) == EXPORTS, f"the archive shows {shown}")
-        due(set(re.findall(r"\b(exifnorm_\w+)\(", text_of("crates", "px_c", "include", "exifnorm.h"))) == EXPORTS, "the header has others")
-
-    def needs_the_c_library_alone(self):
-        needed = re.findall(r"\(NEEDED\).*\[(.*)\]", run("readelf", "-dW", SHARED))
-        due(needed == ["libc.so.6"], f"it needs {needed}")
-        stack = [it for it in run("readelf", "-lW", SHARED).split("\n") if "GNU_STACK" in it]
-        due(len(stack) == 1 and "RWE" not in stack[0], "its stack could be run")
-
-    def has_one_set_of_numbers(self):
-        header = dict(re.findall(r"EXIFNORM_(\w+) = (\d+)", text_of("crates", "px_c", "include", "exifnorm.h")))
-        kinds = {it: header.pop(it) for it in ("EXIF", "IIM")}
-        due(kinds == {"EXIF": "1", "IIM": "2"}, f"the kinds are {kinds}")
-        causes = {int(header.pop(it)): it for it in list(header) if it.startswith("CAUSE_")}
-        due([causes[i + 1][6:].replace("_", "") for i in range(len(causes))] == [it.upper() for it in CAUSES], "other causes in the header")
-        statuses = text_of("crates", "px_c", "src", "statuses.rt")
-        due(dict(re.findall(r"pub const (\w+): u32 = (\d+);", statuses)) == header, "other statuses in Rattle")
-        page = text_of("docs", "exifnorm.3")
-        told = dict(re.findall(r'^\.BR EXIFNORM_(\w+) " \((\d+)\)"', page, re.MULTILINE))
-        due({it: told[it] for it in told if it not in kinds} == header, "other statuses in the manual page")
-        causes = re.findall(r"^(\d+)\t(\w+)\t", page, re.MULTILINE)
-        due(causes == [(str(i + 1), it) for i, it in enumerate(CAUSES)], "other causes in the manual page")
-        code = "import exifnorm; print(*(f'{it.name}={it.value}' for it in exifnorm.Status))"
-        due(dict(it.split("=") for it in self.python("-c", code).split()) == header, "other statuses in Python")
-        code = "from exifnorm import _calls as c; print(*(c._text(c.library().exifnorm_cause_name, i) for i in range(1, 21)))"
-        due(self.python("-c", code).split() == CAUSES, "the library names other causes")
-
-    def has_one_version(self):
-        version = re.search(r'VERSION: &str = "(.*)";', text_of("crates", "px_engine", "src", "version.rt"))[1]
-        due(self.python("-c", "import exifnorm; print(exifnorm.version())").strip() == version, "another version in the library")
-        due(f'version = "{version}"' in text_of("python", "pyproject.toml"), "another version in pyproject.toml")
 
     def is_compiled(self):
         calls = os.path.join(PARTS, "calls.c")
         run(*CC, calls, "-o", self.calls, SHARED, f"-Wl,-rpath,{BUILT}", "-lpthread")
         wrapped = "-Wl," + ",".join(f"--wrap={it}" for it in ("malloc", "calloc", "realloc", "free"))
         run(*CC, "-DREFUSES_GROWTHS", calls, "-o", self.refusing, ARCHIVE, "-lpthread", wrapped)
-        if shutil.which("c++"):
-            example = os.path.join(PARTS, "examples", "compare.c")
-            run("c++", "-Wall", "-Wextra", "-pedantic", "-Werror", f"-I{HEADER}", "-x", "c++", example, "-x", "none", ARCHIVE,
-                "-o", os.path.join(self.room, "plus"))  # fmt: skip
-            due(run(os.path.join(self.room, "plus")) == "same\n", "another answer in C++")
 
     def answers_are_asked_for(self):
         blocks = blocks_of_cases()
@@ -154,15 +121,15 @@ class Library:
     def answers_each_large_block_in_c(self):
         run("sh", "-c", 'ulimit -s 256 && exec "$@"', "sh", self.calls, "once", self.large)  # as much stack as exifnorm.h says
 
-    def answers_eight_threads_in_c(self):
+    def answers_sixteen_threads_in_c(self):
         run(self.calls, "threads", self.small)
 
     def answers_where_growths_are_refused(self):
         run(self.refusing, "refused", self.small)
 
     def keeps_to_its_memory(self):
-        if shutil.which("valgrind"):
-            run("valgrind", "--quiet", "--error-exitcode=9", "--leak-check=full", self.calls, "once", self.small)
+        need("valgrind")
+        run("valgrind", "--quiet", "--error-exitcode=9", "--leak-check=full", self.calls, "once", self.small)
 
     def answers_each_block_in_python(self):
         for jobs in (self.small, self.large):
@@ -208,17 +175,17 @@ class Installed:
                 due(installed == other.read(), f"bin/exifnorm is another program than {path}")
 
     def has_pages_without_complaints(self):
-        if shutil.which("man"):
-            for page in ("man1/exifnorm.1", "man3/exifnorm.3"):
-                path = os.path.join(self.prefix, "share", "man", page)
-                said = run("sh", "-c", 'man --warnings -l "$1" 2>&1 >/dev/null', "sh", path)
-                due(said == "", f"of {page} man says {said}")
+        need("man")
+        for page in ("man1/exifnorm.1", "man3/exifnorm.3"):
+            path = os.path.join(self.prefix, "share", "man", page)
+            said = run("sh", "-c", 'man --warnings -l "$1" 2>&1 >/dev/null', "sh", path)
+            due(said == "", f"of {page} man says {said}")
 
     def completes_words(self):
-        if shutil.which("bash"):
-            code = 'source "$1" && COMP_WORDS=(exifnorm c) COMP_CWORD=1 && _exifnorm && echo "${COMPREPLY[@]}"'
-            file = os.path.join(self.prefix, "share", "bash-completion", "completions", "exifnorm")
-            due(run("bash", "-c", code, "bash", file).split() == ["check", "captions", "compare"], "other words are completed")
+        need("bash")
+        code = 'source "$1" && COMP_WORDS=(exifnorm c) COMP_CWORD=1 && _exifnorm && echo "${COMPREPLY[@]}"'
+        file = os.path.join(self.prefix, "share", "bash-completion", "completions", "exifnorm")
+        due(run("bash", "-c", code, "bash", file).split() == ["check", "captions", "compare"], "other words are completed")
 
     def runs_the_example_of_the_program(self):
         path = f"{self.prefix}/bin:{os.environ['PATH']}"
@@ -270,18 +237,11 @@ def tests_of(it):
 def main(words):
     if len(words) != 1:
         sys.exit(__doc__)
-    program, passed, failed = os.path.abspath(words[0]), 0, 0
+    program, counter = os.path.abspath(words[0]), Counter()
     with tempfile.TemporaryDirectory() as room:
         for name, test in [*tests_of(Library(program, room)), *tests_of(Installed(program, room))]:
-            try:
-                test()
-            except (Failed, OSError, subprocess.TimeoutExpired) as why:
-                failed += 1
-                print(f"FAILED {name}: {why}", flush=True)
-            else:
-                passed += 1
-    print(f"{passed} passed, {failed} failed")
-    return 1 if failed else 0
+            counter.run(name, test)
+    return counter.finish()
 
 
 if __name__ == "__main__":

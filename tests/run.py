@@ -2,7 +2,7 @@
 """Runs the built program as a user does, and compares what it does with what is due: the files of cases, and blocks of every kind
 made from what they say.
 
-Each case that fails has a line, with what was due and what came. The last line is 'N passed, M failed', and the status is 0 only
+Each case that fails has a line, with what was due and what came. The last line is 'N passed, N failed', and the status is 0 only
 where something ran and nothing failed.
 """
 
@@ -19,6 +19,7 @@ sys.dont_write_bytecode = True
 from blocks import Misspelled
 from cases import Case, Holds, Sweep, read_all
 from changed import changed
+from counting import reason
 from growths import complaints_under_refusals, every, sample
 from kinds import Kind, large_kinds, small_kinds
 from meanings import LIMIT, Record
@@ -63,7 +64,14 @@ def complaints_of(case, outcome):
             held = shown(outcome.files[name]) if name in outcome.files else "no such file"
             bad.append(f"{shown(octets)} was due in {name}, and there is {held}")
     bad += [f"no file {name} was due, and there is one" for name in case.absent if name in outcome.files]
-    return bad
+    return bad + complaints_of_other_files(case, outcome)
+
+
+def complaints_of_other_files(case, outcome):
+    """What is wrong with the files that the run has no business with: only OUT of normalise is written."""
+    named = {*case.left, *case.absent, *([case.out] if case.words[:1] == ["normalise"] else [])}
+    bad = [f"{name} was changed" for name, octets in case.files.items() if name not in named and outcome.files.get(name) != octets]
+    return bad + [f"a file {name} was made" for name in outcome.files if name not in named and name not in case.files]
 
 
 def judge_case(program, case):
@@ -230,7 +238,7 @@ def all_of(tests, pool, failures):
 
     def take_first():
         name, it = waiting.pop(0)
-        bad = it.result()
+        bad = [reason(it.exception())] if it.exception() else it.result()
         if bad:
             failures.append(name)
             print(f"FAILED {name}: {'; '.join(bad)}", flush=True)
@@ -245,15 +253,25 @@ def all_of(tests, pool, failures):
     return passed
 
 
-def run_all(program, cases, only):
+def run_titles(titles, only):
+    """Runs the tests of each title, and returns how many passed and how many failed. A title without a test is a failure, unless only
+    some tests were asked for."""
     failures, passed = [], 0
-    with ThreadPoolExecutor(os.cpu_count()) as pool, tempfile.TemporaryDirectory() as folder:
-        for title, tests in Parts(program, cases, only, folder).all():
-            began = time.monotonic()
+    with ThreadPoolExecutor(os.cpu_count()) as pool:
+        for title, tests in titles:
+            began, before = time.monotonic(), len(failures)
             count = all_of(tests, pool, failures)
+            if not (count or only or len(failures) > before):
+                failures.append(title)
+                print(f"FAILED {title}: there is no test", flush=True)
             passed += count
             print(f"{title}: {count} passed in {time.monotonic() - began:.0f} seconds", flush=True)
     return passed, len(failures)
+
+
+def run_all(program, cases, only):
+    with tempfile.TemporaryDirectory() as folder:
+        return run_titles(Parts(program, cases, only, folder).all(), only)
 
 
 def main():

@@ -1,22 +1,27 @@
 #!/usr/bin/env python3
-"""Tests the tests: broken tables are refused, a run that runs nothing fails, and what stands for the program can fail each check.
+"""Tests the tests: broken tables are refused, a run that runs nothing fails, and a program that is wrong fails each check. The tests of
+./test itself are in gate_outcomes.py.
 
-The last line is 'N passed, M failed'."""
+The last line is 'N passed, N failed'."""
 
-import doctest
+import dataclasses
 import json
 import os
-import shutil
-import stat
 import subprocess
 import sys
 import tempfile
 import time
 import unittest
 from pathlib import Path
+from unittest import mock
 
 sys.dont_write_bytecode = True
 
+import counting
+import gate_outcomes
+import harness_outcomes
+import mutations_outcomes
+import watching
 from blocks import Blocks, Misspelled
 from cases import Case, Holds, read_all
 from changed import changed
@@ -31,7 +36,7 @@ HERE = os.path.dirname(os.path.abspath(__file__))
 sys.path.insert(0, os.path.join(os.path.dirname(HERE), "build"))
 
 import crates
-from gate import is_proved
+import gate
 
 GOOD = {"name": "a case", "block": "1C0205000141", "refused": "NoMarker at 0"}
 
@@ -131,8 +136,8 @@ class Judging(unittest.TestCase):
             Outcome(0, b"same\n", b"", {"OUT": b"new", "gone": b""}),
         ):
             self.assertEqual(len(complaints_of(self.due, other)), 1, other)
-        self.assertEqual(len(complaints_of(Case("", has=[b"x"]), self.good)), 1)
-        self.assertEqual(len(complaints_of(Case("", lines=2), self.good)), 1)
+        for case in (Case("", has=[b"x"]), Case("", lines=2), Case("", lines=0), Case("", has=[b"x", b"am"])):
+            self.assertEqual(len(complaints_of(case, Outcome(0, b"same\n", b""))), 1)
 
     def test_a_failure_is_told_once_behind_a_prefix(self):
         case, due = Case("", words=["show", "a"]), Outcome(0, b"exif\n[main]\n", b"")
@@ -205,6 +210,13 @@ class Judging(unittest.TestCase):
 
     def test_counts_are_compared_one_by_one(self):
         self.assertEqual(list(vars(Counts(1, 2, 3, 4, 5, 6, 7))), ["calls", "asked", "held", "reads", "writes", "spent", "failed"])
+        case, outcome = Case("", words=["check", "a"], files={"a": bytes(100)}), Outcome(0, b"ok exif\n", b"")
+        most = limits_of(case, outcome)
+        for name in ("calls", "asked", "held", "reads", "writes", "spent"):
+            for more, complaints in ((0, 0), (1, 1)):
+                counts = dataclasses.replace(most, **{name: getattr(most, name) + more})
+                with mock.patch("watching.watched", return_value=(outcome, counts)):
+                    self.assertEqual(len(complaints_of_cost("", "", case, lambda case, outcome: [])), complaints, name)
 
 
 class Meanings(unittest.TestCase):
@@ -309,36 +321,11 @@ class Running(unittest.TestCase):
         self.assertRegex(last[0], r"^\d+ passed, [1-9]\d* failed$")
 
 
-class Gate(unittest.TestCase):
-    """./test over an rt that is none."""
-
-    def ran(self, *lines):
-        """What ./test ends with where rt prints these lines, and whether the mark stands behind it that a run before it left."""
-        with tempfile.TemporaryDirectory() as folder:
-            fake, own, mark = (os.path.join(folder, it) for it in ("rt", "test", "out/proved-since"))
-            shutil.copy(os.path.join(HERE, "..", "test"), own)
-            os.mkdir(os.path.dirname(mark))
-            with open(mark, "w", encoding="utf-8"), open(fake, "w", encoding="utf-8") as it:
-                it.write("#!/bin/sh\n" + "".join(f"echo '{line}'\n" for line in lines))
-            os.chmod(fake, stat.S_IRWXU)
-            environment = {**os.environ, "PATH": f"{folder}:{os.environ['PATH']}", "TEST_PARTS": "rt"}
-            ran = subprocess.run([own], env=environment, capture_output=True, text=True)
-            return ran.returncode, ran.stdout.splitlines()[-1], os.path.exists(mark)
-
-    def test_an_rt_that_runs_no_test_is_a_failure(self):
-        self.assertEqual(self.ran("0 passed, 0 failed"), (1, "0 passed, 1 failed", False))
-
-    def test_a_program_that_is_not_proved_is_not_taken(self):
-        self.assertEqual(self.ran("rt: px_cli NOT PROVED", "rt: px_cli: its tests are proved", "1 passed, 1 failed"), (1, "1 passed, 1 failed", False))
-
-    def test_a_program_that_is_proved_is_taken(self):
-        self.assertEqual(self.ran("rt: px_cli proved", "2 passed, 0 failed"), (0, "2 passed, 0 failed", True))
-
-
 class Builds(unittest.TestCase):
     """What counts as just proved where the library's archive is built over it, and in what order crates are proved."""
 
-    def is_proved_after(self, change):
+    @mock.patch("compiler.version", return_value="toolchain 1")
+    def is_proved_after(self, change, _):
         with tempfile.TemporaryDirectory() as folder:
             top = Path(folder)
             sources = ["crates.txt", "crates/px_bytes/src/lib.rt", "crates/px_c/src/lib.rt"]
@@ -348,12 +335,13 @@ class Builds(unittest.TestCase):
                 (top / name).parent.mkdir(parents=True, exist_ok=True)
                 (top / name).touch()
             time.sleep(0.05)
+            read = crates.Crates(top, {"px_bytes": [], "px_c": ["px_bytes"]}, {"px_c"})
+            mark = top / "out/proved-since"
+            time_of_mark = mark.stat().st_mtime_ns
+            mark.write_text(gate.sums(read), encoding="utf-8")
+            os.utime(mark, ns=(time_of_mark, time_of_mark))
             change(top)
-            return is_proved(crates.Crates(top, {"px_bytes": [], "px_c": ["px_bytes"]}, {"px_c"}), "px_c")
-
-    def test_the_examples_of_crates(self):
-        failed, ran = doctest.testmod(crates)
-        self.assertTrue(failed == 0 and ran > 3)
+            return gate.is_proved(read, "px_c")
 
     def test_what_was_proved_since_the_mark(self):
         self.assertTrue(self.is_proved_after(lambda top: None))
@@ -373,11 +361,26 @@ class Builds(unittest.TestCase):
         self.assertFalse(self.is_proved_after(lambda top: (top / folder / "stamp").touch()))
 
 
-def main():
-    ran = unittest.TextTestRunner(stream=sys.stdout, verbosity=0).run(unittest.defaultTestLoader.loadTestsFromModule(sys.modules[__name__]))
-    failed = len(ran.failures) + len(ran.errors)
-    print(f"{ran.testsRun - failed} passed, {failed} failed")
-    return 1 if failed or not ran.testsRun else 0
+class Examples(unittest.TestCase):
+    """The examples in docstrings."""
+
+    def test_they_are_right(self):
+        for module in (counting, crates, watching):
+            with self.subTest(module.__name__):
+                counting.examples(module)
+
+
+def loaded(it: object) -> unittest.TestSuite:
+    load = unittest.defaultTestLoader
+    return load.loadTestsFromTestCase(it) if isinstance(it, type) else load.loadTestsFromModule(it)
+
+
+def main() -> int:
+    # what counts all others is judged by unittest alone
+    if not unittest.TextTestRunner(stream=sys.stdout).run(loaded(harness_outcomes.Counting)).wasSuccessful():
+        print("0 passed, 1 failed")
+        return 1
+    return counting.run_suite(unittest.TestSuite(map(loaded, (sys.modules[__name__], gate_outcomes, harness_outcomes, mutations_outcomes))))
 
 
 if __name__ == "__main__":

@@ -1,8 +1,9 @@
 #!/usr/bin/env python3
 """Tests of the sources themselves: python3 tests/sources.py
 
-What no contract can say of a body and a reader relies on. A call over an allocator takes its memory from a `Memory` of its own, of
-which no clause can speak, so its body must be one line over the sister that is proved to give up nowhere else. The last line is
+What no contract can say of a body and a reader relies on. A call over an allocator, and an export for C, takes its memory from a
+`Memory` of its own, of which no clause can speak, so its body must be one line over the sister that is proved to give up nowhere
+else. Memory is made nowhere else, but in the few functions that are listed here. The last line is
 'N passed, M failed'.
 """
 
@@ -15,7 +16,7 @@ TOP = os.path.dirname(os.path.dirname(os.path.abspath(__file__)))
 PARAMETERS, LINES, COLUMNS = 5, 40, 140
 
 # Where a function begins.
-FUNCTION = re.compile(r"^(?P<indent> *)(?P<public>pub(?:\(crate\))? )?fn (?P<name>\w+)", re.M)
+FUNCTION = re.compile(r"^(?P<indent> *)(?P<public>pub(?:\(crate\))? )?(?:extern \"C\" )?fn (?P<name>\w+)", re.M)
 
 # What follows: an array's type, a clause, the body, or the end of a declaration.
 SIGNATURE = re.compile(r"\[[^\]\n]*\]|\b(?:requires|ensures)\b[^{;]*\{|\{|;")
@@ -77,25 +78,87 @@ def crates():
 
 # The memory of a call that is lent none, and the one line over the sister.
 OWN = r"(?:let mut memory = (?:Memory::new\([*\w.]+(?:\(\))?\)|[\w.]+\.(?:fresh|memory)\(\)); )?"
-SISTER = OWN + r"(?:Ok\()?(?:self\.|\w+::)?{}_in\((?:(?:&mut |&)?(?:memory|Memory::new\(alloc\)|\w+)(?:, \w+)*)?\)(?:\?\)|\?; Ok\(\(\)\))?"
+SISTER = OWN + r"(?:Ok\()?(?:self\.|\w+::)?{}_in\(((?:(?:&mut |&)?(?:memory|Memory::new\(alloc\))|\w+)(?:, \w+)*)\)(?:\?\)|\?; Ok\(\(\)\))?"
+
+# Where memory is made, or what tells that it has refused nothing.
+MAKES = re.compile(r"\bMemory::new\(|\.fresh\(\)")
+
+# The functions that make memory and are no line over a sister: the program's, what keeps memory of its own for later calls, and
+# memory itself.
+MAKERS = {
+    "crates/px_bytes/src/growing.rt: new",
+    "crates/px_bytes/src/growing.rt: with_room_in",
+    "crates/px_bytes/src/memory.rt: fresh",
+    "crates/px_cli/src/main.rt: run_given",
+    "crates/px_iim/src/iim.rt: new_in",
+    "crates/px_plans/src/plan.rt: new_in",
+}
+
+# The two lines of the program's run: what clap answers has no contract of its own, so nothing may stand beside them.
+RUN = "let asked = parse(memory, rt.alloc(), words, VERSION); run_asked(rt, files, memory, asked, lines)"
+
+
+def is_one_line(name, takes, body):
+    """Whether a body calls the sister of that name with the memory and all that the function takes, in that order, and nothing else.
+
+    >>> is_one_line("check", ["alloc", "file"], "check_in(&mut Memory::new(alloc), file)")
+    True
+    >>> is_one_line("check", ["alloc", "file"], "if file.len() > 2 { return NO_MEMORY; } check_in(&mut Memory::new(alloc), file)")
+    False
+    >>> is_one_line("compare", ["alloc", "first", "second"], "compare_in(&mut Memory::new(alloc), second, first)")
+    False
+    """
+    found = re.fullmatch(SISTER.format(name), " ".join(body.split()))
+    given = [it for it in found[1].split(", ") if not re.search("memory|Memory", it)] if found else []
+    return bool(found) and given == [it for it in takes if it.lstrip("_") not in ("alloc", "&self", "&mut self")]
+
+
+def names_of(parameters):
+    """The names of parameters, without their types."""
+    return [it.split(":")[0].removeprefix("mut ").strip() for it in parameters]
 
 
 def one_line_over_their_sisters():
-    """Says which calls over an allocator do more than call their sister, and how many there are."""
+    """Says which calls over an allocator and which exports do more than call their sister."""
     wrong, seen = [], 0
     for crate, found in crates():
         names = {name for _, name, public, _, _ in found if public}
         for path, name, public, parameters, body in found:
-            takes = [it.split(":")[0].strip() for it in parameters]
-            if not public or f"{name}_in" not in names or "memory" in takes:
+            takes, plain = names_of(parameters), name.removeprefix("exifnorm_")
+            if not public or f"{plain}_in" not in names or "memory" in takes:
                 continue
             # another type's method of that name, which has no sister beside it
-            if not re.search(rf"\b{name}_in\b", body) and not any(it[0] == path and it[1] == f"{name}_in" for it in found):
+            if not re.search(rf"\b{plain}_in\b", body) and not any(it[0] == path and it[1] == f"{plain}_in" for it in found):
                 continue
             seen += 1
-            if not re.fullmatch(SISTER.format(name), " ".join(body.split())):
-                wrong.append(f"{path}: {name} is not one line over {name}_in")
-    return wrong + (["hardly a call over an allocator was found"] if seen < 25 else [])
+            if not is_one_line(plain, takes, body):
+                wrong.append(f"{path}: {name} is not one line over {plain}_in")
+    return wrong + (["hardly a call over an allocator was found"] if seen < 30 else [])
+
+
+def memory_is_made_nowhere_else():
+    """Says which functions make memory and are neither such a line nor listed, and which are listed and make none."""
+    makers = set()
+    for crate, found in crates():
+        if crate != "px_calls":
+            makers |= {f"{path}: {name}" for path, name, _, parameters, body in found
+                if MAKES.search(body) and not is_one_line(name.removeprefix("exifnorm_"), names_of(parameters), body)}
+    return [f"{it} makes memory and is no line over a sister" for it in sorted(makers - MAKERS)] + [f"{it} makes no memory"
+        for it in sorted(MAKERS - makers)]
+
+
+def each_export_with_memory_has_a_sister():
+    """Says which exports that take an allocator were not read above."""
+    names = {name for crate, found in crates() if crate == "px_c" for _, name, _, _, _ in found}
+    wrong = [name for crate, found in crates() if crate == "px_c" for _, name, _, parameters, _ in found
+        if "alloc" in names_of(parameters) and f"{name.removeprefix('exifnorm_')}_in" not in names]
+    return [f"{it} has no sister" for it in wrong] + ([] if {"exifnorm_check", "exifnorm_version"} <= names else ["no export was found"])
+
+
+def the_run_is_two_lines():
+    """Says so where the program's run does more than read its words and do what they ask for."""
+    found = [body for _, it in crates() for path, name, _, _, body in it if (path, name) == ("crates/px_cli/src/run.rt", "run_words")]
+    return [] if [" ".join(it.split()) for it in found] == [RUN] else ["crates/px_cli/src/run.rt: run_words is not its two lines"]
 
 
 def few_parameters():
@@ -121,9 +184,20 @@ def short_lines():
     return wrong
 
 
+TESTS = (
+    one_line_over_their_sisters,
+    memory_is_made_nowhere_else,
+    each_export_with_memory_has_a_sister,
+    the_run_is_two_lines,
+    few_parameters,
+    short_functions,
+    short_lines,
+)
+
+
 def main():
     passed = failed = 0
-    for test in (one_line_over_their_sisters, few_parameters, short_functions, short_lines):
+    for test in TESTS:
         wrong = test()
         for it in wrong:
             print(f"{test.__name__}: {it}")

@@ -1,23 +1,33 @@
 #!/usr/bin/env python3
-"""Tests the built program where the files of cases can't: standard streams that are closed or stay open, links, and files that
-may not be read.
+"""Tests the built program where the files of cases can't: standard streams that are closed or stay open, links, devices, pipes, and
+files that may not be read.
 
   tests/streams.py PROGRAM
 
-Each test that fails has a line. The last line is 'N passed, M failed', and the status is 0 only where nothing failed.
+The tests run as root too, so no device is named as an output but by a link in a folder of the test's own, or as another user: a
+program that replaces what it writes could otherwise replace the device.
 """
 
 import itertools
 import os
+import stat
 import subprocess
 import sys
 import tempfile
+import threading
 from pathlib import Path
+from typing import Dict, Iterator, Tuple
+
+sys.dont_write_bytecode = True
+
+from counting import Counter
+from meanings import Record
 
 # one SHORT, and the same with a next offset that leads to the directory itself
 ONE = bytes.fromhex("4D4D002A00000008 0001 0112000300000001 00010000 00000000")
 LOOP = ONE[:-4] + bytes.fromhex("00000008")
 REFUSED = b"refused: Loop at 22\n"
+LARGE = Record([(2, 25, b"keyword %6d" % i) for i in range(60_000)])
 COMMANDS = [["check", "loop"], ["show", "loop"], ["captions", "loop"], ["normalise", "loop", "OUT"], ["compare", "loop", "loop"]]
 NOBODY = 65534
 
@@ -152,25 +162,183 @@ def links_that_lead_nowhere(program: str, folder: Path):
     yield "an output through a link", (came, left) == ((0, b""), ONE), (came, left)
 
 
+def ways_to_leave_an_output(program: str, folder: Path) -> Iterator[Tuple[str, bool, object]]:
+    """OUT is written in place: nothing of what it held is left behind the form, and it stays the file that it was."""
+    for length in (0, 1, len(ONE) - 1, len(ONE), len(ONE) + 1, len(ONE) + 2_000_000):
+        for name, octets in (("one", ONE), ("loop", b"")):
+            fill(folder)
+            (folder / "OUT").write_bytes(b"x" * length)
+            run(program, folder, ["normalise", name, "OUT"])
+            left = (folder / "OUT").read_bytes()
+            yield f"normalise {name} over {length} bytes", left == octets, left[:100]
+    out = folder / "OUT"
+    out.chmod(0o640)
+    os.link(out, folder / "again")
+    was = out.stat()
+    run(program, folder, ["normalise", "one", "OUT"])
+    now = out.stat()
+    yield "OUT is the same file", (was.st_ino, was.st_mode, was.st_nlink) == (now.st_ino, now.st_mode, now.st_nlink), now
+    yield "OUT by its other name", (folder / "again").read_bytes() == ONE, (folder / "again").read_bytes()
+    yield "nothing is left beside OUT", sorted(it.name for it in folder.iterdir()) == ["OUT", "again", "loop", "one"], list(folder.iterdir())
+    old = os.umask(0o027)
+    run(program, folder, ["normalise", "one", "new"])
+    os.umask(old)
+    yield "a new OUT", (folder / "new").stat().st_mode & 0o777 == 0o640, oct((folder / "new").stat().st_mode)
+    (folder / "d").mkdir()
+    for name in ("d", "absent/OUT", "one/OUT", ""):
+        came = run(program, folder, ["normalise", "one", name])
+        yield f"OUT is {name or 'no name'}", came == (4, b"failed: WriteFailed\n"), came
+
+
+def devices() -> Dict[str, Tuple[int, int]]:
+    """What /dev/null and /dev/full are."""
+    found = {it: os.stat(it) for it in ("/dev/null", "/dev/full")}
+    return {it: (stat.S_IFMT(found[it].st_mode), found[it].st_rdev) for it in found}
+
+
+def outputs_that_are_no_files(program: str, folder: Path) -> Iterator[Tuple[str, bool, object]]:
+    """A device takes the form, or fails; it stays the device that it was."""
+    were = devices()
+    folder.chmod(0o755)
+    how = {"user": NOBODY, "group": NOBODY} if os.getuid() == 0 else {}
+    for name in ("null", "full", "stdout"):
+        os.symlink(f"/dev/{name}", folder / name)
+    for name, due in (("null", (0, b"")), ("full", (4, b"failed: WriteFailed\n"))):
+        came = run(program, folder, ["normalise", "one", name])
+        yield f"OUT is a link to /dev/{name}", came == due, came
+        came = run(program, folder, ["normalise", "one", f"/dev/{name}"], **how)
+        yield f"OUT is /dev/{name}", came == due, came
+    came = run(program, folder, ["normalise", "loop", "null"])
+    yield "a refused block, and OUT is /dev/null", came == (2, REFUSED), came
+    came = run(program, folder, ["normalise", "one", "stdout"])
+    yield "OUT is standard output, a pipe", came == (0, ONE), came
+    with open(folder / "to", "wb+") as to:
+        to.write(b"what stood there before, which is longer")
+        to.flush()
+        subprocess.run([program, "normalise", "one", "stdout"], cwd=folder, stdout=to, timeout=60, check=False)
+    yield "OUT is standard output, a file", (folder / "to").read_bytes() == ONE, (folder / "to").read_bytes()
+    with open(folder / "to", "ab") as to:
+        subprocess.run([program], cwd=folder, input=ONE, stdout=to, timeout=60, check=False)
+    yield "a form behind what stands there", (folder / "to").read_bytes() == ONE + ONE, (folder / "to").read_bytes()
+    yield "the devices", devices() == were and all((folder / it).is_symlink() for it in ("null", "full", "stdout")), devices()
+
+
+def pipes_by_a_name(program: str, folder: Path) -> Iterator[Tuple[str, bool, object]]:
+    """A FIFO is read to its end, and takes the form; where nobody reads it any more a write fails."""
+    os.mkfifo(folder / "fifo")
+    block, form = LARGE.spelled(extended=4), LARGE.normal()
+    (folder / "large").write_bytes(block)
+    for name, octets in (("one", ONE), ("large", form)):
+        came, took = beside(lambda: run(program, folder, ["normalise", name, "fifo"]), lambda: (folder / "fifo").read_bytes())
+        yield f"OUT is a FIFO, for {name}", (came, took) == ((0, b""), octets), (came, len(took))
+        came, _ = beside(lambda: run(program, folder, ["normalise", "fifo", "OUT"]), lambda: (folder / "fifo").write_bytes(octets))
+        left = (folder / "OUT").read_bytes()
+        yield f"FILE is a FIFO, for {name}", (came, left) == ((0, b""), octets), came
+    came, _ = beside(lambda: run(program, folder, ["normalise", "large", "fifo"]), lambda: os.close(os.open(folder / "fifo", os.O_RDONLY)))
+    yield "nobody reads the FIFO any more", came == (4, b"failed: WriteFailed\n"), came
+    came, _ = beside(lambda: run(program, folder, ["compare", "one", "fifo"]), lambda: (folder / "fifo").write_bytes(ONE))
+    yield "a FIFO is compared", came == (0, b"same\n"), came
+
+
+def beside(one, other) -> tuple:
+    """What two calls return that run at the same time."""
+    found = []
+    thread = threading.Thread(target=lambda: found.append(other()), daemon=True)
+    thread.start()
+    came = one()
+    thread.join(60)
+    return came, found[0] if found else b""
+
+
+def standard_inputs(program: str, folder: Path) -> Iterator[Tuple[str, bool, object]]:
+    """Standard input is read from where it stands, and can be named as a file."""
+    (folder / "behind").write_bytes(b"xyz" + ONE)
+    with open(folder / "behind", "rb", buffering=0) as given:
+        given.seek(3)
+        came = run(program, folder, [], stdin=given)
+    yield "a block behind other bytes", came == (0, ONE), came
+    came = run(program, folder, ["check", "/dev/stdin"], input=ONE, stdin=None)
+    yield "standard input as FILE", came == (0, b"ok exif\n"), came
+    came = run(program, folder, ["compare", "/dev/stdin", "one"], input=ONE, stdin=None)
+    yield "standard input as FIRST", came == (0, b"same\n"), came
+    came = run(program, folder, ["compare", "/dev/stdin", "/dev/stdin"], input=ONE, stdin=None)
+    yield "standard input twice", came == (2, b"refused: UnknownKind at 0 in file 2\n"), came
+    directory = os.open(folder, os.O_RDONLY)
+    came = run(program, folder, [], stdin=directory)
+    os.close(directory)
+    yield "a directory as standard input", came == (4, b"failed: ReadFailed\n"), came
+
+
+def an_output_that_may_not_be_read(program: str, folder: Path) -> Iterator[Tuple[str, bool, object]]:
+    """OUT is only written, so that it need not be readable."""
+    how = {"user": NOBODY, "group": NOBODY} if os.getuid() == 0 else {}
+    out = folder / "OUT"
+    if how:
+        os.chown(out, NOBODY, NOBODY)
+    folder.chmod(0o755)
+    out.chmod(0o200)
+    came = run(program, folder, ["normalise", "one", "OUT"], **how)
+    out.chmod(0o600)
+    yield "a write-only OUT", (came, out.read_bytes()) == ((0, b""), ONE), came
+
+
+def words_and_names(program: str, folder: Path) -> Iterator[Tuple[str, bool, object]]:
+    """Behind `--` each word is a name; more names than a command takes are refused, and no file is opened."""
+    for name in ("-a", "--help", "--", "-"):
+        (folder / name).write_bytes(ONE)
+        came = run(program, folder, ["check", "--", name])
+        yield f"check -- {name}", came == (0, b"ok exif\n"), came
+        came = run(program, folder, ["compare", "--", name, "one"])
+        yield f"compare -- {name} one", came == (0, b"same\n"), came
+        came = run(program, folder, ["normalise", "--", "one", f"{name}.out"])
+        left = (folder / f"{name}.out").read_bytes() if (folder / f"{name}.out").exists() else b""
+        yield f"normalise -- one {name}.out", (came, left) == ((0, b""), ONE), came
+    for words, wrong in (
+        (["compare", "one", "one", "one", "one", "one"], "one"),
+        (["normalise", "one", "OUT", "third", "fourth", "fifth"], "third"),
+        (["check", "--", "one", "second", "third", "fourth", "fifth"], "second"),
+        (["show", "one", "b", "c", "d", "e"], "b"),
+    ):
+        came = run(program, folder, words)
+        is_told = came[1].startswith(b"error: unexpected argument '%s' found\n" % wrong.encode())
+        yield " ".join(words), came[0] == 3 and is_told and (folder / "OUT").read_bytes() == b"old", came
+
+
+TESTS = (
+    closed_streams,
+    links,
+    an_input_that_stays_open,
+    a_file_that_may_not_be_read,
+    links_that_lead_nowhere,
+    ways_to_leave_an_output,
+    outputs_that_are_no_files,
+    pipes_by_a_name,
+    standard_inputs,
+    an_output_that_may_not_be_read,
+    words_and_names,
+)
+
+
+def check_all(counter: Counter, program: str, folder: Path, test) -> None:
+    for name, is_well, came in test(program, folder):
+        counter.check(name, is_well, came)
+
+
 def main(words: list) -> int:
     if len(words) != 1:
         sys.exit(__doc__)
-    passed = failed = 0
+    counter = Counter()
     with tempfile.TemporaryDirectory() as room:
         program = Path(room) / "program"  # nobody may reach this copy
         program.write_bytes(Path(words[0]).read_bytes())
         program.chmod(0o755)
         Path(room).chmod(0o755)
-        for test in (closed_streams, links, an_input_that_stays_open, a_file_that_may_not_be_read, links_that_lead_nowhere):
+        for test in TESTS:
             folder = Path(room) / test.__name__
             folder.mkdir()
             fill(folder)
-            for name, is_well, came in test(str(program), folder):
-                passed, failed = passed + is_well, failed + (not is_well)
-                if not is_well:
-                    print(f"FAILED {name}: {came}")
-    print(f"{passed} passed, {failed} failed")
-    return 1 if failed or not passed else 0
+            counter.collect(test.__name__, lambda counter, test=test, folder=folder: check_all(counter, str(program), folder, test))
+    return counter.finish()
 
 
 if __name__ == "__main__":

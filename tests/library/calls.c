@@ -2,7 +2,7 @@
  * as it was.
  *
  *   calls once JOBS       each block by itself, each pair, with all the room that is needed, with a byte too little, and with none
- *   calls threads JOBS    the same by eight threads at once, each on a small stack
+ *   calls threads JOBS    the same by sixteen threads at once, each on a small stack
  *   calls refused JOBS    each call with the first growth refused, then the second, and so on until none is refused; only where
  *                         this file is compiled with REFUSES_GROWTHS and linked with --wrap for malloc, calloc, realloc and free
  *
@@ -16,7 +16,7 @@
 #include <stdlib.h>
 #include <string.h>
 
-enum { FILLER = 0xA5, BEHIND = 16, THREADS = 8, STACK = 256 * 1024 };
+enum { FILLER = 0xA5, BEHIND = 16, THREADS = 16, STACK = 256 * 1024 };
 
 struct text {
     uint32_t status, length;

@@ -1,0 +1,407 @@
+#define _GNU_SOURCE
+#include "laws.h"
+#include "memory.h"
+#include <exifnorm.h>
+#include <stdio.h>
+#include <string.h>
+#include <sys/mman.h>
+
+/* A block of so many bytes at most is judged: its listing and captions then fit into the room below. */
+enum { LONGEST = 8192, ROOM = 16 * LONGEST, PAGE = 4096, SHOWN = 400 };
+enum { UNSET = 0x5EED5EED, FILLER = 0xA5, TAIL_BYTES = 3 };
+/* What judging may hold: so many times the block, and a constant. */
+enum { TIMES = 16, BESIDE = 300000 };
+
+struct seen seen;
+
+static const char *const texts[] = {
+#define LAW_TEXT(name, text) text,
+    LAWS(LAW_TEXT)};
+
+const char *law_text(int law) {
+    return texts[law];
+}
+
+size_t longest_block(void) {
+    return LONGEST;
+}
+
+/* Bytes that end where a page begins that can't be read or written. */
+struct area {
+    unsigned char *start;
+    size_t size;
+};
+
+/* An answer: its status, what it wrote, and the fault. */
+struct answer {
+    uint32_t status, number;
+    size_t written;
+    unsigned char *bytes;
+    struct exifnorm_fault fault;
+};
+
+/* What is known of an accepted block. */
+struct known {
+    unsigned char block[LONGEST], form[2 * LONGEST], listing[ROOM], captions[ROOM];
+    size_t length, form_length, listing_length, captions_length;
+    uint32_t kind;
+};
+
+static struct area block_area, other_area, out_area;
+static struct known now, before;
+static const unsigned char *current;
+static size_t current_length;
+
+static void tell(int law) {
+    printf("BROKEN %s: ", law_text(law));
+    for (size_t i = 0; i < current_length && i < SHOWN; i++)
+        printf("%02x", current[i]);
+    printf("%s (%zu bytes)\n", current_length > SHOWN ? ".." : "", current_length);
+    fflush(stdout);
+}
+
+static int holds(int law, int is_so) {
+    seen.looked[law]++;
+    if (!is_so && seen.broken[law]++ < 2)
+        tell(law);
+    return is_so;
+}
+
+static int open_area(struct area *area, size_t size) {
+    size = (size + PAGE - 1) / PAGE * PAGE;
+    area->start = mmap(NULL, size + PAGE, PROT_READ | PROT_WRITE, MAP_PRIVATE | MAP_ANONYMOUS, -1, 0);
+    area->size = size;
+    return area->start != MAP_FAILED && mprotect(area->start + size, PAGE, PROT_NONE) == 0;
+}
+
+int open_room(void) {
+    return open_area(&block_area, 2 * LONGEST + 64) && open_area(&other_area, 2 * LONGEST + 64) && open_area(&out_area, ROOM);
+}
+
+/* Puts one part behind another. */
+static size_t joined(unsigned char *place, const void *one, size_t one_length, const void *two, size_t two_length) {
+    memcpy(place, one, one_length);
+    memcpy(place + one_length, two, two_length);
+    return one_length + two_length;
+}
+
+/* The bytes, put where none behind them can be read. */
+static unsigned char *laid(const struct area *area, const unsigned char *bytes, size_t length) {
+    return memcpy(area->start + area->size - length, bytes, length);
+}
+
+static unsigned char *out_of(size_t room) {
+    return memset(out_area.start + out_area.size - room, FILLER, room);
+}
+
+static int is_filled(const unsigned char *bytes, size_t length) {
+    for (size_t i = 0; i < length; i++)
+        if (bytes[i] != FILLER)
+            return 0;
+    return 1;
+}
+
+static int is_fault(struct exifnorm_fault one, struct exifnorm_fault other) {
+    return one.cause == other.cause && one.place == other.place;
+}
+
+static const struct exifnorm_fault NO_FAULT = {UNSET, UNSET};
+
+static struct answer check(const unsigned char *block, size_t length) {
+    struct answer it = {0, UNSET, 0, NULL, NO_FAULT};
+    it.status = exifnorm_check(block, length, &it.number, &it.fault);
+    return it;
+}
+
+typedef uint32_t Call(const unsigned char *, size_t, unsigned char *, size_t, size_t *, struct exifnorm_fault *);
+
+static struct answer call(Call *made, const unsigned char *block, size_t length, size_t room) {
+    struct answer it = {0, UNSET, UNSET, out_of(room), NO_FAULT};
+    it.status = made(block, length, it.bytes, room, &it.written, &it.fault);
+    return it;
+}
+
+static struct answer compare(const unsigned char *one, size_t one_length, const unsigned char *two, size_t two_length) {
+    struct answer it = {0, UNSET, 0, NULL, NO_FAULT};
+    it.status = exifnorm_compare(one, one_length, two, two_length, &it.number, &it.fault);
+    return it;
+}
+
+/* What a record and an Exif block can be refused for. */
+static int is_cause_of(uint32_t cause, int is_record) {
+    return is_record ? cause >= EXIFNORM_CAUSE_NO_MARKER && cause <= EXIFNORM_CAUSE_DATASET_CUT
+                     : cause >= EXIFNORM_CAUSE_UNKNOWN_KIND && cause <= EXIFNORM_CAUSE_THUMBNAIL_OUTSIDE;
+}
+
+static int has_prefix(const unsigned char *block, size_t length) {
+    return length >= 6 && memcmp(block, "Exif\0\0", 6) == 0;
+}
+
+static int is_record(const unsigned char *block, size_t length) {
+    return length > 0 && block[0] == 0x1C;
+}
+
+/* ---- one block that is refused */
+
+static void judge_refused(const unsigned char *block, size_t length, struct exifnorm_fault fault) {
+    size_t own = length - (has_prefix(block, length) ? 6 : 0);
+    holds(LAW_FAULT, is_cause_of(fault.cause, is_record(block, length)) && fault.place <= own);
+    struct answer form = call(exifnorm_normalise, block, length, 64);
+    holds(LAW_NORMALISE, form.status == EXIFNORM_REFUSED && is_fault(form.fault, fault));
+    holds(LAW_UNTOUCHED, form.written == UNSET && is_filled(form.bytes, 64));
+    struct answer text = call(exifnorm_show, block, length, 64);
+    holds(LAW_SHOW, text.status == EXIFNORM_REFUSED && is_fault(text.fault, fault) && text.written == UNSET && is_filled(text.bytes, 64));
+    text = call(exifnorm_captions, block, length, 64);
+    holds(LAW_CAPTIONS, text.status == EXIFNORM_REFUSED && is_fault(text.fault, fault) && text.written == UNSET && is_filled(text.bytes, 64));
+    struct answer first = compare(block, length, before.block, before.length);
+    holds(LAW_FIRST, first.status == EXIFNORM_REFUSED && is_fault(first.fault, fault) && first.number == UNSET);
+    if (before.length == 0)
+        return;
+    struct answer second = compare(before.block, before.length, block, length);
+    holds(LAW_SECOND, second.status == EXIFNORM_SECOND_REFUSED && is_fault(second.fault, fault) && second.number == UNSET);
+}
+
+/* Six bytes in front of a block: a record is then an Exif block of unknown kind. */
+static void judge_refused_prefix(const unsigned char *block, size_t length, struct exifnorm_fault fault) {
+    if (has_prefix(block, length))
+        return;
+    if (is_record(block, length))
+        fault = (struct exifnorm_fault){EXIFNORM_CAUSE_UNKNOWN_KIND, 0};
+    struct answer longer = check(other_area.start, joined(other_area.start, "Exif\0\0", 6, block, length));
+    holds(LAW_PREFIX, longer.status == EXIFNORM_REFUSED && is_fault(longer.fault, fault));
+}
+
+/* Bytes behind a record's first fault are read by nobody, where the fault is not that the record is cut. */
+static void judge_order(const unsigned char *block, size_t length, struct exifnorm_fault fault) {
+    if (!is_record(block, length) || fault.cause == EXIFNORM_CAUSE_DATASET_CUT || length + TAIL_BYTES > LONGEST)
+        return;
+    if (fault.cause == EXIFNORM_CAUSE_NO_MARKER && (fault.place >= length || block[fault.place] == 0))
+        return; /* zeros at the end */
+    memcpy(now.block, block, length);
+    memcpy(now.block + length, "\x1c\x02\x05", TAIL_BYTES);
+    struct answer longer = check(now.block, length + TAIL_BYTES);
+    holds(LAW_ORDER, longer.status == EXIFNORM_REFUSED && is_fault(longer.fault, fault));
+}
+
+/* ---- one block that is accepted */
+
+/* The form of the block, which is remembered; 0 where there is none to go on with. */
+static int judge_form(const unsigned char *block, size_t length) {
+    struct answer form = call(exifnorm_normalise, block, length, 2 * length + 64);
+    if (!holds(LAW_NORMALISE, form.status == EXIFNORM_DONE && is_fault(form.fault, NO_FAULT)))
+        return 0;
+    if (!holds(LAW_LENGTH, form.written > 0 && form.written <= 2 * length))
+        return 0;
+    holds(LAW_BEHIND, is_filled(form.bytes + form.written, 2 * length + 64 - form.written));
+    now.form_length = form.written;
+    memcpy(now.form, form.bytes, form.written);
+    if (now.kind == EXIFNORM_EXIF)
+        holds(LAW_HEADER, form.written % 2 == 0 && memcmp(now.form, "MM\0\x2a\0\0\0\x08", 8) == 0);
+    struct answer exact = call(exifnorm_normalise, block, length, now.form_length);
+    holds(LAW_MORE_ROOM, exact.status == EXIFNORM_DONE && exact.written == now.form_length &&
+                             memcmp(exact.bytes, now.form, now.form_length) == 0);
+    struct answer less = call(exifnorm_normalise, block, length, now.form_length - 1);
+    holds(LAW_LITTLE_ROOM, less.status == EXIFNORM_TOO_LITTLE_ROOM && less.written == now.form_length &&
+                               is_filled(less.bytes, now.form_length - 1) && is_fault(less.fault, NO_FAULT));
+    return 1;
+}
+
+/* What a form says by itself, and beside its block. */
+static void judge_form_again(const unsigned char *block, size_t length) {
+    const unsigned char *form = laid(&other_area, now.form, now.form_length);
+    struct answer kind = check(form, now.form_length);
+    holds(LAW_FORM_KIND, kind.status == EXIFNORM_DONE && kind.number == now.kind);
+    struct answer again = call(exifnorm_normalise, form, now.form_length, now.form_length);
+    holds(LAW_FORM, again.status == EXIFNORM_DONE && again.written == now.form_length &&
+                        memcmp(again.bytes, now.form, now.form_length) == 0);
+    struct answer one = compare(block, length, form, now.form_length), two = compare(form, now.form_length, block, length);
+    holds(LAW_SAME, one.status == EXIFNORM_DONE && one.number == 1 && two.status == EXIFNORM_DONE && two.number == 1);
+    struct answer itself = compare(block, length, block, length);
+    holds(LAW_ITSELF, itself.status == EXIFNORM_DONE && itself.number == 1 && is_fault(itself.fault, NO_FAULT));
+}
+
+static int is_ascii(const unsigned char *text, size_t length) {
+    for (size_t i = 0; i < length; i++)
+        if (text[i] != '\n' && (text[i] < 0x20 || text[i] > 0x7E))
+            return 0;
+    return 1;
+}
+
+static int begins(const unsigned char *text, size_t length, const char *start) {
+    return length >= strlen(start) && memcmp(text, start, strlen(start)) == 0;
+}
+
+static int is_listing(const unsigned char *text, size_t length) {
+    const char *start = now.kind == EXIFNORM_EXIF ? "exif\n[main]\n" : "iim\n";
+    return begins(text, length, start) && text[length - 1] == '\n' && is_ascii(text, length) && !memmem(text, length, "\n\n", 2);
+}
+
+static int is_label(const unsigned char *line, size_t length) {
+    static const char *const labels[] = {"charset: UTF-8\n", "charset: not declared\n", "title: ", "caption: ", "headline: ", "credit: ",
+        "source: ", "copyright: ", "byline: ", "byline-title: ", "keyword: ", "inventory: ", "description: ", "artist: "};
+    for (size_t i = 0; i < sizeof labels / sizeof *labels; i++)
+        if (begins(line, length, labels[i]))
+            return 1;
+    return 0;
+}
+
+static int are_captions(const unsigned char *text, size_t length) {
+    const unsigned char *line, *end = text + length;
+    if (!begins(text, length, now.kind == EXIFNORM_EXIF ? "exif\n" : "iim\ncharset: ") || end[-1] != '\n' || !is_ascii(text, length))
+        return 0;
+    for (line = (const unsigned char *)memchr(text, '\n', length) + 1; line < end; line = (const unsigned char *)memchr(line, '\n', end - line) + 1)
+        if (!is_label(line, end - line))
+            return 0;
+    return 1;
+}
+
+/* Room for either text: an element of two bytes is shown by up to seven characters, a byte by three, an empty DataSet by ten. */
+static size_t room_for(size_t length) {
+    return 8 * length + 64 < ROOM ? 8 * length + 64 : ROOM;
+}
+
+/* A text of the block, which is remembered, and that of its form. */
+static size_t judge_text(Call *made, const unsigned char *block, size_t length, unsigned char *kept, int answers, int of_form) {
+    size_t room = room_for(length);
+    struct answer text = call(made, block, length, room);
+    if (!holds(answers, text.status == EXIFNORM_DONE && text.written <= room && is_fault(text.fault, NO_FAULT)))
+        return 0;
+    memcpy(kept, text.bytes, text.written);
+    size_t kept_length = text.written;
+    struct answer other = call(made, now.form, now.form_length, kept_length);
+    holds(of_form, other.status == EXIFNORM_DONE && other.written == kept_length && memcmp(other.bytes, kept, kept_length) == 0);
+    struct answer none = call(made, block, length, kept_length - 1);
+    holds(LAW_LITTLE_ROOM, none.status == EXIFNORM_TOO_LITTLE_ROOM && none.written == kept_length && is_filled(none.bytes, kept_length - 1));
+    return kept_length;
+}
+
+static void judge_texts(const unsigned char *block, size_t length) {
+    now.listing_length = judge_text(exifnorm_show, block, length, now.listing, LAW_SHOW, LAW_FORM_LISTING);
+    if (now.listing_length)
+        holds(LAW_LISTING, is_listing(now.listing, now.listing_length));
+    now.captions_length = judge_text(exifnorm_captions, block, length, now.captions, LAW_CAPTIONS, LAW_FORM_CAPTIONS);
+    if (now.captions_length)
+        holds(LAW_LABELS, are_captions(now.captions, now.captions_length));
+}
+
+/* Whether what stands in `other_area` has the form that is known. */
+static int has_form(const unsigned char *block, size_t length) {
+    struct answer form = call(exifnorm_normalise, block, length, now.form_length);
+    return form.status == EXIFNORM_DONE && form.written == now.form_length && memcmp(form.bytes, now.form, form.written) == 0;
+}
+
+/* The form with more in front or behind. */
+static void judge_longer(void) {
+    unsigned char *place = other_area.start;
+    if (now.kind == EXIFNORM_EXIF) {
+        size_t length = joined(place, "Exif\0\0", 6, now.form, now.form_length);
+        holds(LAW_PREFIX, has_form(place, length));
+        length = joined(place, now.form, now.form_length, "\x1c\x02\xff", TAIL_BYTES);
+        holds(LAW_TAIL, has_form(place, length));
+        return;
+    }
+    struct answer four = check(place, joined(place, now.form, now.form_length, "\0\0\0", 4));
+    holds(LAW_ZEROS, has_form(place, now.form_length + 1) && has_form(place, now.form_length + 3) && four.status == EXIFNORM_REFUSED &&
+                         four.fault.cause == EXIFNORM_CAUSE_NO_MARKER && four.fault.place == now.form_length);
+}
+
+/* The block beside the one that was accepted last. */
+static void judge_pair(const unsigned char *block, size_t length) {
+    struct answer one = compare(block, length, before.block, before.length);
+    struct answer two = compare(before.block, before.length, block, length);
+    int is_one_form = now.form_length == before.form_length && memcmp(now.form, before.form, now.form_length) == 0;
+    int is_one_listing = now.listing_length == before.listing_length && memcmp(now.listing, before.listing, now.listing_length) == 0;
+    holds(LAW_SYMMETRIC, one.status == EXIFNORM_DONE && two.status == EXIFNORM_DONE && one.number == two.number);
+    holds(LAW_FORMS_TELL, one.number == (uint32_t)is_one_form);
+    holds(LAW_LISTINGS_TELL, is_one_form == is_one_listing);
+    if (now.kind != before.kind) {
+        holds(LAW_KINDS_DIFFER, one.number == 0 && two.number == 0);
+    } else if (now.kind == EXIFNORM_IIM) {
+        size_t joined_length = joined(other_area.start, before.form, before.form_length, now.form, now.form_length);
+        struct answer both = check(other_area.start, joined_length);
+        holds(LAW_JOINED, both.status == EXIFNORM_DONE && both.number == EXIFNORM_IIM);
+    }
+}
+
+/* ---- memory */
+
+static Call *const text_calls[] = {exifnorm_normalise, exifnorm_show, exifnorm_captions};
+
+/* What one of the calls answers where an allocation fails; its numbers turn with the blocks. */
+static void judge_refused_memory(const unsigned char *block, size_t length) {
+    size_t live = memory.live, room = room_for(length);
+    Call *made = text_calls[seen.blocks / 8 % 3];
+    struct answer due = call(made, block, length, room);
+    uint32_t first[4] = {0, 0, 0, 0};
+    memcpy(first, due.bytes, due.status == EXIFNORM_DONE && due.written >= sizeof first ? sizeof first : 0);
+    start_counting(1 + (long)(seen.blocks / 24 % 4));
+    struct answer came = call(made, block, length, room);
+    stop_counting();
+    int is_none = memory.refused && came.status == EXIFNORM_NO_MEMORY && came.written == UNSET && is_fault(came.fault, NO_FAULT) &&
+                  is_filled(came.bytes, room);
+    int is_same = came.status == due.status && came.written == due.written && is_fault(came.fault, due.fault) &&
+                  (came.status != EXIFNORM_DONE || came.written < sizeof first || memcmp(came.bytes, first, sizeof first) == 0);
+    holds(LAW_NO_MEMORY, is_none || is_same);
+    holds(LAW_FREED, memory.live == live);
+}
+
+static struct answer counted_check(const unsigned char *block, size_t length) {
+    size_t live = memory.live;
+    start_counting(0);
+    struct answer it = check(block, length);
+    stop_counting();
+    holds(LAW_FREED, memory.live == live);
+    holds(LAW_LITTLE, memory.peak - live <= TIMES * length + BESIDE);
+    return it;
+}
+
+/* ---- all of it */
+
+static void remember(const unsigned char *block, size_t length) {
+    memcpy(now.block, block, length);
+    now.length = length;
+    before = now;
+}
+
+static void judge_accepted(const unsigned char *block, size_t length) {
+    if (!judge_form(block, length))
+        return;
+    judge_form_again(block, length);
+    judge_texts(block, length);
+    judge_longer();
+    if (before.length)
+        judge_pair(block, length);
+    remember(block, length);
+}
+
+unsigned judge(const unsigned char *given, size_t length) {
+    if (length > LONGEST)
+        length = LONGEST;
+    current = given;
+    current_length = length;
+    seen.blocks++;
+    const unsigned char *block = laid(&block_area, given, length);
+    struct answer first = counted_check(block, length);
+    if (!holds(LAW_ANSWERS, first.status == EXIFNORM_DONE || first.status == EXIFNORM_REFUSED))
+        return CAUSES;
+    struct answer again = check(block, length);
+    holds(LAW_AGAIN, again.status == first.status && again.number == first.number && is_fault(again.fault, first.fault));
+    now.kind = first.number;
+    if (first.status == EXIFNORM_REFUSED) {
+        seen.causes[first.fault.cause < CAUSES ? first.fault.cause : 0]++;
+        holds(LAW_UNTOUCHED, first.number == UNSET);
+        judge_refused(block, length, first.fault);
+        judge_refused_prefix(block, length, first.fault);
+        judge_order(block, length, first.fault);
+    } else {
+        seen.accepted++;
+        seen.records += first.number == EXIFNORM_IIM;
+        holds(LAW_UNTOUCHED, is_fault(first.fault, NO_FAULT));
+        holds(LAW_KIND, first.number == (is_record(block, length) ? EXIFNORM_IIM : EXIFNORM_EXIF));
+        judge_accepted(block, length);
+    }
+    if (seen.blocks % 8 == 0)
+        judge_refused_memory(block, length);
+    holds(LAW_READ_ONLY, memcmp(block, given, length) == 0);
+    return first.status == EXIFNORM_REFUSED ? first.fault.cause : 0;
+}

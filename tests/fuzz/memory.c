@@ -1,0 +1,64 @@
+#define _GNU_SOURCE
+#include "memory.h"
+#include <malloc.h>
+
+struct memory memory;
+static int counts;
+
+void *__libc_malloc(size_t size);
+void *__libc_calloc(size_t count, size_t size);
+void *__libc_realloc(void *old, size_t size);
+void __libc_free(void *old);
+
+void start_counting(long refuse) {
+    counts = 1;
+    memory.peak = memory.live;
+    memory.taken = 0;
+    memory.refuse = refuse;
+    memory.refused = 0;
+}
+
+void stop_counting(void) {
+    counts = 0;
+    memory.refuse = 0;
+}
+
+static int is_refused(void) {
+    if (!counts)
+        return 0;
+    memory.taken++;
+    if (memory.refuse == 0 || --memory.refuse > 0)
+        return 0;
+    memory.refused = 1;
+    return 1;
+}
+
+static void *took(void *got) {
+    memory.live += got ? malloc_usable_size(got) : 0;
+    if (memory.live > memory.peak)
+        memory.peak = memory.live;
+    return got;
+}
+
+void *malloc(size_t size) {
+    return is_refused() ? NULL : took(__libc_malloc(size));
+}
+
+void *calloc(size_t count, size_t size) {
+    return is_refused() ? NULL : took(__libc_calloc(count, size));
+}
+
+void *realloc(void *old, size_t size) {
+    if (is_refused())
+        return NULL;
+    size_t held = old ? malloc_usable_size(old) : 0;
+    void *got = __libc_realloc(old, size);
+    if (got)
+        memory.live -= held;
+    return took(got);
+}
+
+void free(void *old) {
+    memory.live -= old ? malloc_usable_size(old) : 0;
+    __libc_free(old);
+}

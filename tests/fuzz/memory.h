@@ -1,0 +1,23 @@
+/* Counts the memory that the library takes, and refuses it: the program's own malloc, which the library calls. */
+#ifndef FUZZ_MEMORY_H
+#define FUZZ_MEMORY_H
+
+#include <stddef.h>
+
+struct memory {
+    size_t live;   /* bytes that are taken and not given back */
+    size_t peak;   /* the most of them since `start_counting` */
+    size_t taken;  /* allocations since then */
+    long refuse;   /* which allocation from now on fails: 1 is the next one, 0 is none */
+    int refused;   /* whether one failed */
+};
+
+extern struct memory memory;
+
+/* Forgets the peak and the numbers, and lets the allocation of this number fail. */
+void start_counting(long refuse);
+
+/* Lets no further allocation fail. */
+void stop_counting(void);
+
+#endif

@@ -1,0 +1,333 @@
+/* A library that answers as the built one, but for one mistake: RIGHT names the built one, WRONG the mistake. */
+#define _GNU_SOURCE
+#include <dlfcn.h>
+#include <exifnorm.h>
+#include <stdio.h>
+#include <stdlib.h>
+#include <string.h>
+
+#define MISTAKES \
+    MISTAKE(NONE_OF_THEM_ANSWERS, "no call does anything, and all answer DONE") \
+    MISTAKE(OTHER_KIND, "check answers the other kind") \
+    MISTAKE(KIND_OF_REFUSED, "check sets the kind of a block that it refuses") \
+    MISTAKE(FAULT_OF_ACCEPTED, "check sets the fault of a block that it accepts") \
+    MISTAKE(ODD_STATUS, "check answers a status that there is not") \
+    MISTAKE(WEAK_CHECK, "check accepts values that pass the end") \
+    MISTAKE(STRICT_CHECK, "check refuses blocks of odd length") \
+    MISTAKE(NEXT_CAUSE, "check answers the cause behind the right one") \
+    MISTAKE(PLACE_BESIDE, "the place is one too high") \
+    MISTAKE(PLACE_BEHIND_PREFIX, "the place counts the six bytes in front") \
+    MISTAKE(PLACE_OUTSIDE, "the place is behind the block") \
+    MISTAKE(FORGETS, "every hundredth check answers otherwise") \
+    MISTAKE(WRITES_BLOCK, "the first byte of a block is changed") \
+    MISTAKE(READS_BEHIND, "a byte behind the block is read") \
+    MISTAKE(FORM_IS_BLOCK, "the form is the block itself") \
+    MISTAKE(FORM_OF_ONE_ORDER, "the form of a block of the order II is the block") \
+    MISTAKE(FORM_WITH_ZEROS, "two zeros stand behind the form") \
+    MISTAKE(FORM_CUT, "the last byte of a form is missing") \
+    MISTAKE(FORM_LESS_A_BIT, "a bit of a form's last byte is turned") \
+    MISTAKE(FORM_TOO_LONG, "a form is filled up to twice the block and more") \
+    MISTAKE(FORM_BEHIND, "a byte is written behind the form") \
+    MISTAKE(FORM_OF_LAST, "the form is that of the block before") \
+    MISTAKE(FORM_FAULT, "normalise answers another place than check") \
+    MISTAKE(FORM_WRITES_REFUSED, "normalise writes the length of a block that it refuses") \
+    MISTAKE(ROOM_IS_ENOUGH, "too little room is filled with the first bytes") \
+    MISTAKE(ROOM_LENGTH, "too little room is answered with another length") \
+    MISTAKE(ROOM_OF_TEXT, "a text in too little room is answered with the room") \
+    MISTAKE(ALWAYS_SAME, "all accepted blocks say the same") \
+    MISTAKE(NEVER_SAME, "no two blocks say the same") \
+    MISTAKE(SAME_LENGTH, "blocks of one length say the same") \
+    MISTAKE(SAME_BYTES, "blocks say the same where their bytes are equal") \
+    MISTAKE(SAME_ONE_WAY, "the longer block never says the same") \
+    MISTAKE(SAME_KINDS, "blocks of different kinds say the same") \
+    MISTAKE(FIRST_IS_SECOND, "the fault of the first is answered as one of the second") \
+    MISTAKE(SECOND_IS_FIRST, "the fault of the second is answered as one of the first") \
+    MISTAKE(SECOND_UNJUDGED, "a second block that is refused says something else") \
+    MISTAKE(LISTING_EMPTY, "the listing is the kind alone") \
+    MISTAKE(LISTING_OF_PLACES, "the listing depends on the layout") \
+    MISTAKE(LISTING_UNENDED, "the listing's last line is not ended") \
+    MISTAKE(LISTING_BINARY, "the listing has a byte that is not printable") \
+    MISTAKE(SHOW_ACCEPTS, "show answers DONE for a block that is refused") \
+    MISTAKE(CAPTIONS_ACCEPT, "captions answers DONE for a block that is refused") \
+    MISTAKE(CAPTIONS_UNLABELLED, "a caption's label is another") \
+    MISTAKE(CAPTIONS_OF_PLACES, "the captions depend on the layout") \
+    MISTAKE(PREFIX_REFUSED, "six bytes in front of a block are refused") \
+    MISTAKE(TAIL_REFUSED, "bytes behind the last part of an Exif block are refused") \
+    MISTAKE(ZEROS_REFUSED, "a zero behind a record is refused") \
+    MISTAKE(ZEROS_ACCEPTED, "four zeros behind a record are accepted") \
+    MISTAKE(RECORDS_OF_ONE_KEYWORD, "a record with two captions is refused") \
+    MISTAKE(LEAKS, "every tenth check keeps its memory") \
+    MISTAKE(TAKES_MUCH, "check takes a megabyte") \
+    MISTAKE(IGNORES_NULL, "a failed allocation is answered as a refusal") \
+    MISTAKE(FAULT_AT_END, "the fault of a record depends on what stands behind it")
+
+#define MISTAKE(name, text) name,
+enum { NONE, MISTAKES COUNT };
+#undef MISTAKE
+#define MISTAKE(name, text) #name,
+static const char *const names[] = {"NONE", MISTAKES};
+#undef MISTAKE
+
+typedef uint32_t Check(const unsigned char *, size_t, uint32_t *, struct exifnorm_fault *);
+typedef uint32_t Text(const unsigned char *, size_t, unsigned char *, size_t, size_t *, struct exifnorm_fault *);
+typedef uint32_t Compare(const unsigned char *, size_t, const unsigned char *, size_t, uint32_t *, struct exifnorm_fault *);
+
+static Check *right_check;
+static Text *right_normalise, *right_show, *right_captions;
+static Compare *right_compare;
+static int wrong;
+static unsigned long calls;
+
+__attribute__((constructor)) static void open_right(void) {
+    void *right = dlopen(getenv("RIGHT"), RTLD_NOW | RTLD_LOCAL);
+    const char *name = getenv("WRONG");
+    if (!right || !name)
+        abort();
+    right_check = (Check *)dlsym(right, "exifnorm_check");
+    right_normalise = (Text *)dlsym(right, "exifnorm_normalise");
+    right_show = (Text *)dlsym(right, "exifnorm_show");
+    right_captions = (Text *)dlsym(right, "exifnorm_captions");
+    right_compare = (Compare *)dlsym(right, "exifnorm_compare");
+    while (wrong < COUNT && strcmp(names[wrong], name) != 0)
+        wrong++;
+    if (wrong == COUNT)
+        abort();
+}
+
+static int is_record(const unsigned char *block, size_t length) {
+    return length > 0 && block[0] == 0x1C;
+}
+
+static int has_prefix(const unsigned char *block, size_t length) {
+    return length > 6 && memcmp(block, "Exif\0\0", 6) == 0;
+}
+
+static uint32_t refused(struct exifnorm_fault *fault, uint32_t cause, size_t place) {
+    fault->cause = cause;
+    fault->place = (uint32_t)place;
+    return EXIFNORM_REFUSED;
+}
+
+/* A refusal that is not the library's, where the mistake is one of those that all calls make. */
+static int is_refused(const unsigned char *block, size_t length, uint32_t status, struct exifnorm_fault *fault) {
+    unsigned char form[8192];
+    size_t written = 0;
+    struct exifnorm_fault none;
+    if (status != EXIFNORM_DONE || length > sizeof form)
+        return 0;
+    if (wrong == STRICT_CHECK && length % 2)
+        return refused(fault, EXIFNORM_CAUSE_HEADER_CUT, 0);
+    if (wrong == PREFIX_REFUSED && has_prefix(block, length))
+        return refused(fault, EXIFNORM_CAUSE_UNKNOWN_KIND, 0);
+    if (wrong == TAIL_REFUSED && !is_record(block, length) && right_normalise(block, length, form, sizeof form, &written, &none) == 0 && written < length)
+        return refused(fault, EXIFNORM_CAUSE_HEADER_CUT, 0);
+    if (wrong == ZEROS_REFUSED && is_record(block, length) && block[length - 1] == 0 && right_check(block, length - 1, &none.cause, &none) == 0)
+        return refused(fault, EXIFNORM_CAUSE_NO_MARKER, length - 1);
+    if (wrong == RECORDS_OF_ONE_KEYWORD && is_record(block, length) && memmem(block + 1, length - 1, "\x1c\x02\x78", 3))
+        return refused(fault, EXIFNORM_CAUSE_NO_MARKER, 0);
+    return 0;
+}
+
+static void change_fault(const unsigned char *block, size_t length, struct exifnorm_fault *fault) {
+    if (wrong == NEXT_CAUSE)
+        fault->cause++;
+    if (wrong == PLACE_BESIDE)
+        fault->place++;
+    if (wrong == PLACE_BEHIND_PREFIX && has_prefix(block, length))
+        fault->place += 6;
+    if (wrong == PLACE_OUTSIDE)
+        fault->place = (uint32_t)length + 1;
+    if (wrong == FAULT_AT_END && fault->cause == EXIFNORM_CAUSE_NO_MARKER)
+        fault->place = (uint32_t)length - 1;
+}
+
+/* A mistake in what one check answers. */
+static uint32_t changed_check(const unsigned char *block, size_t length, uint32_t *kind, struct exifnorm_fault *fault, uint32_t status) {
+    if (is_refused(block, length, status, fault))
+        return EXIFNORM_REFUSED;
+    if (wrong == ODD_STATUS)
+        return status ? 1 : status;
+    if (wrong == OTHER_KIND && status == EXIFNORM_DONE)
+        *kind = 3 - *kind;
+    if (wrong == KIND_OF_REFUSED && status == EXIFNORM_REFUSED)
+        *kind = EXIFNORM_EXIF;
+    if (wrong == FAULT_OF_ACCEPTED && status == EXIFNORM_DONE)
+        *fault = (struct exifnorm_fault){0, 0};
+    int is_weak = (wrong == WEAK_CHECK && fault->cause == EXIFNORM_CAUSE_VALUE_OUTSIDE) ||
+                  (wrong == ZEROS_ACCEPTED && fault->cause == EXIFNORM_CAUSE_NO_MARKER && fault->place + 4 == length && block[length - 1] == 0);
+    if (status == EXIFNORM_REFUSED && is_weak) {
+        *kind = is_record(block, length) ? EXIFNORM_IIM : EXIFNORM_EXIF;
+        return EXIFNORM_DONE;
+    }
+    if (wrong == FORGETS && calls % 100 == 0 && status == EXIFNORM_DONE)
+        return refused(fault, EXIFNORM_CAUSE_LOOP, 0);
+    if (status == EXIFNORM_REFUSED)
+        change_fault(block, length, fault);
+    return status;
+}
+
+uint32_t exifnorm_check(const unsigned char *block, size_t length, uint32_t *kind, struct exifnorm_fault *fault) {
+    volatile unsigned char seen = 0;
+    calls++;
+    if (wrong == NONE_OF_THEM_ANSWERS)
+        return EXIFNORM_DONE;
+    if (wrong == WRITES_BLOCK && length > 0)
+        ((unsigned char *)(uintptr_t)block)[0] ^= 1;
+    if (wrong == READS_BEHIND)
+        seen = block[length];
+    if (wrong == LEAKS && calls % 10 == 0)
+        seen = malloc(10) != NULL;
+    if (wrong == TAKES_MUCH)
+        free(malloc(1 << 20));
+    (void)seen;
+    return changed_check(block, length, kind, fault, right_check(block, length, kind, fault));
+}
+
+/* Bytes that stand in place of a text, in so much room. */
+static uint32_t put(const void *bytes, size_t length, unsigned char *out, size_t room, size_t *written) {
+    *written = length;
+    if (length > room)
+        return EXIFNORM_TOO_LITTLE_ROOM;
+    memcpy(out, bytes, length);
+    return EXIFNORM_DONE;
+}
+
+static uint32_t without_room(unsigned char *out, size_t room, size_t *written) {
+    if (wrong == ROOM_IS_ENOUGH)
+        memset(out, 0, room);
+    if (wrong == ROOM_LENGTH)
+        *written += 1;
+    return EXIFNORM_TOO_LITTLE_ROOM;
+}
+
+/* A mistake in a form that was made. */
+static uint32_t changed_form(const unsigned char *block, size_t length, unsigned char *out, size_t room, size_t *written) {
+    static unsigned char last[32768];
+    static size_t last_length;
+    unsigned char kept[32768];
+    size_t kept_length = *written;
+    memcpy(kept, out, kept_length < sizeof kept ? kept_length : 0);
+    if (wrong == FORM_IS_BLOCK || (wrong == FORM_OF_ONE_ORDER && block[0] == 'I'))
+        return put(block, length, out, room, written);
+    if (wrong == FORM_WITH_ZEROS && *written + 2 <= room)
+        memset(out + *written, 0, 2), *written += 2;
+    if (wrong == FORM_CUT)
+        *written -= 1;
+    if (wrong == FORM_LESS_A_BIT)
+        out[*written - 1] ^= 1;
+    if (wrong == FORM_TOO_LONG && room > 2 * length)
+        memset(out + *written, 0, 2 * length + 1 - *written), *written = 2 * length + 1;
+    if (wrong == FORM_BEHIND && room > *written)
+        out[*written] = 0;
+    if (wrong == FORM_OF_LAST && last_length && last_length <= room)
+        put(last, last_length, out, room, written);
+    memcpy(last, kept, kept_length < sizeof kept ? kept_length : 0);
+    last_length = kept_length < sizeof kept ? kept_length : 0;
+    return EXIFNORM_DONE;
+}
+
+uint32_t exifnorm_normalise(const unsigned char *block, size_t length, unsigned char *out, size_t room, size_t *written, struct exifnorm_fault *fault) {
+    if (wrong == NONE_OF_THEM_ANSWERS)
+        return EXIFNORM_DONE;
+    uint32_t status = right_normalise(block, length, out, room, written, fault);
+    if (is_refused(block, length, status, fault))
+        return EXIFNORM_REFUSED;
+    if (status == EXIFNORM_NO_MEMORY && wrong == IGNORES_NULL)
+        return refused(fault, EXIFNORM_CAUSE_LOOP, 0);
+    if (status == EXIFNORM_REFUSED) {
+        change_fault(block, length, fault);
+        fault->place += wrong == FORM_FAULT;
+        *written = wrong == FORM_WRITES_REFUSED ? 0 : *written;
+    }
+    if (status == EXIFNORM_TOO_LITTLE_ROOM)
+        return without_room(out, room, written);
+    return status == EXIFNORM_DONE ? changed_form(block, length, out, room, written) : status;
+}
+
+static uint32_t changed_compare(size_t one_length, size_t two_length, int is_one, int are_kinds, uint32_t *same) {
+    if (wrong == ALWAYS_SAME)
+        *same = 1;
+    if (wrong == NEVER_SAME)
+        *same = 0;
+    if (wrong == SAME_LENGTH)
+        *same = one_length == two_length;
+    if (wrong == SAME_BYTES)
+        *same = (uint32_t)is_one;
+    if (wrong == SAME_ONE_WAY && one_length > two_length)
+        *same = 0;
+    if (wrong == SAME_KINDS && are_kinds)
+        *same = 1;
+    return EXIFNORM_DONE;
+}
+
+uint32_t exifnorm_compare(const unsigned char *one, size_t one_length, const unsigned char *two, size_t two_length, uint32_t *same, struct exifnorm_fault *fault) {
+    if (wrong == NONE_OF_THEM_ANSWERS)
+        return EXIFNORM_DONE;
+    uint32_t status = right_compare(one, one_length, two, two_length, same, fault);
+    if (is_refused(one, one_length, status, fault))
+        return EXIFNORM_REFUSED;
+    if (is_refused(two, two_length, status, fault))
+        return EXIFNORM_SECOND_REFUSED;
+    if (status == EXIFNORM_REFUSED || status == EXIFNORM_SECOND_REFUSED)
+        change_fault(status == EXIFNORM_REFUSED ? one : two, status == EXIFNORM_REFUSED ? one_length : two_length, fault);
+    if (status == EXIFNORM_REFUSED && wrong == FIRST_IS_SECOND)
+        return EXIFNORM_SECOND_REFUSED;
+    if (status == EXIFNORM_SECOND_REFUSED && wrong == SECOND_IS_FIRST)
+        return EXIFNORM_REFUSED;
+    if (status == EXIFNORM_SECOND_REFUSED && wrong == SECOND_UNJUDGED) {
+        *same = 0;
+        return EXIFNORM_DONE;
+    }
+    if (status != EXIFNORM_DONE)
+        return status;
+    int is_one = one_length == two_length && memcmp(one, two, one_length) == 0;
+    return changed_compare(one_length, two_length, is_one, is_record(one, one_length) != is_record(two, two_length), same);
+}
+
+static uint32_t changed_text(Text *call, const unsigned char *block, size_t length, unsigned char *out, size_t room, size_t *written, struct exifnorm_fault *fault) {
+    uint32_t status = call(block, length, out, room, written, fault);
+    if (is_refused(block, length, status, fault))
+        return EXIFNORM_REFUSED;
+    if (status == EXIFNORM_NO_MEMORY && wrong == IGNORES_NULL)
+        return refused(fault, EXIFNORM_CAUSE_LOOP, 0);
+    if (status == EXIFNORM_REFUSED)
+        change_fault(block, length, fault);
+    if (status == EXIFNORM_TOO_LITTLE_ROOM && wrong == ROOM_OF_TEXT)
+        *written = room;
+    return status;
+}
+
+uint32_t exifnorm_show(const unsigned char *block, size_t length, unsigned char *out, size_t room, size_t *written, struct exifnorm_fault *fault) {
+    if (wrong == NONE_OF_THEM_ANSWERS)
+        return EXIFNORM_DONE;
+    uint32_t status = changed_text(right_show, block, length, out, room, written, fault);
+    if (wrong == SHOW_ACCEPTS && status == EXIFNORM_REFUSED)
+        return put("exif\n", 5, out, room, written);
+    if (status != EXIFNORM_DONE)
+        return status;
+    if (wrong == LISTING_EMPTY)
+        return put(out, 5, out, room, written);
+    if (wrong == LISTING_OF_PLACES && block[length / 2] % 2)
+        out[*written - 2] ^= 1;
+    if (wrong == LISTING_UNENDED)
+        out[*written - 1] = ' ';
+    if (wrong == LISTING_BINARY)
+        out[*written - 2] = 0x7F;
+    return status;
+}
+
+uint32_t exifnorm_captions(const unsigned char *block, size_t length, unsigned char *out, size_t room, size_t *written, struct exifnorm_fault *fault) {
+    if (wrong == NONE_OF_THEM_ANSWERS)
+        return EXIFNORM_DONE;
+    uint32_t status = changed_text(right_captions, block, length, out, room, written, fault);
+    if (wrong == CAPTIONS_ACCEPT && status == EXIFNORM_REFUSED)
+        return put("exif\n", 5, out, room, written);
+    if (status != EXIFNORM_DONE)
+        return status;
+    unsigned char *colon = memchr(out, ':', *written);
+    if (wrong == CAPTIONS_UNLABELLED && colon)
+        colon[-1] ^= 1;
+    if (wrong == CAPTIONS_OF_PLACES && block[length / 2] % 2)
+        out[0] ^= 1;
+    return status;
+}

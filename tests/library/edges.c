@@ -1,0 +1,179 @@
+/* Calls the library at the edges of what exifnorm.h allows: blocks and room of no bytes, room below and above 64 MB, names into
+ * each room, and each status of each call. Each line that is printed is a failure, but the last one, which counts the checks.
+ */
+#define _DEFAULT_SOURCE
+#include <exifnorm.h>
+#include <stdio.h>
+#include <string.h>
+#include <sys/mman.h>
+
+enum { UNSET = 0x5EED5EED, FILLER = 0xA5, PAGE = 4096, LARGEST = 16777216, MOST_ROOM = 201326592 };
+
+static unsigned long checks, failures;
+
+#define DUE(holds) due(holds, #holds, __LINE__)
+
+static void due(int holds, const char *what, int line) {
+    checks++;
+    if (!holds) {
+        failures++;
+        printf("line %d: %s\n", line, what);
+    }
+}
+
+typedef uint32_t Text(const unsigned char *, size_t, unsigned char *, size_t, size_t *, struct exifnorm_fault *);
+static Text *const texts[] = {exifnorm_normalise, exifnorm_show, exifnorm_captions};
+
+static const unsigned char caption[] = "\034\002\170\200\004\0\0\0\004Vase";
+enum { CAPTION = sizeof caption - 1 };
+static const char *const caption_texts[] = {"\034\002\170\0\004Vase", "iim\n2:120 4: 56617365\n", "iim\ncharset: not declared\ncaption: Vase\n"};
+static const size_t caption_lengths[] = {9, 22, 40};
+
+/* Memory whose pages are taken once they are touched. */
+static unsigned char *room_of(size_t size) {
+    unsigned char *got = mmap(NULL, size, PROT_READ | PROT_WRITE, MAP_PRIVATE | MAP_ANONYMOUS | MAP_NORESERVE, -1, 0);
+    return got == MAP_FAILED ? NULL : got;
+}
+
+static int is(const unsigned char *bytes, size_t length, int value) {
+    for (size_t i = 0; i < length; i++)
+        if (bytes[i] != value)
+            return 0;
+    return 1;
+}
+
+static int is_fault(struct exifnorm_fault fault, uint32_t cause, uint32_t place) {
+    return fault.cause == cause && fault.place == place;
+}
+
+/* ---- no bytes */
+
+static void try_no_bytes(void) {
+    unsigned char one = 0x1C, out = FILLER;
+    struct exifnorm_fault fault = {UNSET, UNSET};
+    uint32_t number = UNSET;
+    size_t written = UNSET;
+    DUE(exifnorm_check(&one, 0, &number, &fault) == EXIFNORM_REFUSED && is_fault(fault, EXIFNORM_CAUSE_UNKNOWN_KIND, 0));
+    for (int i = 0; i < 3; i++) {
+        fault.cause = UNSET;
+        DUE(texts[i](&one, 0, &out, 0, &written, &fault) == EXIFNORM_REFUSED && is_fault(fault, EXIFNORM_CAUSE_UNKNOWN_KIND, 0));
+        fault.cause = UNSET;
+        DUE(texts[i](caption, CAPTION, &out, 0, &written, &fault) == EXIFNORM_TOO_LITTLE_ROOM && written == caption_lengths[i]);
+        DUE(fault.cause == UNSET && out == FILLER);
+        written = UNSET;
+    }
+    DUE(exifnorm_compare(&one, 0, caption, CAPTION, &number, &fault) == EXIFNORM_REFUSED && number == UNSET);
+    DUE(exifnorm_compare(caption, CAPTION, &one, 0, &number, &fault) == EXIFNORM_SECOND_REFUSED && number == UNSET);
+    DUE(is_fault(fault, EXIFNORM_CAUSE_UNKNOWN_KIND, 0));
+    DUE(exifnorm_compare(&one, 0, &one, 0, &number, &fault) == EXIFNORM_REFUSED && number == UNSET);
+}
+
+/* ---- room below and above 64 MB */
+
+static void try_room(unsigned char *out, size_t room) {
+    for (int i = 0; i < 3; i++) {
+        struct exifnorm_fault fault = {UNSET, UNSET};
+        size_t written = UNSET, length = caption_lengths[i];
+        memset(out, FILLER, PAGE);
+        memset(out + room - PAGE, FILLER, PAGE);
+        DUE(texts[i](caption, CAPTION, out, room, &written, &fault) == EXIFNORM_DONE && written == length);
+        DUE(memcmp(out, caption_texts[i], length) == 0 && is(out + length, PAGE - length, FILLER) && is(out + room - PAGE, PAGE, FILLER));
+        DUE(is_fault(fault, UNSET, UNSET));
+    }
+}
+
+/* A block of as many bytes as there may be, whose captions have three times as many, and one byte more. */
+static void try_largest(unsigned char *out) {
+    unsigned char *block = room_of(LARGEST + 1);
+    struct exifnorm_fault fault = {UNSET, UNSET};
+    size_t written = UNSET;
+    uint32_t number = UNSET;
+    if (!block)
+        return;
+    memcpy(block, "\034\002\170\200\004\0\377\377\367", 9); /* a caption of 16,777,207 zeros */
+    DUE(exifnorm_check(block, LARGEST, &number, &fault) == EXIFNORM_DONE && number == EXIFNORM_IIM);
+    DUE(exifnorm_captions(block, LARGEST, out, MOST_ROOM, &written, &fault) == EXIFNORM_DONE && written == 36 + 3 * 16777207UL);
+    DUE(memcmp(out + written - 7, "\\00\\00\n", 7) == 0);
+    DUE(exifnorm_captions(block, LARGEST, out, written - 1, &written, &fault) == EXIFNORM_TOO_LITTLE_ROOM);
+    DUE(exifnorm_show(block, LARGEST, out, MOST_ROOM, &written, &fault) == EXIFNORM_DONE && written == 21 + 2 * 16777207UL);
+    DUE(exifnorm_normalise(block, LARGEST, out, LARGEST, &written, &fault) == EXIFNORM_DONE && written == LARGEST);
+    DUE(memcmp(out, block, LARGEST) == 0);
+    DUE(is_fault(fault, UNSET, UNSET));
+    DUE(exifnorm_check(block, LARGEST + 1, &number, &fault) == EXIFNORM_REFUSED && is_fault(fault, EXIFNORM_CAUSE_TOO_LONG, LARGEST));
+    DUE(exifnorm_normalise(block, LARGEST + 1, out, MOST_ROOM, &written, &fault) == EXIFNORM_REFUSED);
+    munmap(block, LARGEST + 1);
+}
+
+/* A block whose form is too long: RowsPerStrip of as many SHORTs as there is room for. */
+static void try_too_long(unsigned char *out) {
+    unsigned char *block = room_of(LARGEST);
+    struct exifnorm_fault fault = {UNSET, UNSET};
+    size_t written = UNSET;
+    uint32_t number = UNSET;
+    if (!block)
+        return;
+    memcpy(block, "MM\0\052\0\0\0\010\0\001\001\026\0\003\0\177\377\000\0\0\0\032\0\0\0\0", 26); /* 8,388,352 of them */
+    DUE(exifnorm_check(block, LARGEST, &number, &fault) == EXIFNORM_DONE && number == EXIFNORM_EXIF);
+    memset(out, FILLER, PAGE);
+    DUE(exifnorm_normalise(block, LARGEST, out, MOST_ROOM, &written, &fault) == EXIFNORM_TOO_LONG && written == UNSET && is(out, PAGE, FILLER));
+    DUE(exifnorm_normalise(block, LARGEST, out, 0, &written, &fault) == EXIFNORM_TOO_LONG && written == UNSET);
+    DUE(is_fault(fault, UNSET, UNSET));
+    DUE(exifnorm_compare(block, LARGEST, block, LARGEST, &number, &fault) == EXIFNORM_DONE && number == 1);
+    DUE(exifnorm_show(block, LARGEST, out, MOST_ROOM, &written, &fault) == EXIFNORM_DONE && written > 2 * 8388352UL);
+    munmap(block, LARGEST);
+}
+
+/* ---- names */
+
+static void try_name(uint32_t cause, const char *name) {
+    char out[64];
+    size_t length = strlen(name) + 1;
+    for (size_t room = 0; room <= sizeof out; room++) {
+        size_t written = UNSET;
+        memset(out, FILLER, sizeof out);
+        uint32_t status = exifnorm_cause_name(cause, out, room, &written);
+        DUE(status == (room < length ? EXIFNORM_TOO_LITTLE_ROOM : EXIFNORM_DONE) && written == length);
+        size_t put = room < length ? 0 : length;
+        DUE(memcmp(out, name, put) == 0 && is((unsigned char *)out + put, sizeof out - put, FILLER));
+    }
+}
+
+static void try_names(void) {
+    static const char *const names[] = {"", "TooLong", "UnknownKind", "HeaderCut", "Loop", "DirectoryOutside", "EmptyDirectory", "Overlap",
+        "Unsorted", "Doubled", "UnknownType", "MisplacedOffset", "PointerForm", "ValueOutside", "ThumbnailPair", "ExtraDirectory",
+        "ThumbnailOutside", "NoMarker", "LengthForm", "DataSetCut", ""};
+    for (uint32_t cause = 0; cause < sizeof names / sizeof *names; cause++) {
+        try_name(cause, names[cause]);
+        DUE(strlen(names[cause]) < EXIFNORM_NAME_ROOM);
+    }
+    try_name(0xFFFFFFFF, "");
+    try_name(0x80000007, "");
+}
+
+static void try_version(const char *version) {
+    char out[EXIFNORM_NAME_ROOM];
+    size_t length = strlen(version) + 1;
+    for (size_t room = 0; room <= sizeof out; room++) {
+        size_t written = UNSET;
+        memset(out, FILLER, sizeof out);
+        uint32_t status = exifnorm_version(out, room, &written);
+        DUE(status == (room < length ? EXIFNORM_TOO_LITTLE_ROOM : EXIFNORM_DONE) && written == length);
+        DUE(room < length ? is((unsigned char *)out, sizeof out, FILLER) : strcmp(out, version) == 0);
+    }
+}
+
+int main(int count, char **words) {
+    static const size_t rooms[] = {2 * PAGE, 67108863, 67108864, 67108865, 134217728, MOST_ROOM};
+    unsigned char *out = room_of(MOST_ROOM);
+    if (count != 2 || !out)
+        return 2;
+    try_no_bytes();
+    for (size_t i = 0; i < sizeof rooms / sizeof *rooms; i++)
+        try_room(out, rooms[i]);
+    try_largest(out);
+    try_too_long(out);
+    try_names();
+    try_version(words[1]);
+    printf("%lu checks\n", checks);
+    return failures ? 1 : 0;
+}

@@ -1,0 +1,125 @@
+/* A library in front of the built one, which RIGHT names: it counts the calls, and where it is asked to, answers otherwise.
+ *
+ *   STATUS=N    each call but those for names answers the status N, and does nothing
+ *   VERSION=V   the version is V
+ *   MEET=N      a check waits until so many threads are inside one at the same time, or 60 seconds
+ *               have passed
+ *
+ * A call with a pointer that is NULL, which exifnorm.h forbids, ends the process.
+ */
+#define _GNU_SOURCE
+#include <dlfcn.h>
+#include <exifnorm.h>
+#include <pthread.h>
+#include <stdlib.h>
+#include <string.h>
+#include <time.h>
+
+/* How often each call was made: check, normalise, compare, show, captions, cause_name, version. */
+unsigned long watched_calls[7];
+/* The room that the calls for texts were given: of the last one, and of all. */
+unsigned long watched_room, watched_rooms;
+/* The most threads that were inside a check at once. */
+unsigned long watched_inside;
+
+static void *right;
+static pthread_mutex_t lock = PTHREAD_MUTEX_INITIALIZER;
+static pthread_cond_t entered = PTHREAD_COND_INITIALIZER;
+static unsigned long inside;
+static int waited; /* in vain: the others wait no more */
+
+__attribute__((constructor)) static void open_right(void) {
+    right = dlopen(getenv("RIGHT"), RTLD_NOW | RTLD_LOCAL);
+    if (!right)
+        abort();
+}
+
+static void count(int call) {
+    __atomic_add_fetch(&watched_calls[call], 1, __ATOMIC_RELAXED);
+}
+
+static void need(const void *one, const void *two, const void *three, const void *four) {
+    if (!one || !two || !three || !four)
+        abort();
+}
+
+static int has_status(uint32_t *status) {
+    const char *asked = getenv("STATUS");
+    if (asked)
+        *status = (uint32_t)atoi(asked);
+    return asked != NULL;
+}
+
+/* Waits for the others. */
+static void meet(void) {
+    struct timespec until;
+    unsigned long most = getenv("MEET") ? strtoul(getenv("MEET"), NULL, 10) : 0;
+    if (most == 0)
+        return;
+    clock_gettime(CLOCK_REALTIME, &until);
+    until.tv_sec += 60;
+    pthread_mutex_lock(&lock);
+    inside++;
+    watched_inside = inside > watched_inside ? inside : watched_inside;
+    pthread_cond_broadcast(&entered);
+    while (watched_inside < most && !waited)
+        waited = pthread_cond_timedwait(&entered, &lock, &until) != 0;
+    inside--;
+    pthread_mutex_unlock(&lock);
+}
+
+uint32_t exifnorm_check(const unsigned char *block, size_t length, uint32_t *kind, struct exifnorm_fault *fault) {
+    uint32_t (*call)(const unsigned char *, size_t, uint32_t *, struct exifnorm_fault *);
+    uint32_t status;
+    count(0);
+    need(block, kind, fault, fault);
+    meet();
+    *(void **)&call = dlsym(right, "exifnorm_check");
+    return has_status(&status) ? status : call(block, length, kind, fault);
+}
+
+uint32_t exifnorm_compare(const unsigned char *first, size_t first_length, const unsigned char *second, size_t second_length,
+                          uint32_t *same, struct exifnorm_fault *fault) {
+    uint32_t (*call)(const unsigned char *, size_t, const unsigned char *, size_t, uint32_t *, struct exifnorm_fault *);
+    uint32_t status;
+    count(2);
+    need(first, second, same, fault);
+    *(void **)&call = dlsym(right, "exifnorm_compare");
+    return has_status(&status) ? status : call(first, first_length, second, second_length, same, fault);
+}
+
+#define TEXT(name, number) \
+    uint32_t name(const unsigned char *block, size_t length, unsigned char *out, size_t room, size_t *written, \
+                  struct exifnorm_fault *fault) { \
+        uint32_t (*call)(const unsigned char *, size_t, unsigned char *, size_t, size_t *, struct exifnorm_fault *); \
+        uint32_t status; \
+        count(number); \
+        need(block, out, written, fault); \
+        watched_room = room; \
+        watched_rooms += room; \
+        *(void **)&call = dlsym(right, #name); \
+        return has_status(&status) ? status : call(block, length, out, room, written, fault); \
+    }
+
+TEXT(exifnorm_normalise, 1)
+TEXT(exifnorm_show, 3)
+TEXT(exifnorm_captions, 4)
+
+uint32_t exifnorm_cause_name(uint32_t cause, char *out, size_t room, size_t *written) {
+    uint32_t (*call)(uint32_t, char *, size_t, size_t *);
+    count(5);
+    *(void **)&call = dlsym(right, "exifnorm_cause_name");
+    return call(cause, out, room, written);
+}
+
+uint32_t exifnorm_version(char *out, size_t room, size_t *written) {
+    const char *version = getenv("VERSION");
+    uint32_t (*call)(char *, size_t, size_t *);
+    count(6);
+    *(void **)&call = dlsym(right, "exifnorm_version");
+    if (!version)
+        return call(out, room, written);
+    *written = strlen(version) + 1;
+    memcpy(out, version, *written);
+    return EXIFNORM_DONE;
+}

@@ -1,0 +1,30 @@
+/* Changes what the system says of an open file, so that a test sees what the program makes of it.
+ *
+ * Compiled as a shared library and preloaded. ODD_FILES says what each call of statx answers: `fails`, an error of the device;
+ * `inode`, inode 1 of every file, on devices numbered one after the other; `device`, device 1 for every file, with inodes so numbered.
+ */
+#define _GNU_SOURCE
+#include <dlfcn.h>
+#include <errno.h>
+#include <stdlib.h>
+#include <string.h>
+#include <sys/stat.h>
+
+typedef int Statx(int, const char *, int, unsigned, struct statx *);
+
+int statx(int folder, const char *name, int flags, unsigned mask, struct statx *it) {
+    static unsigned calls;
+    const char *how = getenv("ODD_FILES");
+    if (how && !strcmp(how, "fails")) {
+        errno = EIO;
+        return -1;
+    }
+    int status = ((Statx *)dlsym(RTLD_NEXT, "statx"))(folder, name, flags, mask, it);
+    if (status == 0 && how) {
+        int same_inode = !strcmp(how, "inode");
+        it->stx_ino = same_inode ? 1 : ++calls;
+        it->stx_dev_major = 0;
+        it->stx_dev_minor = same_inode ? ++calls : 1;
+    }
+    return status;
+}
