@@ -4,3 +4,4 @@ pub mod Watching
 pub mod Grown
 pub mod Writing
 pub mod Marked
+pub mod Spaces

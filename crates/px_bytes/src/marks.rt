@@ -56,8 +56,8 @@ fn are_words_clear(words: &[u64], from: usize, to: usize) -> bool
     true
 }
 
-// Whether no place from `start` up to `end` is marked. It looks at each word that has one of these places.
-fn are_clear(words: &[u64], start: usize, end: usize) -> bool
+/// Whether no place from `start` up to `end` is marked. It looks at each word that has one of these places.
+pub fn are_clear(words: &[u64], start: usize, end: usize) -> bool
     requires { start < end }
     ensures clear { result ≡ true → IsClear words.now start end }
     ensures marked { result ≡ false → HasOne words.now start end }

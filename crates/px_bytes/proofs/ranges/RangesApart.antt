@@ -21,7 +21,7 @@ free_clear held words start end m clear s e holds = elim (cases_lt (max s start)
   | inr l ↦ l
 ]
 
-taken_marked : (held : List (ℕ × ℕ)) (words : List ℕ) (start end : ℕ) → Marked held words → HasOne words start end
+pub taken_marked : (held : List (ℕ × ℕ)) (words : List ℕ) (start end : ℕ) → Marked held words → HasOne words start end
     → IsTaken held start end
 taken_marked held words start end m one =
     let owner = m.owned one.0 one.3 in

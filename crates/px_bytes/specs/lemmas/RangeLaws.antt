@@ -15,7 +15,7 @@ gap_from_test s n t m h =
       | inr l ↦ l
     ]
 
-test_from_gap : (s n t m : ℕ) → min (s + n) (t + m) ≤ max s t → not (shares (range s n) (range t m)) ≡ true
+pub test_from_gap : (s n t m : ℕ) → min (s + n) (t + m) ≤ max s t → not (shares (range s n) (range t m)) ≡ true
 test_from_gap s n t m l = not_from_false _ (false_from_ne_true (shares (range s n) (range t m)) (λ e.
     let h = and_parts (nat_lt 0 n && nat_lt 0 m && nat_lt s (t + m)) (nat_lt t (s + n)) e in
     let g = and_parts (nat_lt 0 n && nat_lt 0 m) (nat_lt s (t + m)) h.0 in
