@@ -11,3 +11,5 @@ pub mod Named
 pub mod Earlier
 pub mod Parted
 pub mod StripRanges
+pub mod Rising
+pub mod StripBytes

@@ -8,3 +8,4 @@ pub mod Linked
 pub mod ReadTree
 pub mod Parts
 pub mod Used
+pub mod Strips

@@ -1,25 +1,32 @@
 // The strips of a thumbnail.
-ghost use Rattle.std.specs.Prelude.{◌≡◌, ◌<◌, ◌≤◌, [], ◌∷◌, ◌++◌, length, slice_get, Some, IfOk, OnOk, OnErr, IsTrue, ◌↔◌};
+ghost use Rattle.std.specs.Prelude.{◌≡◌, ◌<◌, [], ◌∷◌, ◌++◌, length, slice_get, Some, OnOk, OnErr, IsTrue, ◌↔◌};
 ghost use Rattle.px_bytes.specs.Lacking.{Lacks};
-ghost use Rattle.px_bytes.specs.Parts.{limit};
+ghost use Rattle.px_tree.specs.calls.Strips.{AreNamed, named_strips};
 
+use crate::strip_lists::{StripLists, strip_at};
 use px_bytes::{Memory, Refused};
 use std::alloc::{AllocError, Global};
 use std::marker::Model;
 
 /// The strips of an uncompressed thumbnail, in the order of the list that names them: slices of the
-/// block that was read. TIFF 6.0 section 8, "StripOffsets" and "StripByteCounts".
+/// block that was read. TIFF 6.0 section 8, "StripOffsets" and "StripByteCounts". Those that were read
+/// take no memory: the block has their lists.
 #[derive(Drop)]
 pub struct Strips<'a> {
+    // Those that a block names, and behind them those that were pushed.
+    named: Option<StripLists<'a>>,
     list: Vec<&'a [u8]>,
 }
 
 impl<'a> Model for Strips<'a> {
-    ghost use Rattle.std.specs.Prelude.{List, ℕ, map};
+    ghost use Rattle.std.specs.Prelude.{List, ℕ, ◌++◌, map, IfSome};
+    ghost use Rattle.px_tree.specs.calls.Strips.{AreNamed, named_strips};
 
     ghost Value = { List (List ℕ) };
 
-    ghost view = { λ s. map (λ x. x.now) s.list.items };
+    ghost view = { λ s. named_strips s.named ++ map (λ x. x.now) s.list.items };
+
+    ghost invariant = { λ s. IfSome s.named AreNamed };
 }
 
 impl<'a> Strips<'a> {
@@ -35,6 +42,18 @@ impl<'a> Strips<'a> {
         ensures { result ≡ [] }
     {
         Strips {
+            named: None,
+            list: memory.list(),
+        }
+    }
+
+    // The strips that a block names. Takes no memory.
+    pub(crate) fn of_lists(memory: &Memory, lists: StripLists<'a>) -> Strips<'a>
+        requires { AreNamed lists }
+        ensures { result ≡ named_strips (Some lists.entry) }
+    {
+        Strips {
+            named: Some(lists),
             list: memory.list(),
         }
     }
@@ -59,29 +78,21 @@ impl<'a> Strips<'a> {
         Ok(())
     }
 
-    // No strips, with room for so many.
-    pub(crate) fn with_room(memory: &mut Memory, count: u32) -> Result<Strips<'a>, Refused>
-        requires { count ≤ limit }
-        ensures none { IfOk result (λ s. s ≡ []) }
-        ensures memory { Lacks result memory.old memory.new }
-    {
-        let mut list = memory.list();
-        memory.reserve(&mut list, count as usize)?;
-        Ok(Strips { list })
-    }
-
     /// How many strips there are. Takes no memory.
     pub fn len(&self) -> usize
         ensures { result ≡ length self.now }
     {
-        self.list.len()
+        let Some(lists) = &self.named else {
+            return self.list.len();
+        };
+        lists.starts.count() as usize + self.list.len()
     }
 
     /// Whether there are none. Takes no memory.
     pub fn is_empty(&self) -> bool
         ensures { IsTrue result ↔ (self.now ≡ []) }
     {
-        self.list.is_empty()
+        self.len() == 0
     }
 
     /// The bytes of the strip at `i`, counted from 0; `i` is below `len`. Takes no memory.
@@ -89,6 +100,13 @@ impl<'a> Strips<'a> {
         requires { i < length self.now }
         ensures { slice_get self.now i ≡ Some result.now }
     {
-        self.list[i]
+        let Some(lists) = &self.named else {
+            return self.list[i];
+        };
+        let count = lists.starts.count();
+        if i < count as usize {
+            return strip_at(lists, i as u32);
+        }
+        self.list[i - count as usize]
     }
 }

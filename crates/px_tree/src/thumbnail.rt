@@ -1,13 +1,14 @@
 // The thumbnail's bytes: a JPEG, or strips. CIPA DC-008 4.5.5; TIFF 6.0 section 8, "StripOffsets" and
 // "StripByteCounts".
-ghost use Rattle.std.specs.Prelude.{◌≡◌, ◌≤◌, ◌<◌, ◌+◌, ◌++◌, ◌⊎◌, List, [], ◌∷◌, length, map, nat_le, slice_get, Some, IfOk, IfSome};
+ghost use Rattle.std.specs.Prelude.{◌≡◌, ◌≤◌, ◌<◌, ◌+◌, ◌++◌, ◌⊎◌, List, [], ◌∷◌, length, map, nat_le, Some, IfOk, IfSome, OnOk};
+ghost use Rattle.std.specs.List.{AllByRecursion};
 ghost use Rattle.std.specs.Prelude.{option_map, option_to_list, ⊤};
 ghost use Rattle.px_bytes.specs.declared.Cause.TheVariants.{Overlap, ThumbnailOutside};
 ghost use Rattle.px_bytes.specs.Parts.{limit, part};
 ghost use Rattle.px_bytes.specs.Range.{Range, range, is_free, Agrees};
 ghost use Rattle.px_bytes.specs.Checks.{ContentOnly, LacksBlock, Judges, check};
 ghost use Rattle.px_field.specs.Forms.{form_of};
-ghost use Rattle.px_tree.specs.Thumbnail.{whole_number, numbers, ranges_of, bytes_of};
+ghost use Rattle.px_tree.specs.Thumbnail.{whole_number, numbers, bytes_of, IsInside};
 ghost use Rattle.px_tree.specs.Footprint.{listed};
 ghost use Rattle.px_tree.specs.Says.{thumbnail};
 ghost use Rattle.px_tree.specs.calls.Seen.{thumb_of};
@@ -15,17 +16,20 @@ ghost use Rattle.px_tree.specs.Checks.{end_checks, range_checks, thumb_checks, t
 ghost use Rattle.px_tree.specs.calls.Reading.{HasTable};
 ghost use Rattle.px_tree.specs.calls.Parts.{HasNumbers, HaveNumbers, AreEven, entry_here, place_in, pair_check, count_check, pairs_checks};
 ghost use Rattle.px_tree.specs.calls.Parts.{jpeg_of, strips_of, IsReadThumb};
+ghost use Rattle.px_tree.specs.calls.Strips.{ranges_in};
 
 use crate::entry_values::value_at;
 use crate::holding::hold;
 use crate::links::{Found, next_link};
 use crate::meanings::Thumb;
 use crate::parts::part_of;
+use crate::rising::rising_span;
+use crate::strip_lists::{StripLists, number_in};
 use crate::strips::Strips;
 use crate::tables::Directory;
 use crate::uses::Uses;
 use px_bytes::{Cause, Memory, Order, Ranges, Refusal};
-use px_field::{Element, Form, Value};
+use px_field::{Form, Value};
 
 // One of a pair is not there without the other.
 fn judge_pair(first: Option<Found>, second: Option<Found>) -> Result<(), Refusal>
@@ -86,29 +90,27 @@ struct Extent {
 }
 
 // Holds a part of the block that is named at a place.
-fn hold_part<'a>(
+fn claim(
     memory: &mut Memory,
-    block: &'a [u8],
+    block: &[u8],
     held: &mut Ranges,
     place: u32,
     extent: Extent,
-) -> Result<&'a [u8], Refusal>
+) -> Result<(), Refusal>
     requires { length block.now ≤ limit }
     ensures judged { let start = extent.start in let len = extent.len in
         (taken : List Range) → Agrees taken held.old →
         Judges result (check ThumbnailOutside place (nat_le (start + len) (length block.now))
         ∷ check Overlap place (is_free taken (range start len)) ∷ [])
         (λ _. Agrees (range start len ∷ taken) held.new) }
-    ensures part { IfOk result
-        (λ s. s.now ≡ bytes_of block.now (range extent.start extent.len)) }
+    ensures inside { OnOk result (extent.start + extent.len ≤ length block.now) }
     ensures memory { LacksBlock result memory.old memory.new }
 {
     let Extent { start, len } = extent;
     if u64::from(start) + u64::from(len) > block.len() as u64 {
         return Err(Cause::ThumbnailOutside.at(place));
     }
-    hold(memory, held, place, start, len)?;
-    Ok(part_of(block, start, len))
+    hold(memory, held, place, start, len)
 }
 
 // The JPEG, held, where both of its entries are there.
@@ -133,8 +135,8 @@ fn hold_jpeg<'a>(
                 start: offset.head.offset,
                 len: size.head.offset,
             };
-            let jpeg = hold_part(memory, block, held, offset.place, extent)?;
-            Ok(Some(jpeg))
+            claim(memory, block, held, offset.place, extent)?;
+            Ok(Some(part_of(block, extent.start, extent.len)))
         }
         _ => Ok(None),
     }
@@ -166,64 +168,54 @@ fn numbers_at<'a>(block: &'a [u8], order: Order, found: Found) -> Value<'a>
     )
 }
 
-// The number of a SHORT or a LONG.
-fn number_of(element: Element) -> u32
-    ensures { result ≡ whole_number element }
-{
-    match element {
-        Element::Short(n) => u32::from(n),
-        Element::Long(n) => n,
-        _ => 0,
-    }
-}
-
-// A number of a list.
-fn number_in(list: &Value, i: u32) -> u32
-    requires { i < length list.now.elements }
-    ensures { slice_get (map whole_number list.now.elements) i ≡ Some result }
-{
-    number_of(list.element(i))
-}
-
-// Where strips start and how long they are, and the place that names them.
-#[derive(Drop)]
-struct StripLists<'a> {
-    place: u32,
-    starts: Value<'a>,
-    sizes: Value<'a>,
-}
-
-// The strips of those starts and sizes, held.
-fn hold_each<'a>(
+// Holds each strip of these lists.
+fn claim_each(
     memory: &mut Memory,
-    block: &'a [u8],
     held: &mut Ranges,
+    place: u32,
     lists: &StripLists,
-) -> Result<Strips<'a>, Refusal>
-    requires bounded { length block.now ≤ limit }
+) -> Result<(), Refusal>
+    requires bounded { length lists.now.block.now ≤ limit }
     requires same { length lists.now.starts.elements ≡ length lists.now.sizes.elements }
-    ensures judged { let rs = ranges_of (map whole_number lists.now.starts.elements)
-        (map whole_number lists.now.sizes.elements) in
-        (taken : List Range) → Agrees taken held.old →
-        Judges result (range_checks block.now lists.now.place taken rs)
-        (λ s. s ≡ map (bytes_of block.now) rs) }
+    ensures judged { (taken : List Range) → Agrees taken held.old →
+        Judges result (range_checks lists.now.block.now place taken (ranges_in lists.now)) (λ _. ⊤) }
+    ensures inside { OnOk result (AllByRecursion (IsInside lists.now.block.now) (ranges_in lists.now)) }
     ensures memory { LacksBlock result memory.old memory.new }
 {
-    let count = lists.starts.count();
-    let mut strips = Strips::with_room(memory, count)?;
-    for i in 0..count {
+    for i in 0..lists.starts.count() {
         let extent = Extent {
             start: number_in(&lists.starts, i),
             len: number_in(&lists.sizes, i),
         };
-        let strip = hold_part(memory, block, held, lists.place, extent)?;
-        strips.push_in(memory, strip)?;
+        claim(memory, lists.block, held, place, extent)?;
     }
-    Ok(strips)
+    Ok(())
 }
 
-// The strips, held, where both of their lists are there.
-fn hold_strips<'a>(
+// Judges the strips of these lists. Where they rise and nothing before has a byte of them, none has to be held.
+fn judge_strips(
+    memory: &mut Memory,
+    held: &mut Ranges,
+    place: u32,
+    lists: &StripLists,
+) -> Result<(), Refusal>
+    requires bounded { length lists.now.block.now ≤ limit }
+    requires same { length lists.now.starts.elements ≡ length lists.now.sizes.elements }
+    ensures judged { (taken : List Range) → Agrees taken held.old →
+        Judges result (range_checks lists.now.block.now place taken (ranges_in lists.now)) (λ _. ⊤) }
+    ensures inside { OnOk result (AllByRecursion (IsInside lists.now.block.now) (ranges_in lists.now)) }
+    ensures memory { LacksBlock result memory.old memory.new }
+{
+    if let Some(span) = rising_span(lists) {
+        if held.are_free(span.start, span.end) {
+            return Ok(());
+        }
+    }
+    claim_each(memory, held, place, lists)
+}
+
+// The strips, where both of their lists are there. Nothing is held behind them.
+fn read_strips<'a>(
     memory: &mut Memory,
     block: &'a [u8],
     order: Order,
@@ -242,12 +234,12 @@ fn hold_strips<'a>(
     match (parts.strip_offsets, parts.strip_lengths) {
         (Some(offsets), Some(lengths)) => {
             let lists = StripLists {
-                place: offsets.place,
+                block,
                 starts: numbers_at(block, order, offsets),
                 sizes: numbers_at(block, order, lengths),
             };
-            let strips = hold_each(memory, block, held, &lists)?;
-            Ok(Some(strips))
+            judge_strips(memory, held, offsets.place, &lists)?;
+            Ok(Some(Strips::of_lists(memory, lists)))
         }
         _ => Ok(None),
     }
@@ -277,7 +269,7 @@ pub fn read_thumbnail<'a>(
     judge_pairs(parts)?;
     judge_end(block, order, at, count)?;
     let jpeg = hold_jpeg(memory, block, held, parts)?;
-    let strips = hold_strips(memory, block, order, held, parts)?;
+    let strips = read_strips(memory, block, order, held, parts)?;
     Ok(Thumb {
         fields,
         jpeg,

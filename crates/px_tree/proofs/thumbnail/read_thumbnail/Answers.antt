@@ -10,8 +10,8 @@ use Rattle.px_tree.proofs.reading.Parted.{strips-is}
 use Rattle.px_tree.proofs.saying.Assembled.{thumbnail-is}
 use Rattle.px_tree.proofs.thumbnail.read_thumbnail.Goals as goal
 
-pub hold_strips-requires-clause-numbers : goal.hold_strips-requires-clause-numbers
-hold_strips-requires-clause-numbers c =
+pub read_strips-requires-clause-numbers : goal.read_strips-requires-clause-numbers
+read_strips-requires-clause-numbers c =
     let b = c.args.block.now in
     let o = c.args.order in
     let found = c.requires.read.uses in
@@ -22,8 +22,8 @@ hold_strips-requires-clause-numbers c =
           found.strip_lengths,
     )
 
-pub hold_strips-requires-clause-even : goal.hold_strips-requires-clause-even
-hold_strips-requires-clause-even c = even_parts c.args.directory.uses c.in_ok-judge_pairs.ensures.judged.0
+pub read_strips-requires-clause-even : goal.read_strips-requires-clause-even
+read_strips-requires-clause-even c = even_parts c.args.directory.uses c.in_ok-judge_pairs.ensures.judged.0
 
 pub returns-in_err-judge_pairs-clause-judged : goal.returns-in_err-judge_pairs-clause-judged
 returns-in_err-judge_pairs-clause-judged c = λ taken a.

@@ -1,0 +1,18 @@
+use Rattle.std.proofs.Common.{◌≡◌, List, map, drop}
+use Rattle.std.specs.List.{AllByRecursion}
+use Rattle.px_bytes.specs.Range.{Range, Agrees}
+use Rattle.px_tree.specs.Thumbnail.{whole_number, ranges_of, IsInside}
+use Rattle.px_tree.specs.calls.Strips.{ranges_in}
+use Rattle.px_tree.proofs.reading.StripRanges.{RangesSoFar}
+use Rattle.px_tree.proofs.thumbnail.claim_each.Given as goal
+
+abbrev pub invariant-loop-i : goal.invariant-loop-i
+invariant-loop-i l = record {
+  judged : (taken : List Range) → Agrees taken l.initial.held
+      → RangesSoFar l.lists.block.now l.place taken (ranges_in l.lists) l.held
+      (ranges_of (drop l.i (map whole_number l.lists.starts.elements)) (drop l.i (map whole_number l.lists.sizes.elements)));
+  inside : AllByRecursion (IsInside l.lists.block.now)
+      (ranges_of (drop l.i (map whole_number l.lists.starts.elements)) (drop l.i (map whole_number l.lists.sizes.elements)))
+      → AllByRecursion (IsInside l.lists.block.now) (ranges_in l.lists);
+  memory : l.memory ≡ l.initial.memory;
+}

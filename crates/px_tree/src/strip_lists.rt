@@ -1,0 +1,45 @@
+// Where the strips of a thumbnail start, and how long they are. TIFF 6.0 section 8, "StripOffsets" and "StripByteCounts".
+ghost use Rattle.std.specs.Prelude.{◌≡◌, ◌<◌, length, map, slice_get, Some};
+ghost use Rattle.px_tree.specs.Thumbnail.{whole_number};
+ghost use Rattle.px_tree.specs.calls.Strips.{AreNamed, named_strips};
+
+use crate::parts::part_of;
+use px_field::{Element, Value};
+
+// The two lists of numbers that name the strips, and the block that has these.
+#[derive(Drop)]
+pub struct StripLists<'a> {
+    pub block: &'a [u8],
+    pub starts: Value<'a>,
+    pub sizes: Value<'a>,
+}
+
+// The number of a SHORT or a LONG.
+fn number_of(element: Element) -> u32
+    ensures { result ≡ whole_number element }
+{
+    match element {
+        Element::Short(n) => u32::from(n),
+        Element::Long(n) => n,
+        _ => 0,
+    }
+}
+
+// A number of a list.
+pub fn number_in(list: &Value, i: u32) -> u32
+    requires { i < length list.now.elements }
+    ensures { slice_get (map whole_number list.now.elements) i ≡ Some result }
+{
+    number_of(list.element(i))
+}
+
+// The bytes of the strip at `i`, counted from 0.
+pub fn strip_at<'a>(lists: &StripLists<'a>, i: u32) -> &'a [u8]
+    requires named { AreNamed lists.now }
+    requires there { i < length lists.now.starts.elements }
+    ensures { slice_get (named_strips (Some lists.now)) i ≡ Some result.now }
+{
+    let start = number_in(&lists.starts, i);
+    let len = number_in(&lists.sizes, i);
+    part_of(lists.block, start, len)
+}
