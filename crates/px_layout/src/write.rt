@@ -49,9 +49,10 @@ pub fn write_normal_in<W: Sink>(m: &Meaning, writer: &mut W) -> Result<u64, Writ
     ensures untouched { IfErr result (λ e. e ≡ NormalTooLong → writer.new ≡ writer.old) }
 {
     let form = NormalForm::new(m)?;
-    let mut pending = Pending::expecting(form.len());
+    let len = form.len();
+    let mut pending = Pending::expecting(len);
     put_normal(&mut pending, writer, &form)?;
     pending.send(writer)?;
     writer.flush_all()?;
-    Ok(form.len())
+    Ok(len)
 }

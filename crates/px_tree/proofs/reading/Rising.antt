@@ -36,7 +36,8 @@ free_between taken held low high a f s n l h = a.all_free s n (λ t e holds.
     omega arith)
 
 -- and those behind r stay free once r is taken
-free_behind : (now : List Range) (low high : ℕ) (r : Range) → AreFree now low high → low ≤ r.start → AreFree (r ∷ now) (r.start + r.size) high
+free_behind : (now : List Range) (low high : ℕ) (r : Range) → AreFree now low high → low ≤ r.start
+    → AreFree (r ∷ now) (r.start + r.size) high
 free_behind now low high r f l s n k h =
     and_from (not (shares (range s n) r)) (is_free now (range s n)) (test_from_gap s n r.start r.size (omega arith))
     (f s n (omega arith) h)
