@@ -1,8 +1,11 @@
 -- Steps of reading.
 pub mod Octets
 pub mod Order
-pub mod Lists
-pub mod Places
-pub mod Records
 pub mod Steps
-pub mod Rising
+pub mod Runs
+pub mod Sorted
+pub mod RunSteps
+pub mod Parts
+pub mod Walked
+pub mod Filled
+pub mod Refusals

@@ -5,9 +5,10 @@ ghost use Rattle.px_bytes.specs.Checks.{first_false};
 ghost use Rattle.px_bytes.specs.Numbers.{number};
 ghost use Rattle.px_iim.specs.Record.{form, extra, count, size, is_marked, has_form, is_end};
 ghost use Rattle.px_iim.specs.Check.{dataset_checks};
-ghost use Rattle.px_iim.specs.calls.Reading.{Reads};
+ghost use Rattle.px_bytes.specs.Parts.{limit};
+ghost use Rattle.px_iim.specs.calls.Reading.{Reads, JudgesAt};
 
-use px_bytes::{Cause, Order};
+use px_bytes::{Cause, Order, Refusal};
 
 /// The tag marker with which each DataSet begins.
 pub(crate) const MARKER: u8 = 0x1C;
@@ -130,4 +131,16 @@ pub(crate) fn is_end(octets: &[u8]) -> bool
     ensures { result ≡ is_end octets.now }
 {
     octets.len() <= 3 && octets.iter().all(|octet| *octet == 0)
+}
+
+// The DataSet at a place, or the refusal of it.
+pub(crate) fn dataset_at<'a>(bytes: &'a [u8], at: usize) -> Result<Found<'a>, Refusal>
+    requires inside { at ≤ length bytes.now }
+    requires bounded { length bytes.now ≤ limit }
+    ensures { JudgesAt result bytes.now at }
+{
+    match read_dataset(rest(bytes, at)) {
+        Ok(found) => Ok(found),
+        Err(cause) => Err(cause.at(at as u32)),
+    }
 }

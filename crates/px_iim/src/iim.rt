@@ -1,15 +1,16 @@
-// A record: its groups, and what they hold.
-ghost use Rattle.std.specs.Prelude.{◌≡◌, ◌==◌, ◌<◌, ◌≤◌, [], length, map, slice_get, Some, vec_len, OnOk, OnErr};
+// A record: its DataSets in the order of their groups.
+ghost use Rattle.std.specs.Prelude.{◌≡◌, ◌==◌, ◌<◌, ◌≤◌, ◌*◌, ℕ, [], length, map, slice_get, Some, IfOk, OnOk, OnErr};
 ghost use Rattle.px_bytes.specs.Lacking.{Lacks};
 ghost use Rattle.px_bytes.specs.Parts.{limit};
 ghost use Rattle.px_iim.specs.Group.{named, put, items_at, AreGroups};
 ghost use Rattle.px_iim.specs.Record.{normal_iim};
-ghost use Rattle.px_iim.specs.calls.View.{item_view, records_view, part_view, octets_left, octets_of, AreInPlace};
+ghost use Rattle.px_iim.specs.calls.Runs.{runs, InOrder, AreNumbers};
+ghost use Rattle.px_iim.specs.calls.View.{dataset_view, item_view, part_view, octets_left, octets_of};
 ghost use Rattle.px_iim.specs.Writing.{within};
 
-use crate::group::{All, Group, Item, add, items_of, named};
+use crate::group::{All, Item, key_of, make_room, make_room_for};
 use crate::length::longer;
-use crate::quarters::{list_of, record_of};
+use crate::places::{count_before, place_behind};
 use crate::walk::Groups;
 use px_bytes::{Memory, Refused};
 use std::alloc::{AllocError, Global};
@@ -18,56 +19,34 @@ use std::marker::Model;
 /// What an IIM block says: a map from group to a list of DataSets, of which none is empty. Contracts
 /// see it as the list of its groups in ascending order of record, then number. The data are borrowed.
 ///
-/// The groups of one record number stand in four lists, each with a quarter of the numbers, so a DataSet finds
-/// its group by halving at most 64 groups and moves at most 63, whatever the order in which groups come. There
-/// are at most 1,024 lists. The length of the normal form is kept.
+/// All DataSets stand in one list, in the order of their groups, so a group is a part of that list, which is
+/// found by halving. One takes 24 bytes beside its data, and there is no other list. The length of the normal
+/// form is kept.
 #[derive(Drop)]
 pub struct Iim<'a> {
     // For `push`, whose refusals no one else is told.
     own: Memory,
-    // The groups of each list, as `list_of` tells it.
-    records: Vec<Vec<Group<'a>>>,
-    none: Vec<Item<'a>>,
+    // In ascending order of their groups; those of a group in its order.
+    items: Vec<Item<'a>>,
     // The length of the normal form, counted up to twice LIMIT.
     form_len: Option<u32>,
-    // Where the group of the last DataSet stands, in its list. It only saves time: any place will do.
-    near: usize,
 }
 
 impl<'a> Model for Iim<'a> {
-    ghost use Rattle.std.specs.Prelude.{◌≡◌, ◌≤◌, [], length, vec_len};
+    ghost use Rattle.std.specs.Prelude.{◌≡◌, length, map};
     ghost use Rattle.px_iim.specs.Group.{Record, AreGroups};
     ghost use Rattle.px_iim.specs.Record.{normal_iim};
-    ghost use Rattle.px_iim.specs.calls.View.{records_view, AreInPlace};
+    ghost use Rattle.px_iim.specs.calls.Runs.{runs, InOrder, AreNumbers};
+    ghost use Rattle.px_iim.specs.calls.View.{dataset_view};
     ghost use Rattle.px_iim.specs.Writing.{within};
 
     ghost Value = { Record };
 
-    ghost view = { λ i. records_view 0 i.records.items };
+    ghost view = { λ i. runs (map dataset_view i.items.items) };
 
-    ghost invariant = { λ i. (i.none.items ≡ []) × (vec_len i.records ≤ 1024) × AreGroups (records_view 0 i.records.items)
-        × (i.form_len ≡ within (length (normal_iim (records_view 0 i.records.items)))) × AreInPlace 0 i.records.items };
-}
-
-// Makes sure that there is a list of this place.
-fn reach<'a>(
-    memory: &mut Memory,
-    records: &mut Vec<Vec<Group<'a>>>,
-    list: usize,
-) -> Result<(), Refused>
-    requires most { list < 1024 }
-    requires few { vec_len records.old ≤ 1024 }
-    ensures same { records_view 0 records.new.items ≡ records_view 0 records.old.items }
-    ensures placed { AreInPlace 0 records.old.items → AreInPlace 0 records.new.items }
-    ensures there { OnOk result (list < vec_len records.new) }
-    ensures bounded { vec_len records.new ≤ 1024 }
-    ensures memory { Lacks result memory.old memory.new }
-{
-    while records.len() <= list {
-        let none = memory.list();
-        memory.push(records, none)?;
-    }
-    Ok(())
+    ghost invariant = { λ i. InOrder (map dataset_view i.items.items) × AreNumbers (map dataset_view i.items.items)
+        × AreGroups (runs (map dataset_view i.items.items))
+        × (i.form_len ≡ within (length (normal_iim (runs (map dataset_view i.items.items))))) };
 }
 
 impl<'a> Iim<'a> {
@@ -84,15 +63,39 @@ impl<'a> Iim<'a> {
     {
         Iim {
             own: memory.fresh(),
-            records: memory.list(),
-            none: memory.list(),
+            items: memory.list(),
             form_len: Some(0),
-            near: 0,
         }
     }
 
+    // A record without a DataSet, with room for so many.
+    pub(crate) fn with_room(memory: &mut Memory, count: usize) -> Result<Iim<'a>, Refused>
+        requires { 5 * count ≤ limit }
+        ensures none { IfOk result (λ i. i ≡ []) }
+        ensures memory { Lacks result memory.old memory.new }
+    {
+        let mut record = Iim::new_in(memory);
+        make_room_for(memory, &mut record.items, count)?;
+        Ok(record)
+    }
+
+    // The record of DataSets that are in order, with the length of its normal form.
+    pub(crate) fn of_items(memory: &Memory, items: Vec<Item<'a>>, form_len: Option<u32>) -> Iim<'a>
+        requires order { InOrder (map dataset_view items.items) }
+        requires numbers { AreNumbers (map dataset_view items.items) }
+        requires whole { AreGroups (runs (map dataset_view items.items)) }
+        requires counted { form_len ≡ within (length (normal_iim (runs (map dataset_view items.items)))) }
+        ensures { result ≡ runs (map dataset_view items.entry.items) }
+    {
+        let mut record = Iim::new_in(memory);
+        record.items = items;
+        record.form_len = form_len;
+        record
+    }
+
     /// Puts a DataSet, of any record number and number and at most `LIMIT` octets of data, at the end of
-    /// its group. It takes memory for it; where that is refused, nothing changes.
+    /// its group. It takes memory for it; where that is refused, nothing changes. One that belongs before
+    /// others moves these.
     pub fn push(&mut self, rec: u8, number: u8, octets: &'a [u8]) -> Result<(), AllocError>
         requires { length octets.now ≤ limit }
         ensures done { OnOk result (self.new ≡ put (record { rec = rec; number = number; octets = octets.now }) self.old) }
@@ -117,12 +120,14 @@ impl<'a> Iim<'a> {
         ensures failed { OnErr result (self.new ≡ self.old) }
         ensures memory { Lacks result memory.old memory.new }
     {
-        let name = named(rec, number);
-        let list = list_of(rec, name);
-        reach(memory, &mut self.records, list)?;
-        let groups = &mut self.records[list];
-        let item = Item { number, octets };
-        self.near = add(memory, groups, name, item, self.near)?;
+        let at = place_behind(&self.items, key_of(rec, number));
+        let item = Item {
+            rec,
+            number,
+            octets,
+        };
+        make_room(memory, &mut self.items)?;
+        memory.insert(&mut self.items, at, item)?;
         self.form_len = longer(self.form_len, &item);
         Ok(())
     }
@@ -131,17 +136,17 @@ impl<'a> Iim<'a> {
     pub fn is_empty(&self) -> bool
         ensures { result ≡ (length self.now == 0) }
     {
-        self.groups() == 0
+        self.items.is_empty()
     }
 
-    /// How many groups there are, at most 65,536. It takes no memory.
+    /// How many groups there are, at most 65,536. It takes no memory, and passes all DataSets.
     pub fn groups(&self) -> u32
         ensures count { result ≡ length self.now }
         ensures whole { AreGroups self.now }
     {
         let mut count = 0;
-        for groups in &self.records {
-            count += groups.len() as u32;
+        for _ in self.iter() {
+            count += 1;
         }
         count
     }
@@ -153,8 +158,7 @@ impl<'a> Iim<'a> {
         ensures whole { AreGroups self.now }
     {
         Groups {
-            lists: self.records.as_slice(),
-            list: 0,
+            items: self.items.as_slice(),
             at: 0,
         }
     }
@@ -171,15 +175,10 @@ impl<'a> Iim<'a> {
     pub fn group(&self, rec: u8, number: u8) -> &[Item<'a>]
         ensures { map item_view result.now ≡ items_at rec (named rec number) self.now }
     {
-        let name = named(rec, number);
-        let list = list_of(rec, name);
-        if list >= self.records.len() {
-            return self.none.as_slice();
-        }
-        if let Some(items) = items_of(&self.records[list], name) {
-            return items;
-        }
-        self.none.as_slice()
+        let key = key_of(rec, number);
+        let items = self.items.as_slice();
+        let behind = items.split_at(count_before(items, key)).1;
+        behind.split_at(count_before(behind, key + 1)).0
     }
 
     /// The data of the DataSets of this number alone, in their group's order. It takes no memory.
@@ -194,21 +193,19 @@ impl<'a> Iim<'a> {
     }
 
     /// The group at a place, in ascending order of record, then number: the record and the number that
-    /// name it, and its DataSets. The place is below `groups`. It takes no memory, and passes at most
-    /// 1,024 lists.
+    /// name it, and its DataSets. The place is below `groups`. It takes no memory, and passes the groups
+    /// before it.
     pub fn group_at(&self, i: u32) -> (u8, u8, &[Item<'a>])
         requires { i < length self.now }
         ensures { slice_get self.now i ≡ Some (part_view result) }
     {
-        let mut left = i as usize;
-        for list in 0..self.records.len() {
-            let groups = &self.records[list];
-            if left < groups.len() {
-                let group = &groups[left];
-                return (record_of(list), group.number, group.items.as_slice());
+        let mut left = i;
+        for group in self.iter() {
+            if left == 0 {
+                return group;
             }
-            left -= groups.len();
+            left -= 1;
         }
-        (0, 0, self.none.as_slice())
+        (0, 0, self.items.split_at(0).0)
     }
 }

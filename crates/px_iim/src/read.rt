@@ -1,36 +1,27 @@
 // A whole block, read DataSet by DataSet.
-ghost use Rattle.std.specs.Prelude.{◌≡◌, ◌≤◌, ℕ, length, Some, is_some, IfOk, IfErr};
+ghost use Rattle.std.specs.Prelude.{◌≡◌, ◌≤◌, ◌*◌, ℕ, length, Some, is_some, IfOk, IfErr};
 ghost use Rattle.px_bytes.specs.Checks.{Judges, LacksBlock};
 ghost use Rattle.px_bytes.specs.Parts.{limit};
-ghost use Rattle.px_iim.specs.Group.{IsRecord};
+ghost use Rattle.px_iim.specs.Group.{Record, IsRecord};
 ghost use Rattle.px_iim.specs.Record.{SaysIim, iim_of};
 ghost use Rattle.px_iim.specs.Check.{iim_checks};
-ghost use Rattle.px_iim.specs.calls.Reading.{JudgesAt, RefusesIim};
+ghost use Rattle.px_iim.specs.calls.Reading.{RefusesIim};
 
-use crate::dataset::{Found, is_end, read_dataset, rest};
+use crate::dataset::{dataset_at, is_end, read_dataset, rest};
 use crate::iim::Iim;
+use crate::sorting::read_sorted;
+use crate::survey::survey;
 use px_bytes::{Cause, LIMIT, Memory, Refusal};
 use std::alloc::Global;
 
-// The DataSet at a place, or the refusal of it.
-fn dataset_at<'a>(bytes: &'a [u8], at: usize) -> Result<Found<'a>, Refusal>
-    requires inside { at ≤ length bytes.now }
+// Reads the DataSets of a block, which are so many, one after another.
+fn read_put<'a>(memory: &mut Memory, bytes: &'a [u8], count: usize) -> Result<Iim<'a>, Refusal>
     requires bounded { length bytes.now ≤ limit }
-    ensures { JudgesAt result bytes.now at }
-{
-    match read_dataset(rest(bytes, at)) {
-        Ok(found) => Ok(found),
-        Err(cause) => Err(cause.at(at as u32)),
-    }
-}
-
-// Reads the groups, judged by the checks.
-fn read_groups<'a>(memory: &mut Memory, bytes: &'a [u8]) -> Result<Iim<'a>, Refusal>
-    requires { length bytes.now ≤ limit }
+    requires few { 5 * count ≤ limit }
     ensures judged { Judges result (iim_checks bytes.now) (λ i. iim_of bytes.now ≡ Some i) }
     ensures memory { LacksBlock result memory.old memory.new }
 {
-    let mut record = Iim::new_in(memory);
+    let mut record = Iim::with_room(memory, count)?;
     let mut at = 0;
     loop {
         let found = dataset_at(bytes, at)?;
@@ -40,6 +31,19 @@ fn read_groups<'a>(memory: &mut Memory, bytes: &'a [u8]) -> Result<Iim<'a>, Refu
             return Ok(record);
         }
     }
+}
+
+// Reads the groups, judged by the checks.
+fn read_groups<'a>(memory: &mut Memory, bytes: &'a [u8]) -> Result<Iim<'a>, Refusal>
+    requires { length bytes.now ≤ limit }
+    ensures judged { Judges result (iim_checks bytes.now) (λ i. iim_of bytes.now ≡ Some i) }
+    ensures memory { LacksBlock result memory.old memory.new }
+{
+    let seen = survey(bytes)?;
+    if seen.is_put() {
+        return read_put(memory, bytes, seen.count);
+    }
+    Ok(read_sorted(memory, bytes, seen.count, seen.keys)?)
 }
 
 /// The record that a block says. IIM 4.2, chapter 1.
@@ -72,6 +76,18 @@ pub fn read_iim_in<'a>(memory: &mut Memory, bytes: &'a [u8]) -> Result<Iim<'a>, 
         return Err(Cause::TooLong.at(LIMIT));
     }
     read_groups(memory, bytes)
+}
+
+/// Judges a block as `read_iim` does, and keeps nothing of it. It takes no memory.
+pub fn judge_iim(bytes: &[u8]) -> Result<(), Refusal>
+    ensures judged { Judges result (iim_checks bytes.now) (λ u. (i : Record) × SaysIim bytes.now i) }
+    ensures stands { (refused : ℕ) → IfErr result (RefusesIim bytes.now refused) }
+{
+    if bytes.len() > LIMIT as usize {
+        return Err(Cause::TooLong.at(LIMIT));
+    }
+    survey(bytes)?;
+    Ok(())
 }
 
 /// Whether the octets say a record, as `read_iim` judges it. It takes no memory.

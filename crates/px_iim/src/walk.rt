@@ -1,32 +1,57 @@
 // A record gone through once, group by group.
+ghost use Rattle.std.specs.Prelude.{◌≡◌, ◌≤◌, ◌<◌, ℕ, length, slice_index_or};
 ghost use Rattle.std.specs.Iterator.{item_count, YieldsFirstBy};
-ghost use Rattle.px_iim.specs.calls.View.{part_view};
+ghost use Rattle.px_iim.specs.calls.Runs.{key_of as group_key};
+ghost use Rattle.px_iim.specs.calls.View.{dataset_view, part_view};
+ghost use Rattle.px_iim.specs.declared.group.Item.{Item as AnyItem};
 
-use crate::group::{Group, Item};
-use crate::quarters::record_of;
+use crate::group::{Item, key_of, named};
 use std::marker::Model;
+
+// How many in front are of the first one's group.
+fn run_len(items: &[Item]) -> usize
+    requires { 0 < length items.now }
+    ensures some { 1 ≤ result }
+    ensures within { result ≤ length items.now }
+    ensures same { (k : ℕ) (d : AnyItem) → k < result
+        → group_key (dataset_view (slice_index_or items.now k d)) ≡ group_key (dataset_view (slice_index_or items.now 0 d)) }
+    ensures next { (d : AnyItem) → result < length items.now
+        → group_key (dataset_view (slice_index_or items.now result d)) ≡ group_key (dataset_view (slice_index_or items.now 0 d)) → ⊥ }
+{
+    let first = items[0];
+    let key = key_of(first.rec, first.number);
+    let mut end = 1;
+    while end < items.len() {
+        let item = items[end];
+        if key_of(item.rec, item.number) != key {
+            return end;
+        }
+        end += 1;
+    }
+    end
+}
 
 /// The groups that are left of a record, in ascending order: what `Iim::iter` answers. Each is the record
 /// and the number that name it, and its DataSets. Contracts see the list of those that are left. It takes
-/// no memory, and passes at most 1,024 lists.
+/// no memory.
 #[derive(Drop)]
 pub struct Groups<'b, 'a> {
-    // The groups of each list; those before `list` were given, and the first `at` of `list`.
-    pub(crate) lists: &'b [Vec<Group<'a>>],
-    pub(crate) list: usize,
+    // The record's DataSets in the order of their groups; the first `at` of them were given.
+    pub(crate) items: &'b [Item<'a>],
     pub(crate) at: usize,
 }
 
 impl<'b, 'a> Model for Groups<'b, 'a> {
-    ghost use Rattle.std.specs.Prelude.{◌≤◌, length, drop};
+    ghost use Rattle.std.specs.Prelude.{map, drop};
     ghost use Rattle.px_iim.specs.Group.{Record};
-    ghost use Rattle.px_iim.specs.calls.View.{left_view};
+    ghost use Rattle.px_iim.specs.calls.Runs.{runs, InOrder, AreNumbers};
+    ghost use Rattle.px_iim.specs.calls.View.{dataset_view};
 
     ghost Value = { Record };
 
-    ghost view = { λ g. left_view g.list g.at (drop g.list g.lists.now) };
+    ghost view = { λ g. runs (map dataset_view (drop g.at g.items.now)) };
 
-    ghost invariant = { λ g. length g.lists.now ≤ 1024 };
+    ghost invariant = { λ g. InOrder (map dataset_view (drop g.at g.items.now)) × AreNumbers (map dataset_view (drop g.at g.items.now)) };
 }
 
 impl<'b, 'a> Iterator for Groups<'b, 'a> {
@@ -37,17 +62,18 @@ impl<'b, 'a> Iterator for Groups<'b, 'a> {
     ghost remaining = { item_count (λ left. left) };
 
     fn next(&mut self) -> Option<(u8, u8, &'b [Item<'a>])> {
-        let lists = self.lists;
-        while self.list < lists.len() {
-            let groups = &lists[self.list];
-            if self.at < groups.len() {
-                let group = &groups[self.at];
-                self.at += 1;
-                return Some((record_of(self.list), group.number, group.items.as_slice()));
-            }
-            self.list += 1;
-            self.at = 0;
+        let items = self.items;
+        if self.at >= items.len() {
+            return None;
         }
-        None
+        let left = items.split_at(self.at).1;
+        let first = left[0];
+        let len = run_len(left);
+        self.at += len;
+        Some((
+            first.rec,
+            named(first.rec, first.number),
+            left.split_at(len).0,
+        ))
     }
 }

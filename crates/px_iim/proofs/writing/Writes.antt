@@ -52,7 +52,7 @@ none_more m n e h = elim (cases_lt most m) [
 
 -- what a loop names where there is no item
 abbrev pub no_item : Item
-no_item = record { number = 0; octets = record { ref_ptr = (0, 0); now = [] } }
+no_item = record { rec = 0; number = 0; octets = record { ref_ptr = (0, 0); now = [] } }
 
 pub within_counted : (o : Option ℕ) (n : ℕ) → o ≡ within_most n → IfSome o (λ t. t ≤ most)
 within_counted None n e = tt

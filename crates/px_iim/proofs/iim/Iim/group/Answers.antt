@@ -1,60 +1,43 @@
-use Rattle.std.proofs.Common.{◌≡◌, ◌∙◌, ◌<◌, ◌≤◌, ℕ, [], List, Vec, Global, ap, sym, subst, arith, get_or, map, length, zero-add}
-use Rattle.px_iim.specs.declared.group.Group.{Group}
-use Rattle.px_iim.specs.Group.{Record, named, items_at, AreGroups}
-use Rattle.px_iim.specs.calls.View.{item_view, records_view, numbers, Rises, Holds, MissingIn, list_of, AreInPlace}
-use Rattle.px_iim.proofs.reading.Order.{named_byte}
-use Rattle.px_iim.proofs.reading.Records.{found_record, missing_record, past_record}
-use Rattle.px_iim.proofs.reading.Rising.{rises_record}
+use Rattle.std.proofs.Common.{◌≡◌, ◌∙◌, ◌<◌, ◌≤◌, ◌+◌, ◌*◌, ℕ, List, ap, sym, subst, arith, get_or, map, length, take, drop}
+use Rattle.px_iim.specs.declared.group.Item.{Item}
+use Rattle.px_iim.specs.Group.{named, items_at}
+use Rattle.px_iim.specs.calls.Runs.{key_of, runs, InOrder, AreNumbers}
+use Rattle.px_iim.specs.calls.View.{item_view, dataset_view}
+use Rattle.px_iim.proofs.reading.Parts.{group_part}
+use Rattle.px_iim.proofs.reading.RunSteps.{left_parts}
 use Rattle.px_iim.proofs.iim.Iim.group.Goals as goal
 
-module _ (rec n k : ℕ) (vs : List (Vec Group Global)) (v : Vec Group Global) (gs : List Group) (inside : k < length vs)
-    (there : v ≡ get_or vs k v) (read : gs ≡ v.items) (list : k ≡ list_of rec n) (byte : n < 256) (placed : AreInPlace 0 vs) where
-  found : (items : List (ℕ × List ℕ)) → Holds n gs items → items ≡ items_at rec n (records_view 0 vs)
-  found items h =
-      sym (found_record rec n 0 k k vs v items (sym (zero-add k)) inside (sym list) byte placed
-      (subst (λ (x : List Group). Holds n x items) (read ∙ ap (λ (x : Vec Group Global). x.items) there) h))
+pub count_before-requires-2 : goal.count_before-requires-2
+count_before-requires-2 c =
+    let s = c.count_before.result in
+    let same = c.split_at.ensures.back ∙ ap (drop s) c.as_slice-items.ensures.value in
+    subst (λ (ss : List Item). InOrder (map dataset_view ss)) (sym same)
+    (left_parts s c.self.inside.items.items c.self.invariant.0 c.self.invariant.1).0
 
-  missing : MissingIn n (numbers gs) → AreGroups (records_view 0 vs) → [] ≡ items_at rec n (records_view 0 vs)
-  missing h a =
-      sym (missing_record rec n 0 k k vs v (sym (zero-add k)) inside (sym list) byte placed
-      (subst (λ (x : List Group). MissingIn n (numbers x)) (read ∙ ap (λ (x : Vec Group Global). x.items) there) h) a.ascending)
-
--- the same, by the number that names the group and the record as it is seen
-seen : (rec n m : ℕ) (i j : Record) → n ≡ m → i ≡ j → items_at rec n i ≡ items_at rec m j
-seen rec n m i j e h = ap (λ (x : ℕ). items_at rec x i) e ∙ ap (items_at rec m) h
-
-pub returns-then-list-len : goal.returns-then-list-len
-returns-then-list-len c =
-    let n = c.named-name.result in
-    let vs = c.self.inside.records.items in
-    let past : length vs ≤ list_of c.args.rec n =
-    omega (arith, c.self.inside.records.ok.0, c.len.ensures, c.if-list-len.true, c.list_of-list.ensures.place) in
-    ap (map item_view) (c.as_slice.ensures.value ∙ c.self.invariant.0)
-    ∙ sym (past_record c.args.rec n 0 vs (omega arith) c.self.invariant.4)
-    ∙ seen c.args.rec n (named c.args.rec c.args.number) _ _ c.named-name.ensures c.self.view_is
-
-pub items_of-requires : goal.items_of-requires
-items_of-requires c =
-    let vs = c.self.inside.records.items in
-    let l : c.list_of-list.result < length vs = omega (arith, c.self.inside.records.ok.0, c.len.ensures, c.if-list-len.false) in
-    subst (λ (gs : List Group). Rises (numbers gs)) (sym (c.deref.ensures.value ∙ ap (λ (v : Vec Group Global). v.items) c.index.ensures))
-    (rises_record 0 c.list_of-list.result vs c.index.result.now l (c.self.invariant.2).ascending)
-
-pub returns-in-Some : goal.returns-in-Some
-returns-in-Some c =
-    let l : c.list_of-list.result < length c.self.inside.records.items =
-    omega (arith, c.self.inside.records.ok.0, c.len.ensures, c.if-list-len.false) in
-    let byte : c.named-name.result < 256 = omega (arith, named_byte c.args.rec c.args.number c.ranges.number.fits, c.named-name.ensures) in
-    found c.args.rec c.named-name.result c.list_of-list.result c.self.inside.records.items c.index.result.now c.deref.result.now l
-    c.index.ensures c.deref.ensures.value c.list_of-list.ensures.place byte c.self.invariant.4 _ c.in-Some.ensures
-    ∙ seen c.args.rec c.named-name.result (named c.args.rec c.args.number) _ _ c.named-name.ensures c.self.view_is
+part : (rec n key : ℕ) → n < 256 → key ≡ 256 * rec + n → (xs behind : List Item) (s m : ℕ) → behind ≡ drop s xs
+    → InOrder (map dataset_view xs) → AreNumbers (map dataset_view xs)
+    → ((k : ℕ) (d : Item) → k < s → key_of (dataset_view (get_or xs k d)) < key)
+    → ((k : ℕ) (d : Item) → s ≤ k → k < length xs → key ≤ key_of (dataset_view (get_or xs k d)))
+    → ((k : ℕ) (d : Item) → k < m → key_of (dataset_view (get_or behind k d)) < key + 1)
+    → ((k : ℕ) (d : Item) → m ≤ k → k < length behind → key + 1 ≤ key_of (dataset_view (get_or behind k d)))
+    → map item_view (take m behind) ≡ items_at rec n (runs (map dataset_view xs))
+part rec n key b e xs behind s m q o w f g h i =
+    ap (λ (l : List Item). map item_view (take m l)) q
+    ∙ group_part rec n b xs s m o w (λ k d l. omega (arith, f k d l, e)) (λ k d l j. omega (arith, g k d l j, e))
+    (λ k d l. subst (λ (ss : List Item). key_of (dataset_view (get_or ss k d)) < 256 * rec + n + 1) q (omega (arith, h k d l, e)))
+    (λ k d l j. subst (λ (ss : List Item). 256 * rec + n + 1 ≤ key_of (dataset_view (get_or ss k d))) q
+    (omega (arith, i k d l (subst (λ (ss : List Item). k < length ss) (sym q) j), e)))
 
 pub returns : goal.returns
 returns c =
-    let l : c.list_of-list.result < length c.self.inside.records.items =
-    omega (arith, c.self.inside.records.ok.0, c.len.ensures, c.if-list-len.false) in
-    let byte : c.named-name.result < 256 = omega (arith, named_byte c.args.rec c.args.number c.ranges.number.fits, c.named-name.ensures) in
-    ap (map item_view) (c.as_slice-2.ensures.value ∙ c.self.invariant.0)
-    ∙ missing c.args.rec c.named-name.result c.list_of-list.result c.self.inside.records.items c.index.result.now c.deref.result.now l
-    c.index.ensures c.deref.ensures.value c.list_of-list.ensures.place byte c.self.invariant.4 c.in_default.ensures c.self.invariant.2
-    ∙ seen c.args.rec c.named-name.result (named c.args.rec c.args.number) _ _ c.named-name.ensures c.self.view_is
+    let xs = c.as_slice-items.result.now in
+    let n = named c.args.rec c.args.number in
+    let same = c.as_slice-items.ensures.value in
+    ap (map item_view) c.split_at-2.ensures.front
+    ∙ part c.args.rec n c.key_of-key.result c.key_of-key.ensures.byte c.key_of-key.ensures.value xs c.split_at.result.1.now
+    c.count_before.result c.count_before-2.result c.split_at.ensures.back
+    (subst (λ (ss : List Item). InOrder (map dataset_view ss)) (sym same) c.self.invariant.0)
+    (subst (λ (ss : List Item). AreNumbers (map dataset_view ss)) (sym same) c.self.invariant.1)
+    (λ k d l. c.count_before.ensures.front k d l) (λ k d l j. c.count_before.ensures.behind k d l j)
+    (λ k d l. c.count_before-2.ensures.front k d l) (λ k d l j. c.count_before-2.ensures.behind k d l j)
+    ∙ ap (λ (ss : List Item). items_at c.args.rec n (runs (map dataset_view ss))) same ∙ ap (items_at c.args.rec n) c.self.view_is

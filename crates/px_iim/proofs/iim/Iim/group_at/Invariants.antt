@@ -1,8 +1,9 @@
-use Rattle.std.proofs.Common.{◌≡◌, slice_get, drop}
-use Rattle.px_iim.specs.calls.View.{records_view}
+use Rattle.std.proofs.Common.{◌≡◌, ◌<◌, length, slice_get}
 use Rattle.px_iim.proofs.iim.Iim.group_at.Given as goal
 
-abbrev pub invariant-loop-list : goal.invariant-loop-list
-invariant-loop-list l =
-    slice_get (records_view 0 l.self-inside.records.items) l.i ≡ slice_get (records_view l.list (drop l.list l.self-inside.records.items))
-    l.left
+-- the group that is sought stands among those that are left
+abbrev pub invariant-loop-group : goal.invariant-loop-group
+invariant-loop-group l = record {
+  inside : l.left < length l.group-iterator;
+  same : slice_get l.group-iterator l.left ≡ slice_get l.fn.self l.i;
+}

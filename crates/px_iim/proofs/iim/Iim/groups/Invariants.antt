@@ -1,7 +1,6 @@
-use Rattle.std.proofs.Common.{◌≡◌, ◌+◌, length, drop}
-use Rattle.px_iim.specs.calls.View.{records_view}
+use Rattle.std.proofs.Common.{◌≡◌, ◌+◌, length}
 use Rattle.px_iim.proofs.iim.Iim.groups.Given as goal
 
-abbrev pub invariant-loop-groups : goal.invariant-loop-groups
-invariant-loop-groups l =
-    l.count + length (records_view l.groups-index (drop l.groups-index l.groups-items)) ≡ length (records_view 0 l.groups-items)
+-- those that are left make the rest of the count
+abbrev pub invariant-loop : goal.invariant-loop
+invariant-loop l = l.count + length l.iterator' ≡ length l.fn.self

@@ -1,0 +1,20 @@
+use Rattle.std.proofs.Common.{◌≡◌, ◌≤◌, ◌-◌, length, drop, option_map}
+use Rattle.px_bytes.specs.Checks.{first_false}
+use Rattle.px_iim.specs.Group.{gather}
+use Rattle.px_iim.specs.Record.{iim_of}
+use Rattle.px_iim.specs.Check.{iim_checks}
+use Rattle.px_iim.specs.lemmas.ScanLaws.{checks_left}
+use Rattle.px_iim.proofs.reading.Steps.{datasets}
+use Rattle.px_iim.proofs.read.read_put.Given as goal
+
+-- what is left, put behind what was read, is all; and what is wrong with all is wrong with what is left
+abbrev pub invariant-loop-record : goal.invariant-loop-record
+invariant-loop-record l = record {
+  inside : l.at ≤ length l.bytes;
+  said : option_map (gather l.record) (datasets (drop l.at l.bytes)) ≡ iim_of l.bytes;
+  faults : first_false (checks_left l.at (drop l.at l.bytes)) ≡ first_false (iim_checks l.bytes);
+  memory : l.memory ≡ l.initial.memory;
+}
+
+abbrev pub decreases-loop-record : goal.decreases-loop-record
+decreases-loop-record l = length l.bytes - l.at

@@ -1,0 +1,79 @@
+// A block gone through once: it is judged, and what reading it will need is found out.
+ghost use Rattle.std.specs.Prelude.{◌≡◌, ◌≤◌, ◌<◌, ◌+◌, ◌*◌, ℕ, List, Some, IfOk, false, length, max};
+ghost use Rattle.std.specs.List.{AllByRecursion};
+ghost use Rattle.px_bytes.specs.Checks.{ContentOnly, Judges};
+ghost use Rattle.px_bytes.specs.Parts.{limit};
+ghost use Rattle.px_iim.specs.DataSet.{DataSet};
+ghost use Rattle.px_iim.specs.Record.{sequence_of};
+ghost use Rattle.px_iim.specs.Check.{iim_checks};
+ghost use Rattle.px_iim.specs.calls.Runs.{key_of as group_key, AreNumbers};
+
+use crate::dataset::{dataset_at, is_end, rest};
+use crate::group::key_of;
+use px_bytes::Refusal;
+
+// So many DataSets, or fewer, are put one after another, whatever their order.
+const FEW: usize = 64;
+
+// What was found out of a block.
+#[derive(Clone, Copy)]
+pub(crate) struct Overview {
+    // How many DataSets there are.
+    pub(crate) count: usize,
+    // All groups come before this place.
+    pub(crate) keys: usize,
+    // Whether no group comes behind one that belongs behind it.
+    pub(crate) in_order: bool,
+}
+
+impl Overview {
+    // Whether the DataSets are to be put one after another: they are few, or each belongs at the end.
+    pub(crate) fn is_put(&self) -> bool
+        ensures { result ≡ false → FEW < self.now.count }
+    {
+        if self.count <= FEW {
+            return true;
+        }
+        self.in_order
+    }
+}
+
+// The least bound above this one that is also past the place.
+fn past(keys: usize, key: usize) -> usize
+    requires { key < 65536 }
+    ensures { result ≡ max keys (key + 1) }
+{
+    keys.max(key + 1)
+}
+
+// Judges a block, and counts its DataSets.
+pub(crate) fn survey(bytes: &[u8]) -> Result<Overview, Refusal>
+    requires { length bytes.now ≤ limit }
+    ensures judged { Judges result (iim_checks bytes.now) (λ s. (ds : List DataSet)
+        × (sequence_of (length bytes.now) bytes.now ≡ Some ds) × (s.count ≡ length ds)
+        × AllByRecursion (λ d. group_key d < s.keys) ds × AreNumbers ds) }
+    ensures few { IfOk result (λ s. (5 * s.count ≤ limit) × (s.keys ≤ 65536)) }
+    ensures content { ContentOnly result }
+{
+    let mut at = 0;
+    let mut count = 0;
+    let mut keys = 0;
+    let mut last = 0;
+    let mut in_order = true;
+    loop {
+        let found = dataset_at(bytes, at)?;
+        let key = key_of(found.rec, found.number);
+        in_order = in_order & (last <= key);
+        last = key;
+        keys = past(keys, key);
+        count += 1;
+        at += found.size;
+        if is_end(rest(bytes, at)) {
+            return Ok(Overview {
+                count,
+                keys,
+                in_order,
+            });
+        }
+    }
+}
