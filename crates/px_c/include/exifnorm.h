@@ -1,22 +1,22 @@
-/* exifnorm.h: what the metadata block of a picture says, its one normal form, and whether two blocks say the same.
+/* exifnorm.h: the meaning of a picture's metadata block: its one normal form, and whether two blocks mean the same.
  *
- * A block is an Exif block, perhaps behind the six bytes "Exif\0\0" that stand in front of it in a JPEG file, or a block of
- * IPTC-NAA IIM DataSets. These calls open no picture file: they take a block's bytes in hand, and don't copy them. Two blocks
- * that say the same have the same normal form, byte for byte; two that say different things have different ones. A block that
- * breaks the rules is refused, with the first fault and its place, and never repaired.
+ * A block is an Exif block or a block of IPTC-NAA IIM DataSets. An Exif block may begin with the six bytes "Exif\0\0" that
+ * precede it in a JPEG file. The calls open no picture file: they read a block in memory, and don't copy it. Two blocks that mean
+ * the same have equal normal forms, byte for byte; two that mean different things have different ones. A block that breaks the
+ * rules is refused, with its first fault and the byte offset of that fault. Blocks are never repaired.
  *
  * For every call:
  *
- *   Pointers   None is NULL, also where a length is 0. Each points to as many bytes as its length says. What a call writes to
- *              (out, written, kind, same, fault) shares no byte with anything else that is passed to that call. A block may
- *              be passed twice, and a block and its part, since blocks are only read.
- *   Ownership  Everything stays the caller's own. A call keeps no pointer after it returns, and frees what it took from malloc.
- *   Threads    Calls share nothing and keep no state: any number of threads may call at once, each with places of its own to
- *              be written to; they may read the same block. Nobody writes to a block while a call reads it.
- *              Not to be called from a signal handler, nor in the child of a fork of a process with threads.
- *   Status     Each call answers one of the numbers below, which are those of all calls. What a status doesn't name as
- *              changed is as it was before the call.
- *   Memory     malloc, realloc and free of the program are used. A refused growth is EXIFNORM_NO_MEMORY, and ends no process.
+ *   Pointers   No pointer may be NULL, even if a length is 0. Each must point to as many bytes as its length argument gives.
+ *              What a call writes to (out, written, kind, same, fault) must not overlap any other argument. The two blocks of a
+ *              comparison may overlap or be the same, since blocks are only read.
+ *   Ownership  The caller keeps ownership of all arguments. A call keeps no pointer after it returns, and frees what it allocated.
+ *   Threads    Calls share nothing and keep no state. Any number of threads may call at once, and may read the same block, if each
+ *              has its own output arguments. Nobody may write to a block while a call reads it.
+ *              Don't call these functions from a signal handler, or in the child of a fork of a process with threads.
+ *   Status     Each call returns one of the numbers below, which are the same for all calls. What the description of a status
+ *              doesn't name is unchanged.
+ *   Memory     The calls use malloc, realloc and free. A failed allocation returns EXIFNORM_NO_MEMORY, and ends no process.
  *   Limits     A block has at most EXIFNORM_LIMIT bytes, and so has a normal form. A stack of 256 KiB is enough.
  */
 #ifndef EXIFNORM_H
@@ -29,25 +29,25 @@
 extern "C" {
 #endif
 
-/* The most bytes of a block, and of a normal form. */
+/* The greatest length of a block, and of a normal form, in bytes. */
 #define EXIFNORM_LIMIT 16777216
 
-/* The most bytes of the name of a cause, with the zero that ends it; and of the version. */
+/* The greatest size of the name of a cause, or of the version, with the zero byte that ends it. */
 #define EXIFNORM_NAME_ROOM 32
 
 /* The statuses. */
 enum {
-    /* Done. */
+    /* Success. */
     EXIFNORM_DONE = 0,
-    /* The block says nothing; of two, the first. `fault` tells why. */
+    /* The block is refused; of two blocks, the first. fault has the cause. */
     EXIFNORM_REFUSED = 2,
-    /* The block says something, and its normal form is longer than EXIFNORM_LIMIT. */
+    /* The block is valid, but its normal form is longer than EXIFNORM_LIMIT. */
     EXIFNORM_TOO_LONG = 3,
-    /* Memory was refused. Nothing is known of the block. */
+    /* An allocation failed. Nothing is known of the block. */
     EXIFNORM_NO_MEMORY = 4,
-    /* `out` is too short, and `written` tells how many bytes are needed. */
+    /* out is too short; written is the number of bytes needed. */
     EXIFNORM_TOO_LITTLE_ROOM = 5,
-    /* Of two blocks the first says something and the second nothing. `fault` tells why. */
+    /* The first of two blocks is valid, and the second is refused. fault has the cause. */
     EXIFNORM_SECOND_REFUSED = 6
 };
 
@@ -57,25 +57,25 @@ enum {
     EXIFNORM_IIM = 2   /* DataSets of IPTC-NAA IIM 4.2 */
 };
 
-/* What is wrong with a block: the causes of a refusal, in the order in which docs/FORMAT.md lists them. */
+/* The causes of a refusal, in the order of docs/FORMAT.md. */
 enum {
     EXIFNORM_CAUSE_TOO_LONG = 1,           /* the block is longer than EXIFNORM_LIMIT */
-    EXIFNORM_CAUSE_UNKNOWN_KIND = 2,       /* it begins like no block; also where it is empty */
+    EXIFNORM_CAUSE_UNKNOWN_KIND = 2,       /* it is empty, or does not begin like a block */
     EXIFNORM_CAUSE_HEADER_CUT = 3,         /* it ends inside the header */
-    EXIFNORM_CAUSE_LOOP = 4,               /* an offset leads to a directory that was read before */
+    EXIFNORM_CAUSE_LOOP = 4,               /* an offset leads to a directory that was already read */
     EXIFNORM_CAUSE_DIRECTORY_OUTSIDE = 5,  /* a directory's table passes the end */
     EXIFNORM_CAUSE_EMPTY_DIRECTORY = 6,    /* a directory has no entry */
     EXIFNORM_CAUSE_OVERLAP = 7,            /* two ranges share a byte */
     EXIFNORM_CAUSE_UNSORTED = 8,           /* a tag is below the one before it */
     EXIFNORM_CAUSE_DOUBLED = 9,            /* a tag equals the one before it */
     EXIFNORM_CAUSE_UNKNOWN_TYPE = 10,      /* an entry has a type that isn't known */
-    EXIFNORM_CAUSE_MISPLACED_OFFSET = 11,  /* a tag holds offsets that aren't followed in this directory */
-    EXIFNORM_CAUSE_POINTER_FORM = 12,      /* a pointer or a thumbnail part has another type or count than it must */
+    EXIFNORM_CAUSE_MISPLACED_OFFSET = 11,  /* a tag for offsets that aren't followed in this directory */
+    EXIFNORM_CAUSE_POINTER_FORM = 12,      /* a pointer or a thumbnail part has a wrong type or count */
     EXIFNORM_CAUSE_VALUE_OUTSIDE = 13,     /* a value passes the end */
-    EXIFNORM_CAUSE_THUMBNAIL_PAIR = 14,    /* one entry of a thumbnail's pair is there alone, or the counts differ */
-    EXIFNORM_CAUSE_EXTRA_DIRECTORY = 15,   /* a directory stands behind that of the thumbnail */
+    EXIFNORM_CAUSE_THUMBNAIL_PAIR = 14,    /* one entry of a thumbnail's pair is missing, or the counts differ */
+    EXIFNORM_CAUSE_EXTRA_DIRECTORY = 15,   /* a directory follows that of the thumbnail */
     EXIFNORM_CAUSE_THUMBNAIL_OUTSIDE = 16, /* a thumbnail's picture or strip passes the end */
-    EXIFNORM_CAUSE_NO_MARKER = 17,         /* no 1C stands where a DataSet must begin */
+    EXIFNORM_CAUSE_NO_MARKER = 17,         /* no 1C where a DataSet must begin */
     EXIFNORM_CAUSE_LENGTH_FORM = 18,       /* an extended count has no octets, or more than four */
     EXIFNORM_CAUSE_DATASET_CUT = 19        /* a DataSet passes the end */
 };
@@ -83,73 +83,74 @@ enum {
 /* Why a block is refused: its first fault. */
 struct exifnorm_fault {
     uint32_t cause; /* one of the causes above */
-    uint32_t place; /* where, in bytes from the block's first, at most EXIFNORM_LIMIT; "Exif\0\0" isn't counted */
+    uint32_t place; /* the byte offset in the block, at most EXIFNORM_LIMIT; a leading "Exif\0\0" isn't counted */
 };
 
-/* Answers the kind of the block: EXIFNORM_EXIF or EXIFNORM_IIM.
+/* Sets kind to the kind of the block: EXIFNORM_EXIF or EXIFNORM_IIM.
  *
  *   DONE       kind is set.
  *   REFUSED    fault is set.
- *   NO_MEMORY  nothing is changed.
+ *   NO_MEMORY  nothing is set.
  */
 uint32_t exifnorm_check(const unsigned char *block, size_t block_length, /* the block */
-                        uint32_t *kind,                                  /* where its kind is put */
-                        struct exifnorm_fault *fault);                   /* where a refusal is told */
+                        uint32_t *kind,                                  /* is set to its kind */
+                        struct exifnorm_fault *fault);                   /* is set to the cause of a refusal */
 
-/* Puts the block's normal form in front of out. A form has at most twice as many bytes as its block. It is written straight into
- * out: memory is taken for what the block says alone, and no more than exifnorm_check takes.
+/* Writes the block's normal form to the beginning of out. A form has at most twice as many bytes as its block. It is written
+ * directly into out: only the meaning of the block is allocated, which takes no more memory than exifnorm_check takes.
  *
- *   DONE             out begins with the form; written is its length. What stands behind it in out is as it was.
+ *   DONE             out begins with the form; written is its length. The rest of out is unchanged.
  *   REFUSED          fault is set.
- *   TOO_LONG         nothing is changed.
- *   NO_MEMORY        nothing is changed.
- *   TOO_LITTLE_ROOM  written is the form's length, which is more than out_length.
+ *   TOO_LONG         nothing is set.
+ *   NO_MEMORY        nothing is set.
+ *   TOO_LITTLE_ROOM  written is the length of the form, which is more than out_length.
  */
 uint32_t exifnorm_normalise(const unsigned char *block, size_t block_length, /* the block */
-                            unsigned char *out, size_t out_length,           /* where the form is put */
-                            size_t *written,                                 /* where its length is put */
-                            struct exifnorm_fault *fault);                   /* where a refusal is told */
+                            unsigned char *out, size_t out_length,           /* receives the form */
+                            size_t *written,                                 /* is set to its length */
+                            struct exifnorm_fault *fault);                   /* is set to the cause of a refusal */
 
-/* Answers whether two blocks say the same: same is 1 where they do, else 0. An Exif block and an IIM block never do. Whether
- * their normal forms can be written doesn't matter. The first is judged wholly before the second.
+/* Compares two blocks: same is 1 if they mean the same, else 0. An Exif block and an IIM block never do. A block whose normal form
+ * is too long can be compared. The first block is checked completely before the second.
  *
  *   DONE            same is set.
- *   REFUSED         fault is set, and is of the first.
- *   SECOND_REFUSED  fault is set, and is of the second; the first says something.
- *   NO_MEMORY       nothing is changed.
+ *   REFUSED         fault is set, and describes the first block.
+ *   SECOND_REFUSED  fault is set, and describes the second block; the first is valid.
+ *   NO_MEMORY       nothing is set.
  */
 uint32_t exifnorm_compare(const unsigned char *first, size_t first_length,   /* a block */
                           const unsigned char *second, size_t second_length, /* the other block */
-                          uint32_t *same,                                    /* where the answer is put */
-                          struct exifnorm_fault *fault);                     /* where a refusal is told */
+                          uint32_t *same,                                    /* is set to 1 or 0 */
+                          struct exifnorm_fault *fault);                     /* is set to the cause of a refusal */
 
-/* Puts the listing of what the block says in front of out, a line for each directory, field and DataSet, as the command
- * `exifnorm show` prints it (docs/FORMAT.md, "Listing"). It is ASCII; each line ends with a line feed, and no zero ends the
- * text. Statuses as for exifnorm_normalise, without TOO_LONG.
+/* Writes the listing of the block to the beginning of out: a line for each directory, field and DataSet, as the command
+ * `exifnorm show` prints it (docs/FORMAT.md, "Listing"). The text is ASCII. Each line ends with a line feed, and no zero byte
+ * ends the text. Statuses as for exifnorm_normalise, without TOO_LONG.
  */
 uint32_t exifnorm_show(const unsigned char *block, size_t block_length, /* the block */
-                       unsigned char *out, size_t out_length,           /* where the listing is put */
-                       size_t *written,                                 /* where its length is put */
-                       struct exifnorm_fault *fault);                   /* where a refusal is told */
+                       unsigned char *out, size_t out_length,           /* receives the listing */
+                       size_t *written,                                 /* is set to its length */
+                       struct exifnorm_fault *fault);                   /* is set to the cause of a refusal */
 
-/* Puts the block's captions, names, keywords and rights in front of out, a line for each, as the command `exifnorm captions`
- * prints them (docs/FORMAT.md, "Captions"). It is ASCII: a byte beside the printable ones, and the backslash, is a backslash
- * and two hexadecimal digits. Each line ends with a line feed, and no zero ends the text. Statuses as for exifnorm_show.
+/* Writes the block's captions, names, keywords and rights to the beginning of out, a line for each, as the command
+ * `exifnorm captions` prints them (docs/FORMAT.md, "Captions"). The text is ASCII: a backslash, and each byte that is not
+ * printable, is written as a backslash and two hexadecimal digits. Each line ends with a line feed, and no zero byte ends the
+ * text. Statuses as for exifnorm_show.
  */
 uint32_t exifnorm_captions(const unsigned char *block, size_t block_length, /* the block */
-                           unsigned char *out, size_t out_length,           /* where the captions are put */
-                           size_t *written,                                 /* where their length is put */
-                           struct exifnorm_fault *fault);                   /* where a refusal is told */
+                           unsigned char *out, size_t out_length,           /* receives the captions */
+                           size_t *written,                                 /* is set to their length */
+                           struct exifnorm_fault *fault);                   /* is set to the cause of a refusal */
 
-/* Puts the name of a cause, as "Overlap", in front of out, with the zero that ends it. A number that is no cause has the empty
- * name. EXIFNORM_NAME_ROOM bytes are always enough.
+/* Writes the name of a cause, as "Overlap", and a zero byte to the beginning of out. A number that is no cause has the empty name.
+ * EXIFNORM_NAME_ROOM bytes are always enough.
  *
- *   DONE             out begins with the name and its zero; written counts both.
- *   TOO_LITTLE_ROOM  written is how many bytes are needed; out is as it was.
+ *   DONE             out begins with the name and its zero byte; written counts both.
+ *   TOO_LITTLE_ROOM  written is the number of bytes needed; out is unchanged.
  */
 uint32_t exifnorm_cause_name(uint32_t cause, char *out, size_t out_length, size_t *written);
 
-/* Puts the library's version, as "1.0.0", in front of out, with the zero that ends it. Statuses as for exifnorm_cause_name. */
+/* Writes the library's version, as "1.0.0", and a zero byte to the beginning of out. Statuses as for exifnorm_cause_name. */
 uint32_t exifnorm_version(char *out, size_t out_length, size_t *written);
 
 #ifdef __cplusplus
