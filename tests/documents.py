@@ -36,6 +36,7 @@ FILES = {
 }
 DOCUMENTS = [name for name in ("README.md", "CONTRIBUTING.md", "SECURITY.md", "CHANGELOG.md") if os.path.exists(os.path.join(TOP, name))]
 DOCUMENTS += [f"docs/{name}" for name in sorted(os.listdir(os.path.join(TOP, "docs"))) if name.endswith(".md")]
+HEADER = "crates/px_c/include/exifnorm.h"
 
 
 def text_of(name):
@@ -46,6 +47,13 @@ def text_of(name):
 def fenced(name, kind):
     """The blocks of a kind in a document."""
     return re.findall(rf"^```{kind}\n(.*?)^```$", text_of(name), re.M | re.S)
+
+
+def prose(name):
+    """The sentences of a document without what programs read or print: fenced blocks, C outside comments, fixed names and lines."""
+    text = re.sub(r"^```.*?^```$", "", text_of(name), flags=re.M | re.S)
+    text = "".join(re.findall(r"/\*.*?\*/", text, re.S)) if name == HEADER else text
+    return re.sub(r"^\.I place$|\bPLACE\b|^\.B refused words: .*$", "", text, flags=re.M)
 
 
 def commands(block):
@@ -129,7 +137,7 @@ class Listed(unittest.TestCase):
         self.assertEqual([it for it in told if it in self.causes()], self.causes())
 
     def test_causes_stand_in_the_header_in_their_order(self):
-        told = re.findall(r"EXIFNORM_CAUSE_(\w+) = (\d+)", text_of("crates/px_c/include/exifnorm.h"))
+        told = re.findall(r"EXIFNORM_CAUSE_(\w+) = (\d+)", text_of(HEADER))
         self.assertEqual([int(number) for _, number in told], list(range(1, len(self.causes()) + 1)))
         self.assertEqual([name.replace("_", "") for name, _ in told], [it.upper() for it in self.causes()])
 
@@ -185,6 +193,15 @@ class Written(unittest.TestCase):
 
     def test_the_readme_is_short(self):
         self.assertLessEqual(len(text_of("README.md").split()), 700)
+
+    def test_readers_meet_the_terms_of_the_field(self):
+        """What users read has none of the words that CONTRIBUTING's table of terms replaces."""
+        table = text_of("CONTRIBUTING.md").partition("| Don't write |")[2]
+        old = [it for row in re.findall(r"^\| ([a-z][a-z, ]+) \|", table, re.M) for it in row.split(", ")]
+        self.assertGreater(len(old), 40)
+        pages = [f"docs/{name}" for name in os.listdir(os.path.join(TOP, "docs")) if re.search(r"\.[1-9]$", name)]
+        for name in ("README.md", HEADER, *sorted(pages)):
+            self.assertEqual(re.findall(rf"\b(?:{'|'.join(old)})\b", prose(name), re.I), [], name)
 
     def test_links_lead_to_files(self):
         for name in DOCUMENTS:
