@@ -36,6 +36,7 @@ FILES = {
 }
 DOCUMENTS = [name for name in ("README.md", "CONTRIBUTING.md", "SECURITY.md", "CHANGELOG.md") if os.path.exists(os.path.join(TOP, name))]
 DOCUMENTS += [f"docs/{name}" for name in sorted(os.listdir(os.path.join(TOP, "docs"))) if name.endswith(".md")]
+DOCUMENTS += sorted(str(it.relative_to(TOP)) for it in Path(TOP).glob("crates/*/*.md"))
 HEADER = "crates/px_c/include/exifnorm.h"
 
 

@@ -9,7 +9,8 @@ from typing import Iterator, List, Set, Tuple
 TOP = Path(__file__).resolve().parent.parent
 SOURCES = ("crates/*/*", "crates/*/src/**/*", "crates/*/specs/**/*", "crates/*/proofs/**/*", "crates/*/include/*", "crates/*/must-fail/*",
            "build/*", "tests/**/*", "python/**/*", "bench/**/*", "packaging/**/*", "debian/**/*", "docs/*", ".ci/*", "*")  # fmt: skip
-DOCUMENTS = [*TOP.glob("*.md"), *TOP.glob("docs/**/*.md"), *TOP.glob("tests/*/README.md"), *TOP.glob("bench/README.md")]
+DOCUMENTS = [*TOP.glob("*.md"), *TOP.glob("docs/**/*.md"), *TOP.glob("crates/*/*.md"), *TOP.glob("tests/*/README.md"),
+             *TOP.glob("bench/README.md")]  # fmt: skip
 # Names of the toolchain, of std and of other tools that no source has, and words that are replaced by another.
 OTHERS = {"read_to_end", "from_be_bytes", "Consumes-trans", "Keeps-trans", "fail-alloc", "allow-holes", "fix-imports", "jpg_original", "crash-",
           "MODULE", "rattle-kit-13b", "pythonX", "HEX", "noclobber", "hardening-no-fortify-functions"}  # fmt: skip
