@@ -19,7 +19,7 @@ class Refused(ValueError):
     def __init__(self, cause: str, place: int, side: Optional[int] = None) -> None:
         super().__init__(cause, place, side)
         self.cause = cause
-        """The name of what is wrong, as "Overlap": one of the causes of docs/FORMAT.md, or of exifnorm(1)."""
+        """The name of what is wrong, as "Overlap": one of the causes of docs/FORMAT.md and exifnorm(3)."""
         self.place = place
         """Where, in bytes from the block's first. The six bytes in front of an Exif block aren't counted."""
         self.side = side
