@@ -51,8 +51,8 @@ def fenced(name, kind):
 
 
 def prose(name):
-    """The sentences of a document without what programs read or print: fenced blocks, C outside comments, fixed names and lines."""
-    text = re.sub(r"^```.*?^```$", "", text_of(name), flags=re.M | re.S)
+    """The sentences of a document without what programs read or print: code, C outside comments, fixed names and lines."""
+    text = re.sub(r"^```.*?^```$|`[^`\n]+`", "", text_of(name), flags=re.M | re.S)
     text = "".join(re.findall(r"/\*.*?\*/", text, re.S)) if name == HEADER else text
     return re.sub(r"^\.I place$|\bPLACE\b|^\.B refused words: .*$", "", text, flags=re.M)
 
@@ -201,7 +201,8 @@ class Written(unittest.TestCase):
         old = [it for row in re.findall(r"^\| ([a-z][a-z, ]+) \|", table, re.M) for it in row.split(", ")]
         self.assertGreater(len(old), 40)
         pages = [f"docs/{name}" for name in os.listdir(os.path.join(TOP, "docs")) if re.search(r"\.[1-9]$", name)]
-        for name in ("README.md", HEADER, *sorted(pages)):
+        documents = ("README.md", "SECURITY.md", "CHANGELOG.md", "docs/RECIPES.md", "docs/PACKAGING.md")
+        for name in (*documents, HEADER, *sorted(pages)):
             self.assertEqual(re.findall(rf"\b(?:{'|'.join(old)})\b", prose(name), re.I), [], name)
 
     def test_links_lead_to_files(self):
