@@ -1,11 +1,11 @@
 #!/usr/bin/env python3
-"""Tests the documents: what they show is run, what they list is compared with the sources.
+"""Tests the documents: their examples are run, and their lists are compared with the sources.
 
   tests/documents.py PROGRAM LIBRARY
 
-LIBRARY is the folder with libexifnorm.so and exifnorm.h. In a block ```console of a document a line `$ COMMAND` is run in a folder
-with the blocks that FILES names, and what stands below it, up to the next such line, is what must come. Blocks ```c and ```python
-are compiled and run in the same folder, and must end with status 0. The last line is 'N passed, N failed'.
+LIBRARY is the folder with libexifnorm.so and exifnorm.h. In a block ```console of a document, each line `$ COMMAND` is run in a folder
+with the blocks of FILES, and the lines below it, up to the next command, are the expected output. Blocks ```c and ```python of the
+README are compiled and run in the same folder, and must end with status 0. The last line is 'N passed, N failed'.
 """
 
 import json
@@ -27,7 +27,7 @@ HERE = os.path.dirname(os.path.abspath(__file__))
 TOP = os.path.dirname(HERE)
 PROGRAM, LIBRARY = "", ""
 
-# the files that documents speak of, and the blocks of cases/blocks.json, or digits, that they hold
+# the files in the documents' examples, each with the name of its block in cases/blocks.json
 FILES = {
     "one.exif": "ASCII before its directory",
     "other.exif": "ASCII at an even place, least first",
@@ -58,14 +58,14 @@ def prose(name):
 
 
 def commands(block):
-    """Each command of a console block with what must come of it."""
+    """Each command of a console block with its expected output."""
     for part in re.split(r"^\$ ", block, flags=re.M)[1:]:
         command, _, output = part.partition("\n")
         yield command, output
 
 
 class Folder(unittest.TestCase):
-    """Tests that run in a folder with the files that documents speak of, and with the program on the path."""
+    """Tests that run in a folder with the files of the examples, and with the program on the path."""
 
     def setUp(self):
         self.room = tempfile.TemporaryDirectory()
@@ -93,13 +93,13 @@ class Folder(unittest.TestCase):
 
 
 class Shown(Folder):
-    def test_each_command_of_a_console_block_prints_what_stands_below_it(self):
+    def test_each_command_of_a_console_block_prints_the_lines_below_it(self):
         count = 0
         for name in DOCUMENTS:
             for block in fenced(name, "console"):
-                for command, due in commands(block):
+                for command, expected in commands(block):
                     with self.subTest(name, command=command):
-                        self.assertEqual(self.ran(["bash", "-c", command]).stdout, due)
+                        self.assertEqual(self.ran(["bash", "-c", command]).stdout, expected)
                         count += 1
         self.assertGreaterEqual(count, 4)
 
@@ -129,20 +129,20 @@ class Listed(unittest.TestCase):
         body = re.search(r"pub enum Cause \{(.*?)\n\}", text_of("crates/px_bytes/src/causes.rt"), re.S).group(1)
         return re.findall(r"^    (\w+),$", body, re.M)
 
-    def test_causes_stand_in_the_format(self):
-        told = re.findall(r"^\| (\w+) \| .* \| .* \|$", text_of("docs/FORMAT.md").split("## 5.")[1].split("## 6.")[0], re.M)
-        self.assertEqual([it for it in told if it != "Cause"], self.causes())
+    def test_causes_are_listed_in_the_format(self):
+        listed = re.findall(r"^\| (\w+) \| .* \| .* \|$", text_of("docs/FORMAT.md").split("## 5.")[1].split("## 6.")[0], re.M)
+        self.assertEqual([it for it in listed if it != "Cause"], self.causes())
 
     def test_causes_have_a_section_on_what_to_do(self):
-        told = re.findall(r"^## (\w+)", text_of("docs/REFUSALS.md"), re.M)
-        self.assertEqual([it for it in told if it in self.causes()], self.causes())
+        listed = re.findall(r"^## (\w+)", text_of("docs/REFUSALS.md"), re.M)
+        self.assertEqual([it for it in listed if it in self.causes()], self.causes())
 
-    def test_causes_stand_in_the_header_in_their_order(self):
-        told = re.findall(r"EXIFNORM_CAUSE_(\w+) = (\d+)", text_of(HEADER))
-        self.assertEqual([int(number) for _, number in told], list(range(1, len(self.causes()) + 1)))
-        self.assertEqual([name.replace("_", "") for name, _ in told], [it.upper() for it in self.causes()])
+    def test_causes_are_listed_in_the_header_in_their_order(self):
+        listed = re.findall(r"EXIFNORM_CAUSE_(\w+) = (\d+)", text_of(HEADER))
+        self.assertEqual([int(number) for _, number in listed], list(range(1, len(self.causes()) + 1)))
+        self.assertEqual([name.replace("_", "") for name, _ in listed], [it.upper() for it in self.causes()])
 
-    def test_commands_stand_wherever_they_are_listed(self):
+    def test_commands_are_the_same_wherever_they_are_listed(self):
         helped = subprocess.run([PROGRAM, "--help"], capture_output=True, text=True).stdout
         names = re.findall(r"^  (\w+)  +\w", helped.split("Commands:")[1].split("Options:")[0], re.M)
         self.assertEqual(len(names), 5)
@@ -163,13 +163,13 @@ class Listed(unittest.TestCase):
         self.assertEqual(len(rows), len(os.listdir(os.path.join(TOP, "crates"))) + len(code))
         for crate, files, lines in rows:
             names = [it if "." in it else f"specs/{it}.antt" for it in re.findall(r"`([\w/.]+)`", files)]
-            # all definitions of the crate are named, but where a row has files of src/
-            stand = {f"specs/{it.name}" for it in Path(TOP, "crates", crate, "specs").glob("[A-Z]*.antt")} - {"specs/Lib.antt"}
-            self.assertTrue(set(names) == stand or {(crate, it) for it in names} <= code, (crate, names, stand))
+            # a row names all definitions of the crate, or files of src/
+            known = {f"specs/{it.name}" for it in Path(TOP, "crates", crate, "specs").glob("[A-Z]*.antt")} - {"specs/Lib.antt"}
+            self.assertTrue(set(names) == known or {(crate, it) for it in names} <= code, (crate, names, known))
             self.assertEqual(sum(text_of(f"crates/{crate}/{it}").count("\n") for it in names), int(lines), crate)
 
     def test_what_must_be_read_comes_in_order(self):
-        """A definition stands behind those that it uses."""
+        """A definition follows those that it uses."""
         seen = set()
         for crate, files in re.findall(r"^\| (px_\w+) \| ([^|]*) \| \d+ \|$", text_of("docs/PROOFS.md"), re.M):
             for name in re.findall(r"`(\w+)`", files):
@@ -222,7 +222,7 @@ class Written(unittest.TestCase):
     def test_the_picture_is_drawn_of_the_cases(self):
         self.assertEqual(subprocess.run([sys.executable, os.path.join(TOP, "docs", "draw.py"), "--check"]).returncode, 0)
 
-    def test_man_pages_have_no_mistake_that_man_tells(self):
+    def test_man_pages_have_no_mistake_that_groff_reports(self):
         if not any(os.access(os.path.join(it, "groff"), os.X_OK) for it in os.environ["PATH"].split(os.pathsep)):
             self.skipTest("groff is not installed")
         for name in sorted(os.listdir(os.path.join(TOP, "docs"))):
@@ -230,7 +230,7 @@ class Written(unittest.TestCase):
                 words = ["groff", "-man", "-Tutf8", "-ww", "-z", os.path.join(TOP, "docs", name)]
                 self.assertEqual(subprocess.run(words, capture_output=True, text=True).stderr, "", name)
 
-    def test_each_tool_of_docs_says_what_it_is_by_its_first_line(self):
+    def test_each_document_begins_with_its_title(self):
         for name in DOCUMENTS:
             self.assertTrue(text_of(name).startswith("# "), name)
 

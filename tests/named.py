@@ -1,4 +1,4 @@
-"""Tests that what documents name is there: words, paths, lemmas by their file, parts of ./test, and the files of CONTRIBUTING's table."""
+"""Tests that the names in documents exist: words, paths, lemmas by their file, parts of ./test, and the files of CONTRIBUTING's table."""
 
 import re
 import unittest
@@ -11,7 +11,7 @@ SOURCES = ("crates/*/*", "crates/*/src/**/*", "crates/*/specs/**/*", "crates/*/p
            "build/*", "tests/**/*", "python/**/*", "bench/**/*", "packaging/**/*", "debian/**/*", "docs/*", ".ci/*", "*")  # fmt: skip
 DOCUMENTS = [*TOP.glob("*.md"), *TOP.glob("docs/**/*.md"), *TOP.glob("crates/*/*.md"), *TOP.glob("tests/*/README.md"),
              *TOP.glob("bench/README.md")]  # fmt: skip
-# Names of the toolchain, of std and of other tools that no source has, and words that are replaced by another.
+# Names of the toolchain, of std and of other tools that no source has, and words that a reader replaces.
 OTHERS = {"read_to_end", "from_be_bytes", "Consumes-trans", "Keeps-trans", "fail-alloc", "allow-holes", "fix-imports", "jpg_original", "crash-",
           "MODULE", "rattle-kit-13b", "pythonX", "HEX", "noclobber", "hardening-no-fortify-functions"}  # fmt: skip
 MADE = {"crates/NAME/specs", "crates/NAME/src", "proofs/MODULE/FUNCTION/", "Proof.antt"}  # examples
@@ -60,7 +60,7 @@ def is_there(name: str, crate: str = "px_*") -> bool:
 
 
 def lemmas(text: str) -> Iterator[Tuple[str, str, str]]:
-    """Each name that a document says is in a file, as (name, file, crate of the section)."""
+    """Each `NAME in FILE` of a document, as (name, file, crate of the section)."""
     crate = "px_*"
     for line in text.splitlines():
         heading = re.match(r"## (px_\w+)?", line)
@@ -70,7 +70,7 @@ def lemmas(text: str) -> Iterator[Tuple[str, str, str]]:
 
 
 def files_named(file: str, crate: str) -> List[Path]:
-    """The sources of a crate, or where it has none of all, that have this name."""
+    """The sources with this name, of the crate or, if it has none, of all crates."""
     ends = (f"/{file}", f"/{file}.antt", f"/{file}.rt")
     found = [it for it in sources() if str(it).endswith(ends)]
     return [it for it in found if crate in it.parts] or found
@@ -84,7 +84,7 @@ def change_rows() -> List[List[str]]:
 
 
 class Named(unittest.TestCase):
-    """What documents name is there."""
+    """The names in documents exist."""
 
     def test_each_word_in_backticks(self):
         for path in DOCUMENTS:
@@ -137,7 +137,7 @@ class Named(unittest.TestCase):
                     self.assertIn(f"\n## {it}.", (TOP / "docs" / "FORMAT.md").read_text(encoding="utf-8"), row)
 
     def see_cell(self, cell: str) -> None:
-        """Each name of a cell is a file, a definition or a word of the crate that is named before it, or a path."""
+        """Each name of a cell is a path, or a file, a definition or a word of the crate named before it."""
         crate = "px_*"
         for other, name in re.findall(r"(px_\w+)(?=[ :])|`([^`]+)`", cell):
             crate = other or crate
