@@ -24,15 +24,15 @@ COLUMNS = 8
 
 
 def parts_of(block):
-    """What stands at each byte of a block with one placed value: the header, the table, the value, or nothing."""
+    """The part of a block with one placed value that each byte is in: the header, the table, the value, or a gap."""
     order = "big" if block[:2] == b"MM" else "little"
     number = lambda at, size: int.from_bytes(block[at : at + size], order)
-    table, told = number(4, 4), ["gap"] * len(block)
-    told[0:8] = ["header"] * 8
-    told[table : table + 18] = ["table"] * 18
+    table, shown = number(4, 4), ["gap"] * len(block)
+    shown[0:8] = ["header"] * 8
+    shown[table : table + 18] = ["table"] * 18
     at, count = number(table + 10, 4), number(table + 6, 4)
-    told[at : at + count] = ["value"] * count
-    return told
+    shown[at : at + count] = ["value"] * count
+    return shown
 
 
 def drawn(block, title, left):
@@ -52,7 +52,7 @@ def picture(first, second, normal):
     width, height = lefts[-1] + block_width + LEFT, TOP + rows * ROW + 58
     lines = [
         f'<svg xmlns="http://www.w3.org/2000/svg" width="{width}" height="{height}" viewBox="0 0 {width} {height}" role="img">',
-        "<title>Two blocks that say the same, and their one normal form</title>",
+        "<title>Two blocks that mean the same, and their one normal form</title>",
         "<style>text{font-family:ui-monospace,Menlo,Consolas,monospace;fill:#222}"
         ".byte{font-size:13px;text-anchor:middle}.title{font-size:14px;font-weight:bold}.note{font-size:13px}"
         ".sign{font-size:26px;text-anchor:middle}</style>",
@@ -63,10 +63,10 @@ def picture(first, second, normal):
     middle = TOP + rows * ROW // 2
     lines.append(f'<text x="{lefts[1] - gap // 2}" y="{middle}" class="sign">=</text>')
     lines.append(f'<text x="{lefts[2] - gap // 2}" y="{middle}" class="sign">→</text>')
-    for i, (part, told) in enumerate((("header", "header"), ("table", "directory"), ("value", "value: Urns"), ("gap", "says nothing"))):
+    for i, (part, shown) in enumerate((("header", "header"), ("table", "directory"), ("value", "value: Urns"), ("gap", "no meaning"))):
         x, y = LEFT + i * 190, height - 30
         lines.append(f'<rect x="{x}" y="{y}" width="16" height="16" fill="{COLOURS[part]}" stroke="#999"/>')
-        lines.append(f'<text x="{x + 24}" y="{y + 13}" class="note">{told}</text>')
+        lines.append(f'<text x="{x + 24}" y="{y + 13}" class="note">{shown}</text>')
     return "\n".join([*lines, "</svg>", ""])
 
 
