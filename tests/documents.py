@@ -205,6 +205,12 @@ class Written(unittest.TestCase):
         for name in (*documents, HEADER, *sorted(pages)):
             self.assertEqual(re.findall(rf"\b(?:{'|'.join(old)})\b", prose(name), re.I), [], name)
 
+    def test_each_paragraph_is_one_line(self):
+        for path in named.DOCUMENTS:
+            lines = re.sub(r"^```.*?^```$", "", path.read_text(encoding="utf-8"), flags=re.M | re.S).splitlines()
+            plain = [not re.match(r"$|[#|>!]|- |\d+\. |    ", it) for it in lines]
+            self.assertEqual([it for it, one, next_one in zip(lines, plain, plain[1:]) if one and next_one], [], path.name)
+
     def test_links_lead_to_files(self):
         for name in DOCUMENTS:
             for target in re.findall(r"\]\(([^)#]+)[^)]*\)", text_of(name)):
