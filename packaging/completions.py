@@ -75,7 +75,7 @@ def names_of(options: list[Option]) -> list[str]:
 
 
 def bash_value(command: Command, option: Option) -> str:
-    """What stands behind an option with a value."""
+    """The value of an option that takes one."""
     names = " | ".join(f"{command.name}:{it}" for it in option.names)
     if option.choices:
         wanted = f"compgen -W '{' '.join(option.choices)}' -- \"$word\""

@@ -1,6 +1,6 @@
 """Puts the library libexifnorm.so.1 into the wheel, and gives the wheel the tag of the machine that the library is for.
 
-`make` builds the library. What setuptools builds on the way stands in out/wheel, so the sources stay as they are.
+`make` builds the library. setuptools builds in out/wheel, so the sources stay unchanged.
 """
 
 from __future__ import annotations

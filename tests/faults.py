@@ -6,7 +6,7 @@ a write stops after each byte, and memory is limited.
 
 strace makes the faults, prlimit's limits the others. The calls by which the loader starts a program are left alone: their failures
 end any program. A run must end as it does without a fault, or with status 4 and the line that fits what failed; a file or a stream
-that is written holds a prefix of what was due, or what it held before.
+that is written holds a prefix of the expected bytes, or what it held before.
 
 Left out are `openat` and `ftruncate` that answer EINTR each time: Rust's standard library tries these two again until they answer
 something else, so such a run has no end, and no file system answers so. Each of them answers EINTR once here.
@@ -57,7 +57,7 @@ FILES = {"one": ONE, "turned": TURNED, "loop": LOOP, "record": record(4000), "OU
 
 @dataclass
 class Run:
-    """One run of the program, and what is due of it where nothing fails."""
+    """One run of the program, and what is expected of it if nothing fails."""
 
     words: List[str]
     status: int = 0
@@ -150,7 +150,7 @@ def is_right(run: Run, outcome: Outcome) -> bool:
 
 
 def keeps_files(run: Run, files: Dict[str, bytes]) -> bool:
-    """Whether the files are as they were, and OUT holds what it held, or a prefix of what is due."""
+    """Whether the files are as they were, and OUT holds what it held, or a prefix of the expected bytes."""
     due, written = files_due(run), [it for it in ("OUT", "NEW") if it in run.words]
     others = {name: octets for name, octets in files.items() if name not in written}
     return others == {name: octets for name, octets in FILES.items() if name not in written} and all(

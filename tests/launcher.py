@@ -26,7 +26,7 @@ import makefile
 from counting import Counter
 from room import HANDLES, Room, due, runs, wait_until
 
-# What tells of the process that a program runs as: its number, how it treats signals, and its open files.
+# Prints the state of the process that a program runs as: its number, how it treats signals, and its open files.
 PROGRAM = r"""#!/bin/sh
 [ "$1" != --version ] || exit 0
 echo $$

@@ -4,7 +4,7 @@ exception, where the library is looked for, and what the calls cost, counted.
 
   tests/package.py LIBRARY
 
-LIBRARY is the folder with libexifnorm.so.1 and exifnorm.h. What is due of other blocks comes from meanings.py and reading.py, which
+LIBRARY is the folder with libexifnorm.so.1 and exifnorm.h. What is expected of other blocks comes from meanings.py and reading.py, which
 know nothing of the library. It needs cc besides Python 3.
 """
 
@@ -93,7 +93,7 @@ def refusals_of_tools(counter: Counter) -> None:
 
 
 def fields_of_each_kind(counter: Counter) -> None:
-    """The fields from the form are those of the listing that is due, for blocks with each type, directory and thumbnail."""
+    """The fields from the form are those of the expected listing, for blocks with each type, directory and thumbnail."""
     for kind in small_kinds():
         due, form = _listings.fields_of_listing(kind.meaning.listing()), kind.meaning.normal()
         counter.check(kind.name, all(exifnorm.fields(it) == due for it in kind.blocks))

@@ -2,7 +2,7 @@
 """Runs the built program as a user does, and compares what it does with what is due: the files of cases, and blocks of every kind
 made from what they say.
 
-Each case that fails has a line, with what was due and what came. The last line is 'N passed, N failed', and the status is 0 only
+Each case that fails has a line, with the expected and the actual result. The last line is 'N passed, N failed', and the status is 0 only
 where something ran and nothing failed.
 """
 

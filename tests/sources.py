@@ -80,7 +80,7 @@ def crates():
 OWN = r"(?:let mut memory = (?:Memory::new\([*\w.]+(?:\(\))?\)|[\w.]+\.(?:fresh|memory)\(\)); )?"
 SISTER = OWN + r"(?:Ok\()?(?:self\.|\w+::)?{}_in\(((?:(?:&mut |&)?(?:memory|Memory::new\(alloc\))|\w+)(?:, \w+)*)\)(?:\?\)|\?; Ok\(\(\)\))?"
 
-# Where memory is made, or what tells that it has refused nothing.
+# Functions that make a Memory, or that report that it refused nothing.
 MAKES = re.compile(r"\bMemory::new\(|\.fresh\(\)")
 
 # The functions that make memory and are no line over a sister: the program's, what keeps memory of its own for later calls, and

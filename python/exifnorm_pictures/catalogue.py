@@ -55,7 +55,7 @@ CREATE TABLE blocks (
     number INTEGER NOT NULL,        -- the order in the file
     kind TEXT NOT NULL,             -- exif, iptc, xmp
     name TEXT NOT NULL,             -- Exif, IPTC, XMP; of further blocks a name of their own
-    source TEXT NOT NULL,           -- where it stands in the file
+    source TEXT NOT NULL,           -- where it is in the file
     extractor TEXT NOT NULL,
     status TEXT NOT NULL,           -- accepted, refused, too long, failed
     digest TEXT,                    -- SHA-256 of the normal form, of an accepted block alone

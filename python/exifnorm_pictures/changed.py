@@ -19,7 +19,7 @@ REFUSED_SAME, UNREADABLE_SAME = f"{REFUSED}, the same bytes", f"{UNREADABLE}, th
 MISSING_BEFORE, MISSING_AFTER, MOVED, NOT_READ = "missing before", "missing after", "moved", "not read"
 DIFFERENCES = (DIFFERENT, ONLY_MAKER_NOTE, MOVED, MISSING_BEFORE, MISSING_AFTER)
 OPEN = (REFUSED, UNREADABLE, NOT_WHOLLY_READ)  # nothing can be said
-UNCHANGED = (SAME, REFUSED_SAME, UNREADABLE_SAME)  # nothing is told to differ
+UNCHANGED = (SAME, REFUSED_SAME, UNREADABLE_SAME)  # nothing is reported to differ
 RESULTS = (SAME, *DIFFERENCES, REFUSED, REFUSED_SAME, UNREADABLE, UNREADABLE_SAME, NOT_WHOLLY_READ, NOT_READ)
 GONE = ("Vanished", "Moved")
 
@@ -162,7 +162,7 @@ def _add_details(it: Compared, one: Picture, other: Picture, sides: Sides) -> No
 
 
 def _told_of(name: str, one: Optional[Block], other: Optional[Block]) -> str:
-    """What is to be told of one block beside its fields: that it is on one side alone, or why it is refused."""
+    """What to report of one block besides its fields: that only one side has it, or why it is refused."""
     said = [None if it is None else it.refusal if it.status != ACCEPTED else "accepted" for it in (one, other)]
     if one and other and one.octets == other.octets and one.status != ACCEPTED:
         return f"; {name}: {one.refusal}"

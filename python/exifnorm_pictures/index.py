@@ -144,7 +144,7 @@ def _version(program: str) -> Optional[str]:
 
 
 class _Looking:
-    """Looks at pictures and commits what was found in batches; then it is told."""
+    """Looks at pictures and commits what was found in batches, each before it is reported."""
 
     def __init__(self, asked: Asked, catalogue: Catalogue, run: int, work: Work, departed: Departed) -> None:
         self.asked, self.catalogue, self.run, self.work, self.departed = asked, catalogue, run, work, departed
@@ -154,7 +154,7 @@ class _Looking:
         self.last = time.monotonic()
 
     def all(self) -> None:
-        """Looks at all that is due."""
+        """Looks at every picture that must be read."""
         if not self.work.due:
             return
         self.catalogue.set_versions(self.run, _version("exiftool"), _version("exiv2"))

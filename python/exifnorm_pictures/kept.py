@@ -36,7 +36,7 @@ class Stamp(NamedTuple):
 
 @dataclass
 class Block:
-    """A block: what it is called, where it stands in the file, which reader gave it, and how it was judged."""
+    """A block: what it is called, where it is in the file, which reader gave it, and how it was judged."""
 
     kind: str
     name: str

@@ -48,7 +48,7 @@ class Departed:
             self.went[same] = it.path
 
     def settle(self, catalogue: Catalogue, run: int, gone: Sequence[Entry]) -> Iterator[Entry]:
-        """What is to be told of each picture that is gone: it was moved, or it is missing."""
+        """What to report of each picture that is gone: moved or missing."""
         if self.went:
             with catalogue.transaction():
                 words = ((f"to {shown_path(to)}", path) for path, to in self.went.items())

@@ -11,7 +11,7 @@ from .kept import Stamp
 
 
 class Found(NamedTuple):
-    """A file, the folder below which it was found (or that it stands in, where it was named by itself), and its marks."""
+    """A file, the folder below which it was found (or its own folder, if it was named by itself), and its marks."""
 
     path: bytes
     root: bytes

@@ -26,7 +26,7 @@ class Merge(WithPictures):
             self.asked("index", folder, "--catalogue", folder + ".c", "--quiet")
 
     def contents(self, *names):
-        """All that stands in some catalogues, without the numbers of rows."""
+        """All rows of some catalogues, without their numbers."""
         found = []
         for name in names:
             base = sqlite3.connect(self.path(name))

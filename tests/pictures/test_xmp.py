@@ -133,7 +133,7 @@ class Harm(unittest.TestCase):
         self.assertLessEqual({None, "NotWellFormed"}, answers)
 
     def test_nothing_is_fetched(self):
-        """The readers open no file and no connection, whatever stands in a packet."""
+        """The readers open no file and no connection, whatever a packet says."""
         call = (
             "import sys; opened = []; sys.addaudithook(lambda name, it: opened.append(name) if name in"
             " ('socket.connect', 'socket.getaddrinfo', 'urllib.Request') or name == 'open' and 'etc' in str(it[0]) else None);"
