@@ -178,6 +178,12 @@ class Listed(unittest.TestCase):
                 self.assertLessEqual(used, seen, f"{crate}: {name}")
                 seen.add((crate, name))
 
+    def test_what_must_be_read_uses_no_words_of_single_calls(self):
+        files = sorted(Path(TOP, "crates").glob("px_*/specs/[A-Z]*.antt"))
+        self.assertGreater(len(files), 40)
+        for file in files:
+            self.assertNotRegex(file.read_text(encoding="utf-8"), r"Rattle\.px_\w+\.specs\.calls", str(file))
+
     def test_the_version_is_stated_once(self):
         stated = re.search(r'VERSION: &str = "([^"]+)"', text_of("crates/px_engine/src/version.rt")).group(1)
         self.assertEqual(re.search(r"^## (\S+)", text_of("CHANGELOG.md"), re.M).group(1), stated)

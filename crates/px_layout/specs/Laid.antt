@@ -7,7 +7,7 @@ use Rattle.px_bytes.specs.declared.Order.{Order}
 use Rattle.px_bytes.specs.Numbers.{spelling}
 use Rattle.px_field.specs.Forms.{code}
 use Rattle.px_field.specs.Values.{spelled}
-use Rattle.px_tree.specs.calls.Iim.{normal_iim}
+use Rattle.px_tree.specs.Iim.{normal_iim}
 use Rattle.px_tree.specs.declared.Dir.{Dir}
 use Rattle.px_tree.specs.declared.Dir.TheVariants.{Main, Thumb}
 use Rattle.px_tree.specs.Tree.{Meaning, Thumbnail}

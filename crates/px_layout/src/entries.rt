@@ -5,7 +5,7 @@ ghost use Rattle.std.specs.Prelude.{Option, Some, None, IfSome};
 ghost use Rattle.std.specs.List.{AllByRecursion};
 ghost use Rattle.px_layout.specs.declared.entries.Extra.{Extra as CodeExtra};
 ghost use Rattle.px_bytes.specs.Parts.{limit};
-ghost use Rattle.px_tree.specs.calls.Iim.{normal_iim};
+ghost use Rattle.px_tree.specs.Iim.{normal_iim};
 ghost use Rattle.px_tree.specs.Fits as said;
 ghost use Rattle.px_tree.specs.Fits.{Fits, FitsThumb, IsBytes, AtJpeg, JpegSize, AtStrips, StripSizes, Iptc, items, link, put_some};
 ghost use Rattle.px_tree.specs.Fits.{main_items, exif_items, thumb_items, field_items};

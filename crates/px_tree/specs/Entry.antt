@@ -12,7 +12,7 @@ use Rattle.px_field.specs.declared.Kind.TheVariants.{Of, Whole}
 use Rattle.px_field.specs.declared.Element.{Element}
 use Rattle.px_field.specs.Forms.{form_of, size}
 use Rattle.px_field.specs.Values.{Value, elements, widened}
-use Rattle.px_tree.specs.calls.Iim.{Iim, iim_of}
+use Rattle.px_tree.specs.Iim.{Iim, iim_of}
 use Rattle.px_tree.specs.declared.roles.Dir.{Dir}
 use Rattle.px_tree.specs.declared.roles.Role.{Role}
 use Rattle.px_tree.specs.declared.roles.Role.TheVariants.{Plain, Widened, Forbidden, Record, JpegOffset, JpegLength, StripOffsets}

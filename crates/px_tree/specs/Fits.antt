@@ -11,7 +11,7 @@ use Rattle.px_field.specs.declared.Form.TheVariants.{Undefined, Short, Long}
 use Rattle.px_field.specs.declared.Kind.TheVariants.{Of, Whole}
 use Rattle.px_field.specs.Forms.{size}
 use Rattle.px_field.specs.Values.{Value, IsValue, form_in, spelled}
-use Rattle.px_tree.specs.calls.Iim.{Iim, IsRecord, normal_iim}
+use Rattle.px_tree.specs.Iim.{Iim, IsRecord, normal_iim}
 use Rattle.px_tree.specs.declared.roles.Dir.{Dir}
 use Rattle.px_tree.specs.declared.roles.Dir.TheVariants.{Main, Exif, Interop, Gps, Thumb}
 use Rattle.px_tree.specs.declared.roles.Role.{Role}

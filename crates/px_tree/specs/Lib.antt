@@ -1,4 +1,5 @@
 pub mod Roles
+pub mod Iim
 pub mod Tree
 pub mod Entry
 pub mod Directory

@@ -6,7 +6,7 @@ use Rattle.px_bytes.specs.declared.Order.{Order}
 use Rattle.px_bytes.specs.Parts.{limit}
 use Rattle.px_bytes.specs.Range.{AllApart}
 use Rattle.px_field.specs.Forms.{form_of}
-use Rattle.px_tree.specs.calls.Iim.{Iim}
+use Rattle.px_tree.specs.Iim.{Iim}
 use Rattle.px_tree.specs.declared.roles.Dir.TheVariants.{Main, Exif, Interop, Gps, Thumb}
 use Rattle.px_tree.specs.Roles.{record_tag}
 use Rattle.px_tree.specs.Tree.{ExifPart, Thumbnail, Meaning}

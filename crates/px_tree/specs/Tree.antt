@@ -2,7 +2,7 @@
 -- thumbnail IFD).
 use Rattle.std.specs.Prelude.{ℕ, Option, List}
 use Rattle.px_field.specs.Values.{Value}
-use Rattle.px_tree.specs.calls.Iim.{Iim}
+use Rattle.px_tree.specs.Iim.{Iim}
 
 -- a map from tags to values: its pairs, by ascending tag
 abbrev pub Fields : Type 0

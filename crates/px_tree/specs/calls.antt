@@ -1,5 +1,4 @@
 -- Words of the contracts of single calls. What the promises rest on stands a folder above.
-pub mod Iim
 pub mod Places
 pub mod Seen
 pub mod Reading

@@ -5,7 +5,7 @@ ghost use Rattle.px_bytes.specs.Checks.{LacksBlock};
 ghost use Rattle.px_bytes.specs.declared.Refusal.TheVariants.{OutOfMemory};
 ghost use Rattle.px_bytes.specs.Parts.{limit};
 ghost use Rattle.px_field.specs.Forms.{form_of};
-ghost use Rattle.px_tree.specs.calls.Iim.{iim_of};
+ghost use Rattle.px_tree.specs.Iim.{iim_of};
 ghost use Rattle.px_tree.specs.Entry.{raw, record_in, IsEntry};
 ghost use Rattle.px_tree.specs.Directory.{entries_at};
 ghost use Rattle.px_tree.specs.Says.{record_at};

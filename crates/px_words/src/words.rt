@@ -5,7 +5,7 @@ ghost use Rattle.px_words.specs.declared.words.Words.TheVariants as words_of;
 ghost use Rattle.px_words.specs.Words.{exifnorm, name_of, Asks, AsksFiles, AsksIn, AreTaken, IsFor, IsTold, TakesCommands, TellsKind};
 ghost use Rattle.px_bytes.specs.Lacking.{Lacks};
 ghost use Rattle.px_words.specs.calls.Met.{IsMet, IsThere};
-ghost use Rattle.px_words.specs.calls.Wanting.{LacksWords};
+ghost use Rattle.px_words.specs.Wanting.{LacksWords};
 
 use crate::grammar::command;
 use clap::error::ErrorKind;

@@ -13,7 +13,7 @@ use Rattle.px_tree.specs.declared.Dir.{Dir}
 use Rattle.px_tree.specs.declared.Dir.TheVariants.{Main, Exif, Interop, Gps, Thumb}
 use Rattle.px_tree.specs.Tree.{Fields, ExifPart, Thumbnail, Meaning}
 use Rattle.px_tree.specs.Entry.{table_size}
-use Rattle.px_tree.specs.calls.Iim.{Iim}
+use Rattle.px_tree.specs.Iim.{Iim}
 use Rattle.px_tree.specs.Fits.{Item, Iptc, AtJpeg, JpegSize, AtStrips, StripSizes, put_some, link, field_items, main_items, exif_items}
 use Rattle.px_tree.specs.Fits.{thumb_items, items, item_form, item_count, item_size, Fits}
 use Rattle.px_layout.specs.declared.chunks.Chunk.TheVariants.{Table, Placed, Jpeg, Strip}

@@ -2,7 +2,7 @@
 use Rattle.std.specs.Prelude.{ℕ, suc, ◌≤◌, ◌*◌, nat_lt, if◌then◌else◌, ⊤, List, [], ◌∷◌, length, map}
 use Rattle.std.specs.List.{AllByRecursion}
 use Rattle.px_bytes.specs.Parts.{limit}
-use Rattle.px_tree.specs.calls.Iim.{normal_iim}
+use Rattle.px_tree.specs.Iim.{normal_iim}
 use Rattle.px_tree.specs.Fits.{Item, Field, Iptc, AtJpeg, JpegSize, AtStrips, StripSizes}
 use Rattle.px_tree.specs.Fits as fits
 use Rattle.px_layout.specs.declared.items.Item as held

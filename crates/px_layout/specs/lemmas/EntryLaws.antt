@@ -7,7 +7,7 @@ use Rattle.std.proofs.lemmas.Bool.{cond_both, cases_lt, cases_eq}
 use Rattle.px_bytes.specs.Parts.{limit}
 use Rattle.px_bytes.specs.lemmas.EachLaws.{each_map}
 use Rattle.px_field.specs.Values.{Value, IsValue}
-use Rattle.px_tree.specs.calls.Iim.{Iim, IsRecord, normal_iim}
+use Rattle.px_tree.specs.Iim.{Iim, IsRecord, normal_iim}
 use Rattle.px_tree.specs.declared.Dir.{Dir}
 use Rattle.px_tree.specs.declared.Dir.TheVariants.{Main, Exif, Interop, Gps, Thumb}
 use Rattle.px_tree.specs.Tree.{Fields, ExifPart, Thumbnail, Meaning}

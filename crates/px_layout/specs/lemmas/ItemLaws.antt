@@ -18,7 +18,7 @@ use Rattle.px_field.specs.lemmas.ValueLaws.{length-spelled}
 use Rattle.px_field.specs.lemmas.PieceLaws.{length_joined}
 use Rattle.px_iim.specs.lemmas.RecordLaws.{said_computed}
 use Rattle.px_iim.specs.lemmas.NormalLaws.{normal_says}
-use Rattle.px_tree.specs.calls.Iim.{Iim, iim_of, IsRecord, normal_iim}
+use Rattle.px_tree.specs.Iim.{Iim, iim_of, IsRecord, normal_iim}
 use Rattle.px_tree.specs.declared.Dir.{Dir}
 use Rattle.px_tree.specs.declared.Role.{Role}
 use Rattle.px_tree.specs.declared.Role.TheVariants.{Plain, Widened, Record, JpegOffset, JpegLength, StripOffsets, StripLengths, To}

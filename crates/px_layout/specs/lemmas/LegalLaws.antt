@@ -13,7 +13,7 @@ use Rattle.px_bytes.specs.lemmas.EachLaws.{each_map, each_left, each_right}
 use Rattle.px_field.specs.Values.{form_in, Value}
 use Rattle.px_field.specs.Forms.{form_of}
 use Rattle.px_field.specs.lemmas.FormLaws.{form_of-code}
-use Rattle.px_tree.specs.calls.Iim.{Iim, IsRecord, normal_iim}
+use Rattle.px_tree.specs.Iim.{Iim, IsRecord, normal_iim}
 use Rattle.px_tree.specs.declared.Dir.{Dir}
 use Rattle.px_tree.specs.declared.Dir.TheVariants.{Main, Exif, Interop, Gps, Thumb}
 use Rattle.px_tree.specs.Tree.{Fields, ExifPart, Thumbnail, Meaning}

@@ -18,7 +18,7 @@ use Rattle.px_field.specs.Values.{Value, elements, widened}
 use Rattle.px_field.specs.lemmas.ValueLaws.{length-elements}
 use Rattle.px_iim.specs.lemmas.RecordLaws.{computed_said}
 use Rattle.px_iim.specs.lemmas.BoundLaws.{normal_bound as record_bound}
-use Rattle.px_tree.specs.calls.Iim.{Iim}
+use Rattle.px_tree.specs.Iim.{Iim}
 use Rattle.px_tree.specs.declared.Dir.{Dir}
 use Rattle.px_tree.specs.declared.Dir.TheVariants.{Main, Exif, Interop, Gps, Thumb}
 use Rattle.px_tree.specs.declared.Role.{Role}

@@ -15,7 +15,7 @@ use Rattle.px_field.specs.declared.Kind.{Kind}
 use Rattle.px_field.specs.declared.Kind.TheVariants.{Of, Whole}
 use Rattle.px_field.specs.lemmas.ValueLaws.{elements-spelled}
 use Rattle.px_field.specs.lemmas.FormLaws.{form_of-code}
-use Rattle.px_tree.specs.calls.Iim.{iim_of}
+use Rattle.px_tree.specs.Iim.{iim_of}
 use Rattle.px_tree.specs.declared.Dir.{Dir}
 use Rattle.px_tree.specs.declared.Role.{Role}
 use Rattle.px_tree.specs.declared.Role.TheVariants.{Plain, Widened, Forbidden, Record, JpegOffset, JpegLength, StripOffsets, StripLengths}

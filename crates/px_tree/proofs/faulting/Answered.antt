@@ -12,7 +12,7 @@ use Rattle.px_bytes.specs.lemmas.CheckLaws.{all_true, Refuses-more, Refuses-behi
 use Rattle.px_iim.specs.Check.{iim_checks}
 use Rattle.px_iim.specs.lemmas.FaultLaws.{said_clean}
 use Rattle.px_iim.specs.lemmas.RecordLaws.{computed_said}
-use Rattle.px_tree.specs.calls.Iim.{Iim, iim_of}
+use Rattle.px_tree.specs.Iim.{Iim, iim_of}
 use Rattle.px_tree.specs.Tree as said
 use Rattle.px_tree.specs.Fits.{Fits}
 use Rattle.px_tree.specs.Says.{meaning, SaysExif}

@@ -13,7 +13,7 @@ use Rattle.px_field.specs.declared.Form.TheVariants.{Short, Long}
 use Rattle.px_field.specs.declared.Kind.TheVariants.{Of, Whole}
 use Rattle.px_field.specs.Values.{Value, elements, value_in, whole_in, widened, IsWhole}
 use Rattle.px_field.specs.lemmas.ValueLaws.{value_in-elements, whole_in-elements}
-use Rattle.px_tree.specs.calls.Iim.{Iim}
+use Rattle.px_tree.specs.Iim.{Iim}
 use Rattle.px_tree.specs.declared.entries.Head.{Head}
 use Rattle.px_tree.specs.Entry.{Entry, entry, raw, raw_size, has_raw, offset, entry_elements, widened_value, unless_record}
 use Rattle.px_tree.specs.calls.Reading.{is_whole, Shows, IsHeld}

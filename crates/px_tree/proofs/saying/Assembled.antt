@@ -9,7 +9,7 @@ use Rattle.px_bytes.specs.Checks.{Check, first_false, Refuses}
 use Rattle.px_bytes.specs.lemmas.CheckLaws.{Refuses-more, Refuses-behind, all_true}
 use Rattle.px_tree.specs.declared.tables.Directory.{Directory}
 use Rattle.px_tree.specs.declared.roles.Dir.TheVariants.{Main, Exif, Interop, Gps, Thumb}
-use Rattle.px_tree.specs.calls.Iim.{Iim}
+use Rattle.px_tree.specs.Iim.{Iim}
 use Rattle.px_tree.specs.Tree.{Fields, ExifPart, Thumbnail, Meaning}
 use Rattle.px_field.specs.Forms.{form_of}
 use Rattle.px_tree.specs.Roles.{record_tag}

@@ -14,7 +14,7 @@ use Rattle.px_field.specs.declared.Element.{Element}
 use Rattle.px_field.specs.Forms.{form_of, size}
 use Rattle.px_field.specs.Values.{Value, elements, spelled, widened}
 use Rattle.px_field.specs.lemmas.ValueLaws.{IsOf-elements, spell-elements, length-spelled, elements-spelled, count_in-times}
-use Rattle.px_tree.specs.calls.Iim.{Iim}
+use Rattle.px_tree.specs.Iim.{Iim}
 use Rattle.px_tree.specs.declared.roles.Dir.{Dir}
 use Rattle.px_tree.specs.declared.roles.Role.{Role}
 use Rattle.px_tree.specs.declared.roles.Role.TheVariants.{Plain, Widened, Forbidden, Record, JpegOffset, JpegLength, StripOffsets}

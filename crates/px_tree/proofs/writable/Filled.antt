@@ -24,7 +24,7 @@ use Rattle.px_field.specs.lemmas.ValueLaws.{length-elements}
 use Rattle.px_iim.specs.Record.{SaysIim}
 use Rattle.px_iim.specs.lemmas.RecordLaws.{computed_said, said_is_record}
 use Rattle.px_iim.specs.lemmas.BoundLaws.{normal_bound}
-use Rattle.px_tree.specs.calls.Iim.{Iim, iim_of, IsRecord, normal_iim}
+use Rattle.px_tree.specs.Iim.{Iim, iim_of, IsRecord, normal_iim}
 use Rattle.px_tree.specs.declared.roles.Dir.{Dir}
 use Rattle.px_tree.specs.declared.roles.Dir.TheVariants.{Main, Exif, Interop, Gps, Thumb}
 use Rattle.px_tree.specs.declared.roles.Role.{Role}

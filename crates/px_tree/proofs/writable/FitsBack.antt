@@ -20,7 +20,7 @@ use Rattle.px_field.specs.Forms.{form_of, size}
 use Rattle.px_field.specs.Values.{Value, IsOf, IsValue, spelled, widened}
 use Rattle.px_field.specs.lemmas.PieceLaws.{bytes_take, bytes_drop, each_piece}
 use Rattle.px_field.specs.lemmas.ValueLaws.{IsOf-elements}
-use Rattle.px_tree.specs.calls.Iim.{Iim, iim_of}
+use Rattle.px_tree.specs.Iim.{Iim, iim_of}
 use Rattle.px_tree.specs.declared.roles.Dir.{Dir}
 use Rattle.px_tree.specs.declared.roles.Role.{Role}
 use Rattle.px_tree.specs.declared.roles.Role.TheVariants.{Plain, Widened, Forbidden, Record, JpegOffset, JpegLength, StripOffsets}

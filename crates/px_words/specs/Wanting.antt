@@ -1,10 +1,10 @@
--- Want of memory where the words of a match are copied.
+-- Out of memory while the arguments of a match are copied.
 use Rattle.std.specs.Prelude.{◌≡◌, ◌+◌, ℕ}
 use Rattle.px_words.specs.declared.words.Words.{Words}
 use Rattle.px_words.specs.declared.words.Words.TheVariants as words
 
--- want of memory met one refused growth, and no other answer did. `old` and `new` say how many growths memory had refused before
--- the call, and how many it has behind it
+-- out of memory met one failed allocation, and no other answer did: `old` and `new` are the counts of failed allocations before and
+-- after the call
 abbrev pub LacksWords : Words → ℕ → ℕ → Type 0
 LacksWords words.NoMemory old new = new ≡ old + 1
 LacksWords words.Filter old new = new ≡ old
