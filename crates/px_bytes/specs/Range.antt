@@ -30,10 +30,6 @@ shares r s = nat_lt 0 r.size && nat_lt 0 s.size && nat_lt r.start (s.start + s.s
 abbrev pub is_free : List Range → Range → Bool
 is_free held r = list_all (λ s. not (shares r s)) held
 
--- lists that leave the same ranges free
-abbrev pub SameFree : List Range → List Range → Type 0
-SameFree xs ys = (s n : ℕ) → is_free xs (range s n) ≡ is_free ys (range s n)
-
 -- the ranges of the list leave the same places free as those that are held
 pub record Agrees (taken : List Range) (held : List (ℕ × ℕ)) : Type 0 where
   pub free : (s n : ℕ) → is_free taken (range s n) ≡ true → IsFree held s (s + n)

@@ -5,3 +5,5 @@ pub mod Grown
 pub mod Writing
 pub mod Marked
 pub mod Spaces
+pub mod Reading
+pub mod Freed

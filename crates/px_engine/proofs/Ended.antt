@@ -9,11 +9,12 @@ use Rattle.px_engine.specs.declared.faults.Side.TheVariants.{First}
 use Rattle.px_engine.specs.declared.faults.CompareFault.{CompareFault}
 use Rattle.px_engine.specs.declared.kinds.BlockKind.{BlockKind}
 use Rattle.px_engine.specs.Files.{Said, normal, block_of}
-use Rattle.px_engine.specs.Hand.{IsKindOf, IsUnformed}
+use Rattle.px_engine.specs.Hand.{IsKindOf}
+use Rattle.px_engine.specs.calls.Ends.{IsUnformed, WritesSaid}
 use Rattle.px_engine.specs.Headline.{IsFormOf, IsUnwritten}
 use Rattle.px_engine.specs.Lacking.{LacksFault, LacksRun}
 use Rattle.px_engine.specs.Input.{IsSaid, IsUnsaid}
-use Rattle.px_engine.specs.Runs.{KnownSaid, Stops, Checks, Normalises, WritesSaid, StopsAt, Compares}
+use Rattle.px_engine.specs.Runs.{KnownSaid, Stops, Checks, Normalises, StopsAt, Compares}
 use Rattle.px_engine.proofs.Judged.{known_said, known_stops}
 
 half : (file : Option (List ℕ)) (s : Said) → KnownSaid file s → limit < length (normal s)

@@ -9,7 +9,8 @@ use Rattle.px_engine.specs.declared.faults.Fault.TheVariants.{Refused, NormalToo
 use Rattle.px_engine.specs.Files.{Said}
 use Rattle.px_engine.specs.Input.{IsSaid, IsUnsaid}
 use Rattle.px_engine.specs.Lacking.{LacksRun}
-use Rattle.px_engine.specs.Prints.{WritesText, Prints}
+use Rattle.px_engine.specs.Prints.{Prints}
+use Rattle.px_engine.specs.calls.Ends.{WritesText}
 use Rattle.px_engine.specs.calls.Faults.{told}
 use Rattle.px_engine.proofs.Judged.{known_said, known_stops}
 

@@ -1,6 +1,5 @@
 -- What calls over files in hand answer.
 use Rattle.std.specs.Prelude.{◌≡◌, ◌↔◌, ◌<◌, ◌≤◌, ◌++◌, ℕ, Bool, IsTrue, List, length, drop}
-use Rattle.px_bytes.specs.Parts.{limit}
 use Rattle.px_engine.specs.declared.faults.Fault.{Fault}
 use Rattle.px_engine.specs.declared.faults.Side.{Side}
 use Rattle.px_engine.specs.declared.faults.Side.TheVariants.{First, Second}
@@ -8,8 +7,7 @@ use Rattle.px_engine.specs.declared.faults.CompareFault.{CompareFault}
 use Rattle.px_engine.specs.declared.given.Given.{Given}
 use Rattle.px_engine.specs.declared.given.Given.TheVariants.{Whole, Needs}
 use Rattle.px_engine.specs.declared.kinds.BlockKind.{BlockKind}
-use Rattle.px_engine.specs.declared.faults.Fault.TheVariants.{Refused, NormalTooLong, OutOfMemory, ReadFailed, WriteFailed}
-use Rattle.px_engine.specs.Files.{Said, kind_said, normal}
+use Rattle.px_engine.specs.Files.{Said, kind_said}
 use Rattle.px_engine.specs.Headline.{IsFormOf}
 use Rattle.px_engine.specs.Input.{IsSaid, IsUnsaid}
 
@@ -28,14 +26,6 @@ IsUnsaidOn Second f g refused fault = ((s : Said) × IsSaid f s) × IsUnsaid g r
 
 abbrev pub IsUnsaidAt : List ℕ → List ℕ → ℕ → CompareFault → Type 0
 IsUnsaidAt f g refused e = IsUnsaidOn e.side f g refused e.fault
-
--- why what is said has no form: one that is too long asks for no memory
-abbrev pub IsUnformed : Said → ℕ → Fault → Type 0
-IsUnformed s refused NormalTooLong = limit < length (normal s)
-IsUnformed s refused OutOfMemory = (0 < refused) × (length (normal s) ≤ limit)
-IsUnformed s refused (Refused cause place) = ⊥
-IsUnformed s refused ReadFailed = ⊥
-IsUnformed s refused WriteFailed = ⊥
 
 -- Of a form and the room that a caller has for it: the room begins with the form, and is as it was behind it; or it is too little,
 -- and is as it was. In both cases the form's length is told.

@@ -4,7 +4,6 @@ use Rattle.px_bytes.specs.declared.Cause.{Cause}
 use Rattle.px_bytes.specs.declared.Refusal.{Refusal}
 use Rattle.px_bytes.specs.declared.Refusal.TheVariants as refusal
 use Rattle.px_bytes.specs.Parts.{limit}
-use Rattle.px_engine.specs.declared.faults.CompareFault.{CompareFault}
 use Rattle.px_engine.specs.declared.faults.Fault.{Fault}
 use Rattle.px_engine.specs.declared.faults.Fault.TheVariants.{Refused, NormalTooLong, OutOfMemory, ReadFailed, WriteFailed}
 use Rattle.px_engine.specs.declared.kinds.BlockKind.{BlockKind}
@@ -53,11 +52,6 @@ CountsReadFault ReadFailed failed failed_now = failed_now ≡ failed + 1
 CountsReadFault (Refused cause place) failed failed_now = ⊥
 CountsReadFault NormalTooLong failed failed_now = ⊥
 CountsReadFault WriteFailed failed failed_now = ⊥
-
--- the same, of one of two files
-abbrev pub CountsReadOf : {A : Type 0} → Result A CompareFault → ℕ → ℕ → Type 0
-CountsReadOf (Ok x) failed failed_now = failed_now ≡ failed
-CountsReadOf (Err e) failed failed_now = CountsReadFault e.fault failed failed_now
 
 abbrev pub CountsRead : {A : Type 0} → Result A Fault → ℕ → ℕ → Type 0
 CountsRead (Ok x) failed failed_now = failed_now ≡ failed

@@ -1,5 +1,5 @@
 -- What `show` and `captions` make of a file.
-use Rattle.std.specs.Prelude.{◌≡◌, ◌+◌, ℕ, List, Option, Result, Ok, Err}
+use Rattle.std.specs.Prelude.{◌≡◌, ℕ, List, Option, Result, Ok, Err}
 use Rattle.std.specs.Io.KnownBytes.{Appends}
 use Rattle.px_bytes.specs.Devices.{AppendsPrefix}
 use Rattle.px_engine.specs.declared.faults.Fault.{Fault}
@@ -21,12 +21,3 @@ Prints text (Err NormalTooLong) file old new = ⊥
 -- the bytes are the text of what the bytes that were read say
 abbrev pub IsTextOf : (Said → List ℕ) → List ℕ → List ℕ → Type 0
 IsTextOf text bytes out = (s : Said) × IsSaid bytes s × (out ≡ text s)
-
--- the text was taken, or a prefix of it where a write failed
-abbrev pub WritesText : {A : Type 0} → Result A Fault → Option (List ℕ) → Option (List ℕ) → ℕ → ℕ → List ℕ → Type 0
-WritesText (Ok x) old new failed failed_now out = Appends old new out × (failed_now ≡ failed)
-WritesText (Err WriteFailed) old new failed failed_now out = AppendsPrefix old new out × (failed_now ≡ failed + 1)
-WritesText (Err (Refused cause place)) old new failed failed_now out = ⊥
-WritesText (Err OutOfMemory) old new failed failed_now out = ⊥
-WritesText (Err ReadFailed) old new failed failed_now out = ⊥
-WritesText (Err NormalTooLong) old new failed failed_now out = ⊥

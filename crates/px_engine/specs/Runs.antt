@@ -53,16 +53,6 @@ Normalises (Err NormalTooLong) file old new =
 Normalises (Err WriteFailed) file old new = (s : Said) × KnownSaid file s × AppendsPrefix old new (normal s) × (length (normal s) ≤ limit)
 Normalises (Err fault) file old new = Stops fault file × (new ≡ old)
 
--- the same, of what is said already
-abbrev pub WritesSaid : Result ℕ Fault → Option (List ℕ) → Option (List ℕ) → ℕ → ℕ → Said → Type 0
-WritesSaid (Ok n) old new failed failed_now s = Appends old new (normal s) × (n ≡ length (normal s)) × (n ≤ limit) × (failed_now ≡ failed)
-WritesSaid (Err NormalTooLong) old new failed failed_now s = (limit < length (normal s)) × (new ≡ old) × (failed_now ≡ failed)
-WritesSaid (Err OutOfMemory) old new failed failed_now s = ⊥
-WritesSaid (Err WriteFailed) old new failed failed_now s =
-    AppendsPrefix old new (normal s) × (length (normal s) ≤ limit) × (failed_now ≡ failed + 1)
-WritesSaid (Err (Refused cause place)) old new failed failed_now s = ⊥
-WritesSaid (Err ReadFailed) old new failed failed_now s = ⊥
-
 -- a failed write is answered exactly where the writer's count of failures rose
 abbrev pub CountsWrites : {A : Type 0} → Result A Fault → ℕ → ℕ → Type 0
 CountsWrites (Err WriteFailed) failed failed_now = failed_now ≡ failed + 1

@@ -3,3 +3,4 @@ pub mod Faults
 pub mod Filled
 pub mod Second
 pub mod Seen
+pub mod Ends

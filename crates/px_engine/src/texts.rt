@@ -5,7 +5,7 @@ ghost use Rattle.px_bytes.specs.Lacking.{Lacks};
 ghost use Rattle.px_bytes.specs.Waiting.{Puts};
 ghost use Rattle.px_engine.specs.Captions.{caption_text};
 ghost use Rattle.px_engine.specs.Listing.{listing};
-ghost use Rattle.px_engine.specs.Prints.{WritesText};
+ghost use Rattle.px_engine.specs.calls.Ends.{WritesText};
 ghost use Rattle.px_engine.specs.calls.Faults.{told};
 ghost use Rattle.px_engine.specs.calls.Seen.{said_of};
 

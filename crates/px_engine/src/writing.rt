@@ -2,7 +2,7 @@
 ghost use Rattle.std.specs.Prelude.{◌≡◌};
 ghost use Rattle.px_engine.specs.calls.Faults.{written};
 ghost use Rattle.px_engine.specs.Files.{CanBeWritten};
-ghost use Rattle.px_engine.specs.Runs.{WritesSaid};
+ghost use Rattle.px_engine.specs.calls.Ends.{WritesSaid};
 ghost use Rattle.px_engine.specs.calls.Seen.{said_of};
 ghost use Rattle.px_bytes.specs.Devices.{CanFail};
 

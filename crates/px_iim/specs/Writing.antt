@@ -1,15 +1,13 @@
 -- What writing a record does.
-use Rattle.std.specs.Prelude.{◌≡◌, ◌<◌, ◌≤◌, ◌+◌, ℕ, nat_le, if◌then◌else◌, List, ◌∷◌, ◌++◌, length, take, Option, Some, None, Result, Ok}
+use Rattle.std.specs.Prelude.{◌≡◌, ◌<◌, ◌≤◌, ◌+◌, ℕ, nat_le, if◌then◌else◌, List, length, Option, Some, None, Result, Ok}
 use Rattle.std.specs.Prelude.{Err}
-use Rattle.std.specs.List.{AllByRecursion}
 use Rattle.std.specs.Io.KnownBytes.{Appends}
 use Rattle.px_bytes.specs.declared.WriteRefusal.{WriteRefusal}
 use Rattle.px_bytes.specs.declared.WriteRefusal.TheVariants.{NormalTooLong, OutOfMemory, WriteFailed}
 use Rattle.px_bytes.specs.Devices.{AppendsPrefix}
 use Rattle.px_bytes.specs.Parts.{limit}
-use Rattle.px_iim.specs.DataSet.{marker}
 use Rattle.px_iim.specs.Group.{Record}
-use Rattle.px_iim.specs.Record.{normal_count, normal_iim}
+use Rattle.px_iim.specs.Record.{normal_iim}
 
 -- a normal form is counted up to this length, twice the longest block's
 abbrev pub most : ℕ
@@ -18,14 +16,6 @@ most = 33554432
 -- the length, where it is at most that
 abbrev pub within : ℕ → Option ℕ
 within n = if nat_le n most then Some n else None
-
--- each item's data has at most as many octets as a block
-abbrev pub AreShort : List (ℕ × List ℕ) → Type 0
-AreShort items = AllByRecursion (λ x. length x.1 ≤ limit) items
-
--- a DataSet up to its data
-unfoldable pub normal_head : ℕ → ℕ → ℕ → List ℕ
-normal_head rec number n = marker ∷ rec ∷ number ∷ normal_count n
 
 -- the writer has taken the record's normal form, whose length is answered; a form that is too long leaves the writer as it
 -- was; where a call failed, the writer has taken a prefix of the form
@@ -36,8 +26,3 @@ WritesIim (Err NormalTooLong) old new failed failed_now i = (limit < length (nor
 WritesIim (Err WriteFailed) old new failed failed_now i =
     (length (normal_iim i) ≤ limit) × AppendsPrefix old new (normal_iim i) × (failed_now ≡ failed + 1)
 WritesIim (Err OutOfMemory) old new failed failed_now i = ⊥
-
--- the octets stand behind the old ones; where a growth was refused, some of them may
-abbrev pub Grows : {A E : Type 0} → Result A E → List ℕ → List ℕ → List ℕ → Type 0
-Grows (Ok x) old new octets = new ≡ old ++ octets
-Grows (Err e) old new octets = take (length old) new ≡ old

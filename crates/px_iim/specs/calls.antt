@@ -3,3 +3,4 @@ pub mod View
 pub mod Reading
 pub mod Runs
 pub mod Filling
+pub mod Heads

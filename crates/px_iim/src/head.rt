@@ -2,7 +2,7 @@
 ghost use Rattle.std.specs.Prelude.{◌≡◌, ◌≤◌, ◌<◌, take};
 ghost use Rattle.px_bytes.specs.declared.Order.TheVariants.{Most};
 ghost use Rattle.px_bytes.specs.Numbers.{spelling};
-ghost use Rattle.px_iim.specs.Writing.{normal_head};
+ghost use Rattle.px_iim.specs.calls.Heads.{normal_head};
 
 use crate::dataset::{MARKER, TOP_BIT};
 use px_bytes::Order;

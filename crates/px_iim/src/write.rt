@@ -7,7 +7,8 @@ ghost use Rattle.px_bytes.specs.Parts.{limit};
 ghost use Rattle.px_bytes.specs.Waiting.{Puts, Waits, PutsTo};
 ghost use Rattle.px_iim.specs.Record.{normal_dataset, normal_iim};
 ghost use Rattle.px_iim.specs.calls.View.{item_view};
-ghost use Rattle.px_iim.specs.Writing.{AreShort, Grows, WritesIim, most, within};
+ghost use Rattle.px_iim.specs.Writing.{WritesIim, most, within};
+ghost use Rattle.px_iim.specs.calls.Heads.{Grows, AreShort};
 
 use crate::group::Item;
 use crate::head::head;

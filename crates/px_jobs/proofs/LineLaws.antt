@@ -6,7 +6,8 @@ use Rattle.px_bytes.specs.Devices.{AppendsPrefix, Writes}
 use Rattle.px_bytes.specs.Waiting.{Owes, Puts}
 use Rattle.px_bytes.specs.lemmas.WaitingLaws.{from_none, owed_all, owed_prefix, puts_both, puts_first}
 use Rattle.px_bytes.specs.lemmas.WriteLaws.{appends_kept, prefix_all}
-use Rattle.px_jobs.specs.Lines.{device, Flushes, Tells}
+use Rattle.px_jobs.specs.Lines.{device, Tells}
+use Rattle.px_jobs.specs.calls.Flushing.{Flushes}
 
 -- the first of two parts was put, and a call failed behind it
 stops_behind : (a b c : Option (List ℕ)) (h i xs ys : List ℕ) → Owes a b i (h ++ xs) → AppendsPrefix b c (i ++ ys)

@@ -9,7 +9,8 @@ use Rattle.px_engine.specs.Files.{Said}
 use Rattle.px_engine.specs.Prints.{Prints}
 use Rattle.px_engine.specs.Runs.{CountsWrites}
 use Rattle.px_jobs.specs.Lines.{device, TellsFault}
-use Rattle.px_jobs.specs.Endings.{TellsPrinted, TellsText}
+use Rattle.px_jobs.specs.Endings.{TellsText}
+use Rattle.px_jobs.specs.calls.Telling.{TellsPrinted}
 
 -- a fault that is told behind a text of which nothing was written
 moved : (e : Fault) (status failed mid now : ℕ) (old shown new : Option (List ℕ)) → mid ≡ failed → shown ≡ old

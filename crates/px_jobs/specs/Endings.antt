@@ -1,5 +1,5 @@
 -- How the runs of the program end.
-use Rattle.std.specs.Prelude.{◌≡◌, ◌≢◌, ◌⊎◌, ℕ, Bool, true, false, List, Option, Some, None, codes, Result, Ok, Err, ⊤}
+use Rattle.std.specs.Prelude.{◌≡◌, ℕ, Bool, true, false, List, Option, Some, None, codes, Result, Ok, Err, ⊤}
 use Rattle.px_engine.specs.declared.BlockKind.{BlockKind}
 use Rattle.px_engine.specs.declared.BlockKind.TheVariants as kind
 use Rattle.px_engine.specs.declared.CompareFault.{CompareFault}
@@ -46,15 +46,6 @@ TellsCompared (Err e) status lines = TellsFault e.fault (Some e.side) status lin
 -- nothing was asked of it
 abbrev pub IsIdle : Device → Type 0
 IsIdle d = (d.failed_now ≡ d.failed) × (d.new ≡ d.old)
-
--- a failed write of a text has nothing behind it; every other fault came before the text, and has its status and its line
-abbrev pub TellsBehind : Fault → ℕ → Device → Type 0
-TellsBehind e status lines = ((e ≡ WriteFailed) × (status ≡ 4) × IsIdle lines) ⊎ ((e ≢ WriteFailed) × TellsFault e None status lines)
-
--- what follows a text
-abbrev pub TellsPrinted : {A : Type 0} → Result A Fault → ℕ → Device → Type 0
-TellsPrinted (Ok x) status lines = (status ≡ 0) × IsIdle lines
-TellsPrinted (Err e) status lines = TellsBehind e status lines
 
 -- a text of what the file says: the whole of it; or a part of it, before the lines failed; or the status and the line of a
 -- fault that comes before the text

@@ -1,3 +1,4 @@
 pub mod Lines
 pub mod Endings
 pub mod Laws
+pub mod calls

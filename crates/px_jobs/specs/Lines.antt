@@ -81,12 +81,6 @@ TookPrefix d bytes = AppendsPrefix d.old d.new bytes
 abbrev pub TookNothing : Device → Type 0
 TookNothing d = Keeps d.old d.new
 
--- nothing but a flush: the status that is due, or 4 where it failed
-abbrev pub Flushes : ℕ → ℕ → Device → Type 0
-Flushes due status lines =
-    ((status ≡ due) × IsWell lines × TookNothing lines)
-    ⊎ ((status ≡ 4) × IsFailed lines × TookNothing lines)
-
 -- the status and the line that are due; or, where the writer of lines fails, status 4 and a prefix of the line
 abbrev pub Tells : ℕ → List ℕ → ℕ → Device → Type 0
 Tells due line status lines =

@@ -5,7 +5,8 @@ ghost use Rattle.px_engine.specs.declared.Fault.TheVariants.{WriteFailed};
 ghost use Rattle.px_engine.specs.Captions.{caption_text};
 ghost use Rattle.px_engine.specs.Listing.{listing};
 ghost use Rattle.px_jobs.specs.Endings.{accepted, compared, compared_status, Ends, EndsCheck, EndsCompare, EndsNormalise, EndsText};
-ghost use Rattle.px_jobs.specs.Endings.{TellsBehind, TellsChecked, TellsCompared, TellsPrinted, TellsWritten};
+ghost use Rattle.px_jobs.specs.Endings.{TellsChecked, TellsCompared, TellsWritten};
+ghost use Rattle.px_jobs.specs.calls.Telling.{TellsPrinted, TellsBehind};
 ghost use Rattle.px_jobs.specs.Lines.{device};
 ghost use Rattle.px_bytes.specs.Devices.{CanFail};
 

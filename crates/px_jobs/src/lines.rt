@@ -3,7 +3,8 @@ ghost use Rattle.std.specs.Prelude.{◌≡◌, ◌++◌, None};
 ghost use Rattle.px_bytes.specs.Devices.{CanFail, Counts, Writes};
 ghost use Rattle.px_bytes.specs.Waiting.{Puts};
 ghost use Rattle.px_engine.specs.declared.Fault.TheVariants.{Refused};
-ghost use Rattle.px_jobs.specs.Lines.{name_of, end_of, line_of, status_of, device, Flushes, Tells, TellsFault, TellsWords, is_ended};
+ghost use Rattle.px_jobs.specs.Lines.{name_of, end_of, line_of, status_of, device, Tells, TellsFault, TellsWords, is_ended};
+ghost use Rattle.px_jobs.specs.calls.Flushing.{Flushes};
 
 use itoa::Buffer;
 use px_bytes::{Cause, Failed, Pending, Sink, write_whole};

@@ -1,16 +1,12 @@
 -- What writing a normal form does.
-use Rattle.std.specs.Prelude.{◌≡◌, ◌<◌, ◌≤◌, ◌+◌, ℕ, nat_lt, if◌then◌else◌, List, [], length, Option, Result, Ok, Err}
+use Rattle.std.specs.Prelude.{◌≡◌, ◌<◌, ◌≤◌, ◌+◌, ℕ, List, length, Option, Result, Ok, Err}
 use Rattle.std.specs.Io.KnownBytes.{Appends}
 use Rattle.px_bytes.specs.declared.WriteRefusal.{WriteRefusal}
 use Rattle.px_bytes.specs.declared.WriteRefusal.TheVariants.{NormalTooLong, OutOfMemory, WriteFailed}
-use Rattle.px_bytes.specs.declared.Order.TheVariants.{Most}
 use Rattle.px_bytes.specs.Devices.{AppendsPrefix}
 use Rattle.px_bytes.specs.Parts.{limit}
 use Rattle.px_tree.specs.Tree.{Meaning}
-use Rattle.px_tree.specs.Fits.{Item, item_size}
-use Rattle.px_layout.specs.Plans.{Plan}
-use Rattle.px_layout.specs.Laid.{item_bytes}
-use Rattle.px_layout.specs.Normal.{padded, normal_exif}
+use Rattle.px_layout.specs.Normal.{normal_exif}
 
 -- the writer has taken the meaning's normal form, whose length is answered; a form that is too long leaves the writer as it was;
 -- where a call failed, the writer has taken a prefix of the form; want of memory is never answered
@@ -21,7 +17,3 @@ WritesExif (Err NormalTooLong) old new failed failed_now m = (limit < length (no
 WritesExif (Err OutOfMemory) old new failed failed_now m = ⊥
 WritesExif (Err WriteFailed) old new failed failed_now m =
     (length (normal_exif m) ≤ limit) × AppendsPrefix old new (normal_exif m) × (failed_now ≡ failed + 1)
-
--- a placed value of the normal form with its padding, nothing where the value stands in its entry
-abbrev pub placed_bytes : Plan → ℕ × Item → List ℕ
-placed_bytes plan i = if nat_lt 4 (item_size i.1) then padded (item_bytes plan Most 0 i.1) else []

@@ -4,3 +4,4 @@ pub mod Forms
 pub mod Given
 pub mod Items
 pub mod Layers
+pub mod Placed

@@ -13,7 +13,7 @@ ghost use Rattle.px_layout.specs.Laid.{item_bytes, contents_of_dir, contents};
 ghost use Rattle.px_layout.specs.Normal.{normal_exif, padded};
 ghost use Rattle.px_layout.specs.calls.Given.{TellsAll, field_bytes};
 ghost use Rattle.px_layout.specs.calls.Forms.{said_in, plan_in, IsForm};
-ghost use Rattle.px_layout.specs.Writing.{placed_bytes};
+ghost use Rattle.px_layout.specs.calls.Placed.{placed_bytes};
 ghost use Rattle.px_field.specs.Values.{spelled};
 
 use crate::entries::{Entries, entries_in};

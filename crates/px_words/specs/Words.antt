@@ -84,26 +84,9 @@ TakesCommands = AreTaken (codes "show" ∷ codes "a" ∷ []) × AreTaken (codes 
     × AreTaken (codes "captions" ∷ codes "a" ∷ []) × AreTaken (codes "normalise" ∷ codes "a" ∷ codes "b" ∷ [])
     × AreTaken (codes "compare" ∷ codes "a" ∷ codes "b" ∷ []) × AreTaken (codes "check" ∷ codes "--" ∷ codes "-a" ∷ [])
 
--- what a match asks for: the files that it names, and nothing but files, want of memory or that refusal
-abbrev pub AsksIn : Option (Text × List Row) → Words → Type 0
-AsksIn met w = Asks met w × AsksFiles met w
-
--- a text, or that clap wanted memory
-abbrev pub IsTold : Words → Type 0
-IsTold (words.Help text) = ⊤
-IsTold (words.Refused text) = ⊤
-IsTold words.Unread = ⊤
-IsTold _ = ⊥
-
 -- clap answers with what was asked of it, and not for a mistake in the words
 abbrev pub IsShown : ErrorKind → Type 0
 IsShown k = (k ≡ kind.DisplayHelp) ⊎ (k ≡ kind.DisplayVersion)
-
--- help or the version where clap's error is of that kind, and a refusal where it is of another
-abbrev pub TellsKind : ErrorKind → Words → Type 0
-TellsKind k (words.Help text) = IsShown k
-TellsKind k (words.Refused text) = IsShown k → ⊥
-TellsKind k _ = ⊤
 
 -- the same of the kinds that clap's error may have: a refusal is for a mistake, or, where there is none, for one word for both
 -- files of normalise; files are worked on only where there is none

@@ -3,7 +3,8 @@ use Rattle.std.proofs.Common.{◌≡◌, ℕ, zero, suc, ◌+◌, ◌-◌, ◌<�
 use Rattle.std.proofs.Common.{◌∷◌, ◌++◌, refl, sym, ap, ◌∙◌, subst, arith, ltb-true, lt-ltb}
 use Rattle.std.specs.List.{AllByRecursion}
 use Rattle.std.proofs.lemmas.Bool.{and_parts, and_from, not-true, not_from_false, both_ways, cases_lt, false_from_ne_true}
-use Rattle.px_bytes.specs.Range.{Range, range, IsIn, Apart, AllApart, shares, is_free, SameFree}
+use Rattle.px_bytes.specs.Range.{Range, range, IsIn, Apart, AllApart, shares, is_free}
+use Rattle.px_bytes.specs.calls.Freed.{SameFree}
 
 -- ---- the test
 

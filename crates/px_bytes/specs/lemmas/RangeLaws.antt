@@ -3,7 +3,8 @@ use Rattle.std.proofs.Common.{subst, [], refl, None, Some, ◌≡◌, ℕ, ◌+�
 use Rattle.std.proofs.Common.{sym, ◌∙◌, arith, ltb-true, lt-ltb}
 use Rattle.std.proofs.lemmas.Bool.{and_parts, and_from, not-true, not_from_false, both_ways, cases_lt, false_from_ne_true}
 use Rattle.px_bytes.specs.Held.{Holds, IsFree, Takes}
-use Rattle.px_bytes.specs.Range.{Range, range, shares, is_free, SameFree, Agrees}
+use Rattle.px_bytes.specs.Range.{Range, range, shares, is_free, Agrees}
+use Rattle.px_bytes.specs.calls.Freed.{SameFree}
 
 -- ranges that do not share a byte, as one fact on numbers
 gap_from_test : (s n t m : ℕ) → not (shares (range s n) (range t m)) ≡ true → min (s + n) (t + m) ≤ max s t

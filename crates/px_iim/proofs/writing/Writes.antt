@@ -7,7 +7,8 @@ use Rattle.std.proofs.lemmas.List.{take-take, take_at}
 use Rattle.std.proofs.lemmas.Option.{slice_get-map, slice_get-get_or}
 use Rattle.px_bytes.specs.Parts.{limit}
 use Rattle.px_bytes.specs.lemmas.WaitingLaws.{HasPut, FailsPut, parts_more, put_both, fails_first, fails_second}
-use Rattle.px_iim.specs.Writing.{AreShort, Grows, normal_head, most, within as within_most}
+use Rattle.px_iim.specs.Writing.{most, within as within_most}
+use Rattle.px_iim.specs.calls.Heads.{Grows, normal_head, AreShort}
 use Rattle.px_iim.specs.Group.{Group, Record, IsGroup, IsItem}
 use Rattle.px_iim.specs.Record.{normal_dataset, normal_group, normal_iim}
 use Rattle.px_iim.specs.calls.View.{item_view}

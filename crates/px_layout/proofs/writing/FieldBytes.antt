@@ -9,7 +9,7 @@ use Rattle.px_tree.specs.Fits.{Item, Field, item_size}
 use Rattle.px_layout.specs.Plans.{Plan}
 use Rattle.px_layout.specs.Laid.{long_bytes, item_bytes}
 use Rattle.px_layout.specs.Normal.{padded}
-use Rattle.px_layout.specs.Writing.{placed_bytes}
+use Rattle.px_layout.specs.calls.Placed.{placed_bytes}
 use Rattle.px_layout.specs.calls.Given.{head_bytes, entry_given, field_given, field_bytes}
 use Rattle.px_layout.proofs.writing.Runs.{given_far, given_near}
 

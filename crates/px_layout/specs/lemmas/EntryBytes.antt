@@ -22,7 +22,7 @@ use Rattle.px_layout.specs.Laid.{long_bytes, item_bytes, last_bytes, entry_bytes
 use Rattle.px_layout.specs.Laid.{thumb_contents, contents, header}
 use Rattle.px_layout.specs.Normal.{padded}
 use Rattle.px_layout.specs.calls.Given.{head_bytes}
-use Rattle.px_layout.specs.Writing.{placed_bytes}
+use Rattle.px_layout.specs.calls.Placed.{placed_bytes}
 use Rattle.px_layout.specs.lemmas.ItemLaws.{Suits, length_is}
 use Rattle.px_layout.specs.lemmas.EntryLaws.{Good}
 use Rattle.px_layout.specs.lemmas.SizeLaws.{length_table}

@@ -14,7 +14,8 @@ use Rattle.px_tree.specs.Tree.{Fields}
 use Rattle.px_tree.specs.Roles.{role}
 use Rattle.px_field.specs.Values.{Value}
 use Rattle.px_tree.specs.Entry.{Entry, entry, field, value_in}
-use Rattle.px_bytes.specs.Range.{Range, SameFree, Agrees}
+use Rattle.px_bytes.specs.Range.{Range, Agrees}
+use Rattle.px_bytes.specs.calls.Freed.{SameFree}
 use Rattle.px_tree.specs.Footprint.{placed_range}
 use Rattle.px_bytes.specs.Checks.{Check, first_false, Refuses}
 use Rattle.px_tree.specs.Checks.{entry_checks, entries_checks}

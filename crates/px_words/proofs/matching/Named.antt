@@ -5,8 +5,8 @@ use Rattle.std.specs.Str.{bytes_eq}
 use Rattle.clap.specs.Walk.{Row, Text, first_of}
 use Rattle.px_words.specs.declared.words.Words.{Words}
 use Rattle.px_words.specs.declared.words.Words.TheVariants as words
-use Rattle.px_words.specs.Words.{AsksIn, out_is_file}
-use Rattle.px_words.specs.calls.Met.{IsMet, IsThere, takes_file}
+use Rattle.px_words.specs.Words.{out_is_file}
+use Rattle.px_words.specs.calls.Met.{AsksIn, IsMet, IsThere, takes_file}
 
 named : (name word : Text) → true ≡ bytes_eq name word → name ≡ word
 named name word is = (bytes_eq-Decides name word).0 (sym is)

@@ -9,8 +9,8 @@ use Rattle.clap.specs.declared.parser.matches.ArgMatches.{ArgMatches}
 use Rattle.clap.proofs.OnLiterals.{clap_on_literals}
 use Rattle.px_words.specs.declared.words.Words.{Words}
 use Rattle.px_words.specs.declared.words.Words.TheVariants as words
-use Rattle.px_words.specs.Words.{AreTaken, Asks, AsksFiles, AsksIn, IsFor, IsTold, TellsKind, exifnorm}
-use Rattle.px_words.specs.calls.Met.{IsMet}
+use Rattle.px_words.specs.Words.{AreTaken, Asks, AsksFiles, IsFor, exifnorm}
+use Rattle.px_words.specs.calls.Met.{TellsKind, IsTold, AsksIn, IsMet}
 use Rattle.px_words.proofs.WordLaws.{of_error, of_match, of_none, of_told}
 use Rattle.px_words.proofs.matching.Whole.{met}
 

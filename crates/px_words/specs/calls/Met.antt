@@ -3,6 +3,12 @@ use Rattle.std.specs.Prelude.{◌≡◌, ◌⊎◌, Bool, true, is_some, List, [
 use Rattle.std.specs.List.{list_any}
 use Rattle.std.specs.Str.{bytes_eq}
 use Rattle.clap.specs.Words.{Row, Text, first_of}
+use Rattle.std.specs.Prelude.{⊤}
+use Rattle.clap.specs.declared.error.ErrorKind.{ErrorKind}
+use Rattle.px_words.specs.declared.words.Words.{Words}
+use Rattle.px_words.specs.declared.words.Words.TheVariants as words
+use Rattle.px_words.specs.Words.{Asks, AsksFiles}
+use Rattle.px_words.specs.Words.{IsShown}
 
 -- the rows have a word of this id
 abbrev pub IsThere : Text → List Row → Type 0
@@ -18,3 +24,20 @@ IsMet None = ⊥
 IsMet (Some (name, rows)) = ((takes_file name ≡ true) × IsThere (codes "FILE") rows)
     ⊎ (((name ≡ codes "normalise") × IsThere (codes "FILE") rows × IsThere (codes "OUT") rows)
     ⊎ ((name ≡ codes "compare") × IsThere (codes "FIRST") rows × IsThere (codes "SECOND") rows))
+
+-- what a match asks for: the files that it names, and nothing but files, want of memory or that refusal
+abbrev pub AsksIn : Option (Text × List Row) → Words → Type 0
+AsksIn met w = Asks met w × AsksFiles met w
+
+-- a text, or that clap wanted memory
+abbrev pub IsTold : Words → Type 0
+IsTold (words.Help text) = ⊤
+IsTold (words.Refused text) = ⊤
+IsTold words.Unread = ⊤
+IsTold _ = ⊥
+
+-- help or the version where clap's error is of that kind, and a refusal where it is of another
+abbrev pub TellsKind : ErrorKind → Words → Type 0
+TellsKind k (words.Help text) = IsShown k
+TellsKind k (words.Refused text) = IsShown k → ⊥
+TellsKind k _ = ⊤

@@ -4,7 +4,7 @@ use Rattle.px_bytes.specs.declared.Order.TheVariants.{Most}
 use Rattle.px_bytes.specs.Numbers.{spelling}
 use Rattle.px_iim.specs.DataSet.{marker, top_bit}
 use Rattle.px_iim.specs.Record.{normal_count}
-use Rattle.px_iim.specs.Writing.{normal_head}
+use Rattle.px_iim.specs.calls.Heads.{normal_head}
 use Rattle.px_iim.proofs.reading.Octets.{not_less}
 use Rattle.px_iim.proofs.head.head.Goals as goal
 

@@ -2,7 +2,7 @@ use Rattle.std.proofs.Common.{◌≡◌, take, flat_map}
 use Rattle.px_bytes.specs.lemmas.WaitingLaws.{HasPut}
 use Rattle.px_layout.specs.Normal.{normal_plan}
 use Rattle.px_layout.specs.calls.Forms.{said_in}
-use Rattle.px_layout.specs.Writing.{placed_bytes}
+use Rattle.px_layout.specs.calls.Placed.{placed_bytes}
 use Rattle.px_layout.proofs.put_form.put_values.Given as goal
 
 -- the values so far were put, and no call failed

@@ -1,0 +1,20 @@
+-- The head of a DataSet in the normal form, and lengths that grow with it.
+use Rattle.std.specs.Prelude.{◌≡◌, ◌≤◌, ◌+◌, ℕ, List, ◌∷◌, ◌++◌, length, take, Result, Ok}
+use Rattle.std.specs.Prelude.{Err}
+use Rattle.std.specs.List.{AllByRecursion}
+use Rattle.px_bytes.specs.Parts.{limit}
+use Rattle.px_iim.specs.DataSet.{marker}
+use Rattle.px_iim.specs.Record.{normal_count}
+
+-- each item's data has at most as many octets as a block
+abbrev pub AreShort : List (ℕ × List ℕ) → Type 0
+AreShort items = AllByRecursion (λ x. length x.1 ≤ limit) items
+
+-- a DataSet up to its data
+unfoldable pub normal_head : ℕ → ℕ → ℕ → List ℕ
+normal_head rec number n = marker ∷ rec ∷ number ∷ normal_count n
+
+-- the octets stand behind the old ones; where a growth was refused, some of them may
+abbrev pub Grows : {A E : Type 0} → Result A E → List ℕ → List ℕ → List ℕ → Type 0
+Grows (Ok x) old new octets = new ≡ old ++ octets
+Grows (Err e) old new octets = take (length old) new ≡ old

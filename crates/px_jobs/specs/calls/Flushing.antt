@@ -1,0 +1,9 @@
+-- A flush of standard output.
+use Rattle.std.specs.Prelude.{◌≡◌, ◌⊎◌, ℕ}
+use Rattle.px_jobs.specs.Lines.{Device, IsWell, IsFailed, TookNothing}
+
+-- nothing but a flush: the status that is due, or 4 where it failed
+abbrev pub Flushes : ℕ → ℕ → Device → Type 0
+Flushes due status lines =
+    ((status ≡ due) × IsWell lines × TookNothing lines)
+    ⊎ ((status ≡ 4) × IsFailed lines × TookNothing lines)
