@@ -1,5 +1,5 @@
 // DataSets, and the groups that they belong to.
-ghost use Rattle.std.specs.Prelude.{◌≡◌, ◌+◌, ◌*◌, ◌/◌, ◌<◌, ◌≤◌, max, vec_len, vec_capacity, OnOk};
+ghost use Rattle.std.specs.Prelude.{◌≡◌, ◌+◌, ◌*◌, ◌/◌, ◌<◌, ◌≤◌, insert, max, vec_len, vec_capacity, OnOk, OnErr};
 ghost use Rattle.px_bytes.specs.Lacking.{Lacks};
 ghost use Rattle.px_bytes.specs.Parts.{limit};
 ghost use Rattle.px_iim.specs.Group.{named};
@@ -61,7 +61,7 @@ fn room_for(len: usize) -> usize
 }
 
 // Makes room for one more in a full list: in an empty one for that one alone, since many records have one DataSet.
-pub(crate) fn make_room<'a>(memory: &mut Memory, list: &mut Vec<Item<'a>>) -> Result<(), Refused>
+fn make_room<'a>(memory: &mut Memory, list: &mut Vec<Item<'a>>) -> Result<(), Refused>
     ensures items { list.new.items ≡ list.old.items }
     ensures len { vec_len list.new ≡ vec_len list.old }
     ensures room { OnOk result (vec_len list.new < vec_capacity list.new) }
@@ -78,6 +78,26 @@ pub(crate) fn make_room<'a>(memory: &mut Memory, list: &mut Vec<Item<'a>>) -> Re
         return memory.reserve_exact(list, 1);
     }
     memory.reserve_exact(list, room_for(list.len()))
+}
+
+// Puts an item before the one at a place; at the end, where most belong, nothing has to be moved.
+pub(crate) fn put_at<'a>(
+    memory: &mut Memory,
+    list: &mut Vec<Item<'a>>,
+    at: usize,
+    item: Item<'a>,
+) -> Result<(), Refused>
+    requires { at ≤ vec_len list.old }
+    ensures done { OnOk result (list.new.items ≡ insert list.old.items at item.entry) }
+    ensures failed { OnErr result (list.new.items ≡ list.old.items) }
+    ensures memory { Lacks result memory.old memory.new }
+{
+    make_room(memory, list)?;
+    if at == list.len() {
+        list.push_reserved(item);
+        return Ok(());
+    }
+    memory.insert(list, at, item)
 }
 
 // Makes room for just so many more.

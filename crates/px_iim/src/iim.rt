@@ -8,7 +8,7 @@ ghost use Rattle.px_iim.specs.calls.Runs.{runs, InOrder, AreNumbers};
 ghost use Rattle.px_iim.specs.calls.View.{dataset_view, item_view, part_view, octets_left, octets_of};
 ghost use Rattle.px_iim.specs.Writing.{within};
 
-use crate::group::{All, Item, key_of, make_room, make_room_for};
+use crate::group::{All, Item, key_of, make_room_for, put_at};
 use crate::length::longer;
 use crate::places::{count_before, place_behind};
 use crate::walk::Groups;
@@ -126,8 +126,7 @@ impl<'a> Iim<'a> {
             number,
             octets,
         };
-        make_room(memory, &mut self.items)?;
-        memory.insert(&mut self.items, at, item)?;
+        put_at(memory, &mut self.items, at, item)?;
         self.form_len = longer(self.form_len, &item);
         Ok(())
     }

@@ -53,7 +53,7 @@ fn read_groups<'a>(memory: &mut Memory, bytes: &'a [u8]) -> Result<Iim<'a>, Refu
 /// than five octets are left, LengthForm where an extended count has no octets or more than four, and
 /// DataSetCut where its octets or the data pass the end. The block ends behind a DataSet where at most
 /// three octets are left, all of them zero. Places count from the first octet. OutOfMemory is answered
-/// where a growth of the record was refused.
+/// where a growth was refused, of the record or of the counters by which DataSets are put in order.
 pub fn read_iim<'a>(alloc: Global, bytes: &'a [u8]) -> Result<Iim<'a>, Refusal>
     ensures judged { Judges result (iim_checks bytes.now) (SaysIim bytes.now) }
     ensures computed { IfOk result (λ i. iim_of bytes.now ≡ Some i) }

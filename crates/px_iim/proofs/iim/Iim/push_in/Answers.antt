@@ -13,15 +13,14 @@ use Rattle.px_iim.proofs.reading.Parts.{inserted_order, inserted_numbers, insert
 use Rattle.px_iim.proofs.iim.Iim.push_in.Goals as goal
 
 -- the list with one DataSet more, at its place
-put_in : (ss seen moved new : List Item) (at key : ℕ) (x : Item) → seen ≡ ss → moved ≡ ss → new ≡ insert moved at x
+put_in : (ss seen new : List Item) (at key : ℕ) (x : Item) → seen ≡ ss → new ≡ insert ss at x
     → key ≡ key_of (dataset_view x) → named (dataset_view x).rec (dataset_view x).number < 256
     → ((k : ℕ) (d : Item) → k < at → key_of (dataset_view (get_or seen k d)) ≤ key)
     → ((k : ℕ) (d : Item) → at ≤ k → k < length seen → key < key_of (dataset_view (get_or seen k d)))
     → InOrder (map dataset_view ss) → AreNumbers (map dataset_view ss)
     → InOrder (map dataset_view new) × AreNumbers (map dataset_view new)
     × (runs (map dataset_view new) ≡ put (dataset_view x) (runs (map dataset_view ss)))
-put_in ss seen moved new at key x s m n e byte front behind o w =
-    let q : new ≡ insert ss at x = n ∙ ap (λ (l : List Item). insert l at x) m in
+put_in ss seen new at key x s q e byte front behind o w =
     let f : (k : ℕ) (d : Item) → k < at → key_of (dataset_view (get_or ss k d)) ≤ key_of (dataset_view x) = λ k d l.
     subst (λ (l : List Item). key_of (dataset_view (get_or l k d)) ≤ key_of (dataset_view x)) s (omega (arith, front k d l, e)) in
     let b : (k : ℕ) (d : Item) → at ≤ k → k < length ss → key_of (dataset_view x) < key_of (dataset_view (get_or ss k d)) = λ k d l j.
@@ -42,8 +41,8 @@ invariant_of-self-2 c =
     let ss = c.self.inside.items.items in
     let i = runs (map dataset_view ss) in
     let (order, numbers, e) =
-    put_in ss c.deref.result.now c.make_room.new.list.items c.insert.new.list.items c.place_behind-at.result c.key_of.result x
-    c.deref.ensures.value c.make_room.ensures.items c.in_ok-insert.ensures.items c.key_of.ensures.value c.key_of.ensures.byte
+    put_in ss c.deref.result.now c.put_at.new.list.items c.place_behind-at.result c.key_of.result x
+    c.deref.ensures.value c.in_ok-put_at.ensures.done c.key_of.ensures.value c.key_of.ensures.byte
     (λ k y l. c.place_behind-at.ensures.front k y l) (λ k y l j. c.place_behind-at.ensures.behind k y l j) c.self.invariant.0
     c.self.invariant.1 in
     let whole =
@@ -69,8 +68,8 @@ pub returns-clause-done : goal.returns-clause-done
 returns-clause-done c =
     let x : Item = record { rec = c.args.rec; number = c.args.number; octets = c.args.octets } in
     let (order, numbers, e) =
-    put_in c.self.inside.items.items c.deref.result.now c.make_room.new.list.items c.insert.new.list.items c.place_behind-at.result
-    c.key_of.result x c.deref.ensures.value c.make_room.ensures.items c.in_ok-insert.ensures.items c.key_of.ensures.value
+    put_in c.self.inside.items.items c.deref.result.now c.put_at.new.list.items c.place_behind-at.result
+    c.key_of.result x c.deref.ensures.value c.in_ok-put_at.ensures.done c.key_of.ensures.value
     c.key_of.ensures.byte (λ k y l. c.place_behind-at.ensures.front k y l) (λ k y l j. c.place_behind-at.ensures.behind k y l j)
     c.self.invariant.0 c.self.invariant.1 in
     e ∙ ap (put (dataset_view x)) c.self.view_is
