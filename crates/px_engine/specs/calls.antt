@@ -4,3 +4,4 @@ pub mod Filled
 pub mod Second
 pub mod Seen
 pub mod Ends
+pub mod Kinds

@@ -12,24 +12,25 @@ ghost use Rattle.px_engine.specs.Prints.{IsTextOf};
 use crate::faults::{CompareFault, Fault, Side};
 use crate::forms::{form_of, put_said};
 use crate::given::Given;
-use crate::judging::{judge, judge_side, kind_in, same_second};
+use crate::input::judge_any_in;
+use crate::judging::{judge, judge_side, same_second};
 use crate::kinds::BlockKind;
 use crate::texts::{caption_text, listing};
 use px_bytes::Memory;
 use std::alloc::Global;
 
 /// Which kind of block a file holds, where that says something. The fault is `Refused`, by the first
-/// fault of the block, or `OutOfMemory`, exactly where a growth was refused. It takes memory for what the
-/// file says, and makes no copy of it.
+/// fault of the block, or `OutOfMemory`, exactly where a growth was refused. It takes memory for what an
+/// Exif block says, and none for a block of DataSets, of which it keeps nothing; it makes no copy of the file.
 pub fn check_of_in(memory: &mut Memory, file: &[u8]) -> Result<BlockKind, Fault>
     ensures kind { IfOk result (IsKindOf file.now) }
     ensures unsaid { IfErr result (IsUnsaid file.now memory.new) }
     ensures memory { LacksRun result memory.old memory.new }
 {
-    let said = judge(memory, file)?;
-    let kind = kind_in(&said);
-    drop(said);
-    Ok(kind)
+    match judge_any_in(memory, file) {
+        Ok(kind) => Ok(kind),
+        Err(refusal) => Err(Fault::from(refusal)),
+    }
 }
 
 /// The same with memory of its own.

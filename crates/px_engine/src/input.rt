@@ -7,7 +7,9 @@ ghost use Rattle.px_engine.specs.declared.kinds.BlockKind.TheVariants as kind;
 ghost use Rattle.px_engine.specs.Files as said;
 ghost use Rattle.px_engine.specs.Input.{IsSaidIn, IsRefusedIn, IsSaid, IsRefused, CountsRead};
 ghost use Rattle.px_engine.specs.calls.Ends.{CountsReadOf};
+ghost use Rattle.px_engine.specs.Hand.{IsKindOf};
 ghost use Rattle.px_engine.specs.Lacking.{LacksRun, LacksPair};
+ghost use Rattle.px_engine.specs.calls.Kinds.{SaysKind};
 ghost use Rattle.px_engine.specs.calls.Seen.{said_of};
 ghost use Rattle.px_bytes.specs.Devices.{CanFail};
 
@@ -15,7 +17,7 @@ use crate::faults::{CompareFault, Fault, Side};
 use crate::kinds::{BlockKind, block_of, kind_of};
 use crate::meanings::Said;
 use px_bytes::{Block, LIMIT, Memory, Refusal, Source, read_up_to_in};
-use px_iim::{Iim, read_iim_in};
+use px_iim::{Iim, judge_iim, read_iim_in};
 use px_tree::{Meaning, read_block_in};
 use std::alloc::Global;
 
@@ -86,6 +88,49 @@ fn read_record<'a>(memory: &mut Memory, bytes: &'a [u8]) -> Result<Iim<'a>, Refu
     ensures memory { LacksBlock result memory.old memory.new }
 {
     read_iim_in(memory, bytes)
+}
+
+// Judges a block as an Exif block.
+fn judge_exif(memory: &mut Memory, bytes: &[u8]) -> Result<(), Refusal>
+    ensures said { IfOk result (λ u. SaysKind kind.Exif bytes.now) }
+    ensures refused { IfErr result (IsRefusedIn kind.Exif bytes.now memory.new) }
+    ensures memory { LacksBlock result memory.old memory.new }
+{
+    let meaning = read_exif(memory, bytes)?;
+    drop(meaning);
+    Ok(())
+}
+
+// Judges a block as a block of DataSets, and keeps nothing of it.
+fn judge_record(bytes: &[u8]) -> Result<(), Refusal>
+    ensures said { IfOk result (λ u. SaysKind kind.Iim bytes.now) }
+    ensures refused { (refused : ℕ) → IfErr result (IsRefusedIn kind.Iim bytes.now refused) }
+    ensures memory { (refused : ℕ) → LacksBlock result refused refused }
+{
+    judge_iim(bytes)
+}
+
+// Judges a block as one of this kind.
+fn judge_block(memory: &mut Memory, kind: BlockKind, bytes: &[u8]) -> Result<(), Refusal>
+    ensures said { IfOk result (λ u. SaysKind kind bytes.now) }
+    ensures refused { IfErr result (IsRefusedIn kind bytes.now memory.new) }
+    ensures memory { LacksBlock result memory.old memory.new }
+{
+    match kind {
+        BlockKind::Exif => judge_exif(memory, bytes),
+        BlockKind::Iim => judge_record(bytes),
+    }
+}
+
+// The kind of the block in a file, where that says something. It takes memory for what an Exif block says.
+pub(crate) fn judge_any_in(memory: &mut Memory, file: &[u8]) -> Result<BlockKind, Refusal>
+    ensures kind { IfOk result (IsKindOf file.now) }
+    ensures refused { IfErr result (IsRefused file.now memory.new) }
+    ensures memory { LacksBlock result memory.old memory.new }
+{
+    let kind = kind_of(file);
+    judge_block(memory, kind, block_of(file))?;
+    Ok(kind)
 }
 
 /// What a file says: an Exif block behind the six bytes `45 78 69 66 00 00`, or, where its first octet

@@ -1,6 +1,5 @@
 // What a file in hand says, or why it says nothing.
 ghost use Rattle.std.specs.Prelude.{◌≡◌, IfOk, IfErr};
-ghost use Rattle.px_engine.specs.Files.{kind_said};
 ghost use Rattle.px_engine.specs.Input.{IsSaid, IsUnsaid};
 ghost use Rattle.px_engine.specs.Lacking.{LacksRun, LacksPair};
 ghost use Rattle.px_engine.specs.calls.Second.{SaysSecond};
@@ -8,7 +7,6 @@ ghost use Rattle.px_engine.specs.calls.Seen.{said_of};
 
 use crate::faults::{CompareFault, Fault, Side};
 use crate::input::read_any_in;
-use crate::kinds::BlockKind;
 use crate::meanings::{Said, same};
 use px_bytes::Memory;
 
@@ -55,14 +53,4 @@ pub(crate) fn same_second(
     let same = same(said, &other);
     drop(other);
     Ok(same)
-}
-
-// The kind of block that says it.
-pub(crate) fn kind_in(said: &Said) -> BlockKind
-    ensures { result ≡ kind_said (said_of said.now) }
-{
-    match said {
-        Said::Exif(_) => BlockKind::Exif,
-        Said::Iim(_) => BlockKind::Iim,
-    }
 }

@@ -69,7 +69,7 @@ pub fn normalise<R: Source, W: Sink>(
 /// Reads a file and answers which kind of block it holds, where that says something. `Refused` names the
 /// block's first fault; `ReadFailed` comes where a call of the reader failed, which ends the run, and
 /// `OutOfMemory` exactly where a growth was refused.
-/// It takes memory for the file and for what it says.
+/// It takes memory for the file, and for what an Exif block says.
 pub fn check_in<R: Source>(memory: &mut Memory, reader: &mut R) -> Result<BlockKind, Fault>
     requires { CanFail (R.failed reader.old) }
     ensures done { Checks result (R.bytes_left reader.old) }
