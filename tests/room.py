@@ -15,7 +15,7 @@ TOP = Path(__file__).resolve().parent.parent
 HANDLES = "Handles allowed: none.\n"
 
 # Begins a command with no signal ignored, as a terminal does. Where the tests run in the background, some are.
-SIGNALS = [shutil.which("env") or "env", "--default-signal"]
+SIGNALS = [shutil.which("env") or "env", "--default-signal", "--"]
 
 # In place of the toolchain's command.
 RT = """#!/bin/sh
