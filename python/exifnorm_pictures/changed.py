@@ -2,6 +2,9 @@
 
 from __future__ import annotations
 
+import hashlib
+import os
+import sqlite3
 from dataclasses import dataclass, field
 from typing import Any, Callable, Dict, Iterator, List, Optional, Set, Tuple, TypeVar
 
@@ -9,7 +12,7 @@ from .catalogue import Catalogue
 from .formats.found import EXIF, NAMES
 from .kept import Block, Picture
 from .listing import Change, changes, only_maker_note
-from .moves import Key, best, content_key
+from .moves import Key, content_key
 from .verdicts import (
     ABSENT, ACCEPTED, DIFFERENT, NOT_WHOLLY_READ, REFUSED, SAME, UNREADABLE, Verdict, left_open, result, sentence, verdicts,
 )  # fmt: skip
@@ -82,44 +85,86 @@ def _merged(one: Iterator[Tuple[bytes, Row]], other: Iterator[Tuple[bytes, Row]]
             first, second = next(one, None), next(other, None)
 
 
-def _moves(sides: Sides) -> Dict[bytes, bytes]:
-    """Where the pictures went that are missing afterwards, as far as they can be recognised: by the file, or by what it says."""
-    gone: List[Tuple[bytes, List[Key]]] = []
-    came: Dict[Key, List[bytes]] = {}
-    for name, one, other in sides.pairs():
-        it = one or other
-        if it is None or (one and other) or it.problem:
-            continue
-        keys = [key for key in (it.file, content_key(it.octets, it.unread, it.size)) if key]
-        if one:
-            gone.append((name, keys))
-        else:
-            for key in keys:
-                came.setdefault(key, []).append(name)
-    found: Dict[bytes, bytes] = {}
-    taken: Set[bytes] = set()
-    for name, keys in gone:
-        to = next(filter(None, (best([it for it in came.get(key, ()) if it not in taken], name) for key in keys)), None)
-        if to is not None:
-            found[name] = to
-            taken.add(to)
-    return found
+_MOVES = """
+CREATE TABLE gone (name BLOB, file BLOB, content BLOB);
+CREATE TABLE came (key BLOB, last BLOB, name BLOB);
+CREATE TABLE moved (name BLOB PRIMARY KEY, place BLOB UNIQUE) WITHOUT ROWID;
+PRAGMA journal_mode = OFF;
+BEGIN;
+"""
+_INDEXES = """
+CREATE INDEX came_by_last ON came (key, last, name);
+CREATE INDEX came_by_key ON came (key, name);
+CREATE INDEX came_by_name ON came (name);
+"""
+
+
+class _Moves:
+    """Where the pictures went that are missing afterwards, as far as they can be recognised: by the file, or by what it says.
+
+    All pictures of an archive may have moved, so this is kept in a temporary database, which goes with its connection.
+    """
+
+    def __init__(self, sides: Sides) -> None:
+        self.base = sqlite3.connect("", isolation_level=None)
+        self.base.executescript(_MOVES)
+        for name, one, other in sides.pairs():
+            it = one or other
+            if it is None or (one and other) or it.problem:
+                continue
+            keys = [_hashed(it.file), _hashed(content_key(it.octets, it.unread, it.size))]
+            if one:
+                self.base.execute("INSERT INTO gone VALUES (?, ?, ?)", (name, *keys))
+            else:
+                rows = [(key, os.path.basename(name), name) for key in keys if key]
+                self.base.executemany("INSERT INTO came VALUES (?, ?, ?)", rows)
+        self.base.executescript(_INDEXES)
+        self._pair()
+
+    def _pair(self) -> None:
+        for name, *keys in self.base.execute("SELECT name, file, content FROM gone ORDER BY rowid"):
+            to = next(filter(None, (self._best(key, name) for key in keys)), None)
+            if to is not None:
+                self.base.execute("INSERT INTO moved VALUES (?, ?)", (name, to))
+                self.base.execute("DELETE FROM came WHERE name = ?", (to,))
+
+    def _best(self, key: Optional[bytes], name: bytes) -> Optional[bytes]:
+        """The first picture with this key that has the same name in its folder, or else the first."""
+        same_last = "SELECT name FROM came WHERE key = ? AND last = ? ORDER BY name LIMIT 1"
+        found = self._one(same_last, (key, os.path.basename(name)))
+        return found or self._one("SELECT name FROM came WHERE key = ? ORDER BY name LIMIT 1", (key,))
+
+    def _one(self, query: str, values: Tuple[Optional[bytes], ...]) -> Optional[bytes]:
+        row = self.base.execute(query, values).fetchone()
+        return None if row is None else bytes(row[0])
+
+    def to(self, name: bytes) -> Optional[bytes]:
+        """Where a picture went that is missing afterwards."""
+        return self._one("SELECT place FROM moved WHERE name = ?", (name,))
+
+    def came_from(self, name: bytes) -> Optional[bytes]:
+        """Where a picture was that is missing before."""
+        return self._one("SELECT name FROM moved WHERE place = ?", (name,))
+
+
+def _hashed(key: Optional[Key]) -> Optional[bytes]:
+    """A key in 32 bytes."""
+    return hashlib.sha256(repr(key).encode("utf-8", "surrogatepass")).digest() if key else None
 
 
 def changed(before: Catalogue, after: Catalogue, only: Optional[Set[bytes]] = None) -> Iterator[Compared]:
     """Each picture of two catalogues compared, in the order of their names; of some pictures alone, by name or by path."""
     sides = Sides(before, after)
-    moves = _moves(sides)
-    came = set(moves.values())
+    moves = _Moves(sides)
     for name, one, other in sides.pairs():
         if only is not None and not only.intersection([name, *(it.path for it in (one, other) if it)]):
             continue
         if one is not None and other is not None:
             yield _compared(name, one, other, sides)
         elif one is not None:
-            to = moves.get(name)
+            to = moves.to(name)
             yield Compared(name, MISSING_AFTER) if to is None else Compared(name, MOVED, moved_to=to)
-        elif name not in came:
+        elif moves.came_from(name) is None:
             yield Compared(name, MISSING_BEFORE)
 
 

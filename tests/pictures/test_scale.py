@@ -1,0 +1,218 @@
+"""What an archive's scale costs, as counts: statements, processes, files opened, bytes read, and the peak of memory. No times."""
+
+import json
+import os
+import sys
+from collections import Counter
+
+import made_files as made
+from studio import TOP, WithPictures, needs, run, write
+
+sys.path.insert(0, os.path.join(TOP, "python"))
+
+from exifnorm_pictures.catalogue import Catalogue  # noqa: E402
+
+GIF = b"GIF89a\x01\0\x01\0\0\0\0;"  # has no reader here, and goes to ExifTool
+GROWTH = 8  # MB by which ten times as many pictures may need more: SQLite's caches (2 MB each) and Python's own rooms, no list of all
+
+# Runs the command and counts what it does, also in its further processes: a line of the file COUNTED for each thing. The last line
+# is the peak of this process's memory in kB, which the system counts anew for each program (that of getrusage is inherited).
+COUNTING = """
+import os, sqlite3, sys
+counted = os.open(os.environ["COUNTED"], os.O_WRONLY | os.O_CREAT | os.O_APPEND)
+
+def note(what):
+    os.write(counted, what.encode() + b"\\n")
+
+def heard(event, values):
+    if event == "open" and values[1] is None and os.fsencode(values[0]).endswith((b".jpg", b".gif")):
+        note("picture")  # by os.open, which open() calls here
+    elif event == "subprocess.Popen":
+        note("session" if "-stay_open" in values[1] else "program")
+
+sys.addaudithook(heard)
+connect = sqlite3.connect
+
+def connected(*words, **more):
+    base = connect(*words, **more)
+    base.set_trace_callback(lambda text: note("statement"))
+    return base
+
+sqlite3.connect = connected
+from exifnorm_pictures.main import main
+status = main(sys.argv[1:])
+with open("/proc/self/status") as file:
+    note("memory " + next(it.split()[1] for it in file if it.startswith("VmHWM")))
+sys.exit(status)
+"""
+
+_ROWS = """
+WITH RECURSIVE numbers(n) AS (SELECT 0 UNION ALL SELECT n + 1 FROM numbers WHERE n + 1 < {count})
+INSERT INTO pictures (path, root, size, modified, changed, inode, type, extractor, detail, exif, iptc, xmp, not_read, exif_octets,
+    iptc_octets, xmp_octets, run)
+SELECT CAST(printf('/archive/{folder}/%08d.jpg', {name}) AS BLOB), CAST('/archive' AS BLOB), 1000, {mark} + n, n, {mark} + n, 'JPEG', 'own',
+    '', printf('%064x', {says}), '', '', '', printf('%064x', {says}), '', '', 1 FROM numbers
+"""
+_BLOCKS = """
+INSERT INTO blocks (picture, number, kind, name, source, extractor, status, digest, length, octets)
+SELECT id, 0, 'exif', 'Exif', 'APP1 at 2', 'own', 'accepted', exif, 100, exif_octets FROM pictures
+"""
+
+
+class Scale(WithPictures):
+    def catalogue(self, name, count, says="n / 20", folder="one", mark=0, named="n"):
+        """A catalogue with this many pictures, of which each says a number; all is SQL over the number n of a picture."""
+        with Catalogue(self.path(name), make=True) as made_:
+            made_.begin_run("2000-01-01T00:00:00Z")
+            made_.base.execute(_ROWS.format(count=count, says=says, folder=folder, mark=mark, name=named))
+            made_.base.execute(_BLOCKS)
+        return name
+
+    def counted(self, *words, status=0):
+        """What a command does: how often, and `memory` in MB."""
+        where = self.path("counted")
+        if os.path.exists(where):
+            os.remove(where)
+        done = run([sys.executable, "-c", COUNTING, *words], self.folder, COUNTED=where)
+        self.assertEqual(done.returncode, status, done.stderr.decode())
+        self.said = done.stdout.decode()
+        with open(where) as file:
+            lines = file.read().splitlines()
+        counts = Counter(it for it in lines if not it.startswith("memory"))
+        counts["memory"] = int(lines[-1].split()[1]) / 1024
+        return counts
+
+    def pictures(self, folder, count, ending=".jpg"):
+        """A folder with small pictures of which no two say the same."""
+        os.mkdir(self.path(folder))
+        for number in range(count):
+            octets = GIF if ending == ".gif" else made.jpeg(made.app1(made.exif(b"%03d" % number)), made.app1_xmp(made.title(str(number))))
+            write(self.path(folder, f"{number:04}{ending}"), octets)
+
+    # Memory
+
+    def grows_little(self, few, many):
+        self.assertLess(many["memory"] - few["memory"], GROWTH, f"{few['memory']:.0f} MB and {many['memory']:.0f} MB")
+
+    def test_memory_of_same(self):
+        few = self.counted("same", "--catalogue", self.catalogue("few", 20000))
+        many = self.counted("same", "--catalogue", self.catalogue("many", 200000))
+        self.assertEqual(self.said.count("20 pictures: "), 10000)
+        self.grows_little(few, many)
+
+    def test_memory_of_same_in_one_group(self):
+        few = self.counted("same", "--json", "--catalogue", self.catalogue("few", 20000, "1"))
+        many = self.counted("same", "--json", "--catalogue", self.catalogue("many", 200000, "1"))
+        self.assertEqual([json.loads(it)["count"] for it in self.said.splitlines()], [200000])
+        self.grows_little(few, many)
+
+    def test_memory_of_changed_where_all_moved(self):
+        costs = []
+        for count in (1200, 12000):
+            before = self.catalogue(f"before{count}", count, "n")
+            after = self.catalogue(f"after{count}", count, "n", folder="other")
+            costs.append(self.counted("changed", before, after, status=1))
+            self.assertEqual(self.said.splitlines()[-1], f"{count} moved")
+        self.grows_little(*costs)
+
+    def test_memory_of_changed_where_all_differ(self):
+        costs = []
+        for count in (600, 6000):
+            before, after = self.catalogue(f"before{count}", count, "n"), self.catalogue(f"after{count}", count, "n + 1000000", mark=1)
+            costs.append(self.counted("changed", before, after, status=1))
+            self.assertEqual(self.said.splitlines()[-1], f"{count} different")
+        self.grows_little(*costs)
+
+    def test_report_of_many_pictures(self):
+        sizes = []
+        for count in (2000, 100000):
+            cost = self.counted("report", "--catalogue", self.catalogue(f"c{count}", count), "--html", f"page{count}")
+            sizes.append((os.path.getsize(self.path(f"page{count}")), cost))
+        self.grows_little(sizes[0][1], sizes[1][1])
+        self.assertLess(sizes[1][0] - sizes[0][0], 1000, "the page shows counts and the first groups alone")
+        self.assertEqual(sizes[1][1]["picture"], sizes[0][1]["picture"])
+
+    # Statements
+
+    def test_statements_of_same(self):
+        few = self.counted("same", "--catalogue", self.catalogue("few", 200))
+        many = self.counted("same", "--catalogue", self.catalogue("many", 2200))
+        self.assertEqual(many["statement"] - few["statement"], 2 * 100)  # of a group: its pictures, and whether its bytes are the same
+
+    def test_statements_of_an_index(self):
+        new, again = [], []
+        for count in (100, 200):
+            self.pictures(f"p{count}", count)
+            words = ["index", f"p{count}", "--catalogue", f"c{count}", "--jobs", "1", "--quiet"]
+            new.append(self.counted(*words)["statement"])
+            again.append(self.counted(*words)["statement"])
+            self.assertEqual(self.said, f"{count} unchanged\n")
+        # whether it is known; an old row goes, a new one comes; its two blocks. One more transaction has two statements
+        self.assertLessEqual(new[1] - new[0], 5 * 100 + 2)
+        self.assertEqual(again[1] - again[0], 100)
+
+    def test_statements_of_equal_pictures_that_moved(self):
+        """A thousand pictures that say the same are paired each with one, and not by looking at all others for each of them."""
+        costs = []
+        for count in (100, 1000):
+            before = self.catalogue(f"before{count}", count, "1")
+            after = self.catalogue(f"after{count}", count, "1", folder="other", mark=5000)
+            costs.append(self.counted("changed", before, after, "--json", status=1)["statement"])
+            moves = [json.loads(it) for it in self.said.splitlines()[:-1]]
+            pairs = {(it["path"], it["moved_to"]["path"]) for it in moves}
+            self.assertEqual(pairs, {(f"one/{number:08}.jpg", f"other/{number:08}.jpg") for number in range(count)})
+        self.assertLessEqual(costs[1] - costs[0], 12 * 900)
+
+    def test_equal_pictures_that_were_renamed(self):
+        before = self.catalogue("before", 50, "1")
+        after = self.catalogue("after", 50, "1", folder="other", mark=5000, named="n + 25")
+        self.counted("changed", before, after, "--json", status=1)
+        moves = {it["path"]: it["moved_to"]["path"] for it in map(json.loads, self.said.splitlines()[:-1])}
+        self.assertEqual(len(set(moves.values())), 50)
+        self.assertEqual(moves["one/00000000.jpg"], "other/00000025.jpg")  # the first one, where no name is the same
+
+    # Files and processes
+
+    def test_a_second_run_opens_no_picture(self):
+        self.pictures("p", 100)
+        words = ["index", "p", "--catalogue", "c", "--jobs", "1", "--quiet"]
+        self.assertEqual(self.counted(*words)["picture"], 100)
+        self.assertEqual(self.counted(*words)["picture"], 0)
+        write(self.path("p", "0007.jpg"), made.jpeg(made.app1(made.exif(b"New"))))
+        self.assertEqual(self.counted(*words)["picture"], 1)
+        self.assertEqual(self.said, "99 unchanged, 1 accepted\n")
+        self.assertEqual(self.counted("same", "--catalogue", "c")["picture"], 0)
+
+    @needs("exiftool")
+    def test_processes_of_exiftool(self):
+        self.pictures("p", 100)
+        words = ["--catalogue", "c", "--quiet", "--jobs"]
+        self.assertEqual(self.counted("index", "p", *words, "2")["session"], 0)
+        self.pictures("g", 130, ".gif")
+        self.assertEqual(self.counted("index", "g", *words, "1")["session"], 1)
+        both = self.counted("index", "g", "--again", *words, "2")
+        self.assertIn(both["session"], (1, 2))  # a process that was given no picture starts none
+        self.assertLessEqual(both["program"], 2)  # which versions the programs have
+        again = self.counted("index", "g", *words, "1")
+        self.assertEqual((again["session"], again["program"]), (0, 0))
+
+    def test_bytes_of_a_great_jpeg(self):
+        """Without --whole the head and the tail are read, each through a buffer of 65,536 bytes."""
+        picture = made.jpeg(made.app1(made.exif(b"Big")))
+        at = picture.rindex(b"\xff\xd9")
+        length = 20_000_000
+        write(self.path("small.jpg"), picture)
+        write(self.path("great.jpg"), picture[:at] + bytes(length) + picture[at:])
+        call = (
+            "import sys; from exifnorm_pictures.extraction import blocks_of\n"
+            "def octets(): return int(open('/proc/self/io').read().split()[1])\n"
+            "def read(name, whole): at = octets(); blocks_of(name, whole); return octets() - at\n"
+            "read(b'small.jpg', True)\n"  # what Python loads at first isn't counted
+            "print(read(b'small.jpg', False), read(b'great.jpg', False), read(b'great.jpg', True))"
+        )
+        done = run([sys.executable, "-c", call], self.folder)
+        self.assertEqual(done.returncode, 0, done.stderr)
+        small, great, whole = map(int, done.stdout.split())
+        self.assertLess(small, 65536)
+        self.assertLess(great, 4 * 65536)
+        self.assertGreater(whole, length)
