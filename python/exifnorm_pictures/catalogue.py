@@ -242,6 +242,17 @@ class Catalogue:
 
     # Reading
 
+    @contextlib.contextmanager
+    def reading(self) -> Iterator[None]:
+        """All that is read inside is of one moment, and the file is locked once for all of it."""
+        with self.guarded():
+            self.base.execute("BEGIN")
+        try:
+            yield
+        finally:
+            with contextlib.suppress(sqlite3.Error):
+                self.base.execute("COMMIT")
+
     def rows(self, query: str, values: Sequence[object] = (), made: Callable[..., Made] = tuple) -> Iterator[Made]:
         """What `made` makes of each row of a query."""
         with self.guarded():
@@ -261,7 +272,9 @@ class Catalogue:
     def known(self, path: bytes) -> Optional[Known]:
         """What is known of one picture."""
         query = "SELECT id, size, modified, changed, inode, problem FROM pictures WHERE path = ?"
-        return next(self.rows(query, (path,), _known), None)
+        with self.guarded():
+            row = self.base.execute(query, (path,)).fetchone()
+            return None if row is None else _known(row)
 
     def below(self, folder: bytes) -> Iterator[Tuple[int, bytes, Optional[str]]]:
         """The number, path and problem of each picture below a folder, by path."""

@@ -3,8 +3,7 @@
 from __future__ import annotations
 
 import hashlib
-from dataclasses import dataclass, replace
-from typing import Dict, List, Optional, Set
+from typing import Dict, List, NamedTuple, Optional, Set
 
 import exifnorm
 
@@ -19,8 +18,7 @@ KIND_NAMES = {"exif": "Exif", "iim": "IPTC", "xmp": "XMP"}
 ACCEPTED, REFUSED, TOO_LONG, FAILED, UNREADABLE = "accepted", "refused", "too long", "failed", "unreadable"
 
 
-@dataclass(frozen=True)
-class Judgement:
+class Judgement(NamedTuple):
     """What the engine says of a block: `digest` where it is accepted, `cause` and `place` where it is refused."""
 
     kind: str
@@ -81,7 +79,7 @@ def judge_all(blocks: Blocks, with_fields: bool = False) -> List[Judgement]:
 
 
 def _named(judged: Judgement, it: Found) -> Judgement:
-    return replace(judged, name=it.name, where=it.where, extractor=it.extractor)
+    return judged._replace(name=it.name, where=it.where, extractor=it.extractor)
 
 
 def judge_packet(packet: bytes, with_fields: bool = False) -> Judgement:

@@ -56,7 +56,8 @@ def index(asked: Asked, catalogue: Catalogue) -> "Counter[str]":
     What was looked at before, with this size, these times and this inode, is left as it is, but with `again`.
     """
     run = catalogue.begin_run(_now())
-    work = _work(asked, catalogue)
+    with catalogue.reading():
+        work = _work(asked, catalogue)
     gone, departed = _gone(asked.names, work, catalogue)
     if gone:
         catalogue.put(run, gone)

@@ -14,6 +14,7 @@ from .texts import escaped
 LONGEST_TEXT = 400  # characters of a text that is shown whole
 LONGEST_BYTES = 32  # bytes that are shown in hexadecimal
 LONGEST_NUMBERS = 160  # characters of a list of numbers that is shown whole
+_SHORT = 4096  # characters of a listing that is compressed in small rooms
 DIGITS = 32  # hexadecimal digits of SHA-256 that tell a value that is not shown whole
 
 _OCTETS = {"BYTE", "ASCII", "SBYTE", "UNDEFINED", "UTF8", "octets"}
@@ -154,7 +155,12 @@ def readable(found: List[Field], kind: str) -> Iterator[str]:
 
 def packed(found: List[Field]) -> bytes:
     """The fields as few bytes, for a catalogue."""
-    return zlib.compress(json.dumps(found, separators=(",", ":")).encode("ascii"), 6)
+    text = json.dumps(found, separators=(",", ":")).encode("ascii")
+    if len(text) > _SHORT:
+        return zlib.compress(text, 6)
+    # the rooms that zlib takes by itself are made for long texts, and to clear them costs more than a short one
+    compressing = zlib.compressobj(6, zlib.DEFLATED, 12, 5)
+    return compressing.compress(text) + compressing.flush()
 
 
 def unpacked(octets: bytes) -> List[Field]:

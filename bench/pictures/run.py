@@ -1,0 +1,231 @@
+#!/usr/bin/env python3
+"""Times exifnorm-pictures at an archive's scale beside ExifTool, in one interleaved run, and prints a table.
+
+  bench/pictures/run.py LIBRARY [--pictures N] [--rows N] [--compared N] [--rounds N]
+
+LIBRARY is a folder such as out/lib. The pictures are small JPEG files with Exif, IPTC and XMP, made here from a few bytes; those of
+another format are PSD files by ImageMagick's convert. A time is the least of all rounds. Catalogues with many rows are made by the
+package itself, without pictures. Memory is the peak of one process, as the system counts it.
+"""
+
+import argparse
+import hashlib
+import os
+import shutil
+import subprocess
+import sys
+import tempfile
+import time
+from dataclasses import dataclass
+from pathlib import Path
+from typing import Callable, Dict, Iterator, List, Optional, Sequence, Tuple
+
+TOP = Path(__file__).resolve().parent.parent.parent
+sys.path[:0] = [str(TOP / "tests" / "pictures"), str(TOP / "python")]
+sys.dont_write_bytecode = True
+
+import made_files as made
+from exifnorm_pictures.catalogue import Catalogue
+from exifnorm_pictures.formats.found import EXIF, IPTC, NAMES, XMP
+from exifnorm_pictures.kept import Block, Entry, Stamp
+from exifnorm_pictures.listing import Field, packed
+
+ROOT = b"/archive"
+BATCH = 1000  # rows at once: few, because the system counts the memory of this process into that of a command that it starts
+ROW = Tuple[str, str, str]  # what was measured, the result, the target
+
+
+# What is measured on
+
+
+def letters(number: int) -> bytes:
+    """Three letters that tell a number below 17,576."""
+    return bytes(65 + number // 26**place % 26 for place in range(3))
+
+
+def make_pictures(folder: str, count: int) -> None:
+    """Small JPEG files; each fourth one says what the one before it says."""
+    for number in range(count):
+        says = number - (number % 4 == 3)
+        there = os.path.join(folder, f"{number // 1000:03}")
+        os.makedirs(there, exist_ok=True)
+        record = made.resource(0x0404, made.iim(b"keyword %d" % says))
+        picture = made.jpeg(made.app1(made.exif(letters(says))), made.app1_xmp(made.title(f"title {says}")), made.app13(record))
+        Path(there, f"{number:07}.jpg").write_bytes(picture)
+
+
+def make_others(folder: str, count: int) -> bool:
+    """Copies of a PSD file with Exif, IPTC and XMP; whether there are tools to make one."""
+    if not shutil.which("convert"):
+        return False
+    first = os.path.join(folder, "first.psd")
+    subprocess.run(["convert", "-size", "16x16", "xc:gray", first], check=True)
+    fields = ["-EXIF:Artist=Someone", "-IPTC:Keywords=one", "-XMP:Title=A title"]
+    subprocess.run(["exiftool", "-config", "", "-q", "-overwrite_original", *fields, first], check=True)
+    for number in range(1, count):
+        shutil.copyfile(first, os.path.join(folder, f"{number:06}.psd"))
+    return True
+
+
+def row(number: int, says: int, path: bytes, fields: bool) -> Entry:
+    """A picture as the catalogue keeps it, whose Exif, IPTC and XMP blocks say a number."""
+    kept = packed([Field("main", "010f", "ASCII", 4, f'"{says}"')]) if fields else None
+    blocks = []
+    for kind in (EXIF, IPTC, XMP):
+        digest = hashlib.sha256(f"{kind} {says}".encode()).hexdigest()
+        blocks.append(Block(kind, NAMES[kind], "APP1 at 2", "own", "accepted", digest, None, None, 100, digest, kept))
+    return Entry(ROOT + path, ROOT, Stamp(1000 + says, number, number, number), "JPEG", "own", blocks=tuple(blocks))
+
+
+def make_catalogue(name: str, count: int, says: Callable[[int], int], path: Callable[[int], bytes], fields: bool = True) -> str:
+    """A catalogue with this many pictures; its name."""
+    with Catalogue(name, make=True) as catalogue:
+        catalogue.base.execute("PRAGMA synchronous = OFF")
+        run = catalogue.begin_run("2000-01-01T00:00:00Z")
+        for at in range(0, count, BATCH):
+            catalogue.put(run, [row(it, says(it), path(it), fields) for it in range(at, min(at + BATCH, count))])
+        catalogue.end_run(run, "2000-01-01T00:00:00Z")
+    return name
+
+
+# How it is measured
+
+
+@dataclass(frozen=True)
+class Cost:
+    """What a command needed."""
+
+    seconds: float
+    megabytes: float
+
+
+def cost(words: Sequence[str], statuses: Sequence[int] = (0,)) -> Cost:
+    """Runs a command that must end with one of these statuses; its output goes nowhere."""
+    began = time.perf_counter()
+    started = subprocess.Popen(words, stdout=subprocess.DEVNULL, stderr=subprocess.DEVNULL)
+    _, status, used = os.wait4(started.pid, 0)
+    started.returncode = os.waitstatus_to_exitcode(status)
+    if started.returncode not in statuses:
+        raise SystemExit(f"{' '.join(words)}: status {started.returncode}")
+    return Cost(time.perf_counter() - began, used.ru_maxrss / 1024)
+
+
+def pictures(*words: str) -> List[str]:
+    return [sys.executable, "-m", "exifnorm_pictures", *words]
+
+
+class Timed:
+    """The commands on pictures, in turns."""
+
+    def __init__(self, folder: str, count: int) -> None:
+        self.folder, self.count = folder, count
+        self.least: Dict[str, float] = {}
+        self.jpegs, self.others, self.empty = (os.path.join(folder, it) for it in ("jpegs", "others", "empty"))
+        for it in (self.jpegs, self.others, self.empty):
+            os.mkdir(it)
+        make_pictures(self.jpegs, count)
+        self.has_others = make_others(self.others, max(200, count // 5))
+
+    def round(self) -> None:
+        """Each command once."""
+        self._time("exiftool", ["exiftool", "-config", "", "-q", "-q", "-r", "-b", "-Exif", self.jpegs])
+        self._index("one", self.jpegs, "1")
+        self._index("four", self.jpegs, "4")
+        self._index("again", self.jpegs, "1", new=False)
+        self._index("start", self.empty, "1")
+        if self.has_others:
+            self._index("others by one", self.others, "1")
+            self._index("others by four", self.others, "4")
+
+    def _index(self, name: str, folder: str, jobs: str, new: bool = True) -> None:
+        catalogue = os.path.join(self.folder, os.path.basename(folder) + ".catalogue")
+        if new and os.path.exists(catalogue):
+            os.unlink(catalogue)
+        self._time(name, pictures("index", folder, "--catalogue", catalogue, "--jobs", jobs, "--quiet"))
+
+    def _time(self, name: str, words: Sequence[str]) -> None:
+        self.least[name] = min(cost(words).seconds, self.least.get(name, float("inf")))
+
+    def rows(self) -> Iterator[ROW]:
+        """The lines of the table."""
+        least = self.least
+        count = f"{self.count:,} JPEG files"
+        yield f"`index`, over `exiftool -b -Exif`, one process each ({count})", ratio(least, "one", "exiftool"), "0.1"
+        yield f"`index` with four processes, over one ({count})", ratio(least, "four", "one"), "0.35"
+        again = (least["again"] - least["start"]) / self.count * 100000
+        yield f"a second run, nothing changed, for each 100,000 pictures ({count})", f"{again:.1f} s", "3.5 s"
+        if self.has_others:
+            yield "files through ExifTool (PSD), four processes over one", ratio(least, "others by four", "others by one"), "0.4"
+
+
+def ratio(least: Dict[str, float], one: str, other: str) -> str:
+    return f"{least[one] / least[other]:.3f} ({least[one]:.2f} s over {least[other]:.2f} s)"
+
+
+def great(folder: str, rows: int, compared: int) -> Iterator[ROW]:
+    """Memory and size, on catalogues with many rows."""
+    if rows:
+        many = make_catalogue(os.path.join(folder, "many"), rows, lambda it: it // 2, plain, fields=False)
+        yield f"memory of `same`, {rows:,} pictures in pairs", megabytes(cost(pictures("same", "--catalogue", many))), "100 MB"
+        os.unlink(many)
+    if compared:
+        first = make_catalogue(os.path.join(folder, "first"), compared, lambda it: it // 2, plain)
+        half = make_catalogue(os.path.join(folder, "half"), compared, lambda it: it // 2 + compared * (it % 2), plain)
+        moved = make_catalogue(os.path.join(folder, "moved"), compared, lambda it: it // 2, lambda it: b"/moved" + plain(it))
+        name = f"memory of `changed`, {compared:,} pictures,"
+        yield f"{name} of which half say something else", megabytes(cost(pictures("changed", first, half), [1])), "100 MB"
+        yield f"{name} all moved", megabytes(cost(pictures("changed", first, moved), [1])), "100 MB"
+        page = os.path.join(folder, "page.html")
+        spent = cost(pictures("report", "--catalogue", half, "--since", first, "--html", page))
+        yield f"memory of `report --since`, {compared:,} pictures", megabytes(spent), ""
+        size = f"{os.path.getsize(page) / 1000:.0f} kB"
+        opened = opening(page)
+        yield "its page" + (", and the time in which Chromium opens it" if opened is not None else ""), size + (opened or ""), ""
+
+
+def plain(number: int) -> bytes:
+    """The path of a picture below the folder."""
+    return b"/%04d/%07d.jpg" % (number // 1000, number)
+
+
+def megabytes(it: Cost) -> str:
+    return f"{it.megabytes:.0f} MB ({it.seconds:.0f} s)"
+
+
+def opening(page: str) -> Optional[str]:
+    """How long Chromium takes for a page beyond its time for an empty one."""
+    if not shutil.which("chromium"):
+        return None
+    words = ["chromium", "--headless", "--no-sandbox", "--disable-gpu", "--dump-dom"]
+    least = [min(cost([*words, it]).seconds for _ in range(3)) for it in ("about:blank", "file://" + page)]
+    return f", {max(least[1] - least[0], 0.0):.1f} s"
+
+
+def main() -> None:
+    """Measures and prints."""
+    words = argparse.ArgumentParser(description=__doc__, formatter_class=argparse.RawDescriptionHelpFormatter)
+    words.add_argument("library")
+    words.add_argument("--pictures", type=int, default=5000, help="JPEG files")
+    words.add_argument("--rows", type=int, default=1000000, help="rows of the catalogue for `same`; 0 leaves it out")
+    words.add_argument("--compared", type=int, default=100000, help="pictures for `changed` and `report`; 0 leaves them out")
+    words.add_argument("--rounds", type=int, default=3)
+    asked = words.parse_args()
+    os.environ["EXIFNORM_LIBRARY"] = os.path.abspath(os.path.join(asked.library, "libexifnorm.so.1"))
+    os.environ["PYTHONPATH"] = str(TOP / "python")
+    print("| Measured | Result | Target |\n|---|---|---|", flush=True)
+    with tempfile.TemporaryDirectory() as folder:
+        if asked.pictures:
+            timed = Timed(folder, asked.pictures)
+            for _ in range(asked.rounds):
+                timed.round()
+            show(timed.rows())
+        show(great(folder, asked.rows, asked.compared))
+
+
+def show(rows: Iterator[ROW]) -> None:
+    for it in rows:
+        print(f"| {' | '.join(it)} |", flush=True)
+
+
+if __name__ == "__main__":
+    main()
