@@ -1,6 +1,7 @@
 """Makes pictures as users have them, by the tools that they use, and runs commands on them."""
 
 import base64
+import functools
 import os
 import shutil
 import struct
@@ -29,10 +30,15 @@ PROGRAMS = {"exiftool": "libimage-exiftool-perl", "exiv2": "exiv2", "convert": "
 MODULES = {"piexif": "python3-piexif", "distributed": "python3-distributed", "PIL": "python3-pil", "rdflib": "python3-rdflib"}
 
 
+# looks for a module without running it, which takes a second with some
+IS_THERE = "import importlib.util, sys; sys.exit(importlib.util.find_spec(sys.argv[1]) is None)"
+
+
+@functools.lru_cache(maxsize=None)
 def interpreter_with(module):
-    """A Python that can import a module: this one, or Debian's."""
+    """A Python that has a module: this one, or Debian's."""
     for python in (sys.executable, "/usr/bin/python3"):
-        if os.path.exists(python) and not subprocess.run([python, "-c", f"import {module}"], capture_output=True).returncode:
+        if os.path.exists(python) and not subprocess.run([python, "-c", IS_THERE, module]).returncode:
             return python
     return None
 

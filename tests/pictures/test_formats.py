@@ -15,7 +15,7 @@ from made_files import (
 )  # fmt: skip
 from studio import SMALL_JPEG, WithPictures, interpreter_with, needs, read, tool, write
 
-A, B, K, T = exif(b"Abc"), exif(b"Xyz"), iim(b"one"), title("one")
+A, B, K, L, T = exif(b"Abc"), exif(b"Xyz"), iim(b"one"), iim(b"two"), title("one")
 
 
 def reader_of(octets):
@@ -68,12 +68,57 @@ class Found(unittest.TestCase):
 
     def test_words_in_front(self):
         self.assertEqual(named(found_in(jpeg(segment(0xE1, b"\0exif\0\xff" + A)))), [("exif", "Exif", A)])
+        self.assertEqual(named(found_in(jpeg(segment(0xE1, b"1234Exif\0\0" + A)))), [("exif", "Exif", A)])
+        self.assertEqual(named(found_in(jpeg(segment(0xE1, b"12345Exif\0\0" + A)))), [])
         self.assertEqual(named(found_in(webp((b"EXIF", b"Exif\0\0" + A)))), named(found_in(png(chunk(b"eXIf", A)))))
+
+    def test_fill_bytes(self):
+        """Any marker may have FF in front, as often as a writer likes (ITU T.81, B.1.1.2)."""
+        for fill in (b"\xff", b"\xff\xff", b"\xff" * 7):
+            found = found_in(jpeg(fill + app1(A), fill + app13(resource(0x404, K))))
+            self.assertEqual(named(found), [("exif", "Exif", A), ("iim", "IPTC", K)], fill)
+
+    def test_resources(self):
+        """A name has a length and is padded, and so is the data; Photoshop 2.5 had other words in front."""
+
+        def with_name(name, data):
+            padded = bytes([len(name)]) + name
+            return b"8BIM\4\4" + padded + bytes(len(padded) % 2) + struct.pack(">I", len(data)) + data + bytes(len(data) % 2)
+
+        odd = iim(b"four")
+        self.assertEqual(len(odd) % 2, 1)
+        for name in (b"", b"a", b"of", b"odd", b"even"):
+            found = found_in(jpeg(app13(with_name(name, odd), with_name(b"", L))))
+            self.assertEqual((named(found), found.not_read), ([("iim", "IPTC", odd), ("iim", "second IPTC", L)], []), name)
+        old = found_in(jpeg(segment(0xED, b"Adobe_Photoshop2.5:" + bytes(8) + resource(0x404, K))))
+        self.assertEqual((named(old), old.not_read), ([("iim", "IPTC", K)], []))
+        for signature in (b"PHUT", b"AgHg", b"DCSR", b"MeSa"):
+            self.assertEqual(named(found_in(jpeg(app13(resource(0x404, K, signature))))), [("iim", "IPTC", K)], signature)
+        more = found_in(jpeg(app13(resource(0x423, A), resource(0x404, K))))
+        self.assertEqual(named(more), [("iim", "IPTC", K)])
+        self.assertEqual([it.what for it in more.not_read], ["Photoshop resource 0423 in the APP13 segment at 2"])
+
+    def test_extended_xmp_that_is_not_whole(self):
+        pieces, name = extension(T)
+        self.assertGreater(len(pieces), 2)
+        for wrong in (pieces[:-1], pieces[1:], [*pieces, pieces[0]], pieces[:1] + pieces[2:]):
+            found = found_in(jpeg(*wrong))
+            self.assertEqual(len(found.not_read), 1, [it.what for it in found.not_read])
+        doubled = found_in(jpeg(pieces[0], *pieces))
+        self.assertEqual((named(doubled), len(doubled.not_read)), ([("xmp", "extended XMP", T)], 1))
+        small = found_in(jpeg(*extension(T, name=name.lower().encode())[0]))
+        self.assertEqual([it.extends for it in small.found], [name])
+
+    def test_padding_of_chunks(self):
+        odd = T if len(T) % 2 else T + b" "
+        self.assertEqual(named(found_in(webp((b"XMP ", odd), (b"EXIF", A)))), [("xmp", "XMP", odd), ("exif", "Exif", A)])
 
     def test_what_was_not_read_has_a_digest(self):
         for octets, what, data in (
             (jpeg(app1(A), behind=b"trailer"), "trailer of 7 bytes", b"trailer"),
             (jpeg(segment(0xE1, b"unknown")), "APP1 segment of an unknown kind", b"unknown"),
+            (jpeg(segment(0xE3, b"Exif\0\0unknown")), "APP3 segment Meta", b"Exif\0\0unknown"),
+            (jpeg(segment(0xE3, b"META\0\0unknown")), "APP3 segment Meta", b"META\0\0unknown"),
             (jpeg(segment(0xED, b"unknown")), "APP13 segment of an unknown kind", b"unknown"),
             (png(behind=b"trailer"), "trailer of 7 bytes", b"trailer"),
             (webp((b"EXIF", A), behind=b"trailer"), "trailer of 7 bytes", b"trailer"),
@@ -81,12 +126,32 @@ class Found(unittest.TestCase):
         ):
             found = found_in(octets).not_read
             self.assertEqual([(it.what, it.digest) for it in found], [(what, hashlib.sha256(data).hexdigest())])
+        for nothing in (segment(0xED, b"Adobe_CM" + bytes(6)), segment(0xE3, b"unknown"), segment(0xE2, b"ICC_PROFILE\0\1\1")):
+            self.assertEqual(found_in(jpeg(nothing)).not_read, [])
+
+    def test_profiles_of_another_length(self):
+        for said in (len(A) - 1, len(A) + 1):
+            text = b"\nexif\n%8d\n" % said + A.hex().encode() + b"\n"
+            found = found_in(png(chunk(b"tEXt", b"Raw profile type exif\0" + text)))
+            self.assertEqual((found.found, len(found.not_read)), ([], 1))
+        for kind in (b"icc", b"icm"):
+            self.assertEqual(found_in(png(profile(kind, A))).not_read, [])
 
     def test_an_index_that_does_not_fit(self):
         octets = mpf(app1(A), jpeg(app1(B)))
         for wrong in (octets[:-60] + b"", octets.replace(b"MPF\0MM", b"MPF\0XX")):
             found = found_in(wrong)
             self.assertTrue(any(it.what.startswith("MPF index that does not fit the file") for it in found.not_read), found.not_read)
+
+    def test_an_index_that_leads_to_no_picture(self):
+        """The first picture is read all the same, and to its end, as nothing is known of where the others are."""
+        found = found_in(mpf(app1(A), b"no picture at all"))
+        self.assertEqual(named(found), [("exif", "Exif", A)])
+        self.assertIn("MPF index that does not fit the file (no picture at ", found.not_read[0].what)
+        octets = mpf(app1(A), b"no picture at all")
+        at = len(octets) - len(b"no picture at all") - 2
+        hidden = octets[:at] + app1_xmp(T) + b"\x11" * 100_000 + octets[at : at + 2]
+        self.assertIn("metadata segment behind the first scan", [it.what for it in found_in(hidden).not_read])
 
     def test_pages_without_pixels(self):
         octets = tiff(page((0x010F, ASCII, b"Maker one\0"), (0x014A, LONG, page((0x010F, ASCII, b"below\0")))), page())
@@ -97,6 +162,15 @@ class Found(unittest.TestCase):
         tags = [struct.unpack_from(">H", found.found[0].data, at)[0] for at in range(10, 10 + 12 * 8, 12)]
         self.assertEqual(tags, [0x100, 0x101, 0x102, 0x103, 0x106, 0x10F, 0x115, 0x116])
         self.assertIn(b"Maker one\0", found.found[0].data)
+
+    def test_raw_pictures_are_left_to_others(self):
+        from exifnorm_pictures.formats.found import LeftToOthers
+
+        raw = bytearray(tiff(page((0x010F, ASCII, b"Maker one\0"))))
+        raw[8:8] = b"CR\2\0" + bytes(4)
+        for octets in (bytes(raw), tiff(page((0xC612, 1, b"\1\4\0\0"))), tiff(page((0x014A, LONG, page((0xC612, 1, b"\1\4\0\0")))))):
+            with self.assertRaises(LeftToOthers):
+                found_in(octets)
 
     def test_engine_refuses_in_the_page_what_it_refuses_in_the_file(self):
         from exifnorm_pictures import engine

@@ -224,6 +224,7 @@ class Tiff(Pairs):
         gps = [(0, 1, b"\2\3\0\0"), (1, ASCII, b"N\0")], [(0, 1, b"\2\3\0\0"), (1, ASCII, b"S\0")]
         self.not_same(*(with_((0x8825, LONG, it)) for it in gps))
         self.same(with_((0x8825, LONG, gps[0])), tiff(page((0x8825, LONG, gps[0])), order="<"))
+        self.not_same(*(with_((0x8769, LONG, [(0xA005, LONG, [(1, ASCII, it)])])) for it in (b"R98\0", b"R03\0")))
         self.not_same(*(with_((0x8769, LONG, [(0x9286, 7, it)])) for it in (b"comment 1", b"comment 2")))
         self.same(*(with_((0x02BC, 1, it)) for it in (T, T_OTHERWISE)))
         self.not_same(*(with_((0x02BC, 1, it)) for it in (T, U)))
@@ -274,8 +275,10 @@ class Tiff(Pairs):
         self.same(tiff(page(), behind=b"one"), tiff(page(), behind=b"one"))
         layers = [tiff(page((0x935C, 7, b"layers of " + it))) for it in (b"one", b"two")]
         self.not_same(*layers, "not wholly read")
-        pointer = tiff(page((0x0190, LONG, 8)))
-        self.not_same(pointer, pointer, "not wholly read")
+        for kind in (LONG, 13):
+            pointer = tiff(page((0x0190, kind, 8)))
+            words = self.answer(pointer, pointer)[1]
+            self.assertIn("not wholly read: GlobalParametersIFD of page 1", words)
 
     def test_big_tiff_is_not_read(self):
         from exifnorm_pictures import extraction

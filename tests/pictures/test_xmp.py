@@ -48,6 +48,9 @@ class Packets(unittest.TestCase):
         ):  # fmt: skip
             self.assertEqual(said(packet), said(base), packet)
         self.assertEqual(said(array("Bag", "a", "b", "b")), said(array("Bag", "b", "a", "b")))
+        spelled = [xmp(f"<dc:format xml:lang='{it}'>one</dc:format>") for it in ("en-gb", "en-GB", "EN-GB")]  # RFC 5646, 2.1.1
+        self.assertEqual(len({said(it) for it in spelled}), 1)
+        self.assertEqual(said(xmp("", "dc:format='one' xml:lang='en'")), said(xmp("<dc:format xml:lang='en'>one</dc:format>")))
         one = xmp("<xmp:s><rdf:Description xmp:a='1' xmp:b='2'/></xmp:s>")
         for inside in ("<xmp:s rdf:parseType='Resource'><xmp:b>2</xmp:b><xmp:a>1</xmp:a></xmp:s>", "<xmp:s xmp:a='1' xmp:b='2'/>"):
             self.assertEqual(said(xmp(inside)), said(one))
@@ -103,6 +106,10 @@ class Packets(unittest.TestCase):
         self.assertLess(len(long[0]), 200)
         control = fields(title("a&#10;b\u202e"))[0].shown
         self.assertEqual(control, '"a\\nb\\u202e"')
+        quoted = fields(title("one\", \"two"))[0].shown
+        self.assertEqual(quoted, '"one\\", \\"two"')
+        words = [f"w{number}" for number in range(12)]
+        self.assertEqual(fields(array("Seq", *words))[0].shown, "Seq[" + ", ".join(f'"{it}"' for it in words) + "]")
 
 
 class Harm(unittest.TestCase):
