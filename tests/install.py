@@ -488,6 +488,17 @@ class Manifest(unittest.TestCase):
         manifest.install(self.stage, self.root, self.LIST)
         wanted = ["usr/lib/a.py", "usr/lib/link", "usr/lib/old/", "usr/lib/old/deep/", "usr/lib/old/deep/b", "usr/share/", "usr/share/it/"]
         self.assertEqual((self.root / self.LIST).read_text().splitlines(), [*wanted, self.LIST])
+        self.assertEqual(os.readlink(self.root / "usr/lib/link"), "a.py")
+
+    def test_modes_are_those_of_the_stage_whatever_the_umask_is(self) -> None:
+        (self.stage / "usr/lib/a.py").chmod(0o755)
+        before = os.umask(0o077)
+        try:
+            manifest.install(self.stage, self.root / "made", self.LIST)
+        finally:
+            os.umask(before)
+        due = {"usr": 0o755, "usr/lib/a.py": 0o755, "usr/lib/old/deep": 0o755, "usr/lib/old/deep/b": 0o644, self.LIST: 0o644}
+        self.assertEqual({it: (self.root / "made" / it).stat().st_mode & 0o777 for it in due}, due)
 
     def test_files_of_the_older_list_are_removed(self) -> None:
         manifest.install(self.stage, self.root, self.LIST)

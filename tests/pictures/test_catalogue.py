@@ -6,8 +6,9 @@ import shutil
 import sqlite3
 import subprocess
 import sys
+import time
 
-from made_blocks import BLOCKS, MAKE, MODEL, block, with_exif, with_iptc
+from made_blocks import BLOCKS, LONG, MAKE, MODEL, block, with_exif, with_iptc
 from studio import SMALL_JPEG, Studio, WithPictures, needs, read, run, tool, write
 
 ONE, OTHER, THIRD = (with_exif(SMALL_JPEG, block([MAKE[:-4] + it])) for it in (b"One\0", b"Two\0", b"Ten\0"))
@@ -29,12 +30,13 @@ class Archive(WithPictures):
         base = sqlite3.connect(self.path(name))
         query = "SELECT path, problem, (SELECT group_concat(digest) FROM blocks WHERE picture = id) FROM pictures"
         found = {os.path.relpath(os.fsdecode(path), self.path("p")): tuple(row) for path, *row in base.execute(query)}
+        self.assertEqual(base.execute("PRAGMA foreign_key_check").fetchall(), [])
         base.close()
         return found
 
-    def run_again(self, *words, status=0):
+    def run_again(self, *words, status=0, **more):
         """What a further run says, by the names of the files."""
-        lines = self.asked("index", "p", "--catalogue", "c", "--quiet", "--json", *words, status=status)
+        lines = self.asked("index", "p", "--catalogue", "c", "--quiet", "--json", *words, status=status, **more)
         found = [json.loads(it) for it in lines]
         named = {os.path.relpath(it["path"], self.path("p")): it.get("problem", "looked at") for it in found[:-1]}
         return named, found[-1]["counts"]
@@ -46,6 +48,28 @@ class Archive(WithPictures):
     def test_nothing(self):
         self.assertEqual(self.run_again(), ({}, {"unchanged": 4}))
         self.assertEqual(self.changed_rows(), {})
+        self.assertEqual(read(self.path("c"))[18:20], b"\1\1", "no write-ahead log is needed to read it (SQLite's file format, 1.3.3)")
+
+    @needs("exiftool", "exiv2")
+    def test_runs(self):
+        """Each run has its times in UTC, and the versions of the programs."""
+        before = time.strftime("%Y-%m-%dT%H:%M:%SZ", time.gmtime())
+        self.run_again("--again", TZ="Asia/Tokyo")
+        after = time.strftime("%Y-%m-%dT%H:%M:%SZ", time.gmtime())
+        base = sqlite3.connect(self.path("c"))
+        (first, *_), (started, ended, exiftool, exiv2) = base.execute("SELECT started, ended, exiftool, exiv2 FROM runs ORDER BY id")
+        base.close()
+        self.assertTrue(first <= before <= started <= ended <= after, (first, before, started, ended, after))
+        self.assertEqual(exiftool, tool(self.folder, "exiftool", "-ver").decode().strip())
+        self.assertEqual(exiv2, tool(self.folder, "exiv2", "--version").decode().split()[1])
+
+    @needs("exiftool")
+    def test_a_program_that_was_installed_since(self):
+        write(self.path("p", "g.gif"), GIF)
+        bare = os.path.join(Studio.room, "bin")
+        self.assertEqual(self.run_again(status=4, PATH=bare), ({"g.gif": "NeedsExifTool"}, {"unchanged": 4, "NeedsExifTool": 1}))
+        self.assertEqual(self.run_again(PATH=bare), ({}, {"unchanged": 5}))
+        self.assertEqual(self.run_again(), ({"g.gif": "looked at"}, {"unchanged": 4, "no block": 1}))
 
     def test_an_edit_that_keeps_size_and_time(self):
         for edit in ("in place", "replaced", "by exiftool -P"):
@@ -99,6 +123,36 @@ class Archive(WithPictures):
         self.assertEqual(found[-1]["counts"], {"moved": 3, "missing after": 1})
         self.assertEqual(self.run_again()[1], {"unchanged": 3})
 
+    def test_what_a_picture_said_is_kept_where_it_cannot_be_read(self):
+        os.remove(self.path("p", "b.jpg"))
+        os.mkfifo(self.path("p", "b.jpg"))
+        self.assertEqual(self.run_again(status=4), ({"b.jpg": "Unreadable"}, {"unchanged": 3, "Unreadable": 1}))
+        self.assertEqual(self.changed_rows(), {"b.jpg": (self.before["b.jpg"], ("Unreadable", self.before["b.jpg"][1]))})
+
+    def test_two_that_are_gone(self):
+        """Of equal pictures each went where its name is, and to no place two."""
+        for name in ("a/2.jpg", "b/1.jpg", "b/9.jpg"):
+            os.makedirs(self.path("p", name[0]), exist_ok=True)
+            write(self.path("p", name), with_exif(SMALL_JPEG, block([MODEL])))
+        self.run_again()
+        shutil.copy(self.path("c"), self.path("old"))
+        for name in ("c/1.jpg", "d/2.jpg", "e/1.jpg"):
+            os.mkdir(self.path("p", name[0]))
+            shutil.copyfile(self.path("p", "a", "2.jpg"), self.path("p", name))
+        for name in ("a", "b"):
+            shutil.rmtree(self.path("p", name))
+        self.assertEqual(self.run_again()[1], {"unchanged": 4, "Moved": 3, "accepted": 3})
+        base = sqlite3.connect(self.path("c"))
+        went = dict(base.execute("SELECT CAST(path AS TEXT), detail FROM pictures WHERE problem = 'Moved'"))
+        base.close()
+        due = {"a/2.jpg": "d/2.jpg", "b/1.jpg": "c/1.jpg", "b/9.jpg": "e/1.jpg"}
+        self.assertEqual(went, {self.path("p", it): f"to {self.path('p', to)}" for it, to in due.items()})
+        os.remove(self.path("p", "e", "1.jpg"))
+        self.assertEqual(self.run_again()[1], {"unchanged": 6, "Vanished": 1})
+        found = [json.loads(it) for it in self.asked("changed", "old", "c", "--json", status=1)]
+        moves = {it["path"]: it.get("moved_to", {}).get("path") for it in found[:-1]}
+        self.assertEqual(moves, {"a/2.jpg": "d/2.jpg", "b/1.jpg": "c/1.jpg", "b/9.jpg": None})
+
     def test_a_folder_that_is_gone_and_back(self):
         os.rename(self.path("p"), self.path("away"))
         lines = self.asked("index", "p", "--catalogue", "c", "--quiet", status=4)
@@ -134,8 +188,14 @@ class Archive(WithPictures):
         self.assertEqual(self.asked("index", "p", "--catalogue", "p/c", "--quiet"), ["4 unchanged"])
         self.assertNotIn("c", self.rows("p/c"))
 
+    def test_the_catalogue_inside_a_folder_that_is_a_link(self):
+        os.symlink("p", self.path("link"))
+        self.asked("index", "link", "--catalogue", "link/c", "--quiet")
+        self.assertEqual(self.asked("index", "link", "--catalogue", "link/c", "--quiet"), ["4 unchanged"])
+
     def test_again_and_jobs(self):
-        self.assertEqual(self.run_again("--again")[1], {"accepted": 3, "no block": 1})
+        named, counts = self.run_again("--again", "--jobs", "1")
+        self.assertEqual((list(named), counts), (["a.jpg", "b.jpg", "sub/c.jpg", "sub/plain.jpg"], {"accepted": 3, "no block": 1}))
         for number in range(200):
             write(self.path("p", f"m{number}.jpg"), ONE)
         one = self.run_again("--jobs", "1")
@@ -181,6 +241,7 @@ class Rights(WithPictures):
         base = sqlite3.connect(self.path("c"))
         kept = base.execute("SELECT problem FROM pictures WHERE CAST(path AS TEXT) LIKE '%c.jpg'").fetchall()
         self.assertEqual(kept, [(None,)])
+        self.assertEqual(base.execute("SELECT count(*) FROM blocks").fetchone(), (3,), "what b.jpg said is kept")
         os.chmod(self.path("p", "b.jpg"), 0o644)
         os.chmod(self.path("p", "closed"), 0o755)
         done = self.as_nobody("index", "p", "--catalogue", "c", "--quiet")
@@ -214,11 +275,55 @@ class Kinds(WithPictures):
 
     def test_refused_pictures_are_in_no_group(self):
         os.mkdir(self.path("p"))
-        for name in ("a.jpg", "b.jpg"):
+        for name in ("a.jpg", "b.jpg", "gone.jpg"):
             write(self.path("p", name), with_exif(SMALL_JPEG, BLOCKS["Overlap"]()))
+        self.asked("index", "p", "--catalogue", "c", "--quiet")
+        os.remove(self.path("p", "gone.jpg"))
         self.asked("index", "p", "--catalogue", "c", "--quiet")
         self.assertEqual(self.asked("same", "--catalogue", "c", "--json"), [])
         self.assertEqual(self.asked("same", "--catalogue", "c"), ["2 pictures in no group: a block is refused or unreadable, or a part was not read"])
+
+    def test_groups_in_order(self):
+        """The largest comes first; pictures that differ in what was not read are in none."""
+        os.mkdir(self.path("p"))
+        behind = {"f": THIRD + b"one", "g": THIRD + b"two"}
+        for name, octets in {"a": ONE, "b": OTHER, "c": ONE, "d": OTHER, "e": OTHER, **behind}.items():
+            write(self.path("p", name + ".jpg"), octets)
+        self.asked("index", "p", "--catalogue", "c", "--quiet")
+        found = [json.loads(it) for it in self.asked("same", "--catalogue", "c", "--json")]
+        names = [[os.path.basename(it["path"]) for it in one["pictures"]] for one in found]
+        self.assertEqual(names, [["b.jpg", "d.jpg", "e.jpg"], ["a.jpg", "c.jpg"]])
+
+    def test_fields_of_a_second_block(self):
+        one, other = (SMALL_JPEG[:2] + with_exif(SMALL_JPEG, block([MAKE]))[2:-len(SMALL_JPEG) + 2] + it[2:] for it in (ONE, OTHER))
+        found = self.compared(one, other)
+        self.assertEqual(found["fields"], [{"name": "second Exif: main:Make", "before": '"One"', "after": '"Two"'}])
+
+    def test_lines_of_fields(self):
+        """A sign says whether a field came, went or changed."""
+        for side, octets in (("before", with_exif(SMALL_JPEG, block([MAKE]))), ("after", with_exif(SMALL_JPEG, block([MODEL])))):
+            os.mkdir(self.path(side))
+            write(self.path(side, "a.jpg"), octets)
+        lines = self.asked("changed", "before", "after", status=1)
+        self.assertEqual(lines[1:3], ['  - main:Make: "Abc" -> -', '  + main:Model: - -> "Xyz"'])
+
+    def test_a_picture_that_cannot_be_read_is_a_failure(self):
+        for side in ("before", "after"):
+            os.mkdir(self.path(side))
+            write(self.path(side, "a.jpg"), ONE)
+        os.mkfifo(self.path("before", "b.jpg"))
+        write(self.path("after", "b.jpg"), ONE)
+        lines = self.asked("changed", "before", "after", status=4)
+        self.assertEqual(lines, ["b.jpg: not read (before: Unreadable)", "1 same, 1 not read"])
+
+    def test_what_was_never_compared_is_in_no_group(self):
+        from made_files import page, tiff
+
+        os.mkdir(self.path("p"))
+        for name in ("a", "b"):
+            write(self.path("p", name + ".tif"), tiff(page((0x0190, LONG, 8))))  # a pointer that is not followed
+        self.asked("index", "p", "--catalogue", "c", "--quiet")
+        self.assertEqual(self.asked("same", "--catalogue", "c", "--json"), [])
 
     def test_groups_by_each_kind(self):
         os.mkdir(self.path("p"))

@@ -269,6 +269,7 @@ class Outputs(WithPictures):
                 self.kept("index", "p", "--catalogue", "c", "--quiet", "--keep-old", name, files=["foreign", "text", "d"])
         self.asked("index", "p", "--catalogue", "c", "--quiet", "--keep-old", "d")
         self.asked("index", "p", "--catalogue", "c", "--quiet", "--keep-old", "new")
+        self.assertEqual(read(self.path("new"))[18:20], b"\1\1", "no write-ahead log is needed to read it")
         self.assertEqual(self.asked("changed", "d", "new"), ["1 same, 1 refused, the same bytes"])
 
     def test_page(self):
@@ -280,6 +281,9 @@ class Outputs(WithPictures):
         write(self.path("page"), PAGE)
         self.asked("report", "--catalogue", "c", "--html", "page")
         self.assertIn(b"</html>", read(self.path("page")))
+        write(self.path("empty"), b"")
+        self.asked("report", "--catalogue", "c", "--html", "empty")
+        self.assertIn(b"</html>", read(self.path("empty")))
 
     def full(self, *words, blocks=0, **more):
         """A call that may write no file longer than some blocks of 1,024 bytes."""

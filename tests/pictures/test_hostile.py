@@ -43,6 +43,7 @@ class Hostile(WithPictures):
         lines = self.asked("same", "--catalogue", "c")
         self.assertEqual(len(lines), 1 + len(NAMES))
         self.assertTrue(all(it.isprintable() for it in lines), lines)
+        self.assertEqual([it.rpartition("/")[2] for it in lines if "back" in it], ["back\\\\slash.jpg"], "no two names look alike")
         self.asked("report", "--catalogue", "c", "--html", "r.html")
         page = read(self.path("r.html")).decode()
         self.assertIn("&lt;b onclick=alert(1)&gt;&amp;amp;.jpg", page)

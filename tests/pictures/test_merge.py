@@ -46,6 +46,17 @@ class Merge(WithPictures):
         self.assertEqual(self.asked("same", "--catalogue", "all", "--json"), self.asked("same", "--catalogue", "at once", "--json"))
         self.assertEqual(self.asked("index", "one", "two", "--catalogue", "all", "--quiet"), ["8 unchanged"])
 
+    def test_pictures_keep_their_runs(self):
+        for name in ("one", "two"):
+            base = sqlite3.connect(self.path(name + ".c"))
+            base.execute("UPDATE runs SET started = ?", (name,))
+            base.commit()
+            base.close()
+        self.asked("merge", "one.c", "two.c", "--catalogue", "all")
+        query = "SELECT DISTINCT started, root FROM pictures JOIN runs ON runs.id = run"
+        found = sqlite3.connect(self.path("all")).execute(query).fetchall()
+        self.assertEqual(sorted(found), [(it, os.fsencode(self.path(it))) for it in ("one", "two")])
+
     def test_a_picture_in_several_is_there_once(self):
         write(self.path("one", "a.jpg"), OTHER)
         self.asked("index", "one", "--catalogue", "newer.c", "--quiet")

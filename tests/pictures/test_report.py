@@ -85,6 +85,7 @@ class Report(WithPictures):
         names = page.texts("small")
         self.assertEqual(sorted(names), sorted(f"{maker[:3]}{number}.jpg" for maker in ("One\0", "Two\0") for number in range(GROUPS[maker])))
         self.assertEqual(page.texts("summary").count(f"{CHANGED} pictures"), 1)
+        self.assertLess(self.page.index(f"{CHANGED} pictures"), self.page.index("alone.jpg"), "what is in many pictures comes first")
         rows = page.texts("fields")
         self.assertEqual([rows.count(it) for it in ('"Old"', '"New"', '"Alo"', '"<b>"')], [1, 1, 1, 1])
         for name in ("added.jpg", "Ten1.jpg", *(f"changed{number}.jpg" for number in range(CHANGED))):
