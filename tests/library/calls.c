@@ -128,12 +128,13 @@ void __wrap_free(void *old) {
 /* ---- calls */
 
 #ifdef REFUSES_GROWTHS
-/* The bytes that judging a block asks for, where nothing is refused. */
-static size_t asked_by_check(const struct job *job) {
-    uint32_t kind;
+/* The bytes that reading a block requests if no request fails: captions without room write nothing. */
+static size_t asked_by_reading(const struct job *job) {
+    unsigned char none;
+    size_t written;
     struct exifnorm_fault fault;
     asked = 0;
-    exifnorm_check(job->block, job->length, &kind, &fault);
+    exifnorm_captions(job->block, job->length, &none, 0, &written, &fault);
     return asked;
 }
 #endif
@@ -142,8 +143,14 @@ static void try_check(const struct job *job, uint32_t at, struct seen *seen) {
     const char *name = "check";
     uint32_t kind = 77;
     struct exifnorm_fault fault = NO_FAULT;
+#ifdef REFUSES_GROWTHS
+    asked = 0;
+#endif
     uint32_t status = exifnorm_check(job->block, job->length, &kind, &fault);
     seen->calls++;
+#ifdef REFUSES_GROWTHS
+    DUE(asked == 0 || job->length == 0 || job->block[0] != 0x1C, "a caption block was read into memory");
+#endif
     if (status == EXIFNORM_NO_MEMORY && want_of_memory) {
         DUE(kind == 77 && is_fault(fault, NO_FAULT), "something changed without memory");
     } else if (job->kind != 0) {
@@ -170,7 +177,7 @@ static void try_room(const struct job *job, uint32_t at, int which, size_t room,
 #ifdef REFUSES_GROWTHS
     long before = live;
     long number = until_refused;
-    size_t judging = asked_by_check(job);
+    size_t reading = asked_by_reading(job);
     asked = 0;
     until_refused = -number;
 #endif
@@ -181,7 +188,7 @@ static void try_room(const struct job *job, uint32_t at, int which, size_t room,
     DUE(live == before, "memory was not given back");
     /* a form is written into the caller's room: memory is taken for what the block says alone */
     if (which == 0 && status != EXIFNORM_NO_MEMORY)
-        DUE(asked == judging, "the form took memory");
+        DUE(asked == reading, "the form took memory");
 #endif
     if (status == EXIFNORM_NO_MEMORY && want_of_memory) {
         DUE(written == 987654321 && is_fault(fault, NO_FAULT) && is_filled(out, room), "something changed without memory");
