@@ -128,13 +128,13 @@ void __wrap_free(void *old) {
 /* ---- calls */
 
 #ifdef REFUSES_GROWTHS
-/* The bytes that reading a block requests if no request fails: captions without room write nothing. */
+/* The bytes that reading a block requests if no request fails: comparing it with itself reads it twice, or up to its fault once. */
 static size_t asked_by_reading(const struct job *job) {
-    unsigned char none;
-    size_t written;
+    uint32_t same;
     struct exifnorm_fault fault;
     asked = 0;
-    exifnorm_captions(job->block, job->length, &none, 0, &written, &fault);
+    if (exifnorm_compare(job->block, job->length, job->block, job->length, &same, &fault) == EXIFNORM_DONE)
+        return asked / 2;
     return asked;
 }
 #endif
