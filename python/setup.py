@@ -21,8 +21,8 @@ LIBC = "libc.so.6"
 
 
 def glibc_needed(library: Path) -> tuple[int, int] | None:
-    """The GNU C library that a library needs, as (2, 14). None where it needs another library, or another symbol than those that
-    glibc tells apart by a number: then it can't have a tag of manylinux."""
+    """The GNU C library that a library needs, as (2, 14). None if it needs another library, or a symbol whose version is no number
+    of glibc: then it can't have a tag of manylinux."""
     said = subprocess.run(["readelf", "-dVW", library], stdout=subprocess.PIPE, check=True, encoding="utf-8").stdout
     if re.findall(r"\(NEEDED\).*\[(.*)\]", said) != [LIBC]:
         return None

@@ -342,7 +342,7 @@ def a_crate_that_changes_in_each_build_is_an_error(room: Room) -> None:
 def a_proof_that_is_killed_is_tried_again_with_one_job(room: Room) -> None:
     (room.folder / "killed-px_iim").touch()
     due(room.call("a").stdout == "one: a\n", room.log())
-    due("once more, with one job" in (room.top / "out/build-px_iim.log").read_text(), "nothing tells of it")
+    due("once more, with one job" in (room.top / "out/build-px_iim.log").read_text(), "the log doesn't mention it")
     asked = [it for it in (room.folder / "asked").read_text().splitlines() if "--crate-name px_iim" in it]
     due(["--jobs 4" in asked[0], "--jobs 1" in asked[1], len(asked)] == [True, True, 2], asked)
     room.main.write_text("two")

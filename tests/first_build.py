@@ -149,7 +149,7 @@ class Project:
         (top / "tests/parts.txt").write_text(PARTS, encoding="utf-8")
 
     def call(self, *words: str, folder: str = ".", **named: str) -> subprocess.CompletedProcess:
-        environment = {key: value for key, value in os.environ.items() if not key.startswith(("RT_", "EXIFNORM_", "MAKE"))}
+        environment = {key: value for key, value in os.environ.items() if not key.startswith(("RT_", "EXIFNORM_", "MAKE", "TEST_PARTS"))}
         how = {"cwd": self.top / folder, "stdin": subprocess.DEVNULL, "capture_output": True, "text": True, "timeout": 900}
         return subprocess.run(words, env={**environment, **named}, check=False, **how)
 
