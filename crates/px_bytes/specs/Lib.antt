@@ -9,3 +9,4 @@ pub mod Held
 pub mod Range
 pub mod calls
 pub mod lemmas
+pub mod Causes

@@ -1,17 +1,18 @@
 -- What each call answers, and what it leaves where its caller looks.
-use Rattle.std.specs.Prelude.{◌≡◌, ◌≢◌, ◌⊎◌, ◌≤◌, ◌<◌, ℕ, List, [], ◌∷◌, ◌++◌, length, drop}
+use Rattle.std.specs.Prelude.{◌≡◌, ◌≢◌, ◌⊎◌, ◌≤◌, ◌<◌, ℕ, List, [], ◌∷◌, ◌++◌, length, drop, Some}
 use Rattle.px_bytes.specs.declared.Cause.{Cause}
+use Rattle.px_bytes.specs.Causes.{cause_of}
 use Rattle.px_bytes.specs.Parts.{limit}
 use Rattle.px_engine.specs.Files.{Said, kind_said, normal}
 use Rattle.px_engine.specs.Input.{IsSaid, IsFaulty}
 use Rattle.px_c.specs.declared.faults.ExifnormFault.{ExifnormFault}
-use Rattle.px_c.specs.Numbers.{cause_number, kind_number}
+use Rattle.px_c.specs.Numbers.{kind_number}
 
 -- ---- a file that is refused
 
 -- the file says nothing, and this is its first fault, which stands: the number of its cause, and its place
 abbrev pub Refuses : List ℕ → ExifnormFault → Type 0
-Refuses file fault = (c : Cause) × (fault.cause ≡ cause_number c) × IsFaulty file c fault.place
+Refuses file fault = (c : Cause) × (cause_of fault.cause ≡ Some c) × IsFaulty file c fault.place
 
 -- ---- a text or a form, put in front of `out`
 

@@ -3,34 +3,11 @@ use Rattle.std.specs.Prelude.{◌≡◌, ◌⊎◌, ◌+◌, ◌-◌, ◌==◌, 
 use Rattle.std.specs.Prelude.{codes, decimal}
 use Rattle.std.specs.Io.KnownBytes.{Appends, Keeps}
 use Rattle.px_bytes.specs.Devices.{AppendsPrefix}
-use Rattle.px_bytes.specs.declared.Cause.{Cause}
-use Rattle.px_bytes.specs.declared.Cause.TheVariants as cause
+use Rattle.px_bytes.specs.Causes.{name_of}
 use Rattle.px_engine.specs.declared.Fault.{Fault}
 use Rattle.px_engine.specs.declared.Fault.TheVariants.{Refused, NormalTooLong, OutOfMemory, ReadFailed, WriteFailed}
 use Rattle.px_engine.specs.declared.Side.{Side}
 use Rattle.px_engine.specs.declared.Side.TheVariants.{First, Second}
-
--- the name of a cause
-abbrev pub name_of : Cause → List ℕ
-name_of cause.TooLong = codes "TooLong"
-name_of cause.UnknownKind = codes "UnknownKind"
-name_of cause.HeaderCut = codes "HeaderCut"
-name_of cause.Loop = codes "Loop"
-name_of cause.DirectoryOutside = codes "DirectoryOutside"
-name_of cause.EmptyDirectory = codes "EmptyDirectory"
-name_of cause.Overlap = codes "Overlap"
-name_of cause.Unsorted = codes "Unsorted"
-name_of cause.Doubled = codes "Doubled"
-name_of cause.UnknownType = codes "UnknownType"
-name_of cause.MisplacedOffset = codes "MisplacedOffset"
-name_of cause.PointerForm = codes "PointerForm"
-name_of cause.ValueOutside = codes "ValueOutside"
-name_of cause.ThumbnailPair = codes "ThumbnailPair"
-name_of cause.ExtraDirectory = codes "ExtraDirectory"
-name_of cause.ThumbnailOutside = codes "ThumbnailOutside"
-name_of cause.NoMarker = codes "NoMarker"
-name_of cause.LengthForm = codes "LengthForm"
-name_of cause.DataSetCut = codes "DataSetCut"
 
 -- what ends a line: where two files are compared, which of them it is about
 abbrev pub end_of : Option Side → List ℕ

@@ -3,39 +3,12 @@ ghost use Rattle.std.specs.Prelude.{◌≡◌, ◌++◌, None};
 ghost use Rattle.px_bytes.specs.Devices.{CanFail, Counts, Writes};
 ghost use Rattle.px_bytes.specs.Waiting.{Puts};
 ghost use Rattle.px_engine.specs.declared.Fault.TheVariants.{Refused};
-ghost use Rattle.px_jobs.specs.Lines.{name_of, end_of, line_of, status_of, device, Tells, TellsFault, TellsWords, is_ended};
+ghost use Rattle.px_jobs.specs.Lines.{end_of, line_of, status_of, device, Tells, TellsFault, TellsWords, is_ended};
 ghost use Rattle.px_jobs.specs.calls.Flushing.{Flushes};
 
 use itoa::Buffer;
 use px_bytes::{Cause, Failed, Pending, Sink, write_whole};
 use px_engine::{Fault, Side};
-
-// The name of a cause in a line.
-fn name(cause: Cause) -> &'static [u8]
-    ensures { result.now ≡ name_of cause }
-{
-    match cause {
-        Cause::TooLong => b"TooLong",
-        Cause::UnknownKind => b"UnknownKind",
-        Cause::HeaderCut => b"HeaderCut",
-        Cause::Loop => b"Loop",
-        Cause::DirectoryOutside => b"DirectoryOutside",
-        Cause::EmptyDirectory => b"EmptyDirectory",
-        Cause::Overlap => b"Overlap",
-        Cause::Unsorted => b"Unsorted",
-        Cause::Doubled => b"Doubled",
-        Cause::UnknownType => b"UnknownType",
-        Cause::MisplacedOffset => b"MisplacedOffset",
-        Cause::PointerForm => b"PointerForm",
-        Cause::ValueOutside => b"ValueOutside",
-        Cause::ThumbnailPair => b"ThumbnailPair",
-        Cause::ExtraDirectory => b"ExtraDirectory",
-        Cause::ThumbnailOutside => b"ThumbnailOutside",
-        Cause::NoMarker => b"NoMarker",
-        Cause::LengthForm => b"LengthForm",
-        Cause::DataSetCut => b"DataSetCut",
-    }
-}
 
 // The end of a line: where two files are compared, which of them it is about.
 fn ending(file: Option<Side>) -> &'static [u8]
@@ -63,7 +36,7 @@ fn put_refusal<L: Sink>(
 {
     let mut digits = Buffer::new();
     pending.put(lines, b"refused: ")?;
-    pending.put(lines, name(cause))?;
+    pending.put(lines, cause.name())?;
     pending.put(lines, b" at ")?;
     pending.put(lines, digits.format(place).as_bytes())?;
     pending.put(lines, ending(file))

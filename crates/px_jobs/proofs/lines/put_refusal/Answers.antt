@@ -1,7 +1,8 @@
 use Rattle.std.proofs.Common.{codes, []}
 use Rattle.std.specs.Prelude.{decimal}
 use Rattle.std.proofs.lemmas.Result.{err_from_is_err_and}
-use Rattle.px_jobs.specs.Lines.{name_of, end_of}
+use Rattle.px_bytes.specs.Causes.{name_of}
+use Rattle.px_jobs.specs.Lines.{end_of}
 use Rattle.px_jobs.proofs.LineLaws.{stops_first, stops_second, stops_third, stops_fourth, puts_all}
 use Rattle.px_jobs.proofs.lines.put_refusal.Goals as goal
 
