@@ -11,11 +11,14 @@
 #![tactic(auto)]
 
 ghost use Rattle.std.specs.Prelude.{◌≡◌, ◌≢◌, ◌⊎◌};
-ghost use Rattle.px_engine.specs.Captions.{caption_text};
-ghost use Rattle.px_engine.specs.Listing.{listing};
+ghost use Rattle.px_engine.specs.declared.faults.Fault.TheVariants.{NormalTooLong};
+ghost use Rattle.px_engine.specs.declared.given.Given.TheVariants.{Whole, Needs};
+ghost use Rattle.px_engine.specs.Files.{Said};
+ghost use Rattle.px_engine.specs.Hand.{PutsForm, IsUnwritten};
+ghost use Rattle.px_engine.specs.Input.{IsSaid};
+ghost use Rattle.px_engine.specs.Prints.{caption_text, listing};
 ghost use Rattle.px_c.specs.Numbers.{cause_name};
-ghost use Rattle.px_c.specs.Outcomes.{Refuses, Gives, Lacks, GivesForm, LacksForm, IsTooLong};
-ghost use Rattle.px_c.specs.Outcomes.{Tells, IsSaying, Compares, PutsText, NeedsText};
+ghost use Rattle.px_c.specs.Outcomes.{Refuses, PutsText, PutsSaid, IsOfKind, AreCompared};
 
 mod faults;
 mod giving;
@@ -45,7 +48,7 @@ pub extern "C" fn exifnorm_check(
     fault: &mut ExifnormFault,
 ) -> u32
     ensures known { (result ≡ DONE) ⊎ (result ≡ REFUSED) ⊎ (result ≡ NO_MEMORY) }
-    ensures done { result ≡ DONE → Tells file.now kind.new }
+    ensures done { result ≡ DONE → IsOfKind file.now kind.new }
     ensures refused { result ≡ REFUSED → Refuses file.now fault.new }
     ensures kind { result ≢ DONE → kind.new ≡ kind.old }
     ensures fault { result ≢ REFUSED → fault.new ≡ fault.old }
@@ -70,10 +73,10 @@ pub extern "C" fn exifnorm_normalise(
     fault: &mut ExifnormFault,
 ) -> u32
     ensures known { (result ≡ DONE) ⊎ (result ≡ REFUSED) ⊎ (result ≡ TOO_LONG) ⊎ (result ≡ NO_MEMORY) ⊎ (result ≡ TOO_LITTLE_ROOM) }
-    ensures done { result ≡ DONE → GivesForm file.now out.old out.new written.new }
+    ensures done { result ≡ DONE → PutsForm file.now (Whole written.new) out.old out.new }
     ensures refused { result ≡ REFUSED → Refuses file.now fault.new }
-    ensures long { result ≡ TOO_LONG → IsTooLong file.now }
-    ensures short { result ≡ TOO_LITTLE_ROOM → LacksForm file.now out.old written.new }
+    ensures long { result ≡ TOO_LONG → IsUnwritten file.now 0 NormalTooLong }
+    ensures short { result ≡ TOO_LITTLE_ROOM → PutsForm file.now (Needs written.new) out.old out.new }
     ensures out { result ≢ DONE → out.new ≡ out.old }
     ensures written { result ≢ DONE → result ≢ TOO_LITTLE_ROOM → written.new ≡ written.old }
     ensures fault { result ≢ REFUSED → fault.new ≡ fault.old }
@@ -97,9 +100,9 @@ pub extern "C" fn exifnorm_compare(
     fault: &mut ExifnormFault,
 ) -> u32
     ensures known { (result ≡ DONE) ⊎ (result ≡ REFUSED) ⊎ (result ≡ NO_MEMORY) ⊎ (result ≡ SECOND_REFUSED) }
-    ensures done { result ≡ DONE → Compares first.now second.now same.new }
+    ensures done { result ≡ DONE → AreCompared first.now second.now same.new }
     ensures refused { result ≡ REFUSED → Refuses first.now fault.new }
-    ensures second { result ≡ SECOND_REFUSED → IsSaying first.now × Refuses second.now fault.new }
+    ensures second { result ≡ SECOND_REFUSED → ((s : Said) × IsSaid first.now s) × Refuses second.now fault.new }
     ensures same { result ≢ DONE → same.new ≡ same.old }
     ensures fault { result ≢ REFUSED → result ≢ SECOND_REFUSED → fault.new ≡ fault.old }
 {
@@ -121,9 +124,9 @@ pub extern "C" fn exifnorm_show(
     fault: &mut ExifnormFault,
 ) -> u32
     ensures known { (result ≡ DONE) ⊎ (result ≡ REFUSED) ⊎ (result ≡ NO_MEMORY) ⊎ (result ≡ TOO_LITTLE_ROOM) }
-    ensures done { result ≡ DONE → Gives listing file.now out.old out.new written.new }
+    ensures done { result ≡ DONE → PutsSaid listing file.now (Whole written.new) out.old out.new }
     ensures refused { result ≡ REFUSED → Refuses file.now fault.new }
-    ensures short { result ≡ TOO_LITTLE_ROOM → Lacks listing file.now out.old written.new }
+    ensures short { result ≡ TOO_LITTLE_ROOM → PutsSaid listing file.now (Needs written.new) out.old out.new }
     ensures out { result ≢ DONE → out.new ≡ out.old }
     ensures written { result ≢ DONE → result ≢ TOO_LITTLE_ROOM → written.new ≡ written.old }
     ensures fault { result ≢ REFUSED → fault.new ≡ fault.old }
@@ -146,9 +149,9 @@ pub extern "C" fn exifnorm_captions(
     fault: &mut ExifnormFault,
 ) -> u32
     ensures known { (result ≡ DONE) ⊎ (result ≡ REFUSED) ⊎ (result ≡ NO_MEMORY) ⊎ (result ≡ TOO_LITTLE_ROOM) }
-    ensures done { result ≡ DONE → Gives caption_text file.now out.old out.new written.new }
+    ensures done { result ≡ DONE → PutsSaid caption_text file.now (Whole written.new) out.old out.new }
     ensures refused { result ≡ REFUSED → Refuses file.now fault.new }
-    ensures short { result ≡ TOO_LITTLE_ROOM → Lacks caption_text file.now out.old written.new }
+    ensures short { result ≡ TOO_LITTLE_ROOM → PutsSaid caption_text file.now (Needs written.new) out.old out.new }
     ensures out { result ≢ DONE → out.new ≡ out.old }
     ensures written { result ≢ DONE → result ≢ TOO_LITTLE_ROOM → written.new ≡ written.old }
     ensures fault { result ≢ REFUSED → fault.new ≡ fault.old }
@@ -162,8 +165,8 @@ pub extern "C" fn exifnorm_captions(
 #[unsafe(no_mangle)]
 pub extern "C" fn exifnorm_cause_name(cause: u32, out: &mut [u8], written: &mut usize) -> u32
     ensures known { (result ≡ DONE) ⊎ (result ≡ TOO_LITTLE_ROOM) }
-    ensures done { result ≡ DONE → PutsText (cause_name cause) out.old out.new written.new }
-    ensures short { result ≡ TOO_LITTLE_ROOM → NeedsText (cause_name cause) out.old written.new }
+    ensures done { result ≡ DONE → PutsText (cause_name cause) (Whole written.new) out.old out.new }
+    ensures short { result ≡ TOO_LITTLE_ROOM → PutsText (cause_name cause) (Needs written.new) out.old out.new }
     ensures out { result ≡ TOO_LITTLE_ROOM → out.new ≡ out.old }
 {
     give_text(cause_name(cause), out, written)
@@ -174,8 +177,8 @@ pub extern "C" fn exifnorm_cause_name(cause: u32, out: &mut [u8], written: &mut 
 #[unsafe(no_mangle)]
 pub extern "C" fn exifnorm_version(out: &mut [u8], written: &mut usize) -> u32
     ensures known { (result ≡ DONE) ⊎ (result ≡ TOO_LITTLE_ROOM) }
-    ensures done { result ≡ DONE → PutsText VERSION.now out.old out.new written.new }
-    ensures short { result ≡ TOO_LITTLE_ROOM → NeedsText VERSION.now out.old written.new }
+    ensures done { result ≡ DONE → PutsText VERSION.now (Whole written.new) out.old out.new }
+    ensures short { result ≡ TOO_LITTLE_ROOM → PutsText VERSION.now (Needs written.new) out.old out.new }
     ensures out { result ≡ TOO_LITTLE_ROOM → out.new ≡ out.old }
 {
     give_text(VERSION.as_bytes(), out, written)

@@ -1,9 +1,12 @@
 // The calls over memory. Each answers `NO_MEMORY` exactly where memory refused a growth in that call.
 ghost use Rattle.std.specs.Prelude.{◌≡◌, ◌≢◌, ◌⊎◌, ◌+◌, true};
-ghost use Rattle.px_engine.specs.Captions.{caption_text};
-ghost use Rattle.px_engine.specs.Listing.{listing};
-ghost use Rattle.px_c.specs.Outcomes.{Refuses, Gives, Lacks, GivesForm, LacksForm, IsTooLong};
-ghost use Rattle.px_c.specs.Outcomes.{Tells, IsSaying, Compares};
+ghost use Rattle.px_engine.specs.declared.faults.Fault.TheVariants.{NormalTooLong};
+ghost use Rattle.px_engine.specs.declared.given.Given.TheVariants.{Whole, Needs};
+ghost use Rattle.px_engine.specs.Files.{Said};
+ghost use Rattle.px_engine.specs.Hand.{PutsForm, IsUnwritten};
+ghost use Rattle.px_engine.specs.Input.{IsSaid};
+ghost use Rattle.px_engine.specs.Prints.{caption_text, listing};
+ghost use Rattle.px_c.specs.Outcomes.{Refuses, PutsSaid, IsOfKind, AreCompared};
 
 use crate::faults::{ExifnormFault, told};
 use crate::giving::give;
@@ -19,7 +22,7 @@ pub(crate) fn check_in(
     fault: &mut ExifnormFault,
 ) -> u32
     ensures known { (result ≡ DONE) ⊎ (result ≡ REFUSED) ⊎ (result ≡ NO_MEMORY) }
-    ensures done { result ≡ DONE → Tells file.now kind.new }
+    ensures done { result ≡ DONE → IsOfKind file.now kind.new }
     ensures refused { result ≡ REFUSED → Refuses file.now fault.new }
     ensures kind { result ≢ DONE → kind.new ≡ kind.old }
     ensures fault { result ≢ REFUSED → fault.new ≡ fault.old }
@@ -52,10 +55,10 @@ pub(crate) fn normalise_in(
     fault: &mut ExifnormFault,
 ) -> u32
     ensures known { (result ≡ DONE) ⊎ (result ≡ REFUSED) ⊎ (result ≡ TOO_LONG) ⊎ (result ≡ NO_MEMORY) ⊎ (result ≡ TOO_LITTLE_ROOM) }
-    ensures done { result ≡ DONE → GivesForm file.now out.old out.new written.new }
+    ensures done { result ≡ DONE → PutsForm file.now (Whole written.new) out.old out.new }
     ensures refused { result ≡ REFUSED → Refuses file.now fault.new }
-    ensures long { result ≡ TOO_LONG → IsTooLong file.now }
-    ensures short { result ≡ TOO_LITTLE_ROOM → LacksForm file.now out.old written.new }
+    ensures long { result ≡ TOO_LONG → IsUnwritten file.now 0 NormalTooLong }
+    ensures short { result ≡ TOO_LITTLE_ROOM → PutsForm file.now (Needs written.new) out.old out.new }
     ensures out { result ≢ DONE → out.new ≡ out.old }
     ensures written { result ≢ DONE → result ≢ TOO_LITTLE_ROOM → written.new ≡ written.old }
     ensures fault { result ≢ REFUSED → fault.new ≡ fault.old }
@@ -91,9 +94,9 @@ pub(crate) fn compare_in(
     fault: &mut ExifnormFault,
 ) -> u32
     ensures known { (result ≡ DONE) ⊎ (result ≡ REFUSED) ⊎ (result ≡ NO_MEMORY) ⊎ (result ≡ SECOND_REFUSED) }
-    ensures done { result ≡ DONE → Compares first.now second.now same.new }
+    ensures done { result ≡ DONE → AreCompared first.now second.now same.new }
     ensures refused { result ≡ REFUSED → Refuses first.now fault.new }
-    ensures second { result ≡ SECOND_REFUSED → IsSaying first.now × Refuses second.now fault.new }
+    ensures second { result ≡ SECOND_REFUSED → ((s : Said) × IsSaid first.now s) × Refuses second.now fault.new }
     ensures same { result ≢ DONE → same.new ≡ same.old }
     ensures fault { result ≢ REFUSED → result ≢ SECOND_REFUSED → fault.new ≡ fault.old }
     ensures lacking { result ≡ NO_MEMORY → memory.new ≡ memory.old + 1 }
@@ -131,9 +134,9 @@ pub(crate) fn show_in(
     fault: &mut ExifnormFault,
 ) -> u32
     ensures known { (result ≡ DONE) ⊎ (result ≡ REFUSED) ⊎ (result ≡ NO_MEMORY) ⊎ (result ≡ TOO_LITTLE_ROOM) }
-    ensures done { result ≡ DONE → Gives listing file.now out.old out.new written.new }
+    ensures done { result ≡ DONE → PutsSaid listing file.now (Whole written.new) out.old out.new }
     ensures refused { result ≡ REFUSED → Refuses file.now fault.new }
-    ensures short { result ≡ TOO_LITTLE_ROOM → Lacks listing file.now out.old written.new }
+    ensures short { result ≡ TOO_LITTLE_ROOM → PutsSaid listing file.now (Needs written.new) out.old out.new }
     ensures out { result ≢ DONE → out.new ≡ out.old }
     ensures written { result ≢ DONE → result ≢ TOO_LITTLE_ROOM → written.new ≡ written.old }
     ensures fault { result ≢ REFUSED → fault.new ≡ fault.old }
@@ -159,9 +162,9 @@ pub(crate) fn captions_in(
     fault: &mut ExifnormFault,
 ) -> u32
     ensures known { (result ≡ DONE) ⊎ (result ≡ REFUSED) ⊎ (result ≡ NO_MEMORY) ⊎ (result ≡ TOO_LITTLE_ROOM) }
-    ensures done { result ≡ DONE → Gives caption_text file.now out.old out.new written.new }
+    ensures done { result ≡ DONE → PutsSaid caption_text file.now (Whole written.new) out.old out.new }
     ensures refused { result ≡ REFUSED → Refuses file.now fault.new }
-    ensures short { result ≡ TOO_LITTLE_ROOM → Lacks caption_text file.now out.old written.new }
+    ensures short { result ≡ TOO_LITTLE_ROOM → PutsSaid caption_text file.now (Needs written.new) out.old out.new }
     ensures out { result ≢ DONE → out.new ≡ out.old }
     ensures written { result ≢ DONE → result ≢ TOO_LITTLE_ROOM → written.new ≡ written.old }
     ensures fault { result ≢ REFUSED → fault.new ≡ fault.old }

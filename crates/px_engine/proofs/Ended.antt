@@ -9,12 +9,10 @@ use Rattle.px_engine.specs.declared.faults.Side.TheVariants.{First}
 use Rattle.px_engine.specs.declared.faults.CompareFault.{CompareFault}
 use Rattle.px_engine.specs.declared.kinds.BlockKind.{BlockKind}
 use Rattle.px_engine.specs.Files.{Said, normal, block_of}
-use Rattle.px_engine.specs.Hand.{IsKindOf}
+use Rattle.px_engine.specs.Input.{LacksFault, LacksRun, IsSaid, IsUnsaid, OnSide}
+use Rattle.px_engine.specs.Runs.{KnownSaid, Stops, Checks, Normalises, Compares}
+use Rattle.px_engine.specs.Hand.{IsKindOf, IsFormOf, IsUnwritten}
 use Rattle.px_engine.specs.calls.Ends.{IsUnformed, WritesSaid}
-use Rattle.px_engine.specs.Headline.{IsFormOf, IsUnwritten}
-use Rattle.px_engine.specs.Lacking.{LacksFault, LacksRun}
-use Rattle.px_engine.specs.Input.{IsSaid, IsUnsaid}
-use Rattle.px_engine.specs.Runs.{KnownSaid, Stops, Checks, Normalises, StopsAt, Compares}
 use Rattle.px_engine.proofs.Judged.{known_said, known_stops}
 
 half : (file : Option (List ℕ)) (s : Said) → KnownSaid file s → limit < length (normal s)
@@ -85,4 +83,5 @@ own_memory P (Err e) lacking h = (lacking, h)
 
 -- the fault of one of two files
 pub first_stops : (e : CompareFault) (first second : Option (List ℕ)) → e.side ≡ First → Stops e.fault first → Compares (Err e) first second
-first_stops e first second q h = subst (λ z. StopsAt z e.fault first second) (sym q) h
+first_stops e first second q h =
+    subst (λ z. OnSide z (Stops e.fault first) ((s : Said) × KnownSaid first s) (Stops e.fault second)) (sym q) h

@@ -15,8 +15,7 @@ use Rattle.px_engine.specs.declared.kinds.BlockKind.TheVariants as kind
 use Rattle.px_engine.specs.Files.{Said, Iim, FirstIn}
 use Rattle.px_engine.specs.declared.faults.Fault.{Fault}
 use Rattle.px_engine.specs.declared.faults.Fault.TheVariants.{Refused, NormalTooLong, OutOfMemory, ReadFailed, WriteFailed}
-use Rattle.px_engine.specs.Input.{IsSaidIn, IsFaultyIn, IsSaid, IsFaulty, IsRefused, IsUnsaid, CountsReadFault}
-use Rattle.px_engine.specs.Lacking.{LacksFault}
+use Rattle.px_engine.specs.Input.{IsSaidIn, IsFaultyIn, IsSaid, IsFaulty, IsRefused, IsUnsaid, IsReadFault, LacksFault}
 use Rattle.px_engine.specs.Runs.{KnownSaid, Stops}
 use Rattle.px_engine.specs.calls.Faults.{refused}
 use Rattle.px_engine.specs.lemmas.FileLaws as file
@@ -78,12 +77,12 @@ known_stops old new bytes lacking ReadFailed r h = absurd h
 known_stops old new bytes lacking NormalTooLong r h = absurd h
 known_stops old new bytes lacking WriteFailed r h = absurd h
 
-pub read_fails : (fault : Fault) (old : Option (List ℕ)) (failed failed_now : ℕ) → CountsReadFault fault failed failed_now → Stops fault old
-read_fails (Refused cause place) old failed failed_now h = absurd h
-read_fails OutOfMemory old failed failed_now h = tt
-read_fails ReadFailed old failed failed_now h = tt
-read_fails NormalTooLong old failed failed_now h = absurd h
-read_fails WriteFailed old failed failed_now h = absurd h
+pub read_fails : (fault : Fault) (old : Option (List ℕ)) → IsReadFault fault → Stops fault old
+read_fails (Refused cause place) old h = absurd h
+read_fails OutOfMemory old h = tt
+read_fails ReadFailed old h = tt
+read_fails NormalTooLong old h = absurd h
+read_fails WriteFailed old h = absurd h
 
 pub consumes_most : (old new : Option (List ℕ)) (bytes : List ℕ) → ReadsUpTo old new 16777223 bytes → ConsumesAtMost old new 16777223
 consumes_most None new bytes r = tt

@@ -7,8 +7,7 @@ use Rattle.px_bytes.specs.lemmas.WaitingLaws.{from_none, owed_all, owed_prefix}
 use Rattle.px_engine.specs.declared.faults.Fault.{Fault}
 use Rattle.px_engine.specs.declared.faults.Fault.TheVariants.{Refused, NormalTooLong, OutOfMemory, ReadFailed, WriteFailed}
 use Rattle.px_engine.specs.Files.{Said}
-use Rattle.px_engine.specs.Input.{IsSaid, IsUnsaid}
-use Rattle.px_engine.specs.Lacking.{LacksRun}
+use Rattle.px_engine.specs.Input.{IsSaid, IsUnsaid, LacksRun}
 use Rattle.px_engine.specs.Prints.{Prints}
 use Rattle.px_engine.specs.calls.Ends.{WritesText}
 use Rattle.px_engine.specs.calls.Faults.{told}
@@ -43,7 +42,7 @@ pub not_printed : (A : Type 0) (text : Said → List ℕ) (fault : Fault) (left 
     → ReadsUpTo left left_now 16777223 bytes → IsUnsaid bytes lacking fault → Prints {A = A} text (Err fault) left old old
 not_printed A text (Refused cause place) left left_now bytes lacking old x h =
     (known_stops left left_now bytes lacking (Refused cause place) x h, refl)
-not_printed A text OutOfMemory left left_now bytes lacking old x h = refl
+not_printed A text OutOfMemory left left_now bytes lacking old x h = (tt, refl)
 not_printed A text ReadFailed left left_now bytes lacking old x h = absurd h
 not_printed A text NormalTooLong left left_now bytes lacking old x h = absurd h
 not_printed A text WriteFailed left left_now bytes lacking old x h = absurd h

@@ -3,10 +3,11 @@ use Rattle.std.proofs.Common.{◌≡◌, ◌≤◌, ◌*◌, ◌↔◌, ℕ, Boo
 use Rattle.px_bytes.specs.Parts.{limit}
 use Rattle.px_engine.specs.Files.{Said, Says, normal, block_of}
 use Rattle.px_engine.specs.Input.{IsSaid}
+use Rattle.px_engine.specs.Runs.{Compares}
+use Rattle.px_engine.specs.Hand.{IsFormOf}
+use Rattle.px_engine.specs.Headline.{IsItsOwn, Headline, RunsTell, ComparingTells}
 use Rattle.px_engine.specs.Laws.{OneSaid, NormalSays}
 use Rattle.px_engine.specs.lemmas.FileLaws.{own_block}
-use Rattle.px_engine.specs.Headline.{IsFormOf, IsItsOwn, Headline, RunsTell, ComparingTells}
-use Rattle.px_engine.specs.Runs.{Compares}
 
 module _ (one : OneSaid) (says : NormalSays) where
   form_says : (s : Said) (n : List ℕ) (f : List ℕ) → IsFormOf f s n → Says n s

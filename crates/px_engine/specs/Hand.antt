@@ -1,15 +1,14 @@
 -- What calls over files in hand answer.
-use Rattle.std.specs.Prelude.{◌≡◌, ◌↔◌, ◌<◌, ◌≤◌, ◌++◌, ℕ, Bool, IsTrue, List, length, drop}
+use Rattle.std.specs.Prelude.{◌≡◌, ◌↔◌, ◌<◌, ◌≤◌, ◌*◌, ◌++◌, ℕ, Bool, IsTrue, List, length, drop}
+use Rattle.px_bytes.specs.Parts.{limit}
 use Rattle.px_engine.specs.declared.faults.Fault.{Fault}
-use Rattle.px_engine.specs.declared.faults.Side.{Side}
-use Rattle.px_engine.specs.declared.faults.Side.TheVariants.{First, Second}
+use Rattle.px_engine.specs.declared.faults.Fault.TheVariants.{NormalTooLong}
 use Rattle.px_engine.specs.declared.faults.CompareFault.{CompareFault}
 use Rattle.px_engine.specs.declared.given.Given.{Given}
 use Rattle.px_engine.specs.declared.given.Given.TheVariants.{Whole, Needs}
 use Rattle.px_engine.specs.declared.kinds.BlockKind.{BlockKind}
-use Rattle.px_engine.specs.Files.{Said, kind_said}
-use Rattle.px_engine.specs.Headline.{IsFormOf}
-use Rattle.px_engine.specs.Input.{IsSaid, IsUnsaid}
+use Rattle.px_engine.specs.Files.{Said, kind_said, normal, block_of}
+use Rattle.px_engine.specs.Input.{IsSaid, IsUnsaid, OnSide}
 
 -- the kind of what the file says
 abbrev pub IsKindOf : List ℕ → BlockKind → Type 0
@@ -20,12 +19,23 @@ abbrev pub SaysSame : List ℕ → List ℕ → Bool → Type 0
 SaysSame f g same = (s t : Said) × IsSaid f s × IsSaid g t × (IsTrue same ↔ (s ≡ t))
 
 -- a fault of the first file; or one of the second, where the first says something
-abbrev pub IsUnsaidOn : Side → List ℕ → List ℕ → ℕ → Fault → Type 0
-IsUnsaidOn First f g refused fault = IsUnsaid f refused fault
-IsUnsaidOn Second f g refused fault = ((s : Said) × IsSaid f s) × IsUnsaid g refused fault
-
 abbrev pub IsUnsaidAt : List ℕ → List ℕ → ℕ → CompareFault → Type 0
-IsUnsaidAt f g refused e = IsUnsaidOn e.side f g refused e.fault
+IsUnsaidAt f g refused e = OnSide e.side (IsUnsaid f refused e.fault) ((s : Said) × IsSaid f s) (IsUnsaid g refused e.fault)
+
+-- n is the normal form of what the file f says
+abbrev pub IsFormOf : List ℕ → Said → List ℕ → Type 0
+IsFormOf f s n = IsSaid f s × (n ≡ normal s) × (length n ≤ limit)
+
+-- Why nothing was written of f: it says nothing, for its content's first fault; or the form of what it says is too long; or
+-- memory has refused a growth. No device is asked, so none fails.
+abbrev pub IsUnwritten : List ℕ → ℕ → Fault → Type 0
+IsUnwritten f refused NormalTooLong = (s : Said) × IsSaid f s × (limit < length (normal s)) × (limit < 2 * length (block_of f))
+IsUnwritten f refused fault = IsUnsaid f refused fault
+
+-- the fault of the first file; or of the second, where the first has a form
+abbrev pub IsUnwrittenAt : List ℕ → List ℕ → ℕ → CompareFault → Type 0
+IsUnwrittenAt f g refused e =
+    OnSide e.side (IsUnwritten f refused e.fault) ((s : Said) × (n : List ℕ) × IsFormOf f s n) (IsUnwritten g refused e.fault)
 
 -- Of a form and the room that a caller has for it: the room begins with the form, and is as it was behind it; or it is too little,
 -- and is as it was. In both cases the form's length is told.

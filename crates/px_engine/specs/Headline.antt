@@ -1,19 +1,10 @@
 -- The headline: two files, and the normal forms that are written of them.
-use Rattle.std.specs.Prelude.{◌≡◌, ◌<◌, ◌≤◌, ◌*◌, ◌↔◌, ℕ, Bool, IsTrue, List, length, Option, Some, Ok}
+use Rattle.std.specs.Prelude.{◌≡◌, ◌↔◌, ℕ, Bool, IsTrue, List, Option, Some, Ok}
 use Rattle.std.specs.Io.KnownBytes.{Appends}
-use Rattle.px_bytes.specs.Parts.{limit}
-use Rattle.px_engine.specs.declared.faults.Fault.{Fault}
-use Rattle.px_engine.specs.declared.faults.Fault.TheVariants.{NormalTooLong}
-use Rattle.px_engine.specs.declared.faults.CompareFault.{CompareFault}
-use Rattle.px_engine.specs.declared.faults.Side.{Side}
-use Rattle.px_engine.specs.declared.faults.Side.TheVariants.{First, Second}
-use Rattle.px_engine.specs.Files.{Said, Says, normal, block_of}
-use Rattle.px_engine.specs.Input.{IsSaid, IsUnsaid}
+use Rattle.px_engine.specs.Files.{Said, Says, normal}
+use Rattle.px_engine.specs.Hand.{IsFormOf}
+use Rattle.px_engine.specs.Input.{IsSaid}
 use Rattle.px_engine.specs.Runs.{Normalises, Compares}
-
--- n is the normal form of what the file f says
-abbrev pub IsFormOf : List ℕ → Said → List ℕ → Type 0
-IsFormOf f s n = IsSaid f s × (n ≡ normal s) × (length n ≤ limit)
 
 -- as a file n says s and nothing else, and n is the normal form of what it says
 pub record IsItsOwn (n : List ℕ) (s : Said) : Type 0 where
@@ -35,20 +26,6 @@ pub record Headline (f g m n : List ℕ) : Type 0 where
   -- what was written is accepted with its meaning unchanged, and normalises to itself
   pub first_again : IsItsOwn m first
   pub second_again : IsItsOwn n second
-
--- Why nothing was written of f: it says nothing, for its content's first fault; or the form of what it says is too long; or
--- memory has refused a growth. No device is asked, so none fails.
-abbrev pub IsUnwritten : List ℕ → ℕ → Fault → Type 0
-IsUnwritten f refused NormalTooLong = (s : Said) × IsSaid f s × (limit < length (normal s)) × (limit < 2 * length (block_of f))
-IsUnwritten f refused fault = IsUnsaid f refused fault
-
--- the fault of the first file; or of the second, where the first has a form
-abbrev pub IsUnwrittenOn : Side → List ℕ → List ℕ → ℕ → Fault → Type 0
-IsUnwrittenOn First f g refused fault = IsUnwritten f refused fault
-IsUnwrittenOn Second f g refused fault = ((s : Said) × (n : List ℕ) × IsFormOf f s n) × IsUnwritten g refused fault
-
-abbrev pub IsUnwrittenAt : List ℕ → List ℕ → ℕ → CompareFault → Type 0
-IsUnwrittenAt f g refused e = IsUnwrittenOn e.side f g refused e.fault
 
 -- ---- the headline of runs
 

@@ -1,11 +1,14 @@
 -- What reading a file answers.
-use Rattle.std.specs.Prelude.{◌≡◌, ◌<◌, ◌≤◌, ◌+◌, ◌*◌, ℕ, List, length, Result, Ok, Err}
+use Rattle.std.specs.Prelude.{◌≡◌, ◌<◌, ◌≤◌, ◌+◌, ◌*◌, ℕ, List, length, Result, Ok, Err, ⊤}
 use Rattle.px_bytes.specs.declared.Cause.{Cause}
 use Rattle.px_bytes.specs.declared.Refusal.{Refusal}
 use Rattle.px_bytes.specs.declared.Refusal.TheVariants as refusal
 use Rattle.px_bytes.specs.Parts.{limit}
 use Rattle.px_engine.specs.declared.faults.Fault.{Fault}
-use Rattle.px_engine.specs.declared.faults.Fault.TheVariants.{Refused, NormalTooLong, OutOfMemory, ReadFailed, WriteFailed}
+use Rattle.px_engine.specs.declared.faults.Fault.TheVariants.{Refused, OutOfMemory, ReadFailed}
+use Rattle.px_engine.specs.declared.faults.CompareFault.{CompareFault}
+use Rattle.px_engine.specs.declared.faults.Side.{Side}
+use Rattle.px_engine.specs.declared.faults.Side.TheVariants.{First, Second}
 use Rattle.px_engine.specs.declared.kinds.BlockKind.{BlockKind}
 use Rattle.px_engine.specs.Files.{Said, SaysBlock, CanBeWritten, normal, kind_of, block_of, FirstIn, StandsIn}
 
@@ -41,18 +44,39 @@ IsRefused f refused r = IsRefusedIn (kind_of f) (block_of f) refused r
 abbrev pub IsUnsaid : List ℕ → ℕ → Fault → Type 0
 IsUnsaid f refused (Refused cause place) = IsFaulty f cause place
 IsUnsaid f refused OutOfMemory = 0 < refused
-IsUnsaid f refused ReadFailed = ⊥
-IsUnsaid f refused NormalTooLong = ⊥
-IsUnsaid f refused WriteFailed = ⊥
+IsUnsaid f refused fault = ⊥
 
--- a whole read fails for want of memory, or where a call of the reader failed, as its count of failures tells
-abbrev pub CountsReadFault : Fault → ℕ → ℕ → Type 0
-CountsReadFault OutOfMemory failed failed_now = failed_now ≡ failed
-CountsReadFault ReadFailed failed failed_now = failed_now ≡ failed + 1
-CountsReadFault (Refused cause place) failed failed_now = ⊥
-CountsReadFault NormalTooLong failed failed_now = ⊥
-CountsReadFault WriteFailed failed failed_now = ⊥
+-- what is said of a fault of the first file; or of one of the second, where the first is as `well` says
+abbrev pub OnSide : Side → Type 0 → Type 0 → Type 0 → Type 0
+OnSide First first well second = first
+OnSide Second first well second = well × second
 
-abbrev pub CountsRead : {A : Type 0} → Result A Fault → ℕ → ℕ → Type 0
-CountsRead (Ok x) failed failed_now = failed_now ≡ failed
-CountsRead (Err fault) failed failed_now = CountsReadFault fault failed failed_now
+-- ---- counts of failures, before a call and after it
+
+-- memory refused one growth exactly where that is the fault
+abbrev pub LacksFault : Fault → ℕ → ℕ → Type 0
+LacksFault OutOfMemory old new = new ≡ old + 1
+LacksFault fault old new = new ≡ old
+
+abbrev pub LacksRun : {A : Type 0} → Result A Fault → ℕ → ℕ → Type 0
+LacksRun (Ok x) old new = new ≡ old
+LacksRun (Err fault) old new = LacksFault fault old new
+
+abbrev pub LacksPair : {A : Type 0} → Result A CompareFault → ℕ → ℕ → Type 0
+LacksPair (Ok x) old new = new ≡ old
+LacksPair (Err e) old new = LacksFault e.fault old new
+
+-- a call of the reader failed exactly where that is the fault
+abbrev pub CountsFault : Fault → ℕ → ℕ → Type 0
+CountsFault ReadFailed failed failed_now = failed_now ≡ failed + 1
+CountsFault fault failed failed_now = failed_now ≡ failed
+
+abbrev pub CountsReads : {A : Type 0} → Result A Fault → ℕ → ℕ → Type 0
+CountsReads (Ok x) failed failed_now = failed_now ≡ failed
+CountsReads (Err fault) failed failed_now = CountsFault fault failed failed_now
+
+-- the faults of a whole read
+abbrev pub IsReadFault : Fault → Type 0
+IsReadFault OutOfMemory = ⊤
+IsReadFault ReadFailed = ⊤
+IsReadFault fault = ⊥

@@ -1,12 +1,9 @@
 pub mod Files
 pub mod Input
-pub mod Lacking
 pub mod Runs
-pub mod Laws
-pub mod Headline
 pub mod Hand
-pub mod Listing
-pub mod Captions
+pub mod Headline
+pub mod Laws
 pub mod Prints
 pub mod calls
 pub mod lemmas

@@ -1,22 +1,35 @@
--- What `show` and `captions` make of a file.
-use Rattle.std.specs.Prelude.{◌≡◌, ℕ, List, Option, Result, Ok, Err}
+-- What `show` and `captions` print, and what they make of a file.
+use Rattle.std.specs.Prelude.{◌≡◌, ℕ, Bool, List, Option, Result, Ok, Err}
 use Rattle.std.specs.Io.KnownBytes.{Appends}
 use Rattle.px_bytes.specs.Devices.{AppendsPrefix}
+use Rattle.px_text.specs.Listing.{exif_listing, iim_listing}
+use Rattle.px_text.specs.Captions.{Labelled, captions_of_exif, captions_of_iim, exif_text, iim_text}
 use Rattle.px_engine.specs.declared.faults.Fault.{Fault}
-use Rattle.px_engine.specs.declared.faults.Fault.TheVariants.{Refused, NormalTooLong, OutOfMemory, ReadFailed, WriteFailed}
-use Rattle.px_engine.specs.Files.{Said}
+use Rattle.px_engine.specs.declared.faults.Fault.TheVariants.{WriteFailed}
+use Rattle.px_engine.specs.Files.{Said, Exif, Iim}
 use Rattle.px_engine.specs.Input.{IsSaid}
 use Rattle.px_engine.specs.Runs.{KnownSaid, Stops}
+
+abbrev pub listing : Said → List ℕ
+listing (Exif m) = exif_listing m
+listing (Iim i) = iim_listing i
+
+-- whether UTF-8 is declared, and the captions
+abbrev pub captions_in : Said → Bool × List Labelled
+captions_in (Exif m) = captions_of_exif m
+captions_in (Iim i) = captions_of_iim i
+
+-- their text
+abbrev pub caption_text : Said → List ℕ
+caption_text (Exif m) = exif_text m
+caption_text (Iim i) = iim_text i
 
 -- Of `file` the writer, which had taken `old`, has now taken `new`. Done: exactly the text of what the file says. A failed
 -- write: a prefix of it. Every other fault: nothing. No text is too long.
 abbrev pub Prints : {A : Type 0} → (Said → List ℕ) → Result A Fault → Option (List ℕ) → Option (List ℕ) → Option (List ℕ) → Type 0
 Prints text (Ok x) file old new = (s : Said) × KnownSaid file s × Appends old new (text s)
 Prints text (Err WriteFailed) file old new = (s : Said) × KnownSaid file s × AppendsPrefix old new (text s)
-Prints text (Err (Refused cause place)) file old new = Stops (Refused cause place) file × (new ≡ old)
-Prints text (Err OutOfMemory) file old new = new ≡ old
-Prints text (Err ReadFailed) file old new = new ≡ old
-Prints text (Err NormalTooLong) file old new = ⊥
+Prints text (Err fault) file old new = Stops fault file × (new ≡ old)
 
 -- the bytes are the text of what the bytes that were read say
 abbrev pub IsTextOf : (Said → List ℕ) → List ℕ → List ℕ → Type 0

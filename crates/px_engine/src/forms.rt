@@ -11,7 +11,7 @@ ghost use Rattle.px_tree.specs.calls.Seen.{meaning_of};
 ghost use Rattle.px_engine.specs.Files.{CanBeWritten, normal};
 ghost use Rattle.px_engine.specs.Files as said;
 ghost use Rattle.px_engine.specs.calls.Ends.{IsUnformed};
-ghost use Rattle.px_engine.specs.Lacking.{LacksRun};
+ghost use Rattle.px_engine.specs.Input.{LacksRun};
 ghost use Rattle.px_engine.specs.calls.Filled.{PutsShort};
 ghost use Rattle.px_engine.specs.calls.Seen.{said_of};
 

@@ -1,13 +1,9 @@
 // Files in hand: judged, normalised, compared and printed without a copy of their bytes.
 ghost use Rattle.std.specs.Prelude.{◌≡◌, ℕ, IfOk, IfErr, OnErr};
-ghost use Rattle.px_engine.specs.Captions.{caption_text};
+ghost use Rattle.px_engine.specs.Input.{IsUnsaid, LacksRun, LacksPair};
+ghost use Rattle.px_engine.specs.Hand.{IsKindOf, PutsForm, SaysSame, IsUnsaidAt, IsFormOf, IsUnwritten};
+ghost use Rattle.px_engine.specs.Prints.{caption_text, listing, IsTextOf};
 ghost use Rattle.px_engine.specs.Files.{Said as AnySaid};
-ghost use Rattle.px_engine.specs.Hand.{IsKindOf, PutsForm, SaysSame, IsUnsaidAt};
-ghost use Rattle.px_engine.specs.Headline.{IsFormOf, IsUnwritten};
-ghost use Rattle.px_engine.specs.Input.{IsUnsaid};
-ghost use Rattle.px_engine.specs.Lacking.{LacksRun, LacksPair};
-ghost use Rattle.px_engine.specs.Listing.{listing};
-ghost use Rattle.px_engine.specs.Prints.{IsTextOf};
 
 use crate::faults::{CompareFault, Fault, Side};
 use crate::forms::{form_of, put_said};

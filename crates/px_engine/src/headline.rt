@@ -1,8 +1,9 @@
 // The headline, for two files in hand.
 ghost use Rattle.std.specs.Prelude.{◌≡◌, ℕ, IfOk, IfErr};
 ghost use Rattle.px_engine.specs.Files.{Said};
-ghost use Rattle.px_engine.specs.Lacking.{LacksPair};
-ghost use Rattle.px_engine.specs.Headline.{IsFormOf, IsUnwritten, Headline, IsUnwrittenAt};
+ghost use Rattle.px_engine.specs.Input.{LacksPair};
+ghost use Rattle.px_engine.specs.Hand.{IsFormOf, IsUnwritten, IsUnwrittenAt};
+ghost use Rattle.px_engine.specs.Headline.{Headline};
 
 use crate::faults::{CompareFault, Side};
 use crate::hand::normal_form_in;

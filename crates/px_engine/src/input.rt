@@ -5,11 +5,10 @@ ghost use Rattle.px_bytes.specs.Reading.{ReadsUpTo, ConsumesAtMost};
 ghost use Rattle.px_tree.specs.calls.Seen.{meaning_of};
 ghost use Rattle.px_engine.specs.declared.kinds.BlockKind.TheVariants as kind;
 ghost use Rattle.px_engine.specs.Files as said;
-ghost use Rattle.px_engine.specs.Input.{IsSaidIn, IsRefusedIn, IsSaid, IsRefused, CountsRead};
-ghost use Rattle.px_engine.specs.calls.Ends.{CountsReadOf};
+ghost use Rattle.px_engine.specs.Input.{IsSaidIn, IsRefusedIn, IsSaid, IsRefused, CountsReads, IsReadFault, LacksRun, LacksPair};
 ghost use Rattle.px_engine.specs.Hand.{IsKindOf};
-ghost use Rattle.px_engine.specs.Lacking.{LacksRun, LacksPair};
 ghost use Rattle.px_engine.specs.calls.Kinds.{SaysKind};
+ghost use Rattle.px_engine.specs.calls.Second.{CountsSecond};
 ghost use Rattle.px_engine.specs.calls.Seen.{said_of};
 ghost use Rattle.px_bytes.specs.Devices.{CanFail};
 
@@ -29,7 +28,8 @@ pub fn read_all_in<R: Source>(memory: &mut Memory, reader: &mut R) -> Result<Vec
     requires { CanFail (R.failed reader.old) }
     ensures found { IfOk result (λ v. ReadsUpTo (R.bytes_left reader.old) (R.bytes_left reader.new) 16777223 v.items) }
     ensures lost { ConsumesAtMost (R.bytes_left reader.old) (R.bytes_left reader.new) 16777223 }
-    ensures count { CountsRead result (R.failed reader.old) (R.failed reader.new) }
+    ensures fault { IfErr result IsReadFault }
+    ensures count { CountsReads result (R.failed reader.old) (R.failed reader.new) }
     ensures memory { LacksRun result memory.old memory.new }
 {
     Ok(read_up_to_in(memory, reader, LIMIT as usize + 7)?)
@@ -40,7 +40,8 @@ pub fn read_all<R: Source>(alloc: Global, reader: &mut R) -> Result<Vec<u8>, Fau
     requires { CanFail (R.failed reader.old) }
     ensures found { IfOk result (λ v. ReadsUpTo (R.bytes_left reader.old) (R.bytes_left reader.new) 16777223 v.items) }
     ensures lost { ConsumesAtMost (R.bytes_left reader.old) (R.bytes_left reader.new) 16777223 }
-    ensures count { CountsRead result (R.failed reader.old) (R.failed reader.new) }
+    ensures fault { IfErr result IsReadFault }
+    ensures count { CountsReads result (R.failed reader.old) (R.failed reader.new) }
 {
     read_all_in(&mut Memory::new(alloc), reader)
 }
@@ -55,7 +56,8 @@ pub(crate) fn read_side<R: Source>(
     ensures found { IfOk result (λ v. ReadsUpTo (R.bytes_left reader.old) (R.bytes_left reader.new) 16777223 v.items) }
     ensures side { IfErr result (λ e. e.side ≡ side) }
     ensures lost { ConsumesAtMost (R.bytes_left reader.old) (R.bytes_left reader.new) 16777223 }
-    ensures count { CountsReadOf result (R.failed reader.old) (R.failed reader.new) }
+    ensures fault { IfErr result (λ e. IsReadFault e.fault) }
+    ensures count { CountsSecond result (R.failed reader.old) (R.failed reader.new) }
     ensures memory { LacksPair result memory.old memory.new }
 {
     match read_all_in(memory, reader) {

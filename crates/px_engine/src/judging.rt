@@ -1,7 +1,6 @@
 // What a file in hand says, or why it says nothing.
 ghost use Rattle.std.specs.Prelude.{◌≡◌, IfOk, IfErr};
-ghost use Rattle.px_engine.specs.Input.{IsSaid, IsUnsaid};
-ghost use Rattle.px_engine.specs.Lacking.{LacksRun, LacksPair};
+ghost use Rattle.px_engine.specs.Input.{IsSaid, IsUnsaid, LacksRun, LacksPair};
 ghost use Rattle.px_engine.specs.calls.Second.{SaysSecond};
 ghost use Rattle.px_engine.specs.calls.Seen.{said_of};
 

@@ -1,7 +1,7 @@
 // The captions of what is said, as a list.
 ghost use Rattle.std.specs.Prelude.{◌≡◌, IfOk};
 ghost use Rattle.px_bytes.specs.Lacking.{Lacks};
-ghost use Rattle.px_engine.specs.Captions.{captions_in};
+ghost use Rattle.px_engine.specs.Prints.{captions_in};
 ghost use Rattle.px_engine.specs.calls.Seen.{said_of};
 
 use crate::meanings::Said;

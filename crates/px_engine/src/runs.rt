@@ -1,11 +1,9 @@
 // Whole runs over readers and writers.
 ghost use Rattle.std.specs.Prelude.{◌≡◌};
 ghost use Rattle.px_bytes.specs.Reading.{ConsumesAtMost};
-ghost use Rattle.px_engine.specs.Captions.{caption_text};
-ghost use Rattle.px_engine.specs.Lacking.{LacksRun, LacksPair};
-ghost use Rattle.px_engine.specs.Listing.{listing};
-ghost use Rattle.px_engine.specs.Prints.{Prints};
-ghost use Rattle.px_engine.specs.Runs.{Checks, Normalises, Compares, CountsReads, CountsWrites, CountsSides, Untouched};
+ghost use Rattle.px_engine.specs.Input.{LacksRun, LacksPair, CountsReads};
+ghost use Rattle.px_engine.specs.Runs.{Checks, Normalises, Compares, CountsWrites, CountsSides, Untouched};
+ghost use Rattle.px_engine.specs.Prints.{caption_text, listing, Prints};
 ghost use Rattle.px_engine.specs.calls.Second.{ComparesSecond, CountsSecond};
 ghost use Rattle.px_engine.specs.calls.Seen.{said_of};
 ghost use Rattle.px_bytes.specs.Devices.{CanFail};

@@ -3,8 +3,8 @@ use Rattle.std.specs.Prelude.{ℕ, Bool, Result}
 use Rattle.px_engine.specs.declared.BlockKind.{BlockKind}
 use Rattle.px_engine.specs.declared.CompareFault.{CompareFault}
 use Rattle.px_engine.specs.declared.Fault.{Fault}
-use Rattle.px_engine.specs.Lacking.{LacksPair, LacksRun}
-use Rattle.px_engine.specs.Runs.{Checks, Compares, CountsReads, CountsSides, CountsWrites, Normalises}
+use Rattle.px_engine.specs.Input.{LacksPair, LacksRun, CountsReads}
+use Rattle.px_engine.specs.Runs.{Checks, Compares, CountsSides, CountsWrites, Normalises}
 use Rattle.px_jobs.specs.Lines.{Device}
 use Rattle.px_jobs.specs.Endings.{EndsCheck, EndsCompare, EndsNormalise, TellsChecked, TellsCompared, TellsWritten}
 

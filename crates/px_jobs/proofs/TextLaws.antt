@@ -6,8 +6,8 @@ use Rattle.px_bytes.specs.Devices.{AppendsPrefix}
 use Rattle.px_engine.specs.declared.Fault.{Fault}
 use Rattle.px_engine.specs.declared.Fault.TheVariants.{Refused, NormalTooLong, OutOfMemory, ReadFailed, WriteFailed}
 use Rattle.px_engine.specs.Files.{Said}
-use Rattle.px_engine.specs.Prints.{Prints}
 use Rattle.px_engine.specs.Runs.{CountsWrites}
+use Rattle.px_engine.specs.Prints.{Prints}
 use Rattle.px_jobs.specs.Lines.{device, TellsFault}
 use Rattle.px_jobs.specs.Endings.{TellsText}
 use Rattle.px_jobs.specs.calls.Telling.{TellsPrinted}
@@ -35,13 +35,13 @@ text_told text (Err (Refused cause place)) file status failed mid now old shown 
 ]
 text_told text (Err OutOfMemory) file status failed mid now old shown new p w t = elim t [
   | inl q ↦ let bad : OutOfMemory ≡ WriteFailed = q.0 in absurd (cc)
-  | inr q ↦ moved OutOfMemory status failed mid now old shown new w p q.1
+  | inr q ↦ moved OutOfMemory status failed mid now old shown new w p.1 q.1
 ]
 text_told text (Err ReadFailed) file status failed mid now old shown new p w t = elim t [
   | inl q ↦ let bad : ReadFailed ≡ WriteFailed = q.0 in absurd (cc)
-  | inr q ↦ moved ReadFailed status failed mid now old shown new w p q.1
+  | inr q ↦ moved ReadFailed status failed mid now old shown new w p.1 q.1
 ]
-text_told text (Err NormalTooLong) file status failed mid now old shown new p w t = absurd p
+text_told text (Err NormalTooLong) file status failed mid now old shown new p w t = absurd p.0
 
 -- a fault that is not of the writer left its count as it was
 counts_before : (e : Fault) (failed mid : ℕ) → e ≢ WriteFailed → CountsWrites {A = ⊤} (Err e) failed mid → mid ≡ failed

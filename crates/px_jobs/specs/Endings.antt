@@ -6,10 +6,9 @@ use Rattle.px_engine.specs.declared.CompareFault.{CompareFault}
 use Rattle.px_engine.specs.declared.Fault.{Fault}
 use Rattle.px_engine.specs.declared.Fault.TheVariants.{Refused, NormalTooLong, OutOfMemory, ReadFailed, WriteFailed}
 use Rattle.px_engine.specs.Files.{Said}
-use Rattle.px_engine.specs.Listing.{listing}
-use Rattle.px_engine.specs.Captions.{caption_text}
-use Rattle.px_engine.specs.Lacking.{LacksRun, LacksPair}
-use Rattle.px_engine.specs.Runs.{KnownSaid, Stops, Checks, Compares, Normalises, CountsReads, CountsWrites, CountsSides}
+use Rattle.px_engine.specs.Input.{LacksRun, LacksPair, CountsReads}
+use Rattle.px_engine.specs.Runs.{KnownSaid, Stops, Checks, Compares, Normalises, CountsWrites, CountsSides}
+use Rattle.px_engine.specs.Prints.{listing, caption_text}
 use Rattle.px_jobs.specs.declared.job.Job.{Job}
 use Rattle.px_jobs.specs.declared.job.Job.TheVariants.{Show, Check, Captions, Normalise}
 use Rattle.px_jobs.specs.Lines.{Device, IsFailed, IsWell, Took, TookNothing, TookPrefix, Tells, TellsFault}

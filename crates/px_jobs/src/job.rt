@@ -2,8 +2,7 @@
 ghost use Rattle.std.specs.Prelude.{◌≡◌, ◌≢◌, Err};
 ghost use Rattle.px_engine.specs.declared.Fault.{Fault};
 ghost use Rattle.px_engine.specs.declared.Fault.TheVariants.{WriteFailed};
-ghost use Rattle.px_engine.specs.Captions.{caption_text};
-ghost use Rattle.px_engine.specs.Listing.{listing};
+ghost use Rattle.px_engine.specs.Prints.{caption_text, listing};
 ghost use Rattle.px_jobs.specs.Endings.{accepted, compared, compared_status, Ends, EndsCheck, EndsCompare, EndsNormalise, EndsText};
 ghost use Rattle.px_jobs.specs.Endings.{TellsChecked, TellsCompared, TellsWritten};
 ghost use Rattle.px_jobs.specs.calls.Telling.{TellsPrinted, TellsBehind};

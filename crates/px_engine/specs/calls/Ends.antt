@@ -1,19 +1,11 @@
 -- How single calls end.
-use Rattle.std.specs.Prelude.{◌≡◌, ◌<◌, ◌≤◌, ◌+◌, ℕ, List, length, Result, Ok, Err}
+use Rattle.std.specs.Prelude.{◌≡◌, ◌<◌, ◌≤◌, ◌+◌, ℕ, List, length, Option, Result, Ok, Err}
 use Rattle.px_bytes.specs.Parts.{limit}
-use Rattle.px_engine.specs.declared.faults.CompareFault.{CompareFault}
 use Rattle.px_engine.specs.declared.faults.Fault.{Fault}
 use Rattle.px_engine.specs.declared.faults.Fault.TheVariants.{Refused, NormalTooLong, OutOfMemory, ReadFailed, WriteFailed}
 use Rattle.px_engine.specs.Files.{Said, normal}
-use Rattle.px_engine.specs.Input.{CountsReadFault}
-use Rattle.std.specs.Prelude.{Option}
 use Rattle.std.specs.Io.KnownBytes.{Appends}
 use Rattle.px_bytes.specs.Devices.{AppendsPrefix}
-
--- a failed read of one of two files raises the count by one
-abbrev pub CountsReadOf : {A : Type 0} → Result A CompareFault → ℕ → ℕ → Type 0
-CountsReadOf (Ok x) failed failed_now = failed_now ≡ failed
-CountsReadOf (Err e) failed failed_now = CountsReadFault e.fault failed failed_now
 
 -- the normal form of what is said was written, or a prefix of it
 abbrev pub WritesSaid : Result ℕ Fault → Option (List ℕ) → Option (List ℕ) → ℕ → ℕ → Said → Type 0

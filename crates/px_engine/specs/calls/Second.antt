@@ -3,8 +3,8 @@ use Rattle.std.specs.Prelude.{◌≡◌, ◌↔◌, ℕ, Bool, IsTrue, List, Opt
 use Rattle.px_engine.specs.declared.faults.CompareFault.{CompareFault}
 use Rattle.px_engine.specs.declared.faults.Side.TheVariants.{Second}
 use Rattle.px_engine.specs.Files.{Said}
-use Rattle.px_engine.specs.Input.{IsSaid, IsUnsaid}
-use Rattle.px_engine.specs.Runs.{KnownSaid, Stops, CountsFault}
+use Rattle.px_engine.specs.Input.{IsSaid, IsUnsaid, CountsFault}
+use Rattle.px_engine.specs.Runs.{KnownSaid, Stops}
 
 -- whether it says the same; or the fault is the second file's
 abbrev pub ComparesSecond : Result Bool CompareFault → Said → Option (List ℕ) → Type 0
@@ -12,8 +12,8 @@ ComparesSecond (Ok same) s second = (t : Said) × KnownSaid second t × (IsTrue 
 ComparesSecond (Err e) s second = (e.side ≡ Second) × Stops e.fault second
 
 -- a failed read is answered exactly where the count of its reader rose
-abbrev pub CountsSecond : Result Bool CompareFault → ℕ → ℕ → Type 0
-CountsSecond (Ok same) second second_now = second_now ≡ second
+abbrev pub CountsSecond : {A : Type 0} → Result A CompareFault → ℕ → ℕ → Type 0
+CountsSecond (Ok x) second second_now = second_now ≡ second
 CountsSecond (Err e) second second_now = CountsFault e.fault second second_now
 
 -- the same of a file in hand

@@ -1,4 +1,4 @@
-use Rattle.px_engine.specs.Headline.{IsUnwritten}
+use Rattle.px_engine.specs.Hand.{IsUnwritten}
 use Rattle.px_engine.proofs.Ended.{own_memory}
 use Rattle.px_engine.proofs.hand.normal_form.Goals as goal
 

@@ -1,4 +1,4 @@
-use Rattle.px_engine.specs.Headline.{IsUnwrittenAt}
+use Rattle.px_engine.specs.Hand.{IsUnwrittenAt}
 use Rattle.px_engine.proofs.Ended.{own_memory}
 use Rattle.px_engine.proofs.headline.normalise_both.Goals as goal
 

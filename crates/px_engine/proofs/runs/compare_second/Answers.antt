@@ -8,7 +8,7 @@ pub returns-in_err-file-clause-done : goal.returns-in_err-file-clause-done
 returns-in_err-file-clause-done g c =
     let p = err_from_is_err_and c.from_residual.result c.from_residual.ensures.1 in
     let e = c.in_err-file.field-0.0 in
-    rw (p.1, p.2) (c.in_err-file.ensures.side, read_fails e.fault _ _ _ c.in_err-file.ensures.count)
+    rw (p.1, p.2) (c.in_err-file.ensures.side, read_fails e.fault _ c.in_err-file.ensures.fault)
 
 pub returns-clause-done : goal.returns-clause-done
 returns-clause-done g c =

@@ -1,6 +1,6 @@
 use Rattle.std.proofs.Common.{◌∙◌}
 use Rattle.std.proofs.lemmas.Result.{err_from_is_err_and}
-use Rattle.px_engine.specs.Listing.{listing}
+use Rattle.px_engine.specs.Prints.{listing}
 use Rattle.px_engine.specs.calls.Seen.{said_of}
 use Rattle.px_engine.proofs.Judged.{read_as}
 use Rattle.px_engine.proofs.Ended.{lacks_later}

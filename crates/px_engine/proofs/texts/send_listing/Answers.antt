@@ -1,7 +1,7 @@
 use Rattle.std.proofs.lemmas.Result.{err_from_is_err_and}
 use Rattle.px_bytes.specs.Devices.{AppendsPrefix}
 use Rattle.px_bytes.specs.lemmas.WaitingLaws.{from_none}
-use Rattle.px_engine.specs.Listing.{listing}
+use Rattle.px_engine.specs.Prints.{listing}
 use Rattle.px_engine.specs.calls.Seen.{said_of}
 use Rattle.px_engine.proofs.Printed.{sent}
 use Rattle.px_engine.proofs.texts.send_listing.Goals as goal

@@ -1,4 +1,4 @@
-use Rattle.px_engine.specs.Captions.{caption_text}
+use Rattle.px_engine.specs.Prints.{caption_text}
 use Rattle.px_jobs.proofs.TextLaws.{room, text_told}
 use Rattle.px_jobs.proofs.job.run_captions.Goals as goal
 

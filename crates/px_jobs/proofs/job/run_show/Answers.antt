@@ -1,4 +1,4 @@
-use Rattle.px_engine.specs.Listing.{listing}
+use Rattle.px_engine.specs.Prints.{listing}
 use Rattle.px_jobs.proofs.TextLaws.{room, text_told}
 use Rattle.px_jobs.proofs.job.run_show.Goals as goal
 
