@@ -35,11 +35,11 @@ text_told text (Err (Refused cause place)) file status failed mid now old shown 
 ]
 text_told text (Err OutOfMemory) file status failed mid now old shown new p w t = elim t [
   | inl q ↦ let bad : OutOfMemory ≡ WriteFailed = q.0 in absurd (cc)
-  | inr q ↦ moved OutOfMemory status failed mid now old shown new w p.1 q.1
+  | inr q ↦ (tt, moved OutOfMemory status failed mid now old shown new w p.1 q.1)
 ]
 text_told text (Err ReadFailed) file status failed mid now old shown new p w t = elim t [
   | inl q ↦ let bad : ReadFailed ≡ WriteFailed = q.0 in absurd (cc)
-  | inr q ↦ moved ReadFailed status failed mid now old shown new w p.1 q.1
+  | inr q ↦ (tt, moved ReadFailed status failed mid now old shown new w p.1 q.1)
 ]
 text_told text (Err NormalTooLong) file status failed mid now old shown new p w t = absurd p.0
 

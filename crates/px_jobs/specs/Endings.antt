@@ -4,7 +4,7 @@ use Rattle.px_engine.specs.declared.BlockKind.{BlockKind}
 use Rattle.px_engine.specs.declared.BlockKind.TheVariants as kind
 use Rattle.px_engine.specs.declared.CompareFault.{CompareFault}
 use Rattle.px_engine.specs.declared.Fault.{Fault}
-use Rattle.px_engine.specs.declared.Fault.TheVariants.{Refused, NormalTooLong, OutOfMemory, ReadFailed, WriteFailed}
+use Rattle.px_engine.specs.declared.Fault.TheVariants.{WriteFailed}
 use Rattle.px_engine.specs.Files.{Said}
 use Rattle.px_engine.specs.Input.{LacksRun, LacksPair, CountsReads}
 use Rattle.px_engine.specs.Runs.{KnownSaid, Stops, Checks, Compares, Normalises, CountsWrites, CountsSides}
@@ -52,11 +52,7 @@ abbrev pub TellsText : (Said → List ℕ) → Result ⊤ Fault → Option (List
 TellsText text (Ok x) file status lines = (s : Said) × KnownSaid file s × (status ≡ 0) × IsWell lines × Took lines (text s)
 TellsText text (Err WriteFailed) file status lines =
     (s : Said) × KnownSaid file s × (status ≡ 4) × IsFailed lines × TookPrefix lines (text s)
-TellsText text (Err (Refused cause place)) file status lines =
-    Stops (Refused cause place) file × TellsFault (Refused cause place) None status lines
-TellsText text (Err OutOfMemory) file status lines = TellsFault OutOfMemory None status lines
-TellsText text (Err ReadFailed) file status lines = TellsFault ReadFailed None status lines
-TellsText text (Err NormalTooLong) file status lines = ⊥
+TellsText text (Err fault) file status lines = Stops fault file × TellsFault fault None status lines
 
 -- ---- whole runs: there is an outcome that the engine allows of the files, and it is told. `refused`
 -- and `refused_now` say how many growths memory had refused before the run, and how many it has behind it: an outcome that is
