@@ -12,8 +12,7 @@ use Rattle.px_words.specs.declared.Words.{Words}
 use Rattle.px_words.specs.declared.Words.TheVariants as words
 use Rattle.px_jobs.specs.Lines.{Device, TellsFault, TellsWords}
 use Rattle.px_jobs.specs.Endings.{Ends, EndsCompare}
-use Rattle.px_words.specs.Words.{out_is_file, AskedBy}
-use Rattle.px_words.specs.Wanting.{LacksWords}
+use Rattle.px_words.specs.Words.{out_is_file, AskedBy, LacksWords}
 
 -- the job that a command asks for
 abbrev pub job_of : One → Job

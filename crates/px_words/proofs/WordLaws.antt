@@ -6,9 +6,8 @@ use Rattle.clap.specs.declared.error.Error.{Error}
 use Rattle.clap.specs.declared.error.ErrorKind.TheVariants as kind
 use Rattle.px_words.specs.declared.words.Words.{Words}
 use Rattle.px_words.specs.declared.words.Words.TheVariants as words
-use Rattle.px_words.specs.Words.{Asks, AsksFiles, IsFor}
+use Rattle.px_words.specs.Words.{Asks, AsksFiles, IsFor, LacksWords}
 use Rattle.px_words.specs.calls.Met.{TellsKind, IsTold}
-use Rattle.px_words.specs.Wanting.{LacksWords}
 
 -- a match gives no text but that of one word for two files
 pub of_match : (kinds : Kinds) (met : Option (Text × List Row)) (w : Words) → kinds ≡ [] → AsksFiles met w → IsFor kinds w

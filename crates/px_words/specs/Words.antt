@@ -1,5 +1,5 @@
 -- What the arguments of the program, its words, ask for.
-use Rattle.std.specs.Prelude.{◌≡◌, ◌≢◌, ◌↔◌, ◌⊎◌, List, [], ◌∷◌, Option, Some, codes, true, ⊤}
+use Rattle.std.specs.Prelude.{◌≡◌, ◌≢◌, ◌↔◌, ◌⊎◌, ◌+◌, ℕ, List, [], ◌∷◌, Option, Some, codes, true, ⊤}
 use Rattle.clap.specs.Words.{App, Row, Rule, Shape, Text, fault_of, first_of, new_app, new_rule, subcommand_of, with_rule, with_subcommand}
 use Rattle.clap.specs.Kinds.{IsAmong, Kinds}
 use Rattle.clap.specs.declared.error.ErrorKind.{ErrorKind}
@@ -93,14 +93,18 @@ IsShown k = (k ≡ kind.DisplayHelp) ⊎ (k ≡ kind.DisplayVersion)
 abbrev pub IsFor : Kinds → Words → Type 0
 IsFor kinds (words.Help text) = (k : ErrorKind) × IsAmong k kinds × IsShown k
 IsFor kinds (words.Refused text) = ((kinds ≡ []) × (text ≡ out_is_file)) ⊎ ((k : ErrorKind) × IsAmong k kinds × (IsShown k → ⊥))
-IsFor kinds (words.One what file) = kinds ≡ []
-IsFor kinds (words.Normalise file out) = kinds ≡ []
-IsFor kinds (words.Compare first second) = kinds ≡ []
 IsFor kinds words.Filter = ⊤
 IsFor kinds words.NoMemory = ⊤
 IsFor kinds words.Unread = ⊤
+IsFor kinds _ = kinds ≡ []
 
 -- what these words ask for
 abbrev pub AskedBy : List Text → Words → Type 0
 AskedBy ws asked = (ws ≡ [] ↔ asked ≡ words.Filter) × Asks (subcommand_of exifnorm ws) asked
     × IsFor (fault_of exifnorm ws) asked × (AreTaken ws → AsksFiles (subcommand_of exifnorm ws) asked)
+
+-- out of memory met one failed allocation, and no other answer did: `old` and `new` are the counts of failed allocations before and
+-- after the call
+abbrev pub LacksWords : Words → ℕ → ℕ → Type 0
+LacksWords words.NoMemory old new = new ≡ old + 1
+LacksWords _ old new = new ≡ old

@@ -2,10 +2,9 @@
 ghost use Rattle.std.specs.Prelude.{◌≡◌, ◌↔◌, ◌⊎◌, Some, [], map, codes, IfOk};
 ghost use Rattle.clap.specs.Words.{fault_of, first_of, found_of, kind_of, rows_of, subcommand_of, subcommand_rows_of};
 ghost use Rattle.px_words.specs.declared.words.Words.TheVariants as words_of;
-ghost use Rattle.px_words.specs.Words.{exifnorm, name_of, Asks, AsksFiles, AreTaken, IsFor, TakesCommands};
+ghost use Rattle.px_words.specs.Words.{exifnorm, name_of, Asks, AsksFiles, AreTaken, IsFor, TakesCommands, LacksWords};
 ghost use Rattle.px_words.specs.calls.Met.{TellsKind, IsTold, AsksIn, IsMet, IsThere};
 ghost use Rattle.px_bytes.specs.Lacking.{Lacks};
-ghost use Rattle.px_words.specs.Wanting.{LacksWords};
 
 use crate::grammar::command;
 use clap::error::ErrorKind;

@@ -1,7 +1,7 @@
 use Rattle.std.proofs.Common.{◌≡◌, ◌∙◌, false, subst, true}
 use Rattle.std.specs.Str.{bytes_eq}
 use Rattle.clap.specs.Words.{found_of, rows_of}
-use Rattle.px_words.specs.Wanting.{LacksWords}
+use Rattle.px_words.specs.Words.{LacksWords}
 use Rattle.px_words.proofs.matching.Named.{other_asked, same_asked}
 use Rattle.px_words.proofs.words.read_normalise.Goals as goal
 
