@@ -135,6 +135,7 @@ impl<'a> Value<'a> {
     }
 
     /// The element at `i`, counted from 0; `i` is below `count`.
+    #[inline(always)]
     pub fn element(&self, i: u32) -> Element
         requires { i < length self.now.elements }
         ensures element { slice_get self.now.elements i ≡ Some result }
@@ -373,6 +374,7 @@ fn behind(raw: &[u8], form: Form, i: u32, count: u32) -> &[u8]
 
 // The element at `i` of a type, where the bytes have room for it.
 #[tactic(auto, using(crate::proofs::ViewLemmas::element_fits))]
+#[inline(always)]
 fn element_in(order: Order, form: Form, raw: &[u8], i: u32) -> Element
     requires bounded { length raw.now ≤ limit }
     requires inside { i < count_in form raw.now }
@@ -384,6 +386,7 @@ fn element_in(order: Order, form: Form, raw: &[u8], i: u32) -> Element
 }
 
 // The element of a type that the bytes spell.
+#[inline(always)]
 fn read_element(order: Order, form: Form, bytes: &[u8]) -> Element
     requires { length bytes.now ≡ size form }
     ensures { result ≡ element_of order form bytes.now }
@@ -407,6 +410,7 @@ fn read_element(order: Order, form: Form, bytes: &[u8]) -> Element
 }
 
 // An unsigned number of two or of four bytes as one of four.
+#[inline(always)]
 fn widen(element: Element) -> Element
     ensures { result ≡ widened element }
 {
