@@ -82,7 +82,7 @@ fn spell_places(at: u32, strips: &Strips, start: usize, end: usize, into: &mut [
     for i in start..end {
         let place = 4 * (i - start);
         Order::Most.put32(next, &mut into[place..place + 4]);
-        let size = strips.at(i).len() as u32;
+        let size = strips.len_at(i) as u32;
         next += size + size % 2;
     }
     next

@@ -23,7 +23,7 @@ fn spell_lengths(order: Order, strips: &Strips, start: usize, end: usize, into: 
 {
     for i in start..end {
         let at = 4 * (i - start);
-        order.put32(strips.at(i).len() as u32, &mut into[at..at + 4]);
+        order.put32(strips.len_at(i) as u32, &mut into[at..at + 4]);
     }
 }
 

@@ -26,8 +26,11 @@ fn put_strips<W: Sink>(pending: &mut Pending, writer: &mut W, strips: &Strips) -
         (λ c. padded c.1) (strip_contents 0 strips.now)) }
     ensures count { Counts result (W.failed writer.old) (W.failed writer.new) }
 {
-    for i in 0..strips.len() {
-        put_padded(pending, writer, strips.at(i))?;
+    let mut i = 0;
+    while i < strips.len() {
+        let run = strips.run_at(i);
+        put_padded(pending, writer, run.bytes)?;
+        i += run.count;
     }
     Ok(())
 }

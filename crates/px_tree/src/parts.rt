@@ -1,5 +1,5 @@
 // The parts of a block, and the numbers in them. TIFF 6.0 section 2, "Types" and "Value/Offset".
-ghost use Rattle.std.specs.Prelude.{◌≡◌, ◌≤◌, ◌+◌, length};
+ghost use Rattle.std.specs.Prelude.{◌≡◌, ◌≤◌, ◌+◌, ◌-◌, length};
 ghost use Rattle.px_bytes.specs.Parts.{part};
 ghost use Rattle.px_tree.specs.Entry.{short, long, needs_place};
 
@@ -12,6 +12,15 @@ pub fn part_of<'a>(block: &'a [u8], at: u32, len: u32) -> &'a [u8]
 {
     let from = at as usize;
     &block[from..from + len as usize]
+}
+
+// The bytes of a block between two places.
+pub fn bytes_between(block: &[u8], start: usize, end: usize) -> &[u8]
+    requires rising { start ≤ end }
+    requires inside { end ≤ length block.now }
+    ensures { result.now ≡ part block.now start (end - start) }
+{
+    &block[start..end]
 }
 
 // The number in the two bytes at a place.

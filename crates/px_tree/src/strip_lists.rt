@@ -15,6 +15,7 @@ pub struct StripLists<'a> {
 }
 
 // The number of a SHORT or a LONG.
+#[inline(always)]
 fn number_of(element: Element) -> u32
     ensures { result ≡ whole_number element }
 {
@@ -26,6 +27,7 @@ fn number_of(element: Element) -> u32
 }
 
 // A number of a list.
+#[inline(always)]
 pub fn number_in(list: &Value, i: u32) -> u32
     requires { i < length list.now.elements }
     ensures { slice_get (map whole_number list.now.elements) i ≡ Some result }
@@ -42,4 +44,14 @@ pub fn strip_at<'a>(lists: &StripLists<'a>, i: u32) -> &'a [u8]
     let start = number_in(&lists.starts, i);
     let len = number_in(&lists.sizes, i);
     part_of(lists.block, start, len)
+}
+
+// The length of the strip at `i`, counted from 0.
+#[inline(always)]
+pub fn strip_len(lists: &StripLists, i: u32) -> u32
+    requires named { AreNamed lists.now }
+    requires there { i < length lists.now.starts.elements }
+    ensures { slice_get (map (λ x. length x) (named_strips (Some lists.now))) i ≡ Some result }
+{
+    number_in(&lists.sizes, i)
 }

@@ -1,9 +1,10 @@
 // The strips of a thumbnail.
-ghost use Rattle.std.specs.Prelude.{◌≡◌, ◌<◌, [], ◌∷◌, ◌++◌, length, slice_get, Some, OnOk, OnErr, IsTrue, ◌↔◌};
+ghost use Rattle.std.specs.Prelude.{◌≡◌, ◌<◌, ◌≤◌, ◌+◌, [], ◌∷◌, ◌++◌, length, map, slice_get, Some, OnOk, OnErr, IsTrue, ◌↔◌};
 ghost use Rattle.px_bytes.specs.Lacking.{Lacks};
-ghost use Rattle.px_tree.specs.calls.Strips.{AreNamed, named_strips};
+ghost use Rattle.px_tree.specs.calls.Strips.{AreNamed, AreJoined, named_strips};
 
-use crate::strip_lists::{StripLists, strip_at};
+use crate::strip_lists::{StripLists, strip_at, strip_len};
+use crate::strip_runs::{StripRun, run_in};
 use px_bytes::{Memory, Refused};
 use std::alloc::{AllocError, Global};
 use std::marker::Model;
@@ -108,5 +109,37 @@ impl<'a> Strips<'a> {
             return strip_at(lists, i as u32);
         }
         self.list[i - count as usize]
+    }
+
+    /// How many bytes the strip at `i` has; `i` is below `len`. It reads one number where `at` reads two. Takes no memory.
+    pub fn len_at(&self, i: usize) -> usize
+        requires { i < length self.now }
+        ensures { slice_get (map (λ x. length x) self.now) i ≡ Some result }
+    {
+        if let Some(lists) = &self.named {
+            if i < lists.starts.count() as usize {
+                return strip_len(lists, i as u32) as usize;
+            }
+        }
+        self.at(i).len()
+    }
+
+    /// The strip at `i`, and those behind it that can be put together with it, since they stand right behind it in the block and
+    /// no padding comes between them; `i` is below `len`. Takes no memory.
+    pub fn run_at(&self, i: usize) -> StripRun<'a>
+        requires { i < length self.now }
+        ensures some { 0 < result.count }
+        ensures inside { i + result.count ≤ length self.now }
+        ensures bytes { AreJoined self.now i (i + result.count) result.bytes.now }
+    {
+        if let Some(lists) = &self.named {
+            if i < lists.starts.count() as usize {
+                return run_in(lists, i as u32);
+            }
+        }
+        StripRun {
+            bytes: self.at(i),
+            count: 1,
+        }
     }
 }

@@ -1,5 +1,5 @@
 -- Where the parts of a normal form begin, one behind the other.
-use Rattle.std.proofs.Common.{◌≡◌, ℕ, ◌+◌, Option, Some, List, length, drop, slice_get, ◌∙◌, ap, subst, arith}
+use Rattle.std.proofs.Common.{◌≡◌, ℕ, zero, suc, ◌+◌, Option, Some, List, [], ◌∷◌, length, map, drop, slice_get, get_or, refl, ◌∙◌, ap, subst, arith}
 use Rattle.px_tree.specs.Tree.{Meaning}
 use Rattle.px_tree.specs.Fits.{Item, items, Fits}
 use Rattle.px_tree.specs.Entry.{table_size}
@@ -16,9 +16,25 @@ pub values_here : (xs : List (ℕ × Item)) (i : ℕ) (x : ℕ × Item) → slic
     → values_size (drop i xs) ≡ value_size x.1 + values_size (drop (i + 1) xs)
 values_here xs i x e = ap values_size (drop_here xs i x e)
 
-pub strips_here : (xs : List (List ℕ)) (i : ℕ) (x : List ℕ) → slice_get xs i ≡ Some x
-    → padded_size (strip_chunks i (drop i xs)) ≡ even (length x) + padded_size (strip_chunks (i + 1) (drop (i + 1) xs))
-strips_here xs i x e = ap (λ ys. padded_size (strip_chunks i ys)) (drop_here xs i x e)
+abbrev size : List ℕ → ℕ
+size x = length x
+
+-- a strip whose length is read
+pub sized_read : (xs : List (List ℕ)) (i n : ℕ) → slice_get (map size xs) i ≡ Some n → slice_get xs i ≡ Some (get_or xs i [])
+sized_read [] i n e = cc
+sized_read (x ∷ xs) zero n e = refl
+sized_read (x ∷ xs) (suc i) n e = sized_read xs i n e
+
+pub sized_length : (xs : List (List ℕ)) (i n : ℕ) → slice_get (map size xs) i ≡ Some n → length (get_or xs i []) ≡ n
+sized_length [] i n e = cc
+sized_length (x ∷ xs) zero n e = cc
+sized_length (x ∷ xs) (suc i) n e = sized_length xs i n e
+
+pub strips_here : (xs : List (List ℕ)) (i n : ℕ) → slice_get (map size xs) i ≡ Some n
+    → padded_size (strip_chunks i (drop i xs)) ≡ even n + padded_size (strip_chunks (i + 1) (drop (i + 1) xs))
+strips_here xs i n e =
+    ap (λ ys. padded_size (strip_chunks i ys)) (drop_here xs i (get_or xs i []) (sized_read xs i n e))
+    ∙ ap (λ (m : ℕ). even m + padded_size (strip_chunks (i + 1) (drop (i + 1) xs))) (sized_length xs i n e)
 
 -- the length of the form
 pub form_end : (m : Meaning) → Fits m → length (normal_exif m) ≡ strips_start m + padded_size (strips_part m.thumb)

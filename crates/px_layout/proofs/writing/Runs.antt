@@ -1,7 +1,7 @@
 -- Writing with offsets that run along.
 use Rattle.std.proofs.Common.{◌≡◌, ℕ, zero, suc, ◌+◌, ◌-◌, ◌<◌, ◌≤◌, nat_lt, Option, Some, None, option_map, List, [], ◌∷◌, ◌++◌, map}
 use Rattle.std.proofs.Common.{flat_map, length, take, drop, slice_get, replicate, unwrap_or, refl, sym, ◌∙◌, ap, ap₂, subst, arith}
-use Rattle.std.proofs.Common.{append_assoc, lt-ltb, ltb-true, is_some, true, false, inl, inr}
+use Rattle.std.proofs.Common.{append_assoc, lt-ltb, ltb-true, is_some, true, false, inl, inr, get_or}
 use Rattle.std.specs.Prelude.{IfSome, option_and_then}
 use Rattle.std.specs.List.{AllByRecursion, range_with_len}
 use Rattle.std.proofs.lemmas.Bool.{cond-true, cond-false, cases_Bool, le-ltb}
@@ -29,7 +29,7 @@ use Rattle.px_layout.specs.lemmas.RunLaws.{strip_place}
 use Rattle.px_layout.specs.calls.Given.{head_bytes, last_given, entry_given, strip_list, TellsAll, strips_size, strip_places}
 use Rattle.px_layout.specs.calls.Starting.{AreStarts}
 use Rattle.px_tree.specs.Directory.{magic}
-use Rattle.px_layout.proofs.writing.Beginnings.{dir_there, form_end}
+use Rattle.px_layout.proofs.writing.Beginnings.{dir_there, form_end, sized_read, sized_length}
 use Rattle.px_layout.specs.lemmas.WalkLaws.{drop_here}
 
 -- what holds of each holds of one that is read
@@ -241,9 +241,11 @@ tells_read m d xs i x e r =
     (tells_all m d)) r
 
 -- what strips from one on take
-pub strips_next : (s : List (List ℕ)) (i : ℕ) (x : List ℕ) → slice_get s i ≡ Some x
-    → strips_size (drop i s) ≡ even (length x) + strips_size (drop (i + 1) s)
-strips_next s i x e = ap strips_size (drop_here s i x e)
+pub strips_next : (s : List (List ℕ)) (i n : ℕ) → slice_get (map (λ x. length x) s) i ≡ Some n
+    → strips_size (drop i s) ≡ even n + strips_size (drop (i + 1) s)
+strips_next s i n e =
+    ap strips_size (drop_here s i (get_or s i []) (sized_read s i n e))
+    ∙ ap (λ (m : ℕ). even m + strips_size (drop (i + 1) s)) (sized_length s i n e)
 
 pub length_places : (x : ℕ) (s : List (List ℕ)) → length (strip_places x s) ≡ length s
 length_places x [] = refl

@@ -56,7 +56,7 @@ module _ (named : Option StripLists) (l : StripLists) (is : named ≡ Some l) (i
   pub named-some : AreNamed l
   named-some = subst (λ (x : Option StripLists). IfSome x AreNamed) is i
 
-  front-length : length (named_strips named) ≡ length l.starts.elements
+  pub front-length : length (named_strips named) ≡ length l.starts.elements
   front-length = ap (λ (x : Option StripLists). length (named_strips x)) is ∙ named-length l named-some
 
   pub strips-length : (pushed : List (List ℕ)) → length (named_strips named ++ pushed) ≡ length l.starts.elements + length pushed

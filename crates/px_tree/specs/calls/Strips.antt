@@ -1,5 +1,5 @@
 -- The strips of a thumbnail, as the two lists of an entry name them.
-use Rattle.std.specs.Prelude.{◌≡◌, ℕ, ◌+◌, ◌≤◌, Option, Some, None, List, [], ◌∷◌, length, map}
+use Rattle.std.specs.Prelude.{◌≡◌, ℕ, ◌+◌, ◌≤◌, ◌%◌, Option, Some, None, List, [], ◌∷◌, ◌++◌, length, map, take, flat_map}
 use Rattle.std.specs.List.{AllByRecursion}
 use Rattle.px_bytes.specs.Range.{Range}
 use Rattle.px_tree.specs.declared.strip_lists.StripLists.{StripLists}
@@ -22,3 +22,11 @@ pub record AreNamed (l : StripLists) : Type 0 where
 abbrev pub Rise : ℕ → ℕ → List Range → Type 0
 Rise low high [] = low ≤ high
 Rise low high (r ∷ rs) = (low ≤ r.start) × Rise (r.start + r.size) high rs
+
+-- what puts a padding behind bytes of an odd length alone
+abbrev pub KeepsEven : (List ℕ → List ℕ) → Type 0
+KeepsEven f = (x : List ℕ) → length x % 2 ≡ 0 → f x ≡ x
+
+-- these bytes, padded once, are the strips from i up to n, each padded
+abbrev pub AreJoined : List (List ℕ) → ℕ → ℕ → List ℕ → Type 0
+AreJoined xs i n bytes = (f : List ℕ → List ℕ) → KeepsEven f → flat_map f (take n xs) ≡ flat_map f (take i xs) ++ f bytes

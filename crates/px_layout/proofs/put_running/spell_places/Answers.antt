@@ -9,17 +9,17 @@ use Rattle.px_layout.proofs.put_running.spell_places.Goals as goal
 
 pub overflow_cast-size : goal.overflow_cast-size
 overflow_cast-size c =
-    let s = strips_next c.args.strips.now c.loop-i.i c.at.result.now c.at.ensures in let l =
+    let s = strips_next c.args.strips.now c.loop-i.i c.len_at-size.result c.len_at-size.ensures in let l =
     c.loop-i.invariant.left in let q = c.requires.most in omega arith
 
 pub overflow_add-next : goal.overflow_add-next
 overflow_add-next c =
-    let s = strips_next c.args.strips.now c.loop-i.i c.at.result.now c.at.ensures in let l =
+    let s = strips_next c.args.strips.now c.loop-i.i c.len_at-size.result c.len_at-size.ensures in let l =
     c.loop-i.invariant.left in let q = c.requires.most in omega arith
 
 pub overflow_add-next-in-loop-i : goal.overflow_add-next-in-loop-i
 overflow_add-next-in-loop-i c =
-    let s = strips_next c.args.strips.now c.loop-i.i c.at.result.now c.at.ensures in let l =
+    let s = strips_next c.args.strips.now c.loop-i.i c.len_at-size.result c.len_at-size.ensures in let l =
     c.loop-i.invariant.left in let q = c.requires.most in omega arith
 
 pub loop-i-preserved : goal.loop-i-preserved
@@ -29,7 +29,7 @@ loop-i-preserved c =
     let l = c.loop-i.invariant.left in
     record {
       behind = omega arith;
-      left = (let s = strips_next c.args.strips.now c.loop-i.i c.at.result.now c.at.ensures in omega arith);
+      left = (let s = strips_next c.args.strips.now c.loop-i.i c.len_at-size.result c.len_at-size.ensures in omega arith);
       spelled = λ first h. spelled_more (long_bytes Most) (strip_places first c.args.strips.now) c.args.start c.loop-i.i c.loop-i.next
           _ _ _ c.loop-i.into c.put32.new.bytes
           (place_read first c.args.strips.now c.loop-i.i c.loop-i.next (let b = c.requires.inside in omega arith) (omega (arith, l, h)))

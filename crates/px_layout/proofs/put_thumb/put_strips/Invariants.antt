@@ -1,4 +1,4 @@
-use Rattle.std.proofs.Common.{◌≡◌, take, flat_map}
+use Rattle.std.proofs.Common.{◌≡◌, ◌≤◌, ◌-◌, length, take, flat_map}
 use Rattle.px_bytes.specs.lemmas.WaitingLaws.{HasPut}
 use Rattle.px_layout.specs.Normal.{padded}
 use Rattle.px_layout.proofs.put_thumb.put_strips.Given as goal
@@ -6,6 +6,10 @@ use Rattle.px_layout.proofs.put_thumb.put_strips.Given as goal
 -- the strips so far were put, and no call failed
 abbrev pub invariant-loop-i : goal.invariant-loop-i
 invariant-loop-i g l = record {
+  inside : l.i ≤ length l.strips;
   put : HasPut g.W.Sink.bytes_taken l.initial.writer l.writer l.initial.pending l.pending (flat_map padded (take l.i l.strips));
   count : g.W.Device.failed l.writer ≡ g.W.Device.failed l.initial.writer;
 }
+
+abbrev pub decreases-loop-i : goal.decreases-loop-i
+decreases-loop-i g l = length l.strips - l.i
