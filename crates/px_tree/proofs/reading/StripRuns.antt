@@ -1,13 +1,13 @@
 -- Strips that stand one behind another, and the lengths of strips.
-use Rattle.std.proofs.Common.{◌≡◌, ℕ, zero, suc, ◌+◌, ◌-◌, ◌<◌, ◌≤◌, ◌%◌, Some, option_map, List, [], ◌∷◌, ◌++◌, length, map, take, drop}
-use Rattle.std.proofs.Common.{refl, sym, ap, ap₂, ◌∙◌, arith, slice_get, get_or, length-append, append_assoc, subst}
+use Rattle.std.proofs.Common.{◌≡◌, ℕ, zero, suc, ◌+◌, ◌-◌, ◌<◌, ◌≤◌, ◌%◌, Some, option_map, List, [], ◌∷◌, ◌++◌, length, map, take}
+use Rattle.std.proofs.Common.{sym, ap, ap₂, ◌∙◌, arith, slice_get, get_or, length-append, append_assoc, subst}
 use Rattle.std.specs.List.{flat_map}
 use Rattle.std.proofs.lemmas.List.{length-map, drop-drop, take-append-le}
 use Rattle.std.proofs.lemmas.Option.{slice_get-map, slice_get-get_or}
 use Rattle.std.proofs.Math.Nat.{add-mod-mod}
 use Rattle.std.proofs.Math.Seq.{take-add}
 use Rattle.px_bytes.specs.Parts.{part}
-use Rattle.px_bytes.specs.Range.{Range, range}
+use Rattle.px_bytes.specs.Range.{range}
 use Rattle.px_bytes.specs.lemmas.PartLaws.{length-part}
 use Rattle.px_bytes.specs.lemmas.WaitingLaws.{parts_more}
 use Rattle.px_tree.specs.declared.strip_lists.StripLists.{StripLists}

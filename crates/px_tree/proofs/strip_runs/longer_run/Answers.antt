@@ -1,4 +1,4 @@
-use Rattle.std.proofs.Common.{◌≡◌, ◌%◌, ℕ, arith}
+use Rattle.std.proofs.Common.{◌≡◌, ◌%◌, arith}
 use Rattle.px_tree.proofs.reading.StripRuns.{ends_inside, even_more, run_more}
 use Rattle.px_tree.proofs.strip_runs.longer_run.Goals as goal
 

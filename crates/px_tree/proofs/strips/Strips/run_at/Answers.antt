@@ -1,4 +1,4 @@
-use Rattle.std.proofs.Common.{◌+◌, ◌≤◌, ℕ, Option, List, length, map, sym, ap, subst, arith}
+use Rattle.std.proofs.Common.{◌+◌, ℕ, Option, List, length, map, sym, ap, subst, arith}
 use Rattle.px_tree.specs.declared.strip_lists.StripLists.{StripLists}
 use Rattle.px_tree.specs.calls.Strips.{AreJoined, named_strips}
 use Rattle.px_tree.proofs.reading.StripBytes.{front-length, strips-length}
