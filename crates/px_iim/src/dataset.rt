@@ -3,7 +3,7 @@ ghost use Rattle.std.specs.Prelude.{◌≡◌, ◌+◌, ◌≤◌, ◌<◌, ℕ,
 ghost use Rattle.px_bytes.specs.declared.Order.TheVariants.{Most};
 ghost use Rattle.px_bytes.specs.Checks.{first_false};
 ghost use Rattle.px_bytes.specs.Numbers.{number};
-ghost use Rattle.px_iim.specs.Record.{form, extra, count, size, is_marked, has_form, is_end};
+ghost use Rattle.px_iim.specs.Record.{form, extra, count, size, is_marked, has_form, is_dataset, is_end};
 ghost use Rattle.px_iim.specs.Check.{dataset_checks};
 ghost use Rattle.px_bytes.specs.Parts.{limit};
 ghost use Rattle.px_iim.specs.calls.Reading.{Reads, JudgesAt};
@@ -124,6 +124,22 @@ pub(crate) fn read_dataset<'a>(octets: &'a [u8]) -> Result<Found<'a>, Cause>
         octets: &octets[start..start + count],
         size: start + count,
     })
+}
+
+// The DataSet that stands in front of octets which were judged: nothing is compared again.
+pub(crate) fn judged_dataset<'a>(octets: &'a [u8]) -> Found<'a>
+    requires { is_dataset octets.now ≡ true }
+    ensures { Reads octets.now result }
+{
+    let pair = form(octets);
+    let start = 5 + extra(pair) as usize;
+    let count = count(octets, pair) as usize;
+    Found {
+        rec: octets[1],
+        number: octets[2],
+        octets: &octets[start..start + count],
+        size: start + count,
+    }
 }
 
 // Whether at most three zero octets are left.

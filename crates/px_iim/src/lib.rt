@@ -25,6 +25,7 @@ mod head;
 mod iim;
 pub mod laws;
 mod length;
+mod ordered;
 mod places;
 mod read;
 mod same;

@@ -9,6 +9,7 @@ ghost use Rattle.px_iim.specs.calls.Reading.{RefusesIim};
 
 use crate::dataset::{dataset_at, is_end, read_dataset, rest};
 use crate::iim::Iim;
+use crate::ordered::read_ordered;
 use crate::sorting::read_sorted;
 use crate::survey::survey;
 use px_bytes::{Cause, LIMIT, Memory, Refusal};
@@ -40,7 +41,10 @@ fn read_groups<'a>(memory: &mut Memory, bytes: &'a [u8]) -> Result<Iim<'a>, Refu
     ensures memory { LacksBlock result memory.old memory.new }
 {
     let seen = survey(bytes)?;
-    if seen.is_put() {
+    if seen.in_order {
+        return Ok(read_ordered(memory, bytes, seen.count)?);
+    }
+    if seen.is_few() {
         return read_put(memory, bytes, seen.count);
     }
     Ok(read_sorted(memory, bytes, seen.count, seen.keys)?)

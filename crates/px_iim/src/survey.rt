@@ -1,12 +1,12 @@
 // A block gone through once: it is judged, and what reading it will need is found out.
-ghost use Rattle.std.specs.Prelude.{◌≡◌, ◌≤◌, ◌<◌, ◌+◌, ◌*◌, ℕ, List, Some, IfOk, false, length, max};
+ghost use Rattle.std.specs.Prelude.{◌≡◌, ◌≤◌, ◌<◌, ◌+◌, ◌*◌, ℕ, List, Some, IfOk, true, false, length, max};
 ghost use Rattle.std.specs.List.{AllByRecursion};
 ghost use Rattle.px_bytes.specs.Checks.{ContentOnly, Judges};
 ghost use Rattle.px_bytes.specs.Parts.{limit};
 ghost use Rattle.px_iim.specs.DataSet.{DataSet};
 ghost use Rattle.px_iim.specs.Record.{sequence_of};
 ghost use Rattle.px_iim.specs.Check.{iim_checks};
-ghost use Rattle.px_iim.specs.calls.Runs.{key_of as group_key, AreNumbers};
+ghost use Rattle.px_iim.specs.calls.Runs.{key_of as group_key, AreNumbers, InOrder};
 
 use crate::dataset::{dataset_at, is_end, rest};
 use crate::group::key_of;
@@ -27,14 +27,11 @@ pub(crate) struct Overview {
 }
 
 impl Overview {
-    // Whether the DataSets are to be put one after another: they are few, or each belongs at the end.
-    pub(crate) fn is_put(&self) -> bool
+    // Whether the DataSets are so few that each is put at its place, in whatever order they come.
+    pub(crate) fn is_few(&self) -> bool
         ensures { result ≡ false → FEW < self.now.count }
     {
-        if self.count <= FEW {
-            return true;
-        }
-        self.in_order
+        self.count <= FEW
     }
 }
 
@@ -51,7 +48,7 @@ pub(crate) fn survey(bytes: &[u8]) -> Result<Overview, Refusal>
     requires { length bytes.now ≤ limit }
     ensures judged { Judges result (iim_checks bytes.now) (λ s. (ds : List DataSet)
         × (sequence_of (length bytes.now) bytes.now ≡ Some ds) × (s.count ≡ length ds)
-        × AllByRecursion (λ d. group_key d < s.keys) ds × AreNumbers ds) }
+        × AllByRecursion (λ d. group_key d < s.keys) ds × AreNumbers ds × (s.in_order ≡ true → InOrder ds)) }
     ensures few { IfOk result (λ s. (5 * s.count ≤ limit) × (s.keys ≤ 65536)) }
     ensures content { ContentOnly result }
 {

@@ -1,8 +1,11 @@
--- The number of some octets, one octet more.
+-- The number of some octets, one octet more; and the DataSet that they say.
 use Rattle.std.proofs.Common.{◌≡◌, ℕ, ◌+◌, ◌*◌, ◌^◌, ◌<◌, ◌≤◌, zero, suc, List, slice_index, ap, ◌∙◌, arith, ◌-◌, nat_lt, false, length}
 use Rattle.std.proofs.Common.{take, drop, length-drop, length-take-le}
 use Rattle.px_bytes.specs.declared.Order.TheVariants.{Most}
 use Rattle.px_bytes.specs.Numbers.{number, AreBytes}
+use Rattle.px_bytes.specs.Parts.{part}
+use Rattle.px_iim.specs.DataSet.{DataSet}
+use Rattle.px_iim.specs.Record.{extra, count, dataset}
 use Rattle.px_bytes.specs.lemmas.NumberLaws.{number-lt, number-take}
 use Rattle.std.proofs.lemmas.Bool.Decides.{nat_tests}
 
@@ -36,3 +39,13 @@ number_part x k e q h =
     ap (λ (n : ℕ). number Most (length (take n (drop 5 x))) (take n (drop 5 x))) same
     ∙ ap (λ (n : ℕ). number Most n (take e (drop 5 x))) (length-take-le e (drop 5 x) room)
     ∙ number-take Most e e (drop 5 x) (omega arith)
+
+-- what is cut out is the DataSet in front
+pub dataset_value : (x : List ℕ) (k n : ℕ) → k ≡ extra x → n ≡ count x → ◌≡◌ {A = DataSet}
+    (record { rec = slice_index x 1; number = slice_index x 2; octets = take (5 + k + n - (5 + k)) (drop (5 + k) x) }) (dataset x)
+unfolding dataset
+dataset_value x k n a b =
+    let same : 5 + k + n - (5 + k) ≡ n = omega arith in
+    let octets : take (5 + k + n - (5 + k)) (drop (5 + k) x) ≡ part x (5 + extra x) (count x) =
+    ap (λ (m : ℕ). take m (drop (5 + k) x)) (same ∙ b) ∙ ap (λ (m : ℕ). take (count x) (drop (5 + m) x)) a in
+    ap (λ (o : List ℕ). let d : DataSet = record { rec = slice_index x 1; number = slice_index x 2; octets = o } in d) octets

@@ -1,15 +1,15 @@
 -- A block gone through, with what was read of it.
-use Rattle.std.proofs.Common.{◌≡◌, ◌+◌, ℕ, Option, Some, None, option_map, List, [], ◌∷◌, ◌++◌, length, drop, inl, inr}
+use Rattle.std.proofs.Common.{◌≡◌, ◌+◌, ℕ, Option, Some, None, true, option_map, List, [], ◌∷◌, ◌++◌, length, drop, inl, inr}
 use Rattle.std.proofs.Common.{refl, sym, ap, ◌∙◌, append_assoc, get_or, replicate, subst}
 use Rattle.std.specs.List.{AllByRecursion}
 use Rattle.std.proofs.lemmas.Bool.{cases_Bool}
 use Rattle.std.proofs.lemmas.List.{get_or-replicate, length-replicate}
 use Rattle.px_iim.specs.declared.dataset.Found.{Found}
 use Rattle.px_iim.specs.DataSet.{DataSet}
-use Rattle.px_iim.specs.Record.{is_end, sequence_of}
+use Rattle.px_iim.specs.Record.{is_dataset, is_end, sequence_of}
 use Rattle.px_iim.specs.calls.Reading.{Reads, found_view}
 use Rattle.px_iim.specs.calls.Filling.{Counts}
-use Rattle.px_iim.proofs.reading.Steps.{datasets, said_last, said_more}
+use Rattle.px_iim.proofs.reading.Steps.{datasets, datasets_none, said_last, said_more}
 
 pub datasets_is : (x : List ℕ) → datasets x ≡ sequence_of (length x) x
 unfolding datasets
@@ -25,6 +25,13 @@ none_read (Some ds) = refl
 
 pub none_left : (front all : List DataSet) (o : Option (List DataSet)) → o ≡ None → behind front o ≡ Some all → ⊥
 none_left front all o e h = let clash : ◌≡◌ {A = Option (List DataSet)} None (Some all) = sym (ap (behind front) e) ∙ h in cc
+
+-- where the octets that are left say DataSets, one stands in front of them
+pub one_left : (front all : List DataSet) (y : List ℕ) → behind front (datasets y) ≡ Some all → is_dataset y ≡ true
+one_left front all y h = elim (cases_Bool (is_dataset y)) [
+  | inl t ↦ t
+  | inr f ↦ absurd (none_left front all (datasets y) (datasets_none y f) h)
+]
 
 pub last_left : (front : List DataSet) (d : DataSet) (o p : Option (List DataSet)) → o ≡ Some (d ∷ []) → behind front o ≡ p
     → p ≡ Some (front ++ d ∷ [])

@@ -37,6 +37,6 @@ pub returns-clause-judged : goal.returns-clause-judged
 returns-clause-judged c =
     let x = c.args.bytes.now in
     let (clean, read) = c.in_ok-survey.ensures.judged in
-    let (ds, s, n, a, b) = read in
+    let (ds, s, n, a, b, o) = read in
     let said = iim_of-within x c.if-bytes.false ∙ ap (option_map (gather [])) (datasets_is x ∙ s) in
     (clean, (gather [] ds, (computes x (gather [] ds)).1 said))

@@ -1,5 +1,6 @@
 use Rattle.std.proofs.Common.{◌≡◌, ◌∙◌, ◌<◌, ◌≤◌, ◌+◌, ◌++◌, ◌∷◌, [], ℕ, List, Err, false, true, drop, refl, sym, ap, arith}
-use Rattle.std.proofs.Common.{length-append}
+use Rattle.std.proofs.Common.{Bool, ◌&&◌, nat_le, leb-true, length-append}
+use Rattle.std.proofs.lemmas.Bool.{and_parts}
 use Rattle.std.specs.List.{AllByRecursion}
 use Rattle.std.proofs.lemmas.Result.{err_from_is_err_and}
 use Rattle.px_bytes.specs.declared.Refusal.{Refusal}
@@ -10,18 +11,18 @@ use Rattle.px_iim.specs.Group.{named}
 use Rattle.px_iim.specs.Record.{is_end}
 use Rattle.px_iim.specs.Check.{iim_checks}
 use Rattle.px_iim.specs.calls.Reading.{Reads, JudgesAt, found_view}
-use Rattle.px_iim.specs.calls.Runs.{key_of}
+use Rattle.px_iim.specs.calls.Runs.{key_of, InOrder}
 use Rattle.px_iim.specs.declared.dataset.Found.{Found}
 use Rattle.px_iim.specs.lemmas.ScanLaws.{checks_left, iim_left}
 use Rattle.px_iim.proofs.reading.Steps.{datasets, inside, wide, said_last, said_more, fault_last, fault_more, refused_fault}
 use Rattle.px_iim.proofs.reading.Walked.{datasets_is, none_read, last_left, more_left}
-use Rattle.px_iim.proofs.reading.Sorted.{both, weaker}
+use Rattle.px_iim.proofs.reading.Sorted.{both, weaker, order_more}
 use Rattle.px_iim.proofs.survey.survey.Goals as goal
 
 pub loop-found-init : goal.loop-found-init
 loop-found-init c = record {
   inside = omega arith;
-  read = ([], none_read (datasets c.args.bytes.now), refl, tt, tt);
+  read = ([], none_read (datasets c.args.bytes.now), refl, tt, tt, λ t. (tt, tt));
   few = omega arith;
   keys = omega arith;
   faults = sym (iim_left c.args.bytes.now c.requires);
@@ -51,6 +52,19 @@ below : (ds : List DataSet) (d : DataSet) (n m k : ℕ) → k ≡ key_of d → n
 below ds d n m k e l h a =
     both (λ y. key_of y < m) ds (d ∷ []) (weaker (λ y. key_of y < n) (λ y. key_of y < m) (λ y b. omega arith) ds a) (omega arith, tt)
 
+-- all so far and one more are in order where this one's group is none before the last one's
+rising : (ds : List DataSet) (d : DataSet) (in_order : Bool) (last key : ℕ) → key ≡ key_of d
+    → (in_order ≡ true → InOrder ds × AllByRecursion (λ y. key_of y ≤ last) ds) → in_order && nat_le last key ≡ true
+    → InOrder (ds ++ d ∷ []) × AllByRecursion (λ y. key_of y ≤ key) (ds ++ d ∷ [])
+rising ds d in_order last key k o t =
+    let p = and_parts in_order (nat_le last key) t in
+    let l = leb-true last key p.1 in
+    let (w, a) = o p.0 in (
+      order_more ds d w (weaker (λ y. key_of y ≤ last) (λ y. key_of y ≤ key_of d) (λ y b. omega arith) ds a),
+      both (λ y. key_of y ≤ key) ds (d ∷ []) (weaker (λ y. key_of y ≤ last) (λ y. key_of y ≤ key) (λ y b. omega arith) ds a)
+          (omega arith, tt),
+    )
+
 pub returns-then-is_end-clause-judged : goal.returns-then-is_end-clause-judged
 returns-then-is_end-clause-judged c =
     let x = c.args.bytes.now in
@@ -59,7 +73,7 @@ returns-then-is_end-clause-judged c =
     let d = found_view f in
     let r : Reads (drop at x) f = c.in_ok-found.ensures in
     let e : is_end (drop (at + f.size) x) ≡ true = sym (ap is_end c.rest.ensures) ∙ sym c.if-is_end.ensures in
-    let (front, h, n, a, b) = c.loop-found.invariant.read in
+    let (front, h, n, a, b, o) = c.loop-found.invariant.read in
     let l = length-append front (d ∷ []) in (
       sym c.loop-found.invariant.faults ∙ fault_last x at f r e,
       (
@@ -69,6 +83,7 @@ returns-then-is_end-clause-judged c =
         below front d c.loop-found.keys c.past-keys.result c.key_of-key.result c.key_of-key.ensures.value
             (omega (arith, c.past-keys.ensures)) (omega (arith, c.past-keys.ensures)) a,
         both (λ y. named y.rec y.number < 256) front (d ∷ []) b (c.key_of-key.ensures.byte, tt),
+        λ t. (rising front d c.loop-found.in_order c.loop-found.last c.key_of-key.result c.key_of-key.ensures.value o t).0,
       ),
     )
 
@@ -80,7 +95,7 @@ loop-found-preserved c =
     let d = found_view f in
     let r : Reads (drop at x) f = c.in_ok-found.ensures in
     let e : is_end (drop (at + f.size) x) ≡ false = sym (ap is_end c.rest.ensures) ∙ sym c.if-is_end.ensures in
-    let (front, h, n, a, b) = c.loop-found.invariant.read in
+    let (front, h, n, a, b, o) = c.loop-found.invariant.read in
     let l = length-append front (d ∷ []) in
     let w = wide x at f r in
     record {
@@ -92,6 +107,7 @@ loop-found-preserved c =
         below front d c.loop-found.keys c.past-keys.result c.key_of-key.result c.key_of-key.ensures.value
             (omega (arith, c.past-keys.ensures)) (omega (arith, c.past-keys.ensures)) a,
         both (λ y. named y.rec y.number < 256) front (d ∷ []) b (c.key_of-key.ensures.byte, tt),
+        λ t. rising front d c.loop-found.in_order c.loop-found.last c.key_of-key.result c.key_of-key.ensures.value o t,
       );
       few = omega (arith, c.loop-found.invariant.few);
       keys = omega (arith, c.loop-found.invariant.keys, c.key_of-key.ensures.bounded, c.past-keys.ensures);

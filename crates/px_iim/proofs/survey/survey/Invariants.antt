@@ -1,7 +1,7 @@
-use Rattle.std.proofs.Common.{◌≡◌, ◌≤◌, ◌-◌, ◌*◌, ◌<◌, ◌++◌, List, length, drop, option_map}
+use Rattle.std.proofs.Common.{◌≡◌, ◌≤◌, ◌-◌, ◌*◌, ◌<◌, ◌++◌, List, true, length, drop, option_map}
 use Rattle.std.specs.List.{AllByRecursion}
 use Rattle.px_bytes.specs.Checks.{first_false}
-use Rattle.px_iim.specs.calls.Runs.{key_of, AreNumbers}
+use Rattle.px_iim.specs.calls.Runs.{key_of, AreNumbers, InOrder}
 use Rattle.px_iim.specs.DataSet.{DataSet}
 use Rattle.px_iim.specs.Check.{iim_checks}
 use Rattle.px_iim.specs.lemmas.ScanLaws.{checks_left}
@@ -13,7 +13,8 @@ abbrev pub invariant-loop-found : goal.invariant-loop-found
 invariant-loop-found l = record {
   inside : l.at ≤ length l.bytes;
   read : (ds : List DataSet) × (option_map (λ (rest : List DataSet). ds ++ rest) (datasets (drop l.at l.bytes)) ≡ datasets l.bytes)
-      × (l.count ≡ length ds) × AllByRecursion (λ d. key_of d < l.keys) ds × AreNumbers ds;
+      × (l.count ≡ length ds) × AllByRecursion (λ d. key_of d < l.keys) ds × AreNumbers ds
+      × (l.in_order ≡ true → InOrder ds × AllByRecursion (λ d. key_of d ≤ l.last) ds);
   few : 5 * l.count ≤ l.at;
   keys : l.keys ≤ 65536;
   faults : first_false (checks_left l.at (drop l.at l.bytes)) ≡ first_false (iim_checks l.bytes);
