@@ -25,7 +25,7 @@ impl Model for Growing {
     ghost view = { λ g. record { taken = g.taken.items; refusals = g.refusals } };
 
     // Its memory has refused a growth for each call that has failed.
-    ghost invariant = { λ g. g.memory ≡ g.refusals };
+    ghost invariant = { λ g. g.memory.refusals ≡ g.refusals };
 }
 
 impl Growing {

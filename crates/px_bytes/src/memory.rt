@@ -4,13 +4,17 @@ ghost use Rattle.std.specs.Prelude.{max, vec_len, vec_capacity, string_bytes, st
 ghost use Rattle.std.specs.Prelude.{if◌then◌else◌, IfOk, OnOk, OnErr, IsOk, IsErr, ◌↔◌, None, Some};
 ghost use Rattle.std.specs.BTreeMap.{get, insert_entry, btree_map_len, IsUnchanged, Updates};
 ghost use Rattle.std.specs.Mem.{type_size};
-ghost use Rattle.px_bytes.specs.Lacking.{Lacks, MayAsk};
+ghost use Rattle.px_bytes.specs.Lacking.{Lacks, MayAsk, entry_links};
 
 use crate::told::Told;
 use std::alloc::{AllocError, Global};
 use std::collections::BTreeMap;
 use std::marker::Model;
+use std::mem::size_of;
 use thiserror::Error;
+
+// What `put` is taken to request beside key and value, `entry_links` of the definitions.
+const ENTRY_LINKS: usize = 32;
 
 /// A growth was refused. `Memory` alone makes one.
 #[derive(Debug, Drop, Error)]
@@ -32,28 +36,33 @@ impl From<Refused> for AllocError {
 /// Room for many elements at once is asked for by `reserve`, `reserve_exact` and `resize` alone, and no
 /// element or room for elements is larger than sixteen bytes for each byte of the longest block: no request
 /// that memory could never meet can pass for a refusal.
+///
+/// Contracts see as well how many bytes its calls have requested: the sizes of the elements, entries and
+/// texts that they were to make room for, whether they got it or not. That counts requests and not what is
+/// held at once, and since vectors and texts grow by doubling, what they take is at most a small factor more.
 #[derive(Drop)]
 pub struct Memory {
     alloc: Global,
     refused: bool,
-    // How many growths were refused, which only proofs read.
+    // How many growths were refused and how many bytes requested, which only proofs read.
     told: Told,
 }
 
 impl Model for Memory {
-    ghost use Rattle.std.specs.Prelude.{◌≡◌, ℕ, nat_lt};
+    ghost use Rattle.std.specs.Prelude.{◌≡◌, nat_lt};
+    ghost use Rattle.px_bytes.specs.Lacking.{Taken};
 
-    ghost Value = { ℕ };
+    ghost Value = { Taken };
 
-    ghost view = { λ m. m.told.refusals };
+    ghost view = { λ m. record { refusals = m.told.refusals; asked = m.told.asked } };
 
     ghost invariant = { λ m. m.refused ≡ nat_lt 0 m.told.refusals };
 }
 
 impl Memory {
-    /// Memory that has refused nothing.
+    /// Memory that has refused nothing, and of which nothing was requested.
     pub fn new(alloc: Global) -> Memory
-        ensures { result ≡ 0 }
+        ensures { result ≡ record { refusals = 0; asked = 0 } }
     {
         Memory {
             alloc,
@@ -64,23 +73,27 @@ impl Memory {
 
     /// Whether it has refused a growth.
     pub fn has_refused(&self) -> bool
-        ensures { result ≡ true ↔ 0 < self.now }
+        ensures { result ≡ true ↔ 0 < self.now.refusals }
     {
         self.refused
     }
 
-    /// Memory of the same allocator that has refused nothing.
+    /// Memory of the same allocator that has refused nothing, and of which nothing was requested.
     pub fn fresh(&self) -> Memory
-        ensures { result ≡ 0 }
+        ensures { result ≡ record { refusals = 0; asked = 0 } }
     {
         Memory::new(self.alloc)
     }
 
-    /// Tells as its own what other memory has refused: `Err` exactly where that has refused a growth.
+    /// Tells as its own what other memory has refused, `Err` exactly where that has refused a growth, and adds
+    /// the bytes that were requested of that.
     pub fn join(&mut self, other: &Memory) -> Result<(), Refused>
-        ensures which { IsErr result ↔ 0 < other.now }
+        ensures which { IsErr result ↔ 0 < other.now.refusals }
         ensures memory { Lacks result self.old self.new }
+        ensures asked { self.new.asked ≡ self.old.asked + other.now.asked }
     {
+        let told = self.told.besides(&other.told);
+        self.told = told;
         if other.refused {
             return Err(self.refuse());
         }
@@ -89,12 +102,23 @@ impl Memory {
 
     // Tells that one more growth was refused.
     fn refuse(&mut self) -> Refused
-        ensures { self.new ≡ self.old + 1 }
+        ensures refusals { self.new.refusals ≡ self.old.refusals + 1 }
+        ensures asked { self.new.asked ≡ self.old.asked }
     {
         self.refused = true;
         let told = self.told.one_more();
         self.told = told;
         Refused { _made: () }
+    }
+
+    // Tells that room for so many elements of such a size is requested.
+    #[inline(always)]
+    fn ask(&mut self, count: usize, size: usize)
+        ensures refusals { self.new.refusals ≡ self.old.refusals }
+        ensures asked { self.new.asked ≡ self.old.asked + count * size }
+    {
+        let told = self.told.asking(count, size);
+        self.told = told;
     }
 
     /// An empty vector. It takes no memory.
@@ -130,7 +154,9 @@ impl Memory {
         ensures capacity { vec_capacity list.old ≤ vec_capacity list.new }
         ensures full { OnErr result (vec_capacity list.old ≤ vec_len list.old) }
         ensures memory { Lacks result self.old self.new }
+        ensures asked { self.new.asked ≡ self.old.asked + type_size T.row }
     {
+        self.ask(1, 1 * size_of::<T>());
         match list.push(x) {
             Ok(()) => Ok(()),
             Err(_) => Err(self.refuse()),
@@ -146,7 +172,9 @@ impl Memory {
         ensures len { vec_len list.new ≡ (if is_ok result then vec_len list.old + 1 else vec_len list.old) }
         ensures full { OnErr result (vec_capacity list.old ≤ vec_len list.old) }
         ensures memory { Lacks result self.old self.new }
+        ensures asked { self.new.asked ≡ self.old.asked + type_size T.row }
     {
+        self.ask(1, 1 * size_of::<T>());
         match list.insert(index, x) {
             Ok(()) => Ok(()),
             Err(_) => Err(self.refuse()),
@@ -163,7 +191,9 @@ impl Memory {
         ensures capacity { vec_capacity list.old ≤ vec_capacity list.new }
         ensures full { OnErr result (vec_capacity list.old < vec_len list.old + more) }
         ensures memory { Lacks result self.old self.new }
+        ensures asked { self.new.asked ≡ self.old.asked + more * type_size T.row }
     {
+        self.ask(1, more * size_of::<T>());
         match list.reserve(more) {
             Ok(()) => Ok(()),
             Err(_) => Err(self.refuse()),
@@ -180,7 +210,9 @@ impl Memory {
         ensures kept { OnErr result (vec_capacity list.new ≡ vec_capacity list.old) }
         ensures full { OnErr result (vec_capacity list.old < vec_len list.old + more) }
         ensures memory { Lacks result self.old self.new }
+        ensures asked { self.new.asked ≡ self.old.asked + more * type_size T.row }
     {
+        self.ask(1, more * size_of::<T>());
         match list.reserve_exact(more) {
             Ok(()) => Ok(()),
             Err(_) => Err(self.refuse()),
@@ -201,7 +233,9 @@ impl Memory {
         ensures succeeds { vec_len list.old + length more.now ≤ vec_capacity list.old → IsOk result }
         ensures full { OnErr result (vec_capacity list.old < vec_len list.old + length more.now) }
         ensures memory { Lacks result self.old self.new }
+        ensures asked { self.new.asked ≡ self.old.asked + length more.now * type_size T.row }
     {
+        self.ask(more.len(), 1 * size_of::<T>());
         match list.extend_from_slice(more) {
             Ok(()) => Ok(()),
             Err(_) => Err(self.refuse()),
@@ -217,7 +251,9 @@ impl Memory {
         ensures len { vec_len list.new ≡ (if is_ok result then n else vec_len list.old) }
         ensures full { OnErr result (vec_capacity list.old < n) }
         ensures memory { Lacks result self.old self.new }
+        ensures asked { self.new.asked ≡ self.old.asked + n * type_size T.row }
     {
+        self.ask(1, n * size_of::<T>());
         match list.resize(n, x) {
             Ok(()) => Ok(()),
             Err(_) => Err(self.refuse()),
@@ -240,7 +276,11 @@ impl Memory {
         ensures absent { OnErr result (get K.cmp map.old key ≡ None) }
         ensures err { OnErr result (IsUnchanged map.old map.new) }
         ensures memory { Lacks result self.old self.new }
+        ensures asked { self.new.asked ≡ self.old.asked + (type_size K.row + type_size V.row + entry_links) }
     {
+        self.ask(1, 1 * size_of::<K>());
+        self.ask(1, 1 * size_of::<V>());
+        self.ask(1, ENTRY_LINKS);
         match map.insert(key, value) {
             Ok(old) => Ok(old),
             Err(_) => Err(self.refuse()),
@@ -253,7 +293,9 @@ impl Memory {
         ensures len { string_len text.new ≡ (if is_ok result then string_len text.old + length more.now else string_len text.old) }
         ensures full { OnErr result (string_capacity text.old < string_len text.old + length more.now) }
         ensures memory { Lacks result self.old self.new }
+        ensures asked { self.new.asked ≡ self.old.asked + length more.now }
     {
+        self.ask(more.len(), 1);
         match text.push_str(more) {
             Ok(()) => Ok(()),
             Err(_) => Err(self.refuse()),

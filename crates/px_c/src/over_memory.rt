@@ -26,8 +26,8 @@ pub(crate) fn check_in(
     ensures refused { result ≡ REFUSED → Refuses file.now fault.new }
     ensures kind { result ≢ DONE → kind.new ≡ kind.old }
     ensures fault { result ≢ REFUSED → fault.new ≡ fault.old }
-    ensures lacking { result ≡ NO_MEMORY → memory.new ≡ memory.old + 1 }
-    ensures memory { result ≢ NO_MEMORY → memory.new ≡ memory.old }
+    ensures lacking { result ≡ NO_MEMORY → memory.new.refusals ≡ memory.old.refusals + 1 }
+    ensures memory { result ≢ NO_MEMORY → memory.new.refusals ≡ memory.old.refusals }
 {
     match px_engine::check_of_in(memory, file) {
         Ok(BlockKind::Exif) => {
@@ -62,8 +62,8 @@ pub(crate) fn normalise_in(
     ensures out { result ≢ DONE → out.new ≡ out.old }
     ensures written { result ≢ DONE → result ≢ TOO_LITTLE_ROOM → written.new ≡ written.old }
     ensures fault { result ≢ REFUSED → fault.new ≡ fault.old }
-    ensures lacking { result ≡ NO_MEMORY → memory.new ≡ memory.old + 1 }
-    ensures memory { result ≢ NO_MEMORY → memory.new ≡ memory.old }
+    ensures lacking { result ≡ NO_MEMORY → memory.new.refusals ≡ memory.old.refusals + 1 }
+    ensures memory { result ≢ NO_MEMORY → memory.new.refusals ≡ memory.old.refusals }
 {
     match px_engine::put_form_in(memory, file, out) {
         Ok(Given::Whole(len)) => {
@@ -99,8 +99,8 @@ pub(crate) fn compare_in(
     ensures second { result ≡ SECOND_REFUSED → ((s : Said) × IsSaid first.now s) × Refuses second.now fault.new }
     ensures same { result ≢ DONE → same.new ≡ same.old }
     ensures fault { result ≢ REFUSED → result ≢ SECOND_REFUSED → fault.new ≡ fault.old }
-    ensures lacking { result ≡ NO_MEMORY → memory.new ≡ memory.old + 1 }
-    ensures memory { result ≢ NO_MEMORY → memory.new ≡ memory.old }
+    ensures lacking { result ≡ NO_MEMORY → memory.new.refusals ≡ memory.old.refusals + 1 }
+    ensures memory { result ≢ NO_MEMORY → memory.new.refusals ≡ memory.old.refusals }
 {
     match px_engine::same_of_in(memory, first, second) {
         Ok(true) => {
@@ -140,8 +140,8 @@ pub(crate) fn show_in(
     ensures out { result ≢ DONE → out.new ≡ out.old }
     ensures written { result ≢ DONE → result ≢ TOO_LITTLE_ROOM → written.new ≡ written.old }
     ensures fault { result ≢ REFUSED → fault.new ≡ fault.old }
-    ensures lacking { result ≡ NO_MEMORY → memory.new ≡ memory.old + 1 }
-    ensures memory { result ≢ NO_MEMORY → memory.new ≡ memory.old }
+    ensures lacking { result ≡ NO_MEMORY → memory.new.refusals ≡ memory.old.refusals + 1 }
+    ensures memory { result ≢ NO_MEMORY → memory.new.refusals ≡ memory.old.refusals }
 {
     match px_engine::show_of_in(memory, file) {
         Ok(text) => give(&text, out, written),
@@ -168,8 +168,8 @@ pub(crate) fn captions_in(
     ensures out { result ≢ DONE → out.new ≡ out.old }
     ensures written { result ≢ DONE → result ≢ TOO_LITTLE_ROOM → written.new ≡ written.old }
     ensures fault { result ≢ REFUSED → fault.new ≡ fault.old }
-    ensures lacking { result ≡ NO_MEMORY → memory.new ≡ memory.old + 1 }
-    ensures memory { result ≢ NO_MEMORY → memory.new ≡ memory.old }
+    ensures lacking { result ≡ NO_MEMORY → memory.new.refusals ≡ memory.old.refusals + 1 }
+    ensures memory { result ≢ NO_MEMORY → memory.new.refusals ≡ memory.old.refusals }
 {
     match px_engine::captions_text_in(memory, file) {
         Ok(text) => give(&text, out, written),

@@ -12,7 +12,7 @@ use Rattle.px_words.specs.declared.Words.{Words}
 use Rattle.px_words.specs.declared.Words.TheVariants as words
 use Rattle.px_jobs.specs.Lines.{Device, TellsFault, TellsWords}
 use Rattle.px_jobs.specs.Endings.{Ends, EndsCompare}
-use Rattle.px_words.specs.Words.{out_is_file, AskedBy, LacksWords}
+use Rattle.px_words.specs.Words.{out_is_file, AskedBy, LacksWordsBy}
 
 -- the job that a command asks for
 abbrev pub job_of : One → Job
@@ -89,5 +89,5 @@ module _ (gives : List ℕ → Option (List ℕ) → Type 0) (lacks : List ℕ �
 
   -- whatever the words ask for was done: `between` growths had been refused when they were read
   abbrev pub Answers : List (List ℕ) → ℕ → ℕ → ℕ → Device → Type 0
-  Answers ws refused refused_now status lines = (asked : Words) × (between : ℕ) × AskedBy ws asked × LacksWords asked refused between
+  Answers ws refused refused_now status lines = (asked : Words) × (between : ℕ) × AskedBy ws asked × LacksWordsBy asked refused between
       × EndsWords asked between refused_now status lines

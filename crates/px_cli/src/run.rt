@@ -31,7 +31,7 @@ pub fn run_words<'a, S: AsStr, R: Input + Print + AllocGlobal, O: Opens, L: Sink
 ) -> u8
     requires { CanFail (L.failed lines.old) }
     ensures { Answers (O.gives files.now) (O.lacks files.now) (O.is_read files.now) (map S.text words.entry.now)
-        memory.old memory.new result (device (L.failed lines.old) (L.failed lines.new)
+        memory.old.refusals memory.new.refusals result (device (L.failed lines.old) (L.failed lines.new)
         (L.bytes_taken lines.old) (L.bytes_taken lines.new)) }
 {
     let asked = parse(memory, rt.alloc(), words, VERSION);
@@ -48,7 +48,7 @@ fn run_asked<R: Input + Print, O: Opens, L: Sink>(
 ) -> u8
     requires { CanFail (L.failed lines.old) }
     ensures { EndsWords (O.gives files.now) (O.lacks files.now) (O.is_read files.now) asked
-        memory.old memory.new result (device (L.failed lines.old) (L.failed lines.new)
+        memory.old.refusals memory.new.refusals result (device (L.failed lines.old) (L.failed lines.new)
         (L.bytes_taken lines.old) (L.bytes_taken lines.new)) }
 {
     match asked {
@@ -89,7 +89,7 @@ fn run_job<F: Source + Drop, O: Sink + Drop, L: Sink>(
     requires writing { CanFail (O.failed out) }
     requires telling { CanFail (L.failed lines.old) }
     ensures { EndsJob job (F.bytes_left reader)
-        memory.old memory.new result (device (L.failed lines.old) (L.failed lines.new)
+        memory.old.refusals memory.new.refusals result (device (L.failed lines.old) (L.failed lines.new)
         (L.bytes_taken lines.old) (L.bytes_taken lines.new)) }
 {
     run_one_in(memory, job, &mut reader, &mut out, lines)
@@ -106,7 +106,7 @@ fn run_pair<F: Source + Drop, S: Source + Drop, L: Sink>(
     requires second { S.failed second ≡ 0 }
     requires telling { CanFail (L.failed lines.old) }
     ensures { EndsPair (F.bytes_left first) (S.bytes_left second)
-        memory.old memory.new result (device (L.failed lines.old) (L.failed lines.new)
+        memory.old.refusals memory.new.refusals result (device (L.failed lines.old) (L.failed lines.new)
         (L.bytes_taken lines.old) (L.bytes_taken lines.new)) }
 {
     run_compare_in(memory, &mut first, &mut second, lines)
@@ -116,7 +116,7 @@ fn run_pair<F: Source + Drop, S: Source + Drop, L: Sink>(
 fn run_filter<R: Input + Print, L: Sink>(rt: &R, memory: &mut Memory, lines: &mut L) -> u8
     requires { CanFail (L.failed lines.old) }
     ensures { EndsFilter
-        memory.old memory.new result (device (L.failed lines.old) (L.failed lines.new)
+        memory.old.refusals memory.new.refusals result (device (L.failed lines.old) (L.failed lines.new)
         (L.bytes_taken lines.old) (L.bytes_taken lines.new)) }
 {
     let reader = Watched::new(rt.reader());
@@ -134,7 +134,7 @@ fn run_file<O: Opens, L: Sink>(
 ) -> u8
     requires { CanFail (L.failed lines.old) }
     ensures { EndsFile (job_of what) (O.gives files.now name.now) (O.lacks files.now name.now)
-        memory.old memory.new result (device (L.failed lines.old) (L.failed lines.new)
+        memory.old.refusals memory.new.refusals result (device (L.failed lines.old) (L.failed lines.new)
         (L.bytes_taken lines.old) (L.bytes_taken lines.new)) }
 {
     match files.open(name) {
@@ -156,7 +156,7 @@ fn run_beside<O: Opens, L: Sink>(
 ) -> u8
     requires { CanFail (L.failed lines.old) }
     ensures { EndsBeside (O.Reader.remaining file) (O.lacks files.now out_name.now) (O.is_read files.now out_name.now)
-        memory.old memory.new result (device (L.failed lines.old) (L.failed lines.new)
+        memory.old.refusals memory.new.refusals result (device (L.failed lines.old) (L.failed lines.new)
         (L.bytes_taken lines.old) (L.bytes_taken lines.new)) }
 {
     match files.make_beside(out_name, &file) {
@@ -180,7 +180,7 @@ fn run_form<O: Opens, L: Sink>(
     requires { CanFail (L.failed lines.old) }
     ensures { EndsForm (O.gives files.now name.now) (O.lacks files.now name.now) (O.lacks files.now out_name.now)
         (O.is_read files.now out_name.now)
-        memory.old memory.new result (device (L.failed lines.old) (L.failed lines.new)
+        memory.old.refusals memory.new.refusals result (device (L.failed lines.old) (L.failed lines.new)
         (L.bytes_taken lines.old) (L.bytes_taken lines.new)) }
 {
     match files.open(name) {
@@ -200,7 +200,7 @@ fn run_files<O: Opens, L: Sink>(
     requires { CanFail (L.failed lines.old) }
     ensures { EndsFiles (O.gives files.now first.now) (O.lacks files.now first.now) (O.gives files.now second.now)
         (O.lacks files.now second.now)
-        memory.old memory.new result (device (L.failed lines.old) (L.failed lines.new)
+        memory.old.refusals memory.new.refusals result (device (L.failed lines.old) (L.failed lines.new)
         (L.bytes_taken lines.old) (L.bytes_taken lines.new)) }
 {
     let first = match files.open(first) {

@@ -7,7 +7,7 @@ use Rattle.px_engine.specs.declared.faults.Fault.TheVariants.{Refused, NormalToo
 use Rattle.px_engine.specs.declared.faults.Side.TheVariants.{First}
 use Rattle.px_engine.specs.declared.faults.CompareFault.{CompareFault}
 use Rattle.px_engine.specs.Files.{Said}
-use Rattle.px_engine.specs.Input.{IsSaid, IsUnsaid, OnSide, LacksPair, CountsFault}
+use Rattle.px_engine.specs.Input.{IsSaid, IsUnsaid, OnSide, LacksPairBy, CountsFault}
 use Rattle.px_engine.specs.Runs.{KnownSaid, Stops, Compares, Untouched, CountsSides}
 use Rattle.px_engine.specs.Hand.{SaysSame, IsUnsaidAt}
 use Rattle.px_engine.specs.calls.Second.{ComparesSecond, CountsSecond, SaysSecond}
@@ -35,8 +35,8 @@ counted (Ok same) a b c d second s e h k = (e, k)
 counted (Err fault) a b c d second s e h k =
     subst (λ z. OnSide z (CountsFault fault.fault a b × (d ≡ c)) (b ≡ a) (CountsFault fault.fault c d)) (sym h.0) (e, k)
 
-pub lacks_compared : (r : Result Bool CompareFault) (first mid last : ℕ) → mid ≡ first → LacksPair r mid last → LacksPair r first last
-lacks_compared r first mid last e h = subst (λ z. LacksPair r z last) e h
+pub lacks_compared : (r : Result Bool CompareFault) (first mid last : ℕ) → mid ≡ first → LacksPairBy r mid last → LacksPairBy r first last
+lacks_compared r first mid last e h = subst (λ z. LacksPairBy r z last) e h
 
 -- ---- the second file, read and then judged in hand
 

@@ -9,7 +9,7 @@ use Rattle.px_engine.specs.declared.faults.Side.TheVariants.{First}
 use Rattle.px_engine.specs.declared.faults.CompareFault.{CompareFault}
 use Rattle.px_engine.specs.declared.kinds.BlockKind.{BlockKind}
 use Rattle.px_engine.specs.Files.{Said, normal, block_of}
-use Rattle.px_engine.specs.Input.{LacksFault, LacksRun, IsSaid, IsUnsaid, OnSide}
+use Rattle.px_engine.specs.Input.{LacksFault, LacksRunBy, IsSaid, IsUnsaid, OnSide}
 use Rattle.px_engine.specs.Runs.{KnownSaid, Stops, Checks, Normalises, Compares}
 use Rattle.px_engine.specs.Hand.{IsKindOf, IsFormOf, IsUnwritten}
 use Rattle.px_engine.specs.calls.Ends.{IsUnformed, WritesSaid}
@@ -32,7 +32,7 @@ normalised (Err (Refused cause place)) left left_now bytes s old new a b x h w =
 
 -- a writer takes no memory
 pub lacks_nothing : (r : Result ℕ Fault) (old new : Option (List ℕ)) (a b : ℕ) (s : Said) (first last : ℕ) → last ≡ first
-    → WritesSaid r old new a b s → LacksRun r first last
+    → WritesSaid r old new a b s → LacksRunBy r first last
 lacks_nothing (Ok n) old new a b s first last q w = q
 lacks_nothing (Err NormalTooLong) old new a b s first last q w = q
 lacks_nothing (Err WriteFailed) old new a b s first last q w = q

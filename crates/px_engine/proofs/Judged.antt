@@ -4,7 +4,7 @@ use Rattle.px_bytes.specs.declared.Cause.{Cause}
 use Rattle.px_bytes.specs.declared.Cause.TheVariants.{TooLong}
 use Rattle.px_bytes.specs.declared.Refusal.{Refusal}
 use Rattle.px_bytes.specs.declared.Refusal.TheVariants as refusal
-use Rattle.px_bytes.specs.Checks.{LacksBlock}
+use Rattle.px_bytes.specs.Checks.{LacksBlockBy}
 use Rattle.px_bytes.specs.Parts.{limit}
 use Rattle.px_bytes.specs.Reading.{ReadsUpTo, ConsumesAtMost}
 use Rattle.px_iim.specs.Group.{Record, IsRecord}
@@ -55,7 +55,7 @@ pub unsaid : (bytes : List ℕ) (lacking : ℕ) (e : Refusal) (fault : Fault) �
 unsaid bytes lacking (refusal.Content cause place) fault q h = subst (IsUnsaid bytes lacking) (sym q) h
 unsaid bytes lacking refusal.OutOfMemory fault q h = subst (IsUnsaid bytes lacking) (sym q) h
 
-pub lacks_refused : (e : Refusal) (fault : Fault) (old new : ℕ) → fault ≡ refused e → LacksBlock {X = Unit {0}} (Err e) old new
+pub lacks_refused : (e : Refusal) (fault : Fault) (old new : ℕ) → fault ≡ refused e → LacksBlockBy {X = Unit {0}} (Err e) old new
     → LacksFault fault old new
 lacks_refused (refusal.Content cause place) fault old new q h = subst (λ z. LacksFault z old new) (sym q) h
 lacks_refused refusal.OutOfMemory fault old new q h = subst (λ z. LacksFault z old new) (sym q) h

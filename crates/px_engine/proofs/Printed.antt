@@ -7,7 +7,7 @@ use Rattle.px_bytes.specs.lemmas.WaitingLaws.{from_none, owed_all, owed_prefix}
 use Rattle.px_engine.specs.declared.faults.Fault.{Fault}
 use Rattle.px_engine.specs.declared.faults.Fault.TheVariants.{Refused, NormalTooLong, OutOfMemory, ReadFailed, WriteFailed}
 use Rattle.px_engine.specs.Files.{Said}
-use Rattle.px_engine.specs.Input.{IsSaid, IsUnsaid, LacksRun}
+use Rattle.px_engine.specs.Input.{IsSaid, IsUnsaid, LacksRunBy}
 use Rattle.px_engine.specs.Prints.{Prints}
 use Rattle.px_engine.specs.calls.Ends.{WritesText}
 use Rattle.px_engine.specs.calls.Faults.{told}
@@ -49,7 +49,7 @@ not_printed A text WriteFailed left left_now bytes lacking old x h = absurd h
 
 -- nor does a writer of texts take memory
 pub lacks_no_text : {A : Type 0} (r : Result A Fault) (old new : Option (List ℕ)) (a b : ℕ) (sent : List ℕ) (first last : ℕ)
-    → last ≡ first → WritesText r old new a b sent → LacksRun r first last
+    → last ≡ first → WritesText r old new a b sent → LacksRunBy r first last
 lacks_no_text (Ok x) old new a b sent first last q w = q
 lacks_no_text (Err WriteFailed) old new a b sent first last q w = q
 lacks_no_text (Err (Refused cause place)) old new a b sent first last q w = absurd w

@@ -4,6 +4,7 @@ use Rattle.px_bytes.specs.declared.Cause.{Cause}
 use Rattle.px_bytes.specs.declared.Refusal.{Refusal}
 use Rattle.px_bytes.specs.declared.Refusal.TheVariants as refusal
 use Rattle.px_bytes.specs.Parts.{limit}
+use Rattle.px_bytes.specs.Lacking.{Taken}
 use Rattle.px_engine.specs.declared.faults.Fault.{Fault}
 use Rattle.px_engine.specs.declared.faults.Fault.TheVariants.{Refused, OutOfMemory, ReadFailed}
 use Rattle.px_engine.specs.declared.faults.CompareFault.{CompareFault}
@@ -58,13 +59,20 @@ abbrev pub LacksFault : Fault → ℕ → ℕ → Type 0
 LacksFault OutOfMemory old new = new ≡ old + 1
 LacksFault fault old new = new ≡ old
 
-abbrev pub LacksRun : {A : Type 0} → Result A Fault → ℕ → ℕ → Type 0
-LacksRun (Ok x) old new = new ≡ old
-LacksRun (Err fault) old new = LacksFault fault old new
+abbrev pub LacksRunBy : {A : Type 0} → Result A Fault → ℕ → ℕ → Type 0
+LacksRunBy (Ok x) old new = new ≡ old
+LacksRunBy (Err fault) old new = LacksFault fault old new
 
-abbrev pub LacksPair : {A : Type 0} → Result A CompareFault → ℕ → ℕ → Type 0
-LacksPair (Ok x) old new = new ≡ old
-LacksPair (Err e) old new = LacksFault e.fault old new
+abbrev pub LacksPairBy : {A : Type 0} → Result A CompareFault → ℕ → ℕ → Type 0
+LacksPairBy (Ok x) old new = new ≡ old
+LacksPairBy (Err e) old new = LacksFault e.fault old new
+
+-- the same of memory
+abbrev pub LacksRun : {A : Type 0} → Result A Fault → Taken → Taken → Type 0
+LacksRun r old new = LacksRunBy r old.refusals new.refusals
+
+abbrev pub LacksPair : {A : Type 0} → Result A CompareFault → Taken → Taken → Type 0
+LacksPair r old new = LacksPairBy r old.refusals new.refusals
 
 -- a call of the reader failed exactly where that is the fault
 abbrev pub CountsFault : Fault → ℕ → ℕ → Type 0

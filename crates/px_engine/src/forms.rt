@@ -51,7 +51,7 @@ fn send_record<W: Sink>(iim: &Iim, writer: &mut W) -> Result<(), Failed>
 fn exif_form(memory: &mut Memory, m: &Meaning) -> Result<Vec<u8>, Fault>
     requires { Fits (meaning_of m.now) }
     ensures formed { IfOk result (λ v. (v.items ≡ normal_exif (meaning_of m.now)) × (length v.items ≤ limit)) }
-    ensures unformed { IfErr result (IsUnformed (said.Exif (meaning_of m.now)) memory.new) }
+    ensures unformed { IfErr result (IsUnformed (said.Exif (meaning_of m.now)) memory.new.refusals) }
     ensures memory { LacksRun result memory.old memory.new }
 {
     let Ok(form) = NormalForm::new(m) else {
@@ -66,7 +66,7 @@ fn exif_form(memory: &mut Memory, m: &Meaning) -> Result<Vec<u8>, Fault>
 // The normal form of a record.
 fn iim_form(memory: &mut Memory, iim: &Iim) -> Result<Vec<u8>, Fault>
     ensures formed { IfOk result (λ v. (v.items ≡ normal_iim iim.now) × (length v.items ≤ limit)) }
-    ensures unformed { IfErr result (IsUnformed (said.Iim iim.now) memory.new) }
+    ensures unformed { IfErr result (IsUnformed (said.Iim iim.now) memory.new.refusals) }
     ensures memory { LacksRun result memory.old memory.new }
 {
     let len = normal_len(iim).unwrap_or(LIMIT + 1);
@@ -83,7 +83,7 @@ fn iim_form(memory: &mut Memory, iim: &Iim) -> Result<Vec<u8>, Fault>
 pub(crate) fn form_of(memory: &mut Memory, said: &Said) -> Result<Vec<u8>, Fault>
     requires { CanBeWritten (said_of said.now) }
     ensures formed { IfOk result (λ v. (v.items ≡ normal (said_of said.now)) × (length v.items ≤ limit)) }
-    ensures unformed { IfErr result (IsUnformed (said_of said.now) memory.new) }
+    ensures unformed { IfErr result (IsUnformed (said_of said.now) memory.new.refusals) }
     ensures memory { LacksRun result memory.old memory.new }
 {
     match said {

@@ -20,7 +20,7 @@ use std::alloc::Global;
 /// Exif block says, and none for a block of DataSets, of which it keeps nothing; it makes no copy of the file.
 pub fn check_of_in(memory: &mut Memory, file: &[u8]) -> Result<BlockKind, Fault>
     ensures kind { IfOk result (IsKindOf file.now) }
-    ensures unsaid { IfErr result (IsUnsaid file.now memory.new) }
+    ensures unsaid { IfErr result (IsUnsaid file.now memory.new.refusals) }
     ensures memory { LacksRun result memory.old memory.new }
 {
     match judge_any_in(memory, file) {
@@ -43,7 +43,7 @@ pub fn check_of(alloc: Global, file: &[u8]) -> Result<BlockKind, Fault>
 /// bytes. It makes no copy of the file.
 pub fn normal_form_in(memory: &mut Memory, file: &[u8]) -> Result<Vec<u8>, Fault>
     ensures formed { IfOk result (λ v. (s : AnySaid) × IsFormOf file.now s v.items) }
-    ensures unwritten { IfErr result (IsUnwritten file.now memory.new) }
+    ensures unwritten { IfErr result (IsUnwritten file.now memory.new.refusals) }
     ensures memory { LacksRun result memory.old memory.new }
 {
     let said = judge(memory, file)?;
@@ -64,7 +64,7 @@ pub fn normal_form(alloc: Global, file: &[u8]) -> Result<Vec<u8>, Fault>
 /// file says alone, and makes no copy of the file.
 pub fn put_form_in(memory: &mut Memory, file: &[u8], out: &mut [u8]) -> Result<Given, Fault>
     ensures put { IfOk result (λ given. PutsForm file.now given out.old out.new) }
-    ensures unwritten { IfErr result (IsUnwritten file.now memory.new) }
+    ensures unwritten { IfErr result (IsUnwritten file.now memory.new.refusals) }
     ensures kept { OnErr result (out.new ≡ out.old) }
     ensures memory { LacksRun result memory.old memory.new }
 {
@@ -89,7 +89,7 @@ pub fn put_form(alloc: Global, file: &[u8], out: &mut [u8]) -> Result<Given, Fau
 /// text: less than four bytes for each byte of a value or of data, and less than 30 more a line.
 pub fn show_of_in(memory: &mut Memory, file: &[u8]) -> Result<Vec<u8>, Fault>
     ensures text { IfOk result (λ text. IsTextOf listing file.now text.items) }
-    ensures unsaid { IfErr result (IsUnsaid file.now memory.new) }
+    ensures unsaid { IfErr result (IsUnsaid file.now memory.new.refusals) }
     ensures memory { LacksRun result memory.old memory.new }
 {
     let said = judge(memory, file)?;
@@ -114,7 +114,7 @@ pub fn show_of(alloc: Global, file: &[u8]) -> Result<Vec<u8>, Fault>
 /// line.
 pub fn captions_text_in(memory: &mut Memory, file: &[u8]) -> Result<Vec<u8>, Fault>
     ensures text { IfOk result (λ text. IsTextOf caption_text file.now text.items) }
-    ensures unsaid { IfErr result (IsUnsaid file.now memory.new) }
+    ensures unsaid { IfErr result (IsUnsaid file.now memory.new.refusals) }
     ensures memory { LacksRun result memory.old memory.new }
 {
     let said = judge(memory, file)?;
@@ -140,7 +140,7 @@ pub fn captions_text(alloc: Global, file: &[u8]) -> Result<Vec<u8>, Fault>
 /// It takes memory for what both say, and makes no copy of either.
 pub fn same_of_in(memory: &mut Memory, first: &[u8], second: &[u8]) -> Result<bool, CompareFault>
     ensures same { IfOk result (SaysSame first.now second.now) }
-    ensures unsaid { IfErr result (IsUnsaidAt first.now second.now memory.new) }
+    ensures unsaid { IfErr result (IsUnsaidAt first.now second.now memory.new.refusals) }
     ensures memory { LacksPair result memory.old memory.new }
 {
     let said = judge_side(memory, first, Side::First)?;

@@ -24,7 +24,7 @@ pub struct NormalForms {
 fn form_side(memory: &mut Memory, file: &[u8], side: Side) -> Result<Vec<u8>, CompareFault>
     ensures formed { IfOk result (λ v. (s : Said) × IsFormOf file.now s v.items) }
     ensures side { IfErr result (λ e. e.side ≡ side) }
-    ensures unwritten { IfErr result (λ e. IsUnwritten file.now memory.new e.fault) }
+    ensures unwritten { IfErr result (λ e. IsUnwritten file.now memory.new.refusals e.fault) }
     ensures memory { LacksPair result memory.old memory.new }
 {
     match normal_form_in(memory, file) {
@@ -47,7 +47,7 @@ pub fn normalise_both_in(
     second: &[u8],
 ) -> Result<NormalForms, CompareFault>
     ensures done { IfOk result (λ forms. Headline first.now second.now forms.first.items forms.second.items) }
-    ensures failed { IfErr result (IsUnwrittenAt first.now second.now memory.new) }
+    ensures failed { IfErr result (IsUnwrittenAt first.now second.now memory.new.refusals) }
     ensures memory { LacksPair result memory.old memory.new }
 {
     laws::one_said();

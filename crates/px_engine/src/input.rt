@@ -1,6 +1,6 @@
 // A file, read whole and judged.
 ghost use Rattle.std.specs.Prelude.{◌≡◌, ℕ, IfOk, IfErr};
-ghost use Rattle.px_bytes.specs.Checks.{LacksBlock};
+ghost use Rattle.px_bytes.specs.Checks.{LacksBlock, LacksBlockBy};
 ghost use Rattle.px_bytes.specs.Reading.{ReadsUpTo, ConsumesAtMost};
 ghost use Rattle.px_tree.specs.calls.Seen.{meaning_of};
 ghost use Rattle.px_engine.specs.declared.kinds.BlockKind.TheVariants as kind;
@@ -69,7 +69,7 @@ pub(crate) fn read_side<R: Source>(
 // What a block says as an Exif block.
 fn read_exif<'a>(memory: &mut Memory, bytes: &'a [u8]) -> Result<Meaning<'a>, Refusal>
     ensures said { IfOk result (λ m. IsSaidIn kind.Exif bytes.now (said.Exif (meaning_of m))) }
-    ensures refused { IfErr result (IsRefusedIn kind.Exif bytes.now memory.new) }
+    ensures refused { IfErr result (IsRefusedIn kind.Exif bytes.now memory.new.refusals) }
     ensures memory { LacksBlock result memory.old memory.new }
 {
     px_layout::laws::normal_bound();
@@ -86,7 +86,7 @@ fn read_exif<'a>(memory: &mut Memory, bytes: &'a [u8]) -> Result<Meaning<'a>, Re
 // What a block says as a block of DataSets.
 fn read_record<'a>(memory: &mut Memory, bytes: &'a [u8]) -> Result<Iim<'a>, Refusal>
     ensures said { IfOk result (λ i. IsSaidIn kind.Iim bytes.now (said.Iim i)) }
-    ensures refused { IfErr result (IsRefusedIn kind.Iim bytes.now memory.new) }
+    ensures refused { IfErr result (IsRefusedIn kind.Iim bytes.now memory.new.refusals) }
     ensures memory { LacksBlock result memory.old memory.new }
 {
     read_iim_in(memory, bytes)
@@ -95,7 +95,7 @@ fn read_record<'a>(memory: &mut Memory, bytes: &'a [u8]) -> Result<Iim<'a>, Refu
 // Judges a block as an Exif block.
 fn judge_exif(memory: &mut Memory, bytes: &[u8]) -> Result<(), Refusal>
     ensures said { IfOk result (λ u. SaysKind kind.Exif bytes.now) }
-    ensures refused { IfErr result (IsRefusedIn kind.Exif bytes.now memory.new) }
+    ensures refused { IfErr result (IsRefusedIn kind.Exif bytes.now memory.new.refusals) }
     ensures memory { LacksBlock result memory.old memory.new }
 {
     let meaning = read_exif(memory, bytes)?;
@@ -107,7 +107,7 @@ fn judge_exif(memory: &mut Memory, bytes: &[u8]) -> Result<(), Refusal>
 fn judge_record(bytes: &[u8]) -> Result<(), Refusal>
     ensures said { IfOk result (λ u. SaysKind kind.Iim bytes.now) }
     ensures refused { (refused : ℕ) → IfErr result (IsRefusedIn kind.Iim bytes.now refused) }
-    ensures memory { (refused : ℕ) → LacksBlock result refused refused }
+    ensures memory { (refused : ℕ) → LacksBlockBy result refused refused }
 {
     judge_iim(bytes)
 }
@@ -115,7 +115,7 @@ fn judge_record(bytes: &[u8]) -> Result<(), Refusal>
 // Judges a block as one of this kind.
 fn judge_block(memory: &mut Memory, kind: BlockKind, bytes: &[u8]) -> Result<(), Refusal>
     ensures said { IfOk result (λ u. SaysKind kind bytes.now) }
-    ensures refused { IfErr result (IsRefusedIn kind bytes.now memory.new) }
+    ensures refused { IfErr result (IsRefusedIn kind bytes.now memory.new.refusals) }
     ensures memory { LacksBlock result memory.old memory.new }
 {
     match kind {
@@ -127,7 +127,7 @@ fn judge_block(memory: &mut Memory, kind: BlockKind, bytes: &[u8]) -> Result<(),
 // The kind of the block in a file, where that says something. It takes memory for what an Exif block says.
 pub(crate) fn judge_any_in(memory: &mut Memory, file: &[u8]) -> Result<BlockKind, Refusal>
     ensures kind { IfOk result (IsKindOf file.now) }
-    ensures refused { IfErr result (IsRefused file.now memory.new) }
+    ensures refused { IfErr result (IsRefused file.now memory.new.refusals) }
     ensures memory { LacksBlock result memory.old memory.new }
 {
     let kind = kind_of(file);
@@ -144,7 +144,7 @@ pub(crate) fn judge_any_in(memory: &mut Memory, file: &[u8]) -> Result<BlockKind
 /// where a growth was refused, and says nothing of the file.
 pub fn read_any_in<'a>(memory: &mut Memory, file: &'a [u8]) -> Result<Said<'a>, Refusal>
     ensures said { IfOk result (λ s. IsSaid file.now (said_of s)) }
-    ensures refused { IfErr result (IsRefused file.now memory.new) }
+    ensures refused { IfErr result (IsRefused file.now memory.new.refusals) }
     ensures memory { LacksBlock result memory.old memory.new }
 {
     let bytes = block_of(file);

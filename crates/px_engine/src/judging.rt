@@ -12,7 +12,7 @@ use px_bytes::Memory;
 // What a file says, or the fault of a run.
 pub(crate) fn judge<'a>(memory: &mut Memory, file: &'a [u8]) -> Result<Said<'a>, Fault>
     ensures said { IfOk result (λ s. IsSaid file.now (said_of s)) }
-    ensures unsaid { IfErr result (IsUnsaid file.now memory.new) }
+    ensures unsaid { IfErr result (IsUnsaid file.now memory.new.refusals) }
     ensures memory { LacksRun result memory.old memory.new }
 {
     match read_any_in(memory, file) {
@@ -29,7 +29,7 @@ pub(crate) fn judge_side<'a>(
 ) -> Result<Said<'a>, CompareFault>
     ensures said { IfOk result (λ s. IsSaid file.now (said_of s)) }
     ensures side { IfErr result (λ e. e.side ≡ side) }
-    ensures unsaid { IfErr result (λ e. IsUnsaid file.now memory.new e.fault) }
+    ensures unsaid { IfErr result (λ e. IsUnsaid file.now memory.new.refusals e.fault) }
     ensures memory { LacksPair result memory.old memory.new }
 {
     match judge(memory, file) {
@@ -45,7 +45,7 @@ pub(crate) fn same_second(
     said: &Said,
     second: &[u8],
 ) -> Result<bool, CompareFault>
-    ensures same { SaysSecond result (said_of said.now) second.now memory.new }
+    ensures same { SaysSecond result (said_of said.now) second.now memory.new.refusals }
     ensures memory { LacksPair result memory.old memory.new }
 {
     let other = judge_side(memory, second, Side::Second)?;

@@ -66,7 +66,7 @@ fn append_elements(
     requires { vec_len out.old + length value.now.elements * size (form_in value.now.kind) ≤ vec_capacity out.old }
     ensures ok { IsOk result }
     ensures done { out.new.items ≡ out.old.items ++ spelled order value.now }
-    ensures memory { memory.new ≡ memory.old }
+    ensures memory { memory.new.refusals ≡ memory.old.refusals }
 {
     let mut piece = [0; 8];
     for i in 0..value.count() {

@@ -73,7 +73,7 @@ pub fn read_iim_in<'a>(memory: &mut Memory, bytes: &'a [u8]) -> Result<Iim<'a>, 
     ensures judged { Judges result (iim_checks bytes.now) (SaysIim bytes.now) }
     ensures computed { IfOk result (λ i. iim_of bytes.now ≡ Some i) }
     ensures whole { IfOk result IsRecord }
-    ensures stands { IfErr result (RefusesIim bytes.now memory.new) }
+    ensures stands { IfErr result (RefusesIim bytes.now memory.new.refusals) }
     ensures memory { LacksBlock result memory.old memory.new }
 {
     if bytes.len() > LIMIT as usize {

@@ -6,7 +6,7 @@ use Rattle.px_engine.specs.declared.CompareFault.{CompareFault}
 use Rattle.px_engine.specs.declared.Fault.{Fault}
 use Rattle.px_engine.specs.declared.Fault.TheVariants.{WriteFailed}
 use Rattle.px_engine.specs.Files.{Said}
-use Rattle.px_engine.specs.Input.{LacksRun, LacksPair, CountsReads}
+use Rattle.px_engine.specs.Input.{LacksRunBy, LacksPairBy, CountsReads}
 use Rattle.px_engine.specs.Runs.{KnownSaid, Stops, Checks, Compares, Normalises, CountsWrites, CountsSides}
 use Rattle.px_engine.specs.Prints.{listing, caption_text}
 use Rattle.px_jobs.specs.declared.job.Job.{Job}
@@ -61,16 +61,16 @@ TellsText text (Err fault) file status lines = Stops fault file × TellsFault fa
 abbrev pub EndsNormalise : Device → Device → Device → ℕ → ℕ → ℕ → Type 0
 EndsNormalise reader out lines refused refused_now status = (r : Result ℕ Fault) × Normalises r reader.old out.old out.new
     × CountsReads r reader.failed reader.failed_now × CountsWrites r out.failed out.failed_now
-    × LacksRun r refused refused_now × TellsWritten r status lines
+    × LacksRunBy r refused refused_now × TellsWritten r status lines
 
 abbrev pub EndsCheck : Device → Device → ℕ → ℕ → ℕ → Type 0
 EndsCheck reader lines refused refused_now status = (r : Result BlockKind Fault) × Checks r reader.old
-    × CountsReads r reader.failed reader.failed_now × LacksRun r refused refused_now × TellsChecked r status lines
+    × CountsReads r reader.failed reader.failed_now × LacksRunBy r refused refused_now × TellsChecked r status lines
 
 -- the text of what the file says
 abbrev pub EndsText : (Said → List ℕ) → Device → Device → ℕ → ℕ → ℕ → Type 0
 EndsText text reader lines refused refused_now status = (r : Result ⊤ Fault) × CountsReads r reader.failed reader.failed_now
-    × LacksRun r refused refused_now × TellsText text r reader.old status lines
+    × LacksRunBy r refused refused_now × TellsText text r reader.old status lines
 
 -- of the reader, the writer of normal bytes and the writer of lines
 abbrev pub Ends : Job → Device → Device → Device → ℕ → ℕ → ℕ → Type 0
@@ -82,4 +82,4 @@ Ends Captions reader out lines refused refused_now status = IsIdle out × EndsTe
 abbrev pub EndsCompare : Device → Device → Device → ℕ → ℕ → ℕ → Type 0
 EndsCompare first second lines refused refused_now status = (r : Result Bool CompareFault) × Compares r first.old second.old
     × CountsSides r first.failed first.failed_now second.failed second.failed_now
-    × LacksPair r refused refused_now × TellsCompared r status lines
+    × LacksPairBy r refused refused_now × TellsCompared r status lines

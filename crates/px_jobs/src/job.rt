@@ -132,7 +132,7 @@ fn run_normalise<R: Source, O: Sink, L: Sink>(
     ensures { EndsNormalise (device (R.failed reader.old) (R.failed reader.new) (R.bytes_left reader.old) (R.bytes_left reader.new))
         (device (O.failed out.old) (O.failed out.new) (O.bytes_taken out.old) (O.bytes_taken out.new))
         (device (L.failed lines.old) (L.failed lines.new) (L.bytes_taken lines.old) (L.bytes_taken lines.new))
-        memory.old memory.new result }
+        memory.old.refusals memory.new.refusals result }
 {
     tell_written(lines, normalise_in(memory, reader, out))
 }
@@ -144,7 +144,7 @@ fn run_check<R: Source, L: Sink>(memory: &mut Memory, reader: &mut R, lines: &mu
     requires telling { CanFail (L.failed lines.old) }
     ensures { EndsCheck (device (R.failed reader.old) (R.failed reader.new) (R.bytes_left reader.old) (R.bytes_left reader.new))
         (device (L.failed lines.old) (L.failed lines.new) (L.bytes_taken lines.old) (L.bytes_taken lines.new))
-        memory.old memory.new result }
+        memory.old.refusals memory.new.refusals result }
 {
     tell_checked(lines, check_in(memory, reader))
 }
@@ -155,7 +155,7 @@ fn run_show<R: Source, L: Sink>(memory: &mut Memory, reader: &mut R, lines: &mut
     requires telling { CanFail (L.failed lines.old) }
     ensures { EndsText listing (device (R.failed reader.old) (R.failed reader.new) (R.bytes_left reader.old) (R.bytes_left reader.new))
         (device (L.failed lines.old) (L.failed lines.new) (L.bytes_taken lines.old) (L.bytes_taken lines.new))
-        memory.old memory.new result }
+        memory.old.refusals memory.new.refusals result }
 {
     let printed = show_in(memory, reader, lines);
     tell_printed(lines, printed)
@@ -167,7 +167,7 @@ fn run_captions<R: Source, L: Sink>(memory: &mut Memory, reader: &mut R, lines: 
     requires telling { CanFail (L.failed lines.old) }
     ensures { EndsText caption_text (device (R.failed reader.old) (R.failed reader.new) (R.bytes_left reader.old) (R.bytes_left reader.new))
         (device (L.failed lines.old) (L.failed lines.new) (L.bytes_taken lines.old) (L.bytes_taken lines.new))
-        memory.old memory.new result }
+        memory.old.refusals memory.new.refusals result }
 {
     let printed = captions_in(memory, reader, lines);
     tell_printed(lines, printed)
@@ -194,7 +194,7 @@ pub fn run_one_in<R: Source, O: Sink, L: Sink>(
     ensures { Ends job (device (R.failed reader.old) (R.failed reader.new) (R.bytes_left reader.old) (R.bytes_left reader.new))
         (device (O.failed out.old) (O.failed out.new) (O.bytes_taken out.old) (O.bytes_taken out.new))
         (device (L.failed lines.old) (L.failed lines.new) (L.bytes_taken lines.old) (L.bytes_taken lines.new))
-        memory.old memory.new result }
+        memory.old.refusals memory.new.refusals result }
 {
     match job {
         Job::Show => run_show(memory, reader, lines),
@@ -222,7 +222,7 @@ pub fn run_compare_in<R: Source, S: Source, L: Sink>(
     ensures { EndsCompare (device (R.failed first.old) (R.failed first.new) (R.bytes_left first.old) (R.bytes_left first.new))
         (device (S.failed second.old) (S.failed second.new) (S.bytes_left second.old) (S.bytes_left second.new))
         (device (L.failed lines.old) (L.failed lines.new) (L.bytes_taken lines.old) (L.bytes_taken lines.new))
-        memory.old memory.new result }
+        memory.old.refusals memory.new.refusals result }
 {
     tell_compared(lines, compare_in(memory, first, second))
 }

@@ -18,9 +18,9 @@ use px_tree::{Meaning, read_block_in};
 /// meaning, or a growth was refused: `OutOfMemory` comes there alone. Of every other block it answers what `read_block_in` does.
 pub fn read_back_in<'a>(memory: &mut Memory, block: Block<'a>) -> Result<Meaning<'a>, Refusal>
     ensures back { (m : Tree) (plan : Plan) (o : Order) (filler : ℕ) → Fits m → Legal m plan → block.entry ≡ laid m plan o filler →
-        ReadsBack meaning_of result m memory.old memory.new }
+        ReadsBack meaning_of result m memory.old.refusals memory.new.refusals }
     ensures says { IfOk result (λ m. SaysExif block.entry (meaning_of m)) }
-    ensures refused { IfErr result (IsRefused block.entry memory.new) }
+    ensures refused { IfErr result (IsRefused block.entry memory.new.refusals) }
     ensures memory { LacksBlock result memory.old memory.new }
 {
     read_block_in(memory, block)

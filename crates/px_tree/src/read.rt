@@ -99,7 +99,7 @@ pub fn read_block<'a>(alloc: Global, block: Block<'a>) -> Result<Meaning<'a>, Re
 pub fn read_block_in<'a>(memory: &mut Memory, block: Block<'a>) -> Result<Meaning<'a>, Refusal>
     ensures says { IfOk result (λ m. SaysExif block.entry (meaning_of m)) }
     ensures fits { IfOk result (λ m. Fits (meaning_of m)) }
-    ensures refused { IfErr result (IsRefused block.entry memory.new) }
+    ensures refused { IfErr result (IsRefused block.entry memory.new.refusals) }
     ensures memory { LacksBlock result memory.old memory.new }
 {
     let bytes = block.bytes();

@@ -6,7 +6,7 @@ use Rattle.clap.specs.declared.error.Error.{Error}
 use Rattle.clap.specs.declared.error.ErrorKind.TheVariants as kind
 use Rattle.px_words.specs.declared.words.Words.{Words}
 use Rattle.px_words.specs.declared.words.Words.TheVariants as words
-use Rattle.px_words.specs.Words.{Asks, AsksFiles, IsFor, LacksWords}
+use Rattle.px_words.specs.Words.{Asks, AsksFiles, IsFor, LacksWordsBy}
 use Rattle.px_words.specs.calls.Met.{TellsKind, IsTold}
 
 -- a match gives no text but that of one word for two files
@@ -47,7 +47,7 @@ of_told met words.NoMemory told = absurd told
 of_told met words.Unread told = tt
 
 -- nor does it tell of a growth that memory refused
-pub lacks_told : (w : Words) (n : ℕ) → IsTold w → LacksWords w n n
+pub lacks_told : (w : Words) (n : ℕ) → IsTold w → LacksWordsBy w n n
 lacks_told words.Filter n told = absurd told
 lacks_told (words.One what file) n told = absurd told
 lacks_told (words.Normalise file out) n told = absurd told

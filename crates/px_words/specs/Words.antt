@@ -4,6 +4,7 @@ use Rattle.clap.specs.Words.{App, Row, Rule, Shape, Text, fault_of, first_of, ne
 use Rattle.clap.specs.Kinds.{IsAmong, Kinds}
 use Rattle.clap.specs.declared.error.ErrorKind.{ErrorKind}
 use Rattle.clap.specs.declared.error.ErrorKind.TheVariants as kind
+use Rattle.px_bytes.specs.Lacking.{Taken}
 use Rattle.px_words.specs.declared.words.One.{One}
 use Rattle.px_words.specs.declared.words.One.TheVariants as one
 use Rattle.px_words.specs.declared.words.Words.{Words}
@@ -105,6 +106,10 @@ AskedBy ws asked = (ws ≡ [] ↔ asked ≡ words.Filter) × Asks (subcommand_of
 
 -- out of memory met one failed allocation, and no other answer did: `old` and `new` are the counts of failed allocations before and
 -- after the call
-abbrev pub LacksWords : Words → ℕ → ℕ → Type 0
-LacksWords words.NoMemory old new = new ≡ old + 1
-LacksWords _ old new = new ≡ old
+abbrev pub LacksWordsBy : Words → ℕ → ℕ → Type 0
+LacksWordsBy words.NoMemory old new = new ≡ old + 1
+LacksWordsBy _ old new = new ≡ old
+
+-- the same of memory
+abbrev pub LacksWords : Words → Taken → Taken → Type 0
+LacksWords r old new = LacksWordsBy r old.refusals new.refusals

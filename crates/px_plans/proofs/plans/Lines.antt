@@ -9,7 +9,7 @@ use Rattle.std.proofs.lemmas.Option.{slice_get-get_or}
 use Rattle.px_bytes.specs.declared.WriteRefusal.{WriteRefusal}
 use Rattle.px_bytes.specs.declared.WriteRefusal.TheVariants.{NormalTooLong, OutOfMemory, WriteFailed}
 use Rattle.px_bytes.specs.Parts.{limit}
-use Rattle.px_bytes.specs.calls.Writing.{LacksWrite}
+use Rattle.px_bytes.specs.calls.Writing.{LacksWriteBy}
 use Rattle.px_tree.specs.Tree.{Meaning}
 use Rattle.px_tree.specs.Fits.{Fits}
 use Rattle.px_layout.specs.declared.chunks.Chunk.{Chunk}
@@ -118,7 +118,8 @@ refused m f OutOfMemory plan cs s h = tt
 refused m f WriteFailed plan cs s h = h
 
 -- what a refusal tells of memory, where none was refused before
-pub write_lacks : (X Y : Type 0) (e : WriteRefusal) (a b c : ℕ) → b ≡ a → LacksWrite {X = X} (Err e) b c → LacksWrite {X = Y} (Err e) a c
+pub write_lacks : (X Y : Type 0) (e : WriteRefusal) (a b c : ℕ) → b ≡ a → LacksWriteBy {X = X} (Err e) b c
+    → LacksWriteBy {X = Y} (Err e) a c
 write_lacks X Y NormalTooLong a b c e h = h ∙ e
 write_lacks X Y OutOfMemory a b c e h = h ∙ ap (λ (n : ℕ). n + 1) e
 write_lacks X Y WriteFailed a b c e h = h ∙ e

@@ -7,7 +7,7 @@ use Rattle.px_bytes.specs.declared.Refusal.{Refusal}
 use Rattle.px_bytes.specs.declared.Refusal.TheVariants.{Content, OutOfMemory}
 use Rattle.px_bytes.specs.Parts.{limit}
 use Rattle.px_bytes.specs.Numbers.{AreBytes}
-use Rattle.px_bytes.specs.Checks.{first_false, Refuses, Judges, LacksBlock, ContentOnly}
+use Rattle.px_bytes.specs.Checks.{first_false, Refuses, Judges, LacksBlockBy, ContentOnly}
 use Rattle.px_bytes.specs.lemmas.CheckLaws.{all_true, Refuses-more, Refuses-behind}
 use Rattle.px_iim.specs.Check.{iim_checks}
 use Rattle.px_iim.specs.lemmas.FaultLaws.{said_clean}
@@ -34,7 +34,7 @@ faulty_says_none x c p h = go (iim_of x) refl
 
 -- a refusal, where want of memory met a refused growth
 pub refused_by : (X : Type 0) (b : List ℕ) (e : Refusal) (old new : ℕ) → length b ≤ limit → Refuses e (checks b)
-    → LacksBlock {X = X} (Err e) old new → IsRefused b new e
+    → LacksBlockBy {X = X} (Err e) old new → IsRefused b new e
 refused_by X b (Content c p) old new l h k =
     let f = first_stands b c p h in
     record { first = h; stands = f; bounded = fault_bounded b c p l f; unsaid = λ m s. stands_unsaid b c p m f s }
@@ -74,7 +74,7 @@ module _ (b : List ℕ) (o : Order) (headed : first_false (header_checks b) ≡ 
     tree_said (Err e) j = tt
 
     pub tree_refused : (r : Result M Refusal) (old new : ℕ) → length b ≤ limit → Judges r (tree_checks b o) (λ m. see m ≡ meaning b o)
-        → LacksBlock r old new → IfErr r (IsRefused b new)
+        → LacksBlockBy r old new → IfErr r (IsRefused b new)
     tree_refused (Ok m) old new l j k = tt
     tree_refused (Err e) old new l j k = refused_by M b e old new l (tree_refuses e j) k
 

@@ -15,4 +15,4 @@ pub returns-in-Iim-clause-said : goal.returns-in-Iim-clause-said
 returns-in-Iim-clause-said c = rw c.in-Iim.is c.judge_record.ensures.said
 
 pub returns-in-Iim-clause-refused : goal.returns-in-Iim-clause-refused
-returns-in-Iim-clause-refused c = rw c.in-Iim.is (c.judge_record.ensures.refused c.args.memory.now)
+returns-in-Iim-clause-refused c = rw c.in-Iim.is (c.judge_record.ensures.refused c.args.memory.now.refusals)

@@ -1,7 +1,7 @@
 use Rattle.std.proofs.Common.{◌≡◌, ◌<◌, ℕ, List, Result, Ok, Err, IfOk, IfErr, refl, arith}
 use Rattle.px_bytes.specs.declared.Refusal.{Refusal}
 use Rattle.px_bytes.specs.declared.Refusal.TheVariants.{Content, OutOfMemory}
-use Rattle.px_bytes.specs.Checks.{Judges, LacksBlock}
+use Rattle.px_bytes.specs.Checks.{Judges, LacksBlockBy}
 use Rattle.px_bytes.specs.Numbers.{AreBytes}
 use Rattle.px_iim.specs.Group.{Record}
 use Rattle.px_iim.specs.Record.{SaysIim}
@@ -38,7 +38,7 @@ pub returns-clause-refused : goal.returns-clause-refused
 returns-clause-refused c = λ n.
     refuses c.args.bytes.now n c.judge_iim.result c.judge_iim.ensures.judged (c.judge_iim.ensures.stands n)
 
-lacks : (b : List ℕ) (n : ℕ) (r : Result (Unit {0}) Refusal) → IfErr r (RefusesIim b 0) → LacksBlock r n n
+lacks : (b : List ℕ) (n : ℕ) (r : Result (Unit {0}) Refusal) → IfErr r (RefusesIim b 0) → LacksBlockBy r n n
 lacks b n (Ok u) h = refl
 lacks b n (Err (Content c p)) h = refl
 lacks b n (Err OutOfMemory) h = absurd (omega arith)

@@ -9,5 +9,5 @@ invariant-loop-i l = record {
   items : l.out.items ≡ l.fn.out.items ++ flat_map (spell l.order) (take l.i l.value.elements);
   len : vec_len l.out ≡ vec_len l.fn.out + l.i * size (form_in l.value.kind);
   room : vec_len l.fn.out + length l.value.elements * size (form_in l.value.kind) ≤ vec_capacity l.out;
-  memory : l.memory ≡ l.fn.memory;
+  memory : l.memory.refusals ≡ l.fn.memory.refusals;
 }

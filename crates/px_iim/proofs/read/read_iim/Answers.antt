@@ -9,4 +9,4 @@ some_refused (Ok i) x b h = tt
 some_refused (Err e) x b h = (b, h)
 
 pub returns-clause-stands : goal.returns-clause-stands
-returns-clause-stands c = some_refused c.read_iim_in.result c.args.bytes.now c.read_iim_in.new.memory c.read_iim_in.ensures.stands
+returns-clause-stands c = some_refused c.read_iim_in.result c.args.bytes.now c.read_iim_in.new.memory.refusals c.read_iim_in.ensures.stands

@@ -2,7 +2,7 @@ use Rattle.std.proofs.Common.{◌≡◌, ℕ, ◌≤◌, Some, List, length, Res
 use Rattle.px_bytes.specs.declared.Refusal.{Refusal}
 use Rattle.px_bytes.specs.declared.Refusal.TheVariants.{Content, OutOfMemory}
 use Rattle.px_bytes.specs.declared.Cause.TheVariants.{TooLong}
-use Rattle.px_bytes.specs.Checks.{Judges, LacksBlock}
+use Rattle.px_bytes.specs.Checks.{Judges, LacksBlockBy}
 use Rattle.px_bytes.specs.lemmas.CheckLaws.{Judges-good}
 use Rattle.px_bytes.specs.Numbers.{AreBytes}
 use Rattle.px_bytes.specs.Parts.{limit}
@@ -17,7 +17,7 @@ use Rattle.px_iim.proofs.reading.Refusals.{refuses, place}
 use Rattle.px_iim.proofs.read.read_iim_in.Goals as goal
 
 stands : {X : Type 0} (r : Result X Refusal) (x : List ℕ) (good : X → Type 0) (old new : ℕ) → length x ≤ limit
-    → Judges r (iim_checks x) good → LacksBlock r old new → IfErr r (RefusesIim x new)
+    → Judges r (iim_checks x) good → LacksBlockBy r old new → IfErr r (RefusesIim x new)
 stands (Ok i) x good old new l j m = tt
 stands (Err (Content c p)) x good old new l j m = refuses x new c p j (place x c p (first_stands x c p j) l)
 stands (Err OutOfMemory) x good old new l j m = omega (arith, m)
@@ -31,7 +31,8 @@ returns-then-bytes-clause-judged c = rw c.at.ensures (checks_past c.args.bytes.n
 
 pub returns-then-bytes-clause-stands : goal.returns-then-bytes-clause-stands
 returns-then-bytes-clause-stands c =
-    rw c.at.ensures (refuses c.args.bytes.now c.args.memory.now TooLong limit (checks_past c.args.bytes.now c.if-bytes.true) (omega arith))
+    rw c.at.ensures (refuses c.args.bytes.now c.args.memory.now.refusals TooLong limit (checks_past c.args.bytes.now c.if-bytes.true)
+    (omega arith))
 
 pub returns-clause-judged : goal.returns-clause-judged
 returns-clause-judged c =
@@ -42,7 +43,7 @@ returns-clause-judged c =
 pub returns-clause-stands : goal.returns-clause-stands
 returns-clause-stands c =
     let x = c.args.bytes.now in
-    stands c.read_groups.result x (λ i. iim_of x ≡ Some i) c.args.memory.now c.read_groups.new.memory c.if-bytes.false
+    stands c.read_groups.result x (λ i. iim_of x ≡ Some i) c.args.memory.now.refusals c.read_groups.new.memory.refusals c.if-bytes.false
     c.read_groups.ensures.judged c.read_groups.ensures.memory
 
 pub returns-clause-whole : goal.returns-clause-whole

@@ -13,7 +13,7 @@ invariant-loop-record l = record {
   inside : l.at ≤ length l.bytes;
   said : option_map (gather l.record) (datasets (drop l.at l.bytes)) ≡ iim_of l.bytes;
   faults : first_false (checks_left l.at (drop l.at l.bytes)) ≡ first_false (iim_checks l.bytes);
-  memory : l.memory ≡ l.initial.memory;
+  memory : l.memory.refusals ≡ l.initial.memory.refusals;
 }
 
 abbrev pub decreases-loop-record : goal.decreases-loop-record

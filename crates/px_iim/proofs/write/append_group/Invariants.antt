@@ -7,5 +7,5 @@ use Rattle.px_iim.proofs.write.append_group.Given as goal
 abbrev pub invariant-loop-item : goal.invariant-loop-item
 invariant-loop-item l = record {
   grown : l.out.items ≡ l.initial.out.items ++ flat_map (normal_dataset l.rec) (take l.item-index (map item_view l.items));
-  memory : l.memory ≡ l.initial.memory;
+  memory : l.memory.refusals ≡ l.initial.memory.refusals;
 }

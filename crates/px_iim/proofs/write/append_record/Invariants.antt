@@ -9,5 +9,5 @@ abbrev pub invariant-loop-rec : goal.invariant-loop-rec
 invariant-loop-rec l = record {
   whole : AllByRecursion IsGroup l.rec-iterator;
   grown : (parts : List ℕ) × (l.out.items ≡ l.initial.out.items ++ parts) × (parts ++ normal_iim l.rec-iterator ≡ normal_iim l.iim);
-  memory : l.memory ≡ l.initial.memory;
+  memory : l.memory.refusals ≡ l.initial.memory.refusals;
 }

@@ -6,5 +6,5 @@ use Rattle.px_plans.proofs.building.lay_values.Given as goal
 abbrev pub invariant-loop-i : goal.invariant-loop-i
 invariant-loop-i l = record {
   bytes : PutsOver l.initial.block l.block (value_pieces l.layout l.dir (drop l.i l.entries));
-  memory : l.memory ≡ l.initial.memory;
+  memory : l.memory.refusals ≡ l.initial.memory.refusals;
 }

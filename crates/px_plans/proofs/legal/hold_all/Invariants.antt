@@ -9,5 +9,5 @@ abbrev pub invariant-loop-i : goal.invariant-loop-i
 invariant-loop-i l = record {
   left : (taken : List Range) → Agrees taken l.initial.held → (now : List Range) × Agrees now l.held ×
       (all_stand (plan_of l.plan) now (drop l.i l.chunks) ≡ all_stand (plan_of l.plan) taken l.chunks);
-  memory : l.memory ≡ l.initial.memory;
+  memory : l.memory.refusals ≡ l.initial.memory.refusals;
 }

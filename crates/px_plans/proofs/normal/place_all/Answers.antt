@@ -25,8 +25,8 @@ returns-in_err-at-clause-all c =
 pub returns-in_err-at-clause-memory : goal.returns-in_err-at-clause-memory
 returns-in_err-at-clause-memory c =
     let p = err_from_is_err_and c.from_residual.result c.from_residual.ensures.1 in
-    rw (p.1, p.2) (write_lacks ℕ ℕ c.in_err-at.field-0.0 c.args.memory.now c.loop-i.memory c.place_next.new.memory
-    c.loop-i.invariant.memory c.in_err-at.ensures.memory)
+    rw (p.1, p.2) (write_lacks ℕ ℕ c.in_err-at.field-0.0 c.args.memory.now.refusals c.loop-i.memory.refusals
+    c.place_next.new.memory.refusals c.loop-i.invariant.memory c.in_err-at.ensures.memory)
 
 pub loop-i-preserved : goal.loop-i-preserved
 loop-i-preserved c = record {

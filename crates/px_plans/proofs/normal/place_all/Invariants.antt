@@ -7,5 +7,5 @@ use Rattle.px_plans.proofs.normal.place_all.Given as goal
 abbrev pub invariant-loop-i : goal.invariant-loop-i
 invariant-loop-i l = record {
   placed : Placed (plan_of l.plan) l.at (take l.i l.chunks);
-  memory : l.memory ≡ l.initial.memory;
+  memory : l.memory.refusals ≡ l.initial.memory.refusals;
 }

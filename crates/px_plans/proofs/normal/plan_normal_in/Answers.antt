@@ -24,5 +24,5 @@ returns-clause-plan c =
 pub returns-in_err-len-clause-memory : goal.returns-in_err-len-clause-memory
 returns-in_err-len-clause-memory c =
     let p = err_from_is_err_and c.from_residual-in_err-len.result c.from_residual-in_err-len.ensures.1 in
-    rw (p.1, p.2) (write_lacks ℕ held.Plan c.in_err-len.field-0.0 c.args.memory.now c.chunk_sizes.new.memory c.place_all.new.memory
-    c.in_ok-chunks.ensures.memory c.in_err-len.ensures.memory)
+    rw (p.1, p.2) (write_lacks ℕ held.Plan c.in_err-len.field-0.0 c.args.memory.now.refusals
+    c.chunk_sizes.new.memory.refusals c.place_all.new.memory.refusals c.in_ok-chunks.ensures.memory c.in_err-len.ensures.memory)

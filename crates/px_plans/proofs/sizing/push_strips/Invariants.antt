@@ -6,5 +6,5 @@ use Rattle.px_plans.proofs.sizing.push_strips.Given as goal
 abbrev pub invariant-loop-i : goal.invariant-loop-i
 invariant-loop-i l = record {
   chunks : l.out.items ++ strip_chunks l.i (drop l.i l.strips) ≡ l.initial.out.items ++ strip_chunks 0 l.strips;
-  memory : l.memory ≡ l.initial.memory;
+  memory : l.memory.refusals ≡ l.initial.memory.refusals;
 }

@@ -7,5 +7,5 @@ abbrev pub invariant-loop-i : goal.invariant-loop-i
 invariant-loop-i l = record {
   chunks : l.out.items ++ filter_map (placed_chunk l.dir) (drop l.i l.entries) ≡ l.initial.out.items ++ filter_map
       (placed_chunk l.dir) l.entries;
-  memory : l.memory ≡ l.initial.memory;
+  memory : l.memory.refusals ≡ l.initial.memory.refusals;
 }

@@ -9,5 +9,5 @@ abbrev pub invariant-loop-item : goal.invariant-loop-item
 invariant-loop-item l = record {
   list : map caption_view l.list.items ≡ map caption_view l.initial.list.items ++ filter_map labelled
       (take l.item-index (map item_view l.items));
-  memory : l.memory ≡ l.initial.memory;
+  memory : l.memory.refusals ≡ l.initial.memory.refusals;
 }

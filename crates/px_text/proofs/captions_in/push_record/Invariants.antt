@@ -7,5 +7,5 @@ use Rattle.px_text.proofs.captions_in.push_record.Given as goal
 abbrev pub invariant-loop-i : goal.invariant-loop-i
 invariant-loop-i l = record {
   list : map caption_view l.list.items ≡ map caption_view l.initial.list.items ++ flat_map (group_captions l.iim) (take l.i caption_groups);
-  memory : l.memory ≡ l.initial.memory;
+  memory : l.memory.refusals ≡ l.initial.memory.refusals;
 }

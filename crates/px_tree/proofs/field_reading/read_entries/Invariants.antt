@@ -20,5 +20,5 @@ invariant-loop l = record {
       → SoFar l.source.block.now l.source.order l.source.dir taken
       (entries_from l.source.block.now l.source.order l.start l.count) l.start l.held l.at l.before (l.count - l.counter);
   uses : UsesSoFar l.source.block.now l.source.order l.start l.count l.uses l.at l.before (l.count - l.counter);
-  memory : l.memory ≡ l.initial.memory;
+  memory : l.memory.refusals ≡ l.initial.memory.refusals;
 }

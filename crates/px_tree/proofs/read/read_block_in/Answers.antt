@@ -15,8 +15,8 @@ returns-in_err-judge_header-clause-refused c =
     let is = c.bytes-bytes.ensures.value in
     let most : length b ≤ limit = subst (λ (x : List ℕ). length x ≤ limit) (sym is) c.bytes-bytes.ensures.bounded in
     let e = c.in_err-judge_header.field-0.0 in
-    rw (p.1, p.2) (subst (λ (x : List ℕ). IsRefused x c.args.memory.now e) is
-    (refused_only ℕ b e c.args.memory.now most (header_refuses b e c.in_err-judge_header.ensures.judged)
+    rw (p.1, p.2) (subst (λ (x : List ℕ). IsRefused x c.args.memory.now.refusals e) is
+    (refused_only ℕ b e c.args.memory.now.refusals most (header_refuses b e c.in_err-judge_header.ensures.judged)
     c.in_err-judge_header.ensures.content))
 
 pub returns-clause-says : goal.returns-clause-says
@@ -40,6 +40,6 @@ returns-clause-refused c =
     let b = c.bytes-bytes.result.now in
     let is = c.bytes-bytes.ensures.value in
     let most : length b ≤ limit = subst (λ (x : List ℕ). length x ≤ limit) (sym is) c.bytes-bytes.ensures.bounded in
-    subst (λ (x : List ℕ). IfErr c.read_tree.result (IsRefused x c.read_tree.new.memory)) is
+    subst (λ (x : List ℕ). IfErr c.read_tree.result (IsRefused x c.read_tree.new.memory.refusals)) is
     (tree_refused b c.order_in-order.result c.in_ok-judge_header.ensures.judged.0 c.order_in-order.ensures.told meaning_of
     c.read_tree.result _ _ most c.read_tree.ensures.judged c.read_tree.ensures.memory)

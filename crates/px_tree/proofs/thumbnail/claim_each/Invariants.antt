@@ -14,5 +14,5 @@ invariant-loop-i l = record {
   inside : AllByRecursion (IsInside l.lists.block.now)
       (ranges_of (drop l.i (map whole_number l.lists.starts.elements)) (drop l.i (map whole_number l.lists.sizes.elements)))
       → AllByRecursion (IsInside l.lists.block.now) (ranges_in l.lists);
-  memory : l.memory ≡ l.initial.memory;
+  memory : l.memory.refusals ≡ l.initial.memory.refusals;
 }

@@ -45,5 +45,5 @@ returns-in-Err g c =
       asked = says.0;
       told = says.1;
       taken = says.2;
-      memory = lacks_told w c.args.memory.now tells.asked;
+      memory = lacks_told w c.args.memory.now.refusals tells.asked;
     }
