@@ -53,11 +53,6 @@ abbrev pub EndsUnmade : (Fault → Type 0) → Type 0 → ℕ → ℕ → ℕ �
 EndsUnmade lacks one refused refused_now status lines =
     (TellsLacking WriteFailed lacks None status lines ⊎ (one × TellsWords 3 out_is_file status lines)) × (refused_now ≡ refused)
 
--- the normal form of an open file went to OUT; or there is no such OUT
-abbrev pub EndsBeside : Option (List ℕ) → (Fault → Type 0) → Type 0 → ℕ → ℕ → ℕ → Device → Type 0
-EndsBeside bytes lacks one refused refused_now status lines =
-    EndsJob job.Normalise bytes refused refused_now status lines ⊎ EndsUnmade lacks one refused refused_now status lines
-
 -- the normal form of a file went to OUT; or one of them isn't there; or they are one
 abbrev pub EndsForm : (Option (List ℕ) → Type 0) → (Fault → Type 0) → (Fault → Type 0) → Type 0 → ℕ → ℕ → ℕ → Device → Type 0
 EndsForm gives lacks out_lacks one refused refused_now status lines =

@@ -2,7 +2,8 @@
 ghost use Rattle.std.specs.Prelude.{◌≡◌, map};
 ghost use Rattle.px_jobs.specs.declared.Job.TheVariants.{Normalise};
 ghost use Rattle.px_jobs.specs.Lines.{device};
-ghost use Rattle.px_cli.specs.Programs.{job_of, Answers, EndsFile, EndsBeside, EndsFiles, EndsFilter, EndsForm};
+ghost use Rattle.px_cli.specs.Programs.{job_of, Answers, EndsFile, EndsFiles, EndsFilter, EndsForm};
+ghost use Rattle.px_cli.specs.calls.Beside.{EndsBeside};
 ghost use Rattle.px_cli.specs.Programs.{EndsJob, EndsPair, EndsWords};
 ghost use Rattle.px_bytes.specs.Devices.{CanFail};
 
