@@ -1,5 +1,5 @@
 -- Strips that stand one behind another, and the lengths of strips.
-use Rattle.std.proofs.Common.{◌≡◌, ℕ, zero, suc, ◌+◌, ◌-◌, ◌<◌, ◌≤◌, ◌%◌, Some, option_map, List, [], ◌∷◌, ◌++◌, length, map, take}
+use Rattle.std.proofs.Common.{◌≡◌, ℕ, zero, suc, ◌+◌, ◌-◌, ◌<◌, ◌≤◌, ◌%◌, Some, option_map, List, [], ◌∷◌, ◌++◌, length, map, take, drop}
 use Rattle.std.proofs.Common.{sym, ap, ap₂, ◌∙◌, arith, slice_get, get_or, length-append, append_assoc, subst}
 use Rattle.std.specs.List.{flat_map}
 use Rattle.std.proofs.lemmas.List.{length-map, drop-drop, take-append-le}
