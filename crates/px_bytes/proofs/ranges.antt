@@ -1,4 +1,4 @@
--- Ranges and the marks that hold them.
+-- Ranges and their marks.
 pub mod BitLaws
 pub mod MarkLaws
 pub mod RangesApart

@@ -1,4 +1,4 @@
--- What calls of devices do.
+-- The effects of calls of readers and writers.
 use Rattle.std.specs.Prelude.{◌≡◌, ◌<◌, ◌≤◌, ◌+◌, ◌^◌, ℕ, List, Option, Result, Ok, Err, length, take, IfOk}
 use Rattle.std.specs.Io.KnownBytes.{Appends}
 
@@ -6,7 +6,7 @@ use Rattle.std.specs.Io.KnownBytes.{Appends}
 abbrev pub CanFail : ℕ → Type 0
 CanFail failed = failed + 1 < 2 ^ 64
 
--- a call that failed raised the count by one, and no other did
+-- a failed call raised the count by one; any other call left it
 abbrev pub Counts : {A E : Type 0} → Result A E → ℕ → ℕ → Type 0
 Counts (Ok x) old new = new ≡ old
 Counts (Err e) old new = new ≡ old + 1
@@ -15,11 +15,11 @@ Counts (Err e) old new = new ≡ old + 1
 abbrev pub TakesSome : {E : Type 0} → Result ℕ E → List ℕ → Type 0
 TakesSome result buf = IfOk result (λ n. 0 < length buf → 0 < n)
 
--- known bytes grow by a prefix of bs
+-- the known bytes grow by a prefix of bs
 abbrev pub AppendsPrefix : Option (List ℕ) → Option (List ℕ) → List ℕ → Type 0
 AppendsPrefix old new bs = (n : ℕ) × (n ≤ length bs) × Appends old new (take n bs)
 
--- all of the bytes were taken, or a prefix of them where a call failed
+-- all of the bytes were taken, or a prefix of them if a call failed
 abbrev pub Writes : {A E : Type 0} → Result A E → Option (List ℕ) → Option (List ℕ) → List ℕ → Type 0
 Writes (Ok x) old new bytes = Appends old new bytes
 Writes (Err e) old new bytes = AppendsPrefix old new bytes

@@ -3,23 +3,23 @@ use Rattle.std.specs.Prelude.{ℕ, zero, suc, ◌+◌, List, [], ◌∷◌, leng
 use Rattle.px_bytes.specs.declared.numbers.Order.{Order}
 use Rattle.px_bytes.specs.Numbers.{number}
 
--- the longest block, in bytes
+-- the greatest length of a block, in bytes
 abbrev pub limit : ℕ
 limit = 16777216
 
--- the n bytes of b from place x on; fewer where b ends before
+-- the n bytes of b at offset x, or fewer if b ends before
 abbrev pub part : {A : Type 0} → List A → ℕ → ℕ → List A
 part b x n = take n (drop x b)
 
--- the bytes cut into n parts of one size
+-- the bytes, cut into n parts of one size
 abbrev pub pieces : {A : Type 0} → ℕ → ℕ → List A → List (List A)
 pieces zero size b = []
 pieces (suc n) size b = take size b ∷ pieces n size (drop size b)
 
--- the `len` bytes from `at` on, where they lie inside
+-- the `len` bytes at offset `at`, if the block contains them
 abbrev pub part_of : List ℕ → ℕ → ℕ → Option (List ℕ)
 part_of block at len = if nat_le (at + len) (length block) then Some (part block at len) else None
 
--- the number in the `width` bytes from `at` on, where they lie inside
+-- the number in the `width` bytes at offset `at`, if the block contains them
 abbrev pub number_at : Order → ℕ → List ℕ → ℕ → Option ℕ
 number_at order width block at = option_map (number order width) (part_of block at width)

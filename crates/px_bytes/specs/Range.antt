@@ -22,15 +22,15 @@ abbrev pub AllApart : List Range → Type 0
 AllApart [] = ⊤
 AllApart (r ∷ rs) = AllByRecursion (Apart r) rs × AllApart rs
 
--- two ranges that share a byte
+-- whether two ranges share a byte
 abbrev pub shares : Range → Range → Bool
 shares r s = nat_lt 0 r.size && nat_lt 0 s.size && nat_lt r.start (s.start + s.size) && nat_lt s.start (r.start + r.size)
 
--- r shares no byte with those that are held
+-- whether r shares no byte with the ranges of the list
 abbrev pub is_free : List Range → Range → Bool
 is_free held r = list_all (λ s. not (shares r s)) held
 
--- the ranges of the list leave the same places free as those that are held
+-- the list of ranges leaves the same bytes free as the claimed ones
 pub record Agrees (taken : List Range) (held : List (ℕ × ℕ)) : Type 0 where
   pub free : (s n : ℕ) → is_free taken (range s n) ≡ true → IsFree held s (s + n)
   pub all_free : (s n : ℕ) → IsFree held s (s + n) → is_free taken (range s n) ≡ true

@@ -1,4 +1,4 @@
-// A writer that keeps what it takes.
+// A writer into memory.
 ghost use Rattle.std.specs.Prelude.{◌≡◌, ◌<◌, ◌+◌, [], IfOk, IsErr, ◌↔◌};
 ghost use Rattle.px_bytes.specs.Lacking.{Lacks, MayAsk};
 
@@ -6,9 +6,8 @@ use crate::devices::{Device, Failed, Sink};
 use crate::memory::{Memory, Refused};
 use std::marker::Model;
 
-/// A writer that keeps the bytes it takes in a vector, in memory that tells whether a growth was refused:
-/// a call of it fails exactly where its vector was refused room. Contracts see the bytes taken, and how
-/// many of its calls have failed.
+/// A writer that appends to a vector. A call fails exactly if the vector's allocation failed. Contracts see
+/// the bytes written and the number of failed calls.
 #[derive(Drop)]
 pub struct Growing {
     memory: Memory,
@@ -24,12 +23,12 @@ impl Model for Growing {
 
     ghost view = { λ g. record { taken = g.taken.items; refusals = g.refusals } };
 
-    // Its memory has refused a growth for each call that has failed.
+    // One allocation of its memory has failed for each failed call.
     ghost invariant = { λ g. g.memory.refusals ≡ g.refusals };
 }
 
 impl Growing {
-    /// No byte, and no call that failed. It takes no memory.
+    /// An empty writer. It allocates nothing.
     pub fn new(memory: &Memory) -> Growing
         ensures { result ≡ record { taken = []; refusals = 0 } }
     {
@@ -40,7 +39,8 @@ impl Growing {
         }
     }
 
-    /// The same with room for so many bytes, at most sixteen times `LIMIT`: no call fails until they are taken.
+    /// An empty writer with space for `room` bytes, at most sixteen times `LIMIT`. No call fails until the
+    /// space is full. `Err`: the allocation failed.
     pub fn with_room_in(memory: &mut Memory, room: usize) -> Result<Growing, Refused>
         requires { MayAsk room }
         ensures none { IfOk result (λ g. g ≡ record { taken = []; refusals = 0 }) }
@@ -55,7 +55,7 @@ impl Growing {
         })
     }
 
-    /// The bytes that were taken; where a call has failed, that a growth was refused.
+    /// The bytes written, or `Err` if a call has failed.
     pub fn finish_in(self, memory: &mut Memory) -> Result<Vec<u8>, Refused>
         ensures bytes { IfOk result (λ bytes. bytes.items ≡ self.taken) }
         ensures which { IsErr result ↔ (0 < self.refusals) }

@@ -1,16 +1,18 @@
-//! What every part that reads or writes blocks of metadata stands on: numbers in either byte order,
-//! bytes of bounded length, ranges that share no byte, the causes of a refusal, readers and writers
-//! that count their failures, bytes that wait for a writer, and memory that tells whether it has
-//! refused a growth. It knows nothing of directories, types or DataSets, opens no file, and takes
-//! memory by the calls of `Memory` alone.
+//! The common base for reading and writing blocks of metadata: numbers in either byte order, blocks of
+//! bounded length, ranges that share no byte, the causes of a refusal, readers and writers that count their
+//! failures, an output buffer, and `Memory`, which counts failed allocations. This crate knows nothing of
+//! directories, types or DataSets. It opens no file and allocates only through `Memory`.
+//!
+//! Functions over an allocator are for callers of this crate. The program and the C library call only the
+//! `_in` forms.
 //!
 //! ```
 //! let header = b"MM\x00\x2a\x00\x00\x00\x08";
 //! let block = Block::new(header).ok().ok_or("too long")?;
 //! let offset = block.u32_at(Order::Most, 4).ok_or("no offset")?;
 //! let mut held = Ranges::new(rt.alloc());
-//! held.add(0, offset)?; // true: nothing was held
-//! held.add(7, 1)?; // false: the header has this byte
+//! held.add(0, offset)?; // true: the bytes were free
+//! held.add(7, 1)?; // false: the header has claimed this byte
 //! let mut spelled = [0u8; 4];
 //! Order::Least.put32(offset, &mut spelled);
 //! let mut writer = Watched::new(Vec::new(rt.alloc()));

@@ -1,11 +1,11 @@
-// The list of the ranges that are held, which only proofs read.
+// The list of the claimed ranges, which only proofs read.
 ghost use Rattle.std.specs.Prelude.{◌≡◌, ℕ, List, [], ◌∷◌};
 ghost use Rattle.std.specs.Borrow.{ftrue};
 
 use std::marker::Model;
 
-/// Ranges, the start and the end of each, from the last one that was put in on. It takes no memory, and its
-/// calls do nothing when they run.
+/// Ranges, each with its start and end, the last one first. It has no bytes at run time, and its calls do
+/// nothing.
 #[derive(Drop)]
 pub struct Listed {
     pub ghost ranges: { List (ℕ × ℕ) },
@@ -16,7 +16,7 @@ impl Model for Listed {
 }
 
 impl Listed {
-    /// No range.
+    /// The empty list.
     pub fn new() -> Listed
         ensures { result.ranges ≡ [] }
     {

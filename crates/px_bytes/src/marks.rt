@@ -1,4 +1,4 @@
-// Places of a block as bits of words: whether any of a range are marked, and marking them.
+// A bit for each byte of a block: testing and setting the bits of a range.
 ghost use Rattle.std.specs.Prelude.{◌≡◌, ℕ, ◌+◌, ◌*◌, ◌/◌, ◌-◌, ◌^◌, ◌<◌, ◌≤◌, true, false, [], length, get_or, max};
 ghost use Rattle.std.specs.Prelude.{vec_capacity, IfOk, OnOk, OnErr};
 ghost use Rattle.px_bytes.specs.Lacking.{Lacks, MayAsk};
@@ -6,10 +6,10 @@ ghost use Rattle.px_bytes.specs.calls.Marks.{IsClear, HasOne, SameMarks, Puts};
 
 use crate::memory::{Memory, Refused};
 
-// How many places a word has.
+// The bits of a word.
 const WIDTH: usize = 64;
 
-// A word of the bits from `low` up to `high`.
+// A word with the bits from `low` up to `high` set.
 #[inline(always)]
 fn bits(low: usize, high: usize) -> u64
     requires some { low < high }
@@ -29,7 +29,7 @@ fn word_at(words: &[u64], at: usize) -> u64
     }
 }
 
-// Whether no place of the word at `at` is marked, from its place `low` up to `high`.
+// Whether no bit from `low` up to `high` is set in the word at index `at`.
 #[inline(always)]
 fn is_word_clear(words: &[u64], at: usize, low: usize, high: usize) -> bool
     requires some { low < high }
@@ -40,7 +40,7 @@ fn is_word_clear(words: &[u64], at: usize, low: usize, high: usize) -> bool
     word_at(words, at) & bits(low, high) == 0
 }
 
-// Whether no word from `from` up to `to` has a place that is marked.
+// Whether the words from index `from` up to `to` are all 0.
 fn are_words_clear(words: &[u64], from: usize, to: usize) -> bool
     ensures clear { result ≡ true → IsClear words.now (from * 64) (to * 64) }
     ensures marked { result ≡ false → HasOne words.now (from * 64) (to * 64) }
@@ -56,7 +56,7 @@ fn are_words_clear(words: &[u64], from: usize, to: usize) -> bool
     true
 }
 
-/// Whether no place from `start` up to `end` is marked. It looks at each word that has one of these places.
+/// Whether no bit from `start` up to `end` is set. It reads only the words that have one of these bits.
 pub fn are_clear(words: &[u64], start: usize, end: usize) -> bool
     requires { start < end }
     ensures clear { result ≡ true → IsClear words.now start end }
@@ -73,7 +73,7 @@ pub fn are_clear(words: &[u64], start: usize, end: usize) -> bool
         && is_word_clear(words, last, 0, high)
 }
 
-/// No place, with room for each before `end`, a bit for each: no call of `put` up to there takes memory.
+/// No bits set, with space for each before `end`: no call of `put` up to there allocates.
 pub fn with_room(memory: &mut Memory, end: usize) -> Result<Vec<u64>, Refused>
     requires { MayAsk end }
     ensures none { IfOk result (λ words. words.items ≡ []) }
@@ -85,7 +85,7 @@ pub fn with_room(memory: &mut Memory, end: usize) -> Result<Vec<u64>, Refused>
     Ok(words)
 }
 
-// Makes each place before `end` one that can be marked: a bit for each.
+// Makes space for each bit before `end`.
 fn reserve(memory: &mut Memory, words: &mut Vec<u64>, end: usize) -> Result<(), Refused>
     requires { MayAsk end }
     ensures same { SameMarks words.old.items words.new.items }
@@ -101,7 +101,7 @@ fn reserve(memory: &mut Memory, words: &mut Vec<u64>, end: usize) -> Result<(), 
     memory.resize(words, len, 0)
 }
 
-// Marks places of the word at `at`, from its place `low` up to `high`.
+// Sets the bits from `low` up to `high` in the word at index `at`.
 #[inline(always)]
 fn put_in_word(words: &mut [u64], at: usize, low: usize, high: usize)
     requires room { at < length words.old }
@@ -113,7 +113,7 @@ fn put_in_word(words: &mut [u64], at: usize, low: usize, high: usize)
     words[at] |= bits(low, high);
 }
 
-// Marks each place of the words from `from` up to `to`.
+// Sets all bits of the words from index `from` up to `to`.
 fn put_words(words: &mut [u64], from: usize, to: usize)
     requires order { from ≤ to }
     requires room { to ≤ length words.old }
@@ -127,7 +127,7 @@ fn put_words(words: &mut [u64], from: usize, to: usize)
     }
 }
 
-// Marks each place from `start` up to `end`. It writes each word that has one of these places.
+// Sets each bit from `start` up to `end`. It writes only the words that have one of these bits.
 fn put_all(words: &mut [u64], start: usize, end: usize)
     requires some { start < end }
     requires room { end ≤ length words.old * 64 }
@@ -145,7 +145,7 @@ fn put_all(words: &mut [u64], start: usize, end: usize)
     put_in_word(words, last, 0, high);
 }
 
-// As `put`, for places of more than one word, or of a word that is not there yet.
+// Like `put`, for bits in more than one word, or in a word that doesn't exist yet.
 #[inline(never)]
 fn put_far(
     memory: &mut Memory,
@@ -171,8 +171,8 @@ fn put_far(
     Ok(true)
 }
 
-// Marks places of the word at `at`, from its place `low` up to `high`, if none of these is marked. It
-// answers whether none was.
+// Sets the bits from `low` up to `high` in the word at index `at` if none of them is set. Returns whether
+// none was.
 #[inline(always)]
 fn put_near(words: &mut [u64], at: usize, low: usize, high: usize) -> bool
     requires room { at < length words.old }
@@ -190,8 +190,8 @@ fn put_near(words: &mut [u64], at: usize, low: usize, high: usize) -> bool
     true
 }
 
-/// Marks each place from `start` up to `end`, if none of these is marked, and answers whether none was. It
-/// looks at each word that has one of these places: most calls find a single one, which is there.
+/// Sets each bit from `start` up to `end` if none of them is set, and returns whether none was. It reads only
+/// the words that have one of these bits: for most calls this is a single word, which exists.
 #[inline(always)]
 pub fn put(
     memory: &mut Memory,

@@ -1,4 +1,4 @@
-// Bytes on their way to a writer, which gets them in large writes.
+// An output buffer in front of a writer.
 ghost use Rattle.std.specs.Prelude.{◌≡◌, ◌≤◌, ◌+◌, ◌++◌, [], ℕ, length, take, OnOk, IsOk};
 ghost use Rattle.px_bytes.specs.Devices.{CanFail, Counts, Writes};
 ghost use Rattle.px_bytes.specs.Waiting.{Fits, Puts, Waits};
@@ -8,13 +8,13 @@ use crate::devices::{Failed, Sink};
 use crate::whole::write_whole;
 use std::marker::Model;
 
-// How many bytes wait at most.
+// The greatest number of bytes in the buffer.
 const ROOM: usize = 8192;
 
-// How many of them the small space holds.
+// The size of the small buffer, in bytes.
 const LITTLE: usize = 1024;
 
-// The space of bytes that wait. Clearing all of it would cost a short form more than writing it.
+// The buffer's storage. Clearing all of it would cost more than writing a short output.
 #[derive(Drop)]
 enum Space {
     Little([u8; LITTLE]),
@@ -22,7 +22,7 @@ enum Space {
 }
 
 impl Space {
-    // All bytes of the space.
+    // All bytes of the storage.
     fn bytes(&self) -> &[u8]
         ensures { result.now ≡ bytes_in self.now }
     {
@@ -32,7 +32,7 @@ impl Space {
         }
     }
 
-    // The whole space, which begins with these bytes.
+    // The whole storage, with these bytes first.
     #[inline(never)]
     fn whole(bytes: &[u8]) -> Space
         requires { length bytes.now ≤ 8192 }
@@ -44,7 +44,7 @@ impl Space {
         Space::Whole(space)
     }
 
-    // Puts bytes at an offset. Those before it stay.
+    // Writes bytes at an offset. Those before it stay.
     fn put(&mut self, from: usize, bytes: &[u8])
         requires inside { from + length bytes.now ≤ length (bytes_in self.old) }
         requires bound { length (bytes_in self.old) ≤ 8192 }
@@ -59,10 +59,10 @@ impl Space {
     }
 }
 
-/// Bytes that wait for a writer: up to 8,192 in a buffer of its own, so that a writer gets many small parts in few large
-/// writes. Contracts see it as the list of the bytes that wait. It takes no memory but its own place.
+/// An output buffer of up to 8,192 bytes: the writer gets many small parts in a few large writes. Contracts
+/// see it as the list of the buffered bytes. It is on the stack and allocates nothing.
 ///
-/// What waits is lost with it: `send` hands it on.
+/// Dropping it loses the buffered bytes: call `send` first.
 #[derive(Drop)]
 pub struct Pending {
     space: Space,
@@ -81,7 +81,7 @@ impl Model for Pending {
 }
 
 impl Pending {
-    /// Nothing waits.
+    /// An empty buffer.
     pub fn new() -> Pending
         ensures { result ≡ [] }
     {
@@ -91,7 +91,8 @@ impl Pending {
         }
     }
 
-    /// Nothing waits, and `len` bytes are expected in all. A short form clears less space; a wrong number costs time alone.
+    /// An empty buffer for an output of about `len` bytes. A short output clears less storage. A wrong number
+    /// only costs time.
     pub fn expecting(len: u64) -> Pending
         ensures { result ≡ [] }
     {
@@ -104,14 +105,14 @@ impl Pending {
         }
     }
 
-    // How many more can wait.
+    // How many more bytes fit.
     fn room(&self) -> usize
         ensures { result + length self.now ≡ 8192 }
     {
         ROOM - self.held
     }
 
-    // Holds the bytes behind those that wait.
+    // Appends the bytes to the buffered ones.
     fn keep(&mut self, bytes: &[u8])
         requires { Fits self.old bytes.now }
         ensures { self.new ≡ self.old ++ bytes.now }
@@ -125,8 +126,8 @@ impl Pending {
         self.held = end;
     }
 
-    /// Writes those that wait; where none does, it calls nothing. It ends at the first call that fails: the writer has then
-    /// taken a prefix of them, and nothing is promised of what waits.
+    /// Writes the buffered bytes. Without any it calls nothing. It ends at the first call that fails: the
+    /// writer has then taken a prefix of them, and the buffer's content is unspecified.
     pub fn send<W: Sink>(&mut self, writer: &mut W) -> Result<(), Failed>
         requires { CanFail (W.failed writer.old) }
         ensures bytes { Writes result (W.bytes_taken writer.old) (W.bytes_taken writer.new) self.old }
@@ -139,10 +140,10 @@ impl Pending {
         Ok(())
     }
 
-    /// Puts the bytes behind those that wait: where these are 8,192 bytes together, or fewer, all of them wait, and the writer
-    /// isn't called. Where there is no room for them, those that wait are written first, and more than can wait are written
-    /// at once. It ends at the first call that fails: the writer has then taken a prefix of those that waited and of these
-    /// behind them.
+    /// Appends the bytes. If the buffered bytes and these are at most 8,192, it buffers them and doesn't call
+    /// the writer. Otherwise it writes the buffered bytes first, and writes parts longer than the buffer
+    /// directly. It ends at the first call that fails: the writer has then taken a prefix of the buffered
+    /// bytes followed by these.
     pub fn put<W: Sink>(&mut self, writer: &mut W, bytes: &[u8]) -> Result<(), Failed>
         requires { CanFail (W.failed writer.old) }
         ensures bytes { Puts result (W.bytes_taken writer.old) (W.bytes_taken writer.new) self.old self.new bytes.now }

@@ -1,4 +1,4 @@
--- Bits of a word: those from one place up to another, and that a word that is not 0 has one.
+-- Bits of a word from one index up to another, and a bit that is set in a word that isn't 0.
 use Rattle.std.proofs.Common.{◌≡◌, ◌⊎◌, ℕ, zero, suc, ◌+◌, ◌-◌, ◌*◌, ◌/◌, ◌%◌, ◌^◌, ◌<◌, ◌≤◌, ap, ◌∙◌, arith, bit_and, bit_or, inl, inr}
 use Rattle.std.proofs.Common.{pow_pos, pow_mono}
 use Rattle.std.specs.Int.{bit_at}
@@ -37,7 +37,7 @@ mask_only low high k h = (
   elim (cases_lt k high) [ inl l ↦ l | inr l ↦ absurd (omega (arith, h, bit_at_mask_above low high k l)) ],
 )
 
--- a number that is not 0 has a bit
+-- a number that isn't 0 has a bit that is set
 some_bit_of : (m fuel : ℕ) → m ≤ fuel → 0 < m → (k : ℕ) × (bit_at m k ≡ 1)
 some_bit_of m zero l some = absurd (omega arith)
 some_bit_of m (suc fuel) l some = elim (cases_eq (m % 2) 1) [

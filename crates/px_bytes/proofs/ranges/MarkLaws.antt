@@ -1,4 +1,4 @@
--- Places as bits of words: what a word tells of its places, and what is put in.
+-- Marks as bits of words: testing and setting those of one word.
 use Rattle.std.proofs.Common.{◌≡◌, ◌≢◌, ◌⊎◌, inl, inr, ℕ, ◌+◌, ◌-◌, ◌*◌, ◌/◌, ◌%◌, ◌^◌, ◌<◌, ◌≤◌, List, length, get_or, set}
 use Rattle.std.proofs.Common.{sym, ap, ◌∙◌, arith, bit_and}
 use Rattle.std.specs.Int.{bit_at}
@@ -9,7 +9,7 @@ use Rattle.std.proofs.lemmas.List.{get_or-set_same, get_or-set_other}
 use Rattle.px_bytes.specs.calls.Marks.{Has, IsClear, HasOne, SameMarks, Puts}
 use Rattle.px_bytes.proofs.ranges.BitLaws.{mask_only, some_bit, both_bits}
 
--- a place is its word's and its bit's
+-- a mark's word and bit
 pub split : (n : ℕ) → (n / 64 * 64 + n % 64 ≡ n) × (n % 64 < 64)
 split n = (div-add-mod' n 64, mod_below n 64 (omega arith))
 
@@ -19,15 +19,15 @@ has_at words i k l h =
     let q : (i * 64 + k) % 64 ≡ k = mod-mul-add i 64 k l in
     ap (λ (x : ℕ). bit_at (get_or words x 0) ((i * 64 + k) % 64)) p ∙ ap (λ (x : ℕ). bit_at (get_or words i 0) x) q ∙ h
 
--- a marked place in a word that is known
+-- a mark in a word that is known
 bit_here : (words : List ℕ) (i n : ℕ) → n / 64 ≡ i → Has words n → bit_at (get_or words i 0) (n % 64) ≡ 1
 bit_here words i n e h = ap (λ (x : ℕ). bit_at (get_or words x 0) (n % 64)) (sym e) ∙ h
 
--- a place between two of a word is in that word
+-- an index between two of a word is in that word
 in_word : (i low high n : ℕ) → high ≤ 64 → i * 64 + low ≤ n → n < i * 64 + high → (n / 64 ≡ i) × (low ≤ n % 64) × (n % 64 < high)
 in_word i low high n bound from before = let s = split n in let a = s.0 in let b = s.1 in (omega arith, omega arith, omega arith)
 
--- ---- whether places of a word are marked
+-- ---- whether marks of a word are set
 
 pub clear_word : (words : List ℕ) (i low high : ℕ) → high ≤ 64 → bit_and (get_or words i 0) (2 ^ high - 2 ^ low) ≡ 0
     → IsClear words (i * 64 + low) (i * 64 + high)
@@ -47,9 +47,9 @@ marked_word words i low high bound some =
     let inside = mask_only low high bit.0 both.1 in
     (i * 64 + bit.0, omega (arith, inside.0), omega (arith, inside.1), has_at words i bit.0 (omega (arith, inside.1)) both.0)
 
--- ---- places more
+-- ---- more marks
 
--- a word that has its bits from `low` up to `high` and those that it had
+-- a word with its bits from `low` up to `high` set and those that it had
 pub put_word : (words : List ℕ) (i low high word : ℕ) → i < length words → high ≤ 64
     → ((k : ℕ) → low ≤ k → k < high → bit_at word k ≡ 1)
     → ((k : ℕ) → k < 64 → bit_at (get_or words i 0) k ≡ 1 → bit_at word k ≡ 1)
@@ -106,7 +106,7 @@ put_both one two three start mid low high end l meets m ends a b = record {
   ];
 }
 
--- more room marks nothing
+-- more words have no marks
 has_same : (old new : List ℕ) (n : ℕ) → SameMarks old new → Has old n → Has new n
 has_same old new n s h = ap (λ (x : ℕ). bit_at x (n % 64)) (s (n / 64)) ∙ h
 

@@ -1,4 +1,4 @@
--- Ranges that share no byte, and the marks of their places.
+-- Ranges that share no byte, and the marks of their bytes.
 use Rattle.std.proofs.Common.{◌≡◌, ◌≤◌, ◌<◌, ◌+◌, ℕ, Bool, true, false, cond, List, ◌∷◌}
 use Rattle.std.proofs.Common.{min, max, Some, ◌⊎◌, inl, inr, refl, sym, ap, subst, ◌∙◌, arith}
 use Rattle.std.proofs.lemmas.Bool.{cases_lt, false_from_ne_true}
@@ -31,7 +31,7 @@ taken_marked held words start end m one =
     let d = one.2 in
     (owner.0, owner.1, owner.2, omega arith)
 
--- and a list that agrees says so
+-- and so does a list that agrees
 pub not_free : (taken : List Range) (held : List (ℕ × ℕ)) (words : List ℕ) (start size : ℕ) → Agrees taken held → Marked held words
     → HasOne words start (start + size) → is_free taken (range start size) ≡ false
 not_free taken held words start size agrees m one = false_from_ne_true (is_free taken (range start size)) (λ e.
@@ -54,7 +54,7 @@ is_eq-same s q h = elim (cases_lt s q) [
 is_eq-refl : (s : ℕ) → is_eq (nat_cmp s s) ≡ true
 is_eq-refl s = sym (ap is_eq (nat_cmp_is s s Equal refl))
 
--- in front of the others
+-- before the others
 takes_front : (held new : List (ℕ × ℕ)) (start end : ℕ) → AreApart held → IsFree held start end → start < end
     → new ≡ (start, end) ∷ held → Takes held new start end
 takes_front held new start end ok free some same = subst (λ (xs : List (ℕ × ℕ)). Takes held xs start end) (sym same) (record {
@@ -72,7 +72,7 @@ takes_front held new start end ok free some same = subst (λ (xs : List (ℕ × 
     which s e true at h = inl (sym (is_eq-same s start at), cc)
     which s e false at h = inr h
 
--- what held ranges and one that is free are
+-- claimed ranges and one more that is free
 apart_with : (old new : List (ℕ × ℕ)) (start end : ℕ) → AreApart old → IsFree old start end → start < end → Takes old new start end
     → AreApart new
 apart_with old new start end ok free some takes = record {
@@ -116,7 +116,7 @@ marked_with old new start end words put m takes puts = record {
   ];
 }
 
--- what stands behind a call that has put the places of a range, and the range in front of the list
+-- the state after a call that has marked the bytes of a range and listed the range
 pub record More (old new : List (ℕ × ℕ)) (start end : ℕ) (put : List ℕ) : Type 0 where
   pub free : IsFree old start end
   pub takes : Takes old new start end

@@ -1,4 +1,4 @@
--- What a writer that keeps its bytes has taken, and how often it was refused room.
+-- The bytes of a writer into memory, and the number of its failed allocations.
 use Rattle.std.specs.Prelude.{ℕ, List}
 
 pub record Grown : Type 0 where

@@ -1,4 +1,4 @@
--- A device that is watched, and how often it failed.
+-- A device and the number of its failures.
 use Rattle.std.specs.Prelude.{ℕ}
 use Rattle.px_bytes.specs.declared.devices.Watched.{Watched}
 
@@ -6,6 +6,6 @@ use Rattle.px_bytes.specs.declared.devices.Watched.{Watched}
 abbrev pub inner_of : {T : Type 0} → Watched T → T
 inner_of w = w.inner
 
--- how many calls of it have failed so far
+-- the number of calls that have failed so far
 abbrev pub failures_of : {T : Type 0} → Watched T → ℕ
 failures_of w = w.failures

@@ -1,4 +1,4 @@
--- Ranges that share no byte: the test, and how much they take.
+-- Ranges that share no byte: the test, and their total length.
 use Rattle.std.proofs.Common.{◌≡◌, ℕ, zero, suc, ◌+◌, ◌-◌, ◌<◌, ◌≤◌, inl, inr, max, min, Bool, true, false, not, ◌&&◌, nat_lt, List, []}
 use Rattle.std.proofs.Common.{◌∷◌, ◌++◌, refl, sym, ap, ◌∙◌, subst, arith, ltb-true, lt-ltb}
 use Rattle.std.specs.List.{AllByRecursion}
@@ -8,17 +8,17 @@ use Rattle.px_bytes.specs.calls.Freed.{SameFree}
 
 -- ---- the test
 
--- ranges that share a byte do so by the test
+-- the test finds ranges that share a byte
 pub shares-true : (r s : Range) (p : ℕ) → IsIn p r → IsIn p s → shares r s ≡ true
 shares-true r s p i j =
     and_from _ _ (and_from _ _ (and_from _ _ (lt-ltb 0 r.size (omega arith)) (lt-ltb 0 s.size (omega arith)))
     (lt-ltb r.start (s.start + s.size) (omega arith))) (lt-ltb s.start (r.start + r.size) (omega arith))
 
--- ranges that share none by the test have none
+-- ranges that pass the test share no byte
 pub apart_from_test : (r s : Range) → not (shares r s) ≡ true → Apart r s
 apart_from_test r s e p i j = both_ways (shares r s) (not-true (shares r s) e) (shares-true r s p i j)
 
--- and those that share one by the test have one in both
+-- ranges that fail the test share a byte
 pub byte_from_test : (r s : Range) → shares r s ≡ true → (p : ℕ) × IsIn p r × IsIn p s
 byte_from_test r s h =
     let a = and_parts (nat_lt 0 r.size && nat_lt 0 s.size && nat_lt r.start (s.start + s.size)) (nat_lt s.start (r.start + r.size)) h in
@@ -35,7 +35,7 @@ pub apart_each : (r : Range) (rs : List Range) → is_free rs r ≡ true → All
 apart_each r [] e = tt
 apart_each r (s ∷ rs) e = (apart_from_test r s (and_parts _ _ e).0, apart_each r rs (and_parts _ _ e).1)
 
--- and back: ranges that share a byte by the test have one
+-- the converse: ranges that share no byte pass the test
 pub test_from_apart : (r s : Range) → Apart r s → not (shares r s) ≡ true
 test_from_apart r s a = not_from_false (shares r s) (false_from_ne_true (shares r s) (λ e.
     let h = and_parts (nat_lt 0 r.size && nat_lt 0 s.size && nat_lt r.start (s.start + s.size)) (nat_lt s.start (r.start + r.size)) e in
@@ -50,9 +50,9 @@ test_from_apart r s a = not_from_false (shares r s) (false_from_ne_true (shares 
       | inr l ↦ a r.start (omega arith, omega arith) (omega arith, omega arith)
     ]))
 
--- ---- what lists leave free
+-- ---- bytes that lists leave free
 
--- what is free of both of two lists
+-- a range is free of two lists if it is free of both
 pub is_free-append : (xs ys : List Range) (r : Range) → is_free (xs ++ ys) r ≡ (is_free xs r && is_free ys r)
 is_free-append [] ys r = refl
 is_free-append (x ∷ xs) ys r =
@@ -62,7 +62,7 @@ is_free-append (x ∷ xs) ys r =
     regroup true q t = refl
     regroup false q t = refl
 
--- one range between two lists, and in front of them
+-- one range between two lists, and before them
 pub same_front : (x : Range) (xs ys : List Range) → SameFree (xs ++ (x ∷ ys)) (x ∷ (xs ++ ys))
 same_front x xs ys s n =
     is_free-append xs (x ∷ ys) (range s n) ∙ swap (is_free xs (range s n)) (not (shares (range s n) x)) (is_free ys (range s n))
@@ -80,13 +80,13 @@ same_refl xs s n = refl
 pub same_trans : (xs ys zs : List Range) → SameFree xs ys → SameFree ys zs → SameFree xs zs
 same_trans xs ys zs h k s n = h s n ∙ k s n
 
--- ---- how much disjoint ranges take: at most one byte for each place
+-- ---- the total length of disjoint ranges: at most one byte for each offset
 
 abbrev pub total : List Range → ℕ
 total [] = 0
 total (r ∷ rs) = r.size + total rs
 
--- the places of a range below n
+-- the number of a range's bytes below n
 abbrev below : ℕ → Range → ℕ
 below n r = min n (r.start + r.size) - min n r.start
 
@@ -136,6 +136,6 @@ inside_below : (n : ℕ) (rs : List Range) → AllByRecursion (λ r. r.start + r
 inside_below n [] h = refl
 inside_below n (r ∷ rs) h = let e = inside_below n rs h.1 in let f = h.0 in omega arith
 
--- Disjoint ranges within n places have at most n places together.
+-- Disjoint ranges below n have at most n bytes together.
 pub total_le : (n : ℕ) (rs : List Range) → AllApart rs → AllByRecursion (λ r. r.start + r.size ≤ n) rs → total rs ≤ n
 total_le n rs a i = subst (λ x. x ≤ n) (sym (inside_below n rs i)) (at_most n rs a)

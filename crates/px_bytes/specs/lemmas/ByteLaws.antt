@@ -1,4 +1,4 @@
--- Lists of bytes, and spellings as such.
+-- Lists of bytes, and encodings as such lists.
 use Rattle.std.proofs.Common.{◌<◌, ◌^◌, ◌/◌, ℕ, zero, suc, List, [], ◌∷◌, ◌++◌, arith}
 use Rattle.std.proofs.Math.Nat.{mod-lt}
 use Rattle.std.specs.Int.{byte_at, bytes_high_first, bytes_low_first}
@@ -42,7 +42,7 @@ low_bytes zero j n i = omega arith
 low_bytes (suc width) j n zero = byte_at-lt j n
 low_bytes (suc width) j n (suc i) = low_bytes width (suc j) n i
 
--- a spelling is made of bytes
+-- an encoding is made of bytes
 pub bytes_spelling : (order : Order) (width n : ℕ) → AreBytes (spelling order width n)
 bytes_spelling Least width n = low_bytes width 0 n
 bytes_spelling Most width n = high_bytes width n

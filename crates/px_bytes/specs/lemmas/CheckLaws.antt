@@ -1,11 +1,11 @@
--- The first false check of some checks and more.
+-- The first check that fails, in two lists of checks.
 use Rattle.std.proofs.Common.{Option, ◌≡◌, ◌++◌, ℕ, true, false, if◌then◌else◌, List, [], ◌∷◌, Some, None, Result, Ok, Err, refl, sym, ◌∙◌}
 use Rattle.px_bytes.specs.declared.causes.Cause.{Cause}
 use Rattle.px_bytes.specs.declared.causes.Refusal.{Refusal}
 use Rattle.px_bytes.specs.declared.causes.Refusal.TheVariants.{Content, OutOfMemory}
 use Rattle.px_bytes.specs.Checks.{Check, first_false, Refuses, Judges}
 
--- behind true checks the first false one is that of the others
+-- after checks that pass, the first that fails is that of the others
 pub first_false-true : (xs ys : List Check) → first_false xs ≡ None → first_false (xs ++ ys) ≡ first_false ys
 first_false-true [] ys h = refl
 first_false-true (c ∷ xs) ys h =
@@ -15,7 +15,7 @@ first_false-true (c ∷ xs) ys h =
       | false ↦ λ e. absurd (cc)
     ]) h
 
--- a false check stays the first, whatever follows
+-- the first check that fails is the same whatever follows
 pub first_false-false : (xs ys : List Check) (f : Cause × ℕ) → first_false xs ≡ Some f → first_false (xs ++ ys) ≡ Some f
 first_false-false [] ys f h = let clash : None ≡ Some f = h in absurd (cc)
 first_false-false (c ∷ xs) ys f h =
@@ -25,31 +25,31 @@ first_false-false (c ∷ xs) ys f h =
       | false ↦ λ e. e
     ]) h
 
--- true checks before true checks
+-- two lists of checks that pass
 pub all_true : (xs ys : List Check) → first_false xs ≡ None → first_false ys ≡ None → first_false (xs ++ ys) ≡ None
 all_true xs ys h k = first_false-true xs ys h ∙ k
 
--- a refusal by some checks is one by more
+-- a refusal by some checks is one by these and more
 pub Refuses-more : (e : Refusal) (xs ys : List Check) → Refuses e xs → Refuses e (xs ++ ys)
 Refuses-more (Content cause place) xs ys h = first_false-false xs ys (cause, place) h
 Refuses-more OutOfMemory xs ys h = tt
 
--- and one by checks with the same first false one
+-- a refusal by some checks is one by checks with the same first failure
 pub Refuses-same : (e : Refusal) (xs ys : List Check) → first_false xs ≡ first_false ys → Refuses e xs → Refuses e ys
 Refuses-same (Content cause place) xs ys same h = sym same ∙ h
 Refuses-same OutOfMemory xs ys same h = tt
 
--- behind true checks too
+-- a refusal by some checks is one by these after checks that pass
 pub Refuses-behind : (e : Refusal) (xs ys : List Check) → first_false xs ≡ None → Refuses e ys → Refuses e (xs ++ ys)
 Refuses-behind e xs ys h r = Refuses-same e ys (xs ++ ys) (sym (first_false-true xs ys h)) r
 
--- a refusal where all checks are true is for want of memory
+-- if all checks pass, a refusal means out of memory
 pub Refuses-none : (e : Refusal) (xs ys : List Check) → first_false xs ≡ None → Refuses e xs → Refuses e ys
 Refuses-none (Content cause place) xs ys h r =
     let clash : ◌≡◌ {A = Option (Cause × ℕ)} None (Some (cause, place)) = sym h ∙ r in absurd (cc)
 Refuses-none OutOfMemory xs ys h r = tt
 
--- what holds of one answer holds of the other
+-- a property of one result is one of the other
 pub Judges-good : {X : Type 0} (r : Result X Refusal) (xs : List Check) (good fine : X → Type 0) → ((x : X) → good x → fine x)
     → Judges r xs good → Judges r xs fine
 Judges-good (Ok x) xs good fine f j = (j.0, f x j.1)

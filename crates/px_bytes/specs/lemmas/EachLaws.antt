@@ -1,4 +1,4 @@
--- What holds of each element of a list, by recursion on it.
+-- Properties of each element of a list, by recursion on it.
 use Rattle.std.proofs.Common.{◌≡◌, ℕ, zero, suc, List, [], ◌∷◌, ◌++◌, map, slice_get, Some, refl, ap, ap₂, subst}
 use Rattle.std.specs.List.{AllByRecursion}
 
@@ -28,7 +28,7 @@ module _ {X : Type 0} (P : X → Type 0) where
   each_append [] ys h k = k
   each_append (x ∷ xs) ys h k = (h.0, each_append xs ys h.1 k)
 
-  -- what holds of each holds of the one at a place
+  -- a property of each element is one of the element at an index
   pub all_at : (xs : List X) (i : ℕ) (x : X) → AllByRecursion P xs → slice_get xs i ≡ Some x → P x
   all_at [] i x h e = cc
   all_at (y ∷ xs) zero x h e = let same : y ≡ x = cc in subst P same h.0

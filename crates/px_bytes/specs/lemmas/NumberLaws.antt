@@ -1,4 +1,4 @@
--- The laws of spelling and reading.
+-- The laws of encoding and decoding numbers.
 use Rattle.std.proofs.Common.{◌≡◌, ◌<◌, ◌≤◌, ◌+◌, ◌*◌, ◌^◌, ◌/◌, ◌%◌, ℕ, zero, suc, List, [], ◌∷◌, length, take, refl, sym, ap, ◌∙◌}
 use Rattle.std.proofs.Common.{append-nil, arith}
 use Rattle.std.proofs.lemmas.Nat.{div-mul-add, mod-mul-add}
@@ -11,19 +11,19 @@ use Rattle.px_bytes.specs.declared.numbers.Order.TheVariants.{Least, Most}
 use Rattle.px_bytes.specs.Numbers.{number, spelling, AreBytes}
 use Rattle.px_bytes.specs.lemmas.ByteLaws.{bytes_spelling}
 
--- what was spelled reads back
+-- decoding an encoded number returns it
 pub number-spelling : (order : Order) (width n : ℕ) → n < 256 ^ width → number order width (spelling order width n) ≡ n
 number-spelling Least width n fits =
     ap (little_from 0 width) (sym (append-nil (bytes_low_first 0 width n))) ∙ little_number-reads_back width n [] fits
 number-spelling Most width n fits =
     ap (big_from 0 width) (sym (append-nil (bytes_high_first width n))) ∙ big_number-reads_back width n [] fits
 
--- a spelling has its fixed length
+-- an encoding has its fixed length
 pub length-spelling : (order : Order) (width n : ℕ) → length (spelling order width n) ≡ width
 length-spelling Least width n = length-bytes_low_first 0 width n
 length-spelling Most width n = length-bytes_high_first width n
 
--- bytes of one length and one number are the same
+-- byte lists of one length with the same number are equal
 one_most : (n : ℕ) (xs ys : List ℕ) → length xs ≡ n → length ys ≡ n → AreBytes xs → AreBytes ys → big_from 0 n xs ≡ big_from 0 n ys
     → xs ≡ ys
 one_most zero [] [] hx hy bx by_ e = refl
@@ -59,18 +59,18 @@ one_least (suc n) (x ∷ xs) (y ∷ ys) hx hy bx by_ e =
     let tail : xs ≡ ys = one_least n xs ys (omega arith) (omega arith) (λ i. bx (suc i)) (λ i. by_ (suc i)) rest in
     cc
 
--- bytes of one length and one number are the same
+-- byte lists of one length with the same number are equal
 pub one_spelling : (order : Order) (n : ℕ) (xs ys : List ℕ) → length xs ≡ n → length ys ≡ n → AreBytes xs → AreBytes ys
     → number order n xs ≡ number order n ys → xs ≡ ys
 one_spelling Least n xs ys hx hy bx by_ e = one_least n xs ys hx hy bx by_ e
 one_spelling Most n xs ys hx hy bx by_ e = one_most n xs ys hx hy bx by_ e
 
--- a number of so many bytes fits them
+-- a number of n bytes is less than 256 ^ n
 pub number-lt : (order : Order) (n : ℕ) (bytes : List ℕ) → AreBytes bytes → number order n bytes < 256 ^ n
 number-lt Least n bytes h = little_from-lt 0 n bytes h
 number-lt Most n bytes h = big_from-lt 0 n bytes h
 
--- what is read is that number's spelling
+-- encoding a decoded number returns its bytes
 pub spelling-number : (order : Order) (width : ℕ) (bytes : List ℕ) → length bytes ≡ width → AreBytes bytes
     → spelling order width (number order width bytes) ≡ bytes
 spelling-number order width bytes len h =
@@ -78,7 +78,7 @@ spelling-number order width bytes len h =
     (bytes_spelling order width _) h
     (number-spelling order width _ (number-lt order width bytes h))
 
--- a number reads no byte past its width
+-- a number depends on no byte after its width
 pub number-take : (order : Order) (n m : ℕ) (bytes : List ℕ) → n ≤ m → number order n (take m bytes) ≡ number order n bytes
 number-take Least n m bytes h = little_from-take 0 n m bytes (omega arith)
 number-take Most n m bytes h = big_from-take 0 n m bytes (omega arith)

@@ -3,11 +3,11 @@ use Rattle.std.proofs.Common.{◌≡◌, ◌≤◌, ◌+◌, ◌-◌, ℕ, List,
 use Rattle.std.proofs.lemmas.List.{length-take-le, length-drop, take-take, drop-take, drop-drop}
 use Rattle.px_bytes.specs.Parts.{part}
 
--- a part that lies inside has its length
+-- a part that the block contains has its length
 pub length-part : (b : List ℕ) (x n : ℕ) → x + n ≤ length b → length (part b x n) ≡ n
 length-part b x n h = length-take-le n (drop x b) (let e = length-drop x b in omega arith)
 
--- what is behind the first bytes of a part
+-- a part without its first bytes
 pub drop-part : (b : List ℕ) (x n y : ℕ) → y ≤ n → drop y (part b x n) ≡ part b (x + y) (n - y)
 drop-part b x n y h =
     let e : n ≡ y + (n - y) = omega arith in

@@ -1,4 +1,4 @@
--- A list of ranges and the ranges that are held.
+-- A list of ranges and the claimed ranges.
 use Rattle.std.proofs.Common.{subst, [], refl, None, Some, ◌≡◌, ℕ, ◌+◌, ◌≤◌, ◌<◌, inl, inr, min, max, true, not, ◌&&◌, nat_lt, List, ◌∷◌}
 use Rattle.std.proofs.Common.{sym, ◌∙◌, arith, ltb-true, lt-ltb}
 use Rattle.std.proofs.lemmas.Bool.{and_parts, and_from, not-true, not_from_false, both_ways, cases_lt, false_from_ne_true}
@@ -6,7 +6,7 @@ use Rattle.px_bytes.specs.Held.{Holds, IsFree, Takes}
 use Rattle.px_bytes.specs.Range.{Range, range, shares, is_free, Agrees}
 use Rattle.px_bytes.specs.calls.Freed.{SameFree}
 
--- ranges that do not share a byte, as one fact on numbers
+-- ranges that share no byte, as one inequality
 gap_from_test : (s n t m : ℕ) → not (shares (range s n) (range t m)) ≡ true → min (s + n) (t + m) ≤ max s t
 gap_from_test s n t m h =
     elim (cases_lt (max s t) (min (s + n) (t + m))) [
@@ -27,7 +27,7 @@ test_from_gap s n t m l = not_from_false _ (false_from_ne_true (shares (range s 
     let n4 : t < s + n = ltb-true _ _ h.1 in
     omega arith))
 
--- what is free or taken is so in the list
+-- a range is free of the list exactly if no claimed range has a byte of it
 pub is_free-free : (taken : List Range) (held : List (ℕ × ℕ)) (s n : ℕ) → Agrees taken held → IsFree held s (s + n)
     → is_free taken (range s n) ≡ true
 is_free-free taken held s n a h = a.all_free s n h
@@ -46,14 +46,14 @@ agrees-takes taken old new s n a k = record {
       (a.all_free t m (λ u e holds. h u e (k.kept u e holds)));
 }
 
--- lists that leave the same free agree with the same
+-- lists that leave the same bytes free agree with the same claimed ranges
 pub agrees-same : (xs ys : List Range) (held : List (ℕ × ℕ)) → SameFree xs ys → Agrees xs held → Agrees ys held
 agrees-same xs ys held e a = record {
   free = λ s n h. a.free s n (e s n ∙ h);
   all_free = λ s n h. sym (e s n) ∙ a.all_free s n h;
 }
 
--- none is held
+-- nothing is claimed
 pub agrees-none : (held : List (ℕ × ℕ)) → held ≡ [] → Agrees [] held
 agrees-none held z = record {
   free = λ s n h t e holds. let clash : None ≡ Some e = subst (λ (xs : List (ℕ × ℕ)). Holds xs t e) z holds in absurd (cc);

@@ -1,7 +1,7 @@
--- Lists that are the same place by place.
+-- Lists that are the same at each index.
 use Rattle.std.proofs.Common.{◌≡◌, ◌<◌, ℕ, suc, List, [], ◌∷◌, length, slice_get, Some, arith, refl}
 
--- lists of one length with the same elements are one
+-- lists of one length with the same elements are equal
 pub same_by_get : {X : Type 0} (xs ys : List X) → length xs ≡ length ys → ((k : ℕ) → k < length xs → slice_get xs k ≡ slice_get ys k)
     → xs ≡ ys
 same_by_get [] [] len h = refl

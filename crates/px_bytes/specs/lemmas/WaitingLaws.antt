@@ -1,4 +1,4 @@
--- Parts put one behind another, while the bytes of some wait.
+-- Parts added to an output buffer, one after another.
 use Rattle.std.proofs.Common.{◌≡◌, ℕ, ◌+◌, ◌<◌, ◌++◌, List, [], ◌∷◌, length, take, drop, get_or, slice_get, Option, Some, Result, Ok, Err}
 use Rattle.std.proofs.Common.{refl, sym, ap, ◌∙◌, subst, arith, append_assoc, append-nil, length-append}
 use Rattle.std.proofs.KnownBytes.{Appends-nil}
@@ -11,7 +11,7 @@ use Rattle.px_bytes.specs.Devices.{AppendsPrefix, Writes}
 use Rattle.px_bytes.specs.lemmas.WriteLaws.{appends_both, prefix_first, prefix_second}
 use Rattle.px_bytes.specs.Waiting.{Owes, Puts, Fits, Waits, PutsTo}
 
--- one more part, behind what is owed
+-- one more part
 pub owes_more : (a b c : Option (List ℕ)) (h k out bytes : List ℕ) → Owes a b h out → Owes b c k (h ++ bytes) → Owes a c k (out ++ bytes)
 owes_more a b c h k out bytes p q = (
   p.0 ++ q.0,
@@ -35,7 +35,7 @@ puts_both (Err e) a b c h k m xs ys p q = subst (AppendsPrefix a c) (append_asso
 pub puts_first : (a b : Option (List ℕ)) (h xs ys : List ℕ) → AppendsPrefix a b (h ++ xs) → AppendsPrefix a b (h ++ (xs ++ ys))
 puts_first a b h xs ys p = subst (AppendsPrefix a b) (append_assoc h xs ys) (prefix_first a b (h ++ xs) ys p)
 
--- bytes that were written at once, behind what waited
+-- bytes written directly, after the buffered ones
 pub puts_written : {A E : Type 0} (r : Result A E) (a b c : Option (List ℕ)) (h k bytes : List ℕ) → k ≡ [] → Appends a b h
     → Writes r b c bytes → Puts r a c h k bytes
 puts_written (Ok x) a b c h k bytes e p q =
@@ -44,15 +44,15 @@ puts_written (Err x) a b c h k bytes e p q = prefix_second a b c h bytes p q
 
 -- ---- from the first part to the last
 
--- nothing waited at first
+-- the buffer was empty at first
 pub from_none : (P : List ℕ → Type 0) (h out : List ℕ) → h ≡ [] → P (h ++ out) → P out
 from_none P h out e p = subst (λ (l : List ℕ). P (l ++ out)) e p
 
--- a prefix of what waits was written at last
+-- a prefix of the buffered bytes was written last
 pub owed_prefix : (a b c : Option (List ℕ)) (h out : List ℕ) → Owes a b h out → AppendsPrefix b c h → AppendsPrefix a c out
 owed_prefix a b c h out p q = subst (AppendsPrefix a c) p.2 (prefix_second a b c p.0 h p.1 q)
 
--- all that waits was written at last
+-- all buffered bytes were written last
 pub owed_all : (a b c : Option (List ℕ)) (h out : List ℕ) → Owes a b h out → Appends b c h → Appends a c out
 owed_all a b c h out p q = subst (Appends a c) p.2 (appends_both a b c p.0 h p.1 q)
 
@@ -76,7 +76,7 @@ module _ {X : Type 0} (f : X → List ℕ) (xs : List X) (i : ℕ) (x : X) (read
       ∙ ap (λ (ys : List X). flat_map f (take i xs) ++ flat_map f ys) (drop_more xs i x within)
       ∙ ap (λ (y : X). flat_map f (take i xs) ++ (f y ++ flat_map f (drop (i + 1) xs))) element
 
-  -- one more part, where no more is told than what is owed
+  -- one more part, if only `Owes` is known
   pub owed_more : (a b c : Option (List ℕ)) (h k m : List ℕ) → Owes a b k (h ++ flat_map f (take i xs)) → Owes b c m (k ++ f x)
       → Owes a c m (h ++ flat_map f (take (i + 1) xs))
   owed_more a b c h k m p q =
@@ -93,26 +93,26 @@ module _ {X : Type 0} (f : X → List ℕ) (xs : List X) (i : ℕ) (x : X) (read
       ∙ ap (λ (l : List ℕ). h ++ l) (sym parts_all) in
       subst (AppendsPrefix a c) out (prefix_first a c (h ++ flat_map f (take i xs) ++ f x) rest stop)
 
--- ---- parts that wait where they can
+-- ---- parts that fit into the buffer
 
--- what can't wait together
+-- a first part fits if both do
 fits_first : (h xs ys : List ℕ) → Fits h (xs ++ ys) → Fits h xs
 fits_first h xs ys f = omega (arith, length-append xs ys, f)
 
 fits_second : (h k xs ys : List ℕ) → k ≡ h ++ xs → Fits h (xs ++ ys) → Fits k ys
 fits_second h k xs ys e f = omega (arith, ap (λ (l : List ℕ). length l) e, length-append h xs, length-append xs ys, f)
 
--- what was put
+-- bytes that don't fit
 pub waits_past : {A E W : Type 0} (r : Result A E) (a b : W) (h k xs : List ℕ) → ¬ Fits h xs → Waits r a b h k xs
 waits_past (Ok x) a b h k xs n = λ f. absurd (n f)
 waits_past (Err e) a b h k xs n = n
 
 module _ {W : Type 0} (taken : W → Option (List ℕ)) where
-  -- the bytes were put
+  -- the bytes were added
   abbrev pub HasPut : W → W → List ℕ → List ℕ → List ℕ → Type 0
   HasPut a b h k xs = Owes (taken a) (taken b) k (h ++ xs) × (Fits h xs → (k ≡ h ++ xs) × (b ≡ a))
 
-  -- a call failed at them
+  -- a call failed while they were added
   abbrev pub FailsPut : W → W → List ℕ → List ℕ → Type 0
   FailsPut a b h xs = AppendsPrefix (taken a) (taken b) (h ++ xs) × ¬ Fits h xs
 
@@ -140,13 +140,13 @@ module _ {W : Type 0} (taken : W → Option (List ℕ)) where
   pub fails_first : (a b : W) (h xs ys : List ℕ) → FailsPut a b h xs → FailsPut a b h (xs ++ ys)
   fails_first a b h xs ys p = (puts_first (taken a) (taken b) h xs ys p.0, λ f. p.1 (fits_first h xs ys f))
 
-  -- the answer of the second part is that of both
+  -- the result of the second part is that of both
   pub puts_to_both : {A E : Type 0} (r : Result A E) (a b c : W) (h k m xs ys : List ℕ) → HasPut a b h k xs
       → PutsTo taken r b c k m ys → PutsTo taken r a c h m (xs ++ ys)
   puts_to_both (Ok x) a b c h k m xs ys p q = put_both a b c h k m xs ys p q
   puts_to_both (Err e) a b c h k m xs ys p q = fails_second a b c h k xs ys p q
 
-  -- the parts of a list's elements: one more, and one at which a call failed
+  -- the parts of a list's elements: one more, and one whose call failed
   module _ {X : Type 0} (f : X → List ℕ) (xs : List X) (i : ℕ) (x : X) (read : slice_get xs i ≡ Some x) where
     pub loop_more : (a b c : W) (h k m : List ℕ) → HasPut a b h k (flat_map f (take i xs)) → HasPut b c k m (f x)
         → HasPut a c h m (flat_map f (take (i + 1) xs))

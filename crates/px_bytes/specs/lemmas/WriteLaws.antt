@@ -14,7 +14,7 @@ appends_none a = Appends-nil a
 pub appends_both : (a b c : Option (List ℕ)) (xs ys : List ℕ) → Appends a b xs → Appends b c ys → Appends a c (xs ++ ys)
 appends_both a b c xs ys p q = Appends-trans a b c xs ys p q
 
--- a part, and then a flush, or a call that failed and took nothing
+-- a part, and then a flush or a failed call that took nothing
 pub appends_kept : (a b c : Option (List ℕ)) (xs : List ℕ) → Appends a b xs → Keeps b c → Appends a c xs
 appends_kept a b c xs p q = Appends-kept a b c xs p q
 
@@ -38,18 +38,18 @@ prefix_second a b c xs ys p h =
     let same : take (length xs + h.0) (xs ++ ys) ≡ xs ++ take h.0 ys = take-append-add xs ys h.0 in
     (length xs + h.0, omega (arith, h.1, length-append xs ys), rw same (appends_both a b c xs (take h.0 ys) p h.2))
 
--- what stands before, and a prefix of what stands in the middle
+-- the bytes before, and a prefix of the middle ones
 pub prefix_within : (a b c : Option (List ℕ)) (before middle after : List ℕ) → Appends a b before → AppendsPrefix b c middle
     → AppendsPrefix a c (before ++ (middle ++ after))
 prefix_within a b c before middle after p h = prefix_second a b c before (middle ++ after) p (prefix_first b c middle after h)
 
--- the second part's answer is that of both
+-- the result of the second part is that of both
 pub writes_both : {A E : Type 0} (r : Result A E) (a b c : Option (List ℕ)) (xs ys : List ℕ) → Appends a b xs → Writes r b c ys
     → Writes r a c (xs ++ ys)
 writes_both (Ok x) a b c xs ys p w = appends_both a b c xs ys p w
 writes_both (Err e) a b c xs ys p w = prefix_second a b c xs ys p w
 
--- the same of an answer told in two facts
+-- the same for a result that is known by two facts
 pub writes_second : {A E : Type 0} (r : Result A E) (a b c : Option (List ℕ)) (xs ys : List ℕ) → Appends a b xs → OnOk r (Appends b c ys)
     → OnErr r (AppendsPrefix b c ys) → Writes r a c (xs ++ ys)
 writes_second (Ok x) a b c xs ys p all front = appends_both a b c xs ys p all

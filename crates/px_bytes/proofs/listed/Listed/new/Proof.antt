@@ -1,4 +1,4 @@
--- `new` makes the empty struct, with the list that its clause names: no code computes that. Assumes `Logic`.
+-- `new` makes the empty struct, with the list of its clause: no code computes that list. Assumes `Logic`.
 use Rattle.std.proofs.Common.{[], ◌∷◌, refl}
 use Rattle.std.proofs.raw_atomic.Walks.{proved}
 use mir.Val.{vstruct, vnil}

@@ -1,4 +1,4 @@
--- `with` makes the empty struct, with the list that its clause names: no code computes that. Assumes `Logic`.
+-- `with` makes the empty struct, with the list of its clause: no code computes that list. Assumes `Logic`.
 use Rattle.std.proofs.Common.{[], ◌∷◌, refl, w32}
 use Rattle.std.proofs.raw_atomic.Walks.{proved}
 use mir.Syntax.{named}
