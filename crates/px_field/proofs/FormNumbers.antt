@@ -1,4 +1,4 @@
--- The numbers of types: twelve, and one apart.
+-- The numbers of types: 1 to 12, and 129.
 use Rattle.std.proofs.Common.{◌≡◌, ◌<◌, ◌==◌, nat_le, ℕ, None, Some, List, [], ◌∷◌, ◌++◌, Bool, true, refl, ◌∙◌, arith}
 use Rattle.std.specs.List.{find, list_all}
 use Rattle.std.proofs.lemmas.Bool.{cond-false, ne_eqb, and_parts, leb-true}
@@ -13,7 +13,7 @@ is_low f = nat_le (code f) 12
 abbrev low_forms : List Form
 low_forms = Byte ∷ Ascii ∷ Short ∷ Long ∷ Rational ∷ SByte ∷ Undefined ∷ SShort ∷ SLong ∷ SRational ∷ Float ∷ Double ∷ []
 
--- types of numbers up to 12 are passed over
+-- types with numbers up to 12 are skipped
 passed : (n : ℕ) (fs gs : List Form) → list_all is_low fs ≡ true → 12 < n
     → find (λ f. code f == n) (fs ++ gs) ≡ find (λ f. code f == n) gs
 passed n [] gs h l = refl

@@ -1,4 +1,4 @@
--- Elements turned round one after another.
+-- Elements converted one after another.
 use Rattle.std.proofs.Common.{◌≡◌, ℕ, zero, suc, ◌+◌, ◌-◌, ◌*◌, ◌/◌, ◌%◌, ◌<◌, ◌≤◌, Bool, true, false, List, [], ◌∷◌, ◌++◌, map, length}
 use Rattle.std.proofs.Common.{flat_map, take, drop, slice_get, replicate, unwrap_or, refl, sym, ◌∙◌, ap, ap₂, arith, subst, append_assoc}
 use Rattle.std.proofs.Common.{append-nil, length-append, length-drop}
@@ -129,7 +129,7 @@ part_map g n i xs = ap (take n) (from g i xs) ∙ front g n (drop i xs)
     front g (suc n) [] = refl
     front g (suc n) (x ∷ xs) = ap (λ l. g x ∷ l) (front g n xs)
 
--- n elements of what is shown, from i on
+-- n elements of a value, from index i
 pub part_shown : (w : Bool) (r o : Order) (f : Form) (raw : List ℕ) (n i at : ℕ) → (w ≡ true → IsWhole f) → AreBytes raw → at ≡ i * size f
     → i + n ≤ count_in f raw → n * size f ≤ length (drop at raw)
     → flat_map (spell o) (take n (drop i (shown w r f raw).elements)) ≡ flat_map (turned (width_of w f) r o)
@@ -188,7 +188,7 @@ pair_plain true _ h e = absurd (h refl)
 pub pair_size : (f : Form) → width_of false f ≡ width.Pair → size f ≡ 8
 pair_size f e = sym (read_size false f (λ h. absurd (cc))) ∙ ap read_by e
 
--- where a value of two numbers takes eight bytes, it was read from eight
+-- a value of two numbers that takes eight bytes was read from eight
 pub pair_raw : (w : Bool) (r o : Order) (f : Form) (raw : List ℕ) → (w ≡ true → IsWhole f) → length raw % size f ≡ 0 → AreBytes raw
     → width_of false f ≡ width.Pair → length (spelled o (shown w r f raw)) ≡ 8 → length raw ≡ 8
 pair_raw w r o f raw whole rest are e long =
@@ -232,7 +232,7 @@ long_padded w r o f raw is long whole are = rw is (at w (subst (λ (g : Form). w
         ∙ padded_at o (shown false r form.Long raw) (turned width.Four r o raw) 4 (spelled_element false r o form.Long raw h are long)
         (length-spelling o 4 _)
 
--- four bytes, where there are as many, and else zeros
+-- at most four bytes, then zeros
 pub four_bytes : (x : List ℕ) → length x ≤ 4
     → unwrap_or (slice_get x 0) 0 ∷ unwrap_or (slice_get x 1) 0 ∷ unwrap_or (slice_get x 2) 0 ∷ unwrap_or (slice_get x 3) 0 ∷ []
     ≡ x ++ replicate (4 - length x) 0
@@ -247,7 +247,7 @@ pub bytes_padded : (w : Bool) (r o : Order) (f : Form) (raw : List ℕ) → (w �
     → raw ++ replicate (4 - length raw) 0 ≡ Padded o (shown w r f raw)
 bytes_padded w r o f raw whole one = padded_at o (shown w r f raw) raw (length raw) (spelled-one w r o f raw whole one) refl
 
--- ---- what has room
+-- ---- how many elements fit
 
 pub room_for : (n width room : ℕ) → n ≤ room / width → n * width ≤ room
 room_for n width room h = let whole = div-mul-le_self room width in let below = mul-le-mul_right width h in omega arith

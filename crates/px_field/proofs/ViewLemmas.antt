@@ -1,4 +1,4 @@
--- What is seen of a value.
+-- The value that contracts see of a `Value`.
 use Rattle.std.proofs.Common.{◌≡◌, ◌<◌, ◌≤◌, ◌+◌, ◌*◌, ◌/◌, ◌%◌, ℕ, Bool, true, false, List, length, map, flat_map, slice_get, Some, ap}
 use Rattle.std.proofs.Common.{subst, sym, ◌∙◌, refl, arith}
 use Rattle.std.specs.Option.{option_map}
@@ -21,14 +21,14 @@ use Rattle.px_field.specs.lemmas.ValueLaws.{length-elements, IsValue-value_in, I
 use Rattle.px_field.specs.lemmas.ValueLaws.{spell-bytes, spelled-value_in, spelled-whole_in, value_in-spelled, whole_in-spelled}
 use Rattle.px_field.specs.calls.Views.{shown}
 
--- an element lies inside
+-- the bytes contain the element
 pub element_fits : (i n : ℕ) (f : Form) → i < n / size f → i * size f + size f ≤ n
 element_fits i n f h =
     let whole : n / size f * size f ≤ n = div-mul-le_self n (size f) in
     let below : (i + 1) * size f ≤ n / size f * size f = mul-le-mul_right (size f) (omega arith) in
     omega arith
 
--- as many elements as the bytes have room for
+-- as many elements as the bytes contain
 pub length-shown : (w : Bool) (o : Order) (f : Form) (raw : List ℕ) → length (shown w o f raw).elements ≡ count_in f raw
 length-shown true o f raw = length-map (elements o f (count_in f raw) raw) widened ∙ length-elements o f (count_in f raw) raw
 length-shown false o f raw = length-elements o f (count_in f raw) raw
@@ -38,12 +38,12 @@ pub IsValue-shown : (w : Bool) (o : Order) (f : Form) (raw : List ℕ) → (w �
 IsValue-shown true o f raw whole are = IsValue-whole_in o f raw (whole refl) are
 IsValue-shown false o f raw whole are = IsValue-value_in o f raw are
 
--- the element at i, where it is widened and where it isn't
+-- the element at i, widened or not
 pub get-whole : (o : Order) (f : Form) (raw : List ℕ) (i : ℕ) (e : Element) → slice_get (elements o f (count_in f raw) raw) i ≡ Some e
     → slice_get (shown true o f raw).elements i ≡ Some (widened e)
 get-whole o f raw i e h = slice_get-map widened (elements o f (count_in f raw) raw) i ∙ ap (option_map widened) h
 
--- the size of what is seen
+-- the size of the value
 pub size-shown : (w : Bool) (o : Order) (f : Form) (raw : List ℕ) → length raw % size f ≡ 0 → w ≡ false
     → length (shown w o f raw).elements * size (form_in (shown w o f raw).kind) ≡ length raw
 size-shown true o f raw whole e = absurd (cc)
@@ -61,16 +61,16 @@ bytes_shown true o form.Long raw whole b = absurd (cc)
 bytes_shown true o _ raw whole b = absurd (whole refl)
 bytes_shown false o f raw whole b = elements-bytes o f raw b
 
--- an element that is seen is of its kind
+-- an element of the value is of its kind
 pub IsOf-shown : (w : Bool) (o : Order) (f : Form) (raw : List ℕ) (v : Value) (i : ℕ) (e : Element) → (w ≡ true → IsWhole f) → AreBytes raw
     → shown w o f raw ≡ v → slice_get v.elements i ≡ Some e → IsOf (form_in v.kind) e
 IsOf-shown w o f raw v i e whole are seen here =
     let is : IsValue v = rw (← seen) (IsValue-shown w o f raw whole are) in
     all_at (IsOf (form_in v.kind)) v.elements i e is here
 
--- ---- what is read of the bytes spells them
+-- ---- encoding a decoded value returns its bytes
 
--- in either order, where an element is one byte
+-- in either order, if an element is one byte
 pub spelled-one : (w : Bool) (o p : Order) (f : Form) (raw : List ℕ) → (w ≡ true → IsWhole f) → size f ≡ 1
     → spelled p (shown w o f raw) ≡ raw
 unfolding spelled
@@ -85,20 +85,20 @@ spelled-one w o p f raw whole one =
     bytes_from_size form.Utf8 e = refl
     bytes_from_size _ e = absurd (omega arith)
 
--- in the order of the reading, where they aren't widened
+-- in the order of reading, if they aren't widened
 pub spelled-plain : (w : Bool) (o p : Order) (f : Form) (raw : List ℕ) → w ≡ false → o ≡ p → length raw % size f ≡ 0 → AreBytes raw
     → spelled p (shown w o f raw) ≡ raw
 spelled-plain true o p f raw plain same whole are = absurd (cc)
 spelled-plain false o p f raw plain same whole are = rw same (spelled-value_in p f raw whole are)
 
--- and of LONGs, widened or not
+-- for LONGs, widened or not
 pub spelled-long : (w : Bool) (o p : Order) (f : Form) (raw : List ℕ) → f ≡ form.Long → o ≡ p → length raw % size f ≡ 0 → AreBytes raw
     → spelled p (shown w o f raw) ≡ raw
 spelled-long true o p f raw long same whole are =
     rw (same, long) (spelled-whole_in p raw (subst (λ (g : Form). length raw % size g ≡ 0) long whole) are)
 spelled-long false o p f raw long same whole are = spelled-plain false o p f raw refl same whole are
 
--- values of one kind that are spelled by the same bytes are the same
+-- values of one kind with the same encoding are the same
 pub same_spelled : (o : Order) (a b : Value) → a.kind ≡ b.kind → IsValue a → IsValue b → spelled o a ≡ spelled o b → a ≡ b
 same_spelled o a b k h j e = go a.kind refl
   where

@@ -23,7 +23,7 @@ code Utf8 = 129
 abbrev pub forms : List Form
 forms = Byte ∷ Ascii ∷ Short ∷ Long ∷ Rational ∷ SByte ∷ Undefined ∷ SShort ∷ SLong ∷ SRational ∷ Float ∷ Double ∷ Utf8 ∷ []
 
--- the type of that number, if there is one
+-- the type with that number, if there is one
 unfoldable pub form_of : ℕ → Option Form
 form_of n = find (λ f. code f == n) forms
 

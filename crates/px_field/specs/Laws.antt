@@ -1,4 +1,4 @@
--- The laws over the definitions alone.
+-- The laws of the definitions.
 use Rattle.std.specs.Prelude.{◌≡◌, ◌↔◌, ℕ, ◌*◌, ◌%◌, List, length}
 use Rattle.px_bytes.specs.declared.Order.{Order}
 use Rattle.px_bytes.specs.Numbers.{AreBytes}
@@ -8,21 +8,21 @@ use Rattle.px_field.specs.declared.forms.Kind.TheVariants.{Of, Whole}
 use Rattle.px_field.specs.Forms.{size}
 use Rattle.px_field.specs.Values.{Value, IsValue, IsWhole, form_in, spelled, value_in, whole_in}
 
--- A value is spelled by as many bytes as its elements take, in either order.
+-- A value's encoding has as many bytes as its elements take, in either order.
 abbrev pub SpelledLength : Type 0
 SpelledLength = (o : Order) (v : Value) → IsValue v → length (spelled o v) ≡ length v.elements * size (form_in v.kind)
 
--- What is spelled in an order and read in that order is the same value: a whole number is read as LONG and widened.
+-- Decoding an encoded value returns it: a whole number is read as LONG and widened.
 abbrev pub SpelledReadsBack : Type 0
 SpelledReadsBack = ((o : Order) (f : Form) (v : Value) → v.kind ≡ Of f → IsValue v → value_in o f (spelled o v) ≡ v)
     × ((o : Order) (v : Value) → v.kind ≡ Whole → IsValue v → whole_in o Long (spelled o v) ≡ v)
 
--- The bytes of a whole number of elements spell the value that is read of them, and no other value of that type.
+-- The value decoded from a whole number of elements encodes to their bytes, and no other value of its type does.
 abbrev pub ReadSpells : Type 0
 ReadSpells = (o : Order) (f : Form) (v : Value) (raw : List ℕ) → v.kind ≡ Of f → IsValue v → AreBytes raw → length raw % size f ≡ 0 →
     (raw ≡ spelled o v) ↔ (v ≡ value_in o f raw)
 
--- The elements that are read lie in the ranges of their type.
+-- Decoded elements are in the ranges of their type.
 abbrev pub ReadInRange : Type 0
 ReadInRange = ((o : Order) (f : Form) (raw : List ℕ) → AreBytes raw → IsValue (value_in o f raw))
     × ((o : Order) (f : Form) (raw : List ℕ) → IsWhole f → AreBytes raw → IsValue (whole_in o f raw))

@@ -1,4 +1,4 @@
--- Values: the elements that bytes spell. TIFF 6.0 section 2, "Types".
+-- Values: the elements that bytes encode. TIFF 6.0 section 2, "Types".
 use Rattle.std.specs.Prelude.{ℕ, ◌^◌, ◌/◌, ◌<◌, Bool, true, false, List, [], ◌∷◌, ◌++◌, length, map, take, drop, flat_map, slice_index}
 use Rattle.std.specs.Prelude.{FitsSigned}
 use Rattle.std.specs.List.{AllByRecursion}
@@ -27,7 +27,7 @@ spell o (element.SRational y z) = spelling o 4 (cast_unsigned w32 y) ++ spelling
 spell o (element.Float n) = spelling o 4 n
 spell o (element.Double n) = spelling o 8 n
 
--- the element of a type that bytes spell
+-- the element of a type that bytes encode
 abbrev pub element_of : Order → Form → List ℕ → Element
 element_of o form.Short x = element.Short (number o 2 x)
 element_of o form.Long x = element.Long (number o 4 x)
@@ -39,7 +39,7 @@ element_of o form.Float x = element.Float (number o 4 x)
 element_of o form.Double x = element.Double (number o 8 x)
 element_of o _ x = element.Byte (slice_index x 0)
 
--- an element is of a type, and in its range
+-- an element is of a type and in its range
 abbrev pub IsOf : Form → Element → Type 0
 IsOf form.Short (element.Short n) = n < 2 ^ 16
 IsOf form.Long (element.Long n) = n < 2 ^ 32
@@ -66,7 +66,7 @@ pub record Value : Type 0 where
   pub kind : Kind
   pub elements : List Element
 
--- the elements are of the kind
+-- each element is of the value's kind
 abbrev pub IsValue : Value → Type 0
 IsValue v = AllByRecursion (IsOf (form_in v.kind)) v.elements
 
@@ -74,7 +74,7 @@ IsValue v = AllByRecursion (IsOf (form_in v.kind)) v.elements
 unfoldable pub spelled : Order → Value → List ℕ
 spelled o v = flat_map (spell o) v.elements
 
--- the n elements of a type that bytes spell
+-- the n elements of a type that bytes encode
 unfoldable pub elements : Order → Form → ℕ → List ℕ → List Element
 elements o f n raw = map (element_of o f) (pieces n (size f) raw)
 
@@ -83,15 +83,15 @@ abbrev pub widened : Element → Element
 widened (element.Short n) = element.Long n
 widened e = e
 
--- how many elements of a type bytes have room for
+-- how many elements of a type the bytes contain
 abbrev pub count_in : Form → List ℕ → ℕ
 count_in f raw = length raw / size f
 
--- the value of a type that bytes spell
+-- the value of a type that bytes encode
 abbrev pub value_in : Order → Form → List ℕ → Value
 value_in o f raw = record { kind = kind.Of f; elements = elements o f (count_in f raw) raw }
 
--- the same where a tag takes SHORT and LONG as one
+-- the same for a tag that treats SHORT and LONG as one
 abbrev pub whole_in : Order → Form → List ℕ → Value
 whole_in o f raw = record { kind = kind.Whole; elements = map widened (elements o f (count_in f raw) raw) }
 

@@ -7,7 +7,7 @@ ghost use Rattle.px_field.specs.Forms.{code, form_of, size};
 pub enum Form {
     /// BYTE, 1: an unsigned number of one byte.
     Byte,
-    /// ASCII, 2: one byte of a text, kept as it stands.
+    /// ASCII, 2: one byte of a text, unchanged.
     Ascii,
     /// SHORT, 3: an unsigned number of two bytes.
     Short,
@@ -17,7 +17,7 @@ pub enum Form {
     Rational,
     /// SBYTE, 6: a signed number of one byte, kept as that byte.
     SByte,
-    /// UNDEFINED, 7: one byte without meaning here.
+    /// UNDEFINED, 7: one byte of unknown meaning.
     Undefined,
     /// SSHORT, 8: a number of two bytes in two's complement.
     SShort,
@@ -33,23 +33,23 @@ pub enum Form {
     Utf8,
 }
 
-/// What a value is: of a type, or a whole number where a tag takes SHORT and LONG as the same.
+/// The kind of a value: a type, or a whole number for a tag that treats SHORT and LONG as the same.
 #[derive(Clone, Copy, Debug, PartialEq, Eq)]
 pub enum Kind {
-    /// Of that type.
+    /// A value of that type.
     Of(Form),
-    /// A whole number, read from SHORT or LONG and written as LONG.
+    /// Whole numbers, read from SHORT or LONG and written as LONG.
     Whole,
 }
 
-/// An element of a value, with its byte order undone.
+/// An element of a value, independent of the byte order.
 #[derive(Clone, Copy, Debug, PartialEq, Eq)]
 pub enum Element {
-    /// Of BYTE, ASCII, SBYTE, UNDEFINED and UTF-8: the byte as it stands.
+    /// Of BYTE, ASCII, SBYTE, UNDEFINED and UTF-8: the byte.
     Byte(u8),
     /// Of SHORT.
     Short(u16),
-    /// Of LONG, and of each whole number.
+    /// Of LONG and of whole numbers.
     Long(u32),
     /// Of RATIONAL: the numerator and the denominator, which may be 0.
     Rational(u32, u32),
@@ -65,7 +65,7 @@ pub enum Element {
     Double(u64),
 }
 
-// The type of a number above 12: UTF-8, or none.
+// The type with a number above 12: UTF-8 or none.
 #[tactic(auto, using(crate::proofs::FormNumbers::above_none), unfolding(crate::specs::Forms::form_of))]
 fn above_twelve(code: u16) -> Option<Form>
     requires { 12 < code }
@@ -78,12 +78,12 @@ fn above_twelve(code: u16) -> Option<Form>
 }
 
 impl Form {
-    /// The type of that number in an entry, or `None` where the number is none of the thirteen.
+    /// The type with that number in an entry, or `None` if it is not one of the thirteen.
     #[tactic(auto, unfolding(crate::specs::Forms::form_of))]
     pub fn of(code: u16) -> Option<Form>
         ensures { result ≡ form_of code }
     {
-        // The numbers 1 to 12 alone are found with no table of jumps.
+        // Without this the match over 1 to 12 and 129 needs a jump table.
         if code > 12 {
             return above_twelve(code);
         }
@@ -120,7 +120,7 @@ impl Form {
     pub fn code(self) -> u16
         ensures { result ≡ code self }
     {
-        // The others stand in the order of their numbers, from 1 on.
+        // The other variants are declared in the order of their numbers, from 1 on.
         match self {
             Form::Utf8 => 129,
             other => other as u16 + 1,

@@ -1,9 +1,10 @@
-//! Types of fields and their values: what an entry of a directory says by its type, its count and its
-//! raw bytes (TIFF 6.0 section 2, "Types", and UTF-8 of Exif 3.0).
+//! Types of fields and their values: the meaning of an entry's type, count and raw bytes (TIFF 6.0 section 2,
+//! "Types", and UTF-8 of Exif 3.0).
 //!
-//! It knows no tags and no directories, reduces no fraction, checks no text, and takes FLOAT and DOUBLE
-//! as bit patterns. A value borrows its raw bytes; `append_value` and `append_value_in` alone
-//! take memory.
+//! This crate knows no tags and no directories, reduces no fraction, checks no text, and takes FLOAT and
+//! DOUBLE as bit patterns. A value borrows its raw bytes; only `append_value` and `append_value_in` allocate.
+//!
+//! `append_value` is over an allocator and is for callers of this crate: nothing that ships calls it.
 //!
 //! ```
 //! let raw = [0x48, 0, 0, 0, 1, 0, 0, 0]; // 72/1, the least significant byte first
@@ -12,7 +13,7 @@
 //! let mut out = Vec::new(rt.alloc());
 //! append_value(Order::Most, &value, &mut out)?; // 00 00 00 48 00 00 00 01
 //! let again = read_value(Form::Rational, Order::Most, &raw);
-//! let same = same_value(&value, &again); // false: the other order spells another fraction
+//! let same = same_value(&value, &again); // false: in the other order it is another fraction
 //! let short = read_whole(Form::Short, Order::Most, &[0x0F, 0xA0]);
 //! let long = read_whole(Form::Long, Order::Most, &[0, 0, 0x0F, 0xA0]);
 //! let one = same_value(&short, &long); // true: the whole number 4000

@@ -1,4 +1,4 @@
-// Values as bytes, in either order.
+// Values as bytes, in either byte order.
 ghost use Rattle.std.specs.Prelude.{◌≡◌, ◌<◌, ◌≤◌, ◌+◌, ◌++◌, ◌*◌, length, take, drop, Some, slice_get, OnOk, OnErr, IsOk, vec_len};
 ghost use Rattle.std.specs.Prelude.{vec_capacity};
 ghost use Rattle.px_bytes.specs.Lacking.{Lacks};
@@ -13,8 +13,8 @@ use px_bytes::{Memory, Order, Refused};
 use std::alloc::AllocError;
 
 impl<'a> Value<'a> {
-    /// Puts the bytes of the element at `i` in front of `into`, and answers how many: 1, 2, 4 or 8.
-    /// The rest of `into` is unchanged. `i` is below `count`.
+    /// Writes the encoding of the element at index `i`, below `count`, into the first bytes of `into`.
+    /// Returns its length in bytes: 1, 2, 4 or 8. The rest of `into` is unchanged.
     pub fn spell_at(&self, order: Order, i: u32, into: &mut [u8; 8]) -> usize
         requires { i < length self.now.elements }
         ensures width { result ≡ size (form_in self.now.kind) }
@@ -25,9 +25,7 @@ impl<'a> Value<'a> {
     }
 }
 
-/// Appends the bytes that spell the value in `order`, `size` of them.
-///
-/// Fails only when out of memory; the vector's items are then unchanged.
+/// Like `append_value_in`, with memory of its own.
 pub fn append_value(order: Order, value: &Value, out: &mut Vec<u8>) -> Result<(), AllocError>
     ensures done { OnOk result (out.new.items ≡ out.old.items ++ spelled order value.now) }
     ensures failed { OnErr result (out.new.items ≡ out.old.items) }
@@ -36,8 +34,8 @@ pub fn append_value(order: Order, value: &Value, out: &mut Vec<u8>) -> Result<()
     Ok(append_value_in(&mut memory, order, value, out)?)
 }
 
-/// As `append_value`, with memory that tells whether a growth was refused: where the error came, and there
-/// alone. Where the vector has the room there is none.
+/// Appends the encoding of the value in `order`: `size` bytes. `Err`: an allocation failed, and the vector's
+/// items are unchanged. It allocates only if the vector has too little capacity.
 pub fn append_value_in(
     memory: &mut Memory,
     order: Order,
@@ -56,7 +54,7 @@ pub fn append_value_in(
     append_elements(memory, order, value, out)
 }
 
-// Appends the spelling of each element, where there is room for all.
+// Appends the encoding of each element; the vector has capacity for all.
 fn append_elements(
     memory: &mut Memory,
     order: Order,
@@ -76,7 +74,7 @@ fn append_elements(
     Ok(())
 }
 
-// Puts the spelling of the element in front, and answers its length.
+// Writes the encoding of the element into the first bytes of `into`. Returns its length.
 fn spell_element(order: Order, element: Element, into: &mut [u8; 8]) -> usize
     ensures width { result ≡ length (spell order element) }
     ensures front { into.new ≡ spell order element ++ drop result into.old }

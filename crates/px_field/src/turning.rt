@@ -1,4 +1,4 @@
-// Elements turned round many at a time: a loop for each width, which does nothing else.
+// Converts many elements from one byte order to another: one simple loop for each width.
 ghost use Rattle.std.specs.Prelude.{◌≡◌, ◌≤◌, ◌*◌, ◌++◌, [], ◌∷◌, length, flat_map};
 ghost use Rattle.px_bytes.specs.Parts.{pieces};
 ghost use Rattle.px_bytes.specs.declared.Order.{Order as AnyOrder};
@@ -8,10 +8,10 @@ ghost use Rattle.px_field.specs.calls.Turning.{width_of, read_by, turned, writte
 use crate::forms::Form;
 use px_bytes::Order;
 
-/// How the bytes of an element are turned round.
+/// How the bytes of an element are swapped.
 #[derive(Clone, Copy, Debug, PartialEq, Eq)]
 pub enum Width {
-    /// One byte, which stays as it is.
+    /// One byte, which stays.
     One,
     /// A number of two bytes.
     Two,
@@ -25,19 +25,19 @@ pub enum Width {
     Widened,
 }
 
-/// The orders in which elements are read and written, and how.
+/// The byte orders in which elements are read and written, and the kind of swap.
 #[derive(Clone, Copy, Debug)]
 pub struct Way {
-    /// How.
+    /// The kind of swap.
     pub width: Width,
-    /// The order in which they are read.
+    /// The byte order in which they are read.
     pub read: Order,
-    /// The order in which they are written.
+    /// The byte order in which they are written.
     pub write: Order,
 }
 
 impl Width {
-    /// Of the elements of a type, widened or as they are.
+    /// The width of a type's elements, widened or not.
     pub fn of(form: Form, widened: bool) -> Width
         ensures { result ≡ width_of widened form }
     {
@@ -57,7 +57,7 @@ impl Width {
     }
 }
 
-/// Writes the first `count` elements of `from` into `to`, which has their length.
+/// Writes the first `count` elements of `from` into `to`, which has exactly their length.
 pub fn turn(how: Way, count: usize, from: &[u8], to: &mut [u8])
     requires from { count * read_by how.width ≤ length from.now }
     requires to { length to.old ≡ count * written_by how.width }
@@ -148,9 +148,9 @@ fn turn_wide(read: Order, write: Order, count: usize, from: &[u8], to: &mut [u8]
     }
 }
 
-// ---- one element, which is turned round with no loop
+// ---- one element, without a loop
 
-/// The bytes of one element of two numbers.
+/// The bytes of one element of two numbers, in the order `write`.
 pub fn turned_pair(read: Order, write: Order, from: &[u8]) -> [u8; 8]
     requires { length from.now ≡ 8 }
     ensures { result ≡ turned Pair read write from.now }
@@ -160,7 +160,7 @@ pub fn turned_pair(read: Order, write: Order, from: &[u8]) -> [u8; 8]
     bytes
 }
 
-/// Those of one number of two bytes, and zeros behind them.
+/// The bytes of one number of two bytes in the order `write`, then two zeros.
 pub fn turned_short(read: Order, write: Order, from: &[u8]) -> [u8; 4]
     requires { length from.now ≡ 2 }
     ensures { result ≡ turned Two read write from.now ++ 0 ∷ 0 ∷ [] }
@@ -170,7 +170,7 @@ pub fn turned_short(read: Order, write: Order, from: &[u8]) -> [u8; 4]
     bytes
 }
 
-/// Those of one number of four bytes.
+/// The bytes of one number of four bytes, in the order `write`.
 pub fn turned_long(read: Order, write: Order, from: &[u8]) -> [u8; 4]
     requires { length from.now ≡ 4 }
     ensures { result ≡ turned Four read write from.now }

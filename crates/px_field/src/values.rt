@@ -1,4 +1,4 @@
-// A value: bytes in some order, seen as the elements that they spell.
+// A value: bytes in some byte order, seen as the elements that they encode.
 ghost use Rattle.std.specs.Prelude.{◌≡◌, ◌<◌, ◌≤◌, ◌+◌, ◌-◌, ◌*◌, ◌/◌, ◌%◌, length, map, flat_map, take, drop, min, Some, slice_get};
 ghost use Rattle.std.specs.Prelude.{IsTrue, ◌↔◌, ◌++◌, IsSome, IfSome, replicate, unwrap_or, true, false};
 ghost use Rattle.px_bytes.specs.declared.Order.{Order};
@@ -17,8 +17,8 @@ use std::marker::Model;
 
 /// The value of a field: its kind and its elements.
 ///
-/// A value borrows the bytes that it was read from. No number is copied when it is read, and no call
-/// of its own takes memory: an element is read from the bytes each time that it is asked for.
+/// A value borrows the bytes that it was read from. Reading copies nothing, and no method allocates: each
+/// access reads an element from the bytes.
 #[derive(Debug, Drop)]
 pub struct Value<'a> {
     raw: &'a [u8],
@@ -39,10 +39,10 @@ impl<'a> Model for Value<'a> {
     ghost invariant = { IsSound };
 }
 
-/// The value of type `form` that the bytes spell in `order`: TIFF 6.0 section 2, "Types".
+/// The value of type `form` that the bytes encode in `order`: TIFF 6.0 section 2, "Types".
 ///
-/// `raw` is a whole number of elements, perhaps none, of at most `LIMIT` bytes; this is the caller's
-/// condition. Each such `raw` spells a value, so there is no refusal.
+/// The caller makes sure that `raw` is a whole number of elements, perhaps none, of at most `LIMIT` bytes.
+/// Each such `raw` encodes a value, so there is no error.
 pub fn read_value<'a>(form: Form, order: Order, raw: &'a [u8]) -> Value<'a>
     requires whole { length raw.now % size form ≡ 0 }
     requires bounded { length raw.now ≤ limit }
@@ -57,12 +57,11 @@ pub fn read_value<'a>(form: Form, order: Order, raw: &'a [u8]) -> Value<'a>
     }
 }
 
-/// The whole numbers that the bytes of a SHORT or LONG spell in `order`, for a tag that takes both
-/// types as the same.
+/// The whole numbers that a SHORT or LONG encodes in `order`, for a tag that treats both types as the same.
 ///
-/// `raw` is a whole number of elements of `form`, perhaps none, of at most `LIMIT` bytes, and `form`
-/// is `Short` or `Long`; both are the caller's conditions. The value is of kind `Whole`, and its
-/// elements are `Long`, whichever of the two it was read from.
+/// The caller makes sure that `form` is `Short` or `Long`, and that `raw` is a whole number of its elements,
+/// perhaps none, of at most `LIMIT` bytes. The value is of kind `Whole`, and its elements are `Long` in both
+/// cases.
 pub fn read_whole<'a>(form: Form, order: Order, raw: &'a [u8]) -> Value<'a>
     requires whole { length raw.now % size form ≡ 0 }
     requires bounded { length raw.now ≤ limit }
@@ -82,7 +81,7 @@ impl<'a> Value<'a> {
     pub fn kind(&self) -> Kind
         ensures kind { result ≡ self.now.kind }
 
-        // Each element is of that kind, and in its range.
+        // Each element is of that kind and in its range.
         ensures ranges { IsValue self.now }
     {
         if self.widened {
@@ -92,8 +91,8 @@ impl<'a> Value<'a> {
         }
     }
 
-    /// The elements of a value of BYTE, ASCII, SBYTE, UNDEFINED or UTF-8 as the slice that was read;
-    /// `None` for each other kind.
+    /// The elements of a BYTE, ASCII, SBYTE, UNDEFINED or UTF-8 as the slice that was read; `None` for any
+    /// other kind.
     pub fn bytes(&self) -> Option<&'a [u8]>
         ensures which { IsSome result ↔ IsTrue (is_bytes self.now.kind) }
         ensures elements { IfSome result (λ s. self.now.elements ≡ map Element.Byte s.now) }
@@ -104,9 +103,9 @@ impl<'a> Value<'a> {
         }
     }
 
-    /// The bytes that were read, where they spell the value in `order` as they stand: where the elements
-    /// are bytes, and where it was read in that order and is written by as many bytes as it was read from.
-    /// `None` for a value that was read in the other order, and for SHORTs that are whole numbers.
+    /// The bytes that were read, if they are also the value's encoding in `order`: if its elements are bytes,
+    /// or if it was read in that order and is not widened. `None` for a value of the other order, and for
+    /// SHORTs that are whole numbers.
     pub fn in_order(&self, order: Order) -> Option<&'a [u8]>
         ensures spelled { IfSome result (λ s. s.now ≡ spelled order self.now) }
         ensures bytes { IsTrue (is_bytes self.now.kind) → IsSome result }
@@ -134,7 +133,7 @@ impl<'a> Value<'a> {
         self.raw.len() as u32 / self.form.size()
     }
 
-    /// The element at `i`, counted from 0; `i` is below `count`.
+    /// The element at index `i`, which is below `count`.
     #[inline(always)]
     pub fn element(&self, i: u32) -> Element
         requires { i < length self.now.elements }
@@ -149,16 +148,16 @@ impl<'a> Value<'a> {
         }
     }
 
-    /// The bytes of each element where the value is written: 1, 2, 4 or 8.
+    /// The bytes of each element in the encoding: 1, 2, 4 or 8.
     pub fn width(&self) -> u32
         ensures { result ≡ size (form_in self.now.kind) }
     {
         if self.widened { 4 } else { self.form.size() }
     }
 
-    /// Puts the bytes of the elements from `i` on in front of `into`, as many elements as there are and
-    /// as `into` has room for, and answers how many. Each of them takes `width` bytes. `i` is at most
-    /// `count`. They are turned round in one pass, which takes no memory.
+    /// Encodes the elements from index `i`, at most `count`, into the first bytes of `into`: as many as the
+    /// value has and as fit. Returns how many. Each takes `width` bytes. It makes one pass and allocates
+    /// nothing.
     pub fn spell_many(&self, order: Order, i: u32, into: &mut [u8]) -> u32
         requires { i ≤ length self.now.elements }
         ensures count { result ≡ min (length self.now.elements - i) (length into.old / size (form_in self.now.kind)) }
@@ -183,12 +182,12 @@ impl<'a> Value<'a> {
         count
     }
 
-    /// Spells the value whole, in as many bytes as it takes.
+    /// Encodes the whole value; `into` has exactly its size.
     pub fn spell_all(&self, order: Order, into: &mut [u8])
         requires { length into.old ≡ length (spelled order self.now) }
         ensures { into.new ≡ spelled order self.now }
     {
-        // Named for its invariant alone: the elements take as many bytes as spell them.
+        // Uses the value's invariant: the elements take as many bytes as their encoding.
         let _ = &self.raw;
         if let Some(same) = self.in_order(order) {
             into.copy_from_slice(same);
@@ -197,7 +196,7 @@ impl<'a> Value<'a> {
         self.spell_many(order, 0, into);
     }
 
-    /// The bytes of a value of eight, as of one RATIONAL, which takes no loop.
+    /// The encoding of a value of eight bytes, such as one RATIONAL, without a loop.
     pub fn spell_eight(&self, order: Order) -> [u8; 8]
         requires { length (spelled order self.now) ≡ 8 }
         ensures { result ≡ spelled order self.now }
@@ -210,7 +209,8 @@ impl<'a> Value<'a> {
         bytes
     }
 
-    /// The bytes of a value of at most four, and zeros behind them. One SHORT, one LONG and single bytes take no loop.
+    /// The encoding of a value of at most four bytes, then zeros. One SHORT, one LONG and single bytes need
+    /// no loop.
     pub fn spell_four(&self, order: Order) -> [u8; 4]
         requires { length (spelled order self.now) ≤ 4 }
         ensures { result ≡ spelled order self.now ++ replicate (4 - length (spelled order self.now)) 0 }
@@ -227,7 +227,7 @@ impl<'a> Value<'a> {
         self.spell_few(order)
     }
 
-    // The same of any value.
+    // The same for any value.
     fn spell_few(&self, order: Order) -> [u8; 4]
         requires { length (spelled order self.now) ≤ 4 }
         ensures { result ≡ spelled order self.now ++ replicate (4 - length (spelled order self.now)) 0 }
@@ -238,8 +238,8 @@ impl<'a> Value<'a> {
         bytes
     }
 
-    /// The number of bytes that spell the value in either order. A value of kind `Whole` takes four for
-    /// each element, so one read from SHORT takes twice as many as were read.
+    /// The length of the value's encoding in bytes, in either order. A value of kind `Whole` takes four for
+    /// each element, so one read from SHORT takes twice the bytes that were read.
     pub fn size(&self) -> u64
         ensures spelled { (order : Order) → result ≡ length (spelled order self.now) }
         ensures elements { result ≡ length self.now.elements * size (form_in self.now.kind) }
@@ -253,8 +253,8 @@ impl<'a> Value<'a> {
     }
 }
 
-/// Whether two values are of one kind and have the same elements in the same sequence, whatever the
-/// orders in which they were read.
+/// Whether two values have the same kind and the same elements in the same sequence. The orders in which they
+/// were read don't matter.
 pub fn same_value(a: &Value, b: &Value) -> bool
     ensures { IsTrue result ↔ (a.now ≡ b.now) }
 {
@@ -270,7 +270,7 @@ pub fn same_value(a: &Value, b: &Value) -> bool
     same_elements(a, b)
 }
 
-// Whether two values of one kind are spelled by the same bytes, where both were read in that order.
+// Compares the bytes of two values of one kind, if both were read in that order and are not widened.
 fn same_bytes(order: Order, a: &Value, b: &Value) -> Option<bool>
     requires kind { a.now.kind ≡ b.now.kind }
     requires left { IsValue a.now }
@@ -298,7 +298,7 @@ fn same_elements(a: &Value, b: &Value) -> bool
     true
 }
 
-// The byte at a place, 0 behind the last.
+// The byte at an index, or 0 after the last.
 fn byte_or_zero(raw: &[u8], i: usize) -> u8
     ensures { result ≡ unwrap_or (slice_get raw.now i) 0 }
 {
@@ -308,7 +308,7 @@ fn byte_or_zero(raw: &[u8], i: usize) -> u8
     }
 }
 
-// At most four bytes, and zeros behind them.
+// At most four bytes, then zeros.
 #[tactic(auto, using(crate::proofs::TurnLaws::four_bytes))]
 fn padded_four(raw: &[u8]) -> [u8; 4]
     requires { length raw.now ≤ 4 }
@@ -329,7 +329,7 @@ fn is_fraction(form: Form) -> bool
     matches!(form, Form::Rational | Form::SRational)
 }
 
-// Whether a value is one SHORT, and is written as one.
+// Whether a value is one SHORT and is written as one.
 fn is_one_short(form: Form, widened: bool, raw: &[u8]) -> bool
     ensures { result ≡ true → (form ≡ Short) × (widened ≡ false) × (length raw.now ≡ 2) }
 {
@@ -343,7 +343,7 @@ fn is_one_long(form: Form, raw: &[u8]) -> bool
     form == Form::Long && raw.len() == 4
 }
 
-// How many elements of a width have room in so many bytes, of `rest` elements. Mostly all have, which needs no division.
+// How many of `rest` elements of a width fit into so many bytes. Usually all do, which needs no division.
 #[tactic(auto, using(crate::proofs::TurnLaws::room_for, crate::proofs::TurnLaws::room_of))]
 fn how_many(rest: u32, width: u32, room: usize) -> u32
     requires { 0 < width }
@@ -361,7 +361,7 @@ fn how_many(rest: u32, width: u32, room: usize) -> u32
     }
 }
 
-// The bytes from the element at `i` on, where so many more are behind it.
+// The bytes of the elements from index `i` on.
 #[tactic(auto, using(crate::proofs::TurnLaws::parts_fit))]
 fn behind(raw: &[u8], form: Form, i: u32, count: u32) -> &[u8]
     requires bounded { length raw.now ≤ limit }
@@ -372,7 +372,7 @@ fn behind(raw: &[u8], form: Form, i: u32, count: u32) -> &[u8]
     &raw[i as usize * form.size() as usize..]
 }
 
-// The element at `i` of a type, where the bytes have room for it.
+// The element of a type at index `i`, which the bytes contain.
 #[tactic(auto, using(crate::proofs::ViewLemmas::element_fits))]
 #[inline(always)]
 fn element_in(order: Order, form: Form, raw: &[u8], i: u32) -> Element
@@ -385,7 +385,7 @@ fn element_in(order: Order, form: Form, raw: &[u8], i: u32) -> Element
     read_element(order, form, &raw[at..at + size])
 }
 
-// The element of a type that the bytes spell.
+// The element of a type that the bytes encode.
 #[inline(always)]
 fn read_element(order: Order, form: Form, bytes: &[u8]) -> Element
     requires { length bytes.now ≡ size form }
@@ -409,7 +409,7 @@ fn read_element(order: Order, form: Form, bytes: &[u8]) -> Element
     }
 }
 
-// An unsigned number of two or of four bytes as one of four.
+// An unsigned number of two or four bytes as one of four.
 #[inline(always)]
 fn widen(element: Element) -> Element
     ensures { result ≡ widened element }

@@ -1,4 +1,4 @@
--- Bytes of elements, read in one order and written in another.
+-- Bytes of elements, read in one byte order and written in another.
 use Rattle.std.specs.Prelude.{ℕ, Bool, true, false, List, ◌++◌, take, drop}
 use Rattle.px_bytes.specs.declared.Order.{Order}
 use Rattle.px_bytes.specs.Numbers.{number, spelling}
@@ -7,7 +7,7 @@ use Rattle.px_field.specs.declared.forms.Form.TheVariants as form
 use Rattle.px_field.specs.declared.turning.Width.{Width}
 use Rattle.px_field.specs.declared.turning.Width.TheVariants as width
 
--- how the elements of a type are turned round, as they are or widened
+-- the width of a type's elements, widened or not
 abbrev pub width_of : Bool → Form → Width
 width_of true form.Short = width.Widened
 width_of true _ = width.Four
@@ -21,7 +21,7 @@ width_of false form.SRational = width.Pair
 width_of false form.Double = width.Eight
 width_of false _ = width.One
 
--- the bytes of an element, as it is read and as it is written
+-- the number of an element's bytes when it is read, and when it is written
 abbrev pub read_by : Width → ℕ
 read_by width.One = 1
 read_by width.Two = 2

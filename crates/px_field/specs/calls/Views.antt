@@ -1,4 +1,4 @@
--- What a `Value` is seen as.
+-- The value that contracts see of a `Value`.
 use Rattle.std.specs.Prelude.{◌≡◌, ◌≤◌, ◌%◌, ℕ, Bool, true, List, length, if◌then◌else◌}
 use Rattle.px_bytes.specs.declared.Order.{Order}
 use Rattle.px_bytes.specs.Parts.{limit}
@@ -8,7 +8,7 @@ use Rattle.px_field.specs.declared.forms.Form.{Form}
 use Rattle.px_field.specs.Forms.{size}
 use Rattle.px_field.specs.Values as values
 
--- the value that bytes spell, widened or as it is
+-- the value that bytes encode, widened or not
 abbrev pub shown : Bool → Order → Form → List ℕ → values.Value
 shown widened o f raw = if widened then values.whole_in o f raw else values.value_in o f raw
 

@@ -1,4 +1,4 @@
--- Laws of elements: what is spelled reads back, and what is read spells as it stood.
+-- Laws of elements: decoding an encoded element returns it, and encoding a decoded one returns its bytes.
 use Rattle.std.proofs.Common.{◌≡◌, ℕ, ◌+◌, ◌^◌, ◌<◌, List, [], ◌∷◌, ◌++◌, length, take, drop, slice_index, refl, sym, ◌∙◌, ap, ap₂, arith}
 use Rattle.std.proofs.Common.{length-append, length-drop, take-append-drop}
 use Rattle.std.specs.Int.{w16, w32, cast_signed, cast_unsigned}
@@ -35,7 +35,7 @@ size-pos form.Utf8 = omega arith
 two_long : (o : Order) (n d : ℕ) → length (spelling o 4 n ++ spelling o 4 d) ≡ 8
 two_long o n d = length-append (spelling o 4 n) (spelling o 4 d) ∙ ap₂ (λ x y. x + y) (length-spelling o 4 n) (length-spelling o 4 d)
 
--- an element has as many bytes as its type says
+-- an element's encoding has the length of its type
 pub length-spell : (o : Order) (f : Form) (e : Element) → IsOf f e → length (spell o e) ≡ size f
 length-spell o form.Short (element.Short n) h = length-spelling o 2 n
 length-spell o form.Long (element.Long n) h = length-spelling o 4 n
@@ -59,7 +59,7 @@ two_back o n d h k = (
   ap (number o 4) (drop_at (spelling o 4 n) (spelling o 4 d) 4 (length-spelling o 4 n)) ∙ number-spelling o 4 d k,
 )
 
--- what is spelled reads back
+-- decoding an encoded element returns it
 pub element_of-spell : (o : Order) (f : Form) (e : Element) → IsOf f e → element_of o f (spell o e) ≡ e
 element_of-spell o form.Short (element.Short n) h = ap element.Short (number-spelling o 2 n h)
 element_of-spell o form.Long (element.Long n) h = ap element.Long (number-spelling o 4 n h)
@@ -100,7 +100,7 @@ below32 o x h = number-lt o 4 x h
 below64 : (o : Order) (x : List ℕ) → AreBytes x → number o 8 x < 2 ^ 64
 below64 o x h = number-lt o 8 x h
 
--- what is read spells as it stood
+-- encoding a decoded element returns its bytes
 pub spell-element_of : (o : Order) (f : Form) (x : List ℕ) → length x ≡ size f → AreBytes x → spell o (element_of o f x) ≡ x
 spell-element_of o form.Short x l h = spelling-number o 2 x l h
 spell-element_of o form.Long x l h = spelling-number o 4 x l h
@@ -119,7 +119,7 @@ spell-element_of o form.SByte x l h = one_stands x l
 spell-element_of o form.Undefined x l h = one_stands x l
 spell-element_of o form.Utf8 x l h = one_stands x l
 
--- what is read is of its type, and in its range
+-- a decoded element is of its type and in its range
 pub IsOf-element_of : (o : Order) (f : Form) (x : List ℕ) → AreBytes x → IsOf f (element_of o f x)
 IsOf-element_of o form.Short x h = below16 o x h
 IsOf-element_of o form.Long x h = below32 o x h

@@ -10,7 +10,7 @@ use Rattle.std.proofs.Math.Seq.{drop-drop}
 use Rattle.px_bytes.specs.Numbers.{AreBytes}
 use Rattle.px_bytes.specs.Parts.{pieces}
 
--- there are so many
+-- there are n parts
 pub length-pieces : {A : Type 0} (n k : ℕ) (x : List A) → length (pieces n k x) ≡ n
 length-pieces zero k x = refl
 length-pieces (suc n) k x = ap suc (length-pieces n k (drop k x))
@@ -25,7 +25,7 @@ get-pieces {A} (suc n) k (suc i) at x h e =
     let moved : drop (i * k) (drop k x) ≡ drop at x = grind (arith, common_steps, drop-drop {A = A}, e) in
     get-pieces n k i (i * k) (drop k x) (omega arith) refl ∙ ap (λ (l : List A). Some (take k l)) moved
 
--- parts of one size, joined, come apart again
+-- parts of one size that are joined can be cut again
 pub pieces_joined : {X A : Type 0} (k : ℕ) (f : X → List A) (xs : List X) (rest : List A) → AllByRecursion (λ x. length (f x) ≡ k) xs
     → pieces (length xs) k (flat_map f xs ++ rest) ≡ map f xs
 pieces_joined k f [] rest h = refl
@@ -35,13 +35,13 @@ pieces_joined k f (x ∷ xs) rest h =
     let d = ap (drop k) e ∙ drop_at (f x) (flat_map f xs ++ rest) k h.0 in
     ap₂ (λ y ys. y ∷ ys) t (ap (pieces (length xs) k) d ∙ pieces_joined k f xs rest h.1)
 
--- and have the sum of the sizes as their length
+-- the length of joined parts is the sum of their sizes
 pub length_joined : {X A : Type 0} (k : ℕ) (f : X → List A) (xs : List X) → AllByRecursion (λ x. length (f x) ≡ k) xs
     → length (flat_map f xs) ≡ length xs * k
 length_joined k f [] h = omega arith
 length_joined k f (x ∷ xs) h = let e = length_joined k f xs h.1 in let a = length-append (f x) (flat_map f xs) in let g = h.0 in omega arith
 
--- what holds of each part
+-- a property of each part
 pub each_piece : {A : Type 0} (P Q : List A → Type 0) (n k : ℕ) (x : List A) → ((y : List A) → Q y → P (take k y))
     → ((y : List A) → Q y → Q (drop k y)) → Q x → AllByRecursion P (pieces n k x)
 each_piece P Q zero k x t d q = tt

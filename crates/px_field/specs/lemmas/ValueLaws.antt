@@ -1,4 +1,4 @@
--- Laws of values: what is spelled reads back, and what is read spells as it stood.
+-- Laws of values: decoding an encoded value returns it, and encoding a decoded one returns its bytes.
 use Rattle.std.proofs.Common.{◌≡◌, ℕ, zero, suc, ◌*◌, ◌/◌, ◌%◌, ◌<◌, ◌≤◌, List, [], ◌∷◌, ◌++◌, map, flat_map, length, take, drop, slice_get}
 use Rattle.std.proofs.Common.{slice_index, Some, true, refl, sym, ◌∙◌, ap, ap₂, arith, append-nil, append_assoc, length-drop}
 use Rattle.std.proofs.Common.{take-append-drop}
@@ -24,7 +24,7 @@ use Rattle.px_field.specs.lemmas.ElementLaws.{size-pos, length-spell, element_of
 
 -- ---- elements
 
--- there are as many as asked for
+-- there are n elements
 pub length-elements : (o : Order) (f : Form) (n : ℕ) (x : List ℕ) → length (elements o f n x) ≡ n
 unfolding elements
 length-elements o f n x = length-map (pieces n (size f) x) (element_of o f) ∙ length-pieces n (size f) x
@@ -54,7 +54,7 @@ all_stand o f (suc n) x l h =
     (all_stand o f n (drop (size f) x) (length-drop (size f) x ∙ omega arith) (bytes_drop (size f) x h))
     ∙ take-append-drop (size f) x
 
--- and spell the bytes as they stood
+-- encoding decoded elements returns their bytes
 pub spell-elements : (o : Order) (f : Form) (n : ℕ) (x : List ℕ) → length x ≡ n * size f → AreBytes x
     → flat_map (spell o) (elements o f n x) ≡ x
 unfolding elements
@@ -70,12 +70,12 @@ each_back o f (e ∷ es) h = ap₂ (λ x xs. x ∷ xs) (element_of-spell o f e h
 
 -- ---- values
 
--- a value is spelled by as many bytes as its elements take
+-- a value's encoding has as many bytes as its elements take
 pub length-spelled : (o : Order) (v : Value) → IsValue v → length (spelled o v) ≡ length v.elements * size (form_in v.kind)
 unfolding spelled
 length-spelled o v h = length_joined (size (form_in v.kind)) (spell o) v.elements (each_length o (form_in v.kind) v.elements h)
 
--- the elements of a value, from the bytes that spell it
+-- the elements of a value, from its encoding
 pub elements-spelled : (o : Order) (v : Value) → IsValue v → elements o (form_in v.kind) (length v.elements) (spelled o v) ≡ v.elements
 unfolding elements spelled
 elements-spelled o v h =
@@ -95,7 +95,7 @@ count_in-times f x n h = ap (λ (m : ℕ). m / size f) (sym h) ∙ mul-div_cance
 pub count_in-spelled : (o : Order) (v : Value) → IsValue v → count_in (form_in v.kind) (spelled o v) ≡ length v.elements
 count_in-spelled o v h = count_in-times (form_in v.kind) (spelled o v) (length v.elements) (sym (length-spelled o v h))
 
--- what is read of a type is a value of it
+-- a value that is read of a type is of that type
 pub IsValue-value_in : (o : Order) (f : Form) (x : List ℕ) → AreBytes x → IsValue (value_in o f x)
 IsValue-value_in o f x h = IsOf-elements o f (count_in f x) x h
 
@@ -109,7 +109,7 @@ each_long [] h = refl
 each_long (element.Long n ∷ es) h = ap (λ l. element.Long n ∷ l) (each_long es h.1)
 each_long (_ ∷ es) h = absurd h.0
 
--- what is read as a whole number is one
+-- a value that is read as whole numbers is of kind Whole
 pub IsValue-whole_in : (o : Order) (f : Form) (x : List ℕ) → IsWhole f → AreBytes x → IsValue (whole_in o f x)
 IsValue-whole_in o form.Short x w h =
     each_short (elements o form.Short (count_in form.Short x) x) (IsOf-elements o form.Short (count_in form.Short x) x h)
@@ -123,12 +123,12 @@ IsValue-whole_in o _ x w h = absurd w
 pub widened-long : (o : Order) (n : ℕ) (x : List ℕ) → AreBytes x → map widened (elements o form.Long n x) ≡ elements o form.Long n x
 widened-long o n x h = each_long (elements o form.Long n x) (IsOf-elements o form.Long n x h)
 
--- a value that is read spells the bytes as they stood
+-- encoding a decoded value returns its bytes
 pub spelled-value_in : (o : Order) (f : Form) (x : List ℕ) → length x % size f ≡ 0 → AreBytes x → spelled o (value_in o f x) ≡ x
 unfolding spelled
 spelled-value_in o f x whole h = spell-elements o f (count_in f x) x (sym (count_in-whole f x whole)) h
 
--- and a value that is spelled reads back
+-- decoding an encoded value returns it
 pub value_in-spelled : (o : Order) (f : Form) (v : Value) → v.kind ≡ kind.Of f → IsValue v → value_in o f (spelled o v) ≡ v
 value_in-spelled o f v k h =
     let g : form_in v.kind ≡ f = ap form_in k in
@@ -138,7 +138,7 @@ value_in-spelled o f v k h =
     ∙ elements-spelled o v h in
     ap₂ (λ (k : Kind) (l : List Element). record { kind = k; elements = l }) (sym k) es
 
--- a whole number as LONG, widened
+-- decoding whole numbers as LONG returns them
 pub whole_in-spelled : (o : Order) (v : Value) → v.kind ≡ kind.Whole → IsValue v → whole_in o form.Long (spelled o v) ≡ v
 whole_in-spelled o v k h =
     let g : form_in v.kind ≡ form.Long = ap form_in k in
@@ -166,7 +166,7 @@ elements-bytes o form.Undefined x b =
 elements-bytes o form.Utf8 x b = one_each (count_in form.Utf8 x) x (sym (count_in-times form.Utf8 x (length x) (omega arith)))
 elements-bytes o _ x b = absurd (cc)
 
--- bytes as elements are spelled as they are
+-- bytes as elements encode to themselves
 pub spell-bytes : (o : Order) (x : List ℕ) → flat_map (spell o) (map element.Byte x) ≡ x
 spell-bytes o [] = refl
 spell-bytes o (b ∷ x) = ap (λ (l : List ℕ). b ∷ l) (spell-bytes o x)
@@ -183,14 +183,14 @@ spell-take o (x ∷ es) (suc i) j e h s =
     rw s (ap (λ (l : List ℕ). spell o x ++ l) (spell-take o es i (suc i) e h refl)
     ∙ sym (append_assoc (spell o x) (flat_map (spell o) (take i es)) (spell o e)))
 
--- a whole number that is read of LONGs spells them as they stood
+-- encoding whole numbers that were decoded from LONGs returns their bytes
 pub spelled-whole_in : (o : Order) (x : List ℕ) → length x % 4 ≡ 0 → AreBytes x → spelled o (whole_in o form.Long x) ≡ x
 unfolding spelled
 spelled-whole_in o x whole h =
     ap (λ (es : List Element). flat_map (spell o) es) (widened-long o (count_in form.Long x) x h)
     ∙ spell-elements o form.Long (count_in form.Long x) x (sym (count_in-whole form.Long x whole)) h
 
--- the value that n elements of a type give
+-- the value of n elements of a type
 pub value_in-elements : (o : Order) (f : Form) (n : ℕ) (x : List ℕ) → n * size f ≡ length x
     → value_in o f x ≡ record { kind = kind.Of f; elements = elements o f n x }
 value_in-elements o f n x h = ap (λ (m : ℕ). record { kind = kind.Of f; elements = elements o f m x }) (count_in-times f x n h)
@@ -200,11 +200,11 @@ pub whole_in-elements : (o : Order) (f : Form) (n : ℕ) (x : List ℕ) → n * 
 whole_in-elements o f n x h =
     ap (λ (m : ℕ). record { kind = kind.Whole; elements = map widened (elements o f m x) }) (count_in-times f x n h)
 
--- so many bytes are a whole number of elements
+-- the bytes of n elements are a whole number of elements
 pub whole-times : (f : Form) (n : ℕ) (x : List ℕ) → n * size f ≡ length x → length x % size f ≡ 0
 whole-times f n x h = ap (λ (m : ℕ). m % size f) (sym h) ∙ mul-mod_left n (size f)
 
--- four bytes for each whole number are at most twice as many as were read
+-- four bytes for each whole number are at most twice the bytes that were read
 pub count_in-bound : (f : Form) (x : List ℕ) → IsWhole f → 4 * count_in f x ≤ 2 * length x
 count_in-bound form.Short x h = omega arith
 count_in-bound form.Long x h = omega arith
