@@ -1,5 +1,5 @@
--- A DataSet and its spellings. IIM 4.2, chapter 1: the tag (marker, record number, DataSet number and count), standard
--- and extended, and the data.
+-- DataSets and their encodings. IIM 4.2, chapter 1: the tag (marker, record number, DataSet number and length), standard and
+-- extended, and the data.
 use Rattle.std.specs.Prelude.{◌≡◌, ◌⊎◌, ◌<◌, ◌≤◌, ◌+◌, ℕ, List, [], ◌∷◌, ◌++◌, length, drop}
 use Rattle.px_bytes.specs.declared.Order.TheVariants.{Most}
 use Rattle.px_bytes.specs.Numbers.{number}
@@ -14,27 +14,27 @@ pub record DataSet : Type 0 where
 abbrev pub marker : ℕ
 marker = 28
 
--- the top bit of the two octets of a count: where it is set, they tell how many octets of count follow
+-- the top bit of the two bytes of a length; if it is set, they are the number of bytes of length that follow
 abbrev pub top_bit : ℕ
 top_bit = 32768
 
--- a standard count of n: two octets, most significant first, with top bit 0
+-- a standard length of n: two bytes, most significant first, with top bit 0
 abbrev pub IsStandardCount : ℕ → List ℕ → Type 0
 IsStandardCount n count = (length count ≡ 2) × (number Most 2 count ≡ n) × (n < top_bit)
 
--- an extended count of n: two octets with top bit 1 whose other bits give k, then k octets, most significant first; k is
--- from 1 to 4 here
+-- an extended length of n: two bytes with top bit 1 whose other bits are k, then k bytes, most significant first; k is from 1 to
+-- 4 here
 abbrev pub IsExtendedCount : ℕ → List ℕ → Type 0
 IsExtendedCount n count =
     (k : ℕ) × (1 ≤ k) × (k ≤ 4) × (length count ≡ 2 + k) × (number Most 2 count ≡ top_bit + k) × (number Most k (drop 2 count) ≡ n)
 
--- x is a spelling of the DataSet
+-- x is an encoding of the DataSet
 abbrev pub IsSpelling : DataSet → List ℕ → Type 0
 IsSpelling d x =
     (count : List ℕ) × (x ≡ marker ∷ d.rec ∷ d.number ∷ (count ++ d.octets)) × (IsStandardCount (length d.octets) count ⊎ IsExtendedCount
     (length d.octets) count)
 
--- x is a spelling of each DataSet, one behind another
+-- x is an encoding of each DataSet, one after another
 abbrev pub Spells : List DataSet → List ℕ → Type 0
 Spells [] x = x ≡ []
 Spells (d ∷ ds) x = (a : List ℕ) × (b : List ℕ) × (x ≡ a ++ b) × IsSpelling d a × Spells ds b

@@ -1,5 +1,5 @@
--- Groups of DataSets. The order of DataSets counts inside a group alone; IIM 4.2, chapter 6, ties some DataSets of
--- record 2 to others by their order.
+-- Groups of DataSets. The order of DataSets matters only inside a group; IIM 4.2, chapter 6, relates some DataSets of record 2 to
+-- others by their order.
 use Rattle.std.specs.Prelude.{◌≡◌, ◌<◌, ◌≤◌, ◌==◌, ℕ, nat_lt, Bool, true, ◌&&◌, ◌||◌, if◌then◌else◌, Option, Some, None, List, [], ◌∷◌}
 use Rattle.std.specs.Prelude.{◌++◌, length, filter_map, ⊤}
 use Rattle.std.specs.List.{AllByRecursion}
@@ -13,12 +13,12 @@ pub record Group : Type 0 where
   pub number : ℕ
   pub items : List (ℕ × List ℕ)
 
--- what a block means: its groups, in ascending order of record, then number
+-- the meaning of a block: its groups, in ascending order of record, then number
 abbrev pub Record : Type 0
 Record = List Group
 
--- the number that names a DataSet's group: 2:27 (name of a content location) goes with 2:26 (its code), 2:47 and 2:50
--- (date and number of a reference) with 2:45 (its service), 2:85 (by-line title) with 2:80 (by-line)
+-- the number that names a DataSet's group: 2:27 (name of a content location) is with 2:26 (its code), 2:47 and 2:50 (date and
+-- number of a reference) with 2:45 (its service), 2:85 (by-line title) with 2:80 (by-line)
 unfoldable pub named : ℕ → ℕ → ℕ
 named rec number =
     if rec == 2 then (if number == 27 then 26 else if (number == 47) || (number == 50) then 45 else if number == 85 then 80 else number)
@@ -35,16 +35,16 @@ abbrev pub IsAscending : Record → Type 0
 IsAscending [] = ⊤
 IsAscending (g ∷ gs) = AllByRecursion (λ h. is_before g.rec g.number h.rec h.number ≡ true) gs × IsAscending gs
 
--- the list of the group that is so named, empty where there is none
+-- the list of the group with this name, empty if there is none
 abbrev pub items_at : ℕ → ℕ → Record → List (ℕ × List ℕ)
 items_at rec number [] = []
 items_at rec number (g ∷ gs) = if is_at rec number g then g.items else items_at rec number gs
 
--- a DataSet as an item of the group
+-- a DataSet as an item of a group, if it belongs to that
 abbrev pub item_in : ℕ → ℕ → DataSet → Option (ℕ × List ℕ)
 item_in rec number d = if (d.rec == rec) && (named d.rec d.number == number) then Some (d.number, d.octets) else None
 
--- the record holds the DataSets of the sequence: under each group those that belong to it, in order
+-- the record has the DataSets of the sequence: each group has those that belong to it, in order
 pub record Gathers (sequence : List DataSet) (i : Record) : Type 0 where
   pub ascending : IsAscending i
   pub some : AllByRecursion (λ g. 1 ≤ length g.items) i
@@ -69,7 +69,7 @@ unfoldable pub gather : Record → List DataSet → Record
 gather i [] = i
 gather i (d ∷ ds) = gather (put d i) ds
 
--- one of a group's DataSets: in the range of its type, and of the group that is so named
+-- a DataSet of the group: its number belongs to the group, and it is in the range of its type
 pub record IsItem (rec number : ℕ) (x : ℕ × List ℕ) : Type 0 where
   pub byte : x.0 < 256
   pub member : named rec x.0 ≡ number
@@ -86,7 +86,7 @@ pub record AreGroups (i : Record) : Type 0 where
   pub ascending : IsAscending i
   pub groups : AllByRecursion IsGroup i
 
--- what a block can say: it has a DataSet
+-- a record that a block can have: it has a DataSet
 pub record IsRecord (i : Record) : Type 0 where
   pub some : 1 ≤ length i
   pub whole : AreGroups i

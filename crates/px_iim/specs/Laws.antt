@@ -1,4 +1,4 @@
--- The laws over the definitions alone.
+-- The laws of the definitions.
 use Rattle.std.specs.Prelude.{◌≡◌, ◌≤◌, ◌⊎◌, ◌↔◌, ◌*◌, ℕ, List, [], ◌∷◌, ◌++◌, Some, length, filter_map}
 use Rattle.px_bytes.specs.declared.Cause.{Cause}
 use Rattle.px_bytes.specs.Numbers.{AreBytes}
@@ -8,15 +8,15 @@ use Rattle.px_iim.specs.Group.{Record, items_at, item_in, IsAscending, put, Gath
 use Rattle.px_iim.specs.Record.{SaysIim, iim_of, normal_iim}
 use Rattle.px_iim.specs.Check.{FirstFault, Fault}
 
--- A block says at most one record.
+-- A block has at most one record.
 abbrev pub OneRecord : Type 0
 OneRecord = (x : List ℕ) (i j : Record) → SaysIim x i → SaysIim x j → i ≡ j
 
--- What a block says is computed.
+-- The record of a block can be computed.
 abbrev pub Computes : Type 0
 Computes = (x : List ℕ) (i : Record) → SaysIim x i ↔ (iim_of x ≡ Some i)
 
--- One more DataSet stands at the end of its group's list, and no other list changes.
+-- A new DataSet is the last of its group's list, and no other list changes.
 abbrev pub PutAppends : Type 0
 PutAppends = (d : DataSet) (i : Record) → IsAscending i →
     IsAscending (put d i) × ((rec number : ℕ) → items_at rec number (put d i) ≡ items_at rec number i
@@ -26,11 +26,11 @@ PutAppends = (d : DataSet) (i : Record) → IsAscending i →
 abbrev pub GatherGathers : Type 0
 GatherGathers = (ds : List DataSet) (i : Record) → Gathers ds i ↔ (gather [] ds ≡ i)
 
--- What a block of octets says is a record.
+-- The meaning of a block of bytes is a valid record.
 abbrev pub SaidIsRecord : Type 0
 SaidIsRecord = (x : List ℕ) (i : Record) → AreBytes x → SaysIim x i → IsRecord i
 
--- A normal form is of octets, five or more, and says its record.
+-- A normal form has five bytes or more, and has its record as its meaning.
 abbrev pub NormalSays : Type 0
 NormalSays =
     (i : Record) → IsRecord i → AreBytes (normal_iim i) × (5 ≤ length (normal_iim i)) × (length (normal_iim i) ≤ limit → SaysIim
@@ -41,11 +41,11 @@ abbrev pub NormalTells : Type 0
 NormalTells = (i j : Record) → IsRecord i → IsRecord j → length (normal_iim i) ≤ limit → length (normal_iim j) ≤ limit
     → (normal_iim i ≡ normal_iim j) ↔ (i ≡ j)
 
--- A normal form is at most twice as long as any block that says its record.
+-- A normal form is at most twice as long as any block with its record.
 abbrev pub NormalBound : Type 0
 NormalBound = (x : List ℕ) (i : Record) → SaysIim x i → length (normal_iim i) ≤ 2 * length x
 
--- The first fault stands; where a fault stands no record is said; and each block says a record or has a first fault.
+-- There is at most one first fault. A block with a fault has no record, and each block has a record or a first fault.
 abbrev pub FaultsTell : Type 0
 FaultsTell = ((x : List ℕ) (c : Cause) (p : ℕ) → FirstFault x c p → Fault x c p)
     × ((x : List ℕ) (c : Cause) (p : ℕ) (i : Record) → Fault x c p → SaysIim x i → ⊥)

@@ -1,4 +1,4 @@
--- What a block says, and its normal form.
+-- The record of a block, and its normal form.
 use Rattle.std.specs.Prelude.{◌≡◌, ◌≤◌, ◌+◌, ◌-◌, ◌==◌, ℕ, zero, suc, nat_lt, nat_le, Bool, ◌&&◌, ◌||◌, if◌then◌else◌, Option, Some, None}
 use Rattle.std.specs.Prelude.{option_map, List, [], ◌∷◌, ◌++◌, length, drop, slice_index, flat_map}
 use Rattle.std.specs.List.{AllByRecursion, list_all}
@@ -8,9 +8,9 @@ use Rattle.px_bytes.specs.Parts.{limit, part}
 use Rattle.px_iim.specs.DataSet.{DataSet, marker, top_bit, Spells}
 use Rattle.px_iim.specs.Group.{Group, Record, Gathers, gather}
 
--- ---- what a block says
+-- ---- the record of a block
 
--- some DataSets, one behind another, then at most three zero octets; the record holds these DataSets
+-- some DataSets, one after another, then at most three zero bytes; the record has these DataSets
 pub record SaysIim (x : List ℕ) (i : Record) : Type 0 where
   pub bounded : length x ≤ limit
   pub sequence : List DataSet
@@ -23,21 +23,21 @@ pub record SaysIim (x : List ℕ) (i : Record) : Type 0 where
   pub blank : AllByRecursion (λ o. o ≡ 0) zeros
   pub gathered : Gathers sequence i
 
--- ---- the same, computed. Below, x is the octets from a place on, where a DataSet may begin
+-- ---- the same, computed; below, x are the bytes from an offset on at which a DataSet may begin
 
--- the two octets of the count
+-- the first two bytes of the length
 abbrev pub form : List ℕ → ℕ
 form x = number Most 2 (drop 3 x)
 
--- how many octets of count follow these two
+-- how many bytes of length follow these two
 abbrev pub extra : List ℕ → ℕ
 extra x = if nat_lt (form x) top_bit then 0 else form x - top_bit
 
--- the count: how many octets of data there are
+-- the length: the number of bytes of data
 abbrev pub count : List ℕ → ℕ
 count x = if nat_lt (form x) top_bit then form x else number Most (extra x) (drop 5 x)
 
--- the octets of the whole DataSet
+-- the number of bytes of the whole DataSet
 abbrev pub size : List ℕ → ℕ
 size x = 5 + extra x + count x
 
@@ -53,7 +53,7 @@ is_dataset x = is_marked x && nat_le 5 (length x) && has_form x && nat_le (5 + e
 unfoldable pub dataset : List ℕ → DataSet
 dataset x = record { rec = slice_index x 1; number = slice_index x 2; octets = part x (5 + extra x) (count x) }
 
--- at most three zero octets are left
+-- at most three bytes are left, all zero
 abbrev pub is_end : List ℕ → Bool
 is_end x = nat_le (length x) 3 && list_all (λ o. o == 0) x
 
@@ -65,13 +65,13 @@ sequence_of (suc n) x =
     then option_map (λ ds. dataset x ∷ ds) (if is_end (drop (size x) x) then Some [] else sequence_of n (drop (size x) x))
     else None
 
--- the record that a block says, if it says one
+-- the record of a block, if it has one
 unfoldable pub iim_of : List ℕ → Option Record
 iim_of x = if nat_le (length x) limit then option_map (gather []) (sequence_of (length x) x) else None
 
 -- ---- the normal form
 
--- the standard count, up to 32,767 octets, else the extended one with four octets
+-- the standard length up to 32,767 bytes, otherwise the extended one with four bytes
 unfoldable pub normal_count : ℕ → List ℕ
 normal_count n = if nat_lt n top_bit then spelling Most 2 n else spelling Most 2 (top_bit + 4) ++ spelling Most 4 n
 
@@ -81,6 +81,6 @@ normal_dataset rec x = marker ∷ rec ∷ x.0 ∷ (normal_count (length x.1) ++ 
 abbrev pub normal_group : Group → List ℕ
 normal_group g = flat_map (normal_dataset g.rec) g.items
 
--- the groups in order, each list in its order, and nothing behind
+-- the groups in order, each list in its order, and nothing after them
 abbrev pub normal_iim : Record → List ℕ
 normal_iim i = flat_map normal_group i

@@ -1,4 +1,4 @@
--- What writing a record does.
+-- The effect of writing a record.
 use Rattle.std.specs.Prelude.{◌≡◌, ◌<◌, ◌≤◌, ◌+◌, ℕ, nat_le, if◌then◌else◌, List, length, Option, Some, None, Result, Ok}
 use Rattle.std.specs.Prelude.{Err}
 use Rattle.std.specs.Io.KnownBytes.{Appends}
@@ -13,12 +13,12 @@ use Rattle.px_iim.specs.Record.{normal_iim}
 abbrev pub most : ℕ
 most = 33554432
 
--- the length, where it is at most that
+-- the length, if it is at most that
 abbrev pub within : ℕ → Option ℕ
 within n = if nat_le n most then Some n else None
 
--- the writer has taken the record's normal form, whose length is answered; a form that is too long leaves the writer as it
--- was; where a call failed, the writer has taken a prefix of the form
+-- the writer has taken the record's normal form, and the result is its length; a form that is too long leaves the writer
+-- unchanged; if a call failed, the writer has taken a prefix of the form
 abbrev pub WritesIim : Result ℕ WriteRefusal → Option (List ℕ) → Option (List ℕ) → ℕ → ℕ → Record → Type 0
 WritesIim (Ok n) old new failed failed_now i =
     Appends old new (normal_iim i) × (n ≡ length (normal_iim i)) × (n ≤ limit) × (failed_now ≡ failed)

@@ -1,4 +1,4 @@
--- Lemmas: proved here, and not to be read to know what is promised.
+-- Lemmas. Readers of the promises don't need them.
 pub mod KeyLaws
 pub mod GroupLaws
 pub mod GatherLaws

@@ -1,4 +1,4 @@
-// One DataSet, read from the front of some octets. IIM 4.2, chapter 1.
+// Reads one DataSet from the start of some bytes. IIM 4.2, chapter 1.
 ghost use Rattle.std.specs.Prelude.{◌≡◌, ◌+◌, ◌≤◌, ◌<◌, ℕ, List, length, drop, true, Some, MatchResult};
 ghost use Rattle.px_bytes.specs.declared.Order.TheVariants.{Most};
 ghost use Rattle.px_bytes.specs.Checks.{first_false};
@@ -13,11 +13,11 @@ use px_bytes::{Cause, Order, Refusal};
 /// The tag marker with which each DataSet begins.
 pub(crate) const MARKER: u8 = 0x1C;
 
-/// The top bit of the two octets of a count: where it is set, the other bits tell how many octets
-/// of count follow.
+/// The top bit of the two bytes of a length. If it is set, the other bits are the number of bytes of the
+/// length that follows.
 pub(crate) const TOP_BIT: u32 = 0x8000;
 
-// A DataSet, and how many octets it takes.
+// A DataSet, and the number of its bytes.
 #[derive(Clone, Copy)]
 pub(crate) struct Found<'a> {
     pub(crate) rec: u8,
@@ -26,7 +26,7 @@ pub(crate) struct Found<'a> {
     pub(crate) size: usize,
 }
 
-// What is left from a place on.
+// The bytes from an index on.
 pub(crate) fn rest(bytes: &[u8], at: usize) -> &[u8]
     requires { at ≤ length bytes.now }
     ensures { result.now ≡ drop at bytes.now }
@@ -40,7 +40,7 @@ fn is_marked(octets: &[u8]) -> bool
     !octets.is_empty() && octets[0] == MARKER
 }
 
-// The two octets of the count.
+// The first two bytes of the length.
 fn form(octets: &[u8]) -> u32
     requires { 5 ≤ length octets.now }
     ensures value { result ≡ form octets.now }
@@ -49,7 +49,7 @@ fn form(octets: &[u8]) -> u32
     u32::from(Order::Most.get16(&octets[3..5]))
 }
 
-// How many octets of count follow these two, which were read as `pair`.
+// How many bytes of length follow the first two, which were read as `pair`.
 fn extra(pair: u32) -> u32
     ensures value { (x : List ℕ) → pair ≡ form x → result ≡ extra x }
     ensures bound { result ≤ pair }
@@ -70,7 +70,7 @@ fn has_form(pair: u32) -> bool
     1 <= extra && extra <= 4
 }
 
-// The number of up to four octets, the most significant first.
+// The number in up to four bytes, most significant first.
 fn number_of(octets: &[u8]) -> u32
     requires { length octets.now ≤ 4 }
     ensures { result ≡ number Most (length octets.now) octets.now }
@@ -82,7 +82,7 @@ fn number_of(octets: &[u8]) -> u32
     number
 }
 
-// The count, whose first two octets were read as `pair`.
+// The length; its first two bytes were read as `pair`.
 fn count(octets: &[u8], pair: u32) -> u32
     requires there { 5 + extra octets.now ≤ length octets.now }
     requires formed { has_form octets.now ≡ true }
@@ -96,7 +96,7 @@ fn count(octets: &[u8], pair: u32) -> u32
     number_of(&octets[5..5 + extra])
 }
 
-// The DataSet that stands in front, or what is wrong with it.
+// The DataSet at the start of some bytes, or its fault.
 pub(crate) fn read_dataset<'a>(octets: &'a [u8]) -> Result<Found<'a>, Cause>
     ensures { MatchResult result (Reads octets.now) (λ cause. (p : ℕ) → first_false (dataset_checks p octets.now) ≡ Some (cause, p)) }
 {
@@ -126,7 +126,7 @@ pub(crate) fn read_dataset<'a>(octets: &'a [u8]) -> Result<Found<'a>, Cause>
     })
 }
 
-// The DataSet that stands in front of octets which were judged: nothing is compared again.
+// The DataSet at the first octet of octets that begin with one: it does not test them again.
 pub(crate) fn judged_dataset<'a>(octets: &'a [u8]) -> Found<'a>
     requires { is_dataset octets.now ≡ true }
     ensures { Reads octets.now result }
@@ -142,14 +142,14 @@ pub(crate) fn judged_dataset<'a>(octets: &'a [u8]) -> Found<'a>
     }
 }
 
-// Whether at most three zero octets are left.
+// Whether at most three bytes are left, all zero.
 pub(crate) fn is_end(octets: &[u8]) -> bool
     ensures { result ≡ is_end octets.now }
 {
     octets.len() <= 3 && octets.iter().all(|octet| *octet == 0)
 }
 
-// The DataSet at a place, or the refusal of it.
+// The DataSet at an offset, or its refusal.
 pub(crate) fn dataset_at<'a>(bytes: &'a [u8], at: usize) -> Result<Found<'a>, Refusal>
     requires inside { at ≤ length bytes.now }
     requires bounded { length bytes.now ≤ limit }

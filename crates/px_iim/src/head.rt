@@ -7,7 +7,7 @@ ghost use Rattle.px_iim.specs.calls.Heads.{normal_head};
 use crate::dataset::{MARKER, TOP_BIT};
 use px_bytes::Order;
 
-/// The longest head: the marker, two numbers, an extended count of four octets.
+/// The longest head in bytes: the marker, two numbers, and an extended length of six bytes.
 pub(crate) const HEAD: usize = 9;
 
 fn two_octets(n: u16) -> [u8; 2]
@@ -26,7 +26,7 @@ fn four_octets(n: u32) -> [u8; 4]
     octets
 }
 
-// The octets before the data, and how many there are.
+// The bytes before the data, and how many there are.
 #[tactic(auto, unfolding(crate::specs::calls::Heads::normal_head))]
 pub(crate) fn head(rec: u8, number: u8, count: u32) -> ([u8; HEAD], usize)
     ensures spelled { take result.1 result.0 ≡ normal_head rec number count }

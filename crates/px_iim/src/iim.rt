@@ -16,19 +16,19 @@ use px_bytes::{Memory, Refused};
 use std::alloc::{AllocError, Global};
 use std::marker::Model;
 
-/// What an IIM block says: a map from group to a list of DataSets, of which none is empty. Contracts
-/// see it as the list of its groups in ascending order of record, then number. The data are borrowed.
+/// The meaning of an IIM block: a map from group to a list of DataSets, none of which is empty. Contracts see
+/// it as the list of its groups, in ascending order of record, then number. The data are borrowed.
 ///
-/// All DataSets stand in one list, in the order of their groups, so a group is a part of that list, which is
-/// found by halving. One takes 24 bytes beside its data, and there is no other list. The length of the normal
-/// form is kept.
+/// All DataSets are in one vector, in the order of their groups. A group is a part of that vector and is
+/// found by binary search. Each DataSet takes 24 bytes besides its data. The length of the normal form is
+/// kept too.
 #[derive(Drop)]
 pub struct Iim<'a> {
-    // For `push`, whose refusals no one else is told.
+    // For `push`, which reports an error but counts no failed allocations.
     own: Memory,
-    // In ascending order of their groups; those of a group in its order.
+    // In ascending order of their groups; within a group in its order.
     items: Vec<Item<'a>>,
-    // The length of the normal form, counted up to twice LIMIT.
+    // The length of the normal form in bytes, or None above twice `LIMIT`.
     form_len: Option<u32>,
 }
 
@@ -50,14 +50,14 @@ impl<'a> Model for Iim<'a> {
 }
 
 impl<'a> Iim<'a> {
-    /// A record without a DataSet. It takes no memory.
+    /// A record without a DataSet, with memory of its own. It allocates nothing.
     pub fn new(alloc: Global) -> Iim<'a>
         ensures { result ≡ [] }
     {
         Iim::new_in(&Memory::new(alloc))
     }
 
-    /// A record without a DataSet, in the memory that is lent. It takes none.
+    /// A record without a DataSet. Later calls use the allocator of `memory`. It allocates nothing.
     pub fn new_in(memory: &Memory) -> Iim<'a>
         ensures { result ≡ [] }
     {
@@ -68,7 +68,7 @@ impl<'a> Iim<'a> {
         }
     }
 
-    // A record without a DataSet, with room for so many.
+    // A record without a DataSet, with capacity for so many.
     pub(crate) fn with_room(memory: &mut Memory, count: usize) -> Result<Iim<'a>, Refused>
         requires { 5 * count ≤ limit }
         ensures none { IfOk result (λ i. i ≡ []) }
@@ -93,9 +93,7 @@ impl<'a> Iim<'a> {
         record
     }
 
-    /// Puts a DataSet, of any record number and number and at most `LIMIT` octets of data, at the end of
-    /// its group. It takes memory for it; where that is refused, nothing changes. One that belongs before
-    /// others moves these.
+    /// Like `push_in`, with memory of its own.
     pub fn push(&mut self, rec: u8, number: u8, octets: &'a [u8]) -> Result<(), AllocError>
         requires { length octets.now ≤ limit }
         ensures done { OnOk result (self.new ≡ put (record { rec = rec; number = number; octets = octets.now }) self.old) }
@@ -106,8 +104,9 @@ impl<'a> Iim<'a> {
         Ok(())
     }
 
-    /// Puts a DataSet as `push` does, in the memory that is lent: an error tells that it refused a growth in
-    /// this call.
+    /// Appends a DataSet to its group, with any record number, any DataSet number, and at most `LIMIT` bytes
+    /// of data. A DataSet that is not the last of the record moves those after it. `Err`: an allocation
+    /// failed, and nothing has changed.
     pub fn push_in(
         &mut self,
         memory: &mut Memory,
@@ -131,14 +130,15 @@ impl<'a> Iim<'a> {
         Ok(())
     }
 
-    /// Whether it has no DataSet. It takes no memory.
+    /// Whether it has no DataSet. It allocates nothing.
     pub fn is_empty(&self) -> bool
         ensures { result ≡ (length self.now == 0) }
     {
         self.items.is_empty()
     }
 
-    /// How many groups there are, at most 65,536. It takes no memory, and passes all DataSets.
+    /// The number of groups, at most 65,536. It allocates nothing. The cost is linear in the number of
+    /// DataSets.
     pub fn groups(&self) -> u32
         ensures count { result ≡ length self.now }
         ensures whole { AreGroups self.now }
@@ -150,8 +150,8 @@ impl<'a> Iim<'a> {
         count
     }
 
-    /// The groups in ascending order, each as `group_at` gives it: for all of them, it is quicker than
-    /// `group_at` for each place. It takes no memory.
+    /// The groups in ascending order, each as `group_at` returns it. One pass over them is faster than a call
+    /// of `group_at` for each. It allocates nothing.
     pub fn iter(&self) -> Groups<'_, 'a>
         ensures all { result ≡ self.now }
         ensures whole { AreGroups self.now }
@@ -162,15 +162,15 @@ impl<'a> Iim<'a> {
         }
     }
 
-    // The length of the normal form in octets, where it is at most twice LIMIT.
+    // The length of the normal form in bytes, or None if it is more than twice `LIMIT`.
     pub(crate) fn form_len(&self) -> Option<u32>
         ensures { result ≡ within (length (normal_iim self.now)) }
     {
         self.form_len
     }
 
-    /// The group that holds this number, also where another number names it: its DataSets in order, none
-    /// where there is no such group. It takes no memory.
+    /// The group of a DataSet number, even if another number names the group: its DataSets in order, none
+    /// without such a group. It allocates nothing.
     pub fn group(&self, rec: u8, number: u8) -> &[Item<'a>]
         ensures { map item_view result.now ≡ items_at rec (named rec number) self.now }
     {
@@ -180,7 +180,7 @@ impl<'a> Iim<'a> {
         behind.split_at(count_before(behind, key + 1)).0
     }
 
-    /// The data of the DataSets of this number alone, in their group's order. It takes no memory.
+    /// The data of the DataSets with exactly this number, in their group's order. It allocates nothing.
     pub fn all(&self, rec: u8, number: u8) -> All<'_, 'a>
         ensures { octets_left result ≡ octets_of number (items_at rec (named rec number) self.now) }
     {
@@ -191,9 +191,9 @@ impl<'a> Iim<'a> {
         }
     }
 
-    /// The group at a place, in ascending order of record, then number: the record and the number that
-    /// name it, and its DataSets. The place is below `groups`. It takes no memory, and passes the groups
-    /// before it.
+    /// The group at index `i`, below `groups`, in ascending order of record, then number: the record and
+    /// number that name it, and its DataSets. It allocates nothing. The cost is linear in the DataSets of the
+    /// groups before it.
     pub fn group_at(&self, i: u32) -> (u8, u8, &[Item<'a>])
         requires { i < length self.now }
         ensures { slice_get self.now i ≡ Some (part_view result) }

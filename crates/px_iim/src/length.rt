@@ -9,10 +9,10 @@ use crate::dataset::TOP_BIT;
 use crate::group::Item;
 use px_bytes::LIMIT;
 
-// A normal form is counted up to this length.
+// The greatest length of a normal form that is counted, in bytes.
 const MOST: u32 = 2 * LIMIT;
 
-// How long a DataSet is up to its data.
+// The length of a DataSet up to its data, in bytes.
 fn head_len(count: u32) -> u32
     ensures value { result ≡ 3 + length (normal_count count) }
     ensures bound { result ≤ 9 }
@@ -23,7 +23,7 @@ fn head_len(count: u32) -> u32
     9
 }
 
-// A length with one more DataSet, where it is at most MOST.
+// A length and one more DataSet, or None above MOST.
 fn with_item(total: u32, item: &Item) -> Option<u32>
     requires counted { total ≤ 2 * limit }
     requires short { length item.now.octets.now ≤ limit }
@@ -37,7 +37,7 @@ fn with_item(total: u32, item: &Item) -> Option<u32>
     Some(longer)
 }
 
-// The length of a normal form, counted up to MOST, with one more DataSet.
+// The length of a normal form and one more DataSet, or None above MOST.
 pub(crate) fn longer(len: Option<u32>, item: &Item) -> Option<u32>
     requires counted { IfSome len (λ total. total ≤ 2 * limit) }
     requires short { length item.now.octets.now ≤ limit }

@@ -1,14 +1,15 @@
-//! Caption records of IPTC-NAA IIM 4.2: DataSets read into groups, compared, and written in one
-//! normal form. It reads no character set, knows no DataSet by its name, and repairs nothing.
+//! Records of IPTC-NAA IIM 4.2: DataSets are read into groups, compared, and written in the normal form. This
+//! crate decodes no character set, knows no DataSet by name, and repairs nothing.
 //!
-//! A record is a map from group to a list of DataSets. The order of DataSets counts inside a group
-//! alone: in record 2 the numbers 26 and 27, 45, 47 and 50, 80 and 85 share a group; every other
-//! number of any record has one of its own. `Iim::push` and `read_iim` take memory, and so does
-//! `append_iim` for the vector; no other call does. Each has a sister with the memory that is lent, as
-//! `read_iim_in`: it tells whether a growth was refused.
+//! A record is a map from group to a list of DataSets. The order of DataSets matters only inside a group. In
+//! record 2 these numbers share a group: 26 and 27; 45, 47 and 50; 80 and 85. Every other number of any
+//! record has a group of its own.
+//!
+//! Only `Iim::push`, `read_iim`, `append_iim` and their `_in` forms allocate. An `_in` form takes a `Memory`,
+//! which counts failed allocations. The other form is for callers of this crate: nothing that ships calls it.
 //!
 //! ```
-//! let block = b"\x1c\x02\x78\x80\x04\x00\x00\x00\x03abc\x00"; // an extended count, and a zero behind
+//! let block = b"\x1c\x02\x78\x80\x04\x00\x00\x00\x03abc\x00"; // an extended length, then a zero
 //! let iim = read_iim(rt.alloc(), block)?;
 //! let captions = iim.group(2, 120); // one item, its data is "abc"
 //! let mut again = Iim::new(rt.alloc());

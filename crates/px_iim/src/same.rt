@@ -1,4 +1,4 @@
-// Records that are the same.
+// Compares records.
 ghost use Rattle.std.specs.Prelude.{◌≡◌, map, MatchBool};
 ghost use Rattle.px_iim.specs.calls.View.{item_view, part_view};
 
@@ -38,8 +38,8 @@ fn same_group(first: (u8, u8, &[Item]), second: (u8, u8, &[Item])) -> bool
     first.0 == second.0 && first.1 == second.1 && same_items(first.2, second.2)
 }
 
-/// Whether two records hold the same groups with the same lists: the same numbers and data in the same
-/// order. It takes no memory.
+/// Whether two records have the same groups with the same lists: the same numbers and data in the same order.
+/// It allocates nothing.
 pub fn same_iim(first: &Iim, second: &Iim) -> bool
     ensures { MatchBool result (first.now ≡ second.now) (first.now ≡ second.now → ⊥) }
 {

@@ -1,4 +1,4 @@
-// A record gone through once, group by group.
+// Iterates over a record, group by group.
 ghost use Rattle.std.specs.Prelude.{◌≡◌, ◌≤◌, ◌<◌, ℕ, length, slice_index_or};
 ghost use Rattle.std.specs.Iterator.{item_count, YieldsFirstBy};
 ghost use Rattle.px_iim.specs.calls.Runs.{key_of as group_key};
@@ -8,7 +8,7 @@ ghost use Rattle.px_iim.specs.declared.group.Item.{Item as AnyItem};
 use crate::group::{Item, key_of, named};
 use std::marker::Model;
 
-// How many in front are of the first one's group.
+// The number of DataSets at the start that are in the first one's group.
 fn run_len(items: &[Item]) -> usize
     requires { 0 < length items.now }
     ensures some { 1 ≤ result }
@@ -31,12 +31,12 @@ fn run_len(items: &[Item]) -> usize
     end
 }
 
-/// The groups that are left of a record, in ascending order: what `Iim::iter` answers. Each is the record
-/// and the number that name it, and its DataSets. Contracts see the list of those that are left. It takes
-/// no memory.
+/// The groups of a record that are left, in ascending order: the result of `Iim::iter`. Each item is the
+/// record and number that name the group, and its DataSets. Contracts see the list of the groups left. It
+/// allocates nothing.
 #[derive(Drop)]
 pub struct Groups<'b, 'a> {
-    // The record's DataSets in the order of their groups; the first `at` of them were given.
+    // The record's DataSets in the order of their groups; the first `at` of them were returned already.
     pub(crate) items: &'b [Item<'a>],
     pub(crate) at: usize,
 }

@@ -1,4 +1,4 @@
-// The normal form, written and measured.
+// Writes and measures the normal form.
 ghost use Rattle.std.specs.Prelude.{◌≡◌, ◌≤◌, ◌<◌, ◌++◌, length, map, OnOk, OnErr};
 ghost use Rattle.std.specs.List.{flat_map};
 ghost use Rattle.px_bytes.specs.Devices.{CanFail, Counts};
@@ -50,10 +50,10 @@ fn put_group<W: Sink>(
     Ok(())
 }
 
-/// Puts the normal form behind the octets that wait, group by group: where these are 8,192 octets together,
-/// or fewer, all of them wait, and the writer isn't called. It takes no memory, and ends at the first call
-/// that fails: the writer has then taken a prefix of those that waited and of the form behind them. A record
-/// that isn't empty gives at least five octets.
+/// Adds the normal form to the output buffer, group by group. If the buffered bytes and the form are at most
+/// 8,192 bytes, all are buffered, and the writer isn't called. It allocates nothing. It ends at the first
+/// call that fails: the writer has then taken a prefix of the buffered bytes and of the form after them. A
+/// record with a DataSet has a form of at least five bytes.
 pub fn put_iim<W: Sink>(pending: &mut Pending, writer: &mut W, iim: &Iim) -> Result<(), Failed>
     requires { CanFail (W.failed writer.old) }
     ensures bytes { Puts result (W.bytes_taken writer.old) (W.bytes_taken writer.new) pending.old pending.new (normal_iim iim.now) }
@@ -66,23 +66,22 @@ pub fn put_iim<W: Sink>(pending: &mut Pending, writer: &mut W, iim: &Iim) -> Res
     Ok(())
 }
 
-/// The length of the normal form in octets; None where it is more than twice `LIMIT`. The record keeps it,
-/// so it costs nothing to ask again. It takes no memory.
+/// The length of the normal form in bytes, or None if it is more than twice `LIMIT`. The record keeps it, so
+/// the call is cheap. It allocates nothing.
 pub fn normal_len(iim: &Iim) -> Option<u32>
     ensures { result ≡ within (length (normal_iim iim.now)) }
 {
     iim.form_len()
 }
 
-/// Writes the normal form and answers its length, at most `LIMIT`: the groups in ascending order, each
-/// list in its order, a standard count up to 32,767 octets of data, else `80 04` and four octets. The
-/// record isn't empty. No flush follows.
+/// Writes the normal form of a record that isn't empty, and returns its length, at most `LIMIT`: the groups
+/// in ascending order, each list in its order, a standard length up to 32,767 bytes of data, otherwise `80
+/// 04` and four bytes. It doesn't flush.
 ///
-/// NormalTooLong is answered before the first octet, where the form is longer than `LIMIT`; WriteFailed
-/// at the first failed call, after which the writer has taken a prefix of the form. A form of at most 8,192
-/// octets goes out in one whole write: all of it waits (`put_iim`, clause `waits`), and is then sent. Octets
-/// of a longer one go out in writes of up to 8,192, longer data at once; no memory is taken, but for such a
-/// buffer on the stack.
+/// It allocates nothing: the output buffer is on the stack. A form of at most 8,192 bytes is written at once;
+/// a longer one in parts of up to 8,192 bytes, and longer data directly. `NormalTooLong`: the form is longer
+/// than `LIMIT`, and nothing was written. `WriteFailed`: a call of the writer failed, and it has taken a
+/// prefix of the form.
 pub fn write_iim_part<W: Sink>(iim: &Iim, writer: &mut W) -> Result<u64, WriteRefusal>
     requires few { CanFail (W.failed writer.old) }
     requires some { 0 < length iim.now }
@@ -98,8 +97,8 @@ pub fn write_iim_part<W: Sink>(iim: &Iim, writer: &mut W) -> Result<u64, WriteRe
     Ok(u64::from(len))
 }
 
-/// Writes the normal form as `write_iim_part` does, and flushes once behind the last octet. A failed
-/// flush is WriteFailed.
+/// Like `write_iim_part`, but flushes once after the last byte. `WriteFailed` also means that the flush
+/// failed.
 pub fn write_iim<W: Sink>(iim: &Iim, writer: &mut W) -> Result<u64, WriteRefusal>
     requires few { CanFail (W.failed writer.old) }
     requires some { 0 < length iim.now }
@@ -146,8 +145,7 @@ fn append_record(memory: &mut Memory, iim: &Iim, out: &mut Vec<u8>) -> Result<()
     Ok(())
 }
 
-/// Appends the normal form, which is at most twice `LIMIT` long (`normal_len` is Some). It takes memory
-/// for the vector; where that is refused, the vector holds what it held.
+/// Like `append_iim_in`, with memory of its own.
 pub fn append_iim(iim: &Iim, out: &mut Vec<u8>) -> Result<(), AllocError>
     requires { length (normal_iim iim.now) ≤ most }
     ensures done { OnOk result (out.new.items ≡ out.old.items ++ normal_iim iim.now) }
@@ -158,8 +156,8 @@ pub fn append_iim(iim: &Iim, out: &mut Vec<u8>) -> Result<(), AllocError>
     Ok(())
 }
 
-/// Appends the normal form as `append_iim` does, in the memory that is lent: an error tells that it refused
-/// a growth in this call.
+/// Appends the normal form, of at most twice `LIMIT` bytes (`normal_len` is Some). `Err`: an allocation
+/// failed, and the vector's items are unchanged.
 pub fn append_iim_in(memory: &mut Memory, iim: &Iim, out: &mut Vec<u8>) -> Result<(), Refused>
     requires { length (normal_iim iim.now) ≤ most }
     ensures done { OnOk result (out.new.items ≡ out.old.items ++ normal_iim iim.now) }

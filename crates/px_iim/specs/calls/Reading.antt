@@ -1,4 +1,4 @@
--- What was read of a block, and what a refusal of it tells.
+-- The result of reading a block, and the meaning of its refusal.
 use Rattle.std.specs.Prelude.{◌≡◌, ◌<◌, ◌≤◌, ℕ, true, List, drop, Some, None, Result, Ok, Err}
 use Rattle.px_bytes.specs.declared.Refusal.{Refusal}
 use Rattle.px_bytes.specs.declared.Refusal.TheVariants.{Content, OutOfMemory}
@@ -13,20 +13,20 @@ use Rattle.px_iim.specs.Check.{dataset_checks, Fault}
 abbrev pub found_view : Found → DataSet
 found_view f = record { rec = f.rec; number = f.number; octets = f.octets.now }
 
--- a DataSet stands in front of x, and this is it
+-- x begins with this DataSet
 pub record Reads (x : List ℕ) (f : Found) : Type 0 where
   pub there : is_dataset x ≡ true
   pub value : found_view f ≡ dataset x
   pub sized : f.size ≡ size x
 
--- the DataSet at a place, or the first of its checks that is false
+-- the DataSet at an offset, or the first of its checks that fails
 abbrev pub JudgesAt : Result Found Refusal → List ℕ → ℕ → Type 0
 JudgesAt (Ok f) x at = Reads (drop at x) f
 JudgesAt (Err (Content cause place)) x at = first_false (dataset_checks at (drop at x)) ≡ Some (cause, place)
 JudgesAt (Err OutOfMemory) x at = ⊥
 
--- a refusal of content carries a fault that stands, at a place up to the limit, and the block says nothing; want of memory
--- tells that memory has refused a growth
+-- a refusal of content reports a fault of the block, at an offset up to the limit, and the block has no record; out of memory
+-- means that an allocation failed
 abbrev pub RefusesIim : List ℕ → ℕ → Refusal → Type 0
 RefusesIim x refused (Content cause place) = Fault x cause place × (place ≤ limit) × (iim_of x ≡ None) × ((i : Record) → SaysIim x i → ⊥)
 RefusesIim x refused OutOfMemory = 0 < refused

@@ -10,7 +10,7 @@ use Rattle.px_iim.specs.Group.{Group}
 abbrev pub item_view : Item → ℕ × List ℕ
 item_view x = (x.number, x.octets.now)
 
--- the same with the record number, as the record keeps it
+-- the same with the record number
 abbrev pub dataset_view : Item → DataSet
 dataset_view x = record { rec = x.rec; number = x.number; octets = x.octets.now }
 
@@ -21,6 +21,6 @@ octets_of n items = filter_map (λ x. if x.0 == n then Some x.1 else None) items
 abbrev pub octets_left : All → List (List ℕ)
 octets_left a = octets_of a.number (map item_view (drop a.at a.items.now))
 
--- a group as it is handed out: its record, its number, its items
+-- a group as it is returned: its record, its number, its items
 abbrev pub part_view : ℕ × ℕ × Bor (List Item) → Group
 part_view p = record { rec = p.0; number = p.1; items = map item_view p.2.now }

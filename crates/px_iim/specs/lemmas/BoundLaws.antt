@@ -1,4 +1,4 @@
--- A normal form is at most twice as long as any block that says its record.
+-- A normal form is at most twice as long as any block with its record.
 use Rattle.std.proofs.Common.{◌≡◌, ◌<◌, ◌≤◌, ◌+◌, ◌*◌, ℕ, nat_lt, inl, inr, ap, ◌∙◌, arith, ltb-true, ltb-false, List, [], ◌∷◌, ◌++◌}
 use Rattle.std.proofs.Common.{length, flat_map, length-append, append-nil}
 use Rattle.std.proofs.lemmas.Bool.{cases_Bool}
@@ -30,7 +30,7 @@ length-count_long n h =
       | inr f ↦ f
     ])) ∙ omega arith
 
--- the octets of a DataSet in a normal form
+-- the number of bytes of a DataSet in a normal form
 abbrev pub cost : DataSet → ℕ
 cost d = length (normal_dataset d.rec (d.number, d.octets))
 
@@ -38,7 +38,7 @@ pub length-normal_dataset : (rec : ℕ) (x : Item) → length (normal_dataset re
 unfolding normal_dataset
 length-normal_dataset rec x = let e = length-append (normal_count (length x.1)) x.1 in omega arith
 
--- the standard form is the shortest, and the extended one has at least one further octet
+-- the standard form is the shortest, and the extended one has at least one more byte
 pub cost_bound : (d : DataSet) (a : List ℕ) → IsSpelling d a → cost d ≤ 2 * length a
 cost_bound d a (c, e, h) =
     let l = length-normal_dataset d.rec (d.number, d.octets) in
@@ -75,7 +75,7 @@ length-longer d g p =
     let same = ap (λ (r : ℕ). length (normal_dataset r x)) p in
     omega arith
 
--- what a DataSet adds
+-- the bytes that a DataSet adds
 pub length-put : (d : DataSet) (i : Record) → length (normal_iim (put d i)) ≡ length (normal_iim i) + cost d
 length-put d [] =
     let e = ap (λ (k : Record). length (normal_iim k)) (put_nil d) in

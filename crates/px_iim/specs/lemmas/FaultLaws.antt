@@ -1,4 +1,4 @@
--- What is wrong with a block, and what isn't.
+-- The faults of a block, and blocks without a fault.
 use Rattle.std.proofs.Common.{◌≡◌, ◌⊎◌, ◌<◌, ◌≤◌, ◌+◌, ℕ, zero, suc, nat_lt, nat_le, Bool, true, false, ◌&&◌, if◌then◌else◌, inl, inr, refl}
 use Rattle.std.proofs.Common.{sym, ap, subst, ◌∙◌, arith, leb-true, leb-false, ltb-true, ltb-false, Option, Some, None, List, [], ◌∷◌, ◌++◌}
 use Rattle.std.proofs.Common.{length, take, drop, length-append, length-drop, append_assoc, append-nil}
@@ -51,7 +51,7 @@ five_none p true true true true false rest q = let clash : ◌≡◌ {A = Option
 
 -- ---- one step
 
--- what is checked behind a DataSet
+-- the checks after a DataSet
 unfoldable pub checks_behind : ℕ → ℕ → List ℕ → List Check
 checks_behind n p x = if is_dataset x then (if is_end (drop (size x) x) then [] else checks_from n (p + size x) (drop (size x) x)) else []
 
@@ -78,7 +78,7 @@ five_hold x a b c d e = record {
   whole = leb-true (size x) (length x) e;
 }
 
--- ---- the first fault stands
+-- ---- the first fault is a fault of the block
 
 module _ (x : List ℕ) where
   pub behind_next : (ds : List DataSet) (rest : List ℕ) (p : ℕ) → Behind x ds rest p → Holds rest
@@ -147,9 +147,9 @@ first_stands x c p e = elim (first_head (check TooLong limit (nat_le (length x) 
   | inr h ↦ stands_from x (length x + 1) [] x 0 (c, p) (behind_none x) (inl refl) h.1
 ]
 
--- ---- where a fault stands no record is said
+-- ---- a block with a fault has no record
 
--- what is left behind some DataSets of a block is the block's end, or begins with a DataSet
+-- the rest after some DataSets of a block is the block's end, or begins with a DataSet
 pub record Next (ds all : List DataSet) (rest zeros : List ℕ) : Type 0 where
   pub or : ((rest ≡ zeros) × (length ds ≡ length all)) ⊎ ((d : DataSet) × (a : List ℕ) × (y : List ℕ) × IsSpelling d a × (rest ≡ a ++ y))
 
@@ -184,7 +184,7 @@ module _ (x : List ℕ) (i : Record) (s : SaysIim x i) where
   pub next_of : (ds : List DataSet) (rest : List ℕ) (p : ℕ) → Behind x ds rest p → Next ds s.sequence rest s.zeros
   next_of ds rest p b = aligned ds s.sequence b.front rest s.spelled s.zeros (sym b.whole ∙ s.whole) b.spells s.spells s.blank
 
-  -- a marked place has a whole DataSet
+  -- a marked offset has a whole DataSet
   marked_holds : (ds : List DataSet) (rest : List ℕ) (p : ℕ) → Behind x ds rest p → is_marked rest ≡ true → Holds rest
   marked_holds ds rest p b m = elim (next_of ds rest p b).or [
     | inl h ↦ absurd (blank_unmarked s.zeros s.blank (subst (λ (z : List ℕ). is_marked z ≡ true) h.0 m))
@@ -226,7 +226,7 @@ stands_unsaid x _ p i h s = absurd h
 
 -- ---- a record, or a first fault
 
--- where all checks are true, with enough of them, the block is a sequence of DataSets
+-- if enough checks pass, the block is a sequence of DataSets
 pub clean : (n p : ℕ) (x : List ℕ) → length x < n → first_false (checks_from n p x) ≡ None → (ds : List DataSet) × Parsed ds x
 clean zero p x l e = absurd (omega arith)
 clean (suc n) p x l e =
@@ -274,7 +274,7 @@ said_or_fault x = go (first_false (iim_checks x)) refl
     go None e = inl (clean_says x e)
     go (Some f) e = inr (f.0, f.1, e)
 
--- where a record is said nothing is wrong
+-- a block with a record has no fault
 pub said_clean : (x : List ℕ) (i : Record) → SaysIim x i → first_false (iim_checks x) ≡ None
 said_clean x i s = go (first_false (iim_checks x)) refl
   where

@@ -55,7 +55,7 @@ no_more g gs a rec number t =
     let p = at_parts rec number g t in
     subst (λ (r : ℕ). items_at r number gs ≡ []) p.0 (subst (λ (n : ℕ). items_at g.rec n gs ≡ []) p.1 (items_past g.rec g.number gs a))
 
--- groups in order are told by their lists
+-- groups in order are equal if their lists are
 pub same_groups : (i j : Record) → IsAscending i → IsAscending j → AllByRecursion IsSome i → AllByRecursion IsSome j →
     ((rec number : ℕ) → items_at rec number i ≡ items_at rec number j) → i ≡ j
 same_groups [] [] a b k l e = refl

@@ -38,7 +38,7 @@ pub put_nil : (d : DataSet) → put d [] ≡ new_group d ∷ []
 unfolding put
 put_nil d = refl
 
--- what holds of each group, and of the two that a DataSet can make, holds of each when it is put
+-- a property of each group, and of the two that a DataSet can make, is one of each group after it is added
 pub put_all : (P : Group → Type 0) (d : DataSet) → P (new_group d)
     → ((g : Group) → At d.rec (named d.rec d.number) g → P g → P (longer d g)) →
     (i : Record) → AllByRecursion P i → AllByRecursion P (put d i)
@@ -86,7 +86,7 @@ module _ (rec number : ℕ) where
   pub items_there : (g : Group) (gs : Record) → is_at rec number g ≡ false → items_at rec number (g ∷ gs) ≡ items_at rec number gs
   items_there g gs h = cond-false _ _ _ h
 
-  -- no list stands behind its place
+  -- no list is after its position
   pub items_past : (gs : Record) → AllByRecursion (After rec number) gs → items_at rec number gs ≡ []
   items_past [] h = refl
   items_past (g ∷ gs) h =

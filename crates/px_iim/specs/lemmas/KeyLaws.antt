@@ -45,7 +45,7 @@ before_trans a b c d e f h k = before_true a b e f (join (before_parts a b c d h
 pub before_apart : (a b c d : ℕ) → is_before a b c d ≡ true → a ≡ c → b ≡ d → ⊥
 before_apart a b c d h p q = elim (before_parts a b c d h) [ inl l ↦ omega arith | inr l ↦ let m = l.1 in omega arith ]
 
--- where a name stands beside a group
+-- the position of a name relative to a group
 abbrev pub At : ℕ → ℕ → Group → Type 0
 At rec number g = (is_at rec number g ≡ true) × (g.rec ≡ rec) × (g.number ≡ number)
 

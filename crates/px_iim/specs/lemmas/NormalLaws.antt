@@ -1,4 +1,4 @@
--- A normal form says its record, and tells it.
+-- A normal form has its record, and different records have different ones.
 use Rattle.std.proofs.Common.{◌≡◌, ◌<◌, ◌≤◌, ◌⊎◌, ◌+◌, ℕ, nat_lt, true, false, inl, inr, refl, sym, ap, ap₂, subst, ◌∙◌, arith, ltb-true}
 use Rattle.std.proofs.Common.{lt-ltb, Option, List, [], ◌∷◌, ◌++◌, length, drop, drop_at, map, filter_map, flat_map, length-append}
 use Rattle.std.proofs.Common.{append_assoc, append-nil}
@@ -136,7 +136,7 @@ gathered_again i h = record {
   filtered = λ rec number. filtered_again rec number i h.ascending h.groups;
 }
 
--- ---- its octets
+-- ---- its bytes
 
 dataset_bytes : (g : Group) (x : Item) → g.rec < 256 → IsItem g.rec g.number x → AreBytes (normal_dataset g.rec x)
 unfolding normal_dataset

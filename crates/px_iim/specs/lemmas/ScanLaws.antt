@@ -1,4 +1,4 @@
--- What a scan of a block keeps: the DataSets so far, the octets left, and the checks that they have.
+-- The state of a scan of a block: the DataSets so far, the bytes left, and their checks.
 use Rattle.std.proofs.Common.{◌≡◌, ◌<◌, ◌≤◌, ◌+◌, ℕ, zero, suc, true, false, inl, inr, sym, ap, ◌∙◌, arith, le-leb, None, List, [], ◌++◌}
 use Rattle.std.proofs.Common.{length, drop, length-drop, append-nil}
 use Rattle.std.proofs.lemmas.Bool.{cond-true, cond-false, cases_Bool}
@@ -10,9 +10,9 @@ use Rattle.px_iim.specs.Check.{dataset_checks, checks_from, iim_checks}
 use Rattle.px_iim.specs.lemmas.SpellingLaws.{dataset_holds}
 use Rattle.px_iim.specs.lemmas.FaultLaws.{checks_behind, checks_step, behind_end, behind_more}
 
--- ---- the checks of the octets left
+-- ---- the checks of the bytes left
 
--- as many checks as the octets can have
+-- as many checks as the bytes can have
 abbrev pub checks_left : ℕ → List ℕ → List Check
 checks_left p x = checks_from (length x + 1) p x
 
@@ -50,19 +50,19 @@ dataset_clean p x h =
     cond-true _ _ _ f.marked ∙ cond-true _ _ _ (le-leb 5 (length x) f.five) ∙ cond-true _ _ _ f.formed
     ∙ cond-true _ _ _ (le-leb (5 + extra x) (length x) f.counted) ∙ cond-true _ _ _ (le-leb (size x) (length x) f.whole)
 
--- where no DataSet stands, its checks alone tell the fault
+-- without a DataSet, the fault is that of its checks
 pub left_fault : (p : ℕ) (x : List ℕ) → is_dataset x ≡ false → first_false (checks_left p x) ≡ first_false (dataset_checks p x)
 left_fault p x h =
     ap first_false (left_step p x ∙ ap (λ (cs : List Check). dataset_checks p x ++ cs) (no_dataset (length x) p x h)
     ∙ append-nil (dataset_checks p x))
 
--- behind the last DataSet nothing is wrong
+-- after the last DataSet nothing is wrong
 pub left_end : (p : ℕ) (x : List ℕ) → is_dataset x ≡ true → is_end (drop (size x) x) ≡ true → first_false (checks_left p x) ≡ None
 left_end p x h e =
     ap first_false (left_step p x) ∙ first_false-true (dataset_checks p x) (checks_behind (length x) p x) (dataset_clean p x h)
     ∙ ap first_false (behind_end (length x) p x h e)
 
--- behind any other, what is wrong is what is wrong with the octets left
+-- after any other, the fault is that of the bytes left
 pub left_more : (p : ℕ) (x : List ℕ) → is_dataset x ≡ true → is_end (drop (size x) x) ≡ false
     → first_false (checks_left p x) ≡ first_false (checks_left (p + size x) (drop (size x) x))
 left_more p x h e =
@@ -71,7 +71,7 @@ left_more p x h e =
     ∙ ap first_false (behind_more (length x) p x h e ∙ checks_enough (length x) (length (drop (size x) x) + 1) (p + size x)
     (drop (size x) x) s (omega arith))
 
--- a block that isn't too long has the checks of all its octets
+-- a block that isn't too long has the checks of all its bytes
 pub iim_left : (x : List ℕ) → length x ≤ limit → first_false (iim_checks x) ≡ first_false (checks_left 0 x)
 unfolding iim_checks
 iim_left x l = cond-true _ _ _ (le-leb (length x) limit l)

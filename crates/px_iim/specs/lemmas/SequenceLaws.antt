@@ -1,4 +1,4 @@
--- The DataSets of a block, read one behind another.
+-- The DataSets of a block, read one after another.
 use Rattle.std.proofs.Common.{◌≡◌, ◌≤◌, ◌*◌, ◌==◌, ℕ, zero, suc, nat_le, Bool, true, false, inl, inr, refl, sym, ap, subst, ◌∙◌, arith}
 use Rattle.std.proofs.Common.{eqb-true, eq-eqb, leb-true, le-leb, Option, Some, None, option_map, List, [], ◌∷◌, ◌++◌, length, take, drop}
 use Rattle.std.proofs.Common.{drop_at, length-append, append_assoc, append-nil}
@@ -31,7 +31,7 @@ end_true x l b = and_from (nat_le (length x) 3) (list_all is_zero x) (le-leb (le
 pub end_parts : (x : List ℕ) → is_end x ≡ true → (length x ≤ 3) × AllByRecursion IsZero x
 end_parts x h = let p = and_parts (nat_le (length x) 3) (list_all is_zero x) h in (leb-true (length x) 3 p.0, true_zeros x p.1)
 
--- where a DataSet is marked, the block doesn't end
+-- a block doesn't end at a marker
 pub blank_unmarked : (x : List ℕ) → AllByRecursion IsZero x → is_marked x ≡ true → ⊥
 blank_unmarked [] h m = cc
 blank_unmarked (o ∷ x) h m =
@@ -56,7 +56,7 @@ module _ (n : ℕ) (x : List ℕ) where
   unfolding sequence_of
   step_more h k = cond-true _ _ _ h ∙ ap (option_map (λ (ds : List DataSet). dataset x ∷ ds)) (cond-false _ _ _ k)
 
--- ---- from spellings
+-- ---- from encodings
 
 -- a DataSet and what follows it
 pub behind_begins : (d : DataSet) (a y : List ℕ) → IsSpelling d a → drop (size (a ++ y)) (a ++ y) ≡ y
@@ -88,7 +88,7 @@ spelled_more n d ds a y s e t =
     step_more n (a ++ y) b.is (subst (λ (z : List ℕ). is_end z ≡ false) (sym k) e)
     ∙ ap (option_map (λ (z : List DataSet). dataset (a ++ y) ∷ z)) (ap (sequence_of n) k ∙ t) ∙ ap (λ (z : DataSet). Some (z ∷ ds)) b.read
 
--- A spelled sequence with zeros behind it is read.
+-- An encoded sequence with zeros after it is read.
 pub spells_read : (n : ℕ) (ds : List DataSet) (a zeros : List ℕ) → Spells ds a → 1 ≤ length ds → length ds ≤ n → length zeros ≤ 3
     → AllByRecursion IsZero zeros → sequence_of n (a ++ zeros) ≡ Some ds
 spells_read n [] a zeros h l m s b = absurd (omega arith)
@@ -104,9 +104,9 @@ spells_read (suc n) (d ∷ f ∷ ds) a zeros (c, e, p, q, r) l m s b =
     ∙ spelled_more n d (f ∷ ds) c (e ++ zeros) q (marked_no_end (e ++ zeros) marked)
     (spells_read n (f ∷ ds) e zeros r (omega arith) (omega arith) s b)
 
--- ---- to spellings
+-- ---- to encodings
 
--- the block is a sequence's spellings and at most three zero octets
+-- the block is a sequence's encodings and at most three zero bytes
 pub record Parsed (ds : List DataSet) (x : List ℕ) : Type 0 where
   pub front : List ℕ
   pub zeros : List ℕ
@@ -147,7 +147,7 @@ after_step x ds None h f e = cc
 after_step x ds (Some es) h f e =
     let q : dataset x ∷ es ≡ ds = cc in subst (λ (z : List DataSet). Parsed z x) q (parsed_more x es h (f es refl))
 
--- What is read is a spelled sequence, with zeros behind it.
+-- A sequence that is read is encoded by the bytes, with zeros after it.
 pub read_parsed : (n : ℕ) (x : List ℕ) (ds : List DataSet) → sequence_of n x ≡ Some ds → Parsed ds x
 unfolding sequence_of
 read_parsed zero x ds e = cc

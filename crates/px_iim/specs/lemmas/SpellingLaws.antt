@@ -1,4 +1,4 @@
--- What stands at the head of octets, read back from a spelling, and a spelling from what is read.
+-- The DataSet at the start of some bytes, decoded from an encoding, and an encoding of a decoded one.
 use Rattle.std.proofs.Common.{◌≡◌, ◌<◌, ◌≤◌, ◌⊎◌, ◌+◌, ◌-◌, ◌==◌, ℕ, suc, nat_lt, nat_le, true, false, ◌&&◌, inl, inr, refl, sym, ap, subst}
 use Rattle.std.proofs.Common.{◌∙◌, arith, eqb-true, eq-eqb, ltb-true, ltb-false, lt-ltb, leb-true, le-leb, List, [], ◌∷◌, ◌++◌, length}
 use Rattle.std.proofs.Common.{take, drop, take_at, drop_at, take-add, length-append, length-take-le, length-drop, append_assoc, slice_index}
@@ -11,13 +11,13 @@ use Rattle.px_bytes.specs.Parts.{part}
 use Rattle.px_iim.specs.DataSet.{DataSet, marker, top_bit, IsStandardCount, IsExtendedCount, IsSpelling}
 use Rattle.px_iim.specs.Record.{form, extra, count, size, is_marked, has_form, is_dataset, dataset}
 
--- a number reads nothing of what follows
+-- a number depends on nothing after it
 pub number-front : (k : ℕ) (xs rest : List ℕ) → k ≤ length xs → number Most k (xs ++ rest) ≡ number Most k xs
 number-front k xs rest h = sym (number-take Most k (length xs) (xs ++ rest) h) ∙ ap (number Most k) (take_at xs rest (length xs) refl)
 
 -- ---- the count
 
--- the count at x has e further octets and tells n octets of data
+-- the length at x has e further bytes and is n
 pub record Tells (x : List ℕ) (e n : ℕ) : Type 0 where
   pub further : extra x ≡ e
   pub told : count x ≡ n
@@ -50,7 +50,7 @@ module _ (x : List ℕ) where
 
 -- ---- a DataSet
 
--- what is_dataset asks
+-- the conditions of is_dataset
 pub record Holds (x : List ℕ) : Type 0 where
   pub marked : is_marked x ≡ true
   pub five : 5 ≤ length x
@@ -81,9 +81,9 @@ dataset_holds x h =
       whole = leb-true (size x) (length x) d.1;
     }
 
--- ---- from a spelling
+-- ---- from an encoding
 
--- the DataSet d stands at the head of x, in n octets
+-- the DataSet d is at the start of x, in n bytes
 pub record Begins (d : DataSet) (n : ℕ) (x : List ℕ) : Type 0 where
   pub is : is_dataset x ≡ true
   pub read : dataset x ≡ d
@@ -138,7 +138,7 @@ module _ (r n : ℕ) (c o b : List ℕ) where
       let l = h.3 in let j = length-append c o in
       subst (λ (m : ℕ). Begins (record { rec = r; number = n; octets = o }) m block) (omega arith) (begins_told h.0 h.3 (tells_more h))
 
--- A spelled DataSet is read, whatever follows it.
+-- An encoded DataSet is read, whatever follows it.
 pub spelled_begins : (d : DataSet) (a b : List ℕ) → IsSpelling d a → Begins d (length a) (a ++ b)
 spelled_begins d a b (c, e, h) =
     subst (λ (y : List ℕ). Begins d (length y) (y ++ b)) (sym e)
@@ -146,7 +146,7 @@ spelled_begins d a b (c, e, h) =
     (ap (λ (y : List ℕ). marker ∷ d.rec ∷ d.number ∷ y) (sym (append_assoc c d.octets b)))
     (begins_block d.rec d.number c d.octets b h))
 
--- ---- to a spelling
+-- ---- to an encoding
 
 module _ (a r n : ℕ) (y : List ℕ) where
   abbrev pub octets : List ℕ
@@ -221,7 +221,7 @@ module _ (a r n : ℕ) (y : List ℕ) where
     elim (cases_Bool (nat_lt (form octets) top_bit)) [ inl t ↦ inl (counts_one h t) | inr f ↦ inr (counts_more h f) ],
   )
 
--- What is read as a DataSet is a spelling of it.
+-- A DataSet that is read is encoded by its bytes.
 pub dataset_spelled : (x : List ℕ) → is_dataset x ≡ true → IsSpelling (dataset x) (take (size x) x)
 dataset_spelled [] h = let f = (dataset_holds [] h).five in absurd (omega arith)
 dataset_spelled (a ∷ []) h = let f = (dataset_holds (a ∷ []) h).five in absurd (omega arith)
