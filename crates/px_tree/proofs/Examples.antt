@@ -1,4 +1,4 @@
--- Worked examples, computed: what a block says, or its first fault.
+-- Worked examples, computed: the meaning of a block, or its first fault.
 use Rattle.std.proofs.Common.{◌≡◌, ℕ, Option, Some, None, List, [], ◌∷◌, ◌++◌, take, refl, lit≤, arith}
 use Rattle.px_bytes.specs.declared.Order.TheVariants.{Least, Most}
 use Rattle.px_bytes.specs.declared.Cause.{Cause}
@@ -21,7 +21,7 @@ use Rattle.px_tree.proofs.Opened.{opened}
 first_fault : List ℕ → Option (Cause × ℕ)
 first_fault b = first_false (checks b)
 
--- a meaning of a main directory alone
+-- a meaning with only a main directory
 main_only : List (ℕ × Value) → Meaning
 main_only fs = record { main = fs; iptc = None; exif = None; gps = None; thumb = None }
 
@@ -44,7 +44,7 @@ one_entry_says : (first_fault one_entry ≡ None) × (meaning one_entry Most ≡
 unfolding first_fault main_only header orientation one_entry one_field opened
 one_entry_says = (refl, refl)
 
--- and, condition by condition, it says that field
+-- and, condition by condition, it has that field
 one_entry_says_exif : SaysExif one_entry one_field
 unfolding main_only header orientation one_entry one_field opened
 one_entry_says_exif = record {
@@ -234,7 +234,7 @@ falling_unknown =
     0x4D ∷ 0x4D ∷ 0 ∷ 0x2A ∷ 0 ∷ 0 ∷ 0 ∷ 8 ∷ 0 ∷ 2 ∷ 1 ∷ 0x12 ∷ 0 ∷ 3 ∷ 0 ∷ 0 ∷ 0 ∷ 1 ∷ 0 ∷ 1 ∷ 0 ∷ 0 ∷ 1 ∷ 0 ∷ 0 ∷ 0x0D ∷ 0 ∷ 0 ∷ 0 ∷ 1 ∷
     0 ∷ 1 ∷ 0 ∷ 0 ∷ 0 ∷ 0 ∷ 0 ∷ 0 ∷ []
 
--- a tag twice, and tags that fall, even where the second has no known type
+-- a tag twice, and tags that descend, even if the second has no known type
 in_bad_order : (first_fault tag_twice ≡ Some (Doubled, 22)) × (first_fault falling_tags ≡ Some (Unsorted, 22)) ×
     (first_fault falling_unknown ≡ Some (Unsorted, 22))
 unfolding first_fault tag_twice falling_tags falling_unknown opened
@@ -264,7 +264,7 @@ short_pointer = 0x4D ∷ 0x4D ∷ 0 ∷ 0x2A ∷ 0 ∷ 0 ∷ 0 ∷ 8 ∷ 0 ∷ 1
 main_strips : List ℕ
 main_strips = 0x4D ∷ 0x4D ∷ 0 ∷ 0x2A ∷ 0 ∷ 0 ∷ 0 ∷ 8 ∷ 0 ∷ 1 ∷ 1 ∷ 0x11 ∷ 0 ∷ 4 ∷ 0 ∷ 0 ∷ 0 ∷ 1 ∷ 0 ∷ 0 ∷ 0 ∷ 0 ∷ 0 ∷ 0 ∷ 0 ∷ 0 ∷ []
 
--- a type that is not known, a pointer as SHORT, and strips in the main directory
+-- an unknown type, a pointer as SHORT, and strips in the main directory
 bad_entries : (first_fault unknown_type ≡ Some (UnknownType, 10)) × (first_fault short_pointer ≡ Some (PointerForm, 10)) ×
     (first_fault main_strips ≡ Some (MisplacedOffset, 10))
 unfolding first_fault unknown_type short_pointer main_strips opened
@@ -331,7 +331,7 @@ offset_alone =
     0x4D ∷ 0x4D ∷ 0 ∷ 0x2A ∷ 0 ∷ 0 ∷ 0 ∷ 8 ∷ 0 ∷ 1 ∷ 1 ∷ 0x12 ∷ 0 ∷ 3 ∷ 0 ∷ 0 ∷ 0 ∷ 1 ∷ 0 ∷ 1 ∷ 0 ∷ 0 ∷ 0 ∷ 0 ∷ 0 ∷ 0x1A ∷ 0 ∷ 1 ∷ 2 ∷ 1 ∷
     0 ∷ 4 ∷ 0 ∷ 0 ∷ 0 ∷ 1 ∷ 0 ∷ 0 ∷ 0 ∷ 0x38 ∷ 0 ∷ 0 ∷ 0 ∷ 0 ∷ []
 
--- a JPEG past the end, by its length or its offset; a directory behind; an offset without a length
+-- a JPEG past the end, by its length or its offset; a next directory; an offset without a length
 bad_thumbnails : (first_fault jpeg_too_long ≡ Some (ThumbnailOutside, 28)) × (first_fault jpeg_nowhere ≡ Some (ThumbnailOutside, 28)) ×
     (first_fault empty_past_end ≡ Some (ThumbnailOutside, 28)) × (first_fault one_more_directory ≡ Some
     (ExtraDirectory, 52)) × (first_fault offset_alone ≡ Some (ThumbnailPair, 28))
@@ -467,7 +467,7 @@ recorded_says : (first_fault recorded ≡ None) ×
 unfolding first_fault main_only recorded opened
 recorded_says = (refl, refl)
 
--- the same of type BYTE, as a standard DataSet with zeros behind
+-- the same of type BYTE, as a standard DataSet with zeros after it
 recorded_bytes : List ℕ
 recorded_bytes =
     0x4D ∷ 0x4D ∷ 0 ∷ 0x2A ∷ 0 ∷ 0 ∷ 0 ∷ 8 ∷ 0 ∷ 1 ∷ 0x83 ∷ 0xBB ∷ 0 ∷ 1 ∷ 0 ∷ 0 ∷ 0 ∷ 0x0B ∷ 0 ∷ 0 ∷ 0 ∷ 0x1A ∷ 0 ∷ 0 ∷ 0 ∷ 0 ∷ 0x1C ∷ 2 ∷
@@ -477,7 +477,7 @@ recorded_bytes_say_the_same : (first_fault recorded_bytes ≡ None) × (meaning 
 unfolding first_fault main_only recorded_bytes recorded opened
 recorded_bytes_say_the_same = (refl, refl)
 
--- bytes that say no record are a field
+-- bytes that are no record are a field
 no_record : List ℕ
 no_record =
     0x4D ∷ 0x4D ∷ 0 ∷ 0x2A ∷ 0 ∷ 0 ∷ 0 ∷ 8 ∷ 0 ∷ 1 ∷ 0x83 ∷ 0xBB ∷ 0 ∷ 7 ∷ 0 ∷ 0 ∷ 0 ∷ 5 ∷ 0 ∷ 0 ∷ 0 ∷ 0x1A ∷ 0 ∷ 0 ∷ 0 ∷ 0 ∷ 0x1C ∷ 2 ∷
@@ -515,7 +515,7 @@ record_as_longs_says = (refl, refl)
 
 -- ---- standing faults
 
--- the thumbnail directory is named where the main directory stands
+-- the main directory's next offset is its own
 loop_stands : Fault next_to_main Loop 22
 unfolding next_to_main opened
 loop_stands = (Most, Thumb, Main, 8, ((lit≤ tt, refl), refl), ((lit≤ tt, refl), refl), lit≤ tt, refl)
@@ -541,7 +541,7 @@ overlap_stands = (
   (lit≤ tt, lit≤ tt),
 )
 
--- a fault stands behind another too: here the tags fall, which is the first, and the type of the second entry is unknown
+-- a later fault is a fault too: here the tags descend, which is the first, and the type of the second entry is unknown
 unknown_stands : Fault falling_unknown UnknownType 22
 unfolding falling_unknown opened
 unknown_stands = (

@@ -1,4 +1,4 @@
--- Where a block is refused.
+-- Blocks that are refused.
 pub mod Unsaid
 pub mod Told
 pub mod ToldDirs

@@ -1,4 +1,4 @@
--- Lists, by their places and members.
+-- Lists, by their indexes and members.
 pub mod Members
 pub mod EachDir
 pub mod At

@@ -1,4 +1,4 @@
--- What a block says.
+-- The meaning of a block.
 pub mod Owned
 pub mod Footprint
 pub mod Fresh

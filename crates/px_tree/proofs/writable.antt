@@ -1,4 +1,4 @@
--- What may be written.
+-- Meanings that can be written.
 pub mod InRange
 pub mod FitsBack
 pub mod Filled

@@ -1,5 +1,5 @@
--- The checks of a block, in the order in which they are made: the first that is false is the first fault. The order of the
--- checks is this project's profile; what each asks is said with the definition that it tests.
+-- The checks of a block, in the order in which they are made: the first that fails is the first fault. The order of the checks is
+-- this project's profile; each check is described at the definition that it tests.
 use Rattle.std.specs.Prelude.{◌≡◌, ℕ, ◌+◌, ◌*◌, ◌==◌, nat_lt, nat_le, Bool, true, false, not, if◌then◌else◌, ◌&&◌, ◌||◌, Option, Some, None}
 use Rattle.std.specs.Prelude.{unwrap_or, is_some, option_to_list, List, [], ◌∷◌, ◌++◌, length, take}
 use Rattle.std.specs.List.{list_any}
@@ -29,7 +29,7 @@ same_bytes [] [] = true
 same_bytes (x ∷ xs) (y ∷ ys) = (x == y) && same_bytes xs ys
 same_bytes _ _ = false
 
--- the order that the first four bytes tell
+-- the byte order in the first four bytes
 abbrev pub order_of : List ℕ → Option Order
 order_of b = if same_bytes (take 4 b) (magic Least) then Some Least else if same_bytes (take 4 b) (magic Most) then Some Most else None
 
@@ -60,7 +60,7 @@ abbrev pub is_free_value : List Range → Option Range → Bool
 is_free_value held None = true
 is_free_value held (Some r) = is_free held r
 
--- what is asked of the entry at place p, behind one of tag u, before its value is looked at
+-- the checks of the entry at offset p, after one with tag u, before those of its value
 abbrev pub shape_checks : Dir → ℕ → Option ℕ → Entry → List Check
 shape_checks d p u e =
     check Unsorted p (is_not_below u e.tag)
@@ -70,7 +70,7 @@ shape_checks d p u e =
     ∷ check PointerForm p (has_form (role d e.tag) e)
     ∷ []
 
--- what is asked of its value, where held is taken
+-- the checks of its value, if `held` is claimed
 abbrev pub value_checks : List ℕ → Order → List Range → ℕ → Entry → List Check
 value_checks b o held p e =
     check ValueOutside p (has_raw b o e)
@@ -80,7 +80,7 @@ value_checks b o held p e =
 unfoldable pub entry_checks : List ℕ → Order → Dir → List Range → ℕ → Option ℕ → Entry → List Check
 entry_checks b o d held p u e = shape_checks d p u e ++ value_checks b o held p e
 
--- those of all entries; the values that were passed are held too
+-- the checks of all entries; each passed value is claimed for the next ones
 abbrev pub entries_checks : List ℕ → Order → Dir → List Range → ℕ → Option ℕ → List Entry → List Check
 entries_checks b o d held p u [] = []
 entries_checks b o d held p u (e ∷ es) =
@@ -88,11 +88,11 @@ entries_checks b o d held p u (e ∷ es) =
 
 -- ---- one directory
 
--- a directory that was read before stands at a
+-- a directory at a was read before
 abbrev pub is_earlier_at : List ℕ → ℕ → Bool
 is_earlier_at earlier a = list_any (λ x. x == a) earlier
 
--- what is asked of the table at a, named at p, where the tables at the earlier offsets were read
+-- the checks of the table at a with a pointer at p, if the tables at the earlier offsets were read
 abbrev pub opening_checks : List ℕ → Order → List ℕ → List Range → ℕ → ℕ → List Check
 opening_checks b o earlier held p a =
     check Loop p (not (is_earlier_at earlier a))
@@ -106,7 +106,7 @@ unfoldable pub dir_checks : List ℕ → Order → List ℕ → List Range → �
 dir_checks b o earlier held p d a =
     opening_checks b o earlier held p a ++ entries_checks b o d (table_range b o a ∷ held) (a + 2) None (entries_at b o a)
 
--- the place of the first entry that passes a test, where the first of all stands at p
+-- the offset of the first entry that passes a test, if the first of all is at p
 abbrev pub place_of : (Entry → Bool) → ℕ → List Entry → ℕ
 place_of test p [] = p
 place_of test p (e ∷ es) = if test e then p else place_of test (p + 12) es
@@ -114,7 +114,7 @@ place_of test p (e ∷ es) = if test e then p else place_of test (p + 12) es
 abbrev pub pointer_place : List ℕ → Order → ℕ → ℕ → ℕ
 pointer_place b o a t = place_of (is_pointer t) (a + 2) (entries_at b o a)
 
--- the place of what names a directory: the header's offset, a pointer, or the main directory's next offset
+-- the offset of the pointer to a directory: the header's offset, a pointer entry, or the main directory's next offset
 unfoldable pub named_at : List ℕ → Order → Dir → ℕ
 named_at b o Main = 4
 named_at b o Exif = pointer_place b o (main_at b o) exif_tag
@@ -122,29 +122,29 @@ named_at b o Interop = pointer_place b o (unwrap_or (exif_at b o) 0) interop_tag
 named_at b o Gps = pointer_place b o (main_at b o) gps_tag
 named_at b o Thumb = main_at b o + 2 + 12 * length (entries_at b o (main_at b o))
 
--- a directory has checks where it is named
+-- the checks of a directory, if a pointer leads to it
 abbrev pub checks_at : List ℕ → Order → List ℕ → List Range → Dir → Option ℕ → List Check
 checks_at b o earlier held d None = []
 checks_at b o earlier held d (Some a) = dir_checks b o earlier held (named_at b o d) d a
 
--- the directories in order; the offsets of those that were passed are earlier, and their ranges held
+-- the checks of the directories in order; the offsets of passed ones are earlier, and their ranges are claimed
 abbrev pub dirs_checks : List ℕ → Order → List ℕ → List Range → List Dir → List Check
 dirs_checks b o earlier held [] = []
 dirs_checks b o earlier held (d ∷ ds) =
     checks_at b o earlier held d (dir_at b o d) ++ dirs_checks b o (option_to_list (dir_at b o d) ++ earlier) (ranges_at b o d ++ held) ds
 
--- the ranges that are held behind them
+-- the ranges that are claimed after them
 abbrev pub dirs_held : List ℕ → Order → List Range → List Dir → List Range
 dirs_held b o held [] = held
 dirs_held b o held (d ∷ ds) = dirs_held b o (ranges_at b o d ++ held) ds
 
 -- ---- the thumbnail
 
--- the place of the entry of a tag
+-- the offset of the entry with a tag
 abbrev pub place_with : ℕ → ℕ → List Entry → ℕ
 place_with t p es = place_of (λ e. e.tag == t) p es
 
--- the place of the entry of a pair that is there
+-- the offset of the entry of a pair that is present
 abbrev pub pair_place : ℕ → ℕ → ℕ → List Entry → ℕ
 pair_place t u p es = if is_some (entry_with t es) then place_with t p es else place_with u p es
 
@@ -152,7 +152,7 @@ abbrev pub same_count : Option Entry → Option Entry → Bool
 same_count (Some x) (Some y) = x.count == y.count
 same_count _ _ = true
 
--- what is asked of both pairs, where the first entry stands at p
+-- the checks of both pairs, if the first entry is at p
 abbrev pub pair_checks : ℕ → List Entry → List Check
 pair_checks p es =
     check ThumbnailPair (pair_place jpeg_offset_tag jpeg_length_tag p es) (are_paired (entry_with jpeg_offset_tag es)
@@ -167,7 +167,7 @@ pair_checks p es =
 abbrev pub end_checks : List ℕ → Order → ℕ → List Check
 end_checks b o a = check ExtraDirectory (a + 2 + 12 * length (entries_at b o a)) (next o (table b o a) == 0) ∷ []
 
--- ranges that have to lie within the block and to share no byte with those that are held
+-- the checks of ranges: each is inside the block and shares no byte with those that are claimed
 abbrev pub range_checks : List ℕ → ℕ → List Range → List Range → List Check
 range_checks b p held [] = []
 range_checks b p held (r ∷ rs) =
@@ -179,7 +179,7 @@ part_checks b o held p es =
     range_checks b (place_with jpeg_offset_tag p es) held (option_to_list (jpeg_range o es))
     ++ range_checks b (place_with strip_offsets_tag p es) (option_to_list (jpeg_range o es) ++ held) (listed (strip_ranges b o es))
 
--- the thumbnail directory at a, behind its entries
+-- the checks of the thumbnail directory at a, after its entries
 unfoldable pub thumb_checks : List ℕ → Order → List Range → ℕ → List Check
 thumb_checks b o held a = pair_checks (a + 2) (entries_at b o a) ++ end_checks b o a ++ part_checks b o held (a + 2) (entries_at b o a)
 
@@ -199,6 +199,6 @@ checks_in b (Some o) = tree_checks b o
 unfoldable pub checks : List ℕ → List Check
 checks b = header_checks b ++ checks_in b (order_of b)
 
--- the first fault of a block: the cause and the place of its first false check
+-- the first fault of a block: the cause and byte offset of its first check that fails
 abbrev pub FirstFault : List ℕ → Cause → ℕ → Type 0
 FirstFault b c p = first_false (checks b) ≡ Some (c, p)

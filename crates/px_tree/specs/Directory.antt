@@ -1,4 +1,4 @@
--- The header, and where the directories stand. TIFF 6.0 section 2, "Image File Header" and "Image File Directory"; CIPA DC-008
+-- The header, and the offsets of the directories. TIFF 6.0 section 2, "Image File Header" and "Image File Directory"; CIPA DC-008
 -- 4.6.3 (the pointers to the Exif, GPS and Interoperability IFDs), 4.5.5 (the thumbnail IFD).
 use Rattle.std.specs.Prelude.{ℕ, ◌==◌, if◌then◌else◌, ◌&&◌, Bool, Option, Some, None, option_map, option_and_then, List, [], ◌∷◌, find}
 use Rattle.px_bytes.specs.declared.Order.{Order}
@@ -19,7 +19,7 @@ magic Most = 0x4D ∷ 0x4D ∷ 0 ∷ 0x2A ∷ []
 abbrev pub dirs : List Dir
 dirs = Main ∷ Exif ∷ Interop ∷ Gps ∷ Thumb ∷ []
 
--- the entries of the directory at a, none where no table is there
+-- the entries of the directory at a, none if there is no table
 abbrev pub entries_at : List ℕ → Order → ℕ → List Entry
 entries_at b o a = entries o (table b o a)
 
@@ -31,11 +31,11 @@ entry_with t es = find (λ e. e.tag == t) es
 abbrev pub is_pointer : ℕ → Entry → Bool
 is_pointer t e = (e.tag == t) && is_one_long e
 
--- where the pointer of that tag leads
+-- the offset in the pointer with that tag
 unfoldable pub pointer : Order → ℕ → List Entry → Option ℕ
 pointer o t es = option_map (offset o) (find (is_pointer t) es)
 
--- an offset, where 0 stands for none
+-- an offset, or None for 0
 abbrev pub unless_zero : ℕ → Option ℕ
 unless_zero n = if n == 0 then None else Some n
 
@@ -43,11 +43,11 @@ unless_zero n = if n == 0 then None else Some n
 abbrev pub main_at : List ℕ → Order → ℕ
 main_at b o = long o (part b 4 4)
 
--- the Exif directory's offset, where the main directory has a pointer to it
+-- the Exif directory's offset, if the main directory has a pointer to it
 abbrev pub exif_at : List ℕ → Order → Option ℕ
 exif_at b o = pointer o exif_tag (entries_at b o (main_at b o))
 
--- the offset of each directory that the block names
+-- the offset of each directory that a pointer of the block leads to
 unfoldable pub dir_at : List ℕ → Order → Dir → Option ℕ
 dir_at b o Main = Some (main_at b o)
 dir_at b o Exif = exif_at b o
@@ -55,6 +55,6 @@ dir_at b o Interop = option_and_then (λ a. pointer o interop_tag (entries_at b 
 dir_at b o Gps = pointer o gps_tag (entries_at b o (main_at b o))
 dir_at b o Thumb = unless_zero (next o (table b o (main_at b o)))
 
--- the fields of a directory, where it is there
+-- the fields of a directory, if the block has it
 abbrev pub fields_at : List ℕ → Order → Dir → Option Fields
 fields_at b o d = option_map (fields b o d) (dir_at b o d)

@@ -29,7 +29,7 @@ long o x = number o 4 x
 
 -- ---- tables
 
--- What the twelve bytes of an entry say: tag, type, count, and the four bytes of the last field.
+-- The content of an entry's twelve bytes: tag, type, count, and the last four bytes.
 pub record Entry : Type 0 where
   pub tag : ℕ
   pub code : ℕ
@@ -47,11 +47,11 @@ table_size n = 2 + 12 * n + 4
 unfoldable pub has_table : List ℕ → Order → ℕ → Bool
 has_table b o a = let n = short o (part b a 2) in nat_le 1 n && nat_le (a + table_size n) (length b)
 
--- its bytes, none where it isn't there
+-- its bytes, none if the block doesn't contain it
 unfoldable pub table : List ℕ → Order → ℕ → List ℕ
 table b o a = if has_table b o a then part b a (table_size (short o (part b a 2))) else []
 
--- what a table's bytes say: the entries in order, and the offset of the next directory
+-- the content of a table's bytes: the entries in order, and the offset of the next directory
 unfoldable pub entries : Order → List ℕ → List Entry
 entries o t = map (entry o) (pieces (short o (take 2 t)) 12 (drop 2 t))
 
@@ -68,14 +68,14 @@ sized (Some f) n = n * size f
 unfoldable pub raw_size : Entry → ℕ
 raw_size e = sized (form_of e.code) e.count
 
--- more than four bytes stand at an offset
+-- more than four bytes are at an offset
 abbrev pub needs_place : ℕ → Bool
 needs_place n = nat_lt 4 n
 
 abbrev pub is_placed : Entry → Bool
 is_placed e = needs_place (raw_size e)
 
--- the last field as an offset
+-- the last four bytes as an offset
 abbrev pub offset : Order → Entry → ℕ
 offset o e = long o e.last
 
@@ -86,7 +86,7 @@ raw b o e = if is_placed e then part b (offset o e) (raw_size e) else take (raw_
 unfoldable pub has_raw : List ℕ → Order → Entry → Bool
 has_raw b o e = if is_placed e then nat_le (offset o e + raw_size e) (length b) else true
 
--- ---- what is asked of an entry in a directory
+-- ---- the conditions for an entry in a directory
 
 abbrev pub is_one_long : Entry → Bool
 is_one_long e = (e.code == 4) && (e.count == 1)
@@ -94,7 +94,7 @@ is_one_long e = (e.code == 4) && (e.count == 1)
 abbrev pub is_short_or_long : Entry → Bool
 is_short_or_long e = (e.code == 3) || (e.code == 4)
 
--- the form that a role asks: none of the other five asks any
+-- the type and count that a role requires; the other five require none
 abbrev pub has_form : Role → Entry → Bool
 has_form (To d) e = is_one_long e
 has_form JpegOffset e = is_one_long e
@@ -108,7 +108,7 @@ abbrev pub is_allowed : Role → Bool
 is_allowed Forbidden = false
 is_allowed _ = true
 
--- an entry in order: of a known type, allowed here, of the form that is asked, its value within the block
+-- a valid entry: of a known type, allowed here, with the required type and count, and its value inside the block
 pub record IsEntry (b : List ℕ) (o : Order) (d : Dir) (e : Entry) : Type 0 where
   pub known : is_some (form_of e.code) ≡ true
   pub allowed : is_allowed (role d e.tag) ≡ true
@@ -120,25 +120,25 @@ abbrev pub Rising : List ℕ → Type 0
 Rising [] = ⊤
 Rising (t ∷ ts) = AllByRecursion (λ u. t < u) ts × Rising ts
 
--- a directory stands at a: tags strictly rise, and each entry is in order
+-- a valid directory at a: tags strictly ascend, and each entry is valid
 pub record IsDirectory (b : List ℕ) (o : Order) (d : Dir) (a : ℕ) : Type 0 where
   pub there : has_table b o a ≡ true
   pub rising : Rising (map (λ e. e.tag) (entries o (table b o a)))
   pub each : AllByRecursion (IsEntry b o d) (entries o (table b o a))
 
--- ---- what the entries mean
+-- ---- the meaning of the entries
 
 -- the elements of an entry
 unfoldable pub entry_elements : List ℕ → Order → Entry → Form → List Element
 entry_elements b o e f = elements o f e.count (raw b o e)
 
--- SHORT and LONG are one kind at a widened tag, and all others stay as they stand
+-- SHORT and LONG are one kind at a widened tag, and all other types are unchanged
 abbrev pub widened_value : Form → List Element → Value
 widened_value Short xs = record { kind = Whole; elements = map widened xs }
 widened_value Long xs = record { kind = Whole; elements = map widened xs }
 widened_value f xs = record { kind = Of f; elements = xs }
 
--- the record at its tag, where the type is BYTE or UNDEFINED and the bytes say one
+-- the record at its tag, if the type is BYTE or UNDEFINED and the bytes are a record
 abbrev pub record_in : Form → List ℕ → Option Iim
 record_in Byte x = iim_of x
 record_in Undefined x = iim_of x

@@ -1,6 +1,6 @@
--- A standing fault, by its cause: what is wrong in a block, and where. It looks at the block alone, and at no order of checks;
--- of several that stand, the list of checks tells the first. TIFF 6.0 section 2 and section 7, "No Duplicate Pointers"; CIPA
--- DC-008 4.5.5 and 4.6.3.
+-- The faults of a block, by cause: what is wrong, and at which offset. A fault depends only on the block and not on the order of
+-- checks; of several faults, the list of checks selects the first. TIFF 6.0 section 2 and section 7, "No Duplicate Pointers";
+-- CIPA DC-008 4.5.5 and 4.6.3.
 use Rattle.std.specs.Prelude.{◌≡◌, ℕ, ◌+◌, ◌*◌, ◌<◌, ◌≤◌, ◌⊎◌, false, Some, None, option_map, option_to_list, List, [], ◌∷◌, ◌++◌, length}
 use Rattle.std.specs.Prelude.{map, take, slice_get, flat_map, Contains}
 use Rattle.std.specs.List.{cons_option}
@@ -22,25 +22,25 @@ use Rattle.px_tree.specs.Thumbnail.{numbers, IsInside, jpeg_range, ranges_of, st
 use Rattle.px_tree.specs.Footprint.{listed, placed_range, table_range}
 use Rattle.px_tree.specs.Checks.{named_at, place_with}
 
--- ---- what is reached
+-- ---- the parts that are reached
 
 -- x is the element i of the list
 abbrev pub At : {X : Type 0} → List X → ℕ → X → Type 0
 At xs i x = slice_get xs i ≡ Some x
 
--- the header is there, in order o
+-- the block has a header of byte order o
 abbrev pub Begins : List ℕ → Order → Type 0
 Begins b o = (8 ≤ length b) × (take 4 b ≡ magic o)
 
--- the directory d is named, at a
+-- the directory d has a pointer to a
 abbrev pub Reached : List ℕ → Order → Dir → ℕ → Type 0
 Reached b o d a = Begins b o × (dir_at b o d ≡ Some a)
 
--- entry i of the directory d is e, at place p; a directory has entries where its table is there
+-- entry i of the directory d is e, at offset p; a directory has entries if its table is in the block
 abbrev pub EntryAt : List ℕ → Order → Dir → ℕ → ℕ → Entry → Type 0
 EntryAt b o d i p e = (a : ℕ) × Reached b o d a × At (entries_at b o a) i e × (p ≡ a + 2 + 12 * i)
 
--- the place of a directory in the order main, Exif, Interoperability, GPS, thumbnail
+-- the index of a directory in the order main, Exif, Interoperability, GPS, thumbnail
 abbrev pub dir_number : Dir → ℕ
 dir_number Main = 0
 dir_number Exif = 1
@@ -48,27 +48,27 @@ dir_number Interop = 2
 dir_number Gps = 3
 dir_number Thumb = 4
 
--- ---- the ranges, each with the place of what names it, in the order of the checks
+-- ---- the ranges, each with the offset of the entry or pointer that claims it, in the order of the checks
 
--- the placed values of entries, of which the first stands at p
+-- the values of entries that have an offset; the first entry is at p
 abbrev pub value_owners : Order → ℕ → List Entry → List (ℕ × Range)
 value_owners o p [] = []
 value_owners o p (e ∷ es) = cons_option (option_map (λ r. (p, r)) (placed_range o e)) (value_owners o (p + 12) es)
 
--- the table of the directory d at a, and its placed values
+-- the table of the directory d at a, and its values that have an offset
 unfoldable pub dir_owners : List ℕ → Order → Dir → ℕ → List (ℕ × Range)
 dir_owners b o d a = (named_at b o d, table_range b o a) ∷ value_owners o (a + 2) (entries_at b o a)
 
 abbrev pub owners_at : List ℕ → Order → Dir → List (ℕ × Range)
 owners_at b o d = listed (option_map (dir_owners b o d) (dir_at b o d))
 
--- the JPEG, named by its offset, and each strip, named by the list of offsets
+-- the JPEG, with its offset's entry, and each strip, with the entry of the list of offsets
 unfoldable pub thumb_owners : List ℕ → Order → ℕ → List (ℕ × Range)
 thumb_owners b o a =
     map (λ r. (place_with jpeg_offset_tag (a + 2) (entries_at b o a), r)) (option_to_list (jpeg_range o (entries_at b o a)))
     ++ map (λ r. (place_with strip_offsets_tag (a + 2) (entries_at b o a), r)) (listed (strip_ranges b o (entries_at b o a)))
 
--- the footprint, with the place of each owner
+-- the footprint, with the offset of each owner
 unfoldable pub owners : List ℕ → Order → List (ℕ × Range)
 owners b o = (0, range 0 8) ∷ flat_map (owners_at b o) dirs ++ listed (option_map (thumb_owners b o) (dir_at b o Thumb))
 
@@ -84,7 +84,7 @@ partners =
 abbrev pub IsAlone : Entry → List Entry → Type 0
 IsAlone e es = (u : ℕ) × (at_tag e.tag partners ≡ Some u) × (entry_with u es ≡ None)
 
--- offsets without as many lengths
+-- the counts of offsets and lengths differ
 abbrev pub IsUneven : Entry → List Entry → Type 0
 IsUneven e es = (f : Entry) × (e.tag ≡ strip_offsets_tag) × (entry_with strip_lengths_tag es ≡ Some f) × (e.count ≡ f.count → ⊥)
 
@@ -94,7 +94,7 @@ Names b o x n r =
     ((x.tag ≡ jpeg_offset_tag) × (n.tag ≡ jpeg_length_tag) × (r ≡ range (offset o x) (offset o n)))
     ⊎ ((x.tag ≡ strip_offsets_tag) × (n.tag ≡ strip_lengths_tag) × Contains (ranges_of (numbers b o x) (numbers b o n)) r)
 
--- the JPEG or a strip has the range r, and its offset is named by the entry at p; both entries are in order
+-- the JPEG or a strip has the range r, and the entry at p has its offset; both entries are valid
 abbrev pub PartAt : List ℕ → Order → ℕ → Range → Type 0
 PartAt b o p r =
     (i j q : ℕ) × (x n : Entry) × EntryAt b o Thumb i p x × EntryAt b o Thumb j q n × IsEntry b o Thumb x × IsEntry b o Thumb n × Names b o
@@ -108,14 +108,14 @@ Fault b TooLong p = (p ≡ limit) × (limit < length b)
 -- its first bytes, up to four, begin no header
 Fault b UnknownKind p = (p ≡ 0) × ((length b ≡ 0) ⊎ ((o : Order) → take 4 b ≡ take (length b) (magic o) → ⊥))
 Fault b HeaderCut p = (p ≡ length b) × (length b < 8)
--- an earlier directory stands at the same offset
+-- an earlier directory is at the same offset
 Fault b Loop p =
     (o : Order) × (d e : Dir) × (a : ℕ) × Reached b o d a × Reached b o e a × (dir_number e < dir_number d) × (p ≡ named_at b o d)
 -- its table, the number of entries among it, passes the end
 Fault b DirectoryOutside p =
     (o : Order) × (d : Dir) × (a : ℕ) × Reached b o d a × (p ≡ named_at b o d) × (length b < a + table_size (short o (part b a 2)))
 Fault b EmptyDirectory p = (o : Order) × (d : Dir) × Reached b o d p × (p + 2 ≤ length b) × (short o (part b p 2) ≡ 0)
--- two ranges share a byte; the place is that of the one whose check comes later
+-- two ranges share a byte; the offset is that of the owner whose check comes later
 Fault b Overlap p =
     (o : Order) × (i j q : ℕ) × (r s : Range) × (x : ℕ) × Begins b o × (i < j) × At (owners b o) i (q, r) × At (owners b o) j
     (p, s) × IsInside b r × IsInside b s × IsIn x r × IsIn x s

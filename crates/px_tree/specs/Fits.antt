@@ -52,7 +52,7 @@ item_count _ = 1
 unfoldable pub item_size : Item → ℕ
 item_size i = item_count i * size (item_form i)
 
--- a tag and its item, put in its place by ascending tag
+-- inserts a tag and its item by ascending tag
 abbrev pub put : {X : Type 0} → ℕ → X → List (ℕ × X) → List (ℕ × X)
 put t x [] = (t, x) ∷ []
 put t x (y ∷ ys) = if nat_lt t y.0 then (t, x) ∷ y ∷ ys else y ∷ put t x ys
@@ -61,7 +61,7 @@ abbrev pub put_some : {X : Type 0} → ℕ → Option X → List (ℕ × X) → 
 put_some t None xs = xs
 put_some t (Some x) xs = put t x xs
 
--- a pointer, where what it leads to is there
+-- a pointer, if the meaning has its directory
 abbrev pub link : {X : Type 0} → Dir → Option X → Option Item
 link d o = option_map (λ _. Link d) o
 
@@ -83,7 +83,7 @@ thumb_items t =
     (put_some strip_lengths_tag (option_map (λ s. StripSizes (map (λ x. length x) s)) t.strips)
     (field_items t.fields))))
 
--- the entries of a directory by ascending tag, where it is there
+-- the entries of a directory by ascending tag, if the meaning has it
 unfoldable pub items : Meaning → Dir → Option (List (ℕ × Item))
 items m Main = Some (main_items m)
 items m Exif = option_map exif_items m.exif
@@ -93,7 +93,7 @@ items m Thumb = option_map thumb_items m.thumb
 
 -- ---- the meanings that can be written
 
--- the values that a role allows as a field: the other roles allow none
+-- the values that a role allows as a field; the other roles allow none
 abbrev pub Allows : Role → Value → Type 0
 Allows Plain v = v.kind ≡ Whole → ⊥
 Allows Widened v = ((v.kind ≡ Of Short) → ⊥) × ((v.kind ≡ Of Long) → ⊥)
@@ -109,7 +109,7 @@ pub record FitsFields (d : Dir) (fs : Fields) : Type 0 where
   pub rising : Rising (map (λ p. p.0) fs)
   pub each : AllByRecursion (FitsField d) fs
 
--- bytes, at most as many as a block may have
+-- bytes, at most `limit`
 pub record IsBytes (x : List ℕ) : Type 0 where
   pub most : length x ≤ limit
   pub each : AreBytes x
@@ -123,7 +123,7 @@ pub record FitsThumb (t : Thumbnail) : Type 0 where
   pub jpeg : IfSome t.jpeg IsBytes
   pub strips : IfSome t.strips (λ s. (length s ≤ limit) × AllByRecursion IsBytes s)
 
--- each directory's fields fit, a record is whole and stands alone at its tag, and each directory has an entry
+-- each directory's fields fit, a record is valid and has no field at its tag, and each directory has an entry
 pub record Fits (m : Meaning) : Type 0 where
   pub main : FitsFields Main m.main
   pub iptc : IfSome m.iptc (λ i. IsRecord i × (length (normal_iim i) ≤ 2 * limit))

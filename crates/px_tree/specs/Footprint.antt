@@ -23,7 +23,7 @@ placed_range o e = if is_placed e then Some (range (offset o e) (raw_size e)) el
 abbrev pub table_range : List ℕ → Order → ℕ → Range
 table_range b o a = range a (table_size (short o (part b a 2)))
 
--- a directory's table, and its placed values
+-- a directory's table, and its values that have an offset
 unfoldable pub dir_ranges : List ℕ → Order → ℕ → List Range
 dir_ranges b o a = table_range b o a ∷ filter_map (placed_range o) (entries_at b o a)
 
@@ -34,6 +34,6 @@ ranges_at b o d = listed (option_map (dir_ranges b o) (dir_at b o d))
 unfoldable pub thumb_ranges : List ℕ → Order → ℕ → List Range
 thumb_ranges b o a = option_to_list (jpeg_range o (entries_at b o a)) ++ listed (strip_ranges b o (entries_at b o a))
 
--- the header, each directory's table and placed values, the JPEG and the strips
+-- the header, each directory's table and values, the JPEG and the strips
 unfoldable pub footprint : List ℕ → Order → List Range
 footprint b o = range 0 8 ∷ flat_map (ranges_at b o) dirs ++ listed (option_map (thumb_ranges b o) (dir_at b o Thumb))

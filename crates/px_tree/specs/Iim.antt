@@ -1,4 +1,4 @@
--- The record inside a block, in the words of the crate of caption records.
+-- The record inside a block, by the definitions of px_iim.
 pub use Rattle.px_iim.specs.Group.{IsRecord}
 pub use Rattle.px_iim.specs.Record.{iim_of, normal_iim}
 use Rattle.px_iim.specs.Group.{Record}

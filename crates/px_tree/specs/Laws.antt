@@ -1,4 +1,4 @@
--- The laws over the definitions alone.
+-- The laws of the definitions.
 use Rattle.std.specs.Prelude.{◌≡◌, ℕ, ◌≤◌, ◌==◌, if◌then◌else◌, ◌⊎◌, ◌↔◌, List, length, map, slice_index, flat_map, None, Some, Contains}
 use Rattle.std.specs.List.{AllByRecursion}
 use Rattle.px_bytes.specs.declared.Order.{Order}
@@ -25,15 +25,15 @@ use Rattle.px_tree.specs.Fits.{Fits, put}
 use Rattle.px_tree.specs.Checks.{FirstFault}
 use Rattle.px_tree.specs.Faults.{owners, Fault}
 
--- A block says at most one meaning.
+-- A block has at most one meaning.
 abbrev pub OneMeaning : Type 0
 OneMeaning = (b : List ℕ) (s t : Meaning) → SaysExif b s → SaysExif b t → s ≡ t
 
--- What a block of bytes says fits.
+-- The meaning of a block of bytes fits.
 abbrev pub SaidFits : Type 0
 SaidFits = (b : List ℕ) (m : Meaning) → AreBytes b → SaysExif b m → Fits m
 
--- What is put at a tag is there, and nothing else has changed.
+-- After a field is added it is found at its tag, and nothing else has changed.
 abbrev pub GetAfterPut : Type 0
 GetAfterPut = (fields : Fields) (t u : ℕ) (v : Value) → at_tag t fields ≡ None →
     at_tag u (put t v fields) ≡ (if t == u then Some v else at_tag u fields)
@@ -43,42 +43,42 @@ abbrev pub FootprintCounts : Type 0
 FootprintCounts = (b c : List ℕ) (m : Meaning) (s : SaysExif b m) → length b ≤ length c → length c ≤ limit →
     AllByRecursion (λ r. (p : ℕ) → IsIn p r → slice_index c p ≡ slice_index b p) (footprint b s.order) → SaysExif c m
 
--- The owners of bytes, each with its place, own the footprint.
+-- The owners of bytes, each with its offset, make up the footprint.
 abbrev pub OwnersOwn : Type 0
 OwnersOwn = (b : List ℕ) (o : Order) → map (λ x. x.1) (owners b o) ≡ footprint b o
 
--- The first fault stands; where a fault stands no meaning is said; and each block says a meaning or has a first fault.
+-- The first fault is a fault. A block with a fault has no meaning, and each block has a meaning or a first fault.
 abbrev pub FaultsTell : Type 0
 FaultsTell = ((b : List ℕ) (c : Cause) (p : ℕ) → FirstFault b c p → Fault b c p)
     × ((b : List ℕ) (c : Cause) (p : ℕ) (m : Meaning) → Fault b c p → SaysExif b m → ⊥)
     × ((b : List ℕ) → ((m : Meaning) × SaysExif b m) ⊎ ((c : Cause) × (p : ℕ) × FirstFault b c p))
 
--- ---- fields, in words of their own
+-- ---- fields, by definitions of their own
 
--- the elements of a type that spell the bytes, in their order
+-- the elements of a type that encode to the bytes, in their order
 pub record Spell (o : Order) (f : Form) (xs : List Element) (bytes : List ℕ) : Type 0 where
   pub each : AllByRecursion (IsOf f) xs
   pub spelled_is : flat_map (spell o) xs ≡ bytes
 
--- v is of that type, and its elements are what the raw bytes of e spell
+-- v is of that type, and its elements are those that the raw bytes of e encode
 pub record IsTyped (b : List ℕ) (o : Order) (e : Entry) (f : Form) (v : Value) : Type 0 where
   pub kind : v.kind ≡ Of f
   pub spell : Spell o f v.elements (raw b o e)
 
--- v is a list of whole numbers, those of SHORT or LONG that the raw bytes of e spell
+-- v is a list of whole numbers, those of SHORT or LONG that the raw bytes of e encode
 pub record IsWhole (b : List ℕ) (o : Order) (e : Entry) (f : Form) (v : Value) : Type 0 where
   pub kind : v.kind ≡ Whole
   pub numbers : List Element
   pub spell : Spell o f numbers (raw b o e)
   pub widened_is : v.elements ≡ map widened numbers
 
--- the value of a widened entry: types but SHORT and LONG stay as they are
+-- the value of a widened entry: types other than SHORT and LONG are unchanged
 abbrev pub IsWidened : List ℕ → Order → Entry → Form → Value → Type 0
 IsWidened b o e Short v = IsWhole b o e Short v
 IsWidened b o e Long v = IsWhole b o e Long v
 IsWidened b o e f v = IsTyped b o e f v
 
--- v is the value of an entry by its role; a record is none, where its bytes say one, nor is a pointer or a thumbnail part
+-- v is the value of an entry by its role; a record that is one has no value, nor has a pointer or a part of the thumbnail
 abbrev pub IsValueAt : List ℕ → Order → Entry → Role → Form → Value → Type 0
 IsValueAt b o e Plain f v = IsTyped b o e f v
 IsValueAt b o e Widened f v = IsWidened b o e f v
@@ -90,7 +90,7 @@ abbrev pub Means : List ℕ → Order → Dir → ℕ → ℕ → Value → Type
 Means b o d a t v =
     (e : Entry) × (f : Form) × Contains (entries_at b o a) e × (e.tag ≡ t) × (form_of e.code ≡ Some f) × IsValueAt b o e (role d t) f v
 
--- A pair of tag and value is a field of a directory exactly if an entry there has the tag and means the value.
+-- A pair of tag and value is a field of a directory exactly if it has an entry with that tag and that value.
 abbrev pub FieldsArePairs : Type 0
 FieldsArePairs = (b : List ℕ) (o : Order) (d : Dir) (a t : ℕ) (v : Value) → AreBytes b → IsDirectory b o d a →
     (Contains (fields b o d a) (t, v) ↔ Means b o d a t v)

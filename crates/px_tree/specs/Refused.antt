@@ -9,14 +9,14 @@ use Rattle.px_tree.specs.Says.{SaysExif}
 use Rattle.px_tree.specs.Checks.{FirstFault}
 use Rattle.px_tree.specs.Faults.{Fault}
 
--- the fault is the first one, it stands, its place is at most the limit, and the block says no meaning
+-- the fault is the first one, is a fault of the block at an offset of at most the limit, and the block has no meaning
 pub record IsFaulty (b : List ℕ) (cause : Cause) (place : ℕ) : Type 0 where
   pub first : FirstFault b cause place
   pub stands : Fault b cause place
   pub bounded : place ≤ limit
   pub unsaid : (m : Meaning) → SaysExif b m → ⊥
 
--- a refusal of content names such a fault; want of memory is told where a growth was refused, and says nothing of the block
+-- a refusal of content reports such a fault; out of memory means that an allocation failed, and nothing about the block
 abbrev pub IsRefused : List ℕ → ℕ → Refusal → Type 0
 IsRefused b refused (Content cause place) = IsFaulty b cause place
 IsRefused b refused OutOfMemory = 0 < refused

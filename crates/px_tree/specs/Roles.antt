@@ -1,4 +1,4 @@
--- What a tag is in a directory. TIFF 6.0 section 8 ("StripOffsets", "StripByteCounts", "RowsPerStrip", "ImageWidth",
+-- The role of a tag in a directory. TIFF 6.0 section 8 ("StripOffsets", "StripByteCounts", "RowsPerStrip", "ImageWidth",
 -- "ImageLength"); CIPA DC-008 4.6.3 (the pointers to the Exif, GPS and Interoperability IFDs), 4.5.5 (the thumbnail), and its
 -- tags relating to recording offset and to image data structure. Which tags are refused is this project's profile.
 use Rattle.std.specs.Prelude.{ℕ, ◌==◌, if◌then◌else◌, Option, Some, None, List, [], ◌∷◌}
@@ -76,12 +76,12 @@ jpeg_ac_tag = 0x0209
 
 -- ---- the table
 
--- what stands at a tag in a list of pairs
+-- the value at a tag in a list of pairs
 abbrev pub at_tag : {X : Type 0} → ℕ → List (ℕ × X) → Option X
 at_tag t [] = None
 at_tag t (x ∷ xs) = if x.0 == t then Some x.1 else at_tag t xs
 
--- the tags with a use of their own in a directory: its pointers, its parts, and those where SHORT and LONG mean the same
+-- the tags with a special use in a directory: its pointers, its parts, and those for which SHORT and LONG mean the same
 abbrev pub special : Dir → List (ℕ × Role)
 special Main =
     (exif_tag, To Exif) ∷ (gps_tag, To Gps) ∷ (record_tag, Record) ∷ (width_tag, Widened) ∷ (length_tag, Widened) ∷ (rows_tag, Widened) ∷ []
@@ -92,7 +92,7 @@ special Thumb =
     (jpeg_offset_tag, JpegOffset) ∷ (jpeg_length_tag, JpegLength) ∷ (strip_offsets_tag, StripOffsets) ∷ (strip_lengths_tag, StripLengths)
     ∷ (width_tag, Widened) ∷ (length_tag, Widened) ∷ (rows_tag, Widened) ∷ []
 
--- the tags that tell where something stands, each refused where it has no use of its own (two of them tell how long it is)
+-- the tags of offsets, and two of lengths: each is refused in a directory without a special use for it
 abbrev pub offset_tags : List (ℕ × Role)
 offset_tags =
     (strip_offsets_tag, Forbidden) ∷ (strip_lengths_tag, Forbidden) ∷ (free_offsets_tag, Forbidden) ∷ (tile_offsets_tag, Forbidden)
@@ -103,6 +103,6 @@ abbrev pub role_or : Option Role → Role → Role
 role_or None r = r
 role_or (Some r) _ = r
 
--- what a tag is in a directory: all that neither table names is plain
+-- the role of a tag in a directory: a tag in neither table is plain
 unfoldable pub role : Dir → ℕ → Role
 role d t = role_or (at_tag t (special d)) (role_or (at_tag t offset_tags) Plain)

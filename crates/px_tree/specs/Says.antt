@@ -1,5 +1,5 @@
--- What a block says. TIFF 6.0 section 2 and section 7, "No Duplicate Pointers"; CIPA DC-008 4.6.3 and 4.5.5. The longest block,
--- and the record at its tag, are this project's profile.
+-- The meaning of a block. TIFF 6.0 section 2 and section 7, "No Duplicate Pointers"; CIPA DC-008 4.6.3 and 4.5.5. The greatest
+-- length of a block, and the record at its tag, are this project's profile.
 use Rattle.std.specs.Prelude.{◌≡◌, ℕ, ◌≤◌, Option, option_map, option_and_then, List, length, map, take, IfSome}
 use Rattle.std.specs.List.{AllByRecursion}
 use Rattle.px_bytes.specs.declared.Order.{Order}
@@ -41,9 +41,9 @@ meaning b o = record {
   thumb = option_map (thumbnail b o) (dir_at b o Thumb);
 }
 
--- ---- what a block says
+-- ---- the meaning of a block
 
--- a block in that order: the header, each directory that it names, the thumbnail, and no byte that two owners share
+-- a valid block in that byte order: the header, each directory, the thumbnail, and no byte that two owners share
 pub record IsExif (b : List ℕ) (o : Order) : Type 0 where
   pub least : 8 ≤ length b
   pub most : length b ≤ limit
@@ -52,7 +52,7 @@ pub record IsExif (b : List ℕ) (o : Order) : Type 0 where
   pub thumbnail : IfSome (dir_at b o Thumb) (IsThumbnail b o)
   pub apart : AllApart (footprint b o)
 
--- the conditions hold of b, in the order that its first bytes tell, and m is its meaning
+-- b is valid in the byte order of its first bytes, and m is its meaning
 pub record SaysExif (b : List ℕ) (m : Meaning) : Type 0 where
   pub order : Order
   pub is_block : IsExif b order

@@ -13,12 +13,12 @@ use Rattle.px_tree.specs.Roles.{jpeg_offset_tag, jpeg_length_tag, strip_offsets_
 use Rattle.px_tree.specs.Entry.{Entry, table, next, offset, entry_elements}
 use Rattle.px_tree.specs.Directory.{entries_at, entry_with}
 
--- what two entries name together
+-- the part that two entries describe together
 abbrev pub both : {X Y Z : Type 0} → (X → Y → Z) → Option X → Option Y → Option Z
 both f (Some x) (Some y) = Some (f x y)
 both f _ _ = None
 
--- both are there, or neither
+-- both are present, or neither
 abbrev pub are_paired : {X Y : Type 0} → Option X → Option Y → Bool
 are_paired (Some x) (Some y) = true
 are_paired None None = true

@@ -8,18 +8,18 @@ use Rattle.px_tree.specs.Iim.{Iim}
 abbrev pub Fields : Type 0
 Fields = List (ℕ × Value)
 
--- the Exif directory, with the Interoperability directory that it names
+-- the Exif directory, with its Interoperability directory
 pub record ExifPart : Type 0 where
   pub fields : Fields
   pub interop : Option Fields
 
--- the thumbnail directory, with the bytes that it names
+-- the thumbnail directory, with the thumbnail's bytes
 pub record Thumbnail : Type 0 where
   pub fields : Fields
   pub jpeg : Option (List ℕ)
   pub strips : Option (List (List ℕ))
 
--- the main directory, the record in it, and the directories that it names
+-- the main directory, its record, and the other directories
 pub record Meaning : Type 0 where
   pub main : Fields
   pub iptc : Option Iim

@@ -1,3 +1,3 @@
--- Lemmas: proved here, and not to be read to know what is promised.
+-- Lemmas. Readers of the promises don't need them.
 pub mod TagLaws
 pub mod MeaningLaws

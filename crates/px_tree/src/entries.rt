@@ -1,4 +1,4 @@
-// One entry of a table, judged. TIFF 6.0 section 2, "IFD Entry", "Sort Order", "Types" and "Value/Offset".
+// Judges one entry of a table. TIFF 6.0 section 2, "IFD Entry", "Sort Order", "Types" and "Value/Offset".
 ghost use Rattle.std.specs.Prelude.{◌≡◌, ◌≤◌, ◌<◌, ◌+◌, ◌*◌, List, ◌++◌, length, option_to_list, IfOk, Some, true};
 ghost use Rattle.px_bytes.specs.Parts.{limit, part};
 ghost use Rattle.px_bytes.specs.Range.{Range, Agrees};
@@ -18,7 +18,7 @@ use crate::source::Source;
 use px_bytes::{Cause, Memory, Order, Ranges, Refusal};
 use px_field::Form;
 
-// What the twelve bytes of an entry say.
+// The content of an entry's twelve bytes.
 #[derive(Clone, Copy)]
 pub struct Head {
     pub tag: u16,
@@ -27,7 +27,8 @@ pub struct Head {
     pub offset: u32,
 }
 
-// An entry with its type, and what its tag is: whether no directory has a use for it is told but once.
+// An entry with its type and its tag's role. Whether the tag is plain in all directories is computed only
+// once.
 #[derive(Clone, Copy)]
 pub struct Shape {
     pub head: Head,
@@ -36,7 +37,7 @@ pub struct Shape {
     pub is_common: bool,
 }
 
-// The entry at a place.
+// The entry at an offset.
 pub fn head_at(block: &[u8], order: Order, at: u32) -> Head
     requires inside { at + 12 ≤ length block.now }
     requires bounded { length block.now ≤ limit }
@@ -51,7 +52,7 @@ pub fn head_at(block: &[u8], order: Order, at: u32) -> Head
     }
 }
 
-// Whether a pointer or a part of the thumbnail has the form that is asked.
+// Whether a pointer or an entry of the thumbnail has the expected type and count.
 fn is_formed(role: Role, head: Head) -> bool
     ensures { result ≡ has_form role (bare head) }
 {
@@ -62,7 +63,7 @@ fn is_formed(role: Role, head: Head) -> bool
     }
 }
 
-// The type and role of an entry at a place, behind a tag.
+// The type and role of the entry at an offset, after an entry with the tag `before`.
 fn shape_of(dir: Dir, at: u32, before: Option<u16>, head: Head) -> Result<Shape, Refusal>
     ensures judged { Judges result (shape_checks dir at before (bare head))
         (λ s. (s.head ≡ head) × (form_of head.code ≡ Some s.form) × (s.role ≡ role dir head.tag)) }
@@ -97,7 +98,7 @@ fn shape_of(dir: Dir, at: u32, before: Option<u16>, head: Head) -> Result<Shape,
     })
 }
 
-// Holds the value of the entry at a place, where the value stands at an offset.
+// Claims the value of the entry at an offset, unless the value is in the entry.
 fn hold_value(
     memory: &mut Memory,
     block: &[u8],
@@ -125,7 +126,7 @@ fn hold_value(
     hold(memory, held, at, start, len as u32)
 }
 
-// Judges the entry at a place, behind a tag, and holds its value.
+// Judges the entry at an offset, after an entry with a given tag, and claims its value.
 pub fn judge_entry(
     memory: &mut Memory,
     source: &Source,

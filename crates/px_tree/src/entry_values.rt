@@ -1,4 +1,4 @@
-// The bytes of an entry, and its value as it stands. TIFF 6.0 section 2, "IFD Entry" and "Value/Offset".
+// The raw bytes of an entry and its value. TIFF 6.0 section 2, "IFD Entry" and "Value/Offset".
 ghost use Rattle.std.specs.Prelude.{◌≡◌, ◌≤◌, ◌*◌, length};
 ghost use Rattle.px_bytes.specs.Parts.{limit, part};
 ghost use Rattle.px_field.specs.declared.Kind.TheVariants.{Of};

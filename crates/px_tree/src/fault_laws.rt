@@ -1,18 +1,18 @@
-//! Laws over the definitions alone: what the footprint is for, and what a fault tells.
+//! Laws of the definitions: the use of the footprint, and the meaning of a fault.
 ghost use Rattle.px_tree.specs.Laws.{OwnersOwn, FootprintCounts, FaultsTell};
 
-/// The owners of bytes, each with the place of what names it, own the footprint.
+/// The owners of bytes, each with the offset that refers to it, make up the footprint.
 pub fn owners_own()
     ensures { OwnersOwn }
 {}
 
-/// Only the footprint counts: a block that agrees with another on its footprint says the same.
+/// Only the footprint matters: two blocks with equal bytes on the footprint of one have the same meaning.
 pub fn footprint_counts()
     ensures { FootprintCounts }
 {}
 
-/// The first false check gives a standing fault; where a fault stands no meaning is said; and each block says a meaning or has
-/// a first fault.
+/// The first check that fails is the block's fault. A block with a fault has no meaning, and each block has a
+/// meaning or a first fault.
 pub fn faults_tell()
     ensures { FaultsTell }
 {}

@@ -1,4 +1,4 @@
-// The fields of a directory, read from its entries. TIFF 6.0 section 2, "IFD Entry" and "Value/Offset".
+// Reads the fields of a directory from its entries. TIFF 6.0 section 2, "IFD Entry" and "Value/Offset".
 ghost use Rattle.std.specs.Prelude.{◌≡◌, ◌≤◌, ◌<◌, ◌+◌, ◌*◌, ◌++◌, List, length, filter_map, option_map, option_to_list, Some, None, IfOk};
 ghost use Rattle.std.specs.Prelude.{IfErr};
 ghost use Rattle.std.specs.List.{AllByRecursion};
@@ -24,14 +24,14 @@ use crate::uses::{Uses, keep_use, no_uses};
 use px_bytes::{Memory, Order, Ranges, Refusal};
 use px_field::{Form, Value, read_whole};
 
-// Whether SHORT or LONG.
+// Whether a type is SHORT or LONG.
 fn is_whole_form(form: Form) -> bool
     ensures { result ≡ is_whole form }
 {
     matches!(form, Form::Short | Form::Long)
 }
 
-// The value of an entry where SHORT and LONG mean the same.
+// The value of an entry for which SHORT and LONG mean the same.
 fn widened_at<'a>(block: &'a [u8], order: Order, at: u32, head: Head, form: Form) -> Value<'a>
     requires { IsHeld block.now order at head form }
     ensures { result
@@ -44,7 +44,7 @@ fn widened_at<'a>(block: &'a [u8], order: Order, at: u32, head: Head, form: Form
     value_at(block, order, at, head, form)
 }
 
-// The value of an entry at the record's tag, where its bytes say no record.
+// The value of an entry at the record's tag, if its bytes are no record.
 fn unless_record_at<'a>(
     block: &'a [u8],
     order: Order,
@@ -63,7 +63,7 @@ fn unless_record_at<'a>(
     Some(value_at(block, order, at, head, form))
 }
 
-// The value of a field; pointers, parts of the thumbnail and a record are no fields.
+// The value of a field, or None for pointers, entries of the thumbnail, and a record.
 fn field_of<'a>(block: &'a [u8], order: Order, at: u32, shape: Shape) -> Option<Value<'a>>
     requires { IsHeld block.now order at shape.head shape.form }
     ensures { result
@@ -77,7 +77,7 @@ fn field_of<'a>(block: &'a [u8], order: Order, at: u32, shape: Shape) -> Option<
     }
 }
 
-// The same of any entry.
+// Keeps the field of any entry.
 fn keep_any_field<'a>(
     memory: &mut Memory,
     fields: &mut Fields<'a>,
@@ -132,14 +132,14 @@ fn keep_field<'a>(
     }
 }
 
-// The entries of a table that were read: the fields, and the entries with a use of their own.
+// The entries of a table: the fields, and the entries with a special use.
 #[derive(Drop)]
 pub struct Entries<'a> {
     pub fields: Fields<'a>,
     pub uses: Uses,
 }
 
-// So many entries, each judged, and its value held.
+// Reads so many entries: judges each and claims its value.
 pub fn read_entries<'a>(
     memory: &mut Memory,
     source: &Source<'a>,

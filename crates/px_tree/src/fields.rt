@@ -12,12 +12,11 @@ use px_field::Value;
 use std::alloc::{AllocError, Global};
 use std::marker::Model;
 
-/// The fields of a directory: a finite map from tag to value. TIFF 6.0 section 2, "Image File
-/// Directory" and "Sort Order".
+/// The fields of a directory: a finite map from tag to value. TIFF 6.0 section 2, "Image File Directory" and
+/// "Sort Order".
 ///
-/// The fields stand in a vector by ascending tag, so that a tag is found by halving, and fields that
-/// come by ascending tag, as in a block, are put behind the others. A field that comes in between
-/// moves those behind it.
+/// The fields are in a vector by ascending tag. A tag is found by binary search. A field with the greatest
+/// tag so far, as when a block is read, is appended; any other moves the fields after it.
 #[derive(Drop)]
 pub struct Fields<'a> {
     list: Vec<(u16, Value<'a>)>,
@@ -35,14 +34,14 @@ impl<'a> Model for Fields<'a> {
 }
 
 impl<'a> Fields<'a> {
-    /// No fields. Takes no memory; `alloc` serves the fields that are put later.
+    /// No fields, with memory of its own. It allocates nothing.
     pub fn new(alloc: Global) -> Fields<'a>
         ensures { result ≡ [] }
     {
         Fields::new_in(&Memory::new(alloc))
     }
 
-    /// No fields, and what is put later takes that memory. It takes none.
+    /// No fields. Later calls use the allocator of `memory`. It allocates nothing.
     pub fn new_in(memory: &Memory) -> Fields<'a>
         ensures { result ≡ [] }
     {
@@ -51,7 +50,7 @@ impl<'a> Fields<'a> {
         }
     }
 
-    /// How many fields there are: at most 65,536, one for each tag. Takes no memory.
+    /// The number of fields: at most 65,536, one for each tag. It allocates nothing.
     pub fn len(&self) -> usize
         ensures value { result ≡ length self.now }
         ensures order { Rising (tags self.now) }
@@ -59,14 +58,14 @@ impl<'a> Fields<'a> {
         self.list.len()
     }
 
-    /// Whether there are none. Takes no memory.
+    /// Whether there are none. It allocates nothing.
     pub fn is_empty(&self) -> bool
         ensures { IsTrue result ↔ (self.now ≡ []) }
     {
         self.list.is_empty()
     }
 
-    /// The tag and the value at place `i`, counted from 0 by ascending tag. Takes no memory.
+    /// The tag and value at index `i`, below `len`, by ascending tag. It allocates nothing.
     pub fn at(&self, i: usize) -> (u16, &Value<'a>)
         requires { i < length self.now }
         ensures { slice_get self.now i ≡ Some (result.0, result.1.now) }
@@ -75,7 +74,7 @@ impl<'a> Fields<'a> {
         (*tag, value)
     }
 
-    /// The value at a tag, where there is one. Takes no memory.
+    /// The value at a tag, or None. It allocates nothing.
     pub fn get(&self, tag: u16) -> Option<&Value<'a>>
         ensures { option_copied result ≡ at_tag tag self.now }
     {
@@ -85,9 +84,7 @@ impl<'a> Fields<'a> {
         }
     }
 
-    /// Puts a field, unless its tag is there: true where it was put, false where the tag was there
-    /// already. On false, and on an error, which comes for want of memory alone, the value is dropped
-    /// and nothing has changed.
+    /// Like `put_in`, with memory of its own.
     pub fn put(&mut self, tag: u16, value: Value<'a>) -> Result<bool, AllocError>
         ensures fresh { IfOk result (λ fresh. fresh ≡ true → (at_tag tag self.old ≡ None) × (self.new ≡ put tag value.entry self.old)) }
         ensures there { IfOk result (λ fresh. fresh ≡ false → (is_some (at_tag tag self.old) ≡ true) × (self.new ≡ self.old)) }
@@ -98,7 +95,8 @@ impl<'a> Fields<'a> {
         Ok(self.put_in(&mut memory, tag, value)?)
     }
 
-    /// As `put`, with memory that tells whether a growth was refused: where the error came, and there alone.
+    /// Adds a field and returns true, or returns false if the tag has a value already. On false and on an
+    /// error the new value is dropped and nothing has changed. `Err`: an allocation failed.
     pub fn put_in(
         &mut self,
         memory: &mut Memory,
@@ -122,7 +120,7 @@ impl<'a> Fields<'a> {
 }
 
 impl<'a> Fields<'a> {
-    // No fields, with room for so many.
+    // No fields, with capacity for so many.
     pub(crate) fn with_room(memory: &mut Memory, count: u16) -> Result<Fields<'a>, Refused>
         ensures none { IfOk result (λ f. f ≡ []) }
         ensures memory { Lacks result memory.old memory.new }
@@ -132,7 +130,7 @@ impl<'a> Fields<'a> {
         Ok(Fields { list })
     }
 
-    // Puts a field behind the others.
+    // Appends a field.
     pub(crate) fn push(
         &mut self,
         memory: &mut Memory,
@@ -149,7 +147,7 @@ impl<'a> Fields<'a> {
     }
 }
 
-// Where the tag is, or where it would go.
+// The index of the tag, or the index where it would be inserted.
 fn place_of(list: &[(u16, Value)], tag: u16) -> Result<usize, usize>
     requires { IsInOrder list.now }
     ensures found { IfOk result (IsAt list.now tag) }

@@ -23,11 +23,11 @@ use px_bytes::LIMIT;
 use px_field::{Form, Kind, Value};
 use px_iim::{Iim, normal_len};
 
-/// Whether a meaning can be written: every tag is plain or widened in its directory, and its value
-/// isn't `Whole` at a plain tag, nor SHORT or LONG at a widened one; bytes at 0x83BB in the main
-/// directory that say a record are a record, which stands alone there, isn't empty and has a normal
-/// form of at most `2 * LIMIT` octets; every directory has an entry; the JPEG, each strip and the
-/// number of strips are at most `LIMIT`. Takes no memory.
+/// Whether a meaning can be written. The conditions are: every tag is plain or widened in its directory; a
+/// plain tag's value isn't `Whole`, and a widened tag's isn't SHORT or LONG; no field at 0x83BB of the main
+/// directory has the bytes of a record; a record has no field at its tag, isn't empty, and has a normal form
+/// of at most `2 * LIMIT` bytes; every directory has an entry; the JPEG, each strip and the number of strips
+/// are at most `LIMIT`. It allocates nothing.
 pub fn fits(m: &Meaning) -> bool
     ensures { IsTrue result ↔ Fits (meaning_of m.now) }
 {
@@ -40,7 +40,7 @@ pub fn fits(m: &Meaning) -> bool
         && are_filled(m)
 }
 
-// Whether the bytes of a value at the record's tag say a record.
+// Whether a value at the record's tag has the bytes of a record.
 fn is_record(value: &Value) -> bool
     ensures { IsTrue result ↔ (record_in (form_in value.now.kind) (spelled Least value.now) ≡ None → ⊥) }
 {
@@ -53,7 +53,7 @@ fn is_record(value: &Value) -> bool
     }
 }
 
-// Whether a value may stand as a field at a tag.
+// Whether a field may have this tag and value.
 fn is_allowed(dir: Dir, tag: u16, value: &Value) -> bool
     ensures allowed { IsTrue result ↔ Allows (role dir tag) value.now }
     ensures tag { tag < 2 ^ 16 }
@@ -68,7 +68,7 @@ fn is_allowed(dir: Dir, tag: u16, value: &Value) -> bool
     }
 }
 
-// Whether a directory's fields may stand in it.
+// Whether a directory may have these fields.
 fn fits_fields(dir: Dir, fields: &Fields) -> bool
     ensures { IsTrue result ↔ FitsFields dir fields.now }
 {
@@ -99,7 +99,7 @@ fn fits_record(iim: &Option<Iim>) -> bool
     }
 }
 
-// Whether no field stands at the tag of the record, where there is one.
+// Whether the record, if there is one, has no field at its tag.
 fn stands_alone(m: &Meaning) -> bool
     ensures { IsTrue result ↔ IfSome m.now.iptc (λ i. AllByRecursion (λ p. (p.0 ≡ record_tag) → ⊥) m.now.main) }
 {
@@ -188,7 +188,7 @@ fn is_main_filled(m: &Meaning) -> bool
     m.main.len() > 0
 }
 
-// Whether a directory of fields alone has an entry, if it is there.
+// Whether a directory that only has fields is missing or has an entry.
 fn is_filled(fields: &Option<Fields>) -> bool
     ensures { IsTrue result ↔ IfSome (option_map field_items fields.now) (λ xs. 1 ≤ length xs) }
 {
@@ -198,7 +198,7 @@ fn is_filled(fields: &Option<Fields>) -> bool
     }
 }
 
-// Whether the Exif directory has an entry, if it is there.
+// Whether the Exif directory is missing or has an entry.
 #[tactic(auto, using(crate::proofs::writable::ItemCounts::exif_count))]
 fn is_exif_filled(part: &Option<ExifPart>) -> bool
     ensures { IsTrue result ↔ IfSome (option_map exif_items (option_map exif_of part.now)) (λ xs. 1 ≤ length xs) }
@@ -214,7 +214,7 @@ fn is_exif_filled(part: &Option<ExifPart>) -> bool
     }
 }
 
-// Whether the Interoperability directory has an entry, if it is there.
+// Whether the Interoperability directory is missing or has an entry.
 fn is_interop_filled(part: &Option<ExifPart>) -> bool
     ensures { IsTrue result ↔ IfSome (option_and_then (λ e. option_map field_items e.interop) (option_map exif_of part.now))
         (λ xs. 1 ≤ length xs) }
@@ -225,7 +225,7 @@ fn is_interop_filled(part: &Option<ExifPart>) -> bool
     }
 }
 
-// Whether the thumbnail directory has an entry, if it is there.
+// Whether the thumbnail directory is missing or has an entry.
 #[tactic(auto, using(crate::proofs::writable::ItemCounts::thumb_count))]
 fn is_thumb_filled(thumb: &Option<Thumb>) -> bool
     ensures { IsTrue result ↔ IfSome (option_map thumb_items (option_map thumb_of thumb.now)) (λ xs. 1 ≤ length xs) }
@@ -244,7 +244,7 @@ fn is_thumb_filled(thumb: &Option<Thumb>) -> bool
     }
 }
 
-// Whether each directory that is there has an entry.
+// Whether each directory has an entry.
 #[tactic(auto, unfolding(crate::specs::Fits::items))]
 fn are_filled(m: &Meaning) -> bool
     ensures { IsTrue result ↔ AllByRecursion (λ d. IfSome (items (meaning_of m.now) d) (λ xs. 1 ≤ length xs)) dirs }

@@ -8,7 +8,7 @@ ghost use Rattle.px_tree.specs.Checks.{same_bytes, begins_header, order_of, head
 
 use px_bytes::{Cause, Order, Refusal};
 
-/// The first four bytes of a block in an order: "II" or "MM", and 42 in that order.
+/// The first four bytes of a block in a byte order: "II" or "MM", and 42 in that order.
 pub fn magic_of(order: Order) -> [u8; 4]
     ensures { result ≡ magic order }
 {
@@ -18,7 +18,7 @@ pub fn magic_of(order: Order) -> [u8; 4]
     }
 }
 
-// Whether the first bytes, up to four, begin the header of an order.
+// Whether the first bytes, up to four, begin a header of this byte order.
 fn begins(block: &[u8], order: Order) -> bool
     ensures { result ≡ same_bytes (take 4 block.now) (take (length block.now) (magic order)) }
 {
@@ -40,7 +40,7 @@ fn is_begun(block: &[u8]) -> bool
     begins(block, Order::Most)
 }
 
-// The block has a header.
+// Checks that the block has a header.
 pub fn judge_header(block: &[u8]) -> Result<(), Refusal>
     requires { length block.now ≤ limit }
     ensures judged { Judges result (header_checks block.now) (λ _. ⊤) }
@@ -55,7 +55,7 @@ pub fn judge_header(block: &[u8]) -> Result<(), Refusal>
     Ok(())
 }
 
-// The order that the header tells.
+// The byte order in the header.
 pub fn order_in(block: &[u8]) -> Order
     requires least { 8 ≤ length block.now }
     requires begun { begins_header block.now ≡ true }

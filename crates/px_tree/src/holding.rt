@@ -1,4 +1,4 @@
-// Ranges of a block, held for what names them. TIFF 6.0 section 7, "No Duplicate Pointers".
+// Claims ranges of a block. TIFF 6.0 section 7, "No Duplicate Pointers".
 ghost use Rattle.std.specs.Prelude.{◌≤◌, ◌+◌, List, [], ◌∷◌};
 ghost use Rattle.px_bytes.specs.declared.Cause.TheVariants.{Overlap};
 ghost use Rattle.px_bytes.specs.Parts.{limit};
@@ -7,7 +7,7 @@ ghost use Rattle.px_bytes.specs.Checks.{LacksBlock, Judges, check};
 
 use px_bytes::{Cause, Memory, Ranges, Refusal};
 
-// Holds a range that is named at a place.
+// Claims a range for the entry or pointer at an offset.
 pub fn hold(
     memory: &mut Memory,
     held: &mut Ranges,

@@ -1,23 +1,23 @@
-//! Laws over the definitions alone: what each states stands in specs/Laws.antt.
+//! Laws of the definitions. specs/Laws.antt has their statements.
 ghost use Rattle.px_tree.specs.Laws.{OneMeaning, SaidFits, GetAfterPut, FieldsArePairs};
 
-/// A block says at most one meaning.
+/// A block has at most one meaning.
 pub fn one_meaning()
     ensures { OneMeaning }
 {}
 
-/// What a block of bytes says fits.
+/// The meaning of a block of bytes fits.
 pub fn said_fits()
     ensures { SaidFits }
 {}
 
-/// A value that is put at a tag that isn't there is what `Fields::get` then answers at that tag; at each
-/// other tag it answers what it answered before.
+/// After a value is added at a new tag, `Fields::get` returns it at that tag, and at each other tag what it
+/// returned before.
 pub fn get_after_put()
     ensures { GetAfterPut }
 {}
 
-/// The fields of a directory are exactly the pairs of tag and value that its entries mean.
+/// The fields of a directory are exactly the pairs of tag and value of its entries.
 pub fn fields_are_pairs()
     ensures { FieldsArePairs }
 {}

@@ -1,4 +1,4 @@
-// Where directories are named. TIFF 6.0 section 2, "Image File Directory"; CIPA DC-008 4.6.3 (pointers).
+// Pointers to directories. TIFF 6.0 section 2, "Image File Directory"; CIPA DC-008 4.6.3 (pointers).
 ghost use Rattle.std.specs.Prelude.{◌≡◌, ◌≤◌, ◌+◌, ◌*◌, length, IfSome, option_map};
 ghost use Rattle.px_bytes.specs.Parts.{limit};
 ghost use Rattle.px_tree.specs.Entry.{next, table};
@@ -11,21 +11,21 @@ use crate::entries::Head;
 use crate::parts::number32;
 use px_bytes::Order;
 
-// The offset of a directory, and the place of what names it.
+// The offset of a directory, and the offset of the pointer to it.
 #[derive(Clone, Copy)]
 pub struct Link {
     pub at: u32,
     pub place: u32,
 }
 
-// An entry, and its place.
+// An entry and its offset.
 #[derive(Clone, Copy)]
 pub struct Found {
     pub head: Head,
     pub place: u32,
 }
 
-// The next directory behind the table at a place.
+// The pointer to the next directory after the table at an offset.
 pub fn next_link(block: &[u8], order: Order, at: u32, count: u16) -> Option<Link>
     requires bounded { length block.now ≤ limit }
     requires stands { HasTable block.now order at count }
@@ -42,7 +42,7 @@ pub fn next_link(block: &[u8], order: Order, at: u32, count: u16) -> Option<Link
     Some(Link { at: next, place })
 }
 
-// Whether a link leads to an offset.
+// Whether a pointer leads to an offset.
 fn leads_to(link: Option<Link>, at: u32) -> bool
     ensures { result ≡ is_earlier_at (offset_of link) at }
 {
@@ -52,7 +52,7 @@ fn leads_to(link: Option<Link>, at: u32) -> bool
     }
 }
 
-// Whether one of the links leads to an offset.
+// Whether one of the pointers leads to an offset.
 pub fn is_earlier(earlier: &[Option<Link>], at: u32) -> bool
     ensures { result ≡ is_earlier_at (offsets_of earlier.now) at }
 {

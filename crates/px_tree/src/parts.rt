@@ -5,7 +5,7 @@ ghost use Rattle.px_tree.specs.Entry.{short, long, needs_place};
 
 use px_bytes::Order;
 
-// The bytes of a block from a place on.
+// The `len` bytes of a block at an offset.
 pub fn part_of<'a>(block: &'a [u8], at: u32, len: u32) -> &'a [u8]
     requires { at + len ≤ length block.now }
     ensures { result.now ≡ part block.now at len }
@@ -14,7 +14,7 @@ pub fn part_of<'a>(block: &'a [u8], at: u32, len: u32) -> &'a [u8]
     &block[from..from + len as usize]
 }
 
-// The bytes of a block between two places.
+// The bytes of a block between two offsets.
 pub fn bytes_between(block: &[u8], start: usize, end: usize) -> &[u8]
     requires rising { start ≤ end }
     requires inside { end ≤ length block.now }
@@ -23,7 +23,7 @@ pub fn bytes_between(block: &[u8], start: usize, end: usize) -> &[u8]
     &block[start..end]
 }
 
-// The number in the two bytes at a place.
+// The number in the two bytes at an offset.
 pub fn number16(block: &[u8], order: Order, at: u32) -> u16
     requires { at + 2 ≤ length block.now }
     ensures { result ≡ short order (part block.now at 2) }
@@ -32,7 +32,7 @@ pub fn number16(block: &[u8], order: Order, at: u32) -> u16
     order.get16(&block[from..from + 2])
 }
 
-// The number in the four bytes at a place.
+// The number in the four bytes at an offset.
 pub fn number32(block: &[u8], order: Order, at: u32) -> u32
     requires { at + 4 ≤ length block.now }
     ensures { result ≡ long order (part block.now at 4) }
@@ -41,7 +41,7 @@ pub fn number32(block: &[u8], order: Order, at: u32) -> u32
     order.get32(&block[from..from + 4])
 }
 
-/// Whether a value of so many bytes stands at an offset, and not in its entry.
+/// Whether a value of so many bytes is at an offset, because it doesn't fit into its entry.
 pub fn needs_place(len: u64) -> bool
     ensures { result ≡ needs_place len }
 {

@@ -1,4 +1,4 @@
-// A whole block: its header, its directories, the thumbnail's bytes, and the record.
+// Reads a whole block: its header, its directories, the thumbnail's bytes, and the record.
 ghost use Rattle.std.specs.Prelude.{◌≡◌, ◌≤◌, ℕ, length, IfOk, IfErr, option_map};
 ghost use Rattle.px_bytes.specs.Parts.{limit};
 ghost use Rattle.px_bytes.specs.Checks.{LacksBlock, Judges};
@@ -19,7 +19,7 @@ use crate::tree::{Directories, read_dirs};
 use px_bytes::{Block, Memory, Order, Ranges, Refusal};
 use std::alloc::Global;
 
-// The fields of a directory, if it is there.
+// The fields of a directory, if the block has it.
 fn fields_in<'a>(directory: Option<Directory<'a>>) -> Option<Fields<'a>>
     ensures { result ≡ option_map (λ t. t.fields) directory.entry }
 {
@@ -29,7 +29,7 @@ fn fields_in<'a>(directory: Option<Directory<'a>>) -> Option<Fields<'a>>
     }
 }
 
-// The Exif directory, with the Interoperability directory below it.
+// The Exif directory with its Interoperability directory.
 fn exif_in<'a>(exif: Option<Fields<'a>>, interop: Option<Fields<'a>>) -> Option<ExifPart<'a>>
     ensures { option_map exif_of result ≡ option_map
         (λ f. record { fields = f; interop = interop.entry }) exif.entry }
@@ -59,7 +59,7 @@ fn read_tree<'a>(memory: &mut Memory, block: &'a [u8], order: Order) -> Result<M
         thumb,
     } = directories;
     let thumb = read_thumb(memory, block, order, &mut held, thumb)?;
-    // The record's list is the longest there can be: the marks of a long block needn't stand beside it.
+    // Frees the marks of the claimed ranges first: the record's list can be the largest allocation.
     drop(held);
     let iptc = read_record(memory, block, order, &main)?;
     let Directory { fields, .. } = main;
@@ -72,19 +72,7 @@ fn read_tree<'a>(memory: &mut Memory, block: &'a [u8], order: Order) -> Result<M
     })
 }
 
-/// What an Exif block means. The same meaning is read whatever the byte order and the layout; the
-/// values, the JPEG and the strips borrow the block's bytes, and none is copied. TIFF 6.0 section 2;
-/// CIPA DC-008 4.5 and 4.6.
-///
-/// A block that says no meaning is refused by the cause and the place of its first fault, in the
-/// order of the checks: header, then the directories main, Exif, Interoperability, GPS and
-/// thumbnail, each with its table and then its entries, then the thumbnail's bytes. A place is at
-/// most `LIMIT`. Bytes at 0x83BB in the main directory, of type BYTE or UNDEFINED, are a record where
-/// they say one, and else a field.
-///
-/// It takes memory for the fields, the record, the list of strips and the ranges that are held while
-/// it reads. `OutOfMemory` comes where that was refused, and says nothing of the block. The cost
-/// grows with the block's length.
+/// Like `read_block_in`, with memory of its own.
 pub fn read_block<'a>(alloc: Global, block: Block<'a>) -> Result<Meaning<'a>, Refusal>
     ensures says { IfOk result (λ m. SaysExif block.entry (meaning_of m)) }
     ensures fits { IfOk result (λ m. Fits (meaning_of m)) }
@@ -94,8 +82,17 @@ pub fn read_block<'a>(alloc: Global, block: Block<'a>) -> Result<Meaning<'a>, Re
     read_block_in(&mut memory, block)
 }
 
-/// As `read_block`, with memory that tells whether a growth was refused: where the answer is
-/// `OutOfMemory`, and there alone.
+/// The meaning of an Exif block. It doesn't depend on the byte order or the layout. TIFF 6.0 section 2; CIPA
+/// DC-008 4.5 and 4.6.
+///
+/// The checks are made in this order: header; the directories main, Exif, Interoperability, GPS and
+/// thumbnail, for each the table and then its entries; the thumbnail's bytes. Bytes at 0x83BB in the main
+/// directory, of type BYTE or UNDEFINED, are a record if they can be read as one, and otherwise a field.
+///
+/// The values, the JPEG and the strips borrow the block's bytes. Allocates the fields, the record, the list
+/// of strips, and the claimed ranges while it reads. The cost is linear in the block's length. `Content`: the
+/// cause and byte offset (at most `LIMIT`) of the block's first fault; it has no meaning. `OutOfMemory`: an
+/// allocation failed.
 pub fn read_block_in<'a>(memory: &mut Memory, block: Block<'a>) -> Result<Meaning<'a>, Refusal>
     ensures says { IfOk result (λ m. SaysExif block.entry (meaning_of m)) }
     ensures fits { IfOk result (λ m. Fits (meaning_of m)) }

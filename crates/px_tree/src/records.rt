@@ -1,4 +1,4 @@
-// The record in the main directory, at the tag of IPTC-NAA.
+// The record in the main directory, at tag 0x83BB (IPTC-NAA).
 ghost use Rattle.std.specs.Prelude.{◌≡◌, ◌≤◌, length, is_some, IfOk, IfErr, option_and_then};
 ghost use Rattle.std.specs.List.{AllByRecursion};
 ghost use Rattle.px_bytes.specs.Checks.{LacksBlock};
@@ -20,7 +20,7 @@ use px_bytes::{Memory, Order, Refusal};
 use px_field::Form;
 use px_iim::{Iim, accepts, read_iim_in};
 
-// Whether bytes of a type say a record.
+// Whether bytes of a type are a record.
 pub fn says_record(form: Form, raw: &[u8]) -> bool
     ensures { result ≡ is_some (record_in form raw.now) }
 {
@@ -30,7 +30,7 @@ pub fn says_record(form: Form, raw: &[u8]) -> bool
     }
 }
 
-// The record that bytes say, if they say one.
+// The record in some bytes, if they are one.
 fn iim_in<'a>(memory: &mut Memory, raw: &'a [u8]) -> Result<Option<Iim<'a>>, Refusal>
     ensures ok { IfOk result (λ r. r ≡ iim_of raw.now) }
     ensures err { IfErr result (λ e. e ≡ OutOfMemory) }
@@ -43,7 +43,7 @@ fn iim_in<'a>(memory: &mut Memory, raw: &'a [u8]) -> Result<Option<Iim<'a>>, Ref
     }
 }
 
-// The record that bytes of a type say, if that type may hold one.
+// The record in bytes of a type, if that type can contain one.
 fn record_of<'a>(memory: &mut Memory, form: Form, raw: &'a [u8]) -> Result<Option<Iim<'a>>, Refusal>
     ensures ok { IfOk result (λ r. r ≡ record_in form raw.now) }
     ensures err { IfErr result (λ e. e ≡ OutOfMemory) }
@@ -78,7 +78,7 @@ fn record_found<'a>(
     }
 }
 
-// The record in the main directory that was read.
+// The record in the main directory.
 pub fn read_record<'a>(
     memory: &mut Memory,
     block: &'a [u8],

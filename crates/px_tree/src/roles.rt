@@ -1,4 +1,4 @@
-// Directories, and what a tag is in each.
+// Directories, and the role of a tag in each.
 ghost use Rattle.std.specs.Prelude.{◌≡◌, ◌<◌, true};
 ghost use Rattle.px_tree.specs.Roles.{role};
 ghost use Rattle.px_tree.specs.calls.Used.{HasNoUse};
@@ -10,18 +10,18 @@ use crate::tags::{
     PIXEL_Y_DIMENSION, ROWS_PER_STRIP, STRIP_BYTE_COUNTS, STRIP_OFFSETS, SUB_IFDS, TILE_OFFSETS,
 };
 
-/// A directory: the main one of TIFF 6.0, and those that CIPA DC-008 names from it.
+/// A directory: the main one of TIFF 6.0, or one of those that CIPA DC-008 adds.
 #[derive(Clone, Copy, Debug, PartialEq, Eq)]
 pub enum Dir {
-    /// The main directory (0th IFD), which the header names.
+    /// The main directory (0th IFD), at the header's offset.
     Main,
-    /// The Exif directory, which tag 0x8769 of the main directory names.
+    /// The Exif directory, at tag 0x8769 of the main directory.
     Exif,
-    /// The Interoperability directory, which tag 0xA005 of the Exif directory names.
+    /// The Interoperability directory, at tag 0xA005 of the Exif directory.
     Interop,
-    /// The GPS directory, which tag 0x8825 of the main directory names.
+    /// The GPS directory, at tag 0x8825 of the main directory.
     Gps,
-    /// The thumbnail directory (1st IFD), which stands behind the main directory.
+    /// The thumbnail directory (1st IFD), the next one after the main directory.
     Thumb,
 }
 
@@ -30,16 +30,16 @@ impl Dir {
     pub const ALL: [Dir; 5] = [Dir::Main, Dir::Exif, Dir::Interop, Dir::Gps, Dir::Thumb];
 }
 
-/// What a tag is in a directory.
+/// The role of a tag in a directory.
 #[derive(Clone, Copy, Debug, PartialEq, Eq)]
 pub enum Role {
-    /// A field, kept as it stands.
+    /// A field, kept unchanged.
     Plain,
-    /// A field in which SHORT and LONG mean the same.
+    /// A field for which SHORT and LONG mean the same.
     Widened,
-    /// A tag that may not stand in this directory.
+    /// A tag that this directory must not have.
     Forbidden,
-    /// A field, or an IPTC record where its bytes say one.
+    /// An IPTC record if its bytes are one, otherwise a field.
     Record,
     /// The offset of the thumbnail's JPEG.
     JpegOffset,
@@ -53,7 +53,7 @@ pub enum Role {
     To(Dir),
 }
 
-// What a tag is where no directory has a use of its own for it.
+// The role of a tag that no directory uses.
 #[tactic(auto, unfolding(crate::specs::Roles::role))]
 fn common_role(tag: u16) -> Role
     ensures { result ≡ role Dir.Gps tag }
@@ -76,7 +76,7 @@ fn common_role(tag: u16) -> Role
     }
 }
 
-// What a tag is in a directory, whichever tag it is.
+// The role of any tag in a directory.
 #[tactic(auto, unfolding(crate::specs::Roles::role))]
 fn any_role(dir: Dir, tag: u16) -> Role
     ensures { result ≡ role dir tag }
@@ -103,8 +103,7 @@ fn is_between(low: u16, tag: u16, high: u16) -> bool
     low < tag && tag < high
 }
 
-/// Whether no directory has a use of its own for a tag, nor refuses it. Most tags lie between all those, which one
-/// comparison tells.
+/// Whether no directory uses or refuses a tag. For most tags one comparison is enough.
 #[tactic(auto, using(crate::proofs::reading::NoUse::between_tables))]
 pub fn has_no_use(tag: u16) -> bool
     ensures { result ≡ true → HasNoUse tag }
@@ -136,7 +135,7 @@ pub fn has_no_use(tag: u16) -> bool
     }
 }
 
-// What a tag is in a directory, where it is known whether no directory has a use for it.
+// The role of a tag in a directory, given whether no directory uses it.
 #[tactic(auto, using(crate::proofs::reading::NoUse::no_use_plain))]
 pub fn role_where(is_common: bool, dir: Dir, tag: u16) -> Role
     requires { is_common ≡ true → HasNoUse tag }
@@ -148,7 +147,7 @@ pub fn role_where(is_common: bool, dir: Dir, tag: u16) -> Role
     any_role(dir, tag)
 }
 
-/// What a tag is in a directory.
+/// The role of a tag in a directory.
 pub fn role_of(dir: Dir, tag: u16) -> Role
     ensures { result ≡ role dir tag }
 {

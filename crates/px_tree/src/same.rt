@@ -8,8 +8,8 @@ use crate::strips::Strips;
 use px_field::same_value;
 use px_iim::{Iim, same_iim};
 
-/// Whether two meanings are the same: the same directories with the same fields, the same record,
-/// the same JPEG and the same strips. Takes no memory.
+/// Whether two meanings are the same: the same directories with the same fields, the same record, the same
+/// JPEG and the same strips. It allocates nothing.
 pub fn same_meaning(a: &Meaning, b: &Meaning) -> bool
     ensures { IsTrue result ↔ (meaning_of a.now ≡ meaning_of b.now) }
 {

@@ -1,8 +1,8 @@
-// What a directory is read from.
+// The input for reading a directory.
 use crate::roles::Dir;
 use px_bytes::Order;
 
-// A block in its byte order, and which of its directories is read.
+// A block, its byte order, and the directory to read.
 #[derive(Clone, Copy)]
 pub struct Source<'a> {
     pub block: &'a [u8],

@@ -1,4 +1,4 @@
-// Where the strips of a thumbnail start, and how long they are. TIFF 6.0 section 8, "StripOffsets" and "StripByteCounts".
+// Offsets and lengths of a thumbnail's strips. TIFF 6.0 section 8, "StripOffsets" and "StripByteCounts".
 ghost use Rattle.std.specs.Prelude.{◌≡◌, ◌<◌, length, map, slice_get, Some};
 ghost use Rattle.px_tree.specs.Thumbnail.{whole_number};
 ghost use Rattle.px_tree.specs.calls.Strips.{AreNamed, named_strips};
@@ -6,7 +6,7 @@ ghost use Rattle.px_tree.specs.calls.Strips.{AreNamed, named_strips};
 use crate::parts::part_of;
 use px_field::{Element, Value};
 
-// The two lists of numbers that name the strips, and the block that has these.
+// The two lists of numbers that describe the strips, and their block.
 #[derive(Drop)]
 pub struct StripLists<'a> {
     pub block: &'a [u8],
@@ -26,7 +26,7 @@ fn number_of(element: Element) -> u32
     }
 }
 
-// A number of a list.
+// The number at an index of a list.
 #[inline(always)]
 pub fn number_in(list: &Value, i: u32) -> u32
     requires { i < length list.now.elements }
@@ -35,7 +35,7 @@ pub fn number_in(list: &Value, i: u32) -> u32
     number_of(list.element(i))
 }
 
-// The bytes of the strip at `i`, counted from 0.
+// The bytes of the strip at index `i`.
 pub fn strip_at<'a>(lists: &StripLists<'a>, i: u32) -> &'a [u8]
     requires named { AreNamed lists.now }
     requires there { i < length lists.now.starts.elements }

@@ -1,4 +1,4 @@
-// One directory. TIFF 6.0 section 2, "Image File Directory".
+// Reads one directory. TIFF 6.0 section 2, "Image File Directory".
 ghost use Rattle.std.specs.Prelude.{◌≡◌, ◌≤◌, ◌+◌, ◌*◌, ◌++◌, List, ◌∷◌, length, IfOk};
 ghost use Rattle.px_bytes.specs.Parts.{limit};
 ghost use Rattle.px_bytes.specs.Range.{Range, range, Agrees};
@@ -20,8 +20,7 @@ use crate::source::Source;
 use crate::uses::Uses;
 use px_bytes::{Cause, Memory, Ranges, Refusal};
 
-// A directory that was read: its fields, its entries with a use of their own, its offset and its number
-// of entries.
+// A directory: its fields, its entries with a special use, its offset and its number of entries.
 #[derive(Drop)]
 pub struct Directory<'a> {
     pub fields: Fields<'a>,
@@ -30,14 +29,14 @@ pub struct Directory<'a> {
     pub count: u16,
 }
 
-/// The bytes of a table of so many entries.
+/// The length in bytes of a table of so many entries.
 pub fn table_len(entries: u16) -> u32
     ensures { result ≡ table_size entries }
 {
     2 + 12 * u32::from(entries) + 4
 }
 
-// How many entries the table that a link leads to has, once it is held.
+// The number of entries of the table at a pointer. It claims the table.
 fn open_table(
     memory: &mut Memory,
     source: &Source,
@@ -74,7 +73,7 @@ fn open_table(
     Ok(count)
 }
 
-// The directory that a link leads to.
+// Reads the directory at a pointer.
 pub fn read_directory<'a>(
     memory: &mut Memory,
     source: &Source<'a>,

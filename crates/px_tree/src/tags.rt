@@ -1,4 +1,4 @@
-// The tags that have a use of their own in some directory, called as their standards call them.
+// The tags that have a special use in some directory, named as in their standards.
 
 // The pointers of CIPA DC-008.
 pub const EXIF_IFD_POINTER: u16 = 0x8769;
@@ -10,7 +10,7 @@ pub const INTEROPERABILITY_IFD_POINTER: u16 = 0xA005;
 // The record of IPTC-NAA.
 pub const IPTC_NAA: u16 = 0x83BB;
 
-// What names the bytes of a thumbnail: TIFF 6.0, CIPA DC-008.
+// The thumbnail's bytes: TIFF 6.0, CIPA DC-008.
 pub const STRIP_OFFSETS: u16 = 0x0111;
 
 pub const STRIP_BYTE_COUNTS: u16 = 0x0117;
@@ -19,7 +19,7 @@ pub const JPEG_INTERCHANGE_FORMAT: u16 = 0x0201;
 
 pub const JPEG_INTERCHANGE_FORMAT_LENGTH: u16 = 0x0202;
 
-// Where SHORT and LONG mean the same: TIFF 6.0, CIPA DC-008.
+// SHORT and LONG mean the same: TIFF 6.0, CIPA DC-008.
 pub const IMAGE_WIDTH: u16 = 0x0100;
 
 pub const IMAGE_LENGTH: u16 = 0x0101;
@@ -30,7 +30,7 @@ pub const PIXEL_X_DIMENSION: u16 = 0xA002;
 
 pub const PIXEL_Y_DIMENSION: u16 = 0xA003;
 
-// Offsets that are followed in no directory: TIFF 6.0, and for SubIFDs a technical note after it.
+// Offsets that no directory follows: TIFF 6.0, and for SubIFDs a later technical note.
 pub const FREE_OFFSETS: u16 = 0x0120;
 
 pub const TILE_OFFSETS: u16 = 0x0144;

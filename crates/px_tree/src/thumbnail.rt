@@ -31,7 +31,7 @@ use crate::uses::Uses;
 use px_bytes::{Cause, Memory, Order, Ranges, Refusal};
 use px_field::{Form, Value};
 
-// One of a pair is not there without the other.
+// Checks that neither or both entries of a pair are present.
 fn judge_pair(first: Option<Found>, second: Option<Found>) -> Result<(), Refusal>
     ensures judged { Judges result (pair_check first second) (λ _. ⊤) }
     ensures content { ContentOnly result }
@@ -43,7 +43,7 @@ fn judge_pair(first: Option<Found>, second: Option<Found>) -> Result<(), Refusal
     }
 }
 
-// There are as many offsets as lengths.
+// Checks that there are as many offsets as lengths.
 fn judge_counts(offsets: Option<Found>, lengths: Option<Found>) -> Result<(), Refusal>
     ensures judged { Judges result (count_check offsets lengths) (λ _. ⊤) }
     ensures content { ContentOnly result }
@@ -59,7 +59,7 @@ fn judge_counts(offsets: Option<Found>, lengths: Option<Found>) -> Result<(), Re
     }
 }
 
-// Both pairs are whole.
+// Checks that both pairs are complete.
 fn judge_pairs(parts: Uses) -> Result<(), Refusal>
     ensures judged { Judges result (pairs_checks parts) (λ _. ⊤) }
     ensures content { ContentOnly result }
@@ -69,7 +69,7 @@ fn judge_pairs(parts: Uses) -> Result<(), Refusal>
     judge_counts(parts.strip_offsets, parts.strip_lengths)
 }
 
-// No directory follows the one at a place.
+// Checks that the directory at an offset has no next directory.
 fn judge_end(block: &[u8], order: Order, at: u32, count: u16) -> Result<(), Refusal>
     requires bounded { length block.now ≤ limit }
     requires stands { HasTable block.now order at count }
@@ -82,14 +82,14 @@ fn judge_end(block: &[u8], order: Order, at: u32, count: u16) -> Result<(), Refu
     }
 }
 
-// Where bytes begin, and how many there are.
+// A range: the offset of its first byte, and its length in bytes.
 #[derive(Clone, Copy)]
 struct Extent {
     start: u32,
     len: u32,
 }
 
-// Holds a part of the block that is named at a place.
+// Claims a part of the block for the entry at an offset.
 fn claim(
     memory: &mut Memory,
     block: &[u8],
@@ -113,7 +113,7 @@ fn claim(
     hold(memory, held, place, start, len)
 }
 
-// The JPEG, held, where both of its entries are there.
+// Claims and returns the JPEG, if both of its entries are present.
 fn hold_jpeg<'a>(
     memory: &mut Memory,
     block: &'a [u8],
@@ -142,7 +142,7 @@ fn hold_jpeg<'a>(
     }
 }
 
-// The type of that number, of the two that a list of numbers may have.
+// The type with that number, SHORT or LONG.
 fn number_form(code: u16) -> Form
     ensures { (code ≡ 3) ⊎ (code ≡ 4) → form_of code ≡ Some result }
 {
@@ -168,7 +168,7 @@ fn numbers_at<'a>(block: &'a [u8], order: Order, found: Found) -> Value<'a>
     )
 }
 
-// Holds each strip of these lists.
+// Claims each strip of these lists.
 fn claim_each(
     memory: &mut Memory,
     held: &mut Ranges,
@@ -192,7 +192,8 @@ fn claim_each(
     Ok(())
 }
 
-// Judges the strips of these lists. Where they rise and nothing before has a byte of them, none has to be held.
+// Judges the strips of these lists. If their offsets ascend and no earlier range has a byte of them, it
+// claims none.
 fn judge_strips(
     memory: &mut Memory,
     held: &mut Ranges,
@@ -214,7 +215,7 @@ fn judge_strips(
     claim_each(memory, held, place, lists)
 }
 
-// The strips, where both of their lists are there. Nothing is held behind them.
+// The strips, if both of their lists are present. No later check needs their ranges.
 fn read_strips<'a>(
     memory: &mut Memory,
     block: &'a [u8],
@@ -245,7 +246,7 @@ fn read_strips<'a>(
     }
 }
 
-// The thumbnail directory at a place, behind its entries, with its bytes.
+// The thumbnail directory at an offset, after its entries were read, with the thumbnail's bytes.
 pub fn read_thumbnail<'a>(
     memory: &mut Memory,
     block: &'a [u8],
@@ -277,7 +278,7 @@ pub fn read_thumbnail<'a>(
     })
 }
 
-// The thumbnail directory that was read, with its bytes, if it is there.
+// The thumbnail directory with the thumbnail's bytes, if the block has one.
 pub fn read_thumb<'a>(
     memory: &mut Memory,
     block: &'a [u8],

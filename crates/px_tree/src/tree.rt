@@ -1,4 +1,4 @@
-// The directories of a block, in the order main, Exif, Interoperability, GPS, thumbnail. CIPA DC-008
+// Reads the directories of a block, in the order main, Exif, Interoperability, GPS, thumbnail. CIPA DC-008
 // 4.6.3 and 4.5.5.
 ghost use Rattle.std.specs.Prelude.{◌≡◌, ◌≤◌, ◌++◌, List, [], length, option_map, option_and_then, IfSome, IfOk};
 ghost use Rattle.px_bytes.specs.Parts.{limit};
@@ -21,7 +21,7 @@ use crate::tables::{Directory, read_directory};
 use crate::uses::link_of;
 use px_bytes::{Memory, Order, Ranges, Refusal};
 
-// The directories that were read.
+// The directories of a block.
 #[derive(Drop)]
 pub struct Directories<'a> {
     pub main: Directory<'a>,
@@ -31,7 +31,7 @@ pub struct Directories<'a> {
     pub thumb: Option<Directory<'a>>,
 }
 
-// The directory that a link names, if any does.
+// The directory at a pointer, if there is one.
 fn read_linked<'a>(
     memory: &mut Memory,
     source: &Source<'a>,
@@ -60,21 +60,21 @@ fn read_linked<'a>(
     }
 }
 
-// The link to the Exif directory.
+// The pointer to the Exif directory.
 fn link_to_exif(main: &Directory) -> Option<Link>
     ensures { result ≡ option_map link_as main.now.uses.exif }
 {
     link_of(main.uses.exif)
 }
 
-// The link to the GPS directory.
+// The pointer to the GPS directory.
 fn link_to_gps(main: &Directory) -> Option<Link>
     ensures { result ≡ option_map link_as main.now.uses.gps }
 {
     link_of(main.uses.gps)
 }
 
-// The link to the Interoperability directory, where the Exif directory is there.
+// The pointer to the Interoperability directory, if the block has an Exif directory.
 fn link_to_interop(exif: &Option<Directory>) -> Option<Link>
     ensures { result ≡ option_and_then (λ t. option_map link_as t.uses.interop) exif.now }
 {
@@ -84,7 +84,7 @@ fn link_to_interop(exif: &Option<Directory>) -> Option<Link>
     }
 }
 
-// The link behind a directory that was read.
+// The pointer to the next directory.
 fn link_behind(block: &[u8], order: Order, directory: &Directory) -> Option<Link>
     requires bounded { length block.now ≤ limit }
     requires stands { HasTable block.now order directory.now.at directory.now.count }
@@ -95,7 +95,7 @@ fn link_behind(block: &[u8], order: Order, directory: &Directory) -> Option<Link
     next_link(block, order, directory.at, directory.count)
 }
 
-// The main directory, which the header names.
+// The pointer to the main directory, in the header.
 fn link_to_main(block: &[u8], order: Order) -> Link
     requires { 8 ≤ length block.now }
     ensures { Names block.now order Dir.Main (Some result) }
@@ -106,7 +106,7 @@ fn link_to_main(block: &[u8], order: Order) -> Link
     }
 }
 
-// The directories of a block that has a header.
+// Reads the directories of a block that has a header.
 pub fn read_dirs<'a>(
     memory: &mut Memory,
     block: &'a [u8],

@@ -1,4 +1,4 @@
-// The entries of a table that have a use of their own, kept while the table is judged. CIPA DC-008 4.6.3
+// The entries of a table that have a special use, kept while the table is judged. CIPA DC-008 4.6.3
 // (pointers) and 4.5.5 (the thumbnail's bytes); TIFF 6.0 section 8, "StripOffsets" and "StripByteCounts".
 ghost use Rattle.std.specs.Prelude.{◌≡◌, ◌==◌, ◌&&◌, true, None, option_map};
 ghost use Rattle.px_tree.specs.calls.Used.{HasNoUse};
@@ -11,8 +11,8 @@ use crate::tags::{
     JPEG_INTERCHANGE_FORMAT, JPEG_INTERCHANGE_FORMAT_LENGTH, STRIP_BYTE_COUNTS, STRIP_OFFSETS,
 };
 
-// Of each tag with a use of its own the entry, if the table has one: the pointers, the record, and what
-// names the thumbnail's bytes.
+// For each tag with a special use, its entry if the table has one: the pointers, the record, and the entries
+// of the thumbnail's bytes.
 #[derive(Clone, Copy)]
 pub struct Uses {
     pub exif: Option<Found>,
@@ -25,7 +25,7 @@ pub struct Uses {
     pub strip_lengths: Option<Found>,
 }
 
-// No entry.
+// No entries.
 pub fn no_uses() -> Uses
     ensures { NoUses result }
 {
@@ -41,14 +41,14 @@ pub fn no_uses() -> Uses
     }
 }
 
-// Whether an entry has the form of a pointer.
+// Whether an entry has a pointer's type and count.
 fn is_one_long(head: Head) -> bool
     ensures { result ≡ ((head.code == 4) && (head.count == 1)) }
 {
     head.code == 4 && head.count == 1
 }
 
-// Keeps the entry at a place, if its tag has a use.
+// Keeps the entry at an offset, if its tag has a special use.
 #[tactic(auto, using(crate::proofs::reading::NoUse::keeps_none))]
 pub fn keep_use(uses: &mut Uses, shape: Shape, place: u32)
     requires { shape.is_common ≡ true → HasNoUse shape.head.tag }
@@ -60,7 +60,7 @@ pub fn keep_use(uses: &mut Uses, shape: Shape, place: u32)
     keep_any(uses, shape.head, place);
 }
 
-// The same of any tag.
+// The same for any tag.
 fn keep_any(uses: &mut Uses, head: Head, place: u32)
     ensures { Keeps uses.old uses.new (found_as head place) }
 {
@@ -90,7 +90,7 @@ fn keep_any(uses: &mut Uses, head: Head, place: u32)
     }
 }
 
-// Where a pointer leads.
+// The pointer in an entry.
 pub fn link_of(found: Option<Found>) -> Option<Link>
     ensures { result ≡ option_map link_as found }
 {

@@ -1,4 +1,4 @@
--- What the answer to a whole block tells.
+-- What the result for a whole block implies.
 use Rattle.std.proofs.Common.{◌≡◌, ℕ, ◌≤◌, List, Option, Some, None, Result, Ok, Err, refl, length, sym, ap, ◌∙◌, subst, arith}
 use Rattle.std.specs.Prelude.{IfOk, IfErr}
 use Rattle.px_bytes.specs.declared.Order.{Order}
@@ -24,7 +24,7 @@ use Rattle.px_tree.proofs.faulting.ToldAll.{first_stands}
 use Rattle.px_tree.proofs.faulting.Unsaid.{stands_unsaid}
 use Rattle.px_tree.proofs.faulting.Bounded.{fault_bounded}
 
--- bytes of which a check is false say no record
+-- bytes with a check that fails have no record
 pub faulty_says_none : (x : List ℕ) (c : Cause) (p : ℕ) → first_false (iim_checks x) ≡ Some (c, p) → iim_of x ≡ None
 faulty_says_none x c p h = go (iim_of x) refl
   where
@@ -32,7 +32,7 @@ faulty_says_none x c p h = go (iim_of x) refl
     go None e = e
     go (Some i) e = let q : ◌≡◌ {A = Option (Cause × ℕ)} None (Some (c, p)) = sym (said_clean x i (computed_said x i e)) ∙ h in cc
 
--- a refusal, where want of memory met a refused growth
+-- a refusal; out of memory means a failed allocation
 pub refused_by : (X : Type 0) (b : List ℕ) (e : Refusal) (old new : ℕ) → length b ≤ limit → Refuses e (checks b)
     → LacksBlockBy {X = X} (Err e) old new → IsRefused b new e
 refused_by X b (Content c p) old new l h k =
@@ -40,7 +40,7 @@ refused_by X b (Content c p) old new l h k =
     record { first = h; stands = f; bounded = fault_bounded b c p l f; unsaid = λ m s. stands_unsaid b c p m f s }
 refused_by X b OutOfMemory old new l h k = omega (arith, k)
 
--- a refusal of content alone
+-- only a refusal of content
 pub refused_only : (X : Type 0) (b : List ℕ) (e : Refusal) (refused : ℕ) → length b ≤ limit → Refuses e (checks b)
     → ContentOnly {X = X} (Err e) → IsRefused b refused e
 refused_only X b (Content c p) refused l h k = refused_by X b (Content c p) refused refused l h refl
@@ -67,7 +67,7 @@ module _ (b : List ℕ) (o : Order) (headed : first_false (header_checks b) ≡ 
       let q : o ≡ s.order = cc in
       record { order = s.order; is_block = s.is_block; says = ap (meaning b) q }
 
-  -- the answer of the tree is that of the block
+  -- the result for the tree is that for the block
   module _ {M : Type 0} (see : M → said.Meaning) where
     pub tree_said : (r : Result M Refusal) → Judges r (tree_checks b o) (λ m. see m ≡ meaning b o) → IfOk r (λ m. SaysExif b (see m))
     tree_said (Ok m) j = subst (SaysExif b) (sym j.1) (tree_says j.0)

@@ -1,4 +1,4 @@
--- Each fault stands at a place of at most the limit.
+-- Each fault is at an offset of at most the limit.
 use Rattle.std.proofs.Common.{◌≡◌, ℕ, ◌+◌, ◌*◌, ◌<◌, ◌≤◌, ◌==◌, ◌⊎◌, nat_le, Bool, inl, inr, Option, Some, None, option_map, option_to_list}
 use Rattle.std.proofs.Common.{List, [], ◌∷◌, map, flat_map, length, refl, sym, ap, ◌∙◌, subst, arith, leb-true}
 use Rattle.std.specs.Prelude.{find, unwrap_or, option_and_then}
@@ -34,7 +34,7 @@ unfolding next
 none_next Least = refl
 none_next Most = refl
 
--- the first entry that passes a test stands at its place
+-- the first entry that passes a test is at its offset
 found_place : (test : Entry → Bool) (p : ℕ) (es : List Entry) (e : Entry) → find test es ≡ Some e
     → place_of test p es + 12 ≤ p + 12 * length es
 found_place test p [] e h = cc
@@ -47,7 +47,7 @@ found_place test p (x ∷ es) e h = elim (cases_Bool (test x)) [
 ]
 
 module _ (b : List ℕ) (o : Order) where
-  -- a table that is there ends inside, and one that isn't has no entries
+  -- a table ends inside the block, and without one there are no entries
   entries_bound : (a : ℕ) → ((entries_at b o a ≡ []) × (next o (table b o a) ≡ 0)) ⊎ (a + 2 + 12 * length (entries_at b o a) ≤ length b)
   unfolding has_table table
   entries_bound a = elim (cases_Bool (has_table b o a)) [
@@ -82,7 +82,7 @@ module _ (b : List ℕ) (o : Order) where
       let at = w.3 in
       omega arith
 
-  -- an entry that is found stands inside
+  -- an entry that is found is inside the block
   found_bound : (test : Entry → Bool) (a : ℕ) (e : Entry) → find test (entries_at b o a) ≡ Some e
       → place_of test (a + 2) (entries_at b o a) ≤ length b
   found_bound test a e h = elim (entries_bound a) [

@@ -1,4 +1,4 @@
--- A list of checks tells faults: where the checks before it hold, a false one gives its fault.
+-- The checks of a list are faults: if the checks before it pass, one that fails is its fault.
 use Rattle.std.proofs.Common.{◌≡◌, ℕ, ◌+◌, ◌<◌, ◌≤◌, inl, inr, true, false, not, Option, Some, None, option_map, List, [], ◌∷◌, ◌++◌}
 use Rattle.std.proofs.Common.{length, sym, ◌∙◌, subst, arith}
 use Rattle.std.specs.Prelude.{IfSome, option_to_list}
@@ -26,7 +26,7 @@ pub tells_append : (b : List ℕ) (xs ys : List Check) → Tells b xs → (AllHo
 tells_append b [] ys h f = f tt
 tells_append b (k ∷ xs) ys h f = (h.0, λ t. tells_append b xs ys (h.1 t) (λ a. f (t, a)))
 
--- the first false check gives its fault
+-- the first check that fails is its fault
 pub first_told : (b : List ℕ) (cs : List Check) (c : Cause) (p : ℕ) → Tells b cs → first_false cs ≡ Some (c, p) → Fault b c p
 first_told b [] c p h e = cc
 first_told b (k ∷ cs) c p h e = elim (cases_Bool k.holds) [
@@ -38,7 +38,7 @@ first_told b (k ∷ cs) c p h e = elim (cases_Bool k.holds) [
       subst (λ (f : Cause × ℕ). Fault b f.0 f.1) r (h.0 t)
 ]
 
--- ---- what is held
+-- ---- the claimed ranges
 
 module _ (b : List ℕ) (o : Order) where
   -- the range of an owner before k, inside the block
@@ -59,7 +59,7 @@ module _ (b : List ℕ) (o : Order) where
   pub held_later : (k l : ℕ) (held : List Range) → k ≤ l → Held k held → Held l held
   held_later k l held h w = each_map (IsOwned k) (IsOwned l) (later k l h) held w
 
-  -- the next owner is held too
+  -- the next owner is claimed too
   pub held_cons : (k p : ℕ) (r : Range) (held : List Range) → At (owners b o) k (p, r) → IsInside b r → Held k held
       → Held (k + 1) (r ∷ held)
   held_cons k p r held a i h =
@@ -95,7 +95,7 @@ module _ (b : List ℕ) (o : Order) where
     | inr q ↦ overlap_told g k p s held a h.1 i q
   ]
 
-  -- the same of a value that may stand at an offset
+  -- the same for a value that may have an offset
   module _ (p k : ℕ) (rest : List (ℕ × Range)) where
     abbrev Next : Option Range → Type 0
     Next z = From (owners b o) k (cons_option (option_map (λ r. (p, r)) z) rest)
@@ -105,7 +105,7 @@ module _ (b : List ℕ) (o : Order) where
     value_told g None held f h i e = cc
     value_told g (Some r) held f h i e = overlap_told g k p r held (from_head (owners b o) k (p, r) rest f) h i e
 
-    -- what is held behind it
+    -- the ranges claimed after it
     pub after_value : (z : Option Range) (held : List Range) → Next z → Held k held → IfSome z (IsInside b)
         → (l : ℕ) × From (owners b o) l rest × Held l (option_to_list z ++ held)
     after_value None held f h i = (k, f, h)

@@ -1,4 +1,4 @@
--- The first fault stands: all checks of a block tell faults.
+-- The first fault is a fault: all checks of a block are.
 use Rattle.std.proofs.Common.{◌≡◌, ℕ, ◌+◌, ◌≤◌, ◌||◌, nat_lt, inl, inr, true, false, Option, Some, None, option_map, List, [], ◌∷◌, ◌++◌}
 use Rattle.std.proofs.Common.{flat_map, length, take, refl, sym, subst, arith, leb-true, leb-false, ltb-false}
 use Rattle.std.specs.Prelude.{IfSome}
@@ -109,6 +109,6 @@ checks_tell b = tells_append b (header_checks b) (checks_in b (order_of b)) (hea
     let o = begun b least all.1.0 in
     subst (λ z. Tells b (checks_in b z)) (sym (order_told b o.0 o.1)) (tree_tells b o.0 (least, o.1)))
 
--- The first fault stands.
+-- The first fault is a fault of the block.
 pub first_stands : (b : List ℕ) (c : Cause) (p : ℕ) → FirstFault b c p → Fault b c p
 first_stands b c p h = first_told b (checks b) c p (checks_tell b) h

@@ -1,4 +1,4 @@
--- The checks of the directories tell faults.
+-- The checks of the directories are faults.
 use Rattle.std.proofs.Common.{◌≡◌, ℕ, ◌+◌, ◌*◌, ◌<◌, ◌==◌, nat_le, inl, inr, true, false, Option, Some, None, is_some, option_map, List, []}
 use Rattle.std.proofs.Common.{◌∷◌, ◌++◌, filter_map, flat_map, length, refl, sym, ◌∙◌, ap, subst, arith, leb-true, leb-false, eqb-true}
 use Rattle.std.proofs.Common.{length-append}
@@ -33,7 +33,7 @@ module _ (b : List ℕ) (o : Order) (begins : Begins b o) where
   abbrev pub Before : ℕ → List ℕ → Type 0
   Before m earlier = AllByRecursion (λ x. (e : Dir) × (dir_number e < m) × (dir_at b o e ≡ Some x)) earlier
 
-  -- a value stands inside
+  -- a value is inside the block
   pub value_inside : (e : Entry) → has_raw b o e ≡ true → IfSome (placed_range o e) (IsInside b)
   unfolding placed_range has_raw
   value_inside e h = elim (cases_Bool (is_placed e)) [
@@ -101,7 +101,7 @@ module _ (b : List ℕ) (o : Order) (begins : Begins b o) where
     unfolding entry_checks
     raw_holds held p u e h = h.1.1.1.1.1.0
 
-    -- entry n and those behind it, where owner k is the next
+    -- entry n and those after it, if owner k is the next
     entries_tell : (held : List Range) (p n k : ℕ) (u : Option ℕ) (es : List Entry) → From (entries_at b o a) n es → p ≡ a + 2 + 12 * n
         → Previous u n → From (owners b o) k (value_owners o p es) → Held b o k held → Tells b (entries_checks b o d held p u es)
     entries_tell held p n k u [] c q w f g = tt
@@ -175,7 +175,7 @@ module _ (b : List ℕ) (o : Order) (begins : Begins b o) where
       add None q = rest
       add (Some a) q = ((d, omega arith, q), rest)
 
-  -- the ranges of a directory in order stand inside
+  -- the ranges of a valid directory are inside the block
   cons_inside : (z : Option Range) (rs : List Range) → IfSome z (IsInside b) → AllByRecursion (IsInside b) rs
       → AllByRecursion (IsInside b) (cons_option z rs)
   cons_inside None rs i h = h
@@ -198,7 +198,7 @@ module _ (b : List ℕ) (o : Order) (begins : Begins b o) where
             (entries_at b o a) h.each,
       )
 
-  -- what is held behind a directory in order
+  -- the ranges claimed after a valid directory
   after_dir : (d : Dir) (held : List Range) (k : ℕ) → IfSome (dir_at b o d) (IsDirectory b o d) → From (owners b o) k (owners_at b o d)
       → Held b o k held → Held b o (k + length (owners_at b o d)) (ranges_at b o d ++ held)
   after_dir d held k i f g =
@@ -217,7 +217,7 @@ module _ (b : List ℕ) (o : Order) (begins : Begins b o) where
       (from_right (owners b o) k (owners_at b o d) (flat_map (owners_at b o) ds) f)
       (after_dir d held k (at_facts b o earlier held d (dir_at b o d) all).0 here g))
 
-  -- what is held behind directories in order
+  -- the ranges claimed after valid directories
   pub dirs_kept : (ds : List Dir) (held : List Range) (k : ℕ) → AllByRecursion (λ d. IfSome (dir_at b o d) (IsDirectory b o d)) ds
       → From (owners b o) k (flat_map (owners_at b o) ds) → Held b o k held
       → Held b o (k + length (flat_map (owners_at b o) ds)) (dirs_held b o held ds)

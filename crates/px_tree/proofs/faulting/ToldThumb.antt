@@ -1,4 +1,4 @@
--- The checks of the thumbnail tell faults.
+-- The checks of the thumbnail are faults.
 use Rattle.std.proofs.Common.{◌≡◌, ℕ, suc, ◌+◌, ◌*◌, ◌==◌, inl, inr, false, Option, Some, None, is_some, List, [], ◌∷◌, ◌++◌, map, length}
 use Rattle.std.proofs.Common.{refl, sym, ◌∙◌, ap, subst, arith, leb-true, leb-false, eqb-true, eq-eqb}
 use Rattle.std.specs.Prelude.{option_to_list}
@@ -21,7 +21,7 @@ use Rattle.px_tree.proofs.lists.At.{From, from_head, from_tail, from_left, from_
 use Rattle.px_tree.proofs.saying.Judged.{ranges_facts}
 use Rattle.px_tree.proofs.faulting.Told.{Tells, tells_append, Held, held_cons, held_append, overlap_told}
 
--- an entry that is found stands at its place
+-- an entry that is found is at its offset
 pub record FoundAt (t p : ℕ) (es : List Entry) (e : Entry) : Type 0 where
   pub index : ℕ
   pub is : At es index e
@@ -175,7 +175,7 @@ module _ (b : List ℕ) (o : Order) (a : ℕ) (reached : Reached b o Thumb a) (e
                   (u.tag, v.tag, contains_at rs i r h),
             ))
 
-    -- ranges that are named at p
+    -- ranges of the entry at p
     ranges_tell : (p : ℕ) (held rs : List Range) (k : ℕ) → AllByRecursion (PartAt b o p) rs → From (owners b o) k (map (λ r. (p, r)) rs)
         → Held b o k held → Tells b (range_checks b p held rs)
     ranges_tell p held [] k w f g = tt

@@ -1,4 +1,4 @@
--- Where a fault stands, no meaning is said.
+-- A block with a fault has no meaning.
 use Rattle.std.proofs.Common.{◌≡◌, ℕ, ◌+◌, ◌<◌, ◌≤◌, nat_le, ◌⊎◌, inl, inr, true, Option, Some, None, is_some, option_map, List, [], ◌++◌}
 use Rattle.std.proofs.Common.{flat_map, length, sym, ◌∙◌, ap, ap₂, subst, arith, leb-true}
 use Rattle.std.specs.Prelude.{IfSome}
@@ -31,7 +31,7 @@ use Rattle.px_tree.proofs.saying.Judged.{all_magic}
 use Rattle.px_tree.proofs.lists.Members.{each_member}
 use Rattle.px_tree.proofs.lists.At.{at_map, at_apart, at_rising, at_found}
 
--- ---- no directory stands twice
+-- ---- no directory occurs twice
 
 module _ (G : Dir → List Range) (h : AllApart (flat_map G dirs)) where
   abbrev rest4 : List Range
@@ -246,11 +246,11 @@ module _ (b : List ℕ) (o : Order) (x : IsExif b o) where
       let f = h.1.1 in
       let w = part_inside h.0 f i j e n r h.2 (at_one Thumb h.0 j q n f k) s in omega arith
 
--- the order of a fault is that of what is said
+-- the byte order of a fault is that of the meaning
 block : (b : List ℕ) (m : Meaning) (o : Order) (s : SaysExif b m) → Begins b o → IsExif b o
 block b m o s h = subst (IsExif b) (magic_tells s.order o (sym s.is_block.begins ∙ h.1)) s.is_block
 
--- Where a fault stands, no meaning is said.
+-- A block with a fault has no meaning.
 pub stands_unsaid : (b : List ℕ) (c : Cause) (p : ℕ) (m : Meaning) → Fault b c p → SaysExif b m → ⊥
 stands_unsaid b cause.TooLong p m f s = let l = f.1 in let k = s.is_block.most in omega arith
 stands_unsaid b cause.UnknownKind p m (q, inl z) s = let l = s.is_block.least in omega arith

@@ -12,7 +12,7 @@ use Rattle.px_tree.specs.Directory.{entry_with}
 use Rattle.px_tree.specs.Faults.{At}
 
 module _ {X : Type 0} where
-  -- what holds at each index holds of each
+  -- a property at each index is one of each element
   pub each_from_at : (P : X → Type 0) (xs : List X) → ((i : ℕ) (x : X) → At xs i x → P x) → AllByRecursion P xs
   each_from_at P [] f = tt
   each_from_at P (x ∷ xs) f = (f 0 x refl, each_from_at P xs (λ i y e. f (suc i) y e))
@@ -27,7 +27,7 @@ module _ {X : Type 0} where
   at_left (y ∷ xs) ys zero x e = e
   at_left (y ∷ xs) ys (suc i) x e = at_left xs ys i x e
 
-  -- from place k on, the list goes on with xs
+  -- from index k on, the list continues with xs
   abbrev pub From : List X → ℕ → List X → Type 0
   From all k xs = (j : ℕ) (x : X) → At xs j x → At all (k + j) x
 
@@ -49,7 +49,7 @@ module _ {X : Type 0} where
       let z : k + 1 + length xs ≡ k + length (x ∷ xs) = omega arith in
       subst (λ k. From all k ys) z (from_right all (k + 1) xs ys (from_tail all k x (xs ++ ys) f))
 
--- ranges that are apart, by their places
+-- ranges that share no byte, by their indexes
 pub at_apart : (rs : List Range) (i j : ℕ) (r s : Range) → AllApart rs → i < j → At rs i r → At rs j s → Apart r s
 at_apart [] i j r s h l e f = cc
 at_apart (y ∷ rs) i zero r s h l e f = absurd (omega arith)
@@ -79,7 +79,7 @@ at_found (x ∷ es) (suc i) e r h =
     let l : x.tag < e.tag = all_at (λ t. x.tag < t) (tags es) i e.tag r.0 (at_map (λ e. e.tag) es i e h) in
     cond-false (x.tag == e.tag) (Some x) (entry_with e.tag es) (ne_eqb x.tag e.tag (λ q. omega arith)) ∙ at_found es i e r.1 h
 
--- ---- what a list contains
+-- ---- the elements of a list
 
 pub contains_at : {X : Type 0} (xs : List X) (i : ℕ) (x : X) → At xs i x → Contains xs x
 contains_at xs i x e = (i, slice_get_within xs i x e, get_or_from_slice_get xs i x x e)

@@ -1,4 +1,4 @@
--- What holds of each directory holds of one.
+-- A property of each directory is one of any.
 use Rattle.std.specs.List.{AllByRecursion}
 use Rattle.px_tree.specs.declared.roles.Dir.{Dir}
 use Rattle.px_tree.specs.declared.roles.Dir.TheVariants.{Main, Exif, Interop, Gps, Thumb}

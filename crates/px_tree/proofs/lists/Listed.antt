@@ -1,4 +1,4 @@
--- Lists of numbers, and what is known of an entry that was found.
+-- Lists of numbers, and facts about an entry that was found.
 use Rattle.std.proofs.Common.{◌≡◌, ◌≤◌, ℕ, ◌==◌, ◌⊎◌, true, Bool, Option, Some, None, List, [], ◌∷◌, map, length, inl, inr, refl, sym, ap}
 use Rattle.std.proofs.Common.{◌∙◌, subst, eqb-true}
 use Rattle.std.specs.Prelude.{find}
@@ -39,7 +39,7 @@ module _ (b : List ℕ) (o : Order) (f : Found) (k : Form) (shown : Shows o f.he
 
 -- ---- what was found
 
--- what holds of each holds of the first that passes a test, and it passes
+-- a property of each is one of the first that passes a test
 pub found_each : {X : Type 0} (P : X → Type 0) (test : X → Bool) (xs : List X) (x : X) → AllByRecursion P xs → find test xs ≡ Some x
     → P x × (test x ≡ true)
 found_each P test [] x h e = cc

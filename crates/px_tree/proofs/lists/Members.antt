@@ -1,9 +1,9 @@
--- Members of a list, and of what a function makes of its members.
+-- Members of a list, and of a function's results on its members.
 use Rattle.std.proofs.Common.{◌≡◌, zero, suc, Option, Some, None, List, [], ◌∷◌, filter_map, refl, sym, ◌∙◌, ap, subst, arith}
 use Rattle.std.specs.Prelude.{Contains}
 use Rattle.std.specs.List.{AllByRecursion, cons_option}
 
--- what holds of each holds of a member
+-- a property of each is one of a member
 pub each_member : {X : Type 0} (P : X → Type 0) (xs : List X) (x : X) → AllByRecursion P xs → Contains xs x → P x
 each_member P [] x h (k, l, e) = absurd (omega arith)
 each_member P (y ∷ xs) x h (zero, l, e) = subst P e h.0

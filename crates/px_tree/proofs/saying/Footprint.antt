@@ -1,4 +1,4 @@
--- Only the footprint counts: a block that agrees on it says the same.
+-- Only the footprint matters: a block with the same bytes there has the same meaning.
 use Rattle.std.proofs.Common.{◌≡◌, ℕ, ◌+◌, ◌<◌, ◌≤◌, ◌==◌, nat_le, inl, inr, true, false, Option, Some, None, option_map, option_and_then}
 use Rattle.std.proofs.Common.{List, [], ◌∷◌, ◌++◌, map, filter_map, flat_map, length, take, drop, slice_index, refl, sym, ◌∙◌, ap, ap₂}
 use Rattle.std.proofs.Common.{subst, arith, le-leb, leb-true, length-drop, get_or-take, get_or-drop}
@@ -52,7 +52,7 @@ filter_map-same : {X Z : Type 0} (g h : X → Option Z) (xs : List X) → AllByR
 filter_map-same g h [] e = refl
 filter_map-same g h (x ∷ xs) e = ap₂ cons_option e.0 (filter_map-same g h xs e.1)
 
--- what holds of each range holds of each placed value's
+-- a property of each range is one of each value's range
 each_placed : (P : Range → Type 0) (o : Order) (es : List Entry) → AllByRecursion P (filter_map (placed_range o) es)
     → AllByRecursion (λ e. is_placed e ≡ true → P (range (offset o e) (raw_size e))) es
 unfolding placed_range

@@ -1,4 +1,4 @@
--- Ranges that share no byte with those held before them, and none with one another.
+-- Ranges that share no byte with those claimed before them, nor with one another.
 use Rattle.std.proofs.Common.{List, [], ◌∷◌, ◌++◌}
 use Rattle.std.specs.List.{AllByRecursion}
 use Rattle.px_bytes.specs.Range.{Range, Apart, AllApart}
@@ -7,7 +7,7 @@ use Rattle.px_bytes.specs.lemmas.EachLaws.{each_map, each_map₂, each_left, eac
 pub apart_turned : (r s : Range) → Apart r s → Apart s r
 apart_turned r s a p i j = a p j i
 
--- each of rs is apart from each of held
+-- no range of rs shares a byte with one of held
 abbrev pub Clear : List Range → List Range → Type 0
 Clear held rs = AllByRecursion (λ r. AllByRecursion (Apart r) held) rs
 

@@ -1,4 +1,4 @@
--- Where each check holds, a block says a meaning.
+-- A block has a meaning if each check passes.
 use Rattle.std.proofs.Common.{◌≡◌, ℕ, ◌+◌, ◌<◌, ◌≤◌, ◌==◌, ◌⊎◌, nat_lt, nat_le, inl, inr, true, if◌then◌else◌, ◌||◌, Option, Some, None}
 use Rattle.std.proofs.Common.{option_map, List, [], ◌∷◌, ◌++◌, map, filter_map, flat_map, length, take, refl, sym, ◌∙◌, ap, ap₂, subst}
 use Rattle.std.proofs.Common.{arith, leb-true, eqb-true, eq-eqb}
@@ -252,7 +252,7 @@ begun b l h = elim (or_cases (same_bytes (take 4 b) (take (length b) (magic Leas
       | inr t ↦ (Most, bytes-true (take 4 b) (take (length b) (magic Most)) t ∙ all_magic b Most l)
     ]
 
--- Where each check holds, the block says a meaning.
+-- If each check passes, the block has a meaning.
 pub judged_well : (b : List ℕ) → AllHold (checks b) → (m : Meaning) × SaysExif b m
 unfolding checks
 judged_well b h =
@@ -275,7 +275,7 @@ judged_well b h =
       },
     )
 
--- Each block says a meaning, or has a first fault.
+-- Each block has a meaning or a first fault.
 pub said_or_fault : (b : List ℕ) → ((m : Meaning) × SaysExif b m) ⊎ ((c : Cause) × (p : ℕ) × FirstFault b c p)
 said_or_fault b = go (first_false (checks b)) refl
   where

@@ -1,4 +1,4 @@
--- The owners of bytes, each with its place, own the footprint.
+-- The owners of bytes, each with its offset, make up the footprint.
 use Rattle.std.proofs.Common.{◌≡◌, ℕ, ◌+◌, Option, Some, None, option_map, List, [], ◌∷◌, ◌++◌, map, filter_map, flat_map, refl, ◌∙◌, ap}
 use Rattle.std.proofs.Common.{ap₂}
 use Rattle.std.specs.Prelude.{option_to_list}
@@ -23,7 +23,7 @@ ranges xs = map (λ x. x.1) xs
 ranges-append : (xs ys : List (ℕ × Range)) → ranges (xs ++ ys) ≡ ranges xs ++ ranges ys
 ranges-append xs ys = map-append (λ x. x.1) xs ys
 
--- ranges of one place
+-- ranges of one owner's offset
 pub ranges-placed : (p : ℕ) (rs : List Range) → ranges (map (λ r. (p, r)) rs) ≡ rs
 ranges-placed p [] = refl
 ranges-placed p (r ∷ rs) = ap (λ zs. r ∷ zs) (ranges-placed p rs)

@@ -19,7 +19,7 @@ at_tag-none [] tag h = refl
 at_tag-none (f ∷ fields) tag h =
     grind (arith, nat_tests, h 0 (omega arith), at_tag-none fields tag (λ k below. h (suc k) (omega arith)))
 
--- the field at a place that has the tag
+-- the field at an index that has the tag
 pub at_tag-place : (fields : Fields) (tag i : ℕ) (f : ℕ × Value) → IsInOrder fields → IsAt fields tag i → slice_get fields i ≡ Some f
     → at_tag tag fields ≡ Some f.1
 at_tag-place [] tag i f ok at got = absurd (omega (arith, at.inside))
@@ -47,7 +47,7 @@ put-insert (f ∷ fields) tag (suc i) value gap =
     } in
     grind (arith, nat_tests, gap.below 0 (omega arith), put-insert fields tag i value rest)
 
--- the tag of the field at a place
+-- the tag of the field at an index
 pub tag_at : (fields : Fields) (i : ℕ) (d : ℕ × Value) → i < length fields → (get_or fields i d).0 ≡ slice_index (tags fields) i
 tag_at [] i d h = absurd (omega arith)
 tag_at (f ∷ fields) zero d h = refl
@@ -75,14 +75,14 @@ module _ (fields : Fields) (tag m : ℕ) (ok : IsInOrder fields) (inside : m < l
     | inr upto ↦ let here : k ≡ m = omega arith in rw here lt
   ]
 
--- a tag with a gap is not there
+-- a tag with a gap has no field
 pub at_tag-gap : (fields : Fields) (tag i : ℕ) → IsGapFor fields tag i → at_tag tag fields ≡ None
 at_tag-gap fields tag i gap = at_tag-none fields tag (λ k in_range same. elim (cases_lt k i) [
   | inl before ↦ omega (arith, gap.below k before)
   | inr from ↦ omega (arith, gap.above k from in_range)
 ])
 
--- a tag that stands somewhere is there
+-- a tag at an index has a field
 pub at_tag-some : (fields : Fields) (tag i : ℕ) → IsAt fields tag i → is_some (at_tag tag fields) ≡ true
 at_tag-some [] tag i at = absurd (omega (arith, at.inside))
 at_tag-some (f ∷ fields) tag zero at = grind (arith, nat_tests, at.same)
@@ -136,7 +136,7 @@ all_above : (t : ℕ) (ts : List ℕ) → ((k : ℕ) → k < length ts → t < s
 all_above t [] h = tt
 all_above t (u ∷ ts) h = (h 0 (omega arith), all_above t ts (λ k inside. h (suc k) (omega arith)))
 
--- place by place, or each with all behind it
+-- by index, or each with all after it
 pub rising_from_order : (fields : Fields) → IsInOrder fields → Rising (tags fields)
 rising_from_order [] h = tt
 rising_from_order (f ∷ fields) h =
@@ -158,7 +158,7 @@ order_from_rising (f ∷ fields) h zero (suc j) lt inside = let len = length-tag
 order_from_rising (f ∷ fields) h (suc i) zero lt inside = absurd (omega arith)
 order_from_rising (f ∷ fields) h (suc i) (suc j) lt inside = order_from_rising fields h.1 i j (omega arith) (omega arith)
 
--- ---- what is put is there
+-- ---- a field that is added is found
 
 pub get_after_put : (fields : Fields) (t u : ℕ) (v : Value) → at_tag t fields ≡ None
     → at_tag u (put t v fields) ≡ (if t == u then Some v else at_tag u fields)

@@ -27,7 +27,7 @@ use Rattle.px_tree.specs.Laws.{Spell, IsTyped, IsWhole, IsWidened, IsValueAt, Me
 use Rattle.px_tree.proofs.lists.Members.{each_member, Made, made_from, made_into}
 use Rattle.px_tree.proofs.writable.FitsBack.{Plausible, entries_plausible, bytes_raw, length_raw}
 
--- only the elements that are read spell the bytes
+-- only the elements that are read encode to the bytes
 only_elements : (o : Order) (f : Form) (n : ℕ) (x : List ℕ) (es : List Element) → length x ≡ n * size f → Spell o f es x
     → es ≡ elements o f n x
 unfolding spelled
@@ -128,7 +128,7 @@ module _ (b : List ℕ) (o : Order) (bytes : AreBytes b) (e : Entry) (p : Plausi
 
   -- ---- one entry
 
-  -- what an entry means at a tag
+  -- the value of an entry at a tag
   abbrev MeansAt : Dir → ℕ → Value → Type 0
   MeansAt d t v = (f : Form) × (e.tag ≡ t) × (form_of e.code ≡ Some f) × IsValueAt b o e (role d t) f v
 

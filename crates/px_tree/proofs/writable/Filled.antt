@@ -1,4 +1,4 @@
--- What a block says fits: the tree, and each directory has an entry.
+-- The meaning of a block fits: the tree, and each directory has an entry.
 use Rattle.std.proofs.Common.{◌≡◌, ℕ, suc, ◌+◌, ◌*◌, ◌<◌, ◌≤◌, ◌==◌, nat_lt, inl, inr, true, false, ◌&&◌, Option, Some, None, is_some}
 use Rattle.std.proofs.Common.{option_map, option_and_then, find, List, [], ◌∷◌, map, filter_map, length, take, drop, refl, sym, ◌∙◌, ap}
 use Rattle.std.proofs.Common.{ap₂, subst, arith, ltb-false, eq-eqb, ne_eqb, length-take, length-drop}
@@ -45,7 +45,7 @@ use Rattle.px_tree.specs.lemmas.TagLaws.{each_at}
 use Rattle.px_tree.proofs.writable.InRange.{bytes_part}
 use Rattle.px_tree.proofs.writable.FitsBack.{whole, count_is, Plausible, entries_plausible, bytes_raw, length_raw, value_of, fields_fit}
 
--- what is used of records: bytes say a whole one, with a normal form no longer than twice the bytes
+-- the facts about records that are used: bytes have a valid one, with a normal form no longer than twice the bytes
 iim_said : (x : List ℕ) (i : Iim) → AreBytes x → iim_of x ≡ Some i → IsRecord i × (length (normal_iim i) ≤ 2 * length x)
 iim_said x i h e = let s : SaysIim x i = computed_said x i e in (said_is_record x i h s, normal_bound x i s)
 
@@ -213,7 +213,7 @@ module _ (b : List ℕ) (o : Order) (bytes : AreBytes b) (x : IsExif b o) where
   unfolding role
   record_role = refl
 
-  -- where the entry says a record it is no field
+  -- an entry that is a record is no field
   no_field_value : (e : Entry) (i : Iim) → e.tag ≡ record_tag → record_entry e ≡ Some i → (v : Value) → value_of b o bytes Main e ≡ Some v
       → ⊥
   unfolding record_entry
@@ -230,7 +230,7 @@ module _ (b : List ℕ) (o : Order) (bytes : AreBytes b) (x : IsExif b o) where
           none : None ≡ Some v → ⊥
           none n = cc
 
-  -- what holds of each value that an entry makes
+  -- a property of each value that an entry has
   each_value : (P : ℕ × Value → Type 0) (val : Entry → Option Value) (es : List Entry)
       → AllByRecursion (λ e. (v : Value) → val e ≡ Some v → P (e.tag, v)) es
       → AllByRecursion P (filter_map (λ e. option_map (λ v. (e.tag, v)) (val e)) es)
@@ -596,6 +596,6 @@ module _ (b : List ℕ) (o : Order) (bytes : AreBytes b) (x : IsExif b o) where
     filled = (filled_is Main, (filled_is Exif, (filled_is Interop, (filled_is Gps, (filled_is Thumb, tt)))));
   }
 
--- What a block of bytes says fits.
+-- The meaning of a block of bytes fits.
 pub said_fits : (b : List ℕ) (m : Meaning) → AreBytes b → SaysExif b m → Fits m
 said_fits b m h s = subst Fits (sym s.says) (meaning_fits b s.order h s.is_block)

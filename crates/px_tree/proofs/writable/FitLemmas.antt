@@ -1,4 +1,4 @@
--- What is asked of fields.
+-- The conditions for fields.
 use Rattle.std.proofs.Common.{◌≡◌, ◌<◌, ◌+◌, ◌^◌, ℕ, Bool, suc, true, false, List, [], ◌∷◌, map, flat_map, length, slice_get, Option, Some}
 use Rattle.std.proofs.Common.{None, refl, sym, ap, ◌∙◌, subst, inl, inr, arith, IsTrue, ◌↔◌, ◌==◌, eqb-true, eq-eqb}
 use Rattle.std.specs.Prelude.{IfSome, is_some, not, option_copied}
@@ -22,12 +22,12 @@ joined_bytes : (o : Order) (s : List ℕ) → flat_map (spell o) (map Byte s) �
 joined_bytes o [] = refl
 joined_bytes o (x ∷ xs) = ap (λ (l : List ℕ). x ∷ l) (joined_bytes o xs)
 
--- bytes spell themselves
+-- bytes encode to themselves
 pub spelled-bytes : (o : Order) (v : Value) (s : List ℕ) → v.elements ≡ map Byte s → spelled o v ≡ s
 unfolding spelled
 spelled-bytes o v s h = ap (flat_map (spell o)) h ∙ joined_bytes o s
 
--- is there, or is not none
+-- is present, or is not None
 pub some_not_none : {X : Type 0} (o : Option X) → is_some o ≡ true → o ≡ None → ⊥
 some_not_none None h e = let clash : false ≡ true = h in cc
 some_not_none (Some x) h e = let clash : Some x ≡ None = e in cc
@@ -36,13 +36,13 @@ pub not_none_some : {X : Type 0} (o : Option X) → (o ≡ None → ⊥) → is_
 not_none_some None h = absurd (h refl)
 not_none_some (Some x) h = refl
 
--- what holds place by place holds of each
+-- a property at each index is one of each element
 pub each_by_get : {X : Type 0} (P : X → Type 0) (xs : List X) → ((k : ℕ) (x : X) → k < length xs → slice_get xs k ≡ Some x → P x)
     → AllByRecursion P xs
 each_by_get P [] h = tt
 each_by_get P (x ∷ xs) h = (h 0 x (omega arith) refl, each_by_get P xs (λ k y below e. h (suc k) y (omega arith) e))
 
--- a tag that is absent stands at no field
+-- a tag that is absent has no field
 pub absent_each : (t : ℕ) (fs : Fields) → at_tag t fs ≡ None → AllByRecursion (λ p. (p.0 ≡ t) → ⊥) fs
 absent_each t [] h = tt
 absent_each t (f ∷ fs) h = elim (cases_Bool (f.0 == t)) [
@@ -61,7 +61,7 @@ each_absent t (f ∷ fs) h = elim (cases_Bool (f.0 == t)) [
   | inr q ↦ cond-false (f.0 == t) (Some f.1) (at_tag t fs) q ∙ each_absent t fs h.1
 ]
 
--- the bytes of a type say a record
+-- the bytes of a type are a record
 pub says_at : (v : Value) (s : List ℕ) (r : Bool) (f : Form) → v.elements ≡ map Byte s → v.kind ≡ kind.Of f → r ≡ is_some (record_in f s)
     → IsTrue r ↔ (record_in (form_in v.kind) (spelled Least v) ≡ None → ⊥)
 says_at v s r f elements at test =
@@ -84,12 +84,12 @@ fits_one_more d fs i tag v small valid allowed here before k p below e = elim (c
       subst (FitsField d) same (record { tag = small; allowed = allowed; value = valid })
 ]
 
--- the fields of a directory fit exactly where each does
+-- the fields of a directory fit exactly if each does
 pub fits_all : (d : Dir) (fs : Fields) → Rising (map (λ p. p.0) fs)
     → ((k : ℕ) (p : ℕ × Value) → k < length fs → slice_get fs k ≡ Some p → FitsField d p) → FitsFields d fs
 fits_all d fs rising h = record { rising = rising; each = each_by_get (FitsField d) fs h }
 
--- no field stands at the tag of a record
+-- no field has the tag of a record
 pub stands_alone_lem : {X : Type 0} (o : Option X) (x : X) (fs : Fields) (t : ℕ) (got : Option (Bor Value)) (r : Bool)
     → o ≡ Some x → is_some got ≡ not r → option_copied got ≡ at_tag t fs → IsTrue r ↔ IfSome o (λ _. AllByRecursion (λ p. (p.0 ≡ t) → ⊥) fs)
 stands_alone_lem {X = X} o x fs t got r here test at =

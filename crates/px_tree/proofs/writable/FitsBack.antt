@@ -1,4 +1,4 @@
--- What a directory says fits: its fields rise, each is allowed at its tag, and its elements are in range.
+-- The fields of a directory fit: tags ascend, each field is allowed at its tag, and its elements are in range.
 use Rattle.std.proofs.Common.{◌≡◌, ℕ, zero, suc, ◌+◌, ◌*◌, ◌^◌, ◌<◌, ◌≤◌, nat_le, inl, inr, true, Option, Some, None, option_map}
 use Rattle.std.proofs.Common.{option_and_then, List, [], ◌∷◌, map, filter_map, length, take, drop, refl, sym, ◌∙◌, ap, subst, arith}
 use Rattle.std.proofs.Common.{leb-true, ltb-false, length-drop}

@@ -1,4 +1,4 @@
--- What is read from bytes is in range, and bytes that are read as bytes spell as they stood.
+-- Decoded values are in range, and bytes that are read as bytes encode to themselves.
 use Rattle.std.proofs.Common.{◌≡◌, ℕ, zero, suc, ◌^◌, ◌<◌, List, [], ◌∷◌, flat_map, length, drop, refl, ap, arith}
 use Rattle.px_bytes.specs.declared.Order.{Order}
 use Rattle.px_bytes.specs.declared.Order.TheVariants.{Least}

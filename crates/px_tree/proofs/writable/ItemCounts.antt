@@ -24,7 +24,7 @@ abbrev pub bit : Bool → ℕ
 bit true = 1
 bit false = 0
 
--- one where it is there
+-- one if it is present
 abbrev pub one_of : {X : Type 0} → Option X → ℕ
 one_of o = bit (is_some o)
 

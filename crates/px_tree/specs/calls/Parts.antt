@@ -1,4 +1,4 @@
--- The entries that name the thumbnail's bytes, as the reader keeps them.
+-- The reader's entries of the thumbnail's bytes.
 use Rattle.std.specs.Prelude.{◌≡◌, ◌≤◌, ℕ, ◌+◌, ◌==◌, true, false, Option, Some, None, option_map, unwrap_or, List, [], ◌∷◌, ◌++◌, length}
 use Rattle.std.specs.Prelude.{IfSome, ⊤}
 use Rattle.std.specs.List.{AllByRecursion}
@@ -18,7 +18,7 @@ use Rattle.px_tree.specs.calls.Reading.{Shows, bare, HasTable}
 use Rattle.px_tree.specs.calls.Uses.{Sees, has_tag}
 use Rattle.px_tree.specs.calls.Linked.{AreUsesAt}
 
--- what was found of a tag is its entry, or there is none
+-- what was kept for a tag is its entry, or it has none
 abbrev pub Finds : List ℕ → Order → ℕ → ℕ → Option Found → Type 0
 Finds b o a t x = Sees b o (entries_at b o a) (a + 2) (has_tag t) x
 
@@ -26,7 +26,7 @@ Finds b o a t x = Sees b o (entries_at b o a) (a + 2) (has_tag t) x
 abbrev pub entry_here : List ℕ → Order → Found → Entry
 entry_here b o f = entry o (part b f.place 12)
 
--- where it stands
+-- its offset
 abbrev pub place_in : Option Found → ℕ
 place_in x = unwrap_or (option_map (λ f. f.place) x) 0
 
@@ -48,9 +48,9 @@ pub record HasNumbers (b : List ℕ) (o : Order) (f : Found) : Type 0 where
 abbrev pub HaveNumbers : List ℕ → Order → Option Found → Type 0
 HaveNumbers b o x = IfSome x (HasNumbers b o)
 
--- ---- what is asked of both pairs
+-- ---- the checks of both pairs
 
--- one that is there without the other
+-- one is present without the other
 abbrev pub pair_check : Option Found → Option Found → List Check
 pair_check (Some f) None = check ThumbnailPair f.place false ∷ []
 pair_check None (Some f) = check ThumbnailPair f.place false ∷ []
@@ -77,7 +77,7 @@ jpeg_of x n = both (λ f g. range f.head.offset g.head.offset) x n
 abbrev pub strips_of : List ℕ → Order → Option Found → Option Found → Option (List Range)
 strips_of b o x n = both (λ f g. ranges_of (numbers b o (entry_here b o f)) (numbers b o (entry_here b o g))) x n
 
--- the thumbnail directory as it was read: its table stands, its entries are in order, and its fields are theirs
+-- the thumbnail directory that was read: it has a table, its entries are valid, and its fields are theirs
 pub record IsReadThumb (b : List ℕ) (o : Order) (t : Directory) : Type 0 where
   pub table : HasTable b o t.at t.count
   pub each : AllByRecursion (IsEntry b o Thumb) (entries_at b o t.at)

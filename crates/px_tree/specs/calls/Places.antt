@@ -1,20 +1,20 @@
--- Places in a list of pairs by ascending tag.
+-- Indexes in a list of pairs by ascending tag.
 use Rattle.std.specs.Prelude.{◌≡◌, ℕ, ◌<◌, ◌≤◌, List, length, map, slice_index}
 use Rattle.px_tree.specs.Tree.{Fields}
 
 abbrev pub tags : Fields → List ℕ
 tags fields = map (λ p. p.0) fields
 
--- the tags rise, place by place
+-- the tags ascend
 abbrev pub IsInOrder : Fields → Type 0
 IsInOrder fields = (i j : ℕ) → i < j → j < length fields → slice_index (tags fields) i < slice_index (tags fields) j
 
--- the field at place i has the tag
+-- the field at index i has the tag
 pub record IsAt (fields : Fields) (tag i : ℕ) : Type 0 where
   pub inside : i < length fields
   pub same : slice_index (tags fields) i ≡ tag
 
--- the tag would go to place i
+-- the tag would be inserted at index i
 pub record IsGapFor (fields : Fields) (tag i : ℕ) : Type 0 where
   pub inside : i ≤ length fields
   pub below : (k : ℕ) → k < i → slice_index (tags fields) k < tag

@@ -8,7 +8,7 @@ use Rattle.px_tree.specs.Directory.{main_at, fields_at}
 use Rattle.px_tree.specs.calls.Reading.{HasTable}
 use Rattle.px_tree.specs.calls.Linked.{IsRead, AreUsesAt}
 
--- each directory is seen as its fields; those of which more is read stand where they are named
+-- each directory is seen as its fields; those of which more is read are at their offsets
 pub record SeenTree (b : List ℕ) (o : Order) (t : Directories) : Type 0 where
   pub main : t.main.fields ≡ fields b o Main (main_at b o)
   pub exif : option_map (λ t. t.fields) t.exif ≡ fields_at b o Exif

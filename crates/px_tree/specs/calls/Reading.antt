@@ -1,4 +1,4 @@
--- How what the reader keeps shows what the definitions say: entries and their values.
+-- How the reader's entries and values correspond to the definitions.
 use Rattle.std.specs.Prelude.{◌≡◌, ◌≤◌, ◌<◌, ℕ, zero, suc, ◌+◌, ◌*◌, nat_le, Bool, true, false, if◌then◌else◌, Option, Some, None, List, []}
 use Rattle.std.specs.Prelude.{◌∷◌, length, ⊤}
 use Rattle.px_bytes.specs.declared.Order.{Order}
@@ -26,7 +26,7 @@ pub record Shows (o : Order) (h : Head) (e : Entry) : Type 0 where
   pub count : h.count ≡ e.count
   pub offset_is : h.offset ≡ offset o e
 
--- what a head says but for the last field
+-- the content of a head without the last four bytes
 abbrev pub bare : Head → Entry
 bare h = record { tag = h.tag; code = h.code; count = h.count; last = [] }
 
@@ -51,29 +51,29 @@ Follows (Some u) t = u < t
 abbrev pub Precede : Option ℕ → Fields → Type 0
 Precede u fields = (t : ℕ) → Follows u t → AllByRecursion (λ s. s < t) (tags fields)
 
--- the range of n bytes at x, where those stand at an offset
+-- the range of n bytes at x, if these have an offset
 abbrev pub span : ℕ → ℕ → Option Range
 span x n = if needs_place n then Some (range x n) else None
 
--- what is asked of a value of n bytes, which stands at x if at an offset
+-- the checks of a value of n bytes, which is at x if it has an offset
 abbrev pub span_checks : List ℕ → List Range → ℕ → ℕ → ℕ → List Check
 span_checks b taken p x n =
     check ValueOutside p (if needs_place n then nat_le (x + n) (length b) else true)
     ∷ check Overlap p (is_free_value taken (span x n))
     ∷ []
 
--- the n entries from place p on
+-- the n entries from offset p on
 abbrev pub entries_from : List ℕ → Order → ℕ → ℕ → List Entry
 entries_from b o p zero = []
 entries_from b o p (suc n) = entry o (part b p 12) ∷ entries_from b o (p + 12) n
 
--- a table of n entries stands at a
+-- a table of n entries is at a
 pub record HasTable (b : List ℕ) (o : Order) (a n : ℕ) : Type 0 where
   pub count : n ≡ short o (part b a 2)
   pub some : 1 ≤ n
   pub inside : a + (2 + 12 * n + 4) ≤ length b
 
--- the entry at place p has that head, a known type, and its value inside the block
+-- the entry at offset p has that head, a known type, and its value inside the block
 pub record IsHeld (b : List ℕ) (o : Order) (p : ℕ) (h : Head) (f : Form) : Type 0 where
   pub bounded : length b ≤ limit
   pub inside : p + 12 ≤ length b

@@ -1,4 +1,4 @@
--- What the program's meanings say: a reference in a field is not seen through by itself.
+-- The meaning that contracts see of the program's: the view doesn't follow a reference in a field by itself.
 use Rattle.std.specs.Prelude.{option_map}
 use Rattle.px_tree.specs.Tree as said
 use Rattle.px_tree.specs.declared.meanings.Meaning.{Meaning}

@@ -1,4 +1,4 @@
--- The strips of a thumbnail, as the two lists of an entry name them.
+-- The strips of a thumbnail, by the two lists of an entry.
 use Rattle.std.specs.Prelude.{◌≡◌, ℕ, ◌+◌, ◌≤◌, ◌%◌, Option, Some, None, List, [], ◌∷◌, ◌++◌, length, map, take, flat_map}
 use Rattle.std.specs.List.{AllByRecursion}
 use Rattle.px_bytes.specs.Range.{Range}
@@ -18,7 +18,7 @@ pub record AreNamed (l : StripLists) : Type 0 where
   pub same : length l.starts.elements ≡ length l.sizes.elements
   pub inside : AllByRecursion (IsInside l.block.now) (ranges_in l)
 
--- each starts at the end of the one before or behind it, from `low` on, and the last ends at `high` or before
+-- each starts at the end of the one before or after it, from `low` on, and the last ends at `high` or before
 abbrev pub Rise : ℕ → ℕ → List Range → Type 0
 Rise low high [] = low ≤ high
 Rise low high (r ∷ rs) = (low ≤ r.start) × Rise (r.start + r.size) high rs

@@ -1,10 +1,10 @@
--- The tags that no directory has a use for, as the reader tells them.
+-- The tags that no directory uses, as the reader computes them.
 use Rattle.std.specs.Prelude.{◌≡◌, ℕ}
 use Rattle.px_tree.specs.Roles.{exif_tag, gps_tag, interop_tag, record_tag, jpeg_offset_tag, jpeg_length_tag, strip_offsets_tag}
 use Rattle.px_tree.specs.Roles.{strip_lengths_tag, width_tag, length_tag, rows_tag, pixel_x_tag, pixel_y_tag, free_offsets_tag}
 use Rattle.px_tree.specs.Roles.{tile_offsets_tag, sub_dirs_tag, jpeg_q_tag, jpeg_dc_tag, jpeg_ac_tag}
 
--- t is none of the tags that have a use of their own, or that are refused, in some directory
+-- no directory has a special use for t or refuses it
 pub record HasNoUse (t : ℕ) : Type 0 where
   pub exif : exif_tag ≡ t → ⊥
   pub gps : gps_tag ≡ t → ⊥

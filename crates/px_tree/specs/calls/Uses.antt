@@ -1,4 +1,4 @@
--- The entries with a use of their own, as the reader keeps them.
+-- The reader's entries with a special use.
 use Rattle.std.specs.Prelude.{◌≡◌, ◌≤◌, ℕ, ◌+◌, ◌==◌, Bool, if◌then◌else◌, Option, Some, None, List, length, find, MatchOption}
 use Rattle.px_bytes.specs.declared.Order.{Order}
 use Rattle.px_bytes.specs.Parts.{part}
@@ -13,11 +13,11 @@ use Rattle.px_tree.specs.Directory.{is_pointer}
 use Rattle.px_tree.specs.Checks.{place_of}
 use Rattle.px_tree.specs.calls.Reading.{Shows, bare}
 
--- an entry at a place
+-- an entry at an offset
 abbrev pub found_as : Head → ℕ → Found
 found_as h p = record { head = h; place = p }
 
--- where a pointer leads
+-- the pointer in an entry
 abbrev pub link_as : Found → Link
 link_as f = record { at = f.head.offset; place = f.place }
 
@@ -25,7 +25,7 @@ link_as f = record { at = f.head.offset; place = f.place }
 abbrev pub has_tag : ℕ → Entry → Bool
 has_tag t e = e.tag == t
 
--- f is the first of the entries from place p on that passes the test
+-- f is the first of the entries from offset p on that passes the test
 pub record IsFirst (b : List ℕ) (o : Order) (es : List Entry) (p : ℕ) (test : Entry → Bool) (f : Found) : Type 0 where
   pub is : find test es ≡ Some (entry o (part b f.place 12))
   pub place : f.place ≡ place_of test p es
@@ -36,7 +36,7 @@ pub record IsFirst (b : List ℕ) (o : Order) (es : List Entry) (p : ℕ) (test 
 abbrev pub Sees : List ℕ → Order → List Entry → ℕ → (Entry → Bool) → Option Found → Type 0
 Sees b o es p test x = MatchOption x (find test es ≡ None) (IsFirst b o es p test)
 
--- what was kept of each tag with a use
+-- the entries that were kept for each tag with a special use
 pub record AreUses (b : List ℕ) (o : Order) (es : List Entry) (p : ℕ) (u : Uses) : Type 0 where
   pub exif : Sees b o es p (is_pointer exif_tag) u.exif
   pub gps : Sees b o es p (is_pointer gps_tag) u.gps
@@ -58,7 +58,7 @@ pub record NoUses (u : Uses) : Type 0 where
   pub strip_offsets : u.strip_offsets ≡ None
   pub strip_lengths : u.strip_lengths ≡ None
 
--- an entry that passes takes the place of what was kept
+-- an entry that passes replaces the one that was kept
 abbrev pub kept : (Entry → Bool) → Found → Option Found → Option Found
 kept test f x = if test (bare f.head) then Some f else x
 

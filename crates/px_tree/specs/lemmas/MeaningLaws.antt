@@ -1,4 +1,4 @@
--- A block says at most one meaning.
+-- A block has at most one meaning.
 use Rattle.std.proofs.Common.{◌≡◌, ℕ, List, refl, sym, ◌∙◌, ap}
 use Rattle.px_bytes.specs.declared.Order.{Order}
 use Rattle.px_bytes.specs.declared.Order.TheVariants.{Least, Most}
@@ -6,7 +6,7 @@ use Rattle.px_tree.specs.Tree.{Meaning}
 use Rattle.px_tree.specs.Directory.{magic}
 use Rattle.px_tree.specs.Says.{meaning, SaysExif}
 
--- the first bytes tell the order
+-- the first bytes determine the byte order
 pub magic_tells : (o p : Order) → magic o ≡ magic p → o ≡ p
 magic_tells Least Least e = refl
 magic_tells Least Most e = cc

@@ -1,10 +1,10 @@
--- What stands at a tag.
+-- The value at a tag.
 use Rattle.std.proofs.Common.{◌≡◌, ℕ, Some, List, [], ◌∷◌, sym, ◌∙◌, subst, inl, inr, ◌==◌, eqb-true}
 use Rattle.std.specs.List.{AllByRecursion}
 use Rattle.std.proofs.lemmas.Bool.{cases_Bool, cond-true, cond-false}
 use Rattle.px_tree.specs.Roles.{at_tag}
 
--- what holds of each pair holds of the one at a tag
+-- a property of each pair is one of the pair at a tag
 pub each_at : {X : Type 0} (P : ℕ × X → Type 0) (t : ℕ) (x : X) (xs : List (ℕ × X)) → AllByRecursion P xs → at_tag t xs ≡ Some x → P (t, x)
 each_at P t x [] h e = cc
 each_at {X} P t x (y ∷ ys) h e = elim (cases_Bool (y.0 == t)) [
