@@ -1,5 +1,5 @@
--- The chunks of a meaning: what stands at an offset of its own, each with its size in bytes. TIFF 6.0 section 2, "Image File
--- Directory" and "Value/Offset"; section 8, "StripOffsets"; CIPA DC-008 4.5.5 (the thumbnail).
+-- The chunks of a meaning: the parts that have an offset, each with its size in bytes. TIFF 6.0 section 2, "Image File Directory"
+-- and "Value/Offset"; section 8, "StripOffsets"; CIPA DC-008 4.5.5 (the thumbnail).
 use Rattle.std.specs.Prelude.{ℕ, ◌+◌, ◌==◌, ◌&&◌, Bool, true, false, nat_lt, if◌then◌else◌, Option, Some, None, List, [], ◌∷◌, ◌++◌, length}
 use Rattle.std.specs.Prelude.{filter_map, flat_map}
 use Rattle.px_tree.specs.declared.Dir.{Dir}
@@ -18,11 +18,11 @@ same_chunk Jpeg Jpeg = true
 same_chunk (Strip i) (Strip j) = i == j
 same_chunk _ _ = false
 
--- a value of more than four bytes stands at a place of its own
+-- a value of more than four bytes has an offset
 unfoldable pub placed_chunk : Dir → ℕ × Item → Option (Chunk × ℕ)
 placed_chunk d i = if nat_lt 4 (item_size i.1) then Some (Placed d i.0, item_size i.1) else None
 
--- a directory's table, and its placed values by ascending tag
+-- a directory's table, and its values that have an offset, by ascending tag
 abbrev pub dir_chunks : Dir → List (ℕ × Item) → List (Chunk × ℕ)
 dir_chunks d xs = (Table d, table_size (length xs)) ∷ filter_map (placed_chunk d) xs
 

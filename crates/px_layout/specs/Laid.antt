@@ -50,7 +50,7 @@ module _ (plan : Plan) (o : Order) (filler : ℕ) where
   item_bytes (AtStrips n) = flat_map (λ i. long_bytes o (place plan (Strip i))) (range_with_len 0 n)
   item_bytes (StripSizes ns) = flat_map (long_bytes o) ns
 
-  -- the four bytes of the last field: the value and filler behind it, or the offset of its chunk
+  -- the last four bytes of an entry: the value and filler after it, or the offset of its chunk
   unfoldable pub last_bytes : Dir → ℕ × Item → List ℕ
   last_bytes d i =
       if nat_lt 4 (item_size i.1) then long_bytes o (place plan (Placed d i.0)) else item_bytes i.1 ++ replicate (4 - item_size i.1) filler
@@ -59,7 +59,7 @@ module _ (plan : Plan) (o : Order) (filler : ℕ) where
   unfoldable pub entry_bytes : Dir → ℕ × Item → List ℕ
   entry_bytes d i = spelling o 2 i.0 ++ (spelling o 2 (code (item_form i.1)) ++ (long_bytes o (item_count i.1) ++ last_bytes d i))
 
-  -- the next directory: the thumbnail directory behind the main one, none behind that, and elsewhere not read
+  -- the next directory: after the main one the thumbnail directory, after that none, and otherwise not read
   abbrev pub next_bytes : Meaning → Dir → List ℕ
   next_bytes m Main = elim m.thumb [ Some t ↦ long_bytes o (place plan (Table Thumb)) | None ↦ long_bytes o 0 ]
   next_bytes m Thumb = long_bytes o 0
@@ -82,13 +82,13 @@ module _ (plan : Plan) (o : Order) (filler : ℕ) where
   unfoldable pub header : List ℕ
   header = magic o ++ long_bytes o (place plan (Table Main))
 
-  -- ---- the block, place by place
+  -- ---- the block, byte by byte
 
   -- the header at 0, and each chunk at its offset
   unfoldable pub laid_pieces : Meaning → List (ℕ × List ℕ)
   laid_pieces m = (0, header) ∷ map (λ c. (place plan c.0, c.1)) (contents m)
 
--- the byte at a place: that of the piece that covers it, and else the filler
+-- the byte at an offset: that of the first piece that has it, or else the filler
 abbrev pub byte_at : ℕ → List (ℕ × List ℕ) → ℕ → ℕ
 byte_at filler [] p = filler
 byte_at filler (x ∷ xs) p = if nat_le x.0 p && nat_lt p (x.0 + length x.1) then slice_index x.1 (p - x.0) else byte_at filler xs p

@@ -1,4 +1,4 @@
--- The laws over the definitions alone.
+-- The laws of the definitions.
 use Rattle.std.specs.Prelude.{◌≡◌, ℕ, ◌*◌, ◌<◌, ◌≤◌, ◌↔◌, List, length}
 use Rattle.px_bytes.specs.declared.Order.{Order}
 use Rattle.px_bytes.specs.declared.Order.TheVariants.{Most}
@@ -11,7 +11,7 @@ use Rattle.px_layout.specs.Plans.{Plan, Legal}
 use Rattle.px_layout.specs.Laid.{laid}
 use Rattle.px_layout.specs.Normal.{normal_plan, normal_exif}
 
--- A block that a legal plan lays out says its meaning, in either order, with any filler.
+-- A block that a legal plan lays out has its meaning, in either byte order, with any filler.
 abbrev pub LegalSays : Type 0
 LegalSays = (m : Meaning) (plan : Plan) (o : Order) (filler : ℕ) → Fits m → Legal m plan → SaysExif (laid m plan o filler) m
 
@@ -20,15 +20,15 @@ abbrev pub NormalIsLaid : Type 0
 NormalIsLaid =
     (m : Meaning) → Fits m → length (normal_exif m) ≤ limit → Legal m (normal_plan m) × (normal_exif m ≡ laid m (normal_plan m) Most 0)
 
--- Meanings have one normal form exactly if they are one, and the normal form says its meaning.
+-- Two meanings have the same normal form exactly if they are the same, and a normal form has its meaning.
 abbrev pub NormalTells : Type 0
 NormalTells = (s t : Meaning) → Fits s → Fits t → length (normal_exif s) ≤ limit → length (normal_exif t) ≤ limit
     → ((normal_exif s ≡ normal_exif t) ↔ (s ≡ t)) × SaysExif (normal_exif s) s
 
--- A normal form is at most twice as long as any block that says its meaning.
+-- A normal form is at most twice as long as any block with its meaning.
 abbrev pub NormalBound : Type 0
 NormalBound = (b : List ℕ) (m : Meaning) → AreBytes b → SaysExif b m → length (normal_exif m) ≤ 2 * length b
 
--- A laid block is made of bytes.
+-- A block that is laid out is made of bytes.
 abbrev pub LaidIsBytes : Type 0
 LaidIsBytes = (m : Meaning) (plan : Plan) (o : Order) (filler : ℕ) → filler < 256 → Fits m → AreBytes (laid m plan o filler)

@@ -1,5 +1,5 @@
--- The normal form of a meaning: most significant byte first, the chunks in one order, each directly behind the one before and
--- padded to an even number of bytes, as TIFF 6.0 section 2, "IFD Entry", asks that offsets be even.
+-- The normal form of a meaning: most significant byte first, the chunks in one order, each directly after the one before and
+-- padded to an even number of bytes, because TIFF 6.0 section 2, "IFD Entry", requires even offsets.
 use Rattle.std.specs.Prelude.{ℕ, ◌+◌, ◌%◌, if◌then◌else◌, Option, Some, None, List, [], ◌∷◌, ◌++◌, length, replicate, flat_map}
 use Rattle.px_bytes.specs.declared.Order.TheVariants.{Most}
 use Rattle.px_tree.specs.Tree.{Meaning}
@@ -11,7 +11,7 @@ use Rattle.px_layout.specs.Laid.{header, contents}
 abbrev pub even : ℕ → ℕ
 even n = n + n % 2
 
--- a chunk's offset, where the first of the list stands at x
+-- a chunk's offset, if the first of the list is at x
 abbrev pub running : ℕ → List (Chunk × ℕ) → Chunk → Option ℕ
 running x [] c = None
 running x (y ∷ ys) c = if same_chunk y.0 c then Some x else running (x + even y.1) ys c

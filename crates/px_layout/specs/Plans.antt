@@ -1,4 +1,4 @@
--- Plans: where each chunk stands, and which plans are legal. TIFF 6.0 section 2 leaves offsets free; section 7, "No Duplicate
+-- Plans: the offset of each chunk, and which plans are legal. TIFF 6.0 section 2 leaves offsets free; section 7, "No Duplicate
 -- Pointers".
 use Rattle.std.specs.Prelude.{ℕ, ◌+◌, ◌≤◌, ◌↔◌, Option, unwrap_or, List, ◌∷◌, map, Contains, IsSome}
 use Rattle.std.specs.List.{AllByRecursion}
@@ -16,7 +16,7 @@ pub record Plan : Type 0 where
 abbrev pub place : Plan → Chunk → ℕ
 place plan c = unwrap_or (plan.offset c) 0
 
--- the header, and the place of each chunk
+-- the ranges of the header and of each chunk
 unfoldable pub plan_ranges : Meaning → Plan → List Range
 plan_ranges m plan = range 0 8 ∷ map (λ c. range (place plan c.0) c.1) (chunks m)
 

@@ -1,4 +1,4 @@
--- What writing a normal form does.
+-- The effect of writing a normal form.
 use Rattle.std.specs.Prelude.{◌≡◌, ◌<◌, ◌≤◌, ◌+◌, ℕ, List, length, Option, Result, Ok, Err}
 use Rattle.std.specs.Io.KnownBytes.{Appends}
 use Rattle.px_bytes.specs.declared.WriteRefusal.{WriteRefusal}
@@ -8,8 +8,8 @@ use Rattle.px_bytes.specs.Parts.{limit}
 use Rattle.px_tree.specs.Tree.{Meaning}
 use Rattle.px_layout.specs.Normal.{normal_exif}
 
--- the writer has taken the meaning's normal form, whose length is answered; a form that is too long leaves the writer as it was;
--- where a call failed, the writer has taken a prefix of the form; want of memory is never answered
+-- the writer has taken the meaning's normal form, and the result is its length; a form that is too long leaves the writer
+-- unchanged; if a call failed, the writer has taken a prefix of the form; the result is never out of memory
 abbrev pub WritesExif : Result ℕ WriteRefusal → Option (List ℕ) → Option (List ℕ) → ℕ → ℕ → Meaning → Type 0
 WritesExif (Ok n) old new failed failed_now m =
     Appends old new (normal_exif m) × (n ≡ length (normal_exif m)) × (n ≤ limit) × (failed_now ≡ failed)

@@ -1,4 +1,4 @@
--- Lemmas: proved here, and not to be read to know what is promised.
+-- Lemmas. Readers of the promises don't need them.
 pub mod StandLaws
 pub mod ItemLaws
 pub mod ReadLaws

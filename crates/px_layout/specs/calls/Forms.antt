@@ -1,4 +1,4 @@
--- The normal form of a meaning, as the program holds it.
+-- The program's representation of a normal form.
 use Rattle.std.specs.Prelude.{◌≡◌, ◌<◌, ◌≤◌, length, Result, Ok, Err}
 use Rattle.px_bytes.specs.declared.WriteRefusal.{WriteRefusal}
 use Rattle.px_bytes.specs.declared.WriteRefusal.TheVariants.{NormalTooLong, OutOfMemory, WriteFailed}
@@ -11,14 +11,14 @@ use Rattle.px_layout.specs.Plans.{Plan}
 use Rattle.px_layout.specs.Normal.{normal_plan, normal_exif}
 use Rattle.px_layout.specs.calls.Starting.{AreStarts}
 
--- what it says
+-- its meaning
 abbrev pub said_in : NormalForm → Meaning
 said_in form = meaning_of form.m.now
 
 abbrev pub plan_in : NormalForm → Plan
 plan_in form = normal_plan (said_in form)
 
--- the meaning can be written, its form is not too long, and each part begins where it is said to
+-- the meaning can be written, its form is not too long, and the offsets of its parts are right
 abbrev pub IsForm : NormalForm → Type 0
 IsForm form = Fits (said_in form) × AreStarts form.starts (said_in form)
 

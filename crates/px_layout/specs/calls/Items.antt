@@ -1,4 +1,4 @@
--- The entries of a directory, as the code holds them: its fields, with up to four further entries put between.
+-- The program's representation of a directory's entries: its fields, and up to four further entries among them.
 use Rattle.std.specs.Prelude.{ℕ, suc, ◌≤◌, ◌*◌, nat_lt, if◌then◌else◌, ⊤, List, [], ◌∷◌, length, map}
 use Rattle.std.specs.List.{AllByRecursion}
 use Rattle.px_bytes.specs.Parts.{limit}
@@ -9,7 +9,7 @@ use Rattle.px_layout.specs.declared.items.Item as held
 use Rattle.px_layout.specs.declared.items.Entry.{Entry}
 use Rattle.px_layout.specs.declared.items.Item.TheVariants as held_as
 
--- what an item of the code says
+-- the meaning of an item of the code
 abbrev pub item_of : held.Item → Item
 item_of (held_as.Field v) = Field v.now
 item_of (held_as.Record i) = Iptc i.now
@@ -31,7 +31,7 @@ IsCounted (AtStrips n) = n ≤ limit
 IsCounted (StripSizes ns) = (length ns ≤ limit) × AllByRecursion (λ n. n ≤ limit) ns
 IsCounted _ = ⊤
 
--- how many pairs stand before the first of a greater tag
+-- the number of pairs before the first of a greater tag
 abbrev pub rank : {X : Type 0} → ℕ → List (ℕ × X) → ℕ
 rank t [] = 0
 rank t (y ∷ ys) = if nat_lt t y.0 then 0 else suc (rank t ys)

@@ -1,4 +1,4 @@
--- Entries that are put over a list of entries, each with the place at which it stands.
+-- Entries that are inserted into a list of entries, each with its index.
 use Rattle.std.specs.Prelude.{◌≡◌, ℕ, ◌<◌, ◌≤◌, ◌^◌, Option, Some, None, ⊤, List, length, slice_get}
 use Rattle.px_tree.specs.Fits.{Item, put, field_items}
 use Rattle.px_layout.specs.calls.Items.{item_of, IsCounted, rank}
@@ -7,22 +7,22 @@ use Rattle.px_layout.specs.declared.entries.Step.{Step}
 use Rattle.px_layout.specs.declared.entries.Step.TheVariants.{Here, Under}
 use Rattle.px_layout.specs.declared.entries.Entries.TheInside.{Inside}
 
--- the list with the entry, where there is one
+-- the list with the entry, if there is one
 abbrev pub over : Option Extra → List (ℕ × Item) → List (ℕ × Item)
 over None xs = xs
 over (Some x) xs = put x.tag (item_of x.item) xs
 
--- the entry is counted, and its place is that before the first entry of a greater tag
+-- the entry is counted, and its index is that of the first entry of a greater tag
 abbrev pub Stands : Option Extra → List (ℕ × Item) → Type 0
 Stands None xs = ⊤
 Stands (Some x) xs = (x.place ≡ rank x.tag xs) × IsCounted (item_of x.item)
 
--- what stands at a place of the list ys: an entry, or what stands at a place of the list under it
+-- the element of the list ys at an index: an entry, or an element of the list without it
 abbrev pub Finds : Step → List (ℕ × Item) → List (ℕ × Item) → ℕ → Type 0
 Finds (Here t x) ys xs i = (slice_get ys i ≡ Some (t, item_of x)) × IsCounted (item_of x)
 Finds (Under j) ys xs i = (slice_get ys i ≡ slice_get xs j) × (j < length xs)
 
--- what stands at a place of the list with the entry: the entry, or what stands under it
+-- the element of the list with the entry: the entry, or an element of the list without it
 abbrev pub Tells : Step → Option Extra → List (ℕ × Item) → ℕ → Type 0
 Tells p e xs i = Finds p (over e xs) xs i
 
@@ -39,12 +39,12 @@ under_fourth e = over e.third (under_third e)
 abbrev pub entries_of : Inside → List (ℕ × Item)
 entries_of e = over e.fourth (under_fourth e)
 
--- the entry, where there is one, stands at n or behind it
+-- the entry, if there is one, is at index n or after it
 abbrev pub IsClear : ℕ → Option Extra → Type 0
 IsClear n None = ⊤
 IsClear n (Some x) = n ≤ x.place
 
--- each further entry stands at its place
+-- each further entry is at its index
 pub record AreLayers (e : Inside) : Type 0 where
   pub few : length e.fields.now < 2 ^ 16
   pub first : Stands e.first (field_items e.fields.now)

@@ -1,4 +1,4 @@
--- Where the parts of a normal form begin, as the program holds it.
+-- The program's representation of the offsets of a normal form's parts.
 use Rattle.std.specs.Prelude.{◌≡◌, ℕ, ◌<◌, ◌≤◌, Option, Some, None, length, Result, Ok, Err}
 use Rattle.px_bytes.specs.declared.WriteRefusal.{WriteRefusal}
 use Rattle.px_bytes.specs.declared.WriteRefusal.TheVariants.{NormalTooLong, OutOfMemory, WriteFailed}
@@ -14,7 +14,7 @@ abbrev pub Ends : Option ℕ → ℕ → Type 0
 Ends (Some end) n = (end ≡ n) × (end ≤ limit)
 Ends None n = limit < n
 
--- each part begins there
+-- the offset of each part
 pub record AreStarts (s : held.Starts) (m : Meaning) : Type 0 where
   pub exif : s.exif ≡ start m Exif
   pub interop : s.interop ≡ start m Interop

@@ -1,4 +1,4 @@
--- A normal form is at most twice as long as any block that says its meaning.
+-- A normal form is at most twice as long as any block with its meaning.
 use Rattle.std.proofs.Common.{◌≡◌, ℕ, ◌+◌, ◌*◌, ◌≤◌, nat_le, inl, inr, true, Option, Some, None, option_map, option_and_then, List, [], ◌∷◌}
 use Rattle.std.proofs.Common.{◌++◌, map, filter_map, flat_map, length, take, drop, refl, sym, ◌∙◌, ap, subst, arith, leb-true, length-take}
 use Rattle.std.specs.Prelude.{IfSome, option_to_list}
@@ -167,7 +167,7 @@ module _ (b : List ℕ) (o : Order) where
     is_at : (d : Dir) (a : ℕ) → dir_at b o d ≡ Some a → IsDirectory b o d a
     is_at d a q = subst (λ z. IfSome z (IsDirectory b o d)) q (in_order d)
 
-    -- where a directory is
+    -- if a directory is present
     bound_at : (d : Dir) (a : ℕ) (xs : List (ℕ × Item)) → dir_at b o d ≡ Some a → Good d xs → PayEach (entries_at b o a) xs
         → padded_size (dir_chunks d xs) ≤ 2 * total (dir_ranges b o a)
     bound_at d a xs q g p = dir_bound d a (is_at d a q) xs g p
@@ -254,7 +254,7 @@ module _ (b : List ℕ) (o : Order) where
     unfolding normal_plan
     bound_is = let l = length_normal m f in let c = chunks_bound in let t = footprint_fits in omega arith
 
--- A normal form is at most twice as long as any block that says its meaning, as what is said fits.
+-- A normal form is at most twice as long as any block with its meaning, because that fits.
 pub normal_bound : SaidFits → NormalBound
 normal_bound fits b m h s =
     subst (λ z. length (normal_exif z) ≤ 2 * length b) (sym s.says)

@@ -72,7 +72,7 @@ bytes_spell o form.Undefined (element.Byte n) h = bytes_cons n [] h bytes_none
 bytes_spell o form.Utf8 (element.Byte n) h = bytes_cons n [] h bytes_none
 bytes_spell o _ _ h = absurd h
 
--- a value is spelled by bytes
+-- a value's encoding is made of bytes
 pub bytes_spelled : (o : Order) (v : Value) → IsValue v → AreBytes (spelled o v)
 unfolding spelled
 bytes_spelled o v h =
@@ -209,7 +209,7 @@ module _ (plan : Plan) (o : Order) (filler : ℕ) (fill : filler < 256) where
       cond_both (nat_le y.0 p && nat_lt p (y.0 + length y.1)) (slice_index y.1 (p - y.0)) (byte_at filler ys p) (λ n. n < 256)
       (λ _. h.0 (p - y.0)) (λ _. byte_is ys p h.1)
 
--- A laid block is made of bytes.
+-- A block that is laid out is made of bytes.
 pub laid_is_bytes : LaidIsBytes
 unfolding laid
 laid_is_bytes m plan o filler fill f =

@@ -1,4 +1,4 @@
--- What an entry costs in the normal form: at most twice what it takes where it stands.
+-- The size of an entry in the normal form: at most twice its size in a block.
 use Rattle.std.proofs.Common.{◌≡◌, ℕ, suc, ◌+◌, ◌*◌, ◌%◌, ◌<◌, ◌≤◌, nat_lt, if◌then◌else◌, inl, inr, true, false, Bool, Option, Some, None}
 use Rattle.std.proofs.Common.{option_map, find, List, [], ◌∷◌, map, filter_map, length, refl, sym, ◌∙◌, subst, arith, ltb-false}
 use Rattle.std.specs.Prelude.{◌⊎◌}
@@ -29,18 +29,18 @@ even_double n k h = let e = mod-le n 2 in omega arith
 
 -- ---- one entry
 
--- the bytes of a value at a place of its own, none of one that stands in its entry
+-- the bytes of a value that has an offset, none for one in its entry
 abbrev pub apart_size : ℕ → ℕ
 apart_size n = if nat_lt 4 n then n else 0
 
--- an entry with its value, as they stand in a block, and as the normal form has them
+-- the bytes of an entry and its value, in a block and in the normal form
 abbrev pub weight : Entry → ℕ
 weight e = 12 + apart_size (raw_size e)
 
 abbrev pub cost : ℕ × Item → ℕ
 cost i = 12 + (if nat_lt 4 (item_size i.1) then even (item_size i.1) else 0)
 
--- a value of at most twice the bytes costs at most twice as much
+-- a value of at most twice the bytes has at most twice the size
 pub widens : (i : ℕ × Item) (e : Entry) → item_size i.1 ≤ 2 * raw_size e → cost i ≤ 2 * weight e
 widens i e h =
     cond_both (nat_lt 4 (item_size i.1)) (even (item_size i.1)) 0 (λ n. 12 + n ≤ 2 * weight e) (λ _. long (item_size i.1) (raw_size e) h)
@@ -84,7 +84,7 @@ pay_later e es [] h p = tt
 pay_later e es (x ∷ xs) h p =
     (elim p.0 [ inl q ↦ absurd (let l = h.0 in let s = q.0 in omega arith) | inr q ↦ q ], pay_later e es xs h.1 p.1)
 
--- As tags rise, no entry pays twice.
+-- As tags ascend, no entry is counted twice.
 pub pay_all : (xs : List (ℕ × Item)) (es : List Entry) → Rising (map (λ i. i.0) xs) → Rising (map (λ e. e.tag) es) → PayEach es xs
     → costs xs ≤ 2 * weights es
 pay_all [] es r s p = omega arith
@@ -116,7 +116,7 @@ pays_found t c test (y ∷ es) e r l k = elim (cases_Bool (test y)) [
   | inr q ↦ inr (pays_found t c test es e (sym (cond-false (test y) (Some y) (find test es) q) ∙ r) l k)
 ]
 
--- what holds of each holds of one that is found, and so does the test
+-- a property of each is one of the element that is found, and it passes the test
 pub found_is : (P : Entry → Type 0) (test : Entry → Bool) (es : List Entry) (e : Entry) → AllByRecursion P es → find test es ≡ Some e
     → P e × (test e ≡ true)
 found_is P test [] e h r = cc

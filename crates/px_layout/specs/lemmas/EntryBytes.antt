@@ -33,7 +33,7 @@ module _ (plan : Plan) (o : Order) (filler : ℕ) where
   unfolding header
   header_as x n e f = ap₂ (λ y k. y ++ long_bytes o k) e f
 
-  -- the value stands in the entry
+  -- the value is in the entry
   pub last_inside : (d : Dir) (i : ℕ × Item) (n : ℕ) → n ≡ item_size i.1 → n ≤ 4
       → item_bytes plan o filler i.1 ++ replicate (4 - n) filler ≡ last_bytes plan o filler d i
   unfolding last_bytes
@@ -100,11 +100,11 @@ pub item_padded : (plan : Plan) (d : Dir) (i : ℕ × Item) (n : ℕ) → Suits 
     → item_bytes plan Most 0 i.1 ++ replicate (n % 2) 0 ≡ padded (item_bytes plan Most 0 i.1)
 item_padded plan d i n s e = ap (λ k. item_bytes plan Most 0 i.1 ++ replicate (k % 2) 0) (e ∙ sym (length_is plan Most 0 d i s))
 
--- a directory and its placed values, if it is there
+-- a directory's table and values, if the meaning has it
 abbrev pub dir_bytes : Plan → Meaning → Dir → List ℕ
 dir_bytes plan m d = flat_map padded_content (contents_of_dir plan Most 0 m d (items m d))
 
--- all that stands behind the header
+-- all bytes after the header
 pub contents_as : (plan : Plan) (m : Meaning) → flat_map padded_content
     (flat_map (λ d. contents_of_dir plan Most 0 m d (items m d)) dirs)
     ++ flat_map padded_content (thumb_contents m.thumb) ≡ flat_map padded_content (contents plan Most 0 m)

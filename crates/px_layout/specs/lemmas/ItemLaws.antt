@@ -35,7 +35,7 @@ use Rattle.px_layout.specs.lemmas.StandLaws.{Stands, length-range}
 pub iim-normal : (i : Iim) → IsRecord i → length (normal_iim i) ≤ limit → iim_of (normal_iim i) ≡ Some i
 iim-normal i h l = said_computed (normal_iim i) i ((normal_says i h).2 l)
 
--- an entry that is spelled reads back
+-- an encoded entry is decoded to itself
 pub entry-spelled : (o : Order) (t c n : ℕ) (last : List ℕ) → t < 2 ^ 16 → c < 2 ^ 16 → n < 2 ^ 32 → length last ≡ 4 →
     entry o (spelling o 2 t ++ (spelling o 2 c ++ (spelling o 4 n ++ last))) ≡ record { tag = t; code = c; count = n; last = last }
 unfolding entry
@@ -52,7 +52,7 @@ entry-spelled Most t c n last ht hc hn hl i = record {
   last = take_all 4 last (omega arith) i;
 }
 
--- the items that a role asks for
+-- the items that a role allows
 abbrev pub Suits : Role → Item → Type 0
 Suits (To d) (Link e) = d ≡ e
 Suits JpegOffset AtJpeg = ⊤
@@ -98,7 +98,7 @@ module _ (plan : Plan) (o : Order) (filler : ℕ) where
   unfoldable pub entry_of : Dir → ℕ × Item → Entry
   entry_of d i = record { tag = i.0; code = code (item_form i.1); count = item_count i.1; last = last_bytes plan o filler d i }
 
-  -- an item in its place in a block
+  -- an item at its offset in a block
   pub record IsHere (b : List ℕ) (d : Dir) (i : ℕ × Item) : Type 0 where
     pub tag : i.0 < 2 ^ 16
     pub count : item_count i.1 < 2 ^ 32

@@ -1,4 +1,4 @@
--- A legal block says its meaning.
+-- A legal block has its meaning.
 use Rattle.std.proofs.Common.{◌≡◌, ℕ, ◌*◌, ◌^◌, ◌<◌, ◌≤◌, nat_lt, inl, inr, true, Option, Some, None, option_map, option_and_then, List, []}
 use Rattle.std.proofs.Common.{◌∷◌, ◌++◌, map, filter_map, flat_map, length, refl, sym, ◌∙◌, ap, ap₂, subst, arith}
 use Rattle.std.specs.Prelude.{IfSome, option_to_list}
@@ -426,7 +426,7 @@ module _ (m : Meaning) (plan : Plan) (o : Order) (filler : ℕ) (f : Fits m) (l 
     apart = subst AllApart (sym footprint_is) l.apart;
   }
 
--- A legal block of a meaning that fits says it, in either order, with any filler.
+-- A legal block of a meaning that fits has that meaning, in either byte order, with any filler.
 pub legal_says : LegalSays
 legal_says m plan o filler f l =
     record { order = o; is_block = legal_is_exif m plan o filler f l; says = sym (meaning_is m plan o filler f l) }

@@ -57,7 +57,7 @@ other_chunk c e l =
 
 -- ---- running offsets
 
--- pieces one behind the other, each padded
+-- pieces one after the other, each padded
 abbrev pub lined : {X : Type 0} → (X → ℕ) → ℕ → List X → List (ℕ × X)
 lined size x [] = []
 lined size x (c ∷ cs) = (x, c) ∷ lined size (x + even (size c)) cs
@@ -65,7 +65,7 @@ lined size x (c ∷ cs) = (x, c) ∷ lined size (x + even (size c)) cs
 abbrev found : ℕ → List (Chunk × ℕ) → Chunk → ℕ
 found x cs c = unwrap_or (running x cs c) 0
 
--- each chunk of a list without repeats is found where it stands
+-- each chunk of a list without repeats is found at its offset
 module _ {X : Type 0} (name : X → Chunk) (size : X → ℕ) where
   abbrev named : List X → List (Chunk × ℕ)
   named cs = map (λ c. (name c, size c)) cs
@@ -169,7 +169,7 @@ past x k d c cs l a ih =
           ∙ ap (byte_at 0 (lined (λ c. length c) (x + even (length c)) cs)) (omega arith)
     ]
 
--- the byte at a place in a line of padded pieces is that of the piece that covers it, and else 0
+-- the byte at an offset in a line of padded pieces is that of the piece that has it, or else 0
 line_byte : (x k d : ℕ) (cs : List (List ℕ)) → k < length (flat_map padded cs)
     → get_or (flat_map padded cs) k d ≡ byte_at 0 (lined (λ c. length c) x cs) (x + k)
 line_byte x k d [] l = absurd (omega arith)
@@ -212,7 +212,7 @@ module _ (m : Meaning) (f : Fits m) where
   ranks = subst Rising (sym (sym (map-map rank (λ (c : Chunk × List ℕ). (c.0, length c.1)) placed) ∙ ap (map rank) names_are))
       (chunks_rise m f)
 
-  -- the pieces of the plan stand in a line behind the header
+  -- the pieces of the plan follow the header in a line
   abbrev bodies : List (List ℕ)
   bodies = map (λ (c : Chunk × List ℕ). c.1) placed
 
@@ -284,7 +284,7 @@ module _ (m : Meaning) (f : Fits m) where
             and_parts (nat_le 0 k) (nat_lt k (0 + length head)) e in let z = ltb-true k (0 + length head) q.1 in omega arith)))
       ]
 
-  -- The normal form is what its plan lays out.
+  -- The normal form is the block that its plan lays out.
   pub laid_in_line : normal_exif m ≡ laid m plan Most 0
   laid_in_line = normal_as ∙ same_lists (head ++ line) (map (byte_at 0 pieces) (range_with_len 0 plan.length))
       (ap (λ x. length x) (sym normal_as) ∙ length_normal ∙ sym (length-laid (byte_at 0 pieces) plan.length))

@@ -1,4 +1,4 @@
--- The normal form is a legal block of its meaning, and tells it.
+-- The normal form is a legal block of its meaning, and different meanings have different ones.
 use Rattle.std.proofs.Common.{◌≡◌, ℕ, ◌≤◌, List, length, refl, sym, ◌∙◌, ap, subst}
 use Rattle.px_bytes.specs.Parts.{limit}
 use Rattle.px_bytes.specs.declared.Order.{Order}
@@ -12,14 +12,14 @@ use Rattle.px_layout.specs.Laws.{NormalIsLaid, NormalTells}
 use Rattle.px_layout.specs.lemmas.LegalLaws.{legal_says}
 use Rattle.px_layout.specs.lemmas.LineLaws.{laid_in_line, legal_in_line}
 
--- the first bytes tell the order
+-- the first bytes determine the byte order
 magic_tells : (o p : Order) → magic o ≡ magic p → o ≡ p
 magic_tells Least Least e = refl
 magic_tells Least Most e = cc
 magic_tells Most Least e = cc
 magic_tells Most Most e = refl
 
--- a block says at most one meaning
+-- a block has at most one meaning
 one_meaning : (b : List ℕ) (s t : Meaning) → SaysExif b s → SaysExif b t → s ≡ t
 one_meaning b s t x y =
     let same : x.order ≡ y.order = magic_tells x.order y.order (sym x.is_block.begins ∙ y.is_block.begins) in
@@ -31,7 +31,7 @@ one_meaning b s t x y =
 pub normal_is_laid : NormalIsLaid
 normal_is_laid m f l = (legal_in_line m f l, laid_in_line m f)
 
--- So it says its meaning.
+-- So it has its meaning.
 pub normal_says : (s : Meaning) → Fits s → length (normal_exif s) ≤ limit → SaysExif (normal_exif s) s
 normal_says s f l =
     let is = normal_is_laid s f l in

@@ -103,7 +103,7 @@ module _ (plan : Plan) (o : Order) (filler : ℕ) (b : List ℕ) where
     unfolding entry_of last_bytes item_size item_bytes
     offset_size n h = ap (number o 4) (append-nil (spelling o 4 n)) ∙ number-spelling o 4 n h
 
--- ---- where the thumbnail's parts stand among its entries
+-- ---- the indexes of the thumbnail's parts among its entries
 
 module _ (t : Thumbnail) (f : FitsThumb t) where
   abbrev with_lengths : List (ℕ × Item)

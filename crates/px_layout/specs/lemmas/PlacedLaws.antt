@@ -1,4 +1,4 @@
--- In a legal block of a meaning that fits, each entry of each directory is in its place.
+-- In a legal block of a meaning that fits, each entry of each directory is at its offset.
 use Rattle.std.proofs.Common.{◌≡◌, ℕ, ◌+◌, ◌*◌, ◌^◌, ◌<◌, ◌≤◌, inl, inr, nat_lt, true, Option, Some, None, List, [], ◌∷◌, ◌++◌, filter_map}
 use Rattle.std.proofs.Common.{flat_map, length, subst, arith, ltb-false}
 use Rattle.std.specs.Prelude.{IfSome}
@@ -59,7 +59,7 @@ module _ (m : Meaning) (plan : Plan) (o : Order) (filler : ℕ) (f : Fits m) (l 
   unfolding laid
   length_block = length-laid _ plan.length
 
-  -- a chunk in its place
+  -- a chunk at its offset
   abbrev pub Here : Chunk × List ℕ → Type 0
   Here c = Stands block (place plan c.0) c.1
 

@@ -35,7 +35,7 @@ pub if_all : {X : Type 0} (P : Type 0) (o : Option X) → ((x : X) → o ≡ Som
 if_all P None h = tt
 if_all P (Some x) h = h x refl
 
--- ---- what stands at a pointer's tag
+-- ---- the entry at a pointer's tag
 
 module _ (m : Meaning) (f : Fits m) where
   pub exif_link : at_tag exif_tag (main_items m) ≡ link Exif m.exif
@@ -118,7 +118,7 @@ module _ (m : Meaning) (plan : Plan) (o : Order) (filler : ℕ) (f : Fits m) (l 
   near_dir : (d : Dir) → IfSome (items m d) (λ _. place plan (Table d) < 2 ^ 32)
   near_dir d = if_all (place plan (Table d) < 2 ^ 32) (items m d) (λ xs e. table_near m plan o filler f l d xs e)
 
-  -- ---- where each directory stands
+  -- ---- the offset of each directory
 
   abbrev at_plan : Dir → Option ℕ
   at_plan d = option_map (λ _. place plan (Table d)) (items m d)
@@ -176,7 +176,7 @@ module _ (m : Meaning) (plan : Plan) (o : Order) (filler : ℕ) (f : Fits m) (l 
       link' : at_tag interop_tag (exif_items e) ≡ link Interop e.interop
       link' = interop_link e (exif_fits e q).fields.each
 
-  -- the thumbnail directory doesn't stand at 0, where the header is
+  -- the thumbnail directory isn't at 0, where the header is
   past_header : (d : Dir) (xs : List (ℕ × Item)) → items m d ≡ Some xs → place plan (Table d) ≡ 0 → ⊥
   unfolding plan_ranges chunks
   past_header d xs is z =
@@ -224,7 +224,7 @@ module _ (m : Meaning) (plan : Plan) (o : Order) (filler : ℕ) (f : Fits m) (l 
       (ne_eqb (place plan (Table Thumb)) 0 (past_header Thumb (thumb_items t) (thumb_items_are t q)))
       ∙ sym (ap (option_map (λ _. place plan (Table Thumb))) (thumb_items_are t q))
 
-  -- each directory stands where the plan says, and no other is there
+  -- each directory is at its offset of the plan, and there is no other
   pub dir_at_plan : (d : Dir) → dir_at b o d ≡ option_map (λ _. place plan (Table d)) (items m d)
   unfolding dir_at
   dir_at_plan Main = ap (λ n. Some n) main_place ∙ sym (ap (option_map (λ _. place plan (Table Main))) main_items_are)

@@ -1,4 +1,4 @@
--- Parts put one behind another, where the bytes are known by an equation.
+-- Parts added one after another, if the bytes are known by an equation.
 use Rattle.std.proofs.Common.{◌≡◌, ◌<◌, ◌+◌, ◌++◌, ◌∙◌, ℕ, List, take, drop, slice_get, Option, Some, Result, subst, ap, sym, arith}
 use Rattle.std.proofs.Common.{take-append-drop, ◌≤◌, length, ap₂, append_assoc}
 use Rattle.std.specs.List.{flat_map, range_with_len}
@@ -18,7 +18,7 @@ slice_get-range n i h =
     slice_get-get_or (range_with_len 0 n) i 0 (let e = length-range 0 n in omega arith)
     ∙ ap (λ (k : ℕ). Some k) (get_or-range 0 n i 0 h ∙ omega arith)
 
--- one more element is spelled behind those from `start` on
+-- one more element is encoded after those from `start` on
 pub spelled_more : {X : Type 0} (f : X → List ℕ) (xs : List X) (start i : ℕ) (x : X) (a m n : ℕ) (to ys : List ℕ)
     → slice_get xs i ≡ Some x → ys ≡ f x → flat_map f (take i xs) ≡ flat_map f (take start xs) ++ take a to
     → n ≡ a + length ys → a ≤ length to → flat_map f (take (i + 1) xs) ≡ flat_map f (take start xs) ++ take n (put_mid a m to ys)
@@ -74,7 +74,7 @@ module _ {W : Type 0} (taken : W → Option (List ℕ)) where
         ∙ ap (flat_map f) (take-append-drop i xs) in
         fails_as a c h (flat_map f (take i xs) ++ (y ++ rest)) (flat_map f xs) all (second_of a b c h k (flat_map f (take i xs)) y rest p q)
 
-  -- the elements of a list up to n, behind those up to i, and where a call failed
+  -- the elements of a list up to n, after those up to i, and a failed call
   module _ {X : Type 0} (f : X → List ℕ) (xs : List X) (i n : ℕ) (y : List ℕ)
       (e : flat_map f (take n xs) ≡ flat_map f (take i xs) ++ y) where
     pub more_behind : (a b c : W) (h k m : List ℕ) → HasPut taken a b h k (flat_map f (take i xs)) → HasPut taken b c k m y

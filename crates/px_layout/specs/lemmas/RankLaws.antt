@@ -1,4 +1,4 @@
--- The chunks of a meaning stand in a strict order, so each is there once.
+-- The chunks of a meaning are in a strict order, so each occurs once.
 use Rattle.std.proofs.Common.{◌≡◌, ℕ, ◌+◌, ◌*◌, ◌^◌, ◌<◌, ◌≤◌, nat_lt, Option, Some, None, List, [], ◌∷◌, ◌++◌, map, filter_map, flat_map}
 use Rattle.std.proofs.Common.{sym, subst, arith}
 use Rattle.std.specs.Prelude.{IfSome}
@@ -60,7 +60,7 @@ ranked_append lo mid hi xs ys l k a b = record {
     e : map rank (xs ++ ys) ≡ map rank xs ++ map rank ys
     e = map-append rank xs ys
 
--- the placed values of a directory
+-- the values of a directory that have an offset
 above_placed : (d : Dir) (t : ℕ) (xs : List (ℕ × Item)) → AllByRecursion (λ u. t < u) (map (λ i. i.0) xs)
     → AllByRecursion (λ u. dir_number d * span + 1 + t < u) (map rank (filter_map (placed_chunk d) xs))
 unfolding placed_chunk

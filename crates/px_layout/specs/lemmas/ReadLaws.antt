@@ -1,4 +1,4 @@
--- What a laid entry means, and that it is in order.
+-- The meaning of an entry that was laid out, and that it is valid.
 use Rattle.std.proofs.Common.{◌≡◌, ℕ, ◌≤◌, arith, true, ◌&&◌, ◌||◌, eqb, Some, None, is_some, option_map, option_and_then, List, [], ◌∷◌}
 use Rattle.std.proofs.Common.{map, flat_map, length, refl, ◌∙◌, ap, ap₂}
 use Rattle.std.specs.List.{AllByRecursion}

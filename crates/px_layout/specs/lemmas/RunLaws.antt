@@ -1,4 +1,4 @@
--- Where the chunks of a normal form stand, part by part.
+-- The offsets of the chunks of a normal form, part by part.
 use Rattle.std.proofs.Common.{◌≡◌, ℕ, zero, suc, ◌+◌, ◌<◌, ◌==◌, ◌&&◌, nat_lt, Bool, true, false, Option, Some, None, List, [], ◌∷◌, ◌++◌}
 use Rattle.std.proofs.Common.{map, filter_map, flat_map, take, drop, length, slice_get, unwrap_or, if◌then◌else◌, refl, sym, ◌∙◌, ap, subst}
 use Rattle.std.proofs.Common.{arith, lt-ltb}
@@ -30,7 +30,7 @@ pub run_none : (x : ℕ) (cs : List (Chunk × ℕ)) (c : Chunk) → Without c cs
 run_none x [] c h = refl
 run_none x (y ∷ ys) c h = cond-false (same_chunk y.0 c) (Some x) (running (x + even y.1) ys c) h.0 ∙ run_none (x + even y.1) ys c h.1
 
--- behind a list that has it not
+-- after a list without it
 pub run_behind : (x : ℕ) (xs ys : List (Chunk × ℕ)) (c : Chunk) → Without c xs → running x (xs ++ ys) c ≡ running (x + padded_size xs) ys c
 run_behind x [] ys c h = ap (λ n. running n ys c) (omega arith)
 run_behind x (y ∷ xs) ys c h = cond-false (same_chunk y.0 c) (Some x) (running (x + even y.1) (xs ++ ys) c) h.0
@@ -93,7 +93,7 @@ table_of d = record { table = λ e o. o; value = λ e o u. refl; jpeg = refl; st
 pub value_of : (d : Dir) (t : ℕ) → IsOf d (Placed d t)
 value_of d t = record { table = λ e o. refl; value = λ e o u. ap (λ (b : Bool). b && (u == t)) o; jpeg = refl; strip = λ i. refl }
 
--- ---- where the parts begin
+-- ---- the offsets of the parts
 
 abbrev pub dir_line : Meaning → Dir → List (Chunk × ℕ)
 dir_line m d = chunks_of_dir d (items m d)
@@ -101,7 +101,7 @@ dir_line m d = chunks_of_dir d (items m d)
 abbrev pub dir_end : ℕ → Meaning → Dir → ℕ
 dir_end x m d = x + padded_size (dir_line m d)
 
--- where a directory begins: behind the header and the directories before it
+-- the offset of a directory: after the header and the directories before it
 abbrev pub start : Meaning → Dir → ℕ
 start m Main = 8
 start m Exif = dir_end 8 m Main
@@ -109,7 +109,7 @@ start m Interop = dir_end (dir_end 8 m Main) m Exif
 start m Gps = dir_end (dir_end (dir_end 8 m Main) m Exif) m Interop
 start m Thumb = dir_end (dir_end (dir_end (dir_end 8 m Main) m Exif) m Interop) m Gps
 
--- where the thumbnail's bytes begin
+-- the offset of the thumbnail's bytes
 abbrev pub thumb_start : Meaning → ℕ
 thumb_start m = dir_end (start m Thumb) m Thumb
 
@@ -129,7 +129,7 @@ module _ (m : Meaning) where
     unfolding chunks
     in_dirs = run_before 8 (lines dirs) (thumb_chunks m.thumb) c (without_thumb c h.jpeg h.strip m.thumb)
 
-  -- a directory's chunk stands where its directory has it
+  -- a directory's chunk is at the offset that its directory has for it
   in_dir : (d : Dir) (c : Chunk) → IsOf d c → running 8 (lines dirs) c ≡ running (start m d) (dir_line m d) c
   in_dir Main c h =
       run_before 8 (dir_line m Main) (lines (Exif ∷ Interop ∷ Gps ∷ Thumb ∷ [])) c
@@ -167,7 +167,7 @@ module _ (m : Meaning) where
       let f = padded_append (dir_line m Thumb) [] in
       omega arith
 
-  -- where all ends
+  -- the end of the form
   pub all_end : 8 + padded_size (chunks m) ≡ thumb_start m + padded_size (thumb_chunks m.thumb)
   unfolding chunks
   all_end = let a = padded_append (lines dirs) (thumb_chunks m.thumb) in let b = lines_end in omega arith
@@ -179,7 +179,7 @@ module _ (m : Meaning) where
       each_append (λ (y : Chunk × ℕ). same_chunk y.0 c ≡ false) (dir_line m e) (lines ds) (without_dir c e (h e) (k e) (items m e))
       (no_dirs c h k ds)
 
-  -- the thumbnail's bytes stand behind all directories
+  -- the thumbnail's bytes follow all directories
   pub thumb_found : (c : Chunk) → ((e : Dir) → same_chunk (Table e) c ≡ false) → ((e : Dir) (u : ℕ) → same_chunk (Placed e u) c ≡ false)
       → running 8 (chunks m) c ≡ running (thumb_start m) (thumb_chunks m.thumb) c
   unfolding chunks
@@ -188,7 +188,7 @@ module _ (m : Meaning) where
 
 -- ---- the values of a directory
 
--- what a value takes at a place of its own, none where it stands in its entry
+-- the bytes of a value that has an offset, none for one in its entry
 abbrev pub value_size : Item → ℕ
 value_size x = if nat_lt 4 (item_size x) then even (item_size x) else 0
 
@@ -215,14 +215,14 @@ values_split [] (suc i) = refl
 values_split (x ∷ xs) zero = omega arith
 values_split (x ∷ xs) (suc i) = let e = values_split xs i in omega arith
 
--- what holds of each tag holds of one that is read
+-- a property of each tag is one of the tag that is read
 tag_at : (P : ℕ → Type 0) (xs : List (ℕ × Item)) (i : ℕ) (x : ℕ × Item) → AllByRecursion P (map (λ i. i.0) xs) → slice_get xs i ≡ Some x
     → P x.0
 tag_at P [] i x h e = cc
 tag_at P (y ∷ xs) zero x h e = let q : y ≡ x = cc in subst (λ (z : ℕ × Item). P z.0) q h.0
 tag_at P (y ∷ xs) (suc i) x h e = tag_at P xs i x h.1 e
 
--- an entry's value stands behind the values of the entries before it
+-- an entry's value follows the values of the entries before it
 value_behind : (d : Dir) (b : ℕ) (xs : List (ℕ × Item)) (i : ℕ) (x : ℕ × Item) → Rising (map (λ i. i.0) xs) → slice_get xs i ≡ Some x
     → 4 < item_size x.1 →
     running b (filter_map (placed_chunk d) xs) (Placed d x.0) ≡ Some (b + padded_size (filter_map (placed_chunk d) (take i xs)))
@@ -249,7 +249,7 @@ value_behind d b (y ∷ xs) (suc i) x r e l =
     ∙ value_behind d (b + even (item_size y.1)) xs i x r.1 e l ∙ ap (λ (n : ℕ). Some n) (omega arith))
     (λ _. value_behind d b xs i x r.1 e l)
 
--- the same, by what the values from that entry on take
+-- the same, by the size of the values from that entry on
 pub value_at : (d : Dir) (b at : ℕ) (xs : List (ℕ × Item)) (i : ℕ) (x : ℕ × Item) → Rising (map (λ i. i.0) xs) → slice_get xs i ≡ Some x
     → 4 < item_size x.1 →
     at + values_size (drop i xs) ≡ b + values_size xs → running b (filter_map (placed_chunk d) xs) (Placed d x.0) ≡ Some at
@@ -293,7 +293,7 @@ thumb_parts (Some t) = refl
 abbrev pub strips_start : Meaning → ℕ
 strips_start m = thumb_start m + padded_size (jpeg_part m.thumb)
 
--- where all ends
+-- the end of the form
 pub strips_end : (m : Meaning) → 8 + padded_size (chunks m) ≡ strips_start m + padded_size (strips_part m.thumb)
 strips_end m =
     let a = all_end m in
@@ -301,9 +301,9 @@ strips_end m =
     let q = padded_append (jpeg_part m.thumb) (strips_part m.thumb) in
     omega arith
 
--- ---- places in the normal form's plan
+-- ---- offsets in the normal form's plan
 
--- a table stands where its directory begins
+-- a table is at the offset of its directory
 pub table_place : (m : Meaning) (d : Dir) (xs : List (ℕ × Item)) → items m d ≡ Some xs → place (normal_plan m) (Table d) ≡ start m d
 unfolding normal_plan
 table_place m d xs e =
@@ -312,13 +312,13 @@ table_place m d xs e =
     ∙ cond-true (same_chunk (Table d) (Table d)) (Some (start m d)) (running (start m d + even (table_size (length xs)))
     (filter_map (placed_chunk d) xs) (Table d)) (same_chunk-self (Table d)))
 
--- the table of a directory that isn't there has no place
+-- the table of a missing directory has no offset
 pub no_table_place : (m : Meaning) (d : Dir) → items m d ≡ None → place (normal_plan m) (Table d) ≡ 0
 unfolding normal_plan
 no_table_place m d e =
     ap (λ o. unwrap_or o 0) (dir_found m d (Table d) (table_of d) ∙ ap (λ y. running (start m d) (chunks_of_dir d y) (Table d)) e)
 
--- a value stands behind its table and the values of the entries before it
+-- a value follows its table and the values of the entries before it
 pub value_place : (m : Meaning) (d : Dir) (xs : List (ℕ × Item)) (i at : ℕ) (x : ℕ × Item) → items m d ≡ Some xs
     → Rising (map (λ i. i.0) xs) → slice_get xs i ≡ Some x → 4 < item_size x.1 →
     at + values_size (drop i xs) ≡ start m d + even (table_size (length xs)) + values_size xs → place (normal_plan m) (Placed d x.0) ≡ at
@@ -328,7 +328,7 @@ value_place m d xs i at x e r g l h =
     ∙ ap (λ y. running (start m d) (chunks_of_dir d y) (Placed d x.0)) e
     ∙ value_at d (start m d + even (table_size (length xs))) at xs i x r g l h)
 
--- the JPEG stands behind all directories
+-- the JPEG follows all directories
 pub jpeg_place : (m : Meaning) (t : Thumbnail) (x : List ℕ) → m.thumb ≡ Some t → t.jpeg ≡ Some x
     → place (normal_plan m) Jpeg ≡ thumb_start m
 unfolding normal_plan
@@ -337,7 +337,7 @@ jpeg_place m t x e f =
     ∙ ap (λ y. running (thumb_start m) y Jpeg) (thumb_parts m.thumb ∙ ap (λ y. jpeg_part y ++ strips_part y) e
     ∙ ap (λ y. jpeg_chunks y ++ all_strip_chunks t.strips) f))
 
--- a strip stands behind the JPEG and the strips before it
+-- a strip follows the JPEG and the strips before it
 pub strip_place : (m : Meaning) (t : Thumbnail) (s : List (List ℕ)) (i : ℕ) → m.thumb ≡ Some t → t.strips ≡ Some s → i < length s
     → place (normal_plan m) (Strip i) ≡ strips_start m + padded_size (strip_chunks 0 (take i s))
 unfolding normal_plan

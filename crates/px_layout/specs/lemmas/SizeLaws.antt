@@ -1,4 +1,4 @@
--- The bytes of each chunk have the chunk's size; so each piece of a legal block stands at its place.
+-- The bytes of each chunk have the chunk's size; so each piece of a legal block is at its offset.
 use Rattle.std.proofs.Common.{◌≡◌, ℕ, ◌+◌, ◌*◌, ◌≤◌, nat_lt, inl, inr, Option, Some, None, option_map, List, [], ◌∷◌, ◌++◌, map, filter_map}
 use Rattle.std.proofs.Common.{flat_map, length, refl, sym, ◌∙◌, ap, ap₂, subst, arith}
 use Rattle.std.specs.Prelude.{IfSome}
@@ -138,7 +138,7 @@ module _ (plan : Plan) (o : Order) (filler : ℕ) where
       ∙ sym (map-map (λ c. range (place plan c.0) c.1) sized (contents plan o filler m))
       ∙ ap (map (λ c. range (place plan c.0) c.1)) (contents_sized m f))
 
-  -- each piece stands in the block
+  -- each piece is in the block
   pub pieces_stand : (m : Meaning) → Fits m → Legal m plan → AllByRecursion (λ y. Stands (laid m plan o filler) y.0 y.1)
       (laid_pieces plan o filler m)
   unfolding laid

@@ -1,4 +1,4 @@
--- In a block that is laid out, each piece stands at its place.
+-- In a block that is laid out, each piece is at its offset.
 use Rattle.std.proofs.Common.{◌≡◌, ℕ, zero, suc, ◌+◌, ◌-◌, ◌<◌, ◌≤◌, ◌&&◌, nat_lt, nat_le, List, [], ◌∷◌, map, length, drop, get_or}
 use Rattle.std.proofs.Common.{slice_index, refl, sym, ◌∙◌, ap, subst, arith, ltb-true, lt-ltb, le-leb, length-drop, get_or-take}
 use Rattle.std.proofs.Common.{get_or-drop}
@@ -14,7 +14,7 @@ use Rattle.px_layout.specs.Laid.{byte_at}
 abbrev pub piece_range : ℕ × List ℕ → Range
 piece_range y = range y.0 (length y.1)
 
--- bytes stand at a place of a block
+-- bytes are at an offset of a block
 pub record Stands (b : List ℕ) (x : ℕ) (y : List ℕ) : Type 0 where
   pub inside : x + length y ≤ length b
   pub is : part b x (length y) ≡ y
@@ -77,7 +77,7 @@ stands_from g n x y h s =
     default (z ∷ zs) zero d l = refl
     default (z ∷ zs) (suc k) d l = default zs k d (omega arith)
 
--- Disjoint pieces within n places: each stands at its place in the block that they make.
+-- Disjoint pieces within n bytes: each is at its offset in the block that they make.
 pub each_stands : (f n : ℕ) (xs : List (ℕ × List ℕ)) → AllApart (map piece_range xs) → AllByRecursion (λ y. y.0 + length y.1 ≤ n) xs →
     AllByRecursion (λ y. Stands (map (byte_at f xs) (range_with_len 0 n)) y.0 y.1) xs
 each_stands f n xs a i = each_map₂ (λ y. y.0 + length y.1 ≤ n) (Shows f xs) (λ y. Stands (map (byte_at f xs) (range_with_len 0 n)) y.0 y.1)

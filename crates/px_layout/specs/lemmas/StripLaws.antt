@@ -1,4 +1,4 @@
--- The thumbnail's bytes as they are put.
+-- The thumbnail's bytes as they are written.
 use Rattle.std.proofs.Common.{◌≡◌, ℕ, ◌+◌, Some, List, [], ◌∷◌, ◌++◌, flat_map, replicate, append-nil, refl, sym, ap, ◌∙◌}
 use Rattle.std.proofs.lemmas.List.Concat.{flat_map-append}
 use Rattle.px_tree.specs.Tree.{Thumbnail}
@@ -14,7 +14,7 @@ padded_content c = padded c.1
 pub padded_even : KeepsEven padded
 padded_even x p = ap (λ (n : ℕ). x ++ replicate n 0) p ∙ append-nil x
 
--- the strips alone, whatever their numbers
+-- only the strips, whatever their numbers
 pub strips_padded : (n : ℕ) (xs : List (List ℕ)) → flat_map padded xs ≡ flat_map (λ c. padded c.1) (strip_contents n xs)
 strips_padded n [] = refl
 strips_padded n (x ∷ xs) = ap (λ y. padded x ++ y) (strips_padded (n + 1) xs)

@@ -100,7 +100,7 @@ module _ (plan : Plan) (o : Order) (filler : ℕ) (d : Dir) where
         ∙ sym (ap (option_map (λ x. entry_of plan o filler d (t, x))) (cond-false (x.0 == t) (Some x.1) (at_tag t xs) q))
   ]
 
-  -- the offset of an entry that holds one number
+  -- the offset in an entry with one number
   pub offset_link : (t : ℕ) (e : Dir) → place plan (Table e) < 2 ^ 32
       → offset o (entry_of plan o filler d (t, Link e)) ≡ place plan (Table e)
   unfolding entry_of last_bytes item_size item_bytes

@@ -15,7 +15,7 @@ use Rattle.px_layout.specs.declared.chunks.Chunk.TheVariants.{Strip}
 use Rattle.px_layout.specs.Chunks.{chunks_of_dir, strip_chunks, thumb_chunks, chunks}
 use Rattle.px_layout.specs.lemmas.EntryLaws.{few_items, good_items, Good}
 
--- the element at a place, and those behind it
+-- the element at an index, and those after it
 pub drop_here : {A : Type 0} (xs : List A) (i : ℕ) (x : A) → slice_get xs i ≡ Some x → drop i xs ≡ x ∷ drop (i + 1) xs
 drop_here xs i x e =
     let k : suc i ≡ i + 1 = omega arith in
@@ -25,7 +25,7 @@ one_put : {A : Type 0} (o : Option A) (out rest : List A) → (out ++ option_to_
 one_put None out rest = append_assoc out [] rest
 one_put (Some x) out rest = append_assoc out (x ∷ []) rest
 
--- one more placed value
+-- one more value that has an offset
 pub values_more : {X Y : Type 0} (h : X → Option Y) (xs : List X) (i : ℕ) (x : X) (out now : List Y) → slice_get xs i ≡ Some x
     → now ≡ out ++ option_to_list (h x) → now ++ filter_map h (drop (i + 1) xs) ≡ out ++ filter_map h (drop i xs)
 values_more h xs i x out now e s =
@@ -61,7 +61,7 @@ gathered m a b c d e f eb ec ed ee ef =
         → (((((a ++ p) ++ q) ++ r) ++ s) ++ t) ++ u ≡ a ++ ((p ++ (q ++ (r ++ (s ++ (t ++ []))))) ++ u)
     line a p q r s t u = simp (append_assoc, append-nil)
 
--- where a loop is done, nothing is left
+-- at the end of a loop nothing is left
 pub values_done : {X Y : Type 0} (h : X → Option Y) (xs : List X) (i : ℕ) (out all : List Y) → length xs ≤ i
     → out ++ filter_map h (drop i xs) ≡ all → out ≡ all
 values_done h xs i out all l e = sym (append-nil out) ∙ ap (λ ys. out ++ filter_map h ys) (sym (drop_all i xs l)) ∙ e
