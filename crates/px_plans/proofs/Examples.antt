@@ -64,7 +64,7 @@ odd_places (Table Main) = Some 8
 odd_places (Placed Main t) = Some 27
 odd_places _ = None
 
--- the plan of the block itself, where the gap is filled with FF
+-- the plan of the block itself, with FF in the gap
 odd_offset_laid : laid (meaning odd_offset Most) (record { length = 32; offset = odd_places }) Most 0xFF ≡ odd_offset
 unfolding header last description_at urns odd_offset odd_places opened
 odd_offset_laid = refl
@@ -108,7 +108,7 @@ four_dirs_laid : laid (meaning four_dirs Most) four_dirs_plan Most 0 ≡ four_di
 unfolding header last pointers_to exif_dir interop_dir gps_dir four_dirs four_places four_dirs_plan opened
 four_dirs_laid = refl
 
--- least significant byte first, and with another filler, the same is said
+-- least significant byte first and with another filler, the meaning is the same
 four_dirs_turned : meaning (laid (meaning four_dirs Most) four_dirs_plan Least 0xFF) Least ≡ meaning four_dirs Most
 unfolding header last pointers_to exif_dir interop_dir gps_dir four_dirs four_places four_dirs_plan opened
 four_dirs_turned = refl
@@ -149,7 +149,7 @@ width_normal : (meaning short_width Most ≡ meaning long_width Most) × (normal
 unfolding header last width_of short_width long_width opened
 width_normal = (refl, refl)
 
--- ---- a record with a zero octet behind it, as BYTE: written as UNDEFINED, without it, and padded
+-- ---- a record with a zero byte after it, as BYTE: written as UNDEFINED, without it, and padded
 
 -- a type and a count
 record_of : ℕ → ℕ → List ℕ

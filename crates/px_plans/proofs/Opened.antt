@@ -1,4 +1,4 @@
--- All definitions opened at once, for what is computed.
+-- All definitions unfolded at once, for proofs by computation.
 use Rattle.std.proofs.Common.{ℕ}
 use Rattle.px_field.specs.Forms.{form_of}
 use Rattle.px_field.specs.Values.{elements, spelled}

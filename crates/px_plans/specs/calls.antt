@@ -1,4 +1,4 @@
--- Words of the contracts of single calls. What the promises rest on stands in px_layout, in its definitions of plans and layouts.
+-- Definitions for the contracts of single calls. The definitions of plans and layouts are in px_layout.
 pub mod Kept
 pub mod Counted
 pub mod Planned

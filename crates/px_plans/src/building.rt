@@ -1,4 +1,5 @@
-// The pieces of a block, put at their places: from the last to the first, so that a piece is put over those behind it.
+// Writes the pieces of a block at their offsets, from the last to the first: the definition takes each byte
+// from the first piece that has it.
 ghost use Rattle.std.specs.Prelude.{◌≡◌, ◌≤◌, ◌<◌, ◌+◌, ◌^◌, [], ◌∷◌, length, replicate, Some, option_map, flat_map, IfSome, OnOk, IfOk};
 ghost use Rattle.px_bytes.specs.Devices.{CanFail, Counts};
 ghost use Rattle.px_bytes.specs.Lacking.{Lacks};
@@ -22,7 +23,7 @@ use px_bytes::{Failed, Growing, Memory, Pending, Refused, Sink};
 use px_layout::{Chunk, Entries, Entry, Item, entries_in};
 use px_tree::{Dir, Strips, Thumb, needs_place};
 
-// Puts bytes at a place.
+// Writes bytes at an offset.
 fn put_at(block: &mut [u8], at: u32, bytes: &[u8])
     requires { at + length bytes.now ≤ length block.old }
     ensures len { length block.new ≡ length block.old }
@@ -32,9 +33,9 @@ fn put_at(block: &mut [u8], at: u32, bytes: &[u8])
     block[at..at + bytes.len()].copy_from_slice(bytes);
 }
 
-// ---- bytes of their own
+// ---- one piece
 
-// A piece of a block that is put together: the header, the table of a directory, the value of an entry.
+// A piece of a block: the header, the table of a directory, or the value of an entry.
 #[derive(Clone, Copy)]
 pub(crate) enum Piece<'e, 'm, 'a> {
     Header,
@@ -78,14 +79,14 @@ fn bytes_of(memory: &mut Memory, layout: &Layout, piece: Piece) -> Result<Vec<u8
     ensures memory { Lacks result memory.old memory.new }
 {
     let mut writer = Growing::new(memory);
-    // It fails where a growth was refused, which the writer tells.
+    // A write fails if an allocation failed, which `finish_in` reports.
     let _ = write_piece(&mut writer, layout, piece);
     writer.finish_in(memory)
 }
 
-// ---- pieces at their places
+// ---- all pieces
 
-// The strips, the last first.
+// Writes the strips, the last first.
 fn lay_strips(block: &mut [u8], layout: &Layout, strips: &Strips)
     requires few { length strips.now ≤ limit }
     requires inside { AreInside (length block.old) (at_places layout.now (strip_contents 0 strips.now)) }
@@ -130,7 +131,7 @@ fn lay_parts(block: &mut [u8], layout: &Layout, thumb: &Thumb)
     lay_jpeg(block, layout, thumb.jpeg);
 }
 
-// The thumbnail's bytes.
+// Writes the thumbnail's bytes.
 fn lay_thumb(block: &mut [u8], layout: &Layout)
     requires fits { Fits (said_meaning layout.now) }
     requires legal { Legal (said_meaning layout.now) (said_plan layout.now) }
@@ -144,7 +145,7 @@ fn lay_thumb(block: &mut [u8], layout: &Layout)
     }
 }
 
-// The value of an entry, where it has a place of its own.
+// Writes the value of an entry if it has a chunk.
 fn lay_value(
     memory: &mut Memory,
     block: &mut [u8],
@@ -168,7 +169,7 @@ fn lay_value(
     Ok(())
 }
 
-// The placed values of a directory, the last first.
+// Writes the values of a directory that have chunks, the last first.
 fn lay_values(
     memory: &mut Memory,
     block: &mut [u8],
@@ -207,7 +208,7 @@ fn lay_table(
     Ok(())
 }
 
-// A directory's table and its placed values.
+// Writes a directory's table and values.
 fn lay_entries(
     memory: &mut Memory,
     block: &mut [u8],
@@ -227,7 +228,7 @@ fn lay_entries(
     lay_table(memory, block, layout, dir, entries)
 }
 
-// The same of a directory, where it is there.
+// Writes a directory if the meaning has it.
 fn lay_dir(memory: &mut Memory, block: &mut [u8], layout: &Layout, dir: Dir) -> Result<(), Refused>
     requires fits { Fits (said_meaning layout.now) }
     requires legal { Legal (said_meaning layout.now) (said_plan layout.now) }
@@ -242,7 +243,7 @@ fn lay_dir(memory: &mut Memory, block: &mut [u8], layout: &Layout, dir: Dir) -> 
     }
 }
 
-// All directories, the last first.
+// Writes all directories, the last first.
 fn lay_dirs(memory: &mut Memory, block: &mut [u8], layout: &Layout) -> Result<(), Refused>
     requires fits { Fits (said_meaning layout.now) }
     requires legal { Legal (said_meaning layout.now) (said_plan layout.now) }
@@ -269,7 +270,7 @@ fn lay_header(memory: &mut Memory, block: &mut [u8], layout: &Layout) -> Result<
     Ok(())
 }
 
-// Lays all of a block out, over filler.
+// Writes the whole block over filler bytes.
 pub(crate) fn lay_all(memory: &mut Memory, block: &mut [u8], layout: &Layout) -> Result<(), Refused>
     requires fits { Fits (said_meaning layout.now) }
     requires legal { Legal (said_meaning layout.now) (said_plan layout.now) }

@@ -1,9 +1,9 @@
-// What a block says, and how it is laid out.
+// A meaning and how it is laid out.
 use crate::plan::Plan;
 use px_bytes::Order;
 use px_tree::Meaning;
 
-// A meaning, where its chunks stand, the byte order, and the byte wherever no chunk stands.
+// A meaning, the offsets of its chunks, the byte order, and the byte for all gaps.
 #[derive(Clone, Copy)]
 pub(crate) struct Layout<'p, 'a> {
     pub(crate) m: &'p Meaning<'a>,

@@ -16,8 +16,8 @@ use px_layout::Chunk;
 use px_tree::Meaning;
 use std::alloc::{AllocError, Global};
 
-// Whether a chunk of `size` bytes is placed, within the plan's length, apart from what is held. Where
-// it is, it is held from now on.
+// Whether a chunk of `size` bytes has an offset, is inside the plan's length, and shares no byte with a
+// claimed range. If so, it claims its range.
 fn hold(
     memory: &mut Memory,
     plan: &Plan,
@@ -44,7 +44,7 @@ fn hold(
     held.add_in(memory, offset, size as u32)
 }
 
-// The same of all chunks.
+// The same for all chunks.
 fn hold_all(
     memory: &mut Memory,
     plan: &Plan,
@@ -65,7 +65,8 @@ fn hold_all(
     Ok(true)
 }
 
-// Whether the chunks are all placed, within the plan's length, apart from the header and one another.
+// Whether all chunks have offsets, are inside the plan's length, and share no byte with the header or one
+// another.
 fn are_apart(memory: &mut Memory, plan: &Plan, chunks: &[(Chunk, u64)]) -> Result<bool, Refused>
     requires { (plan_of plan.now).length ≤ limit }
     ensures memory { Lacks result memory.old memory.new }
@@ -76,12 +77,7 @@ fn are_apart(memory: &mut Memory, plan: &Plan, chunks: &[(Chunk, u64)]) -> Resul
     hold_all(memory, plan, &mut held, chunks)
 }
 
-/// Whether a plan is legal for a meaning that can be written (`fits`): it places exactly the meaning's
-/// chunks, its length is at least 8 and at most `LIMIT`, each chunk lies within it, and no two chunks
-/// share a byte, nor one and the header. TIFF 6.0 section 7, "No Duplicate Pointers".
-///
-/// An error comes where a growth was refused, for a plan of such a length: it takes memory for a list of
-/// the chunks and for their ranges. The cost grows with the number of chunks and its logarithm, and by a word for 64 of their bytes.
+/// Like `is_legal_in`, with memory of its own.
 pub fn is_legal(alloc: Global, m: &Meaning, plan: &Plan) -> Result<bool, AllocError>
     requires { Fits (meaning_of m.now) }
     ensures legal { IfOk result (λ legal. IsTrue legal ↔ Legal (meaning_of m.now) (plan_of plan.now)) }
@@ -91,8 +87,12 @@ pub fn is_legal(alloc: Global, m: &Meaning, plan: &Plan) -> Result<bool, AllocEr
     Ok(is_legal_in(&mut Memory::new(alloc), m, plan)?)
 }
 
-/// As `is_legal`, with memory that tells whether a growth was refused: where the error came, and there
-/// alone.
+/// Whether a plan is legal for a meaning that can be written (`fits`): it has exactly the meaning's chunks,
+/// its length is at least 8 and at most `LIMIT`, each chunk is inside it, and no two chunks share a byte, nor
+/// a chunk and the header. TIFF 6.0 section 7, "No Duplicate Pointers".
+///
+/// Allocates a list of the chunks and their ranges, if the length is legal. The cost grows as n log n with
+/// the number of chunks, and by a word for each 64 of their bytes. `Err`: an allocation failed.
 pub fn is_legal_in(memory: &mut Memory, m: &Meaning, plan: &Plan) -> Result<bool, Refused>
     requires { Fits (meaning_of m.now) }
     ensures legal { IfOk result (λ legal. IsTrue legal ↔ Legal (meaning_of m.now) (plan_of plan.now)) }
@@ -107,7 +107,7 @@ pub fn is_legal_in(memory: &mut Memory, m: &Meaning, plan: &Plan) -> Result<bool
         return Ok(false);
     }
     let chunks = chunk_sizes(memory, m)?;
-    // Where each of the meaning's chunks is placed, no other is, exactly if there are as many.
+    // If each of the meaning's chunks has an offset, no other does exactly if the numbers are equal.
     if plan.count() != chunks.len() as u128 {
         return Ok(false);
     }

@@ -1,12 +1,15 @@
-//! Plans: every block that says an Exif meaning, beside the normal form. `plan_normal` tells where the chunks of the normal form
-//! stand, `is_legal` judges a plan of one's own, and `write_with` lays it out in either byte order. No command of the program needs
-//! them: they show that the definitions of a layout can be met, and serve tests that make blocks.
+//! Plans: all blocks with a given Exif meaning, not only the normal form. `plan_normal` is the layout of the
+//! normal form, `is_legal` judges any other, and `write_with` lays out a block in either byte order. The
+//! program and the C library don't use this crate. It shows that the definitions of a layout can be met, and
+//! tests use it to make blocks.
+//!
+//! Functions over an allocator are for callers of this crate: nothing that ships calls them.
 //!
 //! ```
 //! let plan = plan_normal(rt.alloc(), &meaning)?;
 //! plan.offset(Chunk::Table(Dir::Main)); // Some(8)
 //! is_legal(rt.alloc(), &meaning, &plan)?; // true
-//! write_with(rt.alloc(), &meaning, &plan, Order::Least, 0)?; // a block that says the meaning
+//! write_with(rt.alloc(), &meaning, &plan, Order::Least, 0)?; // a block with the meaning
 //! ```
 #![tactic(auto)]
 

@@ -14,7 +14,7 @@ use px_layout::{Chunk, behind};
 use px_tree::Meaning;
 use std::alloc::Global;
 
-// Places a chunk, and answers where the next one stands.
+// Gives a chunk its offset. Returns the offset of the next one.
 fn place_next(
     memory: &mut Memory,
     plan: &mut Plan,
@@ -33,7 +33,7 @@ fn place_next(
     Ok(end)
 }
 
-// Places chunks one behind the other from the header on, and answers where they end.
+// Gives chunks their offsets, one after the other from the header on. Returns where they end.
 fn place_all(
     memory: &mut Memory,
     plan: &mut Plan,
@@ -51,12 +51,7 @@ fn place_all(
     Ok(at)
 }
 
-/// The plan of the normal form of a meaning that can be written (`fits`): by directory, the table and
-/// then the placed values by ascending tag, then the JPEG, then the strips; each directly behind the
-/// one before, the first behind the header, and padded to an even number of bytes. The plan is legal.
-///
-/// NormalTooLong where the normal form is longer than `LIMIT`, OutOfMemory where a growth was refused.
-/// It takes memory for the plan, and for a list of the chunks while it works.
+/// Like `plan_normal_in`, with memory of its own.
 pub fn plan_normal(alloc: Global, m: &Meaning) -> Result<Plan, WriteRefusal>
     requires { Fits (meaning_of m.now) }
     ensures { AnswersPlan result (meaning_of m.now) }
@@ -64,8 +59,12 @@ pub fn plan_normal(alloc: Global, m: &Meaning) -> Result<Plan, WriteRefusal>
     plan_normal_in(&mut Memory::new(alloc), m)
 }
 
-/// As `plan_normal`, with memory that tells whether a growth was refused: where OutOfMemory is answered,
-/// and there alone.
+/// The plan of the normal form of a meaning that can be written (`fits`). For each directory: the table, the
+/// values of more than four bytes by ascending tag, the JPEG, and the strips. Each chunk follows the one
+/// before, the first follows the header, and each is padded to an even number of bytes. The plan is legal.
+///
+/// Allocates the plan, and a list of the chunks while it works. `NormalTooLong`: the normal form is longer
+/// than `LIMIT`. `OutOfMemory`: an allocation failed.
 pub fn plan_normal_in(memory: &mut Memory, m: &Meaning) -> Result<Plan, WriteRefusal>
     requires { Fits (meaning_of m.now) }
     ensures plan { AnswersPlan result (meaning_of m.now) }

@@ -1,4 +1,4 @@
-// Where chunks stand, kept by directory and by strip.
+// The offsets of chunks, by directory and by strip.
 ghost use Rattle.std.specs.Prelude.{◌≡◌, ◌+◌, ◌<◌, ◌≤◌, ◌^◌, ℕ, OnOk, OnErr, None, Some, if◌then◌else◌, ◌==◌};
 ghost use Rattle.px_bytes.specs.Lacking.{Lacks};
 ghost use Rattle.px_layout.specs.declared.chunks.Chunk.{Chunk as AnyChunk};
@@ -11,7 +11,7 @@ use px_layout::Chunk;
 use px_tree::Dir;
 use std::collections::BTreeMap;
 
-// The offsets of a directory: its table's, and those of its placed values by tag.
+// The offsets of a directory: of its table, and of its values by tag.
 #[derive(Drop)]
 pub(crate) struct DirOffsets {
     table: Option<u32>,
@@ -43,7 +43,7 @@ impl DirOffsets {
         self.values.get(&tag).copied()
     }
 
-    // Puts a value that isn't there.
+    // Adds the offset of a value that has none yet.
     fn put_value(&mut self, memory: &mut Memory, tag: u16, offset: u32) -> Result<(), Refused>
         requires { value_in self.old tag ≡ None }
         ensures table { self.new.table ≡ self.old.table }
@@ -58,8 +58,8 @@ impl DirOffsets {
     }
 }
 
-// The offsets of strips. Those that were placed one after the other from strip 0 on stand in a
-// vector, and any other in a map.
+// The offsets of strips. Those that are added in ascending order from strip 0 on are in a vector, any other
+// in a map.
 #[derive(Drop)]
 pub(crate) struct StripOffsets {
     line: Vec<u32>,
@@ -93,7 +93,7 @@ impl StripOffsets {
         self.others.get(&i).copied()
     }
 
-    // Puts a strip that isn't there.
+    // Adds the offset of a strip that has none yet.
     fn put(&mut self, memory: &mut Memory, i: u32, offset: u32) -> Result<(), Refused>
         requires { strip_in self.old i ≡ None }
         ensures ok { OnOk result ((j : ℕ) → strip_in self.new j ≡ (if i == j then Some offset else strip_in self.old j)) }
@@ -124,7 +124,7 @@ pub(crate) struct Offsets {
 }
 
 impl Offsets {
-    // No offset. Takes no memory.
+    // No offsets. It allocates nothing.
     pub(crate) fn new(memory: &Memory) -> Offsets
         ensures none { (c : AnyChunk) → offset_in result c ≡ None }
         ensures size { size_in result ≡ 0 }
@@ -140,7 +140,7 @@ impl Offsets {
         }
     }
 
-    // How many chunks have an offset.
+    // The number of chunks that have an offset.
     pub(crate) fn size(&self) -> u128
         ensures { result ≡ size_in self.now }
     {
@@ -165,7 +165,7 @@ impl Offsets {
         }
     }
 
-    // The offset of a chunk, where it has one.
+    // The offset of a chunk, or None.
     pub(crate) fn offset(&self, chunk: Chunk) -> Option<u32>
         ensures { result ≡ offset_in self.now chunk }
     {
@@ -236,7 +236,7 @@ impl Offsets {
         self.strips.put(memory, i, offset)
     }
 
-    // Puts a chunk that isn't there.
+    // Adds the offset of a chunk that has none yet.
     pub(crate) fn put(
         &mut self,
         memory: &mut Memory,

@@ -1,4 +1,4 @@
-// Plans: where each chunk of a block stands.
+// Plans: the offset of each chunk of a block.
 ghost use Rattle.std.specs.Prelude.{◌≡◌, None, IsSome, IfOk, OnErr, true, false, if◌then◌else◌};
 ghost use Rattle.px_bytes.specs.Lacking.{Lacks};
 ghost use Rattle.px_plans.specs.calls.Kept.{offset_in, size_in};
@@ -9,12 +9,11 @@ use px_bytes::{Memory, Refused};
 use px_layout::Chunk;
 use std::alloc::{AllocError, Global};
 
-/// A layout: the length of a block in bytes, and where each of its chunks stands. TIFF 6.0 section 2
-/// leaves offsets free.
+/// A layout: the length of a block in bytes, and the offset of each of its chunks. TIFF 6.0 section 2 leaves
+/// offsets free.
 ///
-/// The offsets of strips that are placed in ascending order from strip 0 on stand in a vector, four
-/// bytes each; those of other strips, and of placed values, in maps, so that any order of placing
-/// costs the logarithm of their number for each.
+/// The offsets of strips that are placed in ascending order from strip 0 on are in a vector, four bytes each.
+/// Those of other strips and of values are in maps, so each costs the logarithm of their number in any order.
 #[derive(Drop)]
 pub struct Plan {
     len: u32,
@@ -26,15 +25,15 @@ pub struct Plan {
 impl Plan {
     ghost use Rattle.px_plans.specs.calls.Planned.{plan_of, bare, with_chunk, with_length};
 
-    /// A plan of a block of `len` bytes, in which no chunk is placed. It takes no memory; `alloc`
-    /// serves the chunks that are placed later.
+    /// Like `new_in`, with memory of its own.
     pub fn new(alloc: Global, len: u32) -> Plan
         ensures { plan_of result ≡ bare len }
     {
         Plan::new_in(&Memory::new(alloc), len)
     }
 
-    /// As `new`, with memory that serves the chunks that are placed later.
+    /// A plan of a block of `len` bytes without any chunk. It allocates nothing. Later calls use the
+    /// allocator of `memory`.
     #[tactic(auto, unfolding(crate::specs::calls::Planned::plan_of))]
     pub fn new_in(memory: &Memory, len: u32) -> Plan
         ensures { plan_of result ≡ bare len }
@@ -46,7 +45,7 @@ impl Plan {
         }
     }
 
-    /// The length of the block in bytes. It takes no memory.
+    /// The length of the block in bytes. It allocates nothing.
     #[tactic(auto, unfolding(crate::specs::calls::Planned::plan_of))]
     pub fn len(&self) -> u32
         ensures { result ≡ (plan_of self.now).length }
@@ -54,7 +53,7 @@ impl Plan {
         self.len
     }
 
-    /// The offset of a chunk from the block's first byte, where it is placed. It takes no memory.
+    /// The offset of a chunk from the block's first byte, or None if it isn't placed. It allocates nothing.
     #[tactic(auto, unfolding(crate::specs::calls::Planned::plan_of))]
     pub fn offset(&self, chunk: Chunk) -> Option<u32>
         ensures { result ≡ (plan_of self.now).offset chunk }
@@ -62,9 +61,7 @@ impl Plan {
         self.offsets.offset(chunk)
     }
 
-    /// Places a chunk at an offset, and answers true; where it is placed already, it answers false and
-    /// nothing changes. Any offset is taken: `is_legal` judges a plan. An error comes where a growth was
-    /// refused, for a chunk that isn't placed, and changes nothing.
+    /// Like `place_in`, with memory of its own.
     pub fn place(&mut self, chunk: Chunk, offset: u32) -> Result<bool, AllocError>
         ensures placed { IfOk result (λ placed. placed ≡ true → (plan_of self.old).offset chunk ≡ None) }
         ensures there { IfOk result (λ placed. placed ≡ false → IsSome ((plan_of self.old).offset chunk)) }
@@ -77,7 +74,9 @@ impl Plan {
         Ok(self.place_in(&mut memory, chunk, offset)?)
     }
 
-    /// As `place`, with memory that tells whether a growth was refused: where the error came, and there alone.
+    /// Places a chunk at an offset and returns true, or returns false and changes nothing if it is placed
+    /// already. It accepts any offset: `is_legal` judges a plan. `Err`: an allocation failed, the chunk isn't
+    /// placed, and nothing has changed.
     #[tactic(auto, unfolding(crate::specs::calls::Planned::plan_of))]
     pub fn place_in(
         &mut self,
@@ -100,7 +99,7 @@ impl Plan {
         Ok(true)
     }
 
-    // How many chunks are placed.
+    // The number of chunks that are placed.
     #[tactic(auto, unfolding(crate::specs::calls::Planned::plan_of))]
     pub(crate) fn count(&self) -> u128
         ensures { IsCount result (plan_of self.now).offset }

@@ -1,4 +1,4 @@
-// What an entry says, put behind the bytes that wait for a writer. TIFF 6.0 section 2, "IFD Entry" and "Value/Offset".
+// The entries of a table, added to the output buffer. TIFF 6.0 section 2, "IFD Entry" and "Value/Offset".
 ghost use Rattle.std.specs.Prelude.{◌≡◌, ◌≤◌, ◌-◌, ◌*◌, ◌++◌, length, take, map, flat_map};
 ghost use Rattle.std.specs.List.{AllByRecursion, range_with_len};
 ghost use Rattle.px_bytes.specs.Devices.{CanFail, Counts};
@@ -19,14 +19,14 @@ use px_layout::{
 };
 use px_tree::{Dir, needs_place};
 
-// Where a chunk stands.
+// The offset of a chunk.
 pub(crate) fn place_of(plan: &Plan, chunk: Chunk) -> u32
     ensures { result ≡ place (plan_of plan.now) chunk }
 {
     plan.offset(chunk).unwrap_or(0)
 }
 
-// Where a chunk stands, put in the layout's order.
+// Adds the offset of a chunk in the layout's byte order.
 pub(crate) fn put_place<W: Sink>(
     pending: &mut Pending,
     writer: &mut W,
@@ -41,7 +41,7 @@ pub(crate) fn put_place<W: Sink>(
     put_long(pending, writer, layout.order, place_of(layout.plan, chunk))
 }
 
-// The offsets of the first strips.
+// Adds the offsets of the first strips.
 fn put_strip_offsets<W: Sink>(
     pending: &mut Pending,
     writer: &mut W,
@@ -59,7 +59,7 @@ fn put_strip_offsets<W: Sink>(
     Ok(())
 }
 
-// The value of an entry.
+// Adds the value of an entry.
 #[tactic(auto, unfolding(px_layout::specs::Laid::item_bytes))]
 pub(crate) fn put_item<W: Sink>(
     pending: &mut Pending,
@@ -85,7 +85,7 @@ pub(crate) fn put_item<W: Sink>(
     }
 }
 
-// The last field of an entry: the value and filler behind it, or where the value is placed.
+// Adds the last four bytes of an entry: its value and filler, or the value's offset.
 #[tactic(auto, unfolding(px_layout::specs::Laid::last_bytes))]
 fn put_last<W: Sink>(
     pending: &mut Pending,
@@ -109,7 +109,7 @@ fn put_last<W: Sink>(
     put_filler(pending, writer, layout.filler, 4 - size as usize)
 }
 
-// An entry of a directory.
+// Adds an entry of a directory.
 pub(crate) fn put_entry<W: Sink>(
     pending: &mut Pending,
     writer: &mut W,

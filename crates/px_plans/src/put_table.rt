@@ -43,7 +43,7 @@ fn put_entries<W: Sink>(
     Ok(())
 }
 
-// The offset of the thumbnail directory, 0 where there is none.
+// Adds the offset of the thumbnail directory, or 0 if there is none.
 fn put_next_of_main<W: Sink>(
     pending: &mut Pending,
     writer: &mut W,
@@ -59,7 +59,7 @@ fn put_next_of_main<W: Sink>(
     }
 }
 
-// The offset of the next directory.
+// Adds the offset of the next directory.
 fn put_next<W: Sink>(
     pending: &mut Pending,
     writer: &mut W,
@@ -77,7 +77,7 @@ fn put_next<W: Sink>(
     }
 }
 
-// The table of a directory, with fewer than 65,536 entries.
+// Adds the table of a directory with fewer than 65,536 entries.
 pub(crate) fn put_table<W: Sink>(
     pending: &mut Pending,
     writer: &mut W,

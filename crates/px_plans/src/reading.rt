@@ -1,4 +1,4 @@
-// A block that was laid out, read again.
+// Reads a block that a plan laid out.
 ghost use Rattle.std.specs.Prelude.{◌≡◌, ℕ, IfOk, IfErr};
 ghost use Rattle.px_bytes.specs.declared.Order.{Order};
 ghost use Rattle.px_bytes.specs.Checks.{LacksBlock};
@@ -14,8 +14,9 @@ ghost use Rattle.px_tree.specs.calls.Seen.{meaning_of};
 use px_bytes::{Block, Memory, Refusal};
 use px_tree::{Meaning, read_block_in};
 
-/// The round trip: a block that any legal plan lays out for a meaning, in either byte order and with any filler, is read as that
-/// meaning, or a growth was refused: `OutOfMemory` comes there alone. Of every other block it answers what `read_block_in` does.
+/// The round trip: a block that any legal plan lays out for a meaning, in either byte order and with any
+/// filler, is read as that meaning, unless an allocation failed (`OutOfMemory`). For any other block the
+/// result is that of `read_block_in`.
 pub fn read_back_in<'a>(memory: &mut Memory, block: Block<'a>) -> Result<Meaning<'a>, Refusal>
     ensures back { (m : Tree) (plan : Plan) (o : Order) (filler : ℕ) → Fits m → Legal m plan → block.entry ≡ laid m plan o filler →
         ReadsBack meaning_of result m memory.old.refusals memory.new.refusals }

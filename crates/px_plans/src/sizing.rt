@@ -14,7 +14,7 @@ use px_bytes::{Memory, Refused};
 use px_layout::{Chunk, Entries, Entry, entries_in, table_len};
 use px_tree::{Dir, Meaning, Strips, Thumb, needs_place};
 
-// Appends the chunk of an entry's value, where the value has a place of its own.
+// Appends the chunk of an entry's value if it has one.
 #[tactic(auto, unfolding(px_layout::specs::Chunks::placed_chunk))]
 fn push_value(
     memory: &mut Memory,
@@ -51,7 +51,7 @@ fn push_values(
     Ok(())
 }
 
-// A directory's table, and its placed values.
+// Appends a directory's table and the values that have chunks.
 fn push_entries(
     memory: &mut Memory,
     out: &mut Vec<(Chunk, u64)>,
@@ -145,7 +145,7 @@ fn push_thumb(
     push_optional_strips(memory, out, &thumb.strips)
 }
 
-// All chunks, in the order of the normal form.
+// Appends all chunks, in the order of the normal form.
 fn push_all(memory: &mut Memory, out: &mut Vec<(Chunk, u64)>, m: &Meaning) -> Result<(), Refused>
     requires { Fits (meaning_of m.now) }
     ensures chunks { OnOk result (out.new.items ≡ out.old.items ++ chunks (meaning_of m.now)) }
@@ -159,8 +159,7 @@ fn push_all(memory: &mut Memory, out: &mut Vec<(Chunk, u64)>, m: &Meaning) -> Re
     push_thumb(memory, out, &m.thumb)
 }
 
-/// The chunks of a meaning in the order of the normal form, each with its size in bytes. It takes
-/// memory for the list.
+/// The chunks of a meaning in the order of the normal form, each with its size in bytes. Allocates the list.
 pub(crate) fn chunk_sizes(memory: &mut Memory, m: &Meaning) -> Result<Vec<(Chunk, u64)>, Refused>
     requires { Fits (meaning_of m.now) }
     ensures chunks { IfOk result (λ v. v.items ≡ chunks (meaning_of m.now)) }

@@ -1,4 +1,4 @@
-// A block by a plan of the caller's.
+// A block by the caller's plan.
 ghost use Rattle.std.specs.Prelude.{◌≡◌, IfOk, replicate};
 ghost use Rattle.px_bytes.specs.Lacking.{Lacks, MayAsk};
 ghost use Rattle.px_tree.specs.Fits.{Fits};
@@ -14,11 +14,7 @@ use px_bytes::{Memory, Order, Refused};
 use px_tree::Meaning;
 use std::alloc::{AllocError, Global};
 
-/// The block that a legal plan lays out: the header, and each chunk at its offset, in either byte order, with the byte
-/// `filler` wherever no chunk stands. It has as many bytes as the plan says, and says the meaning. TIFF 6.0 section 2.
-///
-/// The meaning can be written (`fits`) and the plan is legal for it (`is_legal`); both are the caller's conditions. An error
-/// comes where a growth was refused: it takes memory for the block, and besides for one chunk at a time.
+/// Like `write_with_in`, with memory of its own.
 pub fn write_with(
     alloc: Global,
     m: &Meaning,
@@ -33,7 +29,11 @@ pub fn write_with(
     Ok(write_with_in(&mut Memory::new(alloc), m, plan, order, filler)?)
 }
 
-/// As `write_with`, with memory that tells whether a growth was refused: where the error came, and there alone.
+/// The block that a legal plan lays out: the header, and each chunk at its offset, in either byte order, with
+/// the byte `filler` in all gaps. It has the plan's length and the given meaning. TIFF 6.0 section 2.
+///
+/// The caller makes sure that the meaning can be written (`fits`) and that the plan is legal for it
+/// (`is_legal`). Allocates the block, and one chunk at a time. `Err`: an allocation failed.
 pub fn write_with_in(
     memory: &mut Memory,
     m: &Meaning,

@@ -1,4 +1,4 @@
--- What reading a laid block answers, from what reading any block does.
+-- The result of reading a block that was laid out, from that of reading any block.
 use Rattle.std.proofs.Common.{◌≡◌, ◌+◌, ℕ, List, Result, Ok, Err, IfOk, IfErr, subst, sym}
 use Rattle.px_bytes.specs.declared.Order.{Order}
 use Rattle.px_bytes.specs.declared.Refusal.{Refusal}

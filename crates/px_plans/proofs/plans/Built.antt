@@ -74,7 +74,7 @@ module _ (f : ℕ) (x : ℕ) (b : List ℕ) (ys : List (ℕ × List ℕ)) where
     one_over = same_lists (made n f ((x, b) ∷ ys)) new (length-laid (byte_at f ((x, b) ∷ ys)) n ∙ sym length_new)
         (λ k d l. each k d (let e = length-laid (byte_at f ((x, b) ∷ ys)) n in omega arith))
 
--- bytes that took the place of others are a piece that was put over
+-- bytes that replaced others are a piece that was written over them
 pub puts_one : (old : List ℕ) (x : ℕ) (b : List ℕ) → x + length b ≤ length old
     → PutsOver old (take x old ++ (b ++ drop (x + length b) old)) ((x, b) ∷ [])
 puts_one old x b l f ys e =
@@ -114,6 +114,6 @@ drop_get xs j k x e q = drop_more xs j x (slice_get_within xs j x q) ∙ ap₂ (
 pub drop_end : {X : Type 0} (xs : List X) (n : ℕ) → n ≡ length xs → drop n xs ≡ []
 drop_end xs n e = ap (λ k. drop k xs) e ∙ drop_all (length xs) xs (omega arith)
 
--- what stands in the place of a whole list
+-- the bytes that replace a whole list
 pub put_whole : (n : ℕ) (xs ys zs : List ℕ) → n ≡ length xs → xs ≡ zs → take n (xs ++ ys) ≡ zs
 put_whole n xs ys zs l e = take-append-le n xs ys (omega arith) ∙ take_all n xs (omega arith) ∙ e

@@ -1,4 +1,4 @@
--- One more chunk, and how many there are.
+-- One more chunk, and the number of chunks.
 use Rattle.std.proofs.Common.{◌≡◌, ℕ, suc, ◌+◌, ◌≤◌, inl, inr, true, false, Option, Some, None, List, [], ◌∷◌, length, refl, sym, ◌∙◌, ap}
 use Rattle.std.proofs.Common.{subst, arith, ◌||◌}
 use Rattle.std.proofs.Math.Path.{fun_ext}
@@ -61,7 +61,7 @@ module _ (k : Chunk) where
     | inr e ↦ let q = ap (λ xs. length xs) (stays c cs e) in let s = no_more cs in omega arith
   ]
 
-  -- where k is among chunks, the others are fewer
+  -- if k is among the chunks, the others are fewer
   fewer : (cs : List Chunk) → list_any (same_chunk k) cs ≡ true → length (without cs) + 1 ≤ length cs
   fewer [] h = cc
   fewer (c ∷ cs) h = elim (cases_Bool (same_chunk k c)) [
@@ -125,7 +125,7 @@ count_more n f g k x is none more = record {
         false_from_ne_true (same_chunk k c) (λ e. both_ways false refl (subst (λ (o : Option ℕ). IsSome o)
         (ap f (sym (same_chunk-true k c e)) ∙ none) p))
 
--- one more, where there was room for it
+-- one more, if the number can grow
 pub count_put : {A E : Type 0} (r : Result A E) (n m : ℕ) (f g : Chunk → Option ℕ) (k : Chunk) (x : ℕ) → IsCount n f → f k ≡ None
     → OnOk r ((c : Chunk) → g c ≡ (if same_chunk k c then Some x else f c)) →
     OnErr r ((c : Chunk) → g c ≡ f c) → OnOk r (m ≡ n + 1) → OnErr r (m ≡ n) → IsCount m g

@@ -1,4 +1,4 @@
--- Chunks that are held one after the other, and how far that tells whether all stand.
+-- Chunks that are claimed one after the other, and whether all are legal.
 use Rattle.std.proofs.Common.{◌≡◌, ℕ, suc, ◌+◌, ◌<◌, ◌≤◌, Bool, true, false, ◌&&◌, nat_le, Some, None, List, ◌∷◌, drop, length, get_or}
 use Rattle.std.proofs.Common.{sym, ◌∙◌, ap, ap₂, subst, arith, drop-cons, le-leb}
 use Rattle.std.specs.Prelude.{is_some, unwrap_or, IfOk, Result, Ok, Err}
@@ -10,11 +10,11 @@ use Rattle.px_layout.specs.Plans.{Plan, place}
 use Rattle.px_plans.specs.calls.Judging.{stands, all_stand}
 
 module _ (plan : Plan) where
-  -- some ranges are held, and the chunks xs stand beside them exactly if b
+  -- some ranges are claimed, and the chunks xs are legal with them exactly if b
   abbrev pub Left : List (Chunk × ℕ) → List (ℕ × ℕ) → Bool → Type 0
   Left xs held b = (now : List Range) × Agrees now held × (all_stand plan now xs ≡ b)
 
-  -- what one call tells: whether the chunk stands, and what is held where it does
+  -- the result of one call: whether the chunk is legal, and what is claimed then
   abbrev pub Holds : Bool → Chunk × ℕ → List Range → List (ℕ × ℕ) → Type 0
   Holds b c taken new = (b ≡ stands plan taken c) × (b ≡ true → Agrees (range (place plan c.0) c.1 ∷ taken) new)
 
@@ -52,7 +52,7 @@ module _ (plan : Plan) where
   here cs i c d l e = let k : suc i ≡ i + 1 = omega arith in
       drop-cons cs i d l ∙ ap₂ (λ y ys. y ∷ ys) (sym e) (ap (λ j. drop j cs) k)
 
-  -- the next chunk stands, and is held
+  -- the next chunk is legal, and claimed
   pub more : (cs : List (Chunk × ℕ)) (i : ℕ) (c d : Chunk × ℕ) (old new : List (ℕ × ℕ)) (b free : Bool) → i < length cs → c ≡ get_or cs i d
       → free ≡ true → ((taken : List Range) → Agrees taken old → Holds free c taken new) → Left (drop i cs) old b
       → Left (drop (i + 1) cs) new b
@@ -64,7 +64,7 @@ module _ (plan : Plan) where
             ∙ sym (ap (all_stand plan w.0) (here cs i c d l e)) ∙ w.2,
       )
 
-  -- the next chunk doesn't stand
+  -- the next chunk isn't legal
   pub stop : (cs : List (Chunk × ℕ)) (i : ℕ) (c d : Chunk × ℕ) (old new : List (ℕ × ℕ)) (b free : Bool) → i < length cs → c ≡ get_or cs i d
       → free ≡ false → ((taken : List Range) → Agrees taken old → Holds free c taken new) → Left (drop i cs) old b → false ≡ b
   stop cs i c d old new b free l e t f w =

@@ -1,4 +1,4 @@
--- Chunks placed one behind the other.
+-- Chunks placed one after the other.
 use Rattle.std.proofs.Common.{◌≡◌, ℕ, zero, suc, ◌+◌, ◌<◌, ◌≤◌, inl, inr, Bool, true, false, Option, Some, None, Err, List, [], ◌∷◌, ◌++◌}
 use Rattle.std.proofs.Common.{length, take, get_or, refl, sym, ◌∙◌, ap, ap₂, subst, arith}
 use Rattle.std.proofs.Math.Path.{fun_ext}
@@ -50,7 +50,7 @@ running_more y (b ∷ cs) c d = elim (cases_Bool (same_chunk b.0 d)) [
       (cond-false (same_chunk b.0 d) (Some y) (running (y + even b.1) cs d) e)) (omega arith)
 ]
 
--- what placing does, whether the chunk was there or not
+-- the effect of placing a chunk, whether it was placed already or not
 effect : (old new : Plan) (c : Chunk) (x : ℕ) (placed : Bool) → (placed ≡ true → old.offset c ≡ None)
     → (placed ≡ false → IsSome (old.offset c)) → new ≡ (if placed then with_chunk old c x else old)
     → (d : Chunk) → new.offset d ≡ or_else (old.offset d) (if same_chunk c d then Some x else None)
@@ -98,7 +98,7 @@ planned m f p q end h e =
     make : ℕ → (Chunk → Option ℕ) → Plan
     make n o = record { length = n; offset = o }
 
--- where the chunk at i doesn't fit any more, they are too long
+-- if the chunk at i doesn't fit any more, they are too long
 pub stopped : (e : WriteRefusal) (old new : Plan) (x i : ℕ) (cs : List (Chunk × ℕ)) (c d : Chunk × ℕ) → Placed old x (take i cs)
     → i < length cs → c ≡ get_or cs i d → AnswersNext (Err e) old new x c → AnswersAll (Err e) new cs
 stopped NormalTooLong old new x i cs c d p l q h =
@@ -117,7 +117,7 @@ refused m f NormalTooLong plan cs s h =
 refused m f OutOfMemory plan cs s h = tt
 refused m f WriteFailed plan cs s h = h
 
--- what a refusal tells of memory, where none was refused before
+-- the failed allocations of a refusal, if none failed before
 pub write_lacks : (X Y : Type 0) (e : WriteRefusal) (a b c : ℕ) → b ≡ a → LacksWriteBy {X = X} (Err e) b c
     → LacksWriteBy {X = Y} (Err e) a c
 write_lacks X Y NormalTooLong a b c e h = h ∙ e

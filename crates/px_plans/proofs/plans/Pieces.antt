@@ -58,7 +58,7 @@ module _ (l : Layout) where
       → place P (Strip j) + length x ≤ n
   strip_inside n j s x q h = strip_from n 0 j j s x (omega arith) q h
 
-  -- ---- placed values
+  -- ---- values that have an offset
 
   module _ (d : Dir) where
     cut : (y : Option (Chunk × List ℕ)) (ys : List (Chunk × List ℕ))
@@ -239,7 +239,7 @@ parts_over l a b c t n p q =
     (puts_more a b c _ _ n p q)
 
 module _ (l : Layout) (a b : List ℕ) where
-  -- one placed value
+  -- one such value
   module _ (d : Dir) (x : ℕ × Item) (big : 4 < item_size x.1) (at : ℕ) (y : List ℕ) (here : at ≡ place (said_plan l) (Placed d x.0))
       (is : y ≡ item_bytes (said_plan l) l.order l.filler x.1) where
     pub value_over : PutsOver a b ((at, y) ∷ []) → PutsOver a b (value_pieces l d (x ∷ []))
@@ -258,12 +258,12 @@ module _ (l : Layout) (a b : List ℕ) where
   unfolding thumb_contents
   no_thumb t e = subst (λ t. PutsOver a a (at_places l (thumb_contents t))) (sym e) (puts_none a)
 
--- what holds where a call answered Ok
+-- a property of a successful call
 pub on_ok : {A E : Type 0} (r : Result A E) (P Q : Type 0) → (P → Q) → OnOk r P → OnOk r Q
 on_ok (Ok x) P Q f p = f p
 on_ok (Err e) P Q f p = p
 
--- a directory's table, put over its placed values
+-- a directory's table, written over its values
 pub entries_over : (l : Layout) (d : Dir) (xs : List (ℕ × Item)) (a b c : List ℕ) → length b ≡ length a
     → PutsOver a b (value_pieces l d xs) → PutsOver b c ((place (said_plan l) (Table d), table_in l d xs) ∷ [])
     → PutsOver a c ((place (said_plan l) (Table d), table_in l d xs) ∷ value_pieces l d xs)

@@ -1,4 +1,4 @@
--- The tests chunk by chunk, and what makes a plan legal.
+-- The tests, chunk by chunk, and the conditions of a legal plan.
 use Rattle.std.proofs.Common.{◌≡◌, ℕ, zero, suc, ◌+◌, ◌<◌, ◌≤◌, inl, inr, Bool, true, false, not, ◌&&◌, ◌||◌, nat_le, List, [], ◌∷◌, map}
 use Rattle.std.proofs.Common.{length, get_or, refl, sym, ◌∙◌, ap, subst, arith, le-leb}
 use Rattle.std.specs.Prelude.{IsSome, is_some, Contains, ◌↔◌, IsTrue, IfOk, Result, Ok, Err}
@@ -138,7 +138,7 @@ module _ (m : Meaning) (f : Fits m) (plan : Plan) (n : ℕ) (count : IsCount n p
   distinct_all : IsDistinct same_chunk all
   distinct_all = distinct (chunks m) (chunks_rise m f)
 
-  -- a chunk that has an offset is among so many that have one
+  -- a chunk that has an offset is one of those
   pub judged : 8 ≤ plan.length → plan.length ≤ limit → n ≡ length (chunks m) → all_stand plan (range 0 8 ∷ []) (chunks m) ≡ true
       → Legal m plan
   unfolding plan_ranges

@@ -1,4 +1,4 @@
--- A block that is built piece by piece: each piece that is put over it stands before those that it was made of.
+-- A block that is built piece by piece: a new piece comes first in the list, so it overwrites the others.
 use Rattle.std.specs.Prelude.{◌≡◌, ℕ, ◌+◌, ◌≤◌, ◌<◌, ◌^◌, ⊤, List, ◌++◌, length, map, filter_map}
 use Rattle.std.specs.List.{AllByRecursion, range_with_len}
 use Rattle.px_tree.specs.declared.Dir.{Dir}
@@ -21,7 +21,7 @@ made n filler xs = map (byte_at filler xs) (range_with_len 0 n)
 abbrev pub AreInside : ℕ → List (ℕ × List ℕ) → Type 0
 AreInside n xs = AllByRecursion (λ y. y.0 + length y.1 ≤ n) xs
 
--- the pieces were put over what the block was made of
+-- the pieces were written over those of the block
 abbrev pub PutsOver : List ℕ → List ℕ → List (ℕ × List ℕ) → Type 0
 PutsOver old new xs = (filler : ℕ) (ys : List (ℕ × List ℕ)) → old ≡ made (length old) filler ys → new ≡ made (length old) filler (xs ++ ys)
 
@@ -37,18 +37,18 @@ IsPiece Header = ⊤
 IsPiece (Table d xs) = length xs.now < 2 ^ 16
 IsPiece (Value x) = IsCounted (item_of x)
 
--- chunks, each at its place
+-- chunks with their offsets
 abbrev pub at_places : Layout → List (Chunk × List ℕ) → List (ℕ × List ℕ)
 at_places l cs = map (λ c. (place (said_plan l) c.0, c.1)) cs
 
--- the placed values of entries
+-- the values of entries that have an offset
 abbrev pub value_pieces : Layout → Dir → List (ℕ × Item) → List (ℕ × List ℕ)
 value_pieces l d xs = at_places l (filter_map (placed_content (said_plan l) l.order l.filler d) xs)
 
--- the chunks of a directory, where it is there
+-- the chunks of a directory, if the meaning has it
 abbrev pub contents_in : Layout → Dir → List (Chunk × List ℕ)
 contents_in l d = contents_of_dir (said_plan l) l.order l.filler (said_meaning l) d (items (said_meaning l) d)
 
--- a directory's table and its placed values
+-- a directory's table and its values that have an offset
 abbrev pub dir_pieces : Layout → Meaning → Dir → List (ℕ × List ℕ)
 dir_pieces l m d = at_places l (contents_of_dir (said_plan l) l.order l.filler m d (items m d))

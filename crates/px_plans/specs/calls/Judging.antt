@@ -1,11 +1,11 @@
--- Whether the chunks of a plan stand where they may, chunk by chunk.
+-- Whether the chunks of a plan have legal offsets, chunk by chunk.
 use Rattle.std.specs.Prelude.{ℕ, ◌+◌, nat_le, Bool, true, ◌&&◌, is_some, List, [], ◌∷◌}
 use Rattle.px_bytes.specs.Range.{Range, range, is_free}
 use Rattle.px_layout.specs.declared.chunks.Chunk.{Chunk}
 use Rattle.px_layout.specs.Plans.{Plan, place}
 
 module _ (plan : Plan) where
-  -- the chunk is placed, within the plan's length, and apart from what is taken
+  -- the chunk has an offset, is inside the plan's length, and shares no byte with the list
   abbrev pub stands : List Range → Chunk × ℕ → Bool
   stands taken c = is_some (plan.offset c.0) && nat_le (place plan c.0 + c.1) plan.length && is_free taken (range (place plan c.0) c.1)
 

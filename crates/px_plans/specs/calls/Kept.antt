@@ -1,4 +1,4 @@
--- How a plan keeps its offsets, and what it says by them.
+-- The program's representation of a plan's offsets, and its meaning.
 use Rattle.std.specs.Prelude.{ℕ, ◌+◌, nat_lt, if◌then◌else◌, Option, is_some, length, slice_get}
 use Rattle.std.specs.Ordering.{nat_cmp}
 use Rattle.std.specs.BTreeMap.{get, btree_map_len}

@@ -1,4 +1,4 @@
--- What a layout says, and the bytes that it lays out.
+-- The meaning of a layout, and the bytes that it lays out.
 use Rattle.std.specs.Prelude.{ℕ, List}
 use Rattle.px_tree.specs.declared.Dir.{Dir}
 use Rattle.px_tree.specs.Tree.{Meaning}

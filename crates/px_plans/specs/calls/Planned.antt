@@ -1,4 +1,4 @@
--- What a plan of the program says, and what placing a chunk does to a plan.
+-- The plan that contracts see of the program's plan, and the effect of placing a chunk.
 use Rattle.std.specs.Prelude.{ℕ, if◌then◌else◌, Some, None}
 use Rattle.px_layout.specs.declared.chunks.Chunk.{Chunk}
 use Rattle.px_plans.specs.declared.plan.Plan.{Plan}
@@ -9,7 +9,7 @@ use Rattle.px_plans.specs.calls.Kept.{offset_in}
 unfoldable pub plan_of : Plan → said.Plan
 plan_of p = record { length = p.len; offset = offset_in p.offsets }
 
--- no chunk is placed
+-- no chunk has an offset
 abbrev pub bare : ℕ → said.Plan
 bare n = record { length = n; offset = λ c. None }
 

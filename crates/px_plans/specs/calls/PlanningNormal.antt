@@ -1,4 +1,4 @@
--- What planning the normal form answers.
+-- The result of planning the normal form.
 use Rattle.std.specs.Prelude.{◌≡◌, ℕ, ◌+◌, ◌<◌, ◌≤◌, List, [], ◌∷◌, ◌++◌, length, Result, Ok, Err}
 use Rattle.px_bytes.specs.declared.WriteRefusal.{WriteRefusal}
 use Rattle.px_bytes.specs.declared.WriteRefusal.TheVariants.{NormalTooLong, OutOfMemory, WriteFailed}
@@ -10,7 +10,7 @@ use Rattle.px_layout.specs.Plans.{Plan, Legal}
 use Rattle.px_layout.specs.Normal.{even, running, padded_size, normal_plan, normal_exif}
 use Rattle.px_plans.specs.calls.Planned.{plan_of}
 
--- the plan of the normal form, which is legal; or the form is too long; or a growth was refused
+-- the plan of the normal form, which is legal; or the form is too long; or an allocation failed
 abbrev pub AnswersPlan : Result held.Plan WriteRefusal → Meaning → Type 0
 AnswersPlan (Ok plan) m = (plan_of plan ≡ normal_plan m) × (length (normal_exif m) ≤ limit) × Legal m (plan_of plan)
 AnswersPlan (Err NormalTooLong) m = limit < length (normal_exif m)
@@ -19,20 +19,20 @@ AnswersPlan (Err WriteFailed) m = ⊥
 
 -- ---- on the way
 
--- the chunks stand one behind the other from the header on, and end at x
+-- the chunks follow one another from the header on, and end at x
 pub record Placed (plan : Plan) (x : ℕ) (cs : List (Chunk × ℕ)) : Type 0 where
   pub ends : x ≡ 8 + padded_size cs
   pub most : x ≤ limit
   pub each : (c : Chunk) → plan.offset c ≡ running 8 cs c
 
--- one more chunk stands at x
+-- one more chunk is at x
 abbrev pub AnswersNext : Result ℕ WriteRefusal → Plan → Plan → ℕ → Chunk × ℕ → Type 0
 AnswersNext (Ok end) old new x c = (cs : List (Chunk × ℕ)) → Placed old x cs → Placed new end (cs ++ c ∷ [])
 AnswersNext (Err NormalTooLong) old new x c = limit < x + even c.1
 AnswersNext (Err OutOfMemory) old new x c = Unit {0}
 AnswersNext (Err WriteFailed) old new x c = ⊥
 
--- all chunks stand there, or they are too long
+-- all chunks have their offsets, or they are too long
 abbrev pub AnswersAll : Result ℕ WriteRefusal → Plan → List (Chunk × ℕ) → Type 0
 AnswersAll (Ok end) plan cs = Placed plan end cs
 AnswersAll (Err NormalTooLong) plan cs = limit < 8 + padded_size cs

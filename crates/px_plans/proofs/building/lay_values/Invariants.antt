@@ -2,7 +2,7 @@ use Rattle.std.proofs.Common.{◌≡◌, drop}
 use Rattle.px_plans.specs.calls.Building.{PutsOver, value_pieces}
 use Rattle.px_plans.proofs.building.lay_values.Given as goal
 
--- the values of the entries from i on stand in the block, and no growth was refused
+-- the values of the entries from i on are in the block, and no allocation failed
 abbrev pub invariant-loop-i : goal.invariant-loop-i
 invariant-loop-i l = record {
   bytes : PutsOver l.initial.block l.block (value_pieces l.layout l.dir (drop l.i l.entries));

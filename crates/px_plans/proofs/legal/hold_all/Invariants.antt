@@ -4,7 +4,7 @@ use Rattle.px_plans.specs.calls.Planned.{plan_of}
 use Rattle.px_plans.specs.calls.Judging.{all_stand}
 use Rattle.px_plans.proofs.legal.hold_all.Given as goal
 
--- the chunks left stand where they may exactly if all do, and no growth was refused
+-- the chunks left are legal exactly if all are, and no allocation failed
 abbrev pub invariant-loop-i : goal.invariant-loop-i
 invariant-loop-i l = record {
   left : (taken : List Range) → Agrees taken l.initial.held → (now : List Range) × Agrees now l.held ×

@@ -3,7 +3,7 @@ use Rattle.px_plans.specs.calls.Planned.{plan_of}
 use Rattle.px_plans.specs.calls.PlanningNormal.{Placed}
 use Rattle.px_plans.proofs.normal.place_all.Given as goal
 
--- the chunks so far stand one behind the other, and no growth was refused
+-- the chunks so far follow one another, and no allocation failed
 abbrev pub invariant-loop-i : goal.invariant-loop-i
 invariant-loop-i l = record {
   placed : Placed (plan_of l.plan) l.at (take l.i l.chunks);

@@ -7,7 +7,7 @@ use Rattle.px_plans.specs.calls.Layouts.{said_plan}
 use Rattle.px_layout.specs.Plans.{place}
 use Rattle.px_plans.proofs.put_item.put_strip_offsets.Given as goal
 
--- the offsets so far were put, and no call failed
+-- the offsets so far were added, and no call failed
 abbrev pub invariant-loop-i : goal.invariant-loop-i
 invariant-loop-i g l = record {
   put : HasPut g.W.Sink.bytes_taken l.initial.writer l.writer l.initial.pending l.pending

@@ -4,7 +4,7 @@ use Rattle.px_layout.specs.Laid.{entry_bytes}
 use Rattle.px_plans.specs.calls.Layouts.{said_plan}
 use Rattle.px_plans.proofs.put_table.put_entries.Given as goal
 
--- the entries so far were put, and no call failed
+-- the entries so far were added, and no call failed
 abbrev pub invariant-loop-i : goal.invariant-loop-i
 invariant-loop-i g l = record {
   put : HasPut g.W.Sink.bytes_taken l.initial.writer l.writer l.initial.pending l.pending
