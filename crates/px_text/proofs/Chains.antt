@@ -1,4 +1,4 @@
--- Parts put one behind another, by calls that may fail.
+-- Parts added one after another, by calls that may fail.
 use Rattle.std.proofs.Common.{◌≡◌, ◌≤◌, ◌+◌, ◌++◌, ◌∙◌, ℕ, List, [], ◌∷◌, length, take, Option, Result, sym, ap, subst, append_assoc}
 use Rattle.std.proofs.Common.{append-nil}
 use Rattle.std.specs.List.{flat_map}
@@ -29,7 +29,7 @@ prefix_as a b h xs ys e p = subst (λ (z : List ℕ). AppendsPrefix a b (h ++ z)
 pub owes_as : (a b : Option (List ℕ)) (h k xs ys : List ℕ) → xs ≡ ys → Owes a b k (h ++ xs) → Owes a b k (h ++ ys)
 owes_as a b h k xs ys e p = subst (λ (z : List ℕ). Owes a b k (h ++ z)) e p
 
--- ---- the count of failures, where none was counted so far
+-- ---- the count of failures, if none was counted so far
 
 pub can_fail : (old now : ℕ) → now ≡ old → CanFail old → CanFail now
 can_fail old now e h = subst CanFail (sym e) h
@@ -66,7 +66,7 @@ walk_done {X} f xs out all none e = sym (append-nil out) ∙ ap (λ (ys : List X
 pub none_yet : (a : Option (List ℕ)) (h xs : List ℕ) → xs ≡ [] → Owes a a h (h ++ xs)
 none_yet a h xs e = ([], Appends-nil a, sym (ap (λ (z : List ℕ). h ++ z) e ∙ append-nil h))
 
--- all was put, once as many elements were as there are
+-- all was added, once every element was
 pub all_put : {X : Type 0} (f : X → List ℕ) (xs : List X) (i : ℕ) → length xs ≤ i → (a b : Option (List ℕ)) (h k : List ℕ)
     → Owes a b k (h ++ flat_map f (take i xs)) → Owes a b k (h ++ flat_map f xs)
 all_put {X} f xs i most a b h k p = subst (λ (ys : List X). Owes a b k (h ++ flat_map f ys)) (take_all i xs most) p

@@ -40,7 +40,7 @@ piece_behind xs i e le =
     let cut : take e xs ≡ take i xs ++ take (e - i) (drop i xs) = ap (λ n. take n xs) end ∙ take-add i (e - i) xs in
     sym (ap encode_lower cut ∙ encode_append lower_digits (take i xs) (take (e - i) (drop i xs)))
 
--- all that stands behind the first e bytes
+-- all bytes after the first e
 rest_behind : (xs : List ℕ) (e : ℕ) → encode_lower (take e xs) ++ encode_lower (drop e xs) ≡ encode_lower xs
 rest_behind xs e = sym (encode_append lower_digits (take e xs) (drop e xs)) ∙ ap encode_lower (take-append-drop e xs)
 
@@ -76,7 +76,7 @@ module _ {X A : Type 0} (xs : List X) (i : ℕ) (x : X) (read : slice_get xs i �
       ap (flat_map f) (one_more xs i x read) ∙ sym (flat_map_more f [] (take i xs) x) in
       h ∙ ap (λ (l : List A). l ++ f x) e ∙ append_assoc old (flat_map f (take i xs)) (f x) ∙ ap (λ (l : List A). old ++ l) (sym more)
 
-  -- what it gives, if anything, follows what those before it gave
+  -- its output, if any, follows that of the elements before
   pub given_more : (f : X → Option A) (old now new : List A) → now ≡ old ++ filter_map f (take i xs) → new ≡ now ++ filter_map f (x ∷ [])
       → new ≡ old ++ filter_map f (take (i + 1) xs)
   given_more f old now new e h =
@@ -85,7 +85,7 @@ module _ {X A : Type 0} (xs : List X) (i : ℕ) (x : X) (read : slice_get xs i �
       h ∙ ap (λ (l : List A). l ++ filter_map f (x ∷ [])) e ∙ append_assoc old (filter_map f (take i xs)) (filter_map f (x ∷ []))
       ∙ ap (λ (l : List A). old ++ l) (sym more)
 
--- what stands in front of a field's elements: the tag, the type between two spaces, and the count
+-- the text before a field's elements: the tag, the type between two spaces, and the count
 pub head_whole : (tag word n : List ℕ) → tag ++ (codes " " ++ word ++ codes " ") ++ (n ++ codes ":") ≡ tag ++ codes " " ++ word ++ codes " "
     ++ n ++ codes ":"
 head_whole tag word n =
@@ -95,7 +95,7 @@ head_whole tag word n =
     ∙ ap (λ (l : List ℕ). l ++ codes " ") (sym (append_assoc tag (codes " ") word)) in
     sym (append_assoc (tag ++ middle) n (codes ":")) ∙ ap (λ (l : List ℕ). l ++ n ++ codes ":") apart
 
--- ---- how many DataSets there are
+-- ---- the number of DataSets
 
 -- the DataSets of the next group
 pub count_next : (i left : Record) (g : Group) → i ≡ g ∷ left → (n count all : ℕ) → count + dataset_count i ≡ all → n ≡ length g.items

@@ -23,7 +23,7 @@ pub shown_some : (bs : List ℕ) (t : Bool) → t ≡ (length bs == 0) → t ≡
 shown_some [] t e f = let clash : true ≡ false = sym e ∙ f in absurd (cc)
 shown_some (b ∷ bs) t e f = refl
 
--- a byte that doesn't stand for itself
+-- a byte that isn't plain
 pub escaped_other : (b : ℕ) (t : Bool) → t ≡ is_plain b → t ≡ false → codes "\\" ++ encode_lower (b ∷ []) ≡ escaped_byte b
 escaped_other b t e f = sym (ap (λ (u : Bool). if u then b ∷ [] else codes "\\" ++ encode_lower (b ∷ [])) (sym e ∙ f))
 
@@ -45,7 +45,7 @@ pub shown_as_bytes : (k : Kind) (es : List Element) (bs : List ℕ) → is_bytes
     → shown_elements k es ≡ shown_bytes bs
 shown_as_bytes k es bs h e = ap (shown_elements k) e ∙ byte_elements k bs h
 
--- each other value: every element behind one space
+-- any other value: a space before every element
 pub shown_apart : (k : Kind) (es : List Element) → is_bytes k ≡ false → shown_elements k es ≡ flat_map (λ e. codes " " ++ element_text e) es
 shown_apart k [] h = refl
 shown_apart k (e ∷ es) h =

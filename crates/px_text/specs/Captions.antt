@@ -1,4 +1,4 @@
--- What `captions` prints: the labelled texts of an Exif block's main directory, and those of a record.
+-- The output of `captions`: the labelled texts of an Exif block's main directory, and those of a record.
 use Rattle.std.specs.Prelude.{ℕ, Bool, true, false, not, nat_le, ◌==◌, ◌&&◌, if◌then◌else◌, List, [], ◌∷◌, ◌++◌, codes, flat_map}
 use Rattle.std.specs.Prelude.{filter_map, Option, Some, None, option_map, bytes_eq}
 use Rattle.hex.specs.Hex.{encode_lower}
@@ -37,7 +37,7 @@ label_of n =
     else if n == 103 then Some Inventory
     else None
 
--- a DataSet with its label, where it has one
+-- a DataSet with its label, if it has one
 abbrev pub labelled : ℕ × List ℕ → Option Labelled
 labelled x = option_map (λ l. (l, x.1)) (label_of x.0)
 
@@ -71,7 +71,7 @@ is_text (Of Ascii) = true
 is_text (Of Utf8) = true
 is_text _ = false
 
--- a field's bytes, where it is there and is a text
+-- a field's bytes, if the directory has the field and it is a text
 abbrev pub text_captions : Label → Option Value → List Labelled
 text_captions l None = []
 text_captions l (Some v) = if is_text v.kind then (l, spelled Most v) ∷ [] else []
@@ -81,7 +81,7 @@ unfoldable pub exif_captions : Fields → List Labelled
 exif_captions fs =
     text_captions Description (at_tag 0x010E fs) ++ text_captions Artist (at_tag 0x013B fs) ++ text_captions Copyright (at_tag 0x8298 fs)
 
--- ---- all: whether UTF-8 is declared, and the captions, of what an Exif block means and of a record
+-- ---- all: whether UTF-8 is declared, and the captions, of an Exif block and of a record
 
 abbrev pub record_declares : Option Record → Bool
 record_declares None = false
@@ -99,7 +99,7 @@ captions_of_iim i = (declares_utf8 i, iim_captions i)
 
 -- ---- their text
 
--- a byte from 20 to 7E but 5C stands for itself; each other one is a backslash and two hexadecimal digits
+-- a byte from 20 to 7E except 5C is printed as it is; any other is a backslash and two hexadecimal digits
 abbrev pub is_plain : ℕ → Bool
 is_plain b = nat_le 0x20 b && nat_le b 0x7E && not (b == 0x5C)
 

@@ -1,4 +1,4 @@
--- What `show` prints: the fields of each directory, the bytes of the thumbnail, and the DataSets of a record.
+-- The output of `show`: the fields of each directory, the bytes of the thumbnail, and the DataSets of a record.
 use Rattle.std.specs.Prelude.{ℕ, List, [], ◌∷◌, ◌++◌, length, codes, decimal, flat_map, if◌then◌else◌, Option, Some, None}
 use Rattle.std.specs.Fmt.{signed_decimal}
 use Rattle.std.specs.List.{join_by}
@@ -17,7 +17,7 @@ use Rattle.px_text.specs.Words.{sized_bytes}
 
 -- ---- fields
 
--- the name of a type. TIFF 6.0 section 2, "Types"; WHOLE where a tag takes SHORT and LONG as the same.
+-- the name of a type. TIFF 6.0 section 2, "Types"; WHOLE for a tag that treats SHORT and LONG as the same.
 abbrev pub type_word : Kind → List ℕ
 type_word (Of form.Byte) = codes "BYTE"
 type_word (Of form.Ascii) = codes "ASCII"
@@ -46,11 +46,11 @@ element_text (element.SRational y z) = signed_decimal y ++ codes "/" ++ signed_d
 element_text (element.Float n) = encode_lower (spelling Most 4 n)
 element_text (element.Double n) = encode_lower (spelling Most 8 n)
 
--- what stands between two elements: nothing between two bytes, else one space
+-- the text between two elements: nothing between two bytes, otherwise one space
 abbrev pub divider : Kind → List ℕ
 divider k = if is_bytes k then [] else codes " "
 
--- the elements behind one space; nothing where there are none
+-- one space and the elements, or nothing without an element
 abbrev pub shown_elements : Kind → List Element → List ℕ
 shown_elements k [] = []
 shown_elements k (e ∷ es) = codes " " ++ join_by element_text (divider k) (e ∷ es)
@@ -90,7 +90,7 @@ group_lines g = flat_map (dataset_line g.rec) g.items
 abbrev pub dataset_lines : Record → List ℕ
 dataset_lines i = flat_map group_lines i
 
--- how many DataSets there are
+-- the number of DataSets
 abbrev pub dataset_count : Record → ℕ
 dataset_count i = length (flat_map (λ g. g.items) i)
 
@@ -101,7 +101,7 @@ abbrev pub record_lines : Option Record → List ℕ
 record_lines None = []
 record_lines (Some i) = codes "record " ++ decimal (dataset_count i) ++ codes ":\n" ++ dataset_lines i
 
--- a directory without parts of its own, where it is there
+-- a directory that has only fields, if the meaning has it
 abbrev pub directory_lines : List ℕ → Option Fields → List ℕ
 directory_lines name None = []
 directory_lines name (Some fs) = name ++ field_lines fs
@@ -114,9 +114,9 @@ abbrev pub thumb_lines : Option Thumbnail → List ℕ
 thumb_lines None = []
 thumb_lines (Some t) = codes "[thumb]\n" ++ field_lines t.fields ++ jpeg_lines t.jpeg ++ strips_lines t.strips
 
--- ---- the whole text, of what an Exif block means and of a record
+-- ---- the whole text, of an Exif block and of a record
 
--- the directories main, Exif, Interoperability, GPS and thumbnail, as far as they are there
+-- the directories main, Exif, Interoperability, GPS and thumbnail, if the meaning has them
 unfoldable pub exif_listing : Meaning → List ℕ
 exif_listing m =
     codes "exif\n[main]\n" ++ field_lines m.main ++ record_lines m.iptc ++ exif_lines m.exif

@@ -8,15 +8,15 @@ use std::marker::Model;
 /// A labelled text of a file.
 #[derive(Clone, Copy, Debug)]
 pub struct Caption<'a> {
-    /// What it is.
+    /// Its kind.
     pub label: Label,
     /// Its bytes as they were read, perhaps none.
     pub text: &'a [u8],
 }
 
-/// The captions of what a file says, in the order in which `captions` prints them. Contracts see them as
-/// whether UTF-8 is declared, and the list of labels with their bytes. The bytes are borrowed from what
-/// was read. `captions_of` makes one.
+/// The captions of a file, in the order in which `captions` prints them. Contracts see whether UTF-8 is
+/// declared, and the list of labels with their bytes. The bytes are borrowed from those that were read.
+/// `captions_of` makes one.
 #[derive(Drop)]
 pub struct Captions<'a> {
     pub(crate) utf8: bool,
@@ -34,29 +34,29 @@ impl<'a> Model for Captions<'a> {
 }
 
 impl<'a> Captions<'a> {
-    /// Whether a record declares UTF-8: it has one DataSet 1:90, and its data are `1B 25 47`. False for an
-    /// Exif block without a record. Takes no memory.
+    /// Whether a record declares UTF-8: it has exactly one DataSet 1:90, with the data `1B 25 47`. False for
+    /// an Exif block without a record. It allocates nothing.
     pub fn utf8(&self) -> bool
         ensures { result ≡ self.now.0 }
     {
         self.utf8
     }
 
-    /// How many captions there are. Takes no memory.
+    /// The number of captions. It allocates nothing.
     pub fn len(&self) -> usize
         ensures { result ≡ length self.now.1 }
     {
         self.list.len()
     }
 
-    /// Whether there are none. Takes no memory.
+    /// Whether there are none. It allocates nothing.
     pub fn is_empty(&self) -> bool
         ensures { IsTrue result ↔ (self.now.1 ≡ []) }
     {
         self.list.is_empty()
     }
 
-    /// The caption at `i`, counted from 0; `i` is below `len`. Takes no memory.
+    /// The caption at index `i`, below `len`. It allocates nothing.
     pub fn at(&self, i: usize) -> Caption<'a>
         requires { i < length self.now.1 }
         ensures { slice_get self.now.1 i ≡ Some (caption_view result) }

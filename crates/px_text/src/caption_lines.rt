@@ -1,4 +1,4 @@
-// The lines of captions, escaped, made group by group.
+// The lines of captions, escaped, group by group.
 ghost use Rattle.std.specs.Prelude.{◌≡◌, [], ◌∷◌, map, filter_map};
 ghost use Rattle.px_bytes.specs.Devices.{CanFail, Counts};
 ghost use Rattle.px_bytes.specs.Waiting.{Puts};
@@ -17,7 +17,7 @@ use px_bytes::{Failed, Pending, Sink};
 use px_iim::{Iim, Item};
 use px_tree::{Fields, Meaning};
 
-// Whether a byte stands for itself.
+// Whether a byte is printed as it is.
 fn is_plain(byte: u8) -> bool
     ensures { result ≡ is_plain byte }
 {
@@ -36,7 +36,7 @@ fn put_byte<W: Sink>(pending: &mut Pending, writer: &mut W, byte: u8) -> Result<
     put_hex(pending, writer, &[byte])
 }
 
-// Puts bytes in which each that isn't a plain character is escaped.
+// Adds bytes to the output buffer and escapes all that are not plain.
 fn put_escaped<W: Sink>(pending: &mut Pending, writer: &mut W, bytes: &[u8]) -> Result<(), Failed>
     requires { CanFail (W.failed writer.old) }
     ensures bytes { Puts result (W.bytes_taken writer.old) (W.bytes_taken writer.new) pending.old pending.new (escaped bytes.now) }
@@ -60,7 +60,7 @@ fn put_line<W: Sink>(pending: &mut Pending, writer: &mut W, caption: Caption) ->
     pending.put(writer, b"\n")
 }
 
-// Puts the line of a DataSet, where it has a label.
+// Adds the line of a DataSet if it has a label.
 fn put_item<W: Sink>(pending: &mut Pending, writer: &mut W, item: &Item) -> Result<(), Failed>
     requires { CanFail (W.failed writer.old) }
     ensures bytes { Puts result (W.bytes_taken writer.old) (W.bytes_taken writer.new) pending.old pending.new
@@ -80,7 +80,7 @@ fn put_item<W: Sink>(pending: &mut Pending, writer: &mut W, item: &Item) -> Resu
     }
 }
 
-// Puts the lines of those DataSets of a group that have a label.
+// Adds the lines of a group's DataSets that have a label.
 fn put_group<W: Sink>(pending: &mut Pending, writer: &mut W, items: &[Item]) -> Result<(), Failed>
     requires { CanFail (W.failed writer.old) }
     ensures bytes { Puts result (W.bytes_taken writer.old) (W.bytes_taken writer.new) pending.old pending.new
@@ -93,7 +93,7 @@ fn put_group<W: Sink>(pending: &mut Pending, writer: &mut W, items: &[Item]) -> 
     Ok(())
 }
 
-// Puts the lines of a record's captions.
+// Adds the lines of a record's captions.
 fn put_groups<W: Sink>(pending: &mut Pending, writer: &mut W, iim: &Iim) -> Result<(), Failed>
     requires { CanFail (W.failed writer.old) }
     ensures bytes { Puts result (W.bytes_taken writer.old) (W.bytes_taken writer.new) pending.old pending.new
@@ -106,7 +106,7 @@ fn put_groups<W: Sink>(pending: &mut Pending, writer: &mut W, iim: &Iim) -> Resu
     Ok(())
 }
 
-// The line that says whether a record declares UTF-8.
+// The line that shows whether a record declares UTF-8.
 fn charset_line(declared: bool) -> &'static [u8]
     ensures { result.now ≡ charset_line declared }
 {
@@ -117,7 +117,7 @@ fn charset_line(declared: bool) -> &'static [u8]
     }
 }
 
-// Puts the lines of a record.
+// Adds the lines of a record.
 fn put_iim<W: Sink>(pending: &mut Pending, writer: &mut W, iim: &Iim) -> Result<(), Failed>
     requires { CanFail (W.failed writer.old) }
     ensures bytes { Puts result (W.bytes_taken writer.old) (W.bytes_taken writer.new) pending.old pending.new (iim_lines iim.now) }
@@ -127,7 +127,7 @@ fn put_iim<W: Sink>(pending: &mut Pending, writer: &mut W, iim: &Iim) -> Result<
     put_groups(pending, writer, iim)
 }
 
-// Puts the lines of the record in a main directory.
+// Adds the lines of the record in a main directory.
 fn put_record<W: Sink>(
     pending: &mut Pending,
     writer: &mut W,
@@ -143,7 +143,7 @@ fn put_record<W: Sink>(
     }
 }
 
-// Puts the line of the field at a tag, where it is a text.
+// Adds the line of the field with this tag if it is a text.
 fn put_text<W: Sink>(
     pending: &mut Pending,
     writer: &mut W,
@@ -165,7 +165,7 @@ fn put_text<W: Sink>(
     put_line(pending, writer, Caption { label, text })
 }
 
-// Puts the lines of a main directory.
+// Adds the lines of a main directory.
 fn put_exif<W: Sink>(pending: &mut Pending, writer: &mut W, fields: &Fields) -> Result<(), Failed>
     requires { CanFail (W.failed writer.old) }
     ensures bytes { Puts result (W.bytes_taken writer.old) (W.bytes_taken writer.new) pending.old pending.new
@@ -177,10 +177,10 @@ fn put_exif<W: Sink>(pending: &mut Pending, writer: &mut W, fields: &Fields) -> 
     put_text(pending, writer, fields, 0x8298, Label::Copyright)
 }
 
-/// Puts the captions of what an Exif block means behind the bytes that wait, one a line. A byte from 20 to 7E
-/// stands for itself, but the backslash; each other one is a backslash and two hexadecimal digits. It takes no
-/// memory, and ends at the first call that fails: the writer has then taken a prefix of those that waited and
-/// of the lines behind them.
+/// Adds the captions of an Exif block to the output buffer, one for each line. Bytes from 20 to 7E except the
+/// backslash are printed as they are; any other byte is a backslash and two hexadecimal digits. It allocates
+/// nothing. It ends at the first call that fails: the writer has then taken a prefix of the buffered bytes
+/// and of these lines after them.
 pub fn put_exif_captions<W: Sink>(
     pending: &mut Pending,
     writer: &mut W,
@@ -196,7 +196,7 @@ pub fn put_exif_captions<W: Sink>(
     put_record(pending, writer, &meaning.iptc)
 }
 
-/// Puts the captions of a record so.
+/// Adds the captions of a record, like `put_exif_captions`.
 pub fn put_iim_captions<W: Sink>(
     pending: &mut Pending,
     writer: &mut W,

@@ -23,7 +23,7 @@ pub(crate) const GROUPS: [u8; 9] = [5, 120, 105, 110, 115, 116, 80, 25, 103];
 // ESC % G.
 const UTF8: [u8; 3] = [0x1B, 0x25, 0x47];
 
-// Appends a DataSet, where it has a label.
+// Appends a DataSet if it has a label.
 fn push_item<'a>(
     memory: &mut Memory,
     item: Item<'a>,
@@ -47,7 +47,7 @@ fn push_item<'a>(
     }
 }
 
-// Appends those DataSets of a group that have a label.
+// Appends the DataSets of a group that have a label.
 fn push_group<'a>(
     memory: &mut Memory,
     items: &[Item<'a>],
@@ -79,14 +79,14 @@ fn push_record<'a>(
     Ok(())
 }
 
-// Whether the data designate UTF-8.
+// Whether the data of a DataSet 1:90 select UTF-8.
 fn is_utf8(octets: &[u8]) -> bool
     ensures { result ≡ bytes_eq octets.now utf8_designation }
 {
     octets == UTF8.as_slice()
 }
 
-// Whether a record declares UTF-8: by exactly one DataSet 1:90.
+// Whether a record declares UTF-8 by exactly one DataSet 1:90.
 #[tactic(auto, unfolding(crate::specs::Captions::declares_utf8))]
 pub(crate) fn declares_utf8(iim: &Iim) -> bool
     ensures { result ≡ declares_utf8 iim.now }
@@ -117,7 +117,7 @@ pub(crate) fn text_of<'a>(value: &Value<'a>) -> Option<&'a [u8]>
     value.bytes()
 }
 
-// Appends the field at a tag, where it is a text.
+// Appends the field with this tag if it is a text.
 fn push_text<'a>(
     memory: &mut Memory,
     fields: &Fields<'a>,
@@ -153,11 +153,10 @@ fn push_fields<'a>(
     push_text(memory, fields, 0x8298, Label::Copyright, list)
 }
 
-/// The captions of what an Exif block means: the fields ImageDescription, Artist and Copyright of its main
-/// directory, where they are of type ASCII or UTF-8, and then those of a record in it. The bytes are those
-/// that were read.
+/// The captions of an Exif block: the fields ImageDescription, Artist and Copyright of its main directory, if
+/// they are ASCII or UTF-8, and then those of a record in it. The bytes are those that were read.
 ///
-/// It takes memory for the list, and fails only where a growth of it was refused.
+/// Allocates the list. `Err`: an allocation failed.
 pub fn exif_captions_in<'a>(
     memory: &mut Memory,
     meaning: &Meaning<'a>,
@@ -179,8 +178,8 @@ pub fn exif_captions_in<'a>(
     }
 }
 
-/// The captions of a record: its labelled DataSets, group by group, each in list order. Else as
-/// `exif_captions_in`.
+/// The captions of a record: its labelled DataSets, group by group, each in list order. Allocates the list.
+/// `Err`: an allocation failed.
 pub fn iim_captions_in<'a>(memory: &mut Memory, iim: &Iim<'a>) -> Result<Captions<'a>, Refused>
     ensures memory { Lacks result memory.old memory.new }
     ensures captions { IfOk result (λ c. c ≡ captions_of_iim iim.now) }

@@ -1,4 +1,4 @@
-// The lines of DataSets: record number, number, length and data.
+// The lines of DataSets: record number, DataSet number, length and data.
 ghost use Rattle.std.specs.Prelude.{◌≡◌, map, length, flat_map};
 ghost use Rattle.px_bytes.specs.Devices.{CanFail, Counts};
 ghost use Rattle.px_bytes.specs.Waiting.{Puts};
@@ -43,7 +43,7 @@ fn put_group<W: Sink>(
     Ok(())
 }
 
-// Puts a line for each DataSet: the groups in ascending order, each list in its order.
+// Adds a line for each DataSet: the groups in ascending order, each list in its order.
 pub(crate) fn put_datasets<W: Sink>(
     pending: &mut Pending,
     writer: &mut W,
@@ -59,18 +59,18 @@ pub(crate) fn put_datasets<W: Sink>(
     Ok(())
 }
 
-// How many DataSets a group has.
+// The number of DataSets in a group.
 fn count_group(items: &[Item]) -> u64
     ensures { result ≡ length items.now }
 {
     items.len() as u64
 }
 
-// How many DataSets there are; the sum is wide, so that no number of groups and DataSets passes it.
+// The number of DataSets. The sum is a u128, so it can't overflow.
 pub(crate) fn count_datasets(iim: &Iim) -> u128
     ensures { result ≡ dataset_count iim.now }
 {
-    // A u32 counts the groups, and a u64 the DataSets of each.
+    // The number of groups is a u32, and that of each group's DataSets a u64.
     let _ = iim.groups();
     let mut count = 0;
     for (_, _, items) in iim.iter() {

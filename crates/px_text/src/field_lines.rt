@@ -35,7 +35,7 @@ fn form_word(form: Form) -> &'static [u8]
     }
 }
 
-// So, of either kind.
+// The same for either kind.
 fn type_word(kind: Kind) -> &'static [u8]
     ensures { result.now ≡ codes " " ++ type_word kind ++ codes " " }
 {
@@ -45,7 +45,7 @@ fn type_word(kind: Kind) -> &'static [u8]
     }
 }
 
-// Puts the bytes of a number of two bytes in hexadecimal, the most significant first.
+// Adds a number of two bytes in hexadecimal, most significant byte first.
 fn put_digits16<W: Sink>(pending: &mut Pending, writer: &mut W, n: u16) -> Result<(), Failed>
     requires { CanFail (W.failed writer.old) }
     ensures bytes { Puts result (W.bytes_taken writer.old) (W.bytes_taken writer.new) pending.old pending.new
@@ -57,7 +57,7 @@ fn put_digits16<W: Sink>(pending: &mut Pending, writer: &mut W, n: u16) -> Resul
     put_hex(pending, writer, &bytes)
 }
 
-// Puts the bytes of a number of four bytes so.
+// Adds a number of four bytes in the same way.
 fn put_digits32<W: Sink>(pending: &mut Pending, writer: &mut W, n: u32) -> Result<(), Failed>
     requires { CanFail (W.failed writer.old) }
     ensures bytes { Puts result (W.bytes_taken writer.old) (W.bytes_taken writer.new) pending.old pending.new
@@ -69,7 +69,7 @@ fn put_digits32<W: Sink>(pending: &mut Pending, writer: &mut W, n: u32) -> Resul
     put_hex(pending, writer, &bytes)
 }
 
-// Puts the bytes of a number of eight bytes so.
+// Adds a number of eight bytes in the same way.
 fn put_digits64<W: Sink>(pending: &mut Pending, writer: &mut W, n: u64) -> Result<(), Failed>
     requires { CanFail (W.failed writer.old) }
     ensures bytes { Puts result (W.bytes_taken writer.old) (W.bytes_taken writer.new) pending.old pending.new
@@ -118,7 +118,7 @@ fn put_element<W: Sink>(
     }
 }
 
-// Puts an element behind one space.
+// Adds a space and an element.
 fn put_apart<W: Sink>(pending: &mut Pending, writer: &mut W, element: Element) -> Result<(), Failed>
     requires { CanFail (W.failed writer.old) }
     ensures bytes { Puts result (W.bytes_taken writer.old) (W.bytes_taken writer.new) pending.old pending.new
@@ -129,7 +129,7 @@ fn put_apart<W: Sink>(pending: &mut Pending, writer: &mut W, element: Element) -
     put_element(pending, writer, element)
 }
 
-// Puts each element behind one space.
+// Adds a space and the element, for each element.
 fn put_elements<W: Sink>(pending: &mut Pending, writer: &mut W, value: &Value) -> Result<(), Failed>
     requires { CanFail (W.failed writer.old) }
     ensures bytes { Puts result (W.bytes_taken writer.old) (W.bytes_taken writer.new) pending.old pending.new
@@ -142,7 +142,7 @@ fn put_elements<W: Sink>(pending: &mut Pending, writer: &mut W, value: &Value) -
     Ok(())
 }
 
-// Puts the elements behind one space, where there are any.
+// Adds a space and the elements, if there are any.
 fn put_value<W: Sink>(pending: &mut Pending, writer: &mut W, value: &Value) -> Result<(), Failed>
     requires { CanFail (W.failed writer.old) }
     ensures bytes { Puts result (W.bytes_taken writer.old) (W.bytes_taken writer.new) pending.old pending.new
@@ -155,7 +155,7 @@ fn put_value<W: Sink>(pending: &mut Pending, writer: &mut W, value: &Value) -> R
     }
 }
 
-// Puts what stands in front of the elements.
+// Adds the part of the line before the elements.
 fn put_head<W: Sink>(
     pending: &mut Pending,
     writer: &mut W,
@@ -190,7 +190,7 @@ fn put_field<W: Sink>(
     pending.put(writer, b"\n")
 }
 
-// Puts a line for each field, by ascending tag.
+// Adds a line for each field, by ascending tag.
 pub(crate) fn put_fields<W: Sink>(
     pending: &mut Pending,
     writer: &mut W,

@@ -2,7 +2,7 @@
 ghost use Rattle.std.specs.Prelude.{◌≡◌, ◌++◌, codes};
 ghost use Rattle.px_text.specs.Captions.{label_of, label_word};
 
-/// What a caption is.
+/// The kind of a caption.
 #[derive(Clone, Copy, Debug, PartialEq, Eq)]
 pub enum Label {
     /// 2:5, Object Name.
@@ -19,7 +19,7 @@ pub enum Label {
     Copyright,
     /// 2:80, By-line.
     ByLine,
-    /// 2:85, By-line Title. It stands in the order of the by-lines.
+    /// 2:85, By-line Title. It is listed with the by-lines.
     ByLineTitle,
     /// 2:25, Keywords.
     Keyword,
@@ -51,7 +51,7 @@ pub(crate) fn label_of(number: u8) -> Option<Label>
     }
 }
 
-// The label in front of a line, with what follows it.
+// The label at the start of a line, with the characters that follow it.
 pub(crate) fn label_word(label: Label) -> &'static [u8]
     ensures { result.now ≡ label_word label ++ codes ": " }
 {

@@ -1,7 +1,7 @@
-//! What a block says, as texts: a listing, a line for each directory, field and DataSet, and its captions, the
-//! labelled texts among them, one a line. Each is made of what an Exif block means or of a record, and goes out
-//! part by part, over bytes that wait for a writer: it takes no memory. Every line ends with one line feed;
-//! hexadecimal digits are in lower case. The list of captions, for those who print them otherwise, takes memory.
+//! Text output: the listing has one line for each directory, field and DataSet, the captions one line for
+//! each labelled text. Lines go through an output buffer, so nothing is allocated. Every line ends with one
+//! line feed; hexadecimal digits are in lower case. The list of captions, for callers that print them in
+//! another way, is allocated.
 //!
 //! ```
 //! let iim = read_iim(rt.alloc(), b"\x1c\x02\x78\x00\x03abc")?;

@@ -1,4 +1,4 @@
-// The listing of what a block says.
+// The listing of a block.
 ghost use Rattle.std.specs.Prelude.{◌++◌, Some, codes, flat_map, option_map};
 ghost use Rattle.px_bytes.specs.Devices.{CanFail, Counts};
 ghost use Rattle.px_bytes.specs.Waiting.{Puts};
@@ -14,7 +14,7 @@ use px_bytes::{Failed, Pending, Sink};
 use px_iim::Iim;
 use px_tree::{ExifPart, Fields, Meaning, Strips, Thumb};
 
-// Puts the record in the main directory: how many DataSets there are, and these.
+// Adds the record in the main directory: the number of its DataSets and the DataSets.
 fn put_record<W: Sink>(
     pending: &mut Pending,
     writer: &mut W,
@@ -31,7 +31,7 @@ fn put_record<W: Sink>(
     put_datasets(pending, writer, iim)
 }
 
-// Puts the fields of a directory behind its name.
+// Adds a directory's name and its fields.
 fn put_titled<W: Sink>(
     pending: &mut Pending,
     writer: &mut W,
@@ -47,7 +47,7 @@ fn put_titled<W: Sink>(
     put_fields(pending, writer, fields)
 }
 
-// Puts a directory without parts of its own.
+// Adds a directory that has only fields.
 fn put_directory<W: Sink>(
     pending: &mut Pending,
     writer: &mut W,
@@ -82,7 +82,7 @@ fn put_exif<W: Sink>(
     put_directory(pending, writer, b"[interop]\n", &exif.interop)
 }
 
-// Puts bytes of the thumbnail behind a word for them.
+// Adds a word and a part of the thumbnail.
 fn put_part<W: Sink>(
     pending: &mut Pending,
     writer: &mut W,
@@ -130,7 +130,7 @@ fn put_each_strip<W: Sink>(
     Ok(())
 }
 
-// Puts how many strips there are, and these.
+// Adds the number of strips and the strips.
 fn put_strips<W: Sink>(
     pending: &mut Pending,
     writer: &mut W,
@@ -165,7 +165,7 @@ fn put_thumb<W: Sink>(
     put_strips(pending, writer, &thumb.strips)
 }
 
-// Puts the first line, and the main directory with its record.
+// Adds the first line, and the main directory with its record.
 fn put_main<W: Sink>(
     pending: &mut Pending,
     writer: &mut W,
@@ -181,9 +181,9 @@ fn put_main<W: Sink>(
     put_record(pending, writer, iim)
 }
 
-/// Puts the listing of what an Exif block means behind the bytes that wait: a line for each directory, field
-/// and DataSet. It takes no memory, and ends at the first call that fails: the writer has then taken a prefix
-/// of those that waited and of the listing behind them.
+/// Adds the listing of an Exif block to the output buffer: a line for each directory, field and DataSet. It
+/// allocates nothing. It ends at the first call that fails: the writer has then taken a prefix of the
+/// buffered bytes and of this listing after them.
 #[tactic(auto, unfolding(crate::specs::Listing::exif_listing))]
 pub fn put_exif_listing<W: Sink>(
     pending: &mut Pending,
@@ -201,7 +201,7 @@ pub fn put_exif_listing<W: Sink>(
     put_thumb(pending, writer, &meaning.thumb)
 }
 
-/// Puts the listing of a record so: a line for each DataSet.
+/// Adds the listing of a record, a line for each DataSet, like `put_exif_listing`.
 #[tactic(auto, unfolding(crate::specs::Listing::iim_listing))]
 pub fn put_iim_listing<W: Sink>(
     pending: &mut Pending,

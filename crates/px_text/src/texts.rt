@@ -1,4 +1,4 @@
-// What texts are made of: each call puts a part behind the bytes that wait for a writer.
+// Parts of texts. Each call adds one to the output buffer.
 ghost use Rattle.std.specs.Prelude.{◌≤◌, ◌++◌, length};
 ghost use Rattle.hex.specs.Hex.{encode_lower};
 ghost use Rattle.px_bytes.specs.Devices.{CanFail, Counts};
@@ -9,10 +9,10 @@ use hex::encode_to_slice;
 use itoa::{Buffer, Integer};
 use px_bytes::{Failed, Pending, Sink};
 
-// How many bytes are turned into hexadecimal digits at a time.
+// How many bytes are converted to hexadecimal digits at a time.
 const PIECE: usize = 64;
 
-// Puts a number in decimal.
+// Adds a number in decimal.
 pub(crate) fn put_decimal<W: Sink, I: Integer>(
     pending: &mut Pending,
     writer: &mut W,
@@ -26,7 +26,7 @@ pub(crate) fn put_decimal<W: Sink, I: Integer>(
     pending.put(writer, digits.format(n).as_bytes())
 }
 
-// Puts a number in decimal before a word.
+// Adds a number in decimal and a word after it.
 pub(crate) fn put_ended<W: Sink, I: Integer>(
     pending: &mut Pending,
     writer: &mut W,
@@ -41,7 +41,7 @@ pub(crate) fn put_ended<W: Sink, I: Integer>(
     pending.put(writer, after)
 }
 
-// Puts a number in decimal between two words.
+// Adds a number in decimal between two words.
 pub(crate) fn put_number<W: Sink, I: Integer>(
     pending: &mut Pending,
     writer: &mut W,
@@ -58,7 +58,7 @@ pub(crate) fn put_number<W: Sink, I: Integer>(
     put_ended(pending, writer, n, after)
 }
 
-// Puts a few bytes in hexadecimal.
+// Adds a few bytes in hexadecimal.
 fn put_piece<W: Sink>(pending: &mut Pending, writer: &mut W, piece: &[u8]) -> Result<(), Failed>
     requires few { CanFail (W.failed writer.old) }
     requires short { length piece.now ≤ 64 }
@@ -73,7 +73,7 @@ fn put_piece<W: Sink>(pending: &mut Pending, writer: &mut W, piece: &[u8]) -> Re
     pending.put(writer, &digits[..width])
 }
 
-// Puts bytes in hexadecimal.
+// Adds bytes in hexadecimal.
 pub(crate) fn put_hex<W: Sink>(
     pending: &mut Pending,
     writer: &mut W,
@@ -92,7 +92,7 @@ pub(crate) fn put_hex<W: Sink>(
     Ok(())
 }
 
-// Puts bytes in hexadecimal behind one space, where there are any.
+// Adds a space and bytes in hexadecimal, if there are any.
 pub(crate) fn put_shown<W: Sink>(
     pending: &mut Pending,
     writer: &mut W,
@@ -109,7 +109,7 @@ pub(crate) fn put_shown<W: Sink>(
     put_hex(pending, writer, bytes)
 }
 
-// Puts how many bytes there are, and the bytes, up to the end of the line.
+// Adds the number of bytes and the bytes, up to the end of the line.
 #[tactic(auto, unfolding(crate::specs::Words::sized_bytes))]
 pub(crate) fn put_sized<W: Sink>(
     pending: &mut Pending,

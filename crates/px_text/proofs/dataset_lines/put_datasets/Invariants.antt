@@ -3,7 +3,7 @@ use Rattle.px_bytes.specs.Waiting.{Owes}
 use Rattle.px_text.specs.Listing.{dataset_lines}
 use Rattle.px_text.proofs.dataset_lines.put_datasets.Given as goal
 
--- the lines of the groups so far were put, those of the groups that are left make the rest, and no call failed
+-- the lines of the groups so far were added, those of the groups left are the rest, and no call failed
 abbrev pub invariant-loop-rec : goal.invariant-loop-rec
 invariant-loop-rec g l = record {
   owes : (out : List ℕ) × Owes (g.W.Sink.bytes_taken l.initial.writer) (g.W.Sink.bytes_taken l.writer) l.pending out

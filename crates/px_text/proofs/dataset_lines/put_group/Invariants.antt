@@ -5,7 +5,7 @@ use Rattle.px_iim.specs.calls.View.{item_view}
 use Rattle.px_text.specs.Listing.{dataset_line}
 use Rattle.px_text.proofs.dataset_lines.put_group.Given as goal
 
--- the parts so far were put, and no call failed
+-- the parts so far were added, and no call failed
 abbrev pub invariant-loop-item : goal.invariant-loop-item
 invariant-loop-item g l = record {
   owes : Owes (g.W.Sink.bytes_taken l.initial.writer) (g.W.Sink.bytes_taken l.writer) l.pending (l.initial.pending ++ flat_map
