@@ -1,4 +1,4 @@
--- How a run over two files ends, from what reading and judging the second one answers.
+-- The result of a run over two files, from that of reading and judging the second one.
 use Rattle.std.proofs.Common.{◌≡◌, ℕ, Bool, Option, List, Result, Ok, Err, IfOk, IfErr, refl, sym, subst}
 use Rattle.std.specs.Prelude.{⊤}
 use Rattle.px_bytes.specs.Reading.{ReadsUpTo}
@@ -19,7 +19,7 @@ compared (Ok same) first second s k h = (s, h.0, k, h.1, h.2)
 compared (Err e) first second s k h =
     subst (λ z. OnSide z (Stops e.fault first) ((t : Said) × KnownSaid first t) (Stops e.fault second)) (sym h.0) ((s, k), h.1)
 
--- the first file says nothing: the second reader is not asked
+-- the first file has no meaning: the second reader is not called
 pub not_asked : {R : Type 0} (e : CompareFault) (second : R) → e.side ≡ First → Untouched {R = R} (Err e) second second
 not_asked {R} e second h = subst (λ z. OnSide z (second ≡ second) ⊤ ⊤) (sym h) refl
 
@@ -38,7 +38,7 @@ counted (Err fault) a b c d second s e h k =
 pub lacks_compared : (r : Result Bool CompareFault) (first mid last : ℕ) → mid ≡ first → LacksPairBy r mid last → LacksPairBy r first last
 lacks_compared r first mid last e h = subst (λ z. LacksPairBy r z last) e h
 
--- ---- the second file, read and then judged in hand
+-- ---- the second file, read into memory and then judged
 
 pub second_read : (r : Result Bool CompareFault) (s : Said) (left left_now : Option (List ℕ)) (bytes : List ℕ) (lacking : ℕ)
     → ReadsUpTo left left_now 16777223 bytes → SaysSecond r s bytes lacking → ComparesSecond r s left
@@ -57,7 +57,7 @@ pub second_counted : (r : Result Bool CompareFault) (s : Said) (bytes : List ℕ
 second_counted (Ok same) s bytes lacking a b e h = e
 second_counted (Err fault) s bytes lacking a b e h = counted_fault fault.fault bytes lacking a b e h.1
 
--- ---- two files in hand
+-- ---- two files in memory
 
 pub says_same : (r : Result Bool CompareFault) (f g : List ℕ) (s : Said) (lacking : ℕ) → IsSaid f s → SaysSecond r s g lacking
     → IfOk r (SaysSame f g)

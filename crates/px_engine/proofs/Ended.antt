@@ -1,4 +1,4 @@
--- How a run that writes ends, from what its parts answer.
+-- The result of a run that writes, from the results of its parts.
 use Rattle.std.proofs.Common.{◌≡◌, ◌<◌, ◌≤◌, ◌*◌, ℕ, Bool, Option, Some, None, List, length, Result, Ok, Err, IfOk, IfErr, IfSome, refl}
 use Rattle.std.proofs.Common.{sym, subst, arith}
 use Rattle.px_bytes.specs.Parts.{limit}
@@ -40,11 +40,11 @@ lacks_nothing (Err OutOfMemory) old new a b s first last q w = absurd w
 lacks_nothing (Err ReadFailed) old new a b s first last q w = absurd w
 lacks_nothing (Err (Refused cause place)) old new a b s first last q w = absurd w
 
--- what lacked memory lacked it from the first call on, where none before it did
+-- an allocation that failed is the first of the run, if none failed before it
 pub lacks_later : (fault : Fault) (first mid last : ℕ) → mid ≡ first → LacksFault fault mid last → LacksFault fault first last
 lacks_later fault first mid last q h = subst (λ z. LacksFault fault z last) q h
 
--- the bytes that were read say nothing
+-- the bytes that were read have no meaning
 pub not_normalised : (fault : Fault) (left left_now : Option (List ℕ)) (bytes : List ℕ) (lacking : ℕ) (old : Option (List ℕ)) →
     ReadsUpTo left left_now 16777223 bytes → IsUnsaid bytes lacking fault → Normalises (Err fault) left old old
 not_normalised (Refused cause place) left left_now bytes lacking old x h =
@@ -60,7 +60,7 @@ pub checked : (r : Result BlockKind Fault) (left left_now : Option (List ℕ)) (
 checked (Ok kind) left left_now bytes lacking x h k = (h.0, known_said left left_now bytes h.0 x h.1, h.2)
 checked (Err fault) left left_now bytes lacking x h k = known_stops left left_now bytes lacking fault x k
 
--- a form in hand
+-- a form in memory
 pub form_formed : {V : Type 0} (items : V → List ℕ) (r : Result V Fault) (f : List ℕ) (s : Said) → IsSaid f s
     → IfOk r (λ v. (items v ≡ normal s) × (length (items v) ≤ limit)) → IfOk r (λ v. (t : Said) × IsFormOf f t (items v))
 form_formed items (Ok v) f s h k = (s, (h, k.0, k.1))

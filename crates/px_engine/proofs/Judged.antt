@@ -1,4 +1,4 @@
--- What blocks and files say, from what reading them answers.
+-- The meanings of blocks and files, from the results of reading them.
 use Rattle.std.proofs.Common.{◌≡◌, ◌<◌, ℕ, Bool, Option, Some, None, List, length, Err, refl, sym, subst, arith}
 use Rattle.px_bytes.specs.declared.Cause.{Cause}
 use Rattle.px_bytes.specs.declared.Cause.TheVariants.{TooLong}
@@ -60,7 +60,7 @@ pub lacks_refused : (e : Refusal) (fault : Fault) (old new : ℕ) → fault ≡ 
 lacks_refused (refusal.Content cause place) fault old new q h = subst (λ z. LacksFault z old new) (sym q) h
 lacks_refused refusal.OutOfMemory fault old new q h = subst (λ z. LacksFault z old new) (sym q) h
 
--- ---- what a reader had to give
+-- ---- the bytes of a reader
 
 pub known_said : (old new : Option (List ℕ)) (bytes : List ℕ) (s : Said) → ReadsUpTo old new 16777223 bytes → IsSaid bytes s
     → KnownSaid old s

@@ -1,4 +1,4 @@
--- How runs that print end, from what their parts answer.
+-- The results of runs that print, from the results of their parts.
 use Rattle.std.proofs.Common.{◌≡◌, ◌++◌, ℕ, Bool, Option, List, [], Result, Ok, Err, refl, sym, subst}
 use Rattle.px_bytes.specs.Devices.{Counts, Writes}
 use Rattle.px_bytes.specs.Reading.{ReadsUpTo}
@@ -13,19 +13,19 @@ use Rattle.px_engine.specs.calls.Ends.{WritesText}
 use Rattle.px_engine.specs.calls.Faults.{told}
 use Rattle.px_engine.proofs.Judged.{known_said, known_stops}
 
--- a text of which nothing waited at first, once what waits at last was sent
+-- the text was added to an empty buffer, and the buffer was then written
 pub sent : {A E : Type 0} (r : Result A E) (a b c : Option (List ℕ)) (none held out : List ℕ) → none ≡ [] → Owes a b held (none ++ out)
     → Writes r b c held → Writes r a c out
 sent (Ok x) a b c none held out e p q = owed_all a b c held out (from_none (Owes a b held) none out e p) q
 sent (Err x) a b c none held out e p q = owed_prefix a b c held out (from_none (Owes a b held) none out e p) q
 
--- the answer of a writer of texts, as that of a run
+-- the result of a text's writer, as that of a run
 pub told_text : {A E : Type 0} (r : Result A E) (t : Result A Fault) (old new : Option (List ℕ)) (a b : ℕ) (out : List ℕ) → t ≡ told r
     → Writes r old new out → Counts r a b → WritesText t old new a b out
 told_text (Ok x) t old new a b out e w n = subst (λ z. WritesText z old new a b out) (sym e) (w, n)
 told_text (Err x) t old new a b out e w n = subst (λ z. WritesText z old new a b out) (sym e) (w, n)
 
--- the text of what was said is `text s`
+-- the text of the meaning is `text s`
 pub printed : {A : Type 0} (text : Said → List ℕ) (r : Result A Fault) (left left_now : Option (List ℕ)) (bytes : List ℕ) (s : Said)
     (old new : Option (List ℕ)) (a b : ℕ)
     → ReadsUpTo left left_now 16777223 bytes → IsSaid bytes s → WritesText r old new a b (text s) → Prints text r left old new
@@ -36,7 +36,7 @@ printed text (Err OutOfMemory) left left_now bytes s old new a b read h w = absu
 printed text (Err ReadFailed) left left_now bytes s old new a b read h w = absurd w
 printed text (Err NormalTooLong) left left_now bytes s old new a b read h w = absurd w
 
--- the bytes that were read say nothing
+-- the bytes that were read have no meaning
 pub not_printed : (A : Type 0) (text : Said → List ℕ) (fault : Fault) (left left_now : Option (List ℕ)) (bytes : List ℕ) (lacking : ℕ)
     (old : Option (List ℕ))
     → ReadsUpTo left left_now 16777223 bytes → IsUnsaid bytes lacking fault → Prints {A = A} text (Err fault) left old old

@@ -1,4 +1,4 @@
--- Room that is filled with a form of just its length.
+-- A slice that is filled with a form of exactly its length.
 use Rattle.std.proofs.Common.{◌≡◌, ◌≤◌, ℕ, Bool, List, ◌∷◌, length, take, min, nat_lt, true, false, if◌then◌else◌}
 use Rattle.std.proofs.Common.{Some, Result, Ok, Err, arith, refl, sym, ◌∙◌, ap}
 use Rattle.std.proofs.lemmas.Bool.{ltb-false}
@@ -12,12 +12,12 @@ no_refusal : (t : Bool) (n : ℕ) → n ≡ 0 → (if t then 0 else n) ≡ 0
 no_refusal true n z = refl
 no_refusal false n z = z
 
--- one refusal tells that no room is left
+-- one failed call means that the slice is full
 is_full : (held size refusals : ℕ) → (if nat_lt held size then 0 else refusals) ≡ 1 → size ≤ held
 is_full held size refusals c = elim (nat_lt held size) as (λ t. nat_lt held size ≡ t → (if t then 0 else refusals) ≡ 1 → size ≤ held)
     [ true ↦ λ e q. absurd (omega (arith, q)) | false ↦ λ e q. ltb-false held size e ] refl c
 
--- a front of it that is as long as all of it
+-- a prefix of it that is as long as all of it
 all_of : (held : ℕ) (now form : List ℕ) → take held now ≡ form → length now ≡ length form → now ≡ form
 all_of held now form t l =
     let m = ap (λ (z : List ℕ). length z) t in
@@ -25,7 +25,8 @@ all_of held now form t l =
     let least = min-le_left held (length now) in
     sym (take_all held now (omega arith)) ∙ t
 
--- The writer began with no byte, in room of the form's length, and found it full where a call failed. So it has put the whole form.
+-- The writer began at the start of a slice of the form's length, and found it full if a call failed. So it has written the whole
+-- form.
 pub filled : {A E : Type 0} (r : Result A E) (f g : Filling) (slice : ℕ) (old form : List ℕ) → length old ≡ length form
     → f.room.ghost_name ≡ slice → f.room.now ≡ old → f.held ≡ 0 → f.refusals ≡ 0
     → Writes r (Some (told_in f)) (Some (told_in g)) form → Counts r (refused_in f) (refused_in g)

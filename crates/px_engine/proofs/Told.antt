@@ -1,4 +1,4 @@
--- The headline, from what normalising two files answers and the laws of files.
+-- The main promise, from the result of normalising two files and the laws of files.
 use Rattle.std.proofs.Common.{◌≡◌, ◌≤◌, ◌*◌, ◌↔◌, ℕ, Bool, IsTrue, List, length, Some, Ok, sym, refl, ◌∙◌, ap, subst, arith}
 use Rattle.px_bytes.specs.Parts.{limit}
 use Rattle.px_engine.specs.Files.{Said, Says, normal, block_of}

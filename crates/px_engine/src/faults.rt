@@ -1,23 +1,23 @@
-// Why a run ends before its time.
+// Why a run fails.
 use px_bytes::{Cause, ReadFault, Refusal, Refused, WriteRefusal};
 use thiserror::Error;
 
-/// Why a file is not read, or what it says not written.
+/// Why a file is not read, or its normal form not written.
 #[derive(Clone, Copy, Debug, PartialEq, Eq, Error)]
 pub enum Fault {
-    /// The block says nothing: by the cause and the place of its first fault.
+    /// The block has no meaning: the cause and the byte offset of its first fault.
     #[error("{cause:?} at {place}")]
     Refused {
         /// What is wrong.
         cause: Cause,
-        /// Where, in bytes from the block's first, at most `LIMIT`. Bytes in front of the block aren't
+        /// The byte offset from the block's first byte, at most `LIMIT`. Bytes before the block are not
         /// counted.
         place: u32,
     },
     /// The normal form is longer than `LIMIT`.
     #[error("the normal form is too long")]
     NormalTooLong,
-    /// A growth was refused.
+    /// An allocation failed.
     #[error("out of memory")]
     OutOfMemory,
     /// A call of the reader failed.
@@ -41,10 +41,9 @@ pub enum Side {
 #[derive(Clone, Copy, Debug, PartialEq, Eq, Error)]
 #[error("{fault} in the {side:?} file")]
 pub struct CompareFault {
-    /// The file that the fault is of. Where it is the first, the second was not read.
+    /// The file with the fault. If it is the first, the second was not read.
     pub side: Side,
-    /// `Refused`, `OutOfMemory` or `ReadFailed`; of `normalise_both` also `NormalTooLong` or
-    /// `WriteFailed`.
+    /// `Refused`, `OutOfMemory` or `ReadFailed`; from `normalise_both` also `NormalTooLong`.
     pub fault: Fault,
 }
 

@@ -1,10 +1,10 @@
-// A writer that puts what it takes into room that is there already.
+// A writer into a slice.
 ghost use Rattle.std.specs.Prelude.{◌≡◌};
 
 use px_bytes::{Device, Failed, Sink};
 
-// A writer that puts the bytes it takes in front of a slice: of each call as many as there is room for. A
-// call fails only where no room is left. It takes no memory.
+// A writer that fills a slice. Each call takes as many bytes as fit, and fails only if the slice is full. It
+// allocates nothing.
 #[derive(Drop)]
 pub(crate) struct Filling<'a> {
     room: &'a mut [u8],
@@ -13,7 +13,7 @@ pub(crate) struct Filling<'a> {
 }
 
 impl<'a> Filling<'a> {
-    // No byte, and no call that failed.
+    // The writer at the start of a slice; no call has failed.
     pub(crate) fn new(room: &'a mut [u8]) -> Filling<'a>
         ensures same { result.room.ghost_name ≡ room.entry.ghost_name }
         ensures room { result.room.now ≡ room.old }
@@ -59,7 +59,7 @@ impl<'a> Sink for Filling<'a> {
         let end = self.held + n;
         self.room[self.held..end].copy_from_slice(&buf[..n]);
         self.held = end;
-        // Only what a full slice refuses is counted: this call is none, and may have filled it.
+        // Failures are counted only once the slice is full, which this write may have made it.
         self.refusals = 0;
         Ok(n)
     }

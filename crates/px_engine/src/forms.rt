@@ -1,5 +1,5 @@
-// The normal form of what is said, in hand: measured first, then written into a vector that has room for just that, or into
-// room of the caller's.
+// Normal forms in memory: measured first, then written into a vector of exactly that size, or into the
+// caller's buffer.
 ghost use Rattle.std.specs.Prelude.{◌≡◌, ◌≤◌, length, IfOk, IfErr};
 ghost use Rattle.px_bytes.specs.Devices.{CanFail, Counts, Writes};
 ghost use Rattle.px_bytes.specs.Parts.{limit};
@@ -24,7 +24,7 @@ use px_iim::{Iim, normal_len, put_iim};
 use px_layout::{NormalForm, put_normal};
 use px_tree::Meaning;
 
-// Writes the normal form of a tree, which is measured already.
+// Writes the normal form of an Exif block, which is measured already.
 fn send_exif<W: Sink>(form: &NormalForm, writer: &mut W) -> Result<(), Failed>
     requires few { CanFail (W.failed writer.old) }
     requires form { IsForm form.now }
@@ -36,7 +36,7 @@ fn send_exif<W: Sink>(form: &NormalForm, writer: &mut W) -> Result<(), Failed>
     pending.send(writer)
 }
 
-// Writes the normal form of a record so.
+// Writes the normal form of a record.
 fn send_record<W: Sink>(iim: &Iim, writer: &mut W) -> Result<(), Failed>
     requires { CanFail (W.failed writer.old) }
     ensures bytes { Writes result (W.bytes_taken writer.old) (W.bytes_taken writer.new) (normal_iim iim.now) }
@@ -47,7 +47,7 @@ fn send_record<W: Sink>(iim: &Iim, writer: &mut W) -> Result<(), Failed>
     pending.send(writer)
 }
 
-// The normal form of a tree.
+// The normal form of an Exif block.
 fn exif_form(memory: &mut Memory, m: &Meaning) -> Result<Vec<u8>, Fault>
     requires { Fits (meaning_of m.now) }
     ensures formed { IfOk result (λ v. (v.items ≡ normal_exif (meaning_of m.now)) × (length v.items ≤ limit)) }
@@ -58,7 +58,7 @@ fn exif_form(memory: &mut Memory, m: &Meaning) -> Result<Vec<u8>, Fault>
         return Err(Fault::NormalTooLong);
     };
     let mut writer = Growing::with_room_in(memory, form.len() as usize)?;
-    // There is room for all; were a growth refused even so, the writer would tell it at its end.
+    // The vector has capacity for all. If its allocation failed, `finish_in` reports it.
     let _ = send_exif(&form, &mut writer);
     Ok(writer.finish_in(memory)?)
 }
@@ -74,12 +74,12 @@ fn iim_form(memory: &mut Memory, iim: &Iim) -> Result<Vec<u8>, Fault>
         return Err(Fault::NormalTooLong);
     }
     let mut writer = Growing::with_room_in(memory, len as usize)?;
-    // As with that of a tree, the writer tells at its end whether a growth was refused.
+    // If the allocation failed, `finish_in` reports it.
     let _ = send_record(iim, &mut writer);
     Ok(writer.finish_in(memory)?)
 }
 
-// The normal form of what is said.
+// The normal form of what a file means.
 pub(crate) fn form_of(memory: &mut Memory, said: &Said) -> Result<Vec<u8>, Fault>
     requires { CanBeWritten (said_of said.now) }
     ensures formed { IfOk result (λ v. (v.items ≡ normal (said_of said.now)) × (length v.items ≤ limit)) }
@@ -92,18 +92,18 @@ pub(crate) fn form_of(memory: &mut Memory, said: &Said) -> Result<Vec<u8>, Fault
     }
 }
 
-// Writes the normal form of a tree, which is measured already, into room for just its bytes.
+// Writes the normal form of an Exif block, which is measured already, into a slice of exactly its length.
 fn fill_exif(form: &NormalForm, room: &mut [u8])
     requires form { IsForm form.now }
     requires room { length room.old ≡ length (normal_exif (said_in form.now)) }
     ensures { room.new ≡ normal_exif (said_in form.now) }
 {
     let mut writer = Filling::new(room);
-    // There is room for all: a call that failed would have found it full.
+    // The slice has space for all, so no call fails.
     let _ = send_exif(form, &mut writer);
 }
 
-// Writes the normal form of a record so.
+// Writes the normal form of a record into a slice of exactly its length.
 fn fill_record(iim: &Iim, room: &mut [u8])
     requires { length room.old ≡ length (normal_iim iim.now) }
     ensures { room.new ≡ normal_iim iim.now }
@@ -112,7 +112,7 @@ fn fill_record(iim: &Iim, room: &mut [u8])
     let _ = send_record(iim, &mut writer);
 }
 
-// Puts the normal form of a tree in front of `out`. None where it is longer than `LIMIT`.
+// Writes the normal form of an Exif block to the start of `out`. None if it is longer than `LIMIT`.
 fn put_exif(m: &Meaning, out: &mut [u8]) -> Option<Given>
     requires { Fits (meaning_of m.now) }
     ensures { PutsShort result (normal_exif (meaning_of m.now)) out.old out.new }
@@ -128,7 +128,7 @@ fn put_exif(m: &Meaning, out: &mut [u8]) -> Option<Given>
     Some(Given::Whole(len))
 }
 
-// Puts the normal form of a record so.
+// Writes the normal form of a record to the start of `out`. None if it is longer than `LIMIT`.
 fn put_record(iim: &Iim, out: &mut [u8]) -> Option<Given>
     ensures { PutsShort result (normal_iim iim.now) out.old out.new }
 {
@@ -143,7 +143,8 @@ fn put_record(iim: &Iim, out: &mut [u8]) -> Option<Given>
     Some(Given::Whole(len))
 }
 
-// Puts the normal form of what is said in front of `out`. None where it is longer than `LIMIT`. It takes no memory.
+// Writes the normal form of what a file means to the start of `out`. None if it is longer than `LIMIT`. It
+// allocates nothing.
 pub(crate) fn put_said(said: &Said, out: &mut [u8]) -> Option<Given>
     requires { CanBeWritten (said_of said.now) }
     ensures { PutsShort result (normal (said_of said.now)) out.old out.new }

@@ -1,10 +1,10 @@
-// What becomes of a form that is put into room of the caller's.
+// Results of writing a normal form into the caller's buffer.
 
-/// Whether a form was put where the caller has room for it.
+/// Whether a normal form fits into the caller's buffer.
 #[derive(Clone, Copy, Debug, PartialEq, Eq)]
 pub enum Given {
-    /// It was: the room begins with the form, of so many bytes, behind which it is as it was.
+    /// It fits: the buffer begins with the form, of so many bytes. The rest of the buffer is unchanged.
     Whole(usize),
-    /// There is too little room, which is as it was: so many bytes are needed.
+    /// It doesn't fit, and the buffer is unchanged. The form needs so many bytes.
     Needs(usize),
 }

@@ -1,4 +1,4 @@
-// Files in hand: judged, normalised, compared and printed without a copy of their bytes.
+// Files in memory: checked, normalised, compared and printed without a copy of their bytes.
 ghost use Rattle.std.specs.Prelude.{◌≡◌, ℕ, IfOk, IfErr, OnErr};
 ghost use Rattle.px_engine.specs.Input.{IsUnsaid, LacksRun, LacksPair};
 ghost use Rattle.px_engine.specs.Hand.{IsKindOf, PutsForm, SaysSame, IsUnsaidAt, IsFormOf, IsUnwritten};
@@ -15,9 +15,9 @@ use crate::texts::{caption_text, listing};
 use px_bytes::Memory;
 use std::alloc::Global;
 
-/// Which kind of block a file holds, where that says something. The fault is `Refused`, by the first
-/// fault of the block, or `OutOfMemory`, exactly where a growth was refused. It takes memory for what an
-/// Exif block says, and none for a block of DataSets, of which it keeps nothing; it makes no copy of the file.
+/// The kind of block in a file that has a meaning. Allocates the meaning of an Exif block, nothing for a
+/// block of DataSets, and no copy of the file. `Refused`: the first fault of the block. `OutOfMemory`: an
+/// allocation failed.
 pub fn check_of_in(memory: &mut Memory, file: &[u8]) -> Result<BlockKind, Fault>
     ensures kind { IfOk result (IsKindOf file.now) }
     ensures unsaid { IfErr result (IsUnsaid file.now memory.new.refusals) }
@@ -29,7 +29,7 @@ pub fn check_of_in(memory: &mut Memory, file: &[u8]) -> Result<BlockKind, Fault>
     }
 }
 
-/// The same with memory of its own.
+/// Like `check_of_in`, with memory of its own.
 pub fn check_of(alloc: Global, file: &[u8]) -> Result<BlockKind, Fault>
     ensures kind { IfOk result (IsKindOf file.now) }
     ensures unsaid { IfErr result (λ e. (refused : ℕ) × IsUnsaid file.now refused e) }
@@ -37,10 +37,9 @@ pub fn check_of(alloc: Global, file: &[u8]) -> Result<BlockKind, Fault>
     check_of_in(&mut Memory::new(alloc), file)
 }
 
-/// The normal form of what a file says, at most `LIMIT` bytes. The fault is `Refused`, by the first fault
-/// of the block; `NormalTooLong`, where the form is longer than `LIMIT`; or `OutOfMemory`, exactly where a
-/// growth was refused. It takes memory for what the file says and, at once, for the form: room for just its
-/// bytes. It makes no copy of the file.
+/// The normal form of a file, of at most `LIMIT` bytes. Allocates the meaning, and once exactly the form's
+/// bytes, but no copy of the file. `Refused`: the first fault of the block. `NormalTooLong`: the form is
+/// longer than `LIMIT`. `OutOfMemory`: an allocation failed.
 pub fn normal_form_in(memory: &mut Memory, file: &[u8]) -> Result<Vec<u8>, Fault>
     ensures formed { IfOk result (λ v. (s : AnySaid) × IsFormOf file.now s v.items) }
     ensures unwritten { IfErr result (IsUnwritten file.now memory.new.refusals) }
@@ -50,7 +49,7 @@ pub fn normal_form_in(memory: &mut Memory, file: &[u8]) -> Result<Vec<u8>, Fault
     form_of(memory, &said)
 }
 
-/// The same with memory of its own.
+/// Like `normal_form_in`, with memory of its own.
 pub fn normal_form(alloc: Global, file: &[u8]) -> Result<Vec<u8>, Fault>
     ensures formed { IfOk result (λ v. (s : AnySaid) × IsFormOf file.now s v.items) }
     ensures unwritten { IfErr result (λ e. (refused : ℕ) × IsUnwritten file.now refused e) }
@@ -58,10 +57,9 @@ pub fn normal_form(alloc: Global, file: &[u8]) -> Result<Vec<u8>, Fault>
     normal_form_in(&mut Memory::new(alloc), file)
 }
 
-/// Puts the normal form of what a file says in front of `out`, where there is room for it. The fault is
-/// `Refused`, by the first fault of the block; `NormalTooLong`, where the form is longer than `LIMIT`; or
-/// `OutOfMemory`, exactly where a growth was refused; `out` is then as it was. It takes memory for what the
-/// file says alone, and makes no copy of the file.
+/// Writes the normal form of a file to the start of `out` if it fits. Allocates the meaning, but no copy of
+/// the file. On an error `out` is unchanged. `Refused`: the first fault of the block. `NormalTooLong`: the
+/// form is longer than `LIMIT`. `OutOfMemory`: an allocation failed.
 pub fn put_form_in(memory: &mut Memory, file: &[u8], out: &mut [u8]) -> Result<Given, Fault>
     ensures put { IfOk result (λ given. PutsForm file.now given out.old out.new) }
     ensures unwritten { IfErr result (IsUnwritten file.now memory.new.refusals) }
@@ -75,7 +73,7 @@ pub fn put_form_in(memory: &mut Memory, file: &[u8], out: &mut [u8]) -> Result<G
     }
 }
 
-/// The same with memory of its own.
+/// Like `put_form_in`, with memory of its own.
 pub fn put_form(alloc: Global, file: &[u8], out: &mut [u8]) -> Result<Given, Fault>
     ensures put { IfOk result (λ given. PutsForm file.now given out.old out.new) }
     ensures unwritten { IfErr result (λ e. (refused : ℕ) × IsUnwritten file.now refused e) }
@@ -84,9 +82,9 @@ pub fn put_form(alloc: Global, file: &[u8], out: &mut [u8]) -> Result<Given, Fau
     put_form_in(&mut Memory::new(alloc), file, out)
 }
 
-/// The text that `show` prints of a file. The fault is `Refused`, by the first fault of the block, or
-/// `OutOfMemory`, exactly where a growth was refused. It takes memory for what the file says and for the
-/// text: less than four bytes for each byte of a value or of data, and less than 30 more a line.
+/// The text that `show` prints of a file. Allocates the meaning and the text: less than four bytes for each
+/// byte of a value or DataSet, and less than 30 more for each line. `Refused`: the first fault of the block.
+/// `OutOfMemory`: an allocation failed.
 pub fn show_of_in(memory: &mut Memory, file: &[u8]) -> Result<Vec<u8>, Fault>
     ensures text { IfOk result (λ text. IsTextOf listing file.now text.items) }
     ensures unsaid { IfErr result (IsUnsaid file.now memory.new.refusals) }
@@ -101,7 +99,7 @@ pub fn show_of_in(memory: &mut Memory, file: &[u8]) -> Result<Vec<u8>, Fault>
     }
 }
 
-/// The same with memory of its own.
+/// Like `show_of_in`, with memory of its own.
 pub fn show_of(alloc: Global, file: &[u8]) -> Result<Vec<u8>, Fault>
     ensures text { IfOk result (λ text. IsTextOf listing file.now text.items) }
     ensures unsaid { IfErr result (λ e. (refused : ℕ) × IsUnsaid file.now refused e) }
@@ -109,9 +107,8 @@ pub fn show_of(alloc: Global, file: &[u8]) -> Result<Vec<u8>, Fault>
     show_of_in(&mut Memory::new(alloc), file)
 }
 
-/// The text that `captions` prints of a file. Faults are those of `show_of_in`. It takes memory for what
-/// the file says and for the text: at most three bytes for each byte of a caption, and at most 22 more a
-/// line.
+/// The text that `captions` prints of a file. Allocates the meaning and the text: at most three bytes for
+/// each byte of a caption, and at most 22 more for each line. Errors are those of `show_of_in`.
 pub fn captions_text_in(memory: &mut Memory, file: &[u8]) -> Result<Vec<u8>, Fault>
     ensures text { IfOk result (λ text. IsTextOf caption_text file.now text.items) }
     ensures unsaid { IfErr result (IsUnsaid file.now memory.new.refusals) }
@@ -126,7 +123,7 @@ pub fn captions_text_in(memory: &mut Memory, file: &[u8]) -> Result<Vec<u8>, Fau
     }
 }
 
-/// The same with memory of its own.
+/// Like `captions_text_in`, with memory of its own.
 pub fn captions_text(alloc: Global, file: &[u8]) -> Result<Vec<u8>, Fault>
     ensures text { IfOk result (λ text. IsTextOf caption_text file.now text.items) }
     ensures unsaid { IfErr result (λ e. (refused : ℕ) × IsUnsaid file.now refused e) }
@@ -134,10 +131,10 @@ pub fn captions_text(alloc: Global, file: &[u8]) -> Result<Vec<u8>, Fault>
     captions_text_in(&mut Memory::new(alloc), file)
 }
 
-/// Whether two files say the same: the same tree of directories, or the same record. Their normal forms
-/// don't matter, nor whether these can be written. The first is judged wholly before the second; a fault is
-/// `Refused`, by the first fault of that side's block, or `OutOfMemory`, exactly where a growth was refused.
-/// It takes memory for what both say, and makes no copy of either.
+/// Whether two files mean the same: the same tree of directories, or the same record. It doesn't matter
+/// whether their normal forms can be written. The first file is judged before the second. Allocates the
+/// meaning of both, and no copy of either. `Refused`: the first fault of that side's block. `OutOfMemory`: an
+/// allocation failed.
 pub fn same_of_in(memory: &mut Memory, first: &[u8], second: &[u8]) -> Result<bool, CompareFault>
     ensures same { IfOk result (SaysSame first.now second.now) }
     ensures unsaid { IfErr result (IsUnsaidAt first.now second.now memory.new.refusals) }
@@ -149,7 +146,7 @@ pub fn same_of_in(memory: &mut Memory, first: &[u8], second: &[u8]) -> Result<bo
     same
 }
 
-/// The same with memory of its own.
+/// Like `same_of_in`, with memory of its own.
 pub fn same_of(alloc: Global, first: &[u8], second: &[u8]) -> Result<bool, CompareFault>
     ensures same { IfOk result (SaysSame first.now second.now) }
     ensures unsaid { IfErr result (λ e. (refused : ℕ) × IsUnsaidAt first.now second.now refused e) }

@@ -1,4 +1,4 @@
-// The headline, for two files in hand.
+// The main promise, for two files in memory.
 ghost use Rattle.std.specs.Prelude.{◌≡◌, ℕ, IfOk, IfErr};
 ghost use Rattle.px_engine.specs.Files.{Said};
 ghost use Rattle.px_engine.specs.Input.{LacksPair};
@@ -14,13 +14,13 @@ use std::alloc::Global;
 /// The normal forms of two files.
 #[derive(Drop)]
 pub struct NormalForms {
-    /// That of what the first says.
+    /// That of the first file.
     pub first: Vec<u8>,
-    /// That of what the second says.
+    /// That of the second file.
     pub second: Vec<u8>,
 }
 
-// The normal form of what one of two files says.
+// The normal form of one of two files.
 fn form_side(memory: &mut Memory, file: &[u8], side: Side) -> Result<Vec<u8>, CompareFault>
     ensures formed { IfOk result (λ v. (s : Said) × IsFormOf file.now s v.items) }
     ensures side { IfErr result (λ e. e.side ≡ side) }
@@ -33,14 +33,13 @@ fn form_side(memory: &mut Memory, file: &[u8], side: Side) -> Result<Vec<u8>, Co
     }
 }
 
-/// Normalises two files in hand, and says with what is written all that normal forms are for: each file
-/// says the one thing that the layout of its bytes gives; the two say the same exactly if the bytes
-/// written of them are equal; and what was written of a file says what the file says, and is itself the
-/// normal form of that. A file is refused for its content only where it says nothing.
+/// Normalises two files in memory. Its contract states the main promise: the bytes of each file have one
+/// meaning; two files mean the same exactly if their normal forms are equal; a normal form has the meaning of
+/// its file, and is its own normal form. A file is refused for its content only if it has no meaning.
 ///
-/// The fault is of the file that it names, and where that is the second the first has a form: `Refused` by
-/// the first fault of its block, `NormalTooLong` where the form is longer than `LIMIT`, or `OutOfMemory`,
-/// exactly where a growth was refused. It takes memory as `normal_form_in` does, and for both forms.
+/// Allocates as `normal_form_in` does, for both files. The fault names its file; if that is the second, the
+/// first has a normal form. `Refused`: the first fault of the block. `NormalTooLong`: the form is longer than
+/// `LIMIT`. `OutOfMemory`: an allocation failed.
 pub fn normalise_both_in(
     memory: &mut Memory,
     first: &[u8],
@@ -60,7 +59,7 @@ pub fn normalise_both_in(
     })
 }
 
-/// The same with memory of its own.
+/// Like `normalise_both_in`, with memory of its own.
 pub fn normalise_both(
     alloc: Global,
     first: &[u8],

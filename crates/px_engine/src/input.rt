@@ -1,4 +1,4 @@
-// A file, read whole and judged.
+// Reads a whole file and judges it.
 ghost use Rattle.std.specs.Prelude.{◌≡◌, ℕ, IfOk, IfErr};
 ghost use Rattle.px_bytes.specs.Checks.{LacksBlock, LacksBlockBy};
 ghost use Rattle.px_bytes.specs.Reading.{ReadsUpTo, ConsumesAtMost};
@@ -20,10 +20,9 @@ use px_iim::{Iim, judge_iim, read_iim_in};
 use px_tree::{Meaning, read_block_in};
 use std::alloc::Global;
 
-/// Reads to the reader's end, or the first `LIMIT` + 7 bytes, which are more than any block with the
-/// six bytes in front of it. It ends at the first call that fails, of whatever kind; a read of no
-/// bytes is the end. It takes memory for the bytes and for one buffer; OutOfMemory comes exactly where
-/// a growth was refused.
+/// Reads to the reader's end, or the first `LIMIT` + 7 bytes, one more than the longest block and the six
+/// bytes before it. A read of 0 bytes is the end. It ends at the first call that fails. Allocates the bytes
+/// and one buffer. `ReadFailed`: a call of the reader failed. `OutOfMemory`: an allocation failed.
 pub fn read_all_in<R: Source>(memory: &mut Memory, reader: &mut R) -> Result<Vec<u8>, Fault>
     requires { CanFail (R.failed reader.old) }
     ensures found { IfOk result (λ v. ReadsUpTo (R.bytes_left reader.old) (R.bytes_left reader.new) 16777223 v.items) }
@@ -35,7 +34,7 @@ pub fn read_all_in<R: Source>(memory: &mut Memory, reader: &mut R) -> Result<Vec
     Ok(read_up_to_in(memory, reader, LIMIT as usize + 7)?)
 }
 
-/// The same with memory of its own.
+/// Like `read_all_in`, with memory of its own.
 pub fn read_all<R: Source>(alloc: Global, reader: &mut R) -> Result<Vec<u8>, Fault>
     requires { CanFail (R.failed reader.old) }
     ensures found { IfOk result (λ v. ReadsUpTo (R.bytes_left reader.old) (R.bytes_left reader.new) 16777223 v.items) }
@@ -66,7 +65,7 @@ pub(crate) fn read_side<R: Source>(
     }
 }
 
-// What a block says as an Exif block.
+// The meaning of an Exif block.
 fn read_exif<'a>(memory: &mut Memory, bytes: &'a [u8]) -> Result<Meaning<'a>, Refusal>
     ensures said { IfOk result (λ m. IsSaidIn kind.Exif bytes.now (said.Exif (meaning_of m))) }
     ensures refused { IfErr result (IsRefusedIn kind.Exif bytes.now memory.new.refusals) }
@@ -83,7 +82,7 @@ fn read_exif<'a>(memory: &mut Memory, bytes: &'a [u8]) -> Result<Meaning<'a>, Re
     }
 }
 
-// What a block says as a block of DataSets.
+// The meaning of a block of DataSets.
 fn read_record<'a>(memory: &mut Memory, bytes: &'a [u8]) -> Result<Iim<'a>, Refusal>
     ensures said { IfOk result (λ i. IsSaidIn kind.Iim bytes.now (said.Iim i)) }
     ensures refused { IfErr result (IsRefusedIn kind.Iim bytes.now memory.new.refusals) }
@@ -124,7 +123,7 @@ fn judge_block(memory: &mut Memory, kind: BlockKind, bytes: &[u8]) -> Result<(),
     }
 }
 
-// The kind of the block in a file, where that says something. It takes memory for what an Exif block says.
+// The kind of the block in a file that has a meaning. Allocates the meaning of an Exif block.
 pub(crate) fn judge_any_in(memory: &mut Memory, file: &[u8]) -> Result<BlockKind, Refusal>
     ensures kind { IfOk result (IsKindOf file.now) }
     ensures refused { IfErr result (IsRefused file.now memory.new.refusals) }
@@ -135,13 +134,12 @@ pub(crate) fn judge_any_in(memory: &mut Memory, file: &[u8]) -> Result<BlockKind
     Ok(kind)
 }
 
-/// What a file says: an Exif block behind the six bytes `45 78 69 66 00 00`, or, where its first octet
-/// is `1C`, a block of DataSets, or else an Exif block.
+/// The meaning of a file: an Exif block after the six bytes `45 78 69 66 00 00`; otherwise a block of
+/// DataSets if the first byte is `1C`, or else an Exif block.
 ///
-/// A refusal of content names the first fault of the block, judged as one of its kind; `read_block_in`
-/// and `read_iim_in` say in which order the checks are made. Places count from the block's first byte.
-/// What is read borrows the file's bytes. It takes memory as these two do; OutOfMemory comes exactly
-/// where a growth was refused, and says nothing of the file.
+/// The meaning borrows the file's bytes. Allocates as `read_block_in` and `read_iim_in` do. `Content`: the
+/// first fault of the block, judged as its kind; these two functions have the order of the checks. Offsets
+/// count from the block's first byte. `OutOfMemory`: an allocation failed.
 pub fn read_any_in<'a>(memory: &mut Memory, file: &'a [u8]) -> Result<Said<'a>, Refusal>
     ensures said { IfOk result (λ s. IsSaid file.now (said_of s)) }
     ensures refused { IfErr result (IsRefused file.now memory.new.refusals) }
@@ -154,7 +152,7 @@ pub fn read_any_in<'a>(memory: &mut Memory, file: &'a [u8]) -> Result<Said<'a>, 
     }
 }
 
-/// The same with memory of its own.
+/// Like `read_any_in`, with memory of its own.
 pub fn read_any<'a>(alloc: Global, file: &'a [u8]) -> Result<Said<'a>, Refusal>
     ensures said { IfOk result (λ s. IsSaid file.now (said_of s)) }
     ensures refused { IfErr result (λ r. (refused : ℕ) × IsRefused file.now refused r) }

@@ -1,4 +1,4 @@
-// What a file in hand says, or why it says nothing.
+// The meaning of a file in memory, or why it has none.
 ghost use Rattle.std.specs.Prelude.{◌≡◌, IfOk, IfErr};
 ghost use Rattle.px_engine.specs.Input.{IsSaid, IsUnsaid, LacksRun, LacksPair};
 ghost use Rattle.px_engine.specs.calls.Second.{SaysSecond};
@@ -9,7 +9,7 @@ use crate::input::read_any_in;
 use crate::meanings::{Said, same};
 use px_bytes::Memory;
 
-// What a file says, or the fault of a run.
+// The meaning of a file, or the fault of a run.
 pub(crate) fn judge<'a>(memory: &mut Memory, file: &'a [u8]) -> Result<Said<'a>, Fault>
     ensures said { IfOk result (λ s. IsSaid file.now (said_of s)) }
     ensures unsaid { IfErr result (IsUnsaid file.now memory.new.refusals) }
@@ -21,7 +21,7 @@ pub(crate) fn judge<'a>(memory: &mut Memory, file: &'a [u8]) -> Result<Said<'a>,
     }
 }
 
-// What one of two files says.
+// The meaning of one of two files.
 pub(crate) fn judge_side<'a>(
     memory: &mut Memory,
     file: &'a [u8],
@@ -38,8 +38,9 @@ pub(crate) fn judge_side<'a>(
     }
 }
 
-// Judges the second of two files, and answers whether it says what the first does. What a file says is
-// given up by a call wherever it is owned: a body that drops it at its end has all its fields to give up.
+// Judges the second of two files and returns whether it means the same as the first. Each owner of a meaning
+// passes it to a call that drops it: dropping it at the end of a body would mean a proof about each of its
+// fields.
 pub(crate) fn same_second(
     memory: &mut Memory,
     said: &Said,

@@ -1,4 +1,4 @@
-// Which kind of block a file holds, and where it begins.
+// The kind of block in a file, and where it begins.
 ghost use Rattle.std.specs.Prelude.{◌≡◌};
 ghost use Rattle.px_engine.specs.Files.{is_prefixed, is_marked, kind_of, block_of};
 
@@ -11,7 +11,7 @@ pub enum BlockKind {
     Iim,
 }
 
-// The six bytes in front of an Exif block in a JPEG segment.
+// The six bytes before an Exif block in a JPEG segment.
 const PREFIX: [u8; 6] = [0x45, 0x78, 0x69, 0x66, 0x00, 0x00];
 
 // The tag marker of a DataSet.
@@ -29,8 +29,8 @@ fn is_marked(file: &[u8]) -> bool
     file.starts_with(&[MARKER])
 }
 
-/// The kind of the block in a file: an Exif block behind the six bytes `45 78 69 66 00 00`; else, where
-/// the first octet is `1C`, a block of DataSets; else an Exif block.
+/// The kind of the block in a file: Exif after the six bytes `45 78 69 66 00 00`; otherwise DataSets if the
+/// first byte is `1C`, or else Exif.
 #[tactic(auto, unfolding(crate::specs::Files::kind_of))]
 pub fn kind_of(file: &[u8]) -> BlockKind
     ensures { result ≡ kind_of file.now }
@@ -44,7 +44,7 @@ pub fn kind_of(file: &[u8]) -> BlockKind
     BlockKind::Exif
 }
 
-/// The block in a file: what stands behind the six bytes, or the whole file.
+/// The block in a file: the bytes after the six, or the whole file.
 #[tactic(auto, unfolding(crate::specs::Files::block_of))]
 pub fn block_of<'a>(file: &'a [u8]) -> &'a [u8]
     ensures { result.now ≡ block_of file.now }

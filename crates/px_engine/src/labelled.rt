@@ -1,4 +1,4 @@
-// The captions of what is said, as a list.
+// The captions of a file, as a list.
 ghost use Rattle.std.specs.Prelude.{◌≡◌, IfOk};
 ghost use Rattle.px_bytes.specs.Lacking.{Lacks};
 ghost use Rattle.px_engine.specs.Prints.{captions_in};
@@ -9,11 +9,11 @@ use px_bytes::{Memory, Refused};
 use px_text::{Captions, exif_captions_in, iim_captions_in};
 use std::alloc::{AllocError, Global};
 
-/// The captions of what a file says: of an Exif block the fields ImageDescription, Artist and Copyright of
-/// its main directory, where they are of type ASCII or UTF-8, and then those of a record in it; of a
-/// record its labelled DataSets, group by group, each in list order. The bytes are those that were read.
+/// The captions of a file. Of an Exif block these are the fields ImageDescription, Artist and Copyright of
+/// its main directory, if they are ASCII or UTF-8, and then the captions of a record in it. Of a record they
+/// are its labelled DataSets, group by group, each in list order. The bytes are those that were read.
 ///
-/// It takes memory for the list, and fails only where a growth of it was refused.
+/// Allocates the list. `Err`: an allocation failed.
 pub fn captions_of_in<'a>(memory: &mut Memory, said: &Said<'a>) -> Result<Captions<'a>, Refused>
     ensures captions { IfOk result (λ c. c ≡ captions_in (said_of said.now)) }
     ensures memory { Lacks result memory.old memory.new }
@@ -24,7 +24,7 @@ pub fn captions_of_in<'a>(memory: &mut Memory, said: &Said<'a>) -> Result<Captio
     }
 }
 
-/// The captions of what a file says, as `captions_of_in` gives them, in memory of its own.
+/// Like `captions_of_in`, with memory of its own.
 pub fn captions_of<'a>(alloc: Global, said: &Said<'a>) -> Result<Captions<'a>, AllocError>
     ensures { IfOk result (λ c. c ≡ captions_in (said_of said.now)) }
 {

@@ -1,14 +1,14 @@
-//! What a file of metadata says, whichever kind of block it holds: an Exif block, perhaps behind the
-//! six bytes that stand before it in a JPEG segment, or a block of IPTC-NAA IIM DataSets. It reads a
-//! file, compares two, writes the one normal form of what is said, and prints it in two texts: a listing
-//! and its captions. It opens no file: bytes come from any `Source` and go to any `Sink`, or are in hand.
-//! It edits nothing, and repairs no block.
+//! The meaning of a metadata file of either kind: an Exif block, perhaps after the six bytes that precede it
+//! in a JPEG segment, or a block of IPTC-NAA IIM DataSets. This crate reads a file, compares two, writes the
+//! normal form, and prints a listing and the captions. It opens no file: bytes come from any `Source` and go
+//! to any `Sink`, or are in memory. It edits nothing and repairs no block.
 //!
-//! Each call that takes memory stands here twice: over an allocator, and, with a name that ends in `_in`,
-//! over `Memory`, where it is proved that `OutOfMemory` comes exactly where a growth was refused.
+//! Each function that allocates has two forms. The one whose name ends in `_in` takes a `Memory`, and its
+//! contract states that it returns `OutOfMemory` exactly if an allocation failed. The other takes an
+//! allocator. It is for callers of this crate: nothing that ships calls it.
 //!
 //! ```
-//! let file = b"\x1c\x02\x78\x80\x04\x00\x00\x00\x03abc\x00"; // a caption, its count extended, a zero behind
+//! let file = b"\x1c\x02\x78\x80\x04\x00\x00\x00\x03abc\x00"; // a caption with an extended length, then a zero
 //! let mut reader = Watched::new(file.as_slice());
 //! let mut writer = Watched::new(Vec::new(rt.alloc()));
 //! let len = normalise(rt.alloc(), &mut reader, &mut writer)?; // 8: 1C 02 78 00 03 61 62 63

@@ -1,21 +1,21 @@
-// What a file says, and whether two say the same.
+// The meaning of a file, and whether two are the same.
 ghost use Rattle.std.specs.Prelude.{◌≡◌, ◌↔◌, IsTrue};
 ghost use Rattle.px_engine.specs.calls.Seen.{said_of};
 
 use px_iim::{Iim, same_iim};
 use px_tree::{Meaning, same_meaning};
 
-/// What a file says. Values and data are borrowed from the bytes that were read.
+/// The meaning of a file. Values and data are borrowed from the bytes that were read.
 #[derive(Drop)]
 pub enum Said<'a> {
-    /// What an Exif block means.
+    /// The meaning of an Exif block.
     Exif(Meaning<'a>),
-    /// The record that a block of DataSets says.
+    /// The record of a block of DataSets.
     Iim(Iim<'a>),
 }
 
-/// Whether the same is said: the same tree of directories, or the same record. What an Exif block says
-/// is never what a block of DataSets says. It takes no memory.
+/// Whether two meanings are the same tree of directories or the same record. An Exif block never means the
+/// same as a block of DataSets. It allocates nothing.
 pub fn same(first: &Said, second: &Said) -> bool
     ensures { IsTrue result ↔ (said_of first.now ≡ said_of second.now) }
 {

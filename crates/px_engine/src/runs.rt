@@ -1,4 +1,4 @@
-// Whole runs over readers and writers.
+// Whole runs from readers to writers.
 ghost use Rattle.std.specs.Prelude.{◌≡◌};
 ghost use Rattle.px_bytes.specs.Reading.{ConsumesAtMost};
 ghost use Rattle.px_engine.specs.Input.{LacksRun, LacksPair, CountsReads};
@@ -19,15 +19,13 @@ use crate::writing::write_said;
 use px_bytes::{Memory, Sink, Source};
 use std::alloc::Global;
 
-/// Reads a file and writes the normal form of what it says; the answer is the form's length in bytes,
-/// at most `LIMIT`.
+/// Reads a file and writes its normal form. Returns the form's length in bytes, at most `LIMIT`.
 ///
-/// Nothing is written before the file is read and judged and the form is known to fit: after every
-/// fault but `WriteFailed` the writer has taken nothing, after that a prefix of the form. `Refused`
-/// names the block's first fault, and the file says nothing. `NormalTooLong` comes only of blocks
-/// longer than half of `LIMIT`. `ReadFailed` and `WriteFailed` come where a call of that device failed,
-/// which ends the run; `OutOfMemory` exactly where a growth was refused. It takes memory for the file and
-/// for what it says.
+/// It writes nothing until the file is read and judged and the form is known to fit. So after `WriteFailed`
+/// the writer has taken a prefix of the form, and after any other fault nothing. Allocates the file's bytes
+/// and the meaning. `Refused`: the block's first fault; the file has no meaning. `NormalTooLong`: the form is
+/// longer than `LIMIT`, which happens only for blocks longer than half of it. `ReadFailed`, `WriteFailed`: a
+/// call of that device failed, which ends the run. `OutOfMemory`: an allocation failed.
 pub fn normalise_in<R: Source, W: Sink>(
     memory: &mut Memory,
     reader: &mut R,
@@ -48,7 +46,7 @@ pub fn normalise_in<R: Source, W: Sink>(
     done
 }
 
-/// The same with memory of its own.
+/// Like `normalise_in`, with memory of its own.
 pub fn normalise<R: Source, W: Sink>(
     alloc: Global,
     reader: &mut R,
@@ -64,10 +62,9 @@ pub fn normalise<R: Source, W: Sink>(
     normalise_in(&mut Memory::new(alloc), reader, writer)
 }
 
-/// Reads a file and answers which kind of block it holds, where that says something. `Refused` names the
-/// block's first fault; `ReadFailed` comes where a call of the reader failed, which ends the run, and
-/// `OutOfMemory` exactly where a growth was refused.
-/// It takes memory for the file, and for what an Exif block says.
+/// Reads a file and returns the kind of its block if it has a meaning. Allocates the file's bytes, and the
+/// meaning of an Exif block. `Refused`: the block's first fault. `ReadFailed`: a call of the reader failed,
+/// which ends the run. `OutOfMemory`: an allocation failed.
 pub fn check_in<R: Source>(memory: &mut Memory, reader: &mut R) -> Result<BlockKind, Fault>
     requires { CanFail (R.failed reader.old) }
     ensures done { Checks result (R.bytes_left reader.old) }
@@ -79,7 +76,7 @@ pub fn check_in<R: Source>(memory: &mut Memory, reader: &mut R) -> Result<BlockK
     check_of_in(memory, &file)
 }
 
-/// The same with memory of its own.
+/// Like `check_in`, with memory of its own.
 pub fn check<R: Source>(alloc: Global, reader: &mut R) -> Result<BlockKind, Fault>
     requires { CanFail (R.failed reader.old) }
     ensures done { Checks result (R.bytes_left reader.old) }
@@ -89,14 +86,13 @@ pub fn check<R: Source>(alloc: Global, reader: &mut R) -> Result<BlockKind, Faul
     check_in(&mut Memory::new(alloc), reader)
 }
 
-/// Reads a file and writes the listing of what it says, a line for each directory, field and DataSet, in
-/// writes of up to 8,192 bytes, of which a shorter text needs one, and then flushes once.
+/// Reads a file and writes its listing: a line for each directory, field and DataSet. It writes parts of up
+/// to 8,192 bytes, a shorter text in one, and then flushes once.
 ///
-/// Nothing is written before the file is read and judged: after every fault but `WriteFailed` the writer
-/// has taken nothing, after that a prefix of the text. `Refused` names the block's first fault;
-/// `ReadFailed` and `WriteFailed` come where a call of that device failed, which ends the run, and
-/// `OutOfMemory` exactly where a growth was refused. `NormalTooLong` never comes. It takes memory for the
-/// file and for what it says, and none for the text, which goes out as it is made.
+/// It writes nothing until the file is read and judged. So after `WriteFailed` the writer has taken a prefix
+/// of the text, and after any other fault nothing. Allocates the file's bytes and the meaning, but not the
+/// text. `Refused`: the block's first fault. `ReadFailed`, `WriteFailed`: a call of that device failed, which
+/// ends the run. `OutOfMemory`: an allocation failed. `NormalTooLong` is never returned.
 pub fn show_in<R: Source, W: Sink>(
     memory: &mut Memory,
     reader: &mut R,
@@ -117,7 +113,7 @@ pub fn show_in<R: Source, W: Sink>(
     done
 }
 
-/// The same with memory of its own.
+/// Like `show_in`, with memory of its own.
 pub fn show<R: Source, W: Sink>(alloc: Global, reader: &mut R, writer: &mut W) -> Result<(), Fault>
     requires reading { CanFail (R.failed reader.old) }
     requires writing { CanFail (W.failed writer.old) }
@@ -129,12 +125,11 @@ pub fn show<R: Source, W: Sink>(alloc: Global, reader: &mut R, writer: &mut W) -
     show_in(&mut Memory::new(alloc), reader, writer)
 }
 
-/// Reads a file and writes its captions, one a line, in writes as those of `show`, and then flushes once.
-/// A byte from 20 to 7E stands for itself, but the backslash; each other one is a backslash and two
-/// hexadecimal digits.
+/// Reads a file and writes its captions, one for each line. It writes and flushes as `show` does. Bytes from
+/// 20 to 7E except the backslash are printed as they are; any other byte is a backslash and two hexadecimal
+/// digits.
 ///
-/// Faults are those of `show`, and what was written after each. It takes memory as `show` does, and none
-/// for the text.
+/// Errors, output after each, and memory are as for `show_in`.
 pub fn captions_in<R: Source, W: Sink>(
     memory: &mut Memory,
     reader: &mut R,
@@ -155,7 +150,7 @@ pub fn captions_in<R: Source, W: Sink>(
     done
 }
 
-/// The same with memory of its own.
+/// Like `captions_in`, with memory of its own.
 pub fn captions<R: Source, W: Sink>(
     alloc: Global,
     reader: &mut R,
@@ -171,7 +166,7 @@ pub fn captions<R: Source, W: Sink>(
     captions_in(&mut Memory::new(alloc), reader, writer)
 }
 
-// Reads the second of two files, and answers whether it says what the first does.
+// Reads the second of two files and returns whether it means the same as the first.
 fn compare_second<S: Source>(
     memory: &mut Memory,
     said: &Said,
@@ -187,12 +182,12 @@ fn compare_second<S: Source>(
     same_second(memory, said, &file)
 }
 
-/// Reads two files and answers whether they say the same: the same tree of directories, or the same
-/// record. The first is read and judged wholly before the second is read: a fault of the first leaves
-/// the second reader as it was. Whether the normal forms can be written doesn't matter.
+/// Reads two files and returns whether they mean the same: the same tree of directories, or the same record.
+/// It judges the first before it reads the second: a fault of the first leaves the second reader unchanged.
+/// It doesn't matter whether the normal forms can be written.
 ///
-/// A fault is `Refused`, with the first fault of that side's block, `ReadFailed` where a call of that
-/// side's reader failed, or `OutOfMemory`, exactly where a growth was refused. It takes memory for both files and for what they say.
+/// Allocates the bytes and the meaning of both files. `Refused`: the first fault of that side's block.
+/// `ReadFailed`: a call of that side's reader failed. `OutOfMemory`: an allocation failed.
 pub fn compare_in<R: Source, S: Source>(
     memory: &mut Memory,
     first: &mut R,
@@ -214,7 +209,7 @@ pub fn compare_in<R: Source, S: Source>(
     same
 }
 
-/// The same with memory of its own.
+/// Like `compare_in`, with memory of its own.
 pub fn compare<R: Source, S: Source>(
     alloc: Global,
     first: &mut R,

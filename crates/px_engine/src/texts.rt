@@ -1,4 +1,4 @@
-// The texts of what is said, written.
+// Writes the listing and the captions of a file.
 ghost use Rattle.std.specs.Prelude.{◌≡◌, IfOk};
 ghost use Rattle.px_bytes.specs.Devices.{CanFail, Counts, Writes};
 ghost use Rattle.px_bytes.specs.Lacking.{Lacks};
@@ -13,7 +13,7 @@ use crate::meanings::Said;
 use px_bytes::{Failed, Growing, Memory, Pending, Refused, Sink};
 use px_text::{put_exif_captions, put_exif_listing, put_iim_captions, put_iim_listing};
 
-// Puts the listing of what is said behind the bytes that wait.
+// Adds the listing to the output buffer.
 fn put_listing<W: Sink>(pending: &mut Pending, writer: &mut W, said: &Said) -> Result<(), Failed>
     requires { CanFail (W.failed writer.old) }
     ensures bytes { Puts result (W.bytes_taken writer.old) (W.bytes_taken writer.new) pending.old pending.new (listing (said_of said.now)) }
@@ -25,7 +25,7 @@ fn put_listing<W: Sink>(pending: &mut Pending, writer: &mut W, said: &Said) -> R
     }
 }
 
-// Puts the captions of what is said so.
+// Adds the captions to the output buffer.
 fn put_captions<W: Sink>(pending: &mut Pending, writer: &mut W, said: &Said) -> Result<(), Failed>
     requires { CanFail (W.failed writer.old) }
     ensures bytes { Puts result (W.bytes_taken writer.old) (W.bytes_taken writer.new) pending.old pending.new
@@ -38,7 +38,7 @@ fn put_captions<W: Sink>(pending: &mut Pending, writer: &mut W, said: &Said) -> 
     }
 }
 
-// Sends what waits, and flushes once.
+// Writes the output buffer and flushes once.
 fn send_and_flush<W: Sink>(pending: &mut Pending, writer: &mut W) -> Result<(), Failed>
     requires { CanFail (W.failed writer.old) }
     ensures bytes { Writes result (W.bytes_taken writer.old) (W.bytes_taken writer.new) pending.old }
@@ -48,7 +48,7 @@ fn send_and_flush<W: Sink>(pending: &mut Pending, writer: &mut W) -> Result<(), 
     writer.flush_all()
 }
 
-// Writes the listing of what is said, and flushes once.
+// Writes the listing and flushes once.
 fn send_listing<W: Sink>(said: &Said, writer: &mut W) -> Result<(), Failed>
     requires { CanFail (W.failed writer.old) }
     ensures bytes { Writes result (W.bytes_taken writer.old) (W.bytes_taken writer.new) (listing (said_of said.now)) }
@@ -59,7 +59,7 @@ fn send_listing<W: Sink>(said: &Said, writer: &mut W) -> Result<(), Failed>
     send_and_flush(&mut pending, writer)
 }
 
-// Writes the captions of what is said so.
+// Writes the captions and flushes once.
 fn send_captions<W: Sink>(said: &Said, writer: &mut W) -> Result<(), Failed>
     requires { CanFail (W.failed writer.old) }
     ensures bytes { Writes result (W.bytes_taken writer.old) (W.bytes_taken writer.new) (caption_text (said_of said.now)) }
@@ -70,7 +70,7 @@ fn send_captions<W: Sink>(said: &Said, writer: &mut W) -> Result<(), Failed>
     send_and_flush(&mut pending, writer)
 }
 
-// What a writer of texts answers, as the answer of a run.
+// The result of a text's writer as the result of a run.
 fn told(answer: Result<(), Failed>) -> Result<(), Fault>
     ensures { result ≡ told answer }
 {
@@ -80,7 +80,7 @@ fn told(answer: Result<(), Failed>) -> Result<(), Fault>
     }
 }
 
-// Writes the listing of what is said, and flushes once. It takes no memory.
+// Writes the listing and flushes once. It allocates nothing.
 pub(crate) fn write_listing<W: Sink>(said: &Said, writer: &mut W) -> Result<(), Fault>
     requires { CanFail (W.failed writer.old) }
     ensures { WritesText result (W.bytes_taken writer.old) (W.bytes_taken writer.new) (W.failed writer.old) (W.failed writer.new)
@@ -89,7 +89,7 @@ pub(crate) fn write_listing<W: Sink>(said: &Said, writer: &mut W) -> Result<(), 
     told(send_listing(said, writer))
 }
 
-// Writes the captions of what is said so.
+// Writes the captions and flushes once. It allocates nothing.
 pub(crate) fn write_captions<W: Sink>(said: &Said, writer: &mut W) -> Result<(), Fault>
     requires { CanFail (W.failed writer.old) }
     ensures { WritesText result (W.bytes_taken writer.old) (W.bytes_taken writer.new) (W.failed writer.old) (W.failed writer.new)
@@ -98,24 +98,24 @@ pub(crate) fn write_captions<W: Sink>(said: &Said, writer: &mut W) -> Result<(),
     told(send_captions(said, writer))
 }
 
-// The listing of what is said.
+// The listing, in memory.
 pub(crate) fn listing(memory: &mut Memory, said: &Said) -> Result<Vec<u8>, Refused>
     ensures text { IfOk result (λ text. text.items ≡ listing (said_of said.now)) }
     ensures memory { Lacks result memory.old memory.new }
 {
     let mut writer = Growing::new(memory);
-    // A write fails where a growth is refused, which the writer tells at its end.
+    // A write fails if an allocation failed, which `finish_in` reports.
     let _ = send_listing(said, &mut writer);
     writer.finish_in(memory)
 }
 
-// The text of the captions of what is said.
+// The text of the captions, in memory.
 pub(crate) fn caption_text(memory: &mut Memory, said: &Said) -> Result<Vec<u8>, Refused>
     ensures text { IfOk result (λ text. text.items ≡ caption_text (said_of said.now)) }
     ensures memory { Lacks result memory.old memory.new }
 {
     let mut writer = Growing::new(memory);
-    // A write fails where a growth is refused, which the writer tells at its end.
+    // A write fails if an allocation failed, which `finish_in` reports.
     let _ = send_captions(said, &mut writer);
     writer.finish_in(memory)
 }

@@ -1,4 +1,4 @@
 // The version.
 
-/// The version of the program and of the library; no other place states it.
+/// The version of the program and of the library. The other files that name it are checked against this one.
 pub const VERSION: &str = "1.0.0";

@@ -1,4 +1,4 @@
-// The normal form of what is said, written.
+// Writes a normal form.
 ghost use Rattle.std.specs.Prelude.{◌≡◌};
 ghost use Rattle.px_engine.specs.calls.Faults.{written};
 ghost use Rattle.px_engine.specs.Files.{CanBeWritten};
@@ -12,7 +12,7 @@ use px_bytes::{Sink, WriteRefusal};
 use px_iim::write_iim;
 use px_layout::write_normal_in;
 
-// What a writer of normal forms answers, as the answer of a run.
+// The result of a normal form's writer as the result of a run.
 fn written(answer: Result<u64, WriteRefusal>) -> Result<u64, Fault>
     ensures { result ≡ written answer }
 {
@@ -22,7 +22,7 @@ fn written(answer: Result<u64, WriteRefusal>) -> Result<u64, Fault>
     }
 }
 
-// Writes the normal form of what is said. It takes no memory.
+// Writes the normal form of what a file means. It allocates nothing.
 pub(crate) fn write_said<W: Sink>(said: &Said, writer: &mut W) -> Result<u64, Fault>
     requires few { CanFail (W.failed writer.old) }
     requires fits { CanBeWritten (said_of said.now) }
