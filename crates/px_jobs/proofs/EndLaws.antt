@@ -1,4 +1,4 @@
--- A run ends with an outcome that there is: it is allowed, and it is told.
+-- A run ends with an allowed outcome, and reports it.
 use Rattle.std.specs.Prelude.{ℕ, Bool, Result}
 use Rattle.px_engine.specs.declared.BlockKind.{BlockKind}
 use Rattle.px_engine.specs.declared.CompareFault.{CompareFault}

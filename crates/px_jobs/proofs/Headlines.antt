@@ -10,7 +10,7 @@ use Rattle.px_jobs.specs.Lines.{Device, Tells, TellsFault, status_of}
 use Rattle.px_jobs.specs.Endings.{TellsWritten, TellsCompared}
 use Rattle.px_jobs.specs.Laws.{FormsTell, ComparisonTells}
 
--- a status that is due is told, or 4 is
+-- the status is the given one, or 4
 told : (due : ℕ) (line : List ℕ) (status : ℕ) (lines : Device) → 1 < due → status < 2 → Tells due line status lines → ⊥
 told due line status lines p q (inl t) = let e = t.0 in absurd (omega arith)
 told due line status lines p q (inr t) = let e = t.0 in absurd (omega arith)
@@ -40,7 +40,7 @@ forms_tell law f g reader out lines other_reader other_out other_lines a b c d p
 apart : {A B : Type 0} (due status : ℕ) → 1 < due → status ≡ due → (status ≡ 0 → A) × (status ≡ 1 → B)
 apart due status p e = (λ q. absurd (omega arith), λ q. absurd (omega arith))
 
--- a comparison that ends with status 0 or 1 was answered
+-- a comparison that ends with status 0 or 1 has a result
 compared : (law : ComparingTells) (r : Result Bool CompareFault) (f g m n : List ℕ) (lines : Device) (status : ℕ) → Headline f g m n
     → Compares r (Some f) (Some g) → TellsCompared r status lines → (status ≡ 0 → m ≡ n) × (status ≡ 1 → m ≡ n → ⊥)
 compared law (Ok true) f g m n lines status h c (inl t) = (

@@ -1,4 +1,4 @@
--- A line of five parts that wait, the parts sent, and a flush behind what was written.
+-- A line of five buffered parts, then a write and a flush.
 use Rattle.std.proofs.Common.{◌≡◌, ◌+◌, ◌++◌, ◌∙◌, ap, inl, inr, ℕ, List, [], Option, Result, Ok, Err}
 use Rattle.std.specs.Prelude.{⊤}
 use Rattle.std.specs.Io.KnownBytes.{Appends}
@@ -9,7 +9,7 @@ use Rattle.px_bytes.specs.lemmas.WriteLaws.{appends_kept, prefix_all}
 use Rattle.px_jobs.specs.Lines.{device, Tells}
 use Rattle.px_jobs.specs.calls.Flushing.{Flushes}
 
--- the first of two parts was put, and a call failed behind it
+-- the first of two parts was added, and a call failed after it
 stops_behind : (a b c : Option (List ℕ)) (h i xs ys : List ℕ) → Owes a b i (h ++ xs) → AppendsPrefix b c (i ++ ys)
     → AppendsPrefix a c (h ++ (xs ++ ys))
 stops_behind a b c h i xs ys p q = puts_both {A = ⊤} {E = ⊤} (Err tt) a b c h i [] xs ys p q
@@ -37,7 +37,7 @@ module _ (v w x y z : List ℕ) (a b c d e : Option (List ℕ)) (h i j k l : Lis
         puts_all r f m four p = puts_both r a b f h i m v (w ++ (x ++ (y ++ z))) one
             (puts_both r b c f i j m w (x ++ (y ++ z)) two (puts_both r c d f j k m x (y ++ z) three (puts_both r d e f k l m y z four p)))
 
--- nothing waited at first; the bytes were put, and what waits then was sent
+-- the buffer was empty; the bytes were added, and the buffer was then written
 pub sent : {A E : Type 0} (r : Result A E) (a b c : Option (List ℕ)) (h k out : List ℕ) → h ≡ [] → Owes a b k (h ++ out) → Writes r b c k
     → Writes r a c out
 sent (Ok x) a b c h k out none p w = from_none (Appends a c) h out none (owed_all a b c k (h ++ out) p w)

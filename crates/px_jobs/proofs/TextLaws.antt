@@ -1,4 +1,4 @@
--- A text that was printed, and what follows it.
+-- A text that was printed, and the lines after it.
 use Rattle.std.proofs.Common.{◌≡◌, ◌≢◌, ◌∙◌, ◌+◌, ◌<◌, ◌^◌, refl, sym, subst, inl, inr, ℕ, List, Option, None, Result, Ok, Err}
 use Rattle.std.specs.Prelude.{⊤}
 use Rattle.std.specs.Io.KnownBytes.{Appends}
@@ -12,7 +12,7 @@ use Rattle.px_jobs.specs.Lines.{device, TellsFault}
 use Rattle.px_jobs.specs.Endings.{TellsText}
 use Rattle.px_jobs.specs.calls.Telling.{TellsPrinted}
 
--- a fault that is told behind a text of which nothing was written
+-- a fault that is reported when nothing of the text was written
 moved : (e : Fault) (status failed mid now : ℕ) (old shown new : Option (List ℕ)) → mid ≡ failed → shown ≡ old
     → TellsFault e None status (device mid now shown new) → TellsFault e None status (device failed now old new)
 moved e status failed mid now old shown new count same t =
@@ -43,7 +43,7 @@ text_told text (Err ReadFailed) file status failed mid now old shown new p w t =
 ]
 text_told text (Err NormalTooLong) file status failed mid now old shown new p w t = absurd p.0
 
--- a fault that is not of the writer left its count as it was
+-- a fault of anything but the writer left the writer's count unchanged
 counts_before : (e : Fault) (failed mid : ℕ) → e ≢ WriteFailed → CountsWrites {A = ⊤} (Err e) failed mid → mid ≡ failed
 counts_before WriteFailed failed mid other w = absurd (other refl)
 counts_before (Refused cause place) failed mid other w = w
@@ -51,7 +51,7 @@ counts_before NormalTooLong failed mid other w = w
 counts_before OutOfMemory failed mid other w = w
 counts_before ReadFailed failed mid other w = w
 
--- so the writer may be asked for a line
+-- so the writer can be called for a line
 pub room : (r : Result ⊤ Fault) (failed mid : ℕ) → CountsWrites r failed mid → failed + 1 < 2 ^ 64
     → (e : Fault) → r ≡ Err e → e ≢ WriteFailed → mid + 1 < 2 ^ 64
 room r failed mid w few e is other =

@@ -15,7 +15,7 @@ use Rattle.px_jobs.specs.Lines.{Device, IsFailed, IsWell, Took, TookNothing, Too
 
 -- ---- the status and the line of an outcome
 
--- a normal form: nothing is said of it
+-- for a normal form: no line
 abbrev pub TellsWritten : Result ℕ Fault → ℕ → Device → Type 0
 TellsWritten (Ok n) status lines = (status ≡ 0) × IsWell lines × TookNothing lines
 TellsWritten (Err e) status lines = TellsFault e None status lines
@@ -42,21 +42,20 @@ abbrev pub TellsCompared : Result Bool CompareFault → ℕ → Device → Type 
 TellsCompared (Ok same) status lines = Tells (compared_status same) (compared same) status lines
 TellsCompared (Err e) status lines = TellsFault e.fault (Some e.side) status lines
 
--- nothing was asked of it
+-- no call was made
 abbrev pub IsIdle : Device → Type 0
 IsIdle d = (d.failed_now ≡ d.failed) × (d.new ≡ d.old)
 
--- a text of what the file says: the whole of it; or a part of it, before the lines failed; or the status and the line of a
--- fault that comes before the text
+-- a text of the file: all of it; or a part of it, before the lines failed; or the status and the line of a fault that comes
+-- before the text
 abbrev pub TellsText : (Said → List ℕ) → Result ⊤ Fault → Option (List ℕ) → ℕ → Device → Type 0
 TellsText text (Ok x) file status lines = (s : Said) × KnownSaid file s × (status ≡ 0) × IsWell lines × Took lines (text s)
 TellsText text (Err WriteFailed) file status lines =
     (s : Said) × KnownSaid file s × (status ≡ 4) × IsFailed lines × TookPrefix lines (text s)
 TellsText text (Err fault) file status lines = Stops fault file × TellsFault fault None status lines
 
--- ---- whole runs: there is an outcome that the engine allows of the files, and it is told. `refused`
--- and `refused_now` say how many growths memory had refused before the run, and how many it has behind it: an outcome that is
--- want of memory met one refused growth, and behind every other memory is as it was
+-- ---- whole runs: the engine allows the outcome for the files, and it is reported. `refused` and `refused_now` are the numbers
+-- of failed allocations before and after the run: out of memory means one failed allocation, any other outcome means none
 
 abbrev pub EndsNormalise : Device → Device → Device → ℕ → ℕ → ℕ → Type 0
 EndsNormalise reader out lines refused refused_now status = (r : Result ℕ Fault) × Normalises r reader.old out.old out.new
@@ -67,7 +66,7 @@ abbrev pub EndsCheck : Device → Device → ℕ → ℕ → ℕ → Type 0
 EndsCheck reader lines refused refused_now status = (r : Result BlockKind Fault) × Checks r reader.old
     × CountsReads r reader.failed reader.failed_now × LacksRunBy r refused refused_now × TellsChecked r status lines
 
--- the text of what the file says
+-- the text of the file
 abbrev pub EndsText : (Said → List ℕ) → Device → Device → ℕ → ℕ → ℕ → Type 0
 EndsText text reader lines refused refused_now status = (r : Result ⊤ Fault) × CountsReads r reader.failed reader.failed_now
     × LacksRunBy r refused refused_now × TellsText text r reader.old status lines

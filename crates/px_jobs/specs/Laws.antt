@@ -1,4 +1,4 @@
--- What two runs of the program say of each other. The files' bytes are f and g.
+-- The relation between two runs of the program on files with the bytes f and g.
 use Rattle.std.specs.Prelude.{◌≡◌, ℕ, List, Some}
 use Rattle.px_engine.specs.Headline.{Headline}
 use Rattle.px_jobs.specs.declared.job.Job.TheVariants.{Normalise}
@@ -13,7 +13,7 @@ FormsTell = (f g : List ℕ) (reader out lines other_reader other_out other_line
     → Ends Normalise other_reader other_out other_lines other_refused other_refused_now 0
     → (m n : List ℕ) × Took out m × Took other_out n × Headline f g m n
 
--- Of two files with normal forms a run of `compare` with status 0 says that these are equal, and one with status 1 that they differ.
+-- For two files with normal forms, `compare` returns status 0 only if these are equal, and 1 only if they differ.
 abbrev pub ComparisonTells : Type 0
 ComparisonTells = (f g m n : List ℕ) (first second lines : Device) (refused refused_now status : ℕ) → Headline f g m n
     → first.old ≡ Some f → second.old ≡ Some g → EndsCompare first second lines refused refused_now status

@@ -9,7 +9,7 @@ use Rattle.px_engine.specs.declared.Fault.TheVariants.{Refused, NormalTooLong, O
 use Rattle.px_engine.specs.declared.Side.{Side}
 use Rattle.px_engine.specs.declared.Side.TheVariants.{First, Second}
 
--- what ends a line: where two files are compared, which of them it is about
+-- the end of a line: for a comparison, the file that it is about
 abbrev pub end_of : Option Side → List ℕ
 end_of None = codes "\n"
 end_of (Some First) = codes " in file 1\n"
@@ -45,7 +45,7 @@ device failed failed_now old new = record { failed = failed; failed_now = failed
 abbrev pub IsWell : Device → Type 0
 IsWell d = d.failed_now ≡ d.failed
 
--- one did, and no more was asked of it
+-- one call failed, and no more was made
 abbrev pub IsFailed : Device → Type 0
 IsFailed d = d.failed_now ≡ d.failed + 1
 
@@ -58,7 +58,7 @@ TookPrefix d bytes = AppendsPrefix d.old d.new bytes
 abbrev pub TookNothing : Device → Type 0
 TookNothing d = Keeps d.old d.new
 
--- the status and the line that are due; or, where the writer of lines fails, status 4 and a prefix of the line
+-- the given status and line; or, if the writer of lines fails, status 4 and a prefix of the line
 abbrev pub Tells : ℕ → List ℕ → ℕ → Device → Type 0
 Tells due line status lines =
     ((status ≡ due) × IsWell lines × Took lines line)
@@ -76,7 +76,7 @@ is_feed (Some b) = b == 10
 abbrev pub is_ended : List ℕ → Bool
 is_ended text = is_feed (slice_get text (length text - 1))
 
--- the text, with a line feed behind it where it has none
+-- the text, with a line feed after it unless it ends in one
 abbrev pub ended : List ℕ → List ℕ
 ended text = if is_ended text then text else text ++ end_of None
 

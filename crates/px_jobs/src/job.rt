@@ -1,4 +1,4 @@
-// What the program does with readers and writers.
+// Runs of the program over readers and writers.
 ghost use Rattle.std.specs.Prelude.{◌≡◌, ◌≢◌, Err};
 ghost use Rattle.px_engine.specs.declared.Fault.{Fault};
 ghost use Rattle.px_engine.specs.declared.Fault.TheVariants.{WriteFailed};
@@ -15,20 +15,20 @@ use px_engine::{
     BlockKind, CompareFault, Fault, captions_in, check_in, compare_in, normalise_in, show_in,
 };
 
-/// What is done with one file.
+/// What to do with one file.
 #[derive(Clone, Copy, Debug, PartialEq, Eq)]
 pub enum Job {
-    /// What the block says goes to the lines.
+    /// Write the listing to the lines.
     Show,
-    /// The block's kind goes to the lines.
+    /// Write the block's kind to the lines.
     Check,
-    /// The captions of the block go to the lines.
+    /// Write the captions to the lines.
     Captions,
-    /// The normal form of the block goes to the writer of bytes.
+    /// Write the normal form to the writer of bytes.
     Normalise,
 }
 
-// Tells of a normal form, of which nothing is said where it was written.
+// Reports a failed normal form. A written one needs no line.
 fn tell_written<L: Sink>(lines: &mut L, written: Result<u64, Fault>) -> u8
     requires { CanFail (L.failed lines.old) }
     ensures { TellsWritten written result (device (L.failed lines.old) (L.failed lines.new) (L.bytes_taken lines.old)
@@ -40,7 +40,7 @@ fn tell_written<L: Sink>(lines: &mut L, written: Result<u64, Fault>) -> u8
     }
 }
 
-// The line of an accepted block.
+// The line for an accepted block.
 fn accepted(kind: BlockKind) -> &'static [u8]
     ensures { result.now ≡ accepted kind }
 {
@@ -50,7 +50,7 @@ fn accepted(kind: BlockKind) -> &'static [u8]
     }
 }
 
-// Tells of which kind a block is.
+// Reports the kind of a block.
 fn tell_checked<L: Sink>(lines: &mut L, checked: Result<BlockKind, Fault>) -> u8
     requires { CanFail (L.failed lines.old) }
     ensures { TellsChecked checked result (device (L.failed lines.old) (L.failed lines.new) (L.bytes_taken lines.old)
@@ -62,7 +62,7 @@ fn tell_checked<L: Sink>(lines: &mut L, checked: Result<BlockKind, Fault>) -> u8
     }
 }
 
-// Tells of the fault of a text. Where the lines failed, nothing more is asked of them.
+// Reports the fault of a text. If the lines failed, it writes no more to them.
 fn tell_behind<L: Sink>(lines: &mut L, fault: Fault) -> u8
     requires { fault ≢ WriteFailed → CanFail (L.failed lines.old) }
     ensures { TellsBehind fault result (device (L.failed lines.old) (L.failed lines.new) (L.bytes_taken lines.old)
@@ -74,7 +74,7 @@ fn tell_behind<L: Sink>(lines: &mut L, fault: Fault) -> u8
     tell(lines, fault, None)
 }
 
-// Tells of a text, of which nothing more is said where it was written.
+// Reports a failed text. A written one needs no further line.
 fn tell_printed<L: Sink>(lines: &mut L, printed: Result<(), Fault>) -> u8
     requires { (e : Fault) → printed ≡ Err e → e ≢ WriteFailed → CanFail (L.failed lines.old) }
     ensures { TellsPrinted printed result (device (L.failed lines.old) (L.failed lines.new) (L.bytes_taken lines.old)
@@ -86,7 +86,7 @@ fn tell_printed<L: Sink>(lines: &mut L, printed: Result<(), Fault>) -> u8
     }
 }
 
-// The line of two accepted blocks.
+// The line for two accepted blocks.
 fn compared(same: bool) -> &'static [u8]
     ensures { result.now ≡ compared same }
 {
@@ -96,7 +96,7 @@ fn compared(same: bool) -> &'static [u8]
     }
 }
 
-// The status of two accepted blocks.
+// The status for two accepted blocks.
 fn compared_status(same: bool) -> u8
     ensures { result ≡ compared_status same }
 {
@@ -106,7 +106,7 @@ fn compared_status(same: bool) -> u8
     }
 }
 
-// Tells whether two blocks say the same.
+// Reports whether two blocks mean the same.
 fn tell_compared<L: Sink>(lines: &mut L, same: Result<bool, CompareFault>) -> u8
     requires { CanFail (L.failed lines.old) }
     ensures { TellsCompared same result (device (L.failed lines.old) (L.failed lines.new) (L.bytes_taken lines.old)
@@ -118,7 +118,7 @@ fn tell_compared<L: Sink>(lines: &mut L, same: Result<bool, CompareFault>) -> u8
     }
 }
 
-// Writes the normal form to `out`, and a line of what went wrong to `lines`.
+// Writes the normal form to `out`, and the line of a fault to `lines`.
 #[tactic(auto, using(crate::proofs::EndLaws::ends_normalise))]
 fn run_normalise<R: Source, O: Sink, L: Sink>(
     memory: &mut Memory,
@@ -137,7 +137,7 @@ fn run_normalise<R: Source, O: Sink, L: Sink>(
     tell_written(lines, normalise_in(memory, reader, out))
 }
 
-// Tells of which kind the block is.
+// Reports the kind of the block.
 #[tactic(auto, using(crate::proofs::EndLaws::ends_check))]
 fn run_check<R: Source, L: Sink>(memory: &mut Memory, reader: &mut R, lines: &mut L) -> u8
     requires reading { CanFail (R.failed reader.old) }
@@ -149,7 +149,7 @@ fn run_check<R: Source, L: Sink>(memory: &mut Memory, reader: &mut R, lines: &mu
     tell_checked(lines, check_in(memory, reader))
 }
 
-// Writes what the block says.
+// Writes the listing of the block.
 fn run_show<R: Source, L: Sink>(memory: &mut Memory, reader: &mut R, lines: &mut L) -> u8
     requires reading { CanFail (R.failed reader.old) }
     requires telling { CanFail (L.failed lines.old) }
@@ -173,14 +173,14 @@ fn run_captions<R: Source, L: Sink>(memory: &mut Memory, reader: &mut R, lines: 
     tell_printed(lines, printed)
 }
 
-/// Does a job on one file, and answers the exit status: 0 where it is done, 2 where the block is
-/// refused or its normal form is too long, 4 where a device or memory fails.
+/// Does a job on one file. Returns the exit status: 0 on success, 2 if the block is refused or its normal
+/// form is too long, 4 if a read, a write or an allocation failed.
 ///
-/// The normal form goes to `out`, and all text to `lines`: what `Show` and `Captions` print, the line
-/// of `Check`, and the line of a fault, `refused: CAUSE at PLACE`, `refused: NormalTooLong`, `failed:
-/// OutOfMemory`, `failed: ReadFailed` or `failed: WriteFailed`. A flush follows the line or the text.
-/// Where the lines fail the status is 4, and no more is asked of them. A line takes no memory.
-/// `failed: OutOfMemory` means that memory refused a growth in this run.
+/// The normal form goes to `out`, and all text to `lines`: the output of `Show` and `Captions`, the line of
+/// `Check`, and the line of a fault (`refused: CAUSE at PLACE`, `refused: NormalTooLong`, `failed:
+/// OutOfMemory`, `failed: ReadFailed` or `failed: WriteFailed`). It flushes after the line or text. If
+/// writing to `lines` fails, the status is 4 and it writes no more to them. A line allocates nothing.
+/// `failed: OutOfMemory` means that an allocation of this run failed.
 pub fn run_one_in<R: Source, O: Sink, L: Sink>(
     memory: &mut Memory,
     job: Job,
@@ -204,11 +204,10 @@ pub fn run_one_in<R: Source, O: Sink, L: Sink>(
     }
 }
 
-/// Tells whether two files say the same, and answers the exit status: 0 with the line `same`, 1 with
-/// the line `different`, 2 where a block is refused, 4 where a device or memory fails. The line of a
-/// fault ends in ` in file 1` or ` in file 2`. The first file is read and judged wholly before the
-/// second is read. A line takes no memory. `failed: OutOfMemory` means that memory refused a growth in
-/// this run.
+/// Compares two files. Returns the exit status: 0 with the line `same`, 1 with the line `different`, 2 if a
+/// block is refused, 4 if a read, a write or an allocation failed. The line of a fault ends in ` in file 1`
+/// or ` in file 2`. It judges the first file before it reads the second. A line allocates nothing. `failed:
+/// OutOfMemory` means that an allocation of this run failed.
 #[tactic(auto, using(crate::proofs::EndLaws::ends_compare))]
 pub fn run_compare_in<R: Source, S: Source, L: Sink>(
     memory: &mut Memory,

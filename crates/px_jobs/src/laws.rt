@@ -1,17 +1,18 @@
-//! The headline of the program's runs: what `normalise` writes of two files, and what `compare` answers, say the same of what
-//! the files say. Each law is the contract of a function that does nothing.
+//! The main promise, for the program's runs: the results of `normalise` and `compare` on two files agree with
+//! the meanings of the files. Each law is the contract of a function that does nothing.
 ghost use Rattle.px_jobs.specs.Laws.{FormsTell, ComparisonTells};
 
-/// Of two runs of `run_one_in` with `Job::Normalise` and status 0: what was written of the two files is equal exactly if they say
-/// the same; and what was written of a file says what the file says, and is itself the normal form of that.
+/// For two runs of `run_one_in` with `Job::Normalise` and status 0: the bytes written are equal exactly if
+/// the two files mean the same. What was written of a file has the file's meaning, and is its own normal
+/// form.
 pub fn forms_tell()
     ensures { FormsTell }
 {
     px_engine::laws::runs_tell();
 }
 
-/// Of two files that have normal forms `run_compare_in` ends with status 0 only where these are equal, and with 1 only where they
-/// differ.
+/// For two files with normal forms, `run_compare_in` returns status 0 only if these are equal, and 1 only if
+/// they differ.
 pub fn comparison_tells()
     ensures { ComparisonTells }
 {

@@ -1,9 +1,9 @@
-//! What the program does with readers and writers: a job on one file, or whether two say the same, and the
-//! line and the exit status that tell how that ended. A flush follows each line. It opens no file and knows
-//! no words of a command line: bytes come from any `Source`, normal forms and lines go to any `Sink`.
+//! Runs of the program over readers and writers: a job on one file or a comparison of two, with its output
+//! line and exit status. It flushes after each line. It opens no file and knows no command line: bytes come
+//! from any `Source`, normal forms and lines go to any `Sink`.
 //!
-//! A run takes its memory by a `Memory`, so `failed: OutOfMemory` means that a growth was refused. A line
-//! takes none.
+//! A run allocates through a `Memory`, so `failed: OutOfMemory` means that an allocation failed. A line
+//! allocates nothing.
 //!
 //! ```
 //! let file = b"\x1c\x02\x78\x00\x03abc"; // a caption
@@ -14,7 +14,7 @@
 //! let (mut first, mut second) = (Watched::new(file.as_slice()), Watched::new(b"".as_slice()));
 //! run_compare_in(&mut memory, &mut first, &mut second, &mut lines); // 2: refused: UnknownKind at 0 in file 2
 //! tell(&mut lines, Fault::ReadFailed, Some(Side::First)); // 4: failed: ReadFailed in file 1
-//! say_text(&mut lines, "OUT is FILE", 3); // 3: the text, and a line feed behind it
+//! say_text(&mut lines, "OUT is FILE", 3); // 3: the text and a line feed
 //! ```
 #![tactic(auto)]
 

@@ -1,4 +1,4 @@
-// Lines and exit statuses.
+// Output lines and exit statuses.
 ghost use Rattle.std.specs.Prelude.{◌≡◌, ◌++◌, None};
 ghost use Rattle.px_bytes.specs.Devices.{CanFail, Counts, Writes};
 ghost use Rattle.px_bytes.specs.Waiting.{Puts};
@@ -10,7 +10,7 @@ use itoa::Buffer;
 use px_bytes::{Cause, Failed, Pending, Sink, write_whole};
 use px_engine::{Fault, Side};
 
-// The end of a line: where two files are compared, which of them it is about.
+// The end of a line: for a comparison, the file that it is about.
 fn ending(file: Option<Side>) -> &'static [u8]
     ensures { result.now ≡ end_of file }
 {
@@ -21,7 +21,7 @@ fn ending(file: Option<Side>) -> &'static [u8]
     }
 }
 
-// Puts the line of a refusal.
+// Adds the line of a refusal to the output buffer.
 fn put_refusal<L: Sink>(
     pending: &mut Pending,
     lines: &mut L,
@@ -42,7 +42,7 @@ fn put_refusal<L: Sink>(
     pending.put(lines, ending(file))
 }
 
-// Puts a text, and the end of its line.
+// Adds a text and the end of its line.
 fn put_ended<L: Sink>(
     pending: &mut Pending,
     lines: &mut L,
@@ -57,7 +57,7 @@ fn put_ended<L: Sink>(
     pending.put(lines, ending(file))
 }
 
-// Puts the line of a fault.
+// Adds the line of a fault.
 fn put_line<L: Sink>(
     pending: &mut Pending,
     lines: &mut L,
@@ -77,7 +77,7 @@ fn put_line<L: Sink>(
     }
 }
 
-// Writes the line of a fault, in one write where the writer takes it.
+// Writes the line of a fault, in one write if the writer takes it.
 fn write_line<L: Sink>(lines: &mut L, fault: Fault, file: Option<Side>) -> Result<(), Failed>
     requires { CanFail (L.failed lines.old) }
     ensures bytes { Writes result (L.bytes_taken lines.old) (L.bytes_taken lines.new) (line_of fault file) }
@@ -88,7 +88,7 @@ fn write_line<L: Sink>(lines: &mut L, fault: Fault, file: Option<Side>) -> Resul
     pending.send(lines)
 }
 
-// Writes a text and the end of its line, in one write where the writer takes it and both are short.
+// Writes a text and the end of its line, in one write if both are short and the writer takes it.
 fn write_ended<L: Sink>(lines: &mut L, text: &[u8], file: Option<Side>) -> Result<(), Failed>
     requires { CanFail (L.failed lines.old) }
     ensures bytes { Writes result (L.bytes_taken lines.old) (L.bytes_taken lines.new) (text.now ++ end_of file) }
@@ -109,7 +109,7 @@ fn status(fault: Fault) -> u8
     }
 }
 
-// Flushes behind what was written, and answers the exit status: `due`, or 4 where that fails.
+// Flushes. Returns the exit status: `due`, or 4 if the flush fails.
 fn flushed<L: Sink>(lines: &mut L, due: u8) -> u8
     requires { CanFail (L.failed lines.old) }
     ensures { Flushes due result (device (L.failed lines.old) (L.failed lines.new) (L.bytes_taken lines.old) (L.bytes_taken lines.new)) }
@@ -120,8 +120,8 @@ fn flushed<L: Sink>(lines: &mut L, due: u8) -> u8
     }
 }
 
-/// Writes the line of a fault and flushes, and answers the exit status: the fault's, or 4 where that
-/// fails. `file` is the side that the fault is of, where two files are compared. It takes no memory.
+/// Writes the line of a fault and flushes. Returns the exit status: the fault's, or 4 if a write or the flush
+/// fails. In a comparison, `file` is the side with the fault. It allocates nothing.
 pub fn tell<L: Sink>(lines: &mut L, fault: Fault, file: Option<Side>) -> u8
     requires { CanFail (L.failed lines.old) }
     ensures { TellsFault fault file result (device (L.failed lines.old) (L.failed lines.new) (L.bytes_taken lines.old)
@@ -133,8 +133,8 @@ pub fn tell<L: Sink>(lines: &mut L, fault: Fault, file: Option<Side>) -> u8
     }
 }
 
-/// Writes a line and flushes, and answers the exit status: `due`, or 4 where that fails. It takes no
-/// memory.
+/// Writes a line and flushes. Returns the exit status: `due`, or 4 if a write or the flush fails. It
+/// allocates nothing.
 pub fn say<L: Sink>(lines: &mut L, line: &[u8], due: u8) -> u8
     requires { CanFail (L.failed lines.old) }
     ensures { Tells due line.now result (device (L.failed lines.old) (L.failed lines.new) (L.bytes_taken lines.old)
@@ -156,7 +156,7 @@ fn is_ended(text: &[u8]) -> bool
     }
 }
 
-// Writes a text and a line feed, and flushes, and answers the exit status.
+// Writes a text and a line feed, and flushes. Returns the exit status.
 fn say_ended<L: Sink>(lines: &mut L, text: &str, due: u8) -> u8
     requires { CanFail (L.failed lines.old) }
     ensures { Tells due (text.now ++ end_of None) result (device (L.failed lines.old) (L.failed lines.new) (L.bytes_taken lines.old)
@@ -168,8 +168,8 @@ fn say_ended<L: Sink>(lines: &mut L, text: &str, due: u8) -> u8
     }
 }
 
-/// Writes a text, with a line feed behind it where it has none, and flushes, and answers the exit
-/// status: `due`, or 4 where that fails. It takes no memory.
+/// Writes a text, adds a line feed if the text doesn't end in one, and flushes. Returns the exit status:
+/// `due`, or 4 if a write or the flush fails. It allocates nothing.
 pub fn say_text<L: Sink>(lines: &mut L, text: &str, due: u8) -> u8
     requires { CanFail (L.failed lines.old) }
     ensures { TellsWords due text.now result (device (L.failed lines.old) (L.failed lines.new) (L.bytes_taken lines.old)

@@ -2,7 +2,7 @@
 use Rattle.std.specs.Prelude.{◌≡◌, ◌⊎◌, ℕ}
 use Rattle.px_jobs.specs.Lines.{Device, IsWell, IsFailed, TookNothing}
 
--- nothing but a flush: the status that is due, or 4 where it failed
+-- only a flush: the given status, or 4 if it failed
 abbrev pub Flushes : ℕ → ℕ → Device → Type 0
 Flushes due status lines =
     ((status ≡ due) × IsWell lines × TookNothing lines)

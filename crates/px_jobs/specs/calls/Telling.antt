@@ -5,11 +5,11 @@ use Rattle.px_engine.specs.declared.Fault.TheVariants.{WriteFailed}
 use Rattle.px_jobs.specs.Lines.{Device, TellsFault}
 use Rattle.px_jobs.specs.Endings.{IsIdle}
 
--- a failed write of a text has nothing behind it; every other fault came before the text, and has its status and its line
+-- after a failed write of a text nothing is written; any other fault came before the text and has its status and line
 abbrev pub TellsBehind : Fault → ℕ → Device → Type 0
 TellsBehind e status lines = ((e ≡ WriteFailed) × (status ≡ 4) × IsIdle lines) ⊎ ((e ≢ WriteFailed) × TellsFault e None status lines)
 
--- what follows a text
+-- after a text
 abbrev pub TellsPrinted : {A : Type 0} → Result A Fault → ℕ → Device → Type 0
 TellsPrinted (Ok x) status lines = (status ≡ 0) × IsIdle lines
 TellsPrinted (Err e) status lines = TellsBehind e status lines
