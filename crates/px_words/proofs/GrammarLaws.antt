@@ -1,4 +1,4 @@
--- What clap makes of a command that is put together part by part.
+-- clap's view of a command that is built part by part.
 use Rattle.std.proofs.Common.{◌≡◌, ◌∙◌, ◌||◌, Bool, true, false, ap, codes, refl, Result, Ok, Err, Some}
 use Rattle.std.specs.Prelude.{IfOk, IsOkAnd}
 use Rattle.std.specs.Borrow.{Bor}
@@ -11,11 +11,11 @@ use Rattle.clap.specs.Simple.{app_of_fields}
 use Rattle.clap.specs.declared.builder.Command.TheViews.{out-Command}
 use Rattle.px_words.specs.Words.{bare, required}
 
--- a new argument that then must be there
+-- a new argument that is made required
 pub required_rule : (a b : Arg) (id : Text) → rule_of a ≡ new_rule id → b ≡ record a { required = true } → rule_of b ≡ required id
 required_rule a b id new made = ap rule_of made ∙ ap (λ (r : Rule). record r { required = true }) new
 
--- an argument that is not global leaves a command as global as it was
+-- an argument that is not global doesn't make a command global
 pub or_false : (b : Bool) → (b || false) ≡ b
 or_false true = refl
 or_false false = refl

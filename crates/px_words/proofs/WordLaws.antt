@@ -1,4 +1,4 @@
--- Why the words are answered by a text.
+-- When the result for the arguments is a text.
 use Rattle.std.proofs.Common.{◌≡◌, ℕ, inl, inr, List, [], Option, refl, subst}
 use Rattle.clap.specs.Words.{Row, Text, kind_of}
 use Rattle.clap.specs.Kinds.{HasKind, IsAmong, Kinds}
@@ -9,7 +9,7 @@ use Rattle.px_words.specs.declared.words.Words.TheVariants as words
 use Rattle.px_words.specs.Words.{Asks, AsksFiles, IsFor, LacksWordsBy}
 use Rattle.px_words.specs.calls.Met.{TellsKind, IsTold}
 
--- a match gives no text but that of one word for two files
+-- a match has no text except for one name for two files
 pub of_match : (kinds : Kinds) (met : Option (Text × List Row)) (w : Words) → kinds ≡ [] → AsksFiles met w → IsFor kinds w
 of_match kinds met words.Filter none h = tt
 of_match kinds met (words.One what file) none h = none
@@ -20,7 +20,7 @@ of_match kinds met (words.Refused text) none h = inl (none, h.2)
 of_match kinds met words.NoMemory none h = tt
 of_match kinds met words.Unread none h = tt
 
--- an error gives a text of its kind, which is among the kinds that there may be, or want of memory
+-- an error has a text of its kind, which is among the possible kinds, or means out of memory
 pub of_error : (kinds : Kinds) (e : Error) (w : Words) → HasKind kinds e → (kind_of e ≡ kind.OutOfMemory → w ≡ words.Unread)
     → IsTold w → TellsKind (kind_of e) w → IsFor kinds w
 of_error kinds e words.Filter h memory told k = tt
@@ -46,7 +46,7 @@ of_told met (words.Refused text) told = tt
 of_told met words.NoMemory told = absurd told
 of_told met words.Unread told = tt
 
--- nor does it tell of a growth that memory refused
+-- a text means no failed allocation
 pub lacks_told : (w : Words) (n : ℕ) → IsTold w → LacksWordsBy w n n
 lacks_told words.Filter n told = absurd told
 lacks_told (words.One what file) n told = absurd told
@@ -57,7 +57,7 @@ lacks_told (words.Refused text) n told = refl
 lacks_told words.NoMemory n told = absurd told
 lacks_told words.Unread n told = refl
 
--- where there is no kind, memory was refused
+-- without a kind, an allocation failed
 pub of_none : (kinds : Kinds) (e : Error) → kinds ≡ [] → HasKind kinds e → kind_of e ≡ kind.OutOfMemory
 of_none kinds e none (inl lacking) = lacking
 of_none kinds e none (inr among) = absurd (subst (IsAmong (kind_of e)) none among)

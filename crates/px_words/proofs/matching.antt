@@ -1,4 +1,4 @@
--- What clap's match of the command holds.
+-- The content of clap's match of the command.
 pub mod Named
 pub mod Parsed
 pub mod Rows

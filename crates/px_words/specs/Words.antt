@@ -1,4 +1,4 @@
--- What the arguments of the program, its words, ask for.
+-- The meaning of the program's arguments.
 use Rattle.std.specs.Prelude.{◌≡◌, ◌≢◌, ◌↔◌, ◌⊎◌, ◌+◌, ℕ, List, [], ◌∷◌, Option, Some, codes, true, ⊤}
 use Rattle.clap.specs.Words.{App, Row, Rule, Shape, Text, fault_of, first_of, new_app, new_rule, subcommand_of, with_rule, with_subcommand}
 use Rattle.clap.specs.Kinds.{IsAmong, Kinds}
@@ -12,18 +12,18 @@ use Rattle.px_words.specs.declared.words.Words.TheVariants as words
 
 -- ---- the command that clap is handed
 
--- a word that has to be there
+-- a required argument
 abbrev pub required : Text → Rule
 required id = record (new_rule id) { required = true }
 
--- a subcommand with one such word, and one with two
+-- a subcommand with one required argument, and one with two
 abbrev pub of_one : Text → Shape
 of_one name = (with_rule (new_app name) (required (codes "FILE"))).top
 
 abbrev pub of_two : Text → Text → Text → Shape
 of_two name first second = (with_rule (with_rule (new_app name) (required first)) (required second)).top
 
--- the command itself: one of its subcommands is required, and the program's name is not among the words
+-- the command itself: it requires one of its subcommands, and the program's name is not one of the arguments
 abbrev pub bare : App
 bare = record (new_app (codes "exifnorm")) {
   top = record (new_app (codes "exifnorm")).top {
@@ -40,34 +40,34 @@ exifnorm =
     (of_one (codes "show"))) (of_one (codes "check"))) (of_one (codes "captions")))
     (of_two (codes "normalise") (codes "FILE") (codes "OUT"))) (of_two (codes "compare") (codes "FIRST") (codes "SECOND"))
 
--- ---- what the match of the words asks for
+-- ---- the result for a match of the arguments
 
 abbrev pub name_of : One → Text
 name_of one.Show = codes "show"
 name_of one.Check = codes "check"
 name_of one.Captions = codes "captions"
 
--- the line where one word names both files of normalise
+-- the line for `normalise` with the same name for both files
 abbrev pub out_is_file : Text
 out_is_file = codes "refused words: OUT is FILE"
 
--- the match has this subcommand, with this word at an id
+-- the match has this subcommand, with this argument at an id
 abbrev pub Has : Option (Text × List Row) → Text → Text → Text → Type 0
 Has met name id word = (rows : List Row) × (met ≡ Some (name, rows)) × (first_of id rows ≡ Some word)
 
--- the match has this subcommand, with these words at two ids
+-- the match has this subcommand, with these arguments at two ids
 abbrev pub HasBoth : Option (Text × List Row) → Text → Text → Text → Text → Text → Type 0
 HasBoth met name id word other_id other =
     (rows : List Row) × (met ≡ Some (name, rows)) × (first_of id rows ≡ Some word) × (first_of other_id rows ≡ Some other)
 
--- the files are those that the match names
+-- the files are those of the match
 abbrev pub Asks : Option (Text × List Row) → Words → Type 0
 Asks met (words.One what file) = Has met (name_of what) (codes "FILE") file
 Asks met (words.Normalise file out) = HasBoth met (codes "normalise") (codes "FILE") file (codes "OUT") out × (file ≢ out)
 Asks met (words.Compare first second) = HasBoth met (codes "compare") (codes "FIRST") first (codes "SECOND") second
 Asks met _ = ⊤
 
--- where the words are taken: files to work on, want of memory, or one word for both files of normalise
+-- for accepted arguments: files to work on, out of memory, or one name for both files of normalise
 abbrev pub AsksFiles : Option (Text × List Row) → Words → Type 0
 AsksFiles met words.Filter = ⊥
 AsksFiles met (words.Help text) = ⊥
@@ -75,22 +75,22 @@ AsksFiles met (words.Refused text) =
     (file : Text) × HasBoth met (codes "normalise") (codes "FILE") file (codes "OUT") file × (text ≡ out_is_file)
 AsksFiles met _ = ⊤
 
--- nothing is wrong with the words, and they ask for no help
+-- the arguments have no mistake and don't request help
 abbrev pub AreTaken : List Text → Type 0
 AreTaken ws = fault_of exifnorm ws ≡ []
 
--- so are the words that users write
+-- the command accepts the arguments of the manual
 abbrev pub TakesCommands : Type 0
 TakesCommands = AreTaken (codes "show" ∷ codes "a" ∷ []) × AreTaken (codes "check" ∷ codes "a" ∷ [])
     × AreTaken (codes "captions" ∷ codes "a" ∷ []) × AreTaken (codes "normalise" ∷ codes "a" ∷ codes "b" ∷ [])
     × AreTaken (codes "compare" ∷ codes "a" ∷ codes "b" ∷ []) × AreTaken (codes "check" ∷ codes "--" ∷ codes "-a" ∷ [])
 
--- clap answers with what was asked of it, and not for a mistake in the words
+-- clap returns a requested text, not a mistake in the arguments
 abbrev pub IsShown : ErrorKind → Type 0
 IsShown k = (k ≡ kind.DisplayHelp) ⊎ (k ≡ kind.DisplayVersion)
 
--- the same of the kinds that clap's error may have: a refusal is for a mistake, or, where there is none, for one word for both
--- files of normalise; files are worked on only where there is none
+-- for the kinds that clap's error may have: a refusal means a mistake or, without any, one name for both files of normalise;
+-- files to work on mean that there is no mistake
 abbrev pub IsFor : Kinds → Words → Type 0
 IsFor kinds (words.Help text) = (k : ErrorKind) × IsAmong k kinds × IsShown k
 IsFor kinds (words.Refused text) = ((kinds ≡ []) × (text ≡ out_is_file)) ⊎ ((k : ErrorKind) × IsAmong k kinds × (IsShown k → ⊥))
@@ -99,7 +99,7 @@ IsFor kinds words.NoMemory = ⊤
 IsFor kinds words.Unread = ⊤
 IsFor kinds _ = kinds ≡ []
 
--- what these words ask for
+-- the meaning of these arguments
 abbrev pub AskedBy : List Text → Words → Type 0
 AskedBy ws asked = (ws ≡ [] ↔ asked ≡ words.Filter) × Asks (subcommand_of exifnorm ws) asked
     × IsFor (fault_of exifnorm ws) asked × (AreTaken ws → AsksFiles (subcommand_of exifnorm ws) asked)

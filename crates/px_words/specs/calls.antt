@@ -1,2 +1,2 @@
--- Words of the contracts of single calls. What the promises rest on stands a folder above.
+-- Definitions for the contracts of single calls. The definitions of the promises are in the folder above.
 pub mod Met

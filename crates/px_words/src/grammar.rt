@@ -1,4 +1,4 @@
-// The command that clap is handed: its subcommands, and the words that each must have.
+// The command line as clap gets it: the subcommands and their required arguments.
 ghost use Rattle.std.specs.Prelude.{◌≡◌, codes, false, IfOk, IsOkAnd};
 ghost use Rattle.clap.specs.Words.{AddsSubcommand, app_of, shape_of, with_rule, with_subcommand};
 ghost use Rattle.clap.specs.declared.builder.Command.TheViews.{out-Command};
@@ -21,7 +21,7 @@ const STATUSES: &str = "Statuses:
 
 All text goes to standard output.";
 
-// A subcommand with one more word, which must be there.
+// A subcommand with one more required argument.
 fn with_word<'a>(
     alloc: Global,
     command: Command<'a>,
@@ -56,8 +56,7 @@ fn of_two<'a>(
     with_word(alloc, with_first, second)
 }
 
-// The command of this version, as yet without its subcommands. Its name stands in usage lines whatever
-// the program's file is called.
+// The command without its subcommands yet. Usage lines show its name, whatever the program's file is called.
 fn bare<'a>(alloc: Global, version: &'a str) -> Result<Command<'a>, AllocError>
     ensures shape { IfOk result (λ c. app_of c ≡ bare) }
 {
@@ -71,8 +70,8 @@ fn bare<'a>(alloc: Global, version: &'a str) -> Result<Command<'a>, AllocError>
         .bin_name(NAME)
 }
 
-// The command with one more subcommand, where memory sufficed for both. Where it didn't for one, the other
-// is given up by a call, which has that in one place.
+// The command with one more subcommand, if both could be allocated. If one failed, a call drops the other, so
+// that dropping it is proved once.
 fn joined<'a>(
     command: Result<Command<'a>, AllocError>,
     subcommand: Result<Command<'a>, AllocError>,
@@ -94,7 +93,7 @@ fn joined<'a>(
     }
 }
 
-// The command with one more subcommand, which has one file.
+// The command with one more subcommand that takes one file.
 fn with_one<'a>(
     alloc: Global,
     command: Result<Command<'a>, AllocError>,
@@ -106,7 +105,7 @@ fn with_one<'a>(
     joined(command, of_one(alloc, name, about))
 }
 
-// The command with the subcommands that tell something of one file.
+// The command with the subcommands that print something of one file.
 fn telling<'a>(alloc: Global, version: &'a str) -> Result<Command<'a>, AllocError>
     ensures { IfOk result (λ c. app_of c ≡ with_subcommand (with_subcommand (with_subcommand bare
         (of_one (codes "show"))) (of_one (codes "check"))) (of_one (codes "captions"))) }
@@ -152,7 +151,7 @@ fn with_compare<'a>(
     joined(command, of_two(alloc, "compare", about, "FIRST", "SECOND"))
 }
 
-/// The command of this version, whose words are those after the program's name.
+/// The whole command, for the arguments after the program's name.
 pub fn command<'a>(alloc: Global, version: &'a str) -> Result<Command<'a>, AllocError>
     ensures { IfOk result (λ c. app_of c ≡ exifnorm) }
 {

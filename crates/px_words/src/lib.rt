@@ -1,6 +1,6 @@
-//! The words of the program's command line, and what they ask for: standard input, files to work on, help, the
-//! version, or a refusal of the words. clap matches them. It opens no file and writes nothing, and knows nothing of
-//! what a file holds.
+//! Parses the program's command line: its arguments select standard input, files, the help text or the
+//! version, or are refused. clap matches them. This crate opens no file, writes nothing, and knows nothing of
+//! the content of files.
 //!
 //! ```
 //! let mut memory = Memory::new(rt.alloc());

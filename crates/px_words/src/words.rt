@@ -1,4 +1,4 @@
-// What the arguments of the program ask for.
+// What the program's arguments mean.
 ghost use Rattle.std.specs.Prelude.{◌≡◌, ◌↔◌, ◌⊎◌, Some, [], map, codes, IfOk};
 ghost use Rattle.clap.specs.Words.{fault_of, first_of, found_of, kind_of, rows_of, subcommand_of, subcommand_rows_of};
 ghost use Rattle.px_words.specs.declared.words.Words.TheVariants as words_of;
@@ -14,7 +14,7 @@ use std::alloc::Global;
 use std::convert::AsStr;
 use std::marker::Model;
 
-/// A text of its own, seen as its characters in UTF-8.
+/// An owned text. Contracts see its characters in UTF-8.
 #[derive(Debug, Drop)]
 pub struct Text {
     text: String,
@@ -29,7 +29,7 @@ impl Model for Text {
 }
 
 impl Text {
-    // A copy of these characters.
+    // A copy of a text. `Err`: an allocation failed.
     fn of(memory: &mut Memory, text: &str) -> Result<Text, Refused>
         ensures text { IfOk result (λ t. t ≡ text.now) }
         ensures memory { Lacks result memory.old memory.new }
@@ -39,7 +39,7 @@ impl Text {
         Ok(Text { text: copy })
     }
 
-    /// The characters. It takes no memory.
+    /// The text. It allocates nothing.
     pub fn as_str(&self) -> &str
         ensures { result.now ≡ self.now }
     {
@@ -47,7 +47,7 @@ impl Text {
     }
 }
 
-/// What is told of one file.
+/// What to print of one file.
 #[derive(Clone, Copy, Debug, PartialEq, Eq)]
 pub enum One {
     /// The listing of the block.
@@ -58,31 +58,31 @@ pub enum One {
     Captions,
 }
 
-/// What the arguments ask for.
+/// What the arguments mean.
 #[derive(Debug, Drop)]
 pub enum Words {
-    /// There are no arguments: standard input is normalised to standard output.
+    /// No arguments: normalise standard input to standard output.
     Filter,
-    /// What the block in `file` says is told, as `what` names it.
+    /// Print `what` of the block in `file`.
     One { what: One, file: Text },
-    /// The normal form of the block in `file` goes to `out`, which is another word.
+    /// Write the normal form of the block in `file` to `out`, which is a different argument.
     Normalise { file: Text, out: Text },
-    /// Whether the blocks in `first` and `second` say the same is told.
+    /// Compare the blocks in `first` and `second`.
     Compare { first: Text, second: Text },
-    /// The arguments ask for this text: help, or the version.
+    /// Print this text: the help or the version.
     Help(Text),
     /// The arguments are refused, with this text.
     Refused(Text),
-    /// A growth was refused while the words of a match were kept.
+    /// An allocation failed while a match's arguments were copied.
     NoMemory,
-    /// clap, which takes memory of its own, wanted some while it read the arguments or told of them.
+    /// clap, which allocates by itself, ran out of memory while it parsed the arguments or formatted a text.
     Unread,
 }
 
-/// The text of a refusal where `normalise` has one file under both names.
+/// The text if `normalise` has the same name for both files.
 pub const OUT_IS_FILE: &str = "refused words: OUT is FILE";
 
-// The word at an id of a subcommand's match that has one. It fails for want of memory alone.
+// The argument at an id that the subcommand's match contains. `Err`: an allocation failed.
 fn word_at(memory: &mut Memory, inner: &ArgMatches<'_>, id: &str) -> Result<Text, Refused>
     requires { IsThere id.now (rows_of (found_of inner.now)) }
     ensures word { IfOk result (λ t. first_of id.now (rows_of (found_of inner.now)) ≡ Some t) }
@@ -94,7 +94,7 @@ fn word_at(memory: &mut Memory, inner: &ArgMatches<'_>, id: &str) -> Result<Text
     Text::of(memory, word)
 }
 
-// The line, as the text of a refusal.
+// A refusal with this line as its text.
 fn refuse(memory: &mut Memory, line: &str) -> Words
     ensures line { (result ≡ words_of.NoMemory) ⊎ (result ≡ words_of.Refused line.now) }
     ensures memory { LacksWords result memory.old memory.new }
@@ -105,7 +105,7 @@ fn refuse(memory: &mut Memory, line: &str) -> Words
     }
 }
 
-// What a command with one file asks for.
+// The result for a command with one file.
 fn read_one(memory: &mut Memory, what: One, inner: &ArgMatches<'_>) -> Words
     requires { IsThere (codes "FILE") (rows_of (found_of inner.now)) }
     ensures asked { AsksIn (Some (name_of what, rows_of (found_of inner.now))) result }
@@ -117,7 +117,7 @@ fn read_one(memory: &mut Memory, what: One, inner: &ArgMatches<'_>) -> Words
     Words::One { what, file }
 }
 
-// What `normalise` asks for: two files, or a refusal where both are named by one word.
+// The result for `normalise`: two files, or a refusal if both arguments are equal.
 fn read_normalise(memory: &mut Memory, inner: &ArgMatches<'_>) -> Words
     requires file { IsThere (codes "FILE") (rows_of (found_of inner.now)) }
     requires out { IsThere (codes "OUT") (rows_of (found_of inner.now)) }
@@ -136,7 +136,7 @@ fn read_normalise(memory: &mut Memory, inner: &ArgMatches<'_>) -> Words
     Words::Normalise { file, out }
 }
 
-// What `compare` asks for.
+// The result for `compare`.
 fn read_compare(memory: &mut Memory, inner: &ArgMatches<'_>) -> Words
     requires first { IsThere (codes "FIRST") (rows_of (found_of inner.now)) }
     requires second { IsThere (codes "SECOND") (rows_of (found_of inner.now)) }
@@ -152,8 +152,8 @@ fn read_compare(memory: &mut Memory, inner: &ArgMatches<'_>) -> Words
     Words::Compare { first, second }
 }
 
-// What a subcommand and its words ask for. The command has no other, and a match of it has each word
-// that must be there.
+// The result for a subcommand and its arguments. The command has no other subcommand, and a match contains
+// each required argument.
 fn read_subcommand(memory: &mut Memory, name: &str, inner: &ArgMatches<'_>) -> Words
     requires { IsMet (Some (name.now, rows_of (found_of inner.now))) }
     ensures asked { AsksIn (Some (name.now, rows_of (found_of inner.now))) result }
@@ -177,7 +177,7 @@ fn read_subcommand(memory: &mut Memory, name: &str, inner: &ArgMatches<'_>) -> W
     unreachable!()
 }
 
-// What a match asks for. A match of a command that needs a subcommand has met one.
+// The result for a match. The command requires a subcommand, so a match contains one.
 fn read_match(memory: &mut Memory, matches: &ArgMatches<'_>) -> Words
     requires { IsMet (subcommand_rows_of matches.now) }
     ensures asked { AsksIn (subcommand_rows_of matches.now) result }
@@ -189,7 +189,7 @@ fn read_match(memory: &mut Memory, matches: &ArgMatches<'_>) -> Words
     read_subcommand(memory, name, inner)
 }
 
-// What clap says where there is no match.
+// clap's text if there is no match.
 fn read_error(alloc: Global, error: &Error) -> Words
     ensures asked { IsTold result }
     ensures kind { TellsKind (kind_of error.now) result }
@@ -208,14 +208,14 @@ fn read_error(alloc: Global, error: &Error) -> Words
     Words::Refused(Text { text })
 }
 
-/// What users write is taken by the command: each of its commands with its files. It does nothing: its contract is a law.
+/// clap accepts each command of the manual with its files. It does nothing: its contract is a law.
 pub fn commands_are_taken()
     ensures { TakesCommands }
 {}
 
-/// What the arguments ask for; the text of the version tells this one. No arguments are `Filter`, and are not
-/// handed to clap. `NoMemory` comes exactly where a growth was refused. clap takes `alloc`, and what that
-/// refuses it is `Unread`.
+/// Parses the arguments; `version` is the version to print. Without arguments the result is `Filter`, and
+/// clap is not called. `NoMemory`: an allocation of `memory` failed. clap allocates from `alloc`; if that
+/// fails, the result is `Unread`.
 pub fn parse<'a, S: AsStr>(
     memory: &mut Memory,
     alloc: Global,

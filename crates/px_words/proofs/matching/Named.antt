@@ -1,4 +1,4 @@
--- What the name of the subcommand that was met tells of the words beside it, and what they ask for.
+-- What the name of the matched subcommand implies for its arguments and their meaning.
 use Rattle.std.proofs.Common.{◌≡◌, ◌⊎◌, ◌∙◌, ◌||◌, Bool, true, false, true≢false, List, Some, ap, codes, inl, inr, refl, subst, sym}
 use Rattle.std.proofs.lemmas.Slice.Eq.{bytes_eq-Decides}
 use Rattle.std.specs.Str.{bytes_eq}
@@ -14,7 +14,7 @@ named name word is = (bytes_eq-Decides name word).0 (sym is)
 met_as : (name word : Text) (rows : List Row) → true ≡ bytes_eq name word → IsMet (Some (name, rows)) → IsMet (Some (word, rows))
 met_as name word rows is = subst (λ (n : Text). IsMet (Some (n, rows))) (named name word is)
 
--- what the words ask for under the name that was met
+-- the meaning of the arguments under the matched name
 pub asked_as : (name word : Text) (rows : List Row) (w : Words) → true ≡ bytes_eq name word → AsksIn (Some (word, rows)) w
     → AsksIn (Some (name, rows)) w
 asked_as name word rows w is = subst (λ (n : Text). AsksIn (Some (n, rows)) w) (sym (named name word is))
@@ -48,7 +48,7 @@ pub both_there : (name : Text) (rows : List Row) → true ≡ bytes_eq name (cod
     → IsThere (codes "FIRST") rows × IsThere (codes "SECOND") rows
 both_there name rows is met = has_both rows (met_as name (codes "compare") rows is met)
 
--- no other was met
+-- no other subcommand was matched
 none_of : (a b c : Bool) → false ≡ a → false ≡ b → false ≡ c → (a || (b || (c || false))) ≡ false
 none_of a b c x y z = rw (← x, ← y, ← z) refl
 
@@ -60,7 +60,7 @@ no_other name rows a b c d e (inl h) = true≢false (sym h.0
 no_other name rows a b c d e (inr (inl h)) = true≢false (sym (d ∙ ap (λ (n : Text). bytes_eq n (codes "normalise")) h.0))
 no_other name rows a b c d e (inr (inr h)) = true≢false (sym (e ∙ ap (λ (n : Text). bytes_eq n (codes "compare")) h.0))
 
--- normalise of one word for both files asks for the line, or memory was refused
+-- normalise with one name for both files is refused, or an allocation failed
 pub same_asked : (rows : List Row) (file out : Text) (w : Words) → first_of (codes "FILE") rows ≡ Some file
     → first_of (codes "OUT") rows ≡ Some out → true ≡ bytes_eq file out → (w ≡ words.NoMemory) ⊎ (w ≡ words.Refused out_is_file)
     → AsksIn (Some (codes "normalise", rows)) w
@@ -68,7 +68,7 @@ same_asked rows file out w at_file at_out same (inl h) = subst (AsksIn (Some (co
 same_asked rows file out w at_file at_out same (inr h) = subst (AsksIn (Some (codes "normalise", rows))) (sym h)
     (tt, (file, (rows, refl, at_file, at_out ∙ ap Some (sym (named file out same))), refl))
 
--- and of two words for both
+-- normalise with two names
 pub other_asked : (rows : List Row) (file out : Text) → first_of (codes "FILE") rows ≡ Some file → first_of (codes "OUT") rows ≡ Some out
     → false ≡ bytes_eq file out → AsksIn (Some (codes "normalise", rows)) (words.Normalise file out)
 other_asked rows file out at_file at_out other =

@@ -1,4 +1,4 @@
--- What a parse of the command tells of what its words ask for.
+-- What a parse of the command implies for the meaning of its arguments.
 use Rattle.std.proofs.Common.{◌≡◌, ◌∙◌, ◌==◌, ◌↔◌, Option, true, false, true≢false, List, [], ◌∷◌, length, map, ap, refl, subst, sym}
 use Rattle.clap.specs.Words.{App, HasMatchesOf, Row, Text, fault_of, is_simple, is_simple_and_free, kind_of}
 use Rattle.clap.specs.Words.{subcommand_of, subcommand_rows_of}
@@ -14,7 +14,7 @@ use Rattle.px_words.specs.calls.Met.{TellsKind, IsTold, AsksIn, IsMet}
 use Rattle.px_words.proofs.WordLaws.{of_error, of_match, of_none, of_told}
 use Rattle.px_words.proofs.matching.Whole.{met}
 
--- the command is one of which clap tells its matches and its faults
+-- the command is one whose matches and errors are specified
 is_simple_one : is_simple exifnorm ≡ true
 unfolding clap_on_literals
 is_simple_one = refl
@@ -23,7 +23,7 @@ is_free : is_simple_and_free exifnorm ≡ true
 unfolding clap_on_literals
 is_free = refl
 
--- where there are words, what is answered is not `Filter`
+-- with arguments the result is not `Filter`
 pub filter_not : {X : Type 0} (f : X → Text) (xs : List X) (w : Words) → false ≡ (length xs == 0) → (w ≡ words.Filter → ⊥)
     → map f xs ≡ [] ↔ w ≡ words.Filter
 filter_not f [] w some other = absurd (true≢false (sym some))

@@ -1,4 +1,4 @@
--- Rows of a match that have values each, and what a use of an argument makes of them.
+-- Rows of a match, each with values, and the effect of using an argument on them.
 use Rattle.std.proofs.Common.{◌≡◌, ◌≢◌, ◌⊎◌, ◌++◌, Bool, cond, true, false, List, [], ◌∷◌, Some, is_some, refl, subst, inl, inr}
 use Rattle.std.specs.Prelude.{⊤, find, option_and_then, slice_get}
 use Rattle.std.specs.Option.{option_map_or}
@@ -22,7 +22,7 @@ each_both : {X : Type 0} (P : X → Type 0) (xs ys : List X) → Each P xs → E
 each_both P [] ys p q = q
 each_both P (x ∷ xs) ys p q = (p.0, each_both P xs ys p.1 q)
 
--- what is found is an element, and passes the test
+-- an element that is found passes the test
 pub each_found : {X : Type 0} (P : X → Type 0) (test : X → Bool) (xs : List X) (y : X) → Each P xs → find test xs ≡ Some y
     → P y × (test y ≡ true)
 each_found P test [] y p found = cc
@@ -45,7 +45,7 @@ appended [] ys (inl some) none = some refl
 appended [] ys (inr some) none = some none
 appended (x ∷ xs) ys h none = cc
 
--- a list with one more behind it
+-- a list with one more element at its end
 pub pushed_some : {X : Type 0} (xs : List X) (x : X) → (xs ++ x ∷ []) ≢ []
 pushed_some xs x = appended xs (x ∷ []) (inr (λ none. cc))
 
@@ -64,7 +64,7 @@ values_set : (id : Text) (how : Reading) (s : ValueSource) (values : List Text) 
 values_set id how s values rows some h =
     row_changed id (more_values s values) _ rows (λ r has. (appended r.values values (inl has), tt)) (some, tt) h
 
--- an argument of the command's subcommands: it takes a word and has a place, or asks for help and takes none
+-- an argument of the command's subcommands: a positional one with a value, or a request for help without
 abbrev pub IsPlain : Rule → Type 0
 IsPlain a = (a.defaults ≡ []) × (((action_of a ≡ Set) × (is_some a.index ≡ true)) ⊎ ((action_of a ≡ Help) × (takes_values a ≡ false)))
 
@@ -75,7 +75,7 @@ use_kept action id how values rows (inl h) rest = rw h.0 (values_set id how Comm
     (row_changed id (λ _. []) [] rows (λ r has. tt) tt rest))
 use_kept action id how values rows (inr h) rest = rw h rest
 
--- a use with values, or one that asks for help, leaves each row a value
+-- a use with values, or a request for help, keeps a value in each row
 pub used_kept : (a : Rule) (values : List Text) (rows : List Row) → IsPlain a → (values ≢ []) ⊎ (action_of a ≡ Help) → HaveValues rows
     → HaveValues (used a values rows)
 used_kept a [] rows plain (inl some) rest = absurd (some refl)
@@ -83,7 +83,7 @@ used_kept a [] rows plain (inr help) rest = use_kept (action_of a) a.id (reading
 used_kept a (v ∷ vs) rows plain h rest = use_kept (action_of a) a.id (reading_by a) (v ∷ vs) rows
     (elim plain.1 [ inl p ↦ inl (p.0, λ none. cc) | inr p ↦ inr p.0 ]) rest
 
--- so does a default that there is none of
+-- so does the default of an argument without one
 pub default_kept : (rows : List Row) (a : Rule) → IsPlain a → HaveValues rows → HaveValues (with_default rows a)
 default_kept rows a plain h = rw plain.0 (go (has_row a.id rows))
   where
@@ -95,7 +95,7 @@ first_there : (values : List Text) → values ≢ [] → is_some (slice_get valu
 first_there [] some = absurd (some refl)
 first_there (v ∷ vs) some = refl
 
--- an argument that was given has a word
+-- an argument that was given has a value
 pub given_there : (id : Text) (rows : List Row) → HaveValues rows → is_given id rows ≡ true → is_some (first_of id rows) ≡ true
 given_there id [] h given = cc
 given_there id (r ∷ rs) h given = go (bytes_eq r.id id) given (given_there id rs h.1)

@@ -1,4 +1,4 @@
--- The walk over the words of a subcommand: what it holds has values.
+-- The walk over the arguments of a subcommand: each row that it keeps has values.
 use Rattle.std.proofs.Common.{◌≡◌, ◌≢◌, ◌&&◌, ℕ, zero, suc, Bool, cond, true, false, not}
 use Rattle.std.proofs.Common.{List, [], ◌∷◌, length, drop, Option, Some, None, is_some, refl, inl, inr}
 use Rattle.std.specs.Prelude.{⊤, encode_utf8, slice_get}
@@ -14,7 +14,7 @@ use Rattle.clap.specs.Walk.{to_positional, trailing, used_by_id, value, waits, w
 use Rattle.clap.specs.declared.builder.action.ArgAction.TheVariants.{Help}
 use Rattle.px_words.proofs.matching.Rows.{Each, HaveValues, IsPlain, default_kept, each_found, pushed_some, used_kept}
 
--- what waits for its use has a value
+-- an option that is pending has a value
 abbrev pub HasWaiting : Option (Text × List Text) → Type 0
 HasWaiting None = ⊤
 HasWaiting (Some p) = p.1 ≢ []
@@ -22,7 +22,7 @@ HasWaiting (Some p) = p.1 ≢ []
 abbrev pub IsWell : Held → Type 0
 IsWell h = HaveValues h.rows × HasWaiting h.pending
 
--- a flag of a plain command asks for help, and takes no value
+-- a flag of a plain command requests help and takes no value
 flag_only : (a : Rule) (named : Bool) → IsPlain a → (not (is_some a.index) && named) ≡ true
     → (action_of a ≡ Help) × (takes_values a ≡ false)
 flag_only a named known test = elim known.1 [
@@ -33,7 +33,7 @@ flag_only a named known test = elim known.1 [
 pushed_well : (id word : Text) (h : Held) → IsWell h → IsWell (pushed id word h)
 pushed_well id word h well = (well.0, pushed_some (started id h.pending).1 word)
 
--- a word that is no flag
+-- an argument that is no flag
 option_well : (o : Option Rule) (id word : Text) (h : Held) → IsWell h → IsWell (option_word o id word h).0
 option_well None id word h well = well
 option_well (Some a) id word h well = pushed_well id word h well
@@ -49,7 +49,7 @@ flag_well c w word h (waits id) well = well
 flag_well c w word h plain well = plain_well c w word h well
 flag_well c w word h refused well = plain_well c w word h well
 
--- what short flags in one word come to, from any of them on
+-- short flags in one argument, from any of them on
 abbrev Goes : (Text → ℕ → Outcome → Held → Held × Outcome) → Type 0
 Goes go = (flags : Text) (skip : ℕ) (so_far : Outcome) (h : Held) → IsWell h → IsWell (go flags skip so_far h).0
 
@@ -108,7 +108,7 @@ module _ (c : List Rule) (each : Each IsPlain c) where
   bundle_well (suc k) flags skip so_far h well =
       step_well (slice_get (chars flags) 0) flags skip so_far h (bundle_met c k) (bundle_well k) well
 
-  -- a word, before it goes to a positional
+  -- an argument, before it is positional
   short_or_well : (w : Waiting) (word : Text) (o : Option Text) (h : Held) → IsWell h → IsWell (short_or_plain c w word o h).0
   short_or_well w word None h well = plain_well c w word h well
   short_or_well w word (Some flags) h well =
@@ -135,7 +135,7 @@ module _ (c : List Rule) (each : Each IsPlain c) where
   met_well false (option id) position word h well = other_well (option id) position word h well
   met_well false positional position word h well = other_well positional position word h well
 
-  -- a word that goes to a positional
+  -- a positional argument
   held_well : (b : Bool) (h : Held) → IsWell h → IsWell (cond b h (settled c h))
   held_well true h well = well
   held_well false h well = settled_well h well
@@ -166,7 +166,7 @@ module _ (c : List Rule) (each : Each IsPlain c) where
   walk_well w [] well = well
   walk_well w (word ∷ rest) well = walk_well (walked c [] w word) rest (walked_well w word well)
 
-  -- behind the walk
+  -- after the walk
   defaults_well : (rows : List Row) (xs : List Rule) → Each IsPlain xs → HaveValues rows → HaveValues (fold with_default rows xs)
   defaults_well rows [] known h = h
   defaults_well rows (a ∷ rest) known h = defaults_well (with_default rows a) rest known.1 (default_kept rows a known.0 h)

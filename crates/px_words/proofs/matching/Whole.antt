@@ -1,4 +1,4 @@
--- Where a parse of the command has no fault, a subcommand was met, with each word that it must have.
+-- If a parse of the command has no error, it has matched a subcommand with each required argument.
 use Rattle.std.proofs.Common.{◌≡◌, ◌||◌, ◌&&◌, Bool, true, false, not, List, [], ◌∷◌}
 use Rattle.std.proofs.Common.{Option, Some, None, is_some, codes, refl, sym, ◌∙◌, inl, inr}
 use Rattle.std.specs.Prelude.{find, option_map}
@@ -14,7 +14,7 @@ use Rattle.px_words.specs.calls.Met.{IsMet, IsThere, takes_file}
 use Rattle.px_words.proofs.matching.Rows.{Each, IsPlain, each_found, given_there}
 use Rattle.px_words.proofs.matching.Walked.{rows_have}
 
--- where two steps have no fault, neither has one
+-- if two steps have no error, neither has one
 none_first : (a b : Kinds) → or_else a b ≡ [] → a ≡ []
 none_first [] b none = refl
 none_first (k ∷ ks) b none = cc
@@ -23,7 +23,7 @@ none_then : (a b : Kinds) → or_else a b ≡ [] → b ≡ []
 none_then [] b none = none
 none_then (k ∷ ks) b none = cc
 
--- the last checks of a subcommand with one argument that must be there, and with two
+-- the last checks of a subcommand with one required argument, and with two
 one_given : (g : Bool) → check_kinds false false (not g || false) ≡ [] → g ≡ true
 one_given true none = refl
 one_given false none = cc
@@ -50,7 +50,7 @@ checked s words none =
     (none_then (walk_fault s [] (walk_from nothing_held) words) (or_else settles (or_else defaults checks)) none))
 
 module _ (s : Shape) (each : Each IsPlain s.rules) where
-  -- one argument must be there
+  -- one argument is required
   there : (id : Text) → ((rows : List Row) → check_fault s rows false ≡ check_kinds false false (not (is_given id rows) || false))
       → (words : List Text) → level_fault s [] nothing_held words false [] ≡ [] → IsThere id (rows_after s.rules [] words)
   there id last words none =
@@ -69,7 +69,7 @@ module _ (s : Shape) (each : Each IsPlain s.rules) where
       let given = two_given (is_given first rows) (is_given second rows) (sym (last rows) ∙ checked s words none) in
       (given_there first rows have given.0, given_there second rows have given.1)
 
--- the subcommand has its words, where it has no fault
+-- the subcommand has its arguments if it has no error
 abbrev IsWhole : Shape → Type 0
 IsWhole s = (words : List Text) → level_fault s [] nothing_held words false [] ≡ [] → IsMet (Some (rows_at s words))
 
@@ -116,7 +116,7 @@ each_whole = (
   ),
 )
 
--- the subcommand at which the words stop
+-- the subcommand that the arguments select
 found_met : (o : Option Shape) (words : List Text) → ((s : Shape) → o ≡ Some s → IsWhole s)
     → is_some (option_map (λ s. rows_at s words) o) ≡ true
     → option_map_or (λ s. level_fault s [] nothing_held words false []) o [] ≡ [] → IsMet (option_map (λ s. rows_at s words) o)
@@ -136,7 +136,7 @@ last_checks : (rows : List Row) (has : Bool)
 last_checks rows true = refl
 last_checks rows false = refl
 
--- a parse with no fault met a subcommand with its words
+-- a parse without an error matched a subcommand with its arguments
 pub met : (words : List Text) → fault_of exifnorm words ≡ [] → IsMet (subcommand_of exifnorm words)
 met words none =
     let a = built exifnorm in

@@ -1,4 +1,4 @@
--- What a match of the command holds: a subcommand of the command, with each word that it must have.
+-- The content of a match of the command: one of its subcommands, with each required argument.
 use Rattle.std.specs.Prelude.{◌≡◌, ◌⊎◌, Bool, true, is_some, List, [], ◌∷◌, Option, Some, None, codes}
 use Rattle.std.specs.List.{list_any}
 use Rattle.std.specs.Str.{bytes_eq}
@@ -10,7 +10,7 @@ use Rattle.px_words.specs.declared.words.Words.TheVariants as words
 use Rattle.px_words.specs.Words.{Asks, AsksFiles}
 use Rattle.px_words.specs.Words.{IsShown}
 
--- the rows have a word of this id
+-- the rows have an argument with this id
 abbrev pub IsThere : Text → List Row → Type 0
 IsThere id rows = is_some (first_of id rows) ≡ true
 
@@ -18,14 +18,14 @@ IsThere id rows = is_some (first_of id rows) ≡ true
 abbrev pub takes_file : Text → Bool
 takes_file name = list_any (bytes_eq name) (codes "show" ∷ codes "check" ∷ codes "captions" ∷ [])
 
--- a subcommand of the command was met, with its words
+-- a subcommand of the command was matched, with its arguments
 abbrev pub IsMet : Option (Text × List Row) → Type 0
 IsMet None = ⊥
 IsMet (Some (name, rows)) = ((takes_file name ≡ true) × IsThere (codes "FILE") rows)
     ⊎ (((name ≡ codes "normalise") × IsThere (codes "FILE") rows × IsThere (codes "OUT") rows)
     ⊎ ((name ≡ codes "compare") × IsThere (codes "FIRST") rows × IsThere (codes "SECOND") rows))
 
--- what a match asks for: the files that it names, and nothing but files, want of memory or that refusal
+-- the result for a match: the files that it names, out of memory, or the refusal of one file under both names
 abbrev pub AsksIn : Option (Text × List Row) → Words → Type 0
 AsksIn met w = Asks met w × AsksFiles met w
 
@@ -36,7 +36,7 @@ IsTold (words.Refused text) = ⊤
 IsTold words.Unread = ⊤
 IsTold _ = ⊥
 
--- help or the version where clap's error is of that kind, and a refusal where it is of another
+-- help or the version for an error of that kind, and a refusal for any other
 abbrev pub TellsKind : ErrorKind → Words → Type 0
 TellsKind k (words.Help text) = IsShown k
 TellsKind k (words.Refused text) = IsShown k → ⊥
