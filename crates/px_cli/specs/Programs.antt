@@ -1,4 +1,4 @@
--- What the program does with its arguments, its words.
+-- The program's behaviour for its arguments.
 use Rattle.std.specs.Prelude.{◌≡◌, ◌⊎◌, ℕ, List, Option, Some, None}
 use Rattle.px_engine.specs.declared.Fault.{Fault}
 use Rattle.px_engine.specs.declared.Fault.TheVariants.{OutOfMemory, ReadFailed, WriteFailed}
@@ -14,22 +14,22 @@ use Rattle.px_jobs.specs.Lines.{Device, TellsFault, TellsWords}
 use Rattle.px_jobs.specs.Endings.{Ends, EndsCompare}
 use Rattle.px_words.specs.Words.{out_is_file, AskedBy, LacksWordsBy}
 
--- the job that a command asks for
+-- the job of a command with one file
 abbrev pub job_of : One → Job
 job_of one.Show = job.Show
 job_of one.Check = job.Check
 job_of one.Captions = job.Captions
 
--- why a file isn't there: memory, or a call that failed
+-- why a file can't be opened: out of memory, or a failed call
 abbrev pub IsLacking : Fault → Fault → Type 0
 IsLacking due e = (e ≡ OutOfMemory) ⊎ (e ≡ due)
 
--- a file that isn't there is told of: `lacks` says of a fault that it came where the file was opened or made
+-- a file that can't be opened is reported: `lacks` means that opening or creating it ended with the fault
 abbrev pub TellsLacking : Fault → (Fault → Type 0) → Option Side → ℕ → Device → Type 0
 TellsLacking due lacks file status lines = (e : Fault) × IsLacking due e × lacks e × TellsFault e file status lines
 
--- a job was done with a reader that had `bytes` to give, of which no call had failed, and some writer of normal bytes. Here and
--- below `refused` and `refused_now` say how many growths memory had refused before, and how many it has now
+-- A job was done with a reader of `bytes`, without a failed call so far, and some writer. Here and below `refused` and
+-- `refused_now` are the numbers of failed allocations before and now.
 abbrev pub EndsJob : Job → Option (List ℕ) → ℕ → ℕ → ℕ → Device → Type 0
 EndsJob job bytes refused refused_now status lines = (reader out : Device) × (reader.old ≡ bytes) × (reader.failed ≡ 0)
     × Ends job reader out lines refused refused_now status
@@ -43,22 +43,22 @@ EndsPair bytes other refused refused_now status lines = (first second : Device) 
 abbrev pub EndsFilter : ℕ → ℕ → ℕ → Device → Type 0
 EndsFilter refused refused_now status lines = (bytes : Option (List ℕ)) × EndsJob job.Normalise bytes refused refused_now status lines
 
--- a job was done with a file, which had bytes to give that `gives` tells; or it isn't there
+-- a job was done with a file whose bytes `gives` allows; or it can't be opened
 abbrev pub EndsFile : Job → (Option (List ℕ) → Type 0) → (Fault → Type 0) → ℕ → ℕ → ℕ → Device → Type 0
 EndsFile job gives lacks refused refused_now status lines = (TellsLacking ReadFailed lacks None status lines × (refused_now ≡ refused))
     ⊎ ((bytes : Option (List ℕ)) × gives bytes × EndsJob job bytes refused refused_now status lines)
 
--- OUT couldn't be made, or was found to be the file that is read, as `one` says: that is told, and no memory was refused
+-- OUT couldn't be created, or is the file that is read (`one`): that is reported, and no allocation failed
 abbrev pub EndsUnmade : (Fault → Type 0) → Type 0 → ℕ → ℕ → ℕ → Device → Type 0
 EndsUnmade lacks one refused refused_now status lines =
     (TellsLacking WriteFailed lacks None status lines ⊎ (one × TellsWords 3 out_is_file status lines)) × (refused_now ≡ refused)
 
--- the normal form of a file went to OUT; or one of them isn't there; or they are one
+-- the normal form of a file was written to OUT; or one of them can't be opened; or they are the same
 abbrev pub EndsForm : (Option (List ℕ) → Type 0) → (Fault → Type 0) → (Fault → Type 0) → Type 0 → ℕ → ℕ → ℕ → Device → Type 0
 EndsForm gives lacks out_lacks one refused refused_now status lines =
     EndsFile job.Normalise gives lacks refused refused_now status lines ⊎ EndsUnmade out_lacks one refused refused_now status lines
 
--- two files were compared, or the first isn't there, or the second
+-- two files were compared, or the first can't be opened, or the second
 abbrev pub EndsFiles : (Option (List ℕ) → Type 0) → (Fault → Type 0) → (Option (List ℕ) → Type 0) → (Fault → Type 0) → ℕ → ℕ → ℕ → Device
     → Type 0
 EndsFiles gives lacks other_gives other_lacks refused refused_now status lines =
@@ -66,8 +66,8 @@ EndsFiles gives lacks other_gives other_lacks refused refused_now status lines =
     × (refused_now ≡ refused))
     ⊎ ((bytes other : Option (List ℕ)) × gives bytes × other_gives other × EndsPair bytes other refused refused_now status lines)
 
--- what was asked for was done, and its line and status tell how that ended. `gives` and `lacks` tell of a name what a file has to
--- give that was opened by it, and why none was; `is_read` that it is one of the file that is read
+-- The request was done, and its line and status report the outcome. For a name, `gives` are the possible bytes of a file opened
+-- by it, `lacks` the faults of opening it, and `is_read` means that it is the file that is read.
 module _ (gives : List ℕ → Option (List ℕ) → Type 0) (lacks : List ℕ → Fault → Type 0) (is_read : List ℕ → Type 0) where
   abbrev pub EndsWords : Words → ℕ → ℕ → ℕ → Device → Type 0
   EndsWords words.Filter refused refused_now status lines = EndsFilter refused refused_now status lines
@@ -82,7 +82,7 @@ module _ (gives : List ℕ → Option (List ℕ) → Type 0) (lacks : List ℕ �
   EndsWords words.NoMemory refused refused_now status lines = TellsFault OutOfMemory None status lines × (refused_now ≡ refused)
   EndsWords words.Unread refused refused_now status lines = TellsFault OutOfMemory None status lines × (refused_now ≡ refused)
 
-  -- whatever the words ask for was done: `between` growths had been refused when they were read
+  -- the request of the arguments was done; `between` is the number of failed allocations after they were parsed
   abbrev pub Answers : List (List ℕ) → ℕ → ℕ → ℕ → Device → Type 0
   Answers ws refused refused_now status lines = (asked : Words) × (between : ℕ) × AskedBy ws asked × LacksWordsBy asked refused between
       × EndsWords asked between refused_now status lines

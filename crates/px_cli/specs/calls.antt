@@ -1,3 +1,3 @@
--- Words of the contracts of single calls. What the promises rest on stands a folder above.
+-- Definitions for the contracts of single calls. The definitions of the promises are in the folder above.
 pub mod Opened
 pub mod Beside

@@ -1,5 +1,6 @@
-// Opens the files that the arguments name. That a file isn't there is told behind the system's own error alone,
-// and a file is opened by the name that was asked for: it is this file that says so, and no contract can.
+// Opens the files that the arguments name. No contract can state two things, which this file has to show: a
+// missing file is reported only for an error of the system, and the file that is opened is the one that was
+// named.
 ghost use Rattle.std.specs.Prelude.{◌≡◌, ◌≢◌, ◌↔◌, ℕ, List, Option, IsSome, IsTrue, None, Ok, Err, IfOk, IfErr, ⊤};
 ghost use Rattle.std.specs.Fs.{file_type, IsFile};
 ghost use Rattle.std.specs.IoError.{error_kind};
@@ -15,7 +16,7 @@ use std::io::{ErrorKind, Read, Write};
 use std::os::unix::fs::MetadataExt;
 use std::rt::Files;
 
-// Why a call on a file failed: memory, or else what is due.
+// The fault for an error of a call on a file: out of memory, or else `due`.
 fn fault_of(error: &io::Error, due: Fault) -> Fault
     ensures memory { error_kind error.now ≡ ErrorKind.OutOfMemory → result ≡ OutOfMemory }
     ensures either { IsLacking due result }
@@ -27,7 +28,7 @@ fn fault_of(error: &io::Error, due: Fault) -> Fault
     due
 }
 
-// What a call on a file answers, or why it failed.
+// The result of a call on a file, with its fault.
 fn lacking<T>(called: io::Result<T>, due: Fault) -> Result<T, Fault>
     ensures answered { IfOk called (λ x. result ≡ Ok x) }
     ensures memory { IfErr called (λ e. error_kind e ≡ ErrorKind.OutOfMemory → result ≡ Err OutOfMemory) }
@@ -40,16 +41,16 @@ fn lacking<T>(called: io::Result<T>, due: Fault) -> Result<T, Fault>
     }
 }
 
-// The file under a number above those of the standard streams. Where a stream is closed, the system
-// gives its number to the next file that is opened, and what is meant for the stream would go there.
+// The file under a descriptor above the standard streams'. If a stream is closed, the system gives its
+// descriptor to the next file that is opened, and output for the stream would go there.
 fn above_streams<F: OpenFile + Drop>(file: F, due: Fault) -> Result<F, Fault>
     ensures { IfErr result (IsLacking due) }
 {
     lacking(file.try_clone(), due)
 }
 
-// Opens a file to be read. A file that can't be opened is a failed read. The file never stands in the
-// place of a standard stream.
+// Opens a file to read. If it can't be opened, that is a failed read. The file never gets the descriptor of a
+// standard stream.
 fn open<R: Files>(rt: &R, name: &str) -> Result<R::File, Fault>
     ensures { IfErr result (IsLacking ReadFailed) }
 {
@@ -57,7 +58,7 @@ fn open<R: Files>(rt: &R, name: &str) -> Result<R::File, Fault>
     above_streams(file, Fault::ReadFailed)
 }
 
-// Makes a file to be written, or opens it with all that it holds.
+// Creates a file to write, or opens an existing one without emptying it.
 fn make<R: Files>(rt: &R, name: &str) -> Result<R::File, Fault>
     ensures { IfErr result (IsLacking WriteFailed) }
 {
@@ -67,14 +68,14 @@ fn make<R: Files>(rt: &R, name: &str) -> Result<R::File, Fault>
     above_streams(file, Fault::WriteFailed)
 }
 
-// What the system tells of an open file.
+// The metadata of an open file.
 fn metadata_of<F: OpenFile>(file: &F) -> Result<Metadata, Fault>
     ensures { IfErr result (IsLacking WriteFailed) }
 {
     lacking(file.metadata(), Fault::WriteFailed)
 }
 
-// A regular file, by the numbers that tell it from every other, whatever its name.
+// A regular file, by the numbers that identify it whatever its name.
 #[derive(Clone, Copy)]
 struct FileId {
     device: u64,
@@ -93,14 +94,14 @@ fn id_of(metadata: &Metadata) -> Option<FileId>
     })
 }
 
-// Whether both are one file.
+// Whether both are the same file.
 fn is_one_file(file: FileId, out: FileId) -> bool
     ensures { IsTrue result ↔ IsOneFile file out }
 {
     file.device == out.device && file.inode == out.inode
 }
 
-// Whether both are one regular file.
+// Whether both are the same regular file.
 fn are_one(file: Option<FileId>, out: Option<FileId>) -> bool
     ensures { IsTrue result ↔ AreOne file out }
 {
@@ -110,7 +111,7 @@ fn are_one(file: Option<FileId>, out: Option<FileId>) -> bool
     }
 }
 
-// Empties a file that was opened to be written. What is no regular file, as a device, is left.
+// Empties a file that was opened to write. Anything but a regular file, such as a device, stays.
 fn emptied<F: OpenFile + Drop>(out: F, metadata: &Metadata) -> Result<F, Fault>
     ensures { IfErr result (IsLacking WriteFailed) }
 {
@@ -121,8 +122,8 @@ fn emptied<F: OpenFile + Drop>(out: F, metadata: &Metadata) -> Result<F, Fault>
     Ok(out)
 }
 
-// Makes or empties the file that the normal form of `file` goes to. None where it is that very file,
-// also by another name or a link: nothing is emptied then. A file that can't be made is a failed write.
+// Creates or empties the file for the normal form of `file`. None if it is the same file, even by another
+// name or a link; then nothing is emptied. If it can't be created, that is a failed write.
 fn make_beside<R: Files>(rt: &R, name: &str, file: &R::File) -> Result<Option<R::File>, Fault>
     ensures { IfErr result (IsLacking WriteFailed) }
 {
@@ -136,38 +137,37 @@ fn make_beside<R: Files>(rt: &R, name: &str, file: &R::File) -> Result<Option<R:
     Ok(Some(out))
 }
 
-/// What opens files by their names. Which bytes a file has to give, and that it isn't there, is known of a name
-/// by these calls alone.
+/// Opens files by name. Only these calls show the bytes of a named file, or that it can't be opened.
 pub trait Opens {
-    /// A file that is read.
+    /// A file to read.
     type Reader: Read + Drop;
 
-    /// A file that is written.
+    /// A file to write.
     type Writer: Write + Drop;
 
-    // A file that is opened by that name has these bytes to give, where it tells them.
+    // The file with that name has these bytes, or None if they are unknown.
     ghost gives: { Self → List ℕ → Option (List ℕ) → Type 0 };
 
-    // A file couldn't be opened or made by that name, and why.
+    // The file with that name couldn't be opened or created, and why.
     ghost lacks: { Self → List ℕ → Fault → Type 0 };
 
-    // The file that is read was found to be the one with that name.
+    // The file that is being read has that name.
     ghost is_read: { Self → List ℕ → Type 0 };
 
-    /// Opens a file to be read.
+    /// Opens a file to read.
     fn open(&self, name: &str) -> Result<Self::Reader, Fault>
         ensures gives { IfOk result (λ r. gives self.now name.now (Self.Reader.remaining r)) }
         ensures lacking { IfErr result (IsLacking ReadFailed) }
         ensures lacks { IfErr result (lacks self.now name.now) };
 
-    /// Makes or empties a file to be written; None where it is the one that is read.
+    /// Creates or empties a file to write. None if it is the one that is being read.
     fn make_beside(&self, name: &str, file: &Self::Reader) -> Result<Option<Self::Writer>, Fault>
         ensures one { IfOk result (λ out. out ≡ None → is_read self.now name.now) }
         ensures lacking { IfErr result (IsLacking WriteFailed) }
         ensures lacks { IfErr result (lacks self.now name.now) };
 }
 
-/// The files of the system, of which no contract says what they hold.
+/// The files of the system. No contract specifies their content.
 #[derive(Drop)]
 pub struct System<'a, R> {
     rt: &'a R,

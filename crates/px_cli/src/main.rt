@@ -1,14 +1,14 @@
-//! The program `exifnorm`: it tells what a block of Exif or IPTC (IIM) metadata says, compares two
-//! blocks, and writes the one normal form of a block. It opens no picture file, edits no metadata,
-//! repairs nothing, and writes nothing to standard error.
+//! The program `exifnorm`: it prints the meaning of a block of Exif or IPTC (IIM) metadata, compares two
+//! blocks, and writes a block's normal form. It opens no picture file, edits no metadata, repairs nothing,
+//! and writes nothing to standard error.
 //!
 //! ```text
 //! exifnorm < block > normal           # the normal form of a block
-//! exifnorm show block                 # what a block says, a line for each field
+//! exifnorm show block                 # the meaning of a block, a line for each field
 //! exifnorm check block                # its kind, or why it is refused
 //! exifnorm captions block             # its captions, names, keywords and rights
 //! exifnorm normalise block normal     # the normal form, from file to file
-//! exifnorm compare first second       # whether two blocks say the same
+//! exifnorm compare first second       # whether two blocks mean the same
 //! ```
 #![tactic(auto)]
 
@@ -26,7 +26,7 @@ use std::io::ErrorKind;
 use std::process::ExitCode;
 use std::{env, io};
 
-// The arguments: the words behind the program's name.
+// The arguments after the program's name.
 fn behind_name(all: &[String]) -> &[String]
     ensures { result.now ≡ drop 1 all.now }
 {
@@ -36,7 +36,7 @@ fn behind_name(all: &[String]) -> &[String]
     &all[1..]
 }
 
-// Runs on the arguments that the system gives.
+// Runs the program with the system's arguments.
 fn run_given(rt: &HostRuntime) -> u8 {
     let alloc = rt.alloc();
     let mut lines = Watched::new(io::writer(rt));

@@ -1,4 +1,4 @@
-// What the program does with its arguments.
+// Runs the program for its arguments.
 ghost use Rattle.std.specs.Prelude.{◌≡◌, map};
 ghost use Rattle.px_jobs.specs.declared.Job.TheVariants.{Normalise};
 ghost use Rattle.px_jobs.specs.Lines.{device};
@@ -15,14 +15,13 @@ use px_words::{OUT_IS_FILE, One, Words, parse};
 use std::convert::AsStr;
 use std::io;
 
-/// Does what the arguments ask for, and answers the exit status. All text goes to
-/// `lines`, and the normal form of standard input to standard output.
+/// Runs the program for its arguments. Returns the exit status. All text goes to `lines`, and the normal form
+/// of standard input to standard output.
 ///
-/// It parses the arguments, opens the files that they name and runs: `FILE` is opened, then `OUT` is made
-/// or emptied, then `FILE` is read; where two files are compared, both are opened before either is
-/// read. A file that can't be opened is a failed read, one that can't be made a failed write. Where
-/// `OUT` is `FILE`, also by another name, the arguments are refused and the file is as it was. Without
-/// arguments standard input is normalised to standard output; else standard input is not read.
+/// It opens `FILE`, then creates or empties `OUT`, then reads `FILE`. A comparison opens both files before it
+/// reads either. A file that can't be opened is a failed read; one that can't be created is a failed write.
+/// If `OUT` is `FILE`, even by another name, the arguments are refused and the file is unchanged. Without
+/// arguments it normalises standard input to standard output; otherwise it doesn't read standard input.
 pub fn run_words<'a, S: AsStr, R: Input + Print + AllocGlobal, O: Opens, L: Sink>(
     rt: &R,
     files: &O,
@@ -39,7 +38,7 @@ pub fn run_words<'a, S: AsStr, R: Input + Print + AllocGlobal, O: Opens, L: Sink
     run_asked(rt, files, memory, asked, lines)
 }
 
-// Does what was asked for.
+// Does what the parsed arguments mean.
 fn run_asked<R: Input + Print, O: Opens, L: Sink>(
     rt: &R,
     files: &O,
@@ -67,7 +66,7 @@ fn run_asked<R: Input + Print, O: Opens, L: Sink>(
     }
 }
 
-// The job that a command asks for.
+// The job of a command with one file.
 fn job_of(what: One) -> Job
     ensures { result ≡ job_of what }
 {
@@ -78,7 +77,7 @@ fn job_of(what: One) -> Job
     }
 }
 
-// A job with a reader and a writer of its own.
+// A job whose reader and writer end with it.
 fn run_job<F: Source + Drop, O: Sink + Drop, L: Sink>(
     memory: &mut Memory,
     job: Job,
@@ -96,7 +95,7 @@ fn run_job<F: Source + Drop, O: Sink + Drop, L: Sink>(
     run_one_in(memory, job, &mut reader, &mut out, lines)
 }
 
-// A comparison of readers of its own.
+// A comparison whose readers end with it.
 fn run_pair<F: Source + Drop, S: Source + Drop, L: Sink>(
     memory: &mut Memory,
     mut first: F,
@@ -113,7 +112,7 @@ fn run_pair<F: Source + Drop, S: Source + Drop, L: Sink>(
     run_compare_in(memory, &mut first, &mut second, lines)
 }
 
-// Standard input to standard output.
+// Normalises standard input to standard output.
 fn run_filter<R: Input + Print, L: Sink>(rt: &R, memory: &mut Memory, lines: &mut L) -> u8
     requires { CanFail (L.failed lines.old) }
     ensures { EndsFilter
@@ -125,7 +124,7 @@ fn run_filter<R: Input + Print, L: Sink>(rt: &R, memory: &mut Memory, lines: &mu
     run_job(memory, Job::Normalise, reader, out, lines)
 }
 
-// What a command prints of a file.
+// Prints something of a file.
 fn run_file<O: Opens, L: Sink>(
     files: &O,
     memory: &mut Memory,
@@ -147,7 +146,7 @@ fn run_file<O: Opens, L: Sink>(
     }
 }
 
-// The normal form of an open file goes to another, unless that is the same.
+// Writes the normal form of an open file to another, unless both are the same file.
 fn run_beside<O: Opens, L: Sink>(
     files: &O,
     memory: &mut Memory,
@@ -170,7 +169,7 @@ fn run_beside<O: Opens, L: Sink>(
     }
 }
 
-// The normal form of a file goes to another.
+// Writes the normal form of a file to another.
 fn run_form<O: Opens, L: Sink>(
     files: &O,
     memory: &mut Memory,
@@ -190,7 +189,7 @@ fn run_form<O: Opens, L: Sink>(
     }
 }
 
-// Two files are compared.
+// Compares two files.
 fn run_files<O: Opens, L: Sink>(
     files: &O,
     memory: &mut Memory,
