@@ -1,4 +1,4 @@
-// Why a block is refused, told in numbers.
+// The cause of a refusal as numbers.
 ghost use Rattle.std.specs.Prelude.{◌≡◌, Some};
 ghost use Rattle.px_bytes.specs.Causes.{cause_of};
 
@@ -11,11 +11,11 @@ use px_bytes::Cause;
 pub struct ExifnormFault {
     /// The number of a `Cause`, 1 to 19.
     pub cause: u32,
-    /// At most `LIMIT`.
+    /// The byte offset, at most `LIMIT`.
     pub place: u32,
 }
 
-// A refusal, told in numbers.
+// A refusal as numbers.
 pub(crate) fn told(cause: Cause, place: u32) -> ExifnormFault
     ensures cause { cause_of result.cause ≡ Some cause }
     ensures place { result.place ≡ place }

@@ -1,4 +1,4 @@
-// Bytes, put where the caller has room for them.
+// Copies bytes into the caller's buffer.
 ghost use Rattle.std.specs.Prelude.{◌≡◌, ◌⊎◌};
 ghost use Rattle.px_engine.specs.declared.given.Given.TheVariants.{Whole, Needs};
 ghost use Rattle.px_engine.specs.Hand.{IsPut};
@@ -6,7 +6,7 @@ ghost use Rattle.px_c.specs.Outcomes.{PutsText};
 
 use crate::statuses::{DONE, TOO_LITTLE_ROOM};
 
-// Puts bytes in front of `out`, where there is room, and says how many they are.
+// Copies bytes to the start of `out` if they fit, and stores their number in `written`.
 pub(crate) fn give(bytes: &[u8], out: &mut [u8], written: &mut usize) -> u32
     ensures known { (result ≡ DONE) ⊎ (result ≡ TOO_LITTLE_ROOM) }
     ensures done { result ≡ DONE → IsPut (Whole written.new) bytes.now out.old out.new }
@@ -21,7 +21,8 @@ pub(crate) fn give(bytes: &[u8], out: &mut [u8], written: &mut usize) -> u32
     DONE
 }
 
-// Puts a text in front of `out` and a zero behind it, where there is room, and says how many bytes they are.
+// Copies a text and a zero byte to the start of `out` if they fit, and stores the number of these bytes in
+// `written`.
 pub(crate) fn give_text(text: &[u8], out: &mut [u8], written: &mut usize) -> u32
     ensures known { (result ≡ DONE) ⊎ (result ≡ TOO_LITTLE_ROOM) }
     ensures done { result ≡ DONE → PutsText text.now (Whole written.new) out.old out.new }

@@ -1,13 +1,13 @@
-//! The engine for C: what kind a block in hand is of, its normal form, its texts, and whether two blocks say
-//! the same. No copy of a block is made. Each call has one of the statuses of `statuses`, and its contract
-//! says of each status when it comes, what is then in the caller's places, and what stays there as it was.
-//! What these statuses say of a block excludes one another, but for `NO_MEMORY`, which says nothing of it:
-//! so each comes exactly where it holds, or where memory was refused `NO_MEMORY` does. Each call that takes
-//! memory is one line over its sister in `over_memory`, whose contract says that `NO_MEMORY` comes exactly
-//! where a growth was refused in that call. Calls share nothing, so any number of threads may call at once.
+//! The engine for C: the kind of a block in memory, its normal form, its texts, and whether two blocks mean
+//! the same. No call copies a block. Each call returns one of the statuses of `statuses`. Its contract states
+//! for each status when it comes, what the call has written to its output arguments, and what is unchanged.
+//! For each input exactly one status other than `NO_MEMORY` is possible. `NO_MEMORY` is returned instead
+//! exactly if an allocation failed: each call that allocates is one line over its `_in` variant in
+//! `over_memory`, whose contract states this. Calls share no state, so any number of threads may call at
+//! once.
 //!
-//! `include/exifnorm.h` declares these calls for C: a slice is a pointer and a length, and a `Global` is
-//! nothing.
+//! `include/exifnorm.h` declares these calls for C. A slice is a pointer and a length there, and a `Global`
+//! is no argument.
 #![tactic(auto)]
 
 ghost use Rattle.std.specs.Prelude.{◌≡◌, ◌≢◌, ◌⊎◌};
@@ -35,11 +35,11 @@ use px_engine::VERSION;
 use statuses::{DONE, NO_MEMORY, REFUSED, SECOND_REFUSED, TOO_LITTLE_ROOM, TOO_LONG};
 use std::alloc::Global;
 
-/// Answers the kind of the block in a file: 1 for Exif, 2 for IIM.
+/// Stores the kind of the block in a file in `kind`: 1 for Exif, 2 for IIM. Allocates the meaning of an Exif
+/// block.
 ///
-/// `REFUSED`: the file says nothing, and `fault` names its block's first fault. `NO_MEMORY`: a growth was
-/// refused. `kind` is changed where it is done alone, and `fault` where the file is refused. It takes memory
-/// for what the file says.
+/// `REFUSED`: the file has no meaning, and `fault` is its block's first fault. `NO_MEMORY`: an allocation
+/// failed. Only success changes `kind`, and only a refusal changes `fault`.
 #[unsafe(no_mangle)]
 pub extern "C" fn exifnorm_check(
     alloc: Global,
@@ -56,14 +56,13 @@ pub extern "C" fn exifnorm_check(
     check_in(&mut Memory::new(alloc), file, kind, fault)
 }
 
-/// Puts the normal form of what a file says in front of `out`, and its length into `written`.
+/// Writes the normal form of a file to the start of `out`, and its length to `written`. Allocates only the
+/// meaning of the file: the form, which has at most twice the block's bytes, is written directly into `out`.
 ///
-/// `REFUSED`: the file says nothing, and `fault` names its block's first fault. `TOO_LONG`: the form is
-/// longer than `LIMIT`. `TOO_LITTLE_ROOM`: `out` is shorter than the form, whose length is in `written`.
-/// `NO_MEMORY`: a growth was refused. `out` is changed where it is done alone, and only as far as the form
-/// goes; `written` there and where there is too little room; `fault` where the file is refused. It takes
-/// memory for what the file says alone: the form, which has at most twice as many bytes as the block, is
-/// written straight into `out`.
+/// `REFUSED`: the file has no meaning, and `fault` is its block's first fault. `TOO_LONG`: the form is longer
+/// than `LIMIT`. `TOO_LITTLE_ROOM`: `out` is shorter than the form, whose length is in `written`.
+/// `NO_MEMORY`: an allocation failed. Only success changes `out`, and only as far as the form goes. Only
+/// success and `TOO_LITTLE_ROOM` change `written`. Only a refusal changes `fault`.
 #[unsafe(no_mangle)]
 pub extern "C" fn exifnorm_normalise(
     alloc: Global,
@@ -84,13 +83,12 @@ pub extern "C" fn exifnorm_normalise(
     normalise_in(&mut Memory::new(alloc), file, out, written, fault)
 }
 
-/// Answers whether two files say the same: 1 in `same` where they do, 0 where they don't. Whether their
-/// normal forms can be written doesn't matter.
+/// Stores in `same` whether two files mean the same: 1 if they do, 0 if they don't. It doesn't matter whether
+/// their normal forms can be written. Allocates the meaning of both.
 ///
-/// `REFUSED`: the first file says nothing, and `fault` names its block's first fault. `SECOND_REFUSED`: the
-/// first says something, the second nothing, and `fault` is of the second. `NO_MEMORY`: a growth was refused.
-/// `same` is changed where it is done alone, and `fault` where a file is refused. It takes memory for what
-/// both say.
+/// `REFUSED`: the first file has no meaning, and `fault` is its block's first fault. `SECOND_REFUSED`: the
+/// first has a meaning, the second has none, and `fault` is of the second. `NO_MEMORY`: an allocation failed.
+/// Only success changes `same`, and only a refusal changes `fault`.
 #[unsafe(no_mangle)]
 pub extern "C" fn exifnorm_compare(
     alloc: Global,
@@ -109,12 +107,11 @@ pub extern "C" fn exifnorm_compare(
     compare_in(&mut Memory::new(alloc), first, second, same, fault)
 }
 
-/// Puts the listing of what a file says in front of `out`, a line for each directory, field and DataSet, and
-/// its length into `written`. No zero stands behind it.
+/// Writes the listing of a file to the start of `out`, a line for each directory, field and DataSet, and its
+/// length to `written`. It adds no zero byte. Allocates the meaning and the text: less than four bytes for
+/// each byte of a value or DataSet, and less than 30 more for each line.
 ///
-/// Statuses, and what changes where, are those of `exifnorm_normalise`, but that no listing is too long. It
-/// takes memory for what the file says and for the text: less than four bytes for each byte of a value or of
-/// data, and less than 30 more a line.
+/// Statuses and changes are as for `exifnorm_normalise`, except that no listing is too long.
 #[unsafe(no_mangle)]
 pub extern "C" fn exifnorm_show(
     alloc: Global,
@@ -134,12 +131,12 @@ pub extern "C" fn exifnorm_show(
     show_in(&mut Memory::new(alloc), file, out, written, fault)
 }
 
-/// Puts the captions of what a file says in front of `out`, one a line, and the text's length into `written`.
-/// No zero stands behind it. A byte from 20 to 7E stands for itself, but the backslash; each other one is a
-/// backslash and two hexadecimal digits.
+/// Writes the captions of a file to the start of `out`, one for each line, and the text's length to
+/// `written`. It adds no zero byte. Bytes from 20 to 7E except the backslash are written as they are; any
+/// other byte is a backslash and two hexadecimal digits. Allocates the meaning and the text: at most three
+/// bytes for each byte of a caption, and at most 22 more for each line.
 ///
-/// Statuses, and what changes where, are those of `exifnorm_show`. It takes memory for what the file says and
-/// for the text: at most three bytes for each byte of a caption, and at most 22 more a line.
+/// Statuses and changes are as for `exifnorm_show`.
 #[unsafe(no_mangle)]
 pub extern "C" fn exifnorm_captions(
     alloc: Global,
@@ -159,9 +156,9 @@ pub extern "C" fn exifnorm_captions(
     captions_in(&mut Memory::new(alloc), file, out, written, fault)
 }
 
-/// Puts the name of the cause with this number in front of `out`, with the zero that ends a text in C, and the
-/// number of these bytes into `written`. A number that is no cause's has the empty text. `TOO_LITTLE_ROOM`:
-/// `out` is shorter than that, and stays as it was; 20 bytes are always enough.
+/// Writes the name of the cause with this number and a zero byte to the start of `out`, and the number of
+/// these bytes to `written`. A number of no cause has the empty name. `TOO_LITTLE_ROOM`: `out` is too short
+/// and unchanged; 20 bytes are always enough. It allocates nothing.
 #[unsafe(no_mangle)]
 pub extern "C" fn exifnorm_cause_name(cause: u32, out: &mut [u8], written: &mut usize) -> u32
     ensures known { (result ≡ DONE) ⊎ (result ≡ TOO_LITTLE_ROOM) }
@@ -172,8 +169,8 @@ pub extern "C" fn exifnorm_cause_name(cause: u32, out: &mut [u8], written: &mut 
     give_text(cause_name(cause), out, written)
 }
 
-/// Puts the version of the library in front of `out`, with the zero that ends a text in C, and the number of these
-/// bytes into `written`. `TOO_LITTLE_ROOM`: `out` is shorter than that, and stays as it was.
+/// Writes the version of the library and a zero byte to the start of `out`, and the number of these bytes to
+/// `written`. `TOO_LITTLE_ROOM`: `out` is too short and unchanged. It allocates nothing.
 #[unsafe(no_mangle)]
 pub extern "C" fn exifnorm_version(out: &mut [u8], written: &mut usize) -> u32
     ensures known { (result ≡ DONE) ⊎ (result ≡ TOO_LITTLE_ROOM) }

@@ -1,4 +1,4 @@
-// The calls over memory. Each answers `NO_MEMORY` exactly where memory refused a growth in that call.
+// The calls over memory. Each returns `NO_MEMORY` exactly if an allocation failed in that call.
 ghost use Rattle.std.specs.Prelude.{◌≡◌, ◌≢◌, ◌⊎◌, ◌+◌, true};
 ghost use Rattle.px_engine.specs.declared.faults.Fault.TheVariants.{NormalTooLong};
 ghost use Rattle.px_engine.specs.declared.given.Given.TheVariants.{Whole, Needs};
@@ -14,7 +14,7 @@ use crate::statuses::{DONE, NO_MEMORY, REFUSED, SECOND_REFUSED, TOO_LITTLE_ROOM,
 use px_bytes::Memory;
 use px_engine::{BlockKind, Fault, Given, Side};
 
-// Answers the kind of the block in a file.
+// The kind of the block in a file.
 pub(crate) fn check_in(
     memory: &mut Memory,
     file: &[u8],
@@ -46,7 +46,7 @@ pub(crate) fn check_in(
     }
 }
 
-// Puts the normal form of what a file says in front of `out`.
+// Writes the normal form of a file to the start of `out`.
 pub(crate) fn normalise_in(
     memory: &mut Memory,
     file: &[u8],
@@ -85,7 +85,7 @@ pub(crate) fn normalise_in(
     }
 }
 
-// Answers whether two files say the same.
+// Whether two files mean the same.
 pub(crate) fn compare_in(
     memory: &mut Memory,
     first: &[u8],
@@ -125,7 +125,7 @@ pub(crate) fn compare_in(
     }
 }
 
-// Puts the listing of what a file says in front of `out`.
+// Writes the listing of a file to the start of `out`.
 pub(crate) fn show_in(
     memory: &mut Memory,
     file: &[u8],
@@ -153,7 +153,7 @@ pub(crate) fn show_in(
     }
 }
 
-// Puts the captions of what a file says in front of `out`.
+// Writes the captions of a file to the start of `out`.
 pub(crate) fn captions_in(
     memory: &mut Memory,
     file: &[u8],

@@ -1,14 +1,14 @@
-// The statuses of all calls. 1 isn't used: the program ends with it where two blocks say different things.
+// The statuses of all calls. 1 is not used: it is the program's exit status for different blocks.
 
-/// Done.
+/// Success.
 pub const DONE: u32 = 0;
-/// The block says nothing; of two, the first.
+/// The block has no meaning; of two blocks, the first.
 pub const REFUSED: u32 = 2;
-/// The normal form is longer than a block may be.
+/// The normal form is longer than `LIMIT`.
 pub const TOO_LONG: u32 = 3;
-/// Memory was refused.
+/// An allocation failed.
 pub const NO_MEMORY: u32 = 4;
-/// The caller's buffer has too little room.
+/// The caller's buffer is too short.
 pub const TOO_LITTLE_ROOM: u32 = 5;
-/// The second of two blocks says nothing.
+/// The second of two blocks has no meaning.
 pub const SECOND_REFUSED: u32 = 6;
