@@ -1,4 +1,4 @@
-// Meanings that are built by hand, which several tests judge or lay out.
+// Meanings built by hand, which several tests judge or lay out.
 use px_bytes::Order;
 use px_field::{Form, Value, read_value};
 use px_tree::{Fields, Meaning};

@@ -1,5 +1,5 @@
-// px_bytes: ranges over an allocator, the texts of refusals, a flush that fails, a write of no byte, and room that is asked for
-// ahead.
+// px_bytes: ranges over an allocator, the texts of refusals, a failed flush, a write of no bytes, and space
+// allocated ahead.
 use crate::devices::KeepsBack;
 use px_bytes::{
     Cause, Device, Growing, Memory, Ranges, ReadFault, Refusal, Sink, Watched, WriteRefusal,

@@ -1,21 +1,21 @@
-// Devices that fail where those of no run do.
+// Writers with failures that no run of the program has.
 ghost use Rattle.std.specs.Prelude.{◌≡◌, ◌+◌, ◌^◌, ◌-◌, min, length, Ok, IsErr};
 ghost use Rattle.std.specs.Io.{WritesAtMost};
 
 use std::io;
 use std::io::{ErrorKind, Write};
 
-/// A writer that takes all that it is handed and fails each flush. It counts the bytes and the flushes.
+/// A writer that takes all bytes and fails each flush. It counts the bytes and the flushes.
 #[derive(Drop)]
 pub struct KeepsBack {
     /// How many bytes it has taken.
     pub held: usize,
-    /// How often it was asked to flush.
+    /// How many flushes were called.
     pub flushes: u32,
 }
 
 impl KeepsBack {
-    /// No byte, and no flush.
+    /// No bytes and no flush so far.
     pub fn new() -> KeepsBack
         ensures { result ≡ record { held = 0; flushes = 0 } }
     {

@@ -1,5 +1,5 @@
-// px_engine: two files in hand at once, captions as a list, and flushes: each run that writes asks for one, behind the last byte,
-// and tells where it fails. No run of the program shows that.
+// px_engine: two files in memory at once, captions as a list, and flushes: each run that writes flushes once
+// after the last byte and reports a failed flush. No run of the program shows that.
 use crate::devices::KeepsBack;
 use px_bytes::Watched;
 use px_engine::{Fault, Label, captions, captions_of, normalise, normalise_both, read_any, show};
@@ -14,7 +14,7 @@ const IIM: &[u8] = b"\x1c\x02\x78\x00\x03abc";
 
 const IIM_EXTENDED: &[u8] = b"\x1c\x02\x78\x80\x04\x00\x00\x00\x03abc";
 
-// A by-line's title that says nothing, and a caption; the charset is declared.
+// An empty by-line title, and a caption; the charset is declared.
 const LABELLED: &[u8] =
     b"\x1C\x02\x55\x00\x00\x1C\x02\x78\x00\x02V\\\x1C\x01\x5A\x00\x03\x1B\x25\x47";
 
@@ -38,7 +38,7 @@ fn captions_are_told_by_their_labels(rt: HostRuntime) -> Result<(), Fail> {
     Ok(())
 }
 
-// So many bytes were taken, one flush was asked for, and its failure was told.
+// Checks that so many bytes were taken, one flush was called, and its failure was reported.
 fn check_flushed(rt: &impl Abort, fault: Option<Fault>, writer: Watched<KeepsBack>, bytes: usize) {
     assert!(rt; matches!(fault, Some(Fault::WriteFailed)));
     let kept = writer.into_inner();

@@ -1,4 +1,5 @@
-// px_field: an element, an append and the room that it asks for, and bytes that are handed on as they were read.
+// px_field: an element, an append and the space that it allocates, and bytes that are returned as they were
+// read.
 use px_bytes::Order;
 use px_field::{Element, Form, append_value, read_value, read_whole, same_value};
 

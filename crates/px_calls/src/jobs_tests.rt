@@ -1,4 +1,5 @@
-// px_jobs: a flush stands behind each line of the program, and one that fails is told by the status. No run of the program shows that.
+// px_jobs: each line of the program is flushed, and the status reports a failed flush. No run of the program
+// shows that.
 use crate::devices::KeepsBack;
 use px_bytes::{Memory, Watched};
 use px_jobs::{Job, run_compare_in, run_one_in, say_text};
@@ -7,7 +8,7 @@ use std::process::Abort;
 
 const CAPTION: &[u8] = b"\x1C\x02\x78\x00\x03abc";
 
-// So many bytes were taken, one flush was asked for, and its failure was told.
+// Checks that so many bytes were taken, one flush was called, and its failure was reported.
 fn check_kept_back(rt: &impl Abort, status: u8, lines: Watched<KeepsBack>, bytes: usize) {
     assert_eq!(rt; status, 4);
     let kept = lines.into_inner();

@@ -1,5 +1,5 @@
-// px_layout: plans, which no program makes: their calls, the plan of the normal form, which plans are legal, and a block laid out
-// by one in either byte order.
+// px_layout and px_plans: plans, which the program never makes: their calls, the plan of the normal form,
+// which plans are legal, and a block that a plan lays out in either byte order.
 use crate::built::{one, with_field};
 use px_bytes::Order;
 use px_field::{Form, read_value};
@@ -8,18 +8,18 @@ use px_tree::{Dir, fits};
 use std::alloc::{AllocError, Global};
 use std::test::Fail;
 
-// A text of five bytes, placed at the odd offset 27. Blocks stand entry by entry: the header and the number of entries, an entry a
-// line, the next offset and what stands behind it.
+// A text of five bytes at the odd offset 27. The bytes are one line for each of: the header and the number of
+// entries, an entry, the next offset and what follows it.
 const ONE_TEXT: &[u8] = b"\x4D\x4D\x00\x2A\x00\x00\x00\x08\x00\x01\
       \x01\x0E\x00\x02\x00\x00\x00\x05\x00\x00\x00\x1B\
       \x00\x00\x00\x00\xFF\x55\x72\x6E\x73\x00";
 
-// The same, the least significant byte first.
+// The same in the other byte order.
 const ONE_TEXT_LEAST: &[u8] = b"\x49\x49\x2A\x00\x08\x00\x00\x00\x01\x00\
       \x0E\x01\x02\x00\x05\x00\x00\x00\x1B\x00\x00\x00\
       \x00\x00\x00\x00\xFF\x55\x72\x6E\x73\x00";
 
-// The table of the main directory at 8, and a text there.
+// The table of the main directory at offset 8, and the text at offset `at`.
 fn text_plan(alloc: Global, at: u32) -> Plan {
     let mut plan = Plan::new(alloc, 32);
     let _ = plan.place(Chunk::Table(Dir::Main), 8);
@@ -49,7 +49,7 @@ fn the_plan_of_one_field(rt: HostRuntime) -> Result<(), Fail> {
     Ok(())
 }
 
-// The text laid out at that place in this byte order, with FF in every gap, where that is legal.
+// The block with the text at that offset in this byte order, with FF in every gap, if the plan is legal.
 fn laid(alloc: Global, at: u32, order: Order) -> Result<Option<Vec<u8>>, AllocError> {
     let text = read_value(Form::Ascii, Order::Most, b"Urns\x00");
     let m = with_field(alloc, 0x010E, text)?;

@@ -1,7 +1,7 @@
-//! Tests of the public calls of the crates below, of what only a caller in Rattle sees: what is built or appended by hand, plans,
-//! two files in hand at once, and flushes, those behind the program's lines among them. They stand in one crate since a crate with
-//! tests is proved twice, with and without them: so no other crate has any, and they share a fake device. Neither the program nor
-//! the library for C is built over it.
+//! Tests of the libraries' public calls that only a caller in Rattle can make: values built or appended by
+//! hand, plans, two files in memory at once, and flushes. They are in one crate because a crate with tests is
+//! proved twice, with and without them; so no other crate has tests, and these share a fake writer. Neither
+//! the program nor the C library uses this crate.
 #![tactic(auto)]
 
 #[cfg(test)]

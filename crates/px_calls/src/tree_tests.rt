@@ -1,5 +1,6 @@
-// px_tree: the calls that build `Fields` and `Strips`, and a meaning that can't be written. Which can is told by the laws over the
-// definitions: what a block says fits, and the normal form of what fits says it.
+// px_tree: the calls that build `Fields` and `Strips`, and a meaning that can't be written. The laws of the
+// definitions show which can: the meaning of a block fits, and the normal form of a meaning that fits has that
+// meaning.
 use crate::built::{one, with_field};
 use px_tree::{Fields, Strips, fits};
 use std::test::Fail;
