@@ -1,12 +1,11 @@
-"""What the metadata block of a picture says, its one normal form, and whether two blocks say the same.
+"""The meaning of a picture's metadata block, its normal form, and whether two blocks mean the same.
 
-A block is an Exif block, perhaps behind the six bytes ``Exif\\0\\0`` that stand in front of it in a JPEG file, or a block of
-IPTC-NAA IIM DataSets. No picture file is opened. Two blocks that say the same have the same normal form, byte for byte, and
-two that say different things have different ones. A block that breaks the rules raises `Refused`, with the first fault and
-its place; it is never repaired.
+A block is an Exif block, perhaps after the six bytes ``Exif\\0\\0`` that precede it in a JPEG file, or a block of IPTC-NAA IIM
+DataSets. No picture file is opened. Two blocks have the same normal form, byte for byte, exactly if they mean the same. A block
+that breaks the rules raises `Refused`, with the first fault and its byte offset; it is never repaired.
 
-A block is given as bytes, a bytearray, a memoryview, or anything else whose bytes lie together in memory. It isn't copied, and
-must not be written to while a call reads it. Calls run side by side in threads.
+A block can be bytes, a bytearray, a memoryview, or any other object with contiguous bytes. It isn't copied, and must not be
+written to while a call reads it. Calls can run in several threads at once.
 
     >>> import exifnorm
     >>> block = bytes.fromhex("4d4d002a00000008 0001 0112 0003 00000001 00060000 00000000")
@@ -18,8 +17,8 @@ must not be written to while a call reads it. Calls run side by side in threads.
     >>> exifnorm.fields(block)
     [Field(directory='main', tag=274, type='SHORT', values=(6,))]
 
-The calls are those of the library libexifnorm, which is proved to keep these promises; what turns its texts into objects here
-is tested, and not proved.
+The calls are those of the library libexifnorm, which is proved to keep these promises. The code here that turns its texts into
+objects is tested, but not proved.
 """
 
 from ._calls import Block, digest, kind, normal, same, show, version

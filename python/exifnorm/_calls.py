@@ -1,4 +1,4 @@
-"""The library's calls over blocks of Python."""
+"""The library's calls for blocks in Python objects."""
 
 from __future__ import annotations
 
@@ -11,13 +11,13 @@ from ._errors import NormalTooLong, Refused
 from ._library import LIMIT, NAME_ROOM, Fault, Status, library
 
 Block = Union[bytes, bytearray, memoryview]
-"""A block's bytes. Whatever else gives its bytes in one piece, as an mmap, serves too."""
+"""A block's bytes. Any other object with contiguous bytes works too, such as an mmap."""
 
 Made = TypeVar("Made")
 
 _DONE = int(Status.DONE)
 _KINDS = {1: "exif", 2: "iim"}
-_KEPT_ROOM = 65_536  # bytes of the output that is kept from one call to the next
+_KEPT_ROOM = 65_536  # size in bytes of the output buffer that is kept from one call to the next
 _KEPT_SIZE = ctypes.c_size_t(_KEPT_ROOM)
 
 
@@ -39,7 +39,7 @@ class _View(ctypes.Structure):
     ]
 
 
-_SIMPLE = 0  # PyBUF_SIMPLE: the bytes in one piece, only to be read
+_SIMPLE = 0  # PyBUF_SIMPLE: contiguous bytes, read-only use
 _get_view = ctypes.PYFUNCTYPE(ctypes.c_int, ctypes.py_object, ctypes.POINTER(_View), ctypes.c_int)(
     ("PyObject_GetBuffer", ctypes.pythonapi)
 )
@@ -49,11 +49,11 @@ _release = ctypes.PYFUNCTYPE(None, ctypes.POINTER(_View))(("PyBuffer_Release", c
 _new_bytes = ctypes.PYFUNCTYPE(ctypes.c_void_p, ctypes.c_void_p, ctypes.c_ssize_t)(("PyBytes_FromStringAndSize", ctypes.pythonapi))
 _resize = ctypes.PYFUNCTYPE(ctypes.c_int, ctypes.POINTER(ctypes.c_void_p), ctypes.c_ssize_t)(("_PyBytes_Resize", ctypes.pythonapi))
 _drop = ctypes.PYFUNCTYPE(None, ctypes.c_void_p)(("Py_DecRef", ctypes.pythonapi))
-_FIRST_BYTE = bytes.__basicsize__ - 1  # where the bytes stand in such an object, which counts a zero behind them
+_FIRST_BYTE = bytes.__basicsize__ - 1  # offset of the bytes in such an object; the size includes a zero byte after them
 
 
 class _Places:
-    """Where one call writes: its output, and the numbers beside it."""
+    """The output buffer of a call, and the numbers that the call stores."""
 
     def __init__(self) -> None:
         kept = ctypes.create_string_buffer(_KEPT_ROOM)
@@ -63,7 +63,7 @@ class _Places:
         self.to_written, self.to_number, self.to_fault = map(ctypes.byref, (self.written, self.number, self.fault))
 
 
-# A call takes its places off this list and puts them back, so that threads, and a handler of a signal, never share any.
+# A call takes an output buffer off this list and puts it back, so that threads and signal handlers never share one.
 _free_places: List[_Places] = []
 
 
@@ -75,20 +75,20 @@ def _take_places() -> _Places:
 
 
 def _over_bytes(block: Block, use: Callable[[Any, int], Made]) -> Made:
-    """Calls `use` with the address of a block's bytes and their number."""
+    """Calls `use` with the address and the length of a block's bytes."""
     if type(block) is bytes:
         return use(block, len(block))
     view = _View()
     _get_view(block, ctypes.byref(view), _SIMPLE)
     try:
-        # where there are no bytes, any address serves but null
+        # without bytes any address but null works
         return use(view.buf or ctypes.addressof(view), view.len)
     finally:
         _release(ctypes.byref(view))
 
 
 def _text(call: Callable[..., int], *first: Any) -> str:
-    """A text that the library keeps."""
+    """A constant text of the library."""
     out, written = ctypes.create_string_buffer(NAME_ROOM), ctypes.c_size_t()
     call(*first, out, NAME_ROOM, ctypes.byref(written))
     return out.value.decode("ascii")
@@ -107,7 +107,7 @@ def _fail(status: int, places: _Places, side: Optional[int] = None) -> NoReturn:
 
 
 def _made(call: Callable[..., int], at: Any, length: int, room: int) -> bytes:
-    """The bytes that a call makes of a block, which mostly fit into so much room."""
+    """The output of a call, which usually fits into a buffer of this size."""
     places = _take_places()
     if room <= _KEPT_ROOM:
         status = call(at, length, places.out, _KEPT_SIZE, places.to_written, places.to_fault)
@@ -122,7 +122,7 @@ def _made(call: Callable[..., int], at: Any, length: int, room: int) -> bytes:
 
 
 def _made_in_new(call: Callable[..., int], at: Any, length: int, room: int, places: _Places) -> bytes:
-    """The same, written into a new bytes object, which is neither cleared before nor copied behind."""
+    """The same, written directly into a new bytes object: it is neither cleared before nor copied afterwards."""
     while True:
         made = ctypes.c_void_p(_new_bytes(None, room))
         try:
@@ -163,7 +163,7 @@ def version() -> str:
 
 
 def kind(block: Block) -> str:
-    """The block's kind, "exif" or "iim". Raises Refused where the block says nothing, and MemoryError.
+    """The block's kind, "exif" or "iim". Raises Refused if the block breaks the rules, and MemoryError.
 
     >>> kind(b"\\x1c\\x02\\x78\\x00\\x04Vase")
     'iim'
@@ -179,10 +179,10 @@ def kind(block: Block) -> str:
 
 
 def normal(block: Block) -> bytes:
-    """The block's normal form: the same bytes for all blocks that say the same. Raises Refused where the block says nothing,
-    NormalTooLong where the form would have more than 16,777,216 bytes, and MemoryError.
+    """The block's normal form: the same bytes for all blocks that mean the same. Raises Refused if the block breaks the rules,
+    NormalTooLong if the form would have more than 16,777,216 bytes, and MemoryError.
 
-    A normal form is for comparing and for digests. Offsets inside a MakerNote may lead nowhere in it: keep the original.
+    Use a normal form only to compare or to digest. Offsets inside a MakerNote may be invalid in it: keep the original.
 
     >>> normal(b"\\x1c\\x02\\x78\\x80\\x04\\x00\\x00\\x00\\x04Vase\\x00")
     b'\\x1c\\x02x\\x00\\x04Vase'
@@ -191,9 +191,9 @@ def normal(block: Block) -> bytes:
 
 
 def digest(block: Block, algorithm: str = "sha256") -> str:
-    """The digest of the block's normal form in hexadecimal digits: the same for all blocks that say the same. The algorithm is
-    one of hashlib's whose digests have one length; of another name a ValueError is raised. Raises what `normal` raises, so no
-    digest comes of a block that is refused.
+    """The digest of the block's normal form in hexadecimal digits: the same for all blocks that mean the same. The algorithm is
+    one of hashlib's with digests of a fixed length; any other name raises ValueError. Raises what `normal` raises, so a block
+    that is refused has no digest.
 
     >>> digest(b"\\x1c\\x02\\x78\\x80\\x04\\x00\\x00\\x00\\x04Vase") == digest(b"\\x1c\\x02\\x78\\x00\\x04Vase")
     True
@@ -206,8 +206,8 @@ def digest(block: Block, algorithm: str = "sha256") -> str:
 
 
 def same(first: Block, second: Block) -> bool:
-    """Whether two blocks say the same. Whether their normal forms can be written doesn't matter. Raises Refused, whose side is 1
-    or 2, where one of them says nothing, and MemoryError.
+    """Whether two blocks mean the same. It doesn't matter whether their normal forms can be written. Raises Refused if one of
+    them breaks the rules, with its number 1 or 2 as `side`, and MemoryError.
 
     >>> same(b"\\x1c\\x02\\x78\\x00\\x04Vase", b"\\x1c\\x02\\x78\\x00\\x03Urn")
     False
@@ -227,8 +227,8 @@ def same(first: Block, second: Block) -> bool:
 
 
 def show(block: Block) -> str:
-    """The listing of what the block says, a line for each directory, field and DataSet, as the command `exifnorm show` prints
-    it. Raises Refused where the block says nothing, and MemoryError.
+    """The listing of the block, a line for each directory, field and DataSet, as the command `exifnorm show` prints it.
+    Raises Refused if the block breaks the rules, and MemoryError.
 
     >>> print(show(b"\\x1c\\x02\\x78\\x00\\x04Vase"), end="")
     iim

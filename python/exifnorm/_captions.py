@@ -1,4 +1,4 @@
-"""Captions as objects: the text of `exifnorm captions`, taken apart (docs/FORMAT.md, "Captions")."""
+"""Captions as objects: the parsed text of `exifnorm captions` (docs/FORMAT.md, "Captions")."""
 
 from __future__ import annotations
 
@@ -21,10 +21,10 @@ class Caption:
     """"title", "caption", "headline", "credit", "source", "copyright", "byline", "byline-title", "keyword" or "inventory" of a
     record; "description", "artist" or "copyright" of an Exif block."""
     data: bytes
-    """Its bytes as they stand in the block; a text of an Exif block mostly ends in a zero."""
+    """Its bytes as they are in the block; a text of an Exif block usually ends in a zero byte."""
     text: Optional[str]
-    """The text, where the block says how to read its bytes, and they can be read so: of a record that declares UTF-8, and of the
-    Exif types ASCII and UTF-8, without the zero that ends it. Else None."""
+    """The text, if its encoding is known and its bytes are valid: for a record that declares UTF-8, and for the Exif types ASCII
+    and UTF-8, without the zero byte at the end. Otherwise None."""
 
 
 def _decoded(data: bytes, encoding: str) -> Optional[str]:
@@ -42,14 +42,14 @@ def _of_exif(block: Block, label: str, data: bytes) -> Caption:
     ended = data[:-1] if data.endswith(b"\0") else data
     if ended.isascii():
         return Caption(label, data, ended.decode("ascii"))
-    # the type stands in the listing alone
+    # only the listing has the type
     encoding = "utf-8" if _EXIF_TAGS[label] in _utf8_tags(block) else "ascii"
     return Caption(label, data, _decoded(ended, encoding))
 
 
 def captions(block: Block) -> List[Caption]:
-    """The block's captions, names, keywords and rights, in the order of `exifnorm captions`. Raises Refused where the block says
-    nothing, and MemoryError.
+    """The block's captions, names, keywords and rights, in the order of `exifnorm captions`. Raises Refused if the block breaks
+    the rules, and MemoryError.
 
     >>> from exifnorm import captions
     >>> block = b"\\x1c\\x01\\x5a\\x00\\x03\\x1b%G" + b"\\x1c\\x02\\x05\\x00\\x07Z\\xc3\\xbcrich"

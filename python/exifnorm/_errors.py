@@ -1,4 +1,4 @@
-"""What calls raise besides MemoryError and TypeError."""
+"""The exceptions of calls, besides MemoryError and TypeError."""
 
 from __future__ import annotations
 
@@ -6,7 +6,7 @@ from typing import Optional
 
 
 class Refused(ValueError):
-    """A block breaks the rules, and says nothing: its first fault.
+    """A block breaks the rules and has no meaning: its first fault.
 
     >>> import exifnorm
     >>> try:
@@ -19,11 +19,11 @@ class Refused(ValueError):
     def __init__(self, cause: str, place: int, side: Optional[int] = None) -> None:
         super().__init__(cause, place, side)
         self.cause = cause
-        """The name of what is wrong, as "Overlap": one of the causes of docs/FORMAT.md and exifnorm(3)."""
+        """The name of the cause, such as "Overlap". docs/FORMAT.md and exifnorm(3) list the causes."""
         self.place = place
-        """Where, in bytes from the block's first. The six bytes in front of an Exif block aren't counted."""
+        """The byte offset from the block's first byte. The six bytes before an Exif block are not counted."""
         self.side = side
-        """Of two blocks the one that is refused, 1 or 2; else None."""
+        """For two blocks, the number of the one that is refused, 1 or 2; otherwise None."""
 
     def __str__(self) -> str:
         where = f"{self.cause} at {self.place}"
@@ -31,9 +31,9 @@ class Refused(ValueError):
 
 
 class NormalTooLong(ValueError):
-    """The block says something, and its normal form is longer than 16,777,216 bytes.
+    """The block has a meaning, but its normal form is longer than 16,777,216 bytes.
 
-    Such a block can be compared, shown, and asked for its kind and its captions.
+    `same`, `show`, `kind` and `captions` accept such a block.
 
     >>> import exifnorm
     >>> count = 4_200_000  # numbers of RowsPerStrip, which take two bytes here, and four in the form
@@ -51,4 +51,4 @@ class NormalTooLong(ValueError):
 
 
 class LibraryMissing(OSError):
-    """The library libexifnorm can't be loaded; the text says where it was looked for, and why each place didn't serve."""
+    """The library libexifnorm can't be loaded. The text lists where it was looked for, and why each attempt failed."""

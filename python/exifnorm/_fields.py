@@ -1,4 +1,4 @@
-"""The objects that tell what a block says."""
+"""Objects for the meaning of a block."""
 
 from __future__ import annotations
 
@@ -6,7 +6,7 @@ from typing import NamedTuple, Tuple, Union
 
 
 class Ratio(NamedTuple):
-    """A fraction as it stands: it isn't reduced, and its denominator may be 0."""
+    """A fraction as it is in the block: it isn't reduced, and its denominator may be 0."""
 
     numerator: int
     denominator: int
@@ -23,13 +23,13 @@ class Field(NamedTuple):
     """
 
     directory: str
-    """"main", "exif", "interop", "gps" or "thumb"; of a DataSet "record"."""
+    """"main", "exif", "interop", "gps" or "thumb"; for a DataSet "record"."""
     tag: int
-    """Its tag. Of a DataSet 256 times its record number plus its number, so that 2:120 has 0x0278. Of the thumbnail's JPEG 0x0201,
-    and of its strips 0x0111, which are the tags that name them in a block."""
+    """The tag. For a DataSet it is 256 times the record number plus the DataSet number, so 2:120 has 0x0278. For the thumbnail's
+    JPEG it is 0x0201 and for its strips 0x0111, the tags of their offsets in a block."""
     type: str
-    """The type's name, as "ASCII" or "RATIONAL"; "WHOLE" where SHORT and LONG mean the same; "DATASET", "JPEG" or "STRIPS"."""
+    """The type's name, such as "ASCII" or "RATIONAL"; "WHOLE" if SHORT and LONG mean the same; "DATASET", "JPEG" or "STRIPS"."""
     values: Values
-    """The bytes of BYTE, ASCII, SBYTE, UNDEFINED, UTF8, DATASET and JPEG. Of SHORT, LONG, WHOLE, SSHORT and SLONG a tuple of
-    numbers; of RATIONAL and SRATIONAL a tuple of `Ratio`; of FLOAT and DOUBLE a tuple of bit patterns, as numbers
-    (`struct.unpack(">f", pattern.to_bytes(4, "big"))` tells what one means); of STRIPS the bytes of each."""
+    """The bytes of BYTE, ASCII, SBYTE, UNDEFINED, UTF8, DATASET and JPEG. For SHORT, LONG, WHOLE, SSHORT and SLONG a tuple of
+    numbers; for RATIONAL and SRATIONAL a tuple of `Ratio`; for FLOAT and DOUBLE a tuple of bit patterns, as numbers
+    (`struct.unpack(">f", pattern.to_bytes(4, "big"))` converts one); for STRIPS the bytes of each."""

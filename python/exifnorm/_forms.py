@@ -1,4 +1,4 @@
-"""Fields from a normal form (docs/FORMAT.md, "Normal forms"): one byte order, one layout, nothing that must be checked again."""
+"""Fields from a normal form (docs/FORMAT.md, "Normal forms"): it has one byte order and one layout, and needs no checks."""
 
 from __future__ import annotations
 
@@ -10,7 +10,7 @@ from ._calls import kind
 from ._errors import Refused
 from ._fields import Field, Ratio
 
-Read = Callable[[bytes, int, int], Any]  # the values in a form that begin at a place, so many of them
+Read = Callable[[bytes, int, int], Any]  # reads so many values at an offset of a form
 
 _COUNT, _OFFSET = Struct(">H"), Struct(">L")
 
@@ -39,7 +39,7 @@ def _ratios(letter: str) -> Read:
     return read
 
 
-# number: the type's name, the bytes of an element, and how its values are read
+# number: the type's name, the bytes of an element, and the function that reads its values
 _TYPES: Dict[int, Tuple[str, int, Read]] = {
     1: ("BYTE", 1, _octets),
     2: ("ASCII", 1, _octets),
@@ -58,7 +58,7 @@ _TYPES: Dict[int, Tuple[str, int, Read]] = {
 _LONG, _UNDEFINED = 4, 7
 
 _RECORD, _JPEG, _STRIPS = 0x83BB, 0x0201, 0x0111
-_PARTS = {0x0111, 0x0117, 0x0201, 0x0202}  # of the thumbnail: where its strips and its JPEG stand, and how long they are
+_PARTS = {0x0111, 0x0117, 0x0201, 0x0202}  # the thumbnail: offsets and lengths of its strips and its JPEG
 _POINTERS = {("main", 0x8769): "exif", ("exif", 0xA005): "interop", ("main", 0x8825): "gps"}
 _WHOLE = {"main": {0x0100, 0x0101, 0x0116}, "thumb": {0x0100, 0x0101, 0x0116}, "exif": {0xA002, 0xA003}}
 # the tags of a directory whose entries are not always plain fields
@@ -81,7 +81,7 @@ def fields_of_record(form: bytes) -> Iterator[Field]:
     while at < len(form):
         _, tag, size = unpack_from(">BHH", form, at)
         at += 5
-        if size >= 0x8000:  # an extended one, whose count has four bytes
+        if size >= 0x8000:  # an extended one, whose length has four bytes
             (size,) = _OFFSET.unpack_from(form, at)
             at += 4
         yield Field("record", tag, "DATASET", form[at : at + size])
@@ -113,7 +113,7 @@ class _Directories:
         yield from self.pictures()
 
     def table(self, directory: str) -> List[Field]:
-        """The fields of a directory. Where its pointers lead is noted."""
+        """The fields of a directory. Its pointers are stored for later."""
         form, at, special = self.form, self.places[directory], _SPECIAL[directory]
         start, (entries,) = at + 2, _COUNT.unpack_from(form, at)
         behind = start + 12 * entries
@@ -135,7 +135,7 @@ class _Directories:
         return number == _LONG and tag in _WHOLE.get(directory, ())
 
     def is_field(self, directory: str, tag: int, number: int, values: Any) -> bool:
-        """Whether an entry is a field. What else it is, a pointer, the record or a part of the thumbnail, is noted."""
+        """Whether an entry is a field. Otherwise it is a pointer, the record or a part of the thumbnail, and is stored for later."""
         if (directory, tag) in _POINTERS:
             self.places[_POINTERS[directory, tag]] = values[0]
         elif directory == "thumb" and tag in _PARTS:
@@ -155,7 +155,7 @@ class _Directories:
 
 
 def fields_of_form(form: bytes) -> List[Field]:
-    """What a normal form says.
+    """The fields of a normal form.
 
     >>> fields_of_form(bytes.fromhex("4d4d002a00000008 0001 0112 0003 00000001 00060000 00000000"))
     [Field(directory='main', tag=274, type='SHORT', values=(6,))]

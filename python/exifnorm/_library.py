@@ -11,12 +11,12 @@ from typing import Iterator
 from ._errors import LibraryMissing
 
 NAME = "libexifnorm.so.1"
-LIMIT = 16_777_216  # the most bytes of a block, and of a normal form
+LIMIT = 16_777_216  # the greatest length in bytes of a block, and of a normal form
 NAME_ROOM = 32
 
 
 class Status(enum.IntEnum):
-    """What the library's calls answer. Here each one but DONE is an exception.
+    """The statuses of the library's calls. Each one but DONE is raised as an exception.
 
     >>> Status(5).name
     'TOO_LITTLE_ROOM'
@@ -31,14 +31,14 @@ class Status(enum.IntEnum):
 
 
 class Fault(ctypes.Structure):
-    """Why a block is refused: the number of the cause, and the place."""
+    """Why a block is refused: the number of the cause, and the byte offset."""
 
     _fields_ = [("cause", ctypes.c_uint32), ("place", ctypes.c_uint32)]
 
 
 _BLOCK = [ctypes.c_void_p, ctypes.c_size_t]
 _TEXT = [ctypes.c_void_p, ctypes.c_size_t, ctypes.POINTER(ctypes.c_size_t)]
-# The arguments that ctypes converts. Those behind them are ctypes objects, which are made once and passed as they are.
+# The arguments that ctypes converts. The others are ctypes objects, which are made once and passed unchanged.
 CALLS = {
     "exifnorm_check": _BLOCK,
     "exifnorm_normalise": _BLOCK,
@@ -51,8 +51,8 @@ CALLS = {
 
 
 def places() -> Iterator[str]:
-    """Where the library is looked for: the file that EXIFNORM_LIBRARY names, and nowhere else where that is set; or else
-    beside these modules, and then wherever the system's loader looks."""
+    """The files to load the library from: only the file of EXIFNORM_LIBRARY if that is set; otherwise the one beside these
+    modules, and then the one that the system's loader finds."""
     named = os.environ.get("EXIFNORM_LIBRARY")
     if named:
         yield named
@@ -62,7 +62,7 @@ def places() -> Iterator[str]:
 
 
 def open_library(place: str) -> ctypes.CDLL:
-    """Loads the library from there and declares its calls, or raises an OSError that says what is wrong."""
+    """Loads the library from a file and declares its calls. Raises OSError with the reason if that fails."""
     if os.sep in place and not os.path.exists(place):
         raise OSError("there is no such file")
     library = ctypes.CDLL(place)

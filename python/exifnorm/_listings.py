@@ -1,4 +1,4 @@
-"""Fields from a listing (docs/FORMAT.md, "Listing"), for a block whose normal form is too long to be written."""
+"""Fields from a listing (docs/FORMAT.md, "Listing"), for a block whose normal form is too long to write."""
 
 from __future__ import annotations
 
@@ -31,7 +31,7 @@ def _dataset(name: str, text: str) -> Field:
 
 
 def _read(lines: Iterator[str]) -> Iterator[Field]:
-    """The fields of a listing's lines, behind the line of the kind."""
+    """The fields of a listing's lines, after the line of the kind."""
     directory = "record"
     for line in lines:
         head, _, text = line.partition(": ")
@@ -52,7 +52,7 @@ def _read(lines: Iterator[str]) -> Iterator[Field]:
 
 
 def fields_of_listing(listing: str) -> List[Field]:
-    """What a listing says.
+    """The fields of a listing.
 
     >>> fields_of_listing("exif\\n[main]\\n0112 SHORT 1: 6\\n")
     [Field(directory='main', tag=274, type='SHORT', values=(6,))]

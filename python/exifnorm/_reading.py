@@ -1,4 +1,4 @@
-"""What a block says, as objects."""
+"""The fields of a block, as objects."""
 
 from __future__ import annotations
 
@@ -12,9 +12,9 @@ from ._listings import fields_of_listing
 
 
 def fields(block: Block) -> List[Field]:
-    """What the block says, in the order of `show`: the fields of each directory by ascending tag, the DataSets of its caption
-    record behind those of the main directory, and the thumbnail's JPEG and strips behind those of the thumbnail's. A directory
-    without fields leaves none. Raises what `show` raises.
+    """The fields of the block, in the order of `show`: those of each directory by ascending tag, the DataSets of its caption
+    record after those of the main directory, and the thumbnail's JPEG and strips after those of the thumbnail. A directory
+    without fields is left out. Raises what `show` raises.
 
     >>> from exifnorm import fields
     >>> block = bytes.fromhex("4d4d002a00000008 0002 010e 0002 00000005 00000026 011a 0005 00000001 0000002c 00000000"

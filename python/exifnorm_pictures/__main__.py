@@ -3,7 +3,7 @@
 import os
 import sys
 
-# Python puts the current folder first, where a file could pass for one of Python's own modules.
+# Python puts the current folder first, and a file there could be imported instead of one of Python's own modules.
 _HERE = os.path.dirname(os.path.dirname(os.path.abspath(__file__)))
 sys.path[:] = [it for it in sys.path if os.path.abspath(it) == _HERE or os.path.abspath(it) != os.getcwd()]
 

@@ -29,7 +29,7 @@ FAILURES = ("Unreadable", "ToolFailed", "NeedsExifTool", "NeedsExiv2")
 
 
 def index_(asked: argparse.Namespace) -> int:
-    """Looks at pictures, and keeps what was found."""
+    """Looks at pictures and keeps the results."""
     names = named(asked, asked.folders)
     if any(not it for it in names):
         raise NoCatalogue("a name is empty")
@@ -43,7 +43,7 @@ def index_(asked: argparse.Namespace) -> int:
             keep_old(catalogue, asked.keep_old, room)
         wanted = Asked(names, asked.again, asked.quiet, _how(asked, room), told)
         if asked.scheduler:
-            from . import cluster  # Dask is needed here alone
+            from . import cluster  # only this needs Dask
 
             wanted.look = cluster.looker(asked.scheduler, asked.elsewhere, names)
         counts = index(wanted, catalogue)
@@ -57,7 +57,7 @@ def _how(asked: argparse.Namespace, room: str) -> How:
 
 
 def keep_old(catalogue: Catalogue, name: str, room: str) -> None:
-    """Copies a catalogue to a file that is an earlier copy, or isn't there. Raises `NotReplaced`."""
+    """Copies a catalogue to a new file or over an earlier copy. Raises `NotReplaced` for any other file."""
     copy = os.path.join(room, "old")
     catalogue.copy_to(copy)
     with open(copy, "rb") as made:
@@ -80,7 +80,7 @@ def merge_(asked: argparse.Namespace) -> int:
 
 
 def same(asked: argparse.Namespace) -> int:
-    """Lists the groups of pictures that say the same."""
+    """Lists the groups of pictures that mean the same."""
     kinds = KINDS if asked.kind == "all" else (KIND_OF[asked.kind],)
     chosen = chosen_paths(asked)
     with Catalogue(asked.catalogue) as catalogue:
@@ -114,7 +114,7 @@ def _print_group(it: groups.Group) -> None:
 
 
 def changed_(asked: argparse.Namespace) -> int:
-    """Lists what two states say differently."""
+    """Lists the differences between two states."""
     names = from_list(asked)
     only = None if names is None else {*names, *(os.path.abspath(it) for it in names)}
     counts: "Counter[str]" = Counter()
@@ -164,7 +164,7 @@ def _side(name: str, asked: argparse.Namespace, open_: contextlib.ExitStack) -> 
 
 
 def _said(it: changes.Compared) -> List[object]:
-    """What is said of a picture, without its name."""
+    """The changes of a picture, without its name."""
     note = f" ({it.note})" if it.note else ""
     to = f" to {shown_path(it.moved_to)}" if it.moved_to is not None else ""
     return [bool(it.changes), f"{it.result}{to}{note}", [change_line(one.name, one.before, one.after) for one in it.changes]]

@@ -1,7 +1,7 @@
-"""The catalogue: a SQLite file that keeps, for each picture, what was found in it.
+"""The catalogue: a SQLite file with the results for each picture.
 
-A catalogue is written in transactions of many pictures, with a write-ahead log: what was committed stays when the program is
-killed. The tables can be read by any SQLite tool. A file is only written to when its head says that it is a catalogue.
+A catalogue is written in transactions of many pictures, with a write-ahead log: committed pictures stay if the program is
+killed. Any SQLite tool can read the tables. A file is only written to if its header is a catalogue's.
 """
 
 from __future__ import annotations
@@ -18,7 +18,7 @@ from .formats.found import NotRead
 from .kept import Block, Entry, Picture, Stamp, block_of_row, digests, not_read_of_row, picture_of_row
 from .listing import Field, unpacked
 
-APPLICATION = 0x45584E50  # 'EXNP', by which a catalogue is told from other SQLite files
+APPLICATION = 0x45584E50  # 'EXNP', which distinguishes a catalogue from other SQLite files
 VERSION = 2
 
 _TABLES = """
@@ -89,7 +89,7 @@ class NoCatalogue(Exception):
 
 
 class Known(NamedTuple):
-    """What is known of a picture before it is looked at."""
+    """The known facts about a picture before it is looked at."""
 
     id: int
     stamp: Optional[Stamp]
@@ -102,7 +102,7 @@ def head_is_ours(head: bytes) -> bool:
 
 
 def _check_head(name: str, make: bool) -> None:
-    """Raises `NoCatalogue` for what is no catalogue, after reading its head alone. Nothing is written, also no journal."""
+    """Raises `NoCatalogue` if the header isn't a catalogue's. It reads only the header and writes nothing, not even a journal."""
     if not name:
         raise NoCatalogue("the catalogue's name is empty")
     try:
@@ -147,7 +147,7 @@ class Catalogue:
                 self._check_tables()
 
     def _prepare(self) -> None:
-        """Makes the tables where there are none; of two runs that begin at once one makes them."""
+        """Creates missing tables; if two runs begin at once, one of them does."""
         self.base.execute("BEGIN IMMEDIATE")
         if not self.base.execute("SELECT count(*) FROM sqlite_master").fetchone()[0]:
             self.base.execute(f"PRAGMA application_id = {APPLICATION}")
@@ -164,7 +164,7 @@ class Catalogue:
 
     @contextlib.contextmanager
     def guarded(self) -> Iterator[None]:
-        """Turns what SQLite, or a value of a wrong kind, raises into `NoCatalogue` with the catalogue's name."""
+        """Raises `NoCatalogue` with the catalogue's name for errors of SQLite and for values of a wrong type."""
         try:
             yield
         except sqlite3.OperationalError as error:
@@ -179,7 +179,7 @@ class Catalogue:
         self.close()
 
     def close(self) -> None:
-        """Closes the catalogue; what was committed then stands in its one file, which can be read where nothing can be written."""
+        """Closes the catalogue. All committed data are then in its one file, which can be read in a read-only folder."""
         if self._made:
             with contextlib.suppress(sqlite3.Error):  # another run is at work on it, or the disk is full
                 self.base.execute("PRAGMA journal_mode = DELETE")
@@ -198,7 +198,7 @@ class Catalogue:
             self.base.execute("UPDATE runs SET exiftool = ?, exiv2 = ? WHERE id = ?", (exiftool, exiv2, run))
 
     def end_run(self, run: int, ended: str) -> None:
-        """Says that a run came to its end."""
+        """Records that a run is complete."""
         with self.guarded():
             self.base.execute("UPDATE runs SET ended = ? WHERE id = ?", (ended, run))
 
@@ -222,7 +222,7 @@ class Catalogue:
                 self._put_one(run, it)
 
     def _put_one(self, run: int, it: Entry) -> None:
-        if it.problem in ("Vanished", "Unreadable"):  # what it said is kept for those who look for it
+        if it.problem in ("Vanished", "Unreadable"):  # keep the earlier results of the picture
             words = (it.problem, it.detail, run, it.path)
             if self.base.execute("UPDATE pictures SET problem = ?, detail = ?, run = ? WHERE path = ?", words).rowcount:
                 return
@@ -254,7 +254,7 @@ class Catalogue:
                 self.base.execute("COMMIT")
 
     def rows(self, query: str, values: Sequence[object] = (), made: Callable[..., Made] = tuple) -> Iterator[Made]:
-        """What `made` makes of each row of a query."""
+        """The result of `made` for each row of a query."""
         with self.guarded():
             cursor = self.base.execute(query, values)
         while True:
@@ -270,7 +270,7 @@ class Catalogue:
         return list(self.rows("SELECT started, ended, exiftool, exiv2 FROM runs ORDER BY id"))
 
     def known(self, path: bytes) -> Optional[Known]:
-        """What is known of one picture."""
+        """The record of one picture."""
         query = "SELECT id, size, modified, changed, inode, problem FROM pictures WHERE path = ?"
         with self.guarded():
             row = self.base.execute(query, (path,)).fetchone()
@@ -303,7 +303,7 @@ class Catalogue:
         return "temp.chosen"
 
     def fields_of(self, picture: Picture, block: Block) -> List[Field]:
-        """What one block says, field by field; nothing where it isn't kept."""
+        """The fields of one block; none if they aren't kept."""
         query = "SELECT fields FROM blocks WHERE picture = ? AND number = ?"
         return next(self.rows(query, (picture.id, block.number), lambda row: unpacked(row[0]) if row[0] else []), [])
 
@@ -327,5 +327,5 @@ def _known(row: Tuple[int, Optional[int], int, int, int, Optional[str]]) -> Know
 
 
 def counted(catalogue: Catalogue, query: str, values: Sequence[object] = ()) -> Dict[str, int]:
-    """The rows of a query as a table: the first column names, the second counts."""
+    """The rows of a query as a table: the first column is the name, the second the count."""
     return {str(name): int(count) for name, count in catalogue.rows(query, values)}

@@ -11,10 +11,10 @@ READERS = "ExifTool 12.57, exiv2 0.27.6, exif 0.6.22 (libexif), Pillow 9.4 and p
 
 @dataclass(frozen=True)
 class Cause:
-    """One cause: its meaning, what writes it, what other readers make of it, and what helps."""
+    """One cause: its meaning, programs that write it, results of other readers, and remedies."""
 
     name: str
-    sentence: str  # what is wrong, in one sentence
+    sentence: str  # the fault in one sentence
     meaning: str
     diagram: str  # a picture of bytes; `!` is below the byte at the reported offset
     writers: Tuple[Tuple[str, str], ...]  # who wrote such blocks, and how many were met

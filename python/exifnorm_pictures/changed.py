@@ -21,7 +21,7 @@ ONLY_MAKER_NOTE = "only MakerNote differs"
 REFUSED_SAME, UNREADABLE_SAME = f"{REFUSED}, the same bytes", f"{UNREADABLE}, the same bytes"
 MISSING_BEFORE, MISSING_AFTER, MOVED, NOT_READ = "missing before", "missing after", "moved", "not read"
 DIFFERENCES = (DIFFERENT, ONLY_MAKER_NOTE, MOVED, MISSING_BEFORE, MISSING_AFTER)
-OPEN = (REFUSED, UNREADABLE, NOT_WHOLLY_READ)  # nothing can be said
+OPEN = (REFUSED, UNREADABLE, NOT_WHOLLY_READ)  # the result is unknown
 UNCHANGED = (SAME, REFUSED_SAME, UNREADABLE_SAME)  # nothing is reported to differ
 RESULTS = (SAME, *DIFFERENCES, REFUSED, REFUSED_SAME, UNREADABLE, UNREADABLE_SAME, NOT_WHOLLY_READ, NOT_READ)
 GONE = ("Vanished", "Moved")
@@ -33,7 +33,7 @@ class Compared:
 
     name: bytes
     result: str
-    note: str = ""  # what was compared, and what came of it
+    note: str = ""  # the kinds that were compared, and the result
     changes: List[Change] = field(default_factory=list)
     verdicts: List[Verdict] = field(default_factory=list)
     moved_to: Optional[bytes] = None
@@ -46,7 +46,7 @@ Row = TypeVar("Row")
 class Sides:
     """Two catalogues, and how their pictures are paired.
 
-    Where each catalogue has one folder, pictures are the same by their names below it; otherwise by their whole paths.
+    If each catalogue has one folder, pictures are matched by path relative to it; otherwise by full path.
     """
 
     def __init__(self, before: Catalogue, after: Catalogue) -> None:
@@ -60,7 +60,7 @@ class Sides:
         return path[len(self.heads[side]) :] if path.startswith(self.heads[side]) else path
 
     def pairs(self) -> Iterator[Pair]:
-        """The pictures of both by their names. Paths are in order, and so are names, since all begin with the same folder."""
+        """The pictures of both by their names. Paths are in order, and so are names, because all begin with the same folder."""
         yield from _merged(self._there(0, self.before), self._there(1, self.after))
 
     def _there(self, side: int, catalogue: Catalogue) -> Iterator[Tuple[bytes, Picture]]:
@@ -70,7 +70,7 @@ class Sides:
 
 
 def _merged(one: Iterator[Tuple[bytes, Row]], other: Iterator[Tuple[bytes, Row]]) -> Iterator[Tuple[bytes, Optional[Row], Optional[Row]]]:
-    """Two sequences in order as one; what both have stands together."""
+    """Merges two ordered sequences; equal elements are paired."""
     first, second = next(one, None), next(other, None)
     while first or second:
         if second is None or (first is not None and first[0] < second[0]):
@@ -100,9 +100,9 @@ CREATE INDEX came_by_name ON came (name);
 
 
 class _Moves:
-    """Where the pictures went that are missing afterwards, as far as they can be recognised: by the file, or by what it says.
+    """The new names of pictures that are missing afterwards, if they can be recognised: by the file or by their meaning.
 
-    All pictures of an archive may have moved, so this is kept in a temporary database, which goes with its connection.
+    All pictures of an archive may have moved, so this is in a temporary database, which is deleted with its connection.
     """
 
     def __init__(self, sides: Sides) -> None:
@@ -139,11 +139,11 @@ class _Moves:
         return None if row is None else bytes(row[0])
 
     def to(self, name: bytes) -> Optional[bytes]:
-        """Where a picture went that is missing afterwards."""
+        """The new name of a picture that is missing afterwards."""
         return self._one("SELECT place FROM moved WHERE name = ?", (name,))
 
     def came_from(self, name: bytes) -> Optional[bytes]:
-        """Where a picture was that is missing before."""
+        """The old name of a picture that is missing before."""
         return self._one("SELECT name FROM moved WHERE place = ?", (name,))
 
 
@@ -153,7 +153,7 @@ def _hashed(key: Optional[Key]) -> Optional[bytes]:
 
 
 def changed(before: Catalogue, after: Catalogue, only: Optional[Set[bytes]] = None) -> Iterator[Compared]:
-    """Each picture of two catalogues compared, in the order of their names; of some pictures alone, by name or by path."""
+    """Compares each picture of two catalogues, in the order of their names, or only some pictures, by name or by path."""
     sides = Sides(before, after)
     moves = _Moves(sides)
     for name, one, other in sides.pairs():
@@ -207,7 +207,7 @@ def _add_details(it: Compared, one: Picture, other: Picture, sides: Sides) -> No
 
 
 def _told_of(name: str, one: Optional[Block], other: Optional[Block]) -> str:
-    """What to report of one block besides its fields: that only one side has it, or why it is refused."""
+    """The report on one block besides its fields: that only one side has it, or why it is refused."""
     said = [None if it is None else it.refusal if it.status != ACCEPTED else "accepted" for it in (one, other)]
     if one and other and one.octets == other.octets and one.status != ACCEPTED:
         return f"; {name}: {one.refusal}"
@@ -232,13 +232,13 @@ class Equal:
             catalogue.base.execute("BEGIN")
 
     def add(self, said: str, name: bytes) -> None:
-        """Notes what is said of a picture."""
+        """Adds the changes of a picture."""
         with self.catalogue.guarded():
             self.catalogue.base.execute("INSERT OR IGNORE INTO heads (said) VALUES (?)", (said,))
             self.catalogue.base.execute("INSERT INTO names SELECT id, ? FROM heads WHERE said = ?", (name, said))
 
     def all(self) -> Iterator[Tuple[str, int, Iterator[bytes]]]:
-        """What is said, of how many pictures, and their names; in the order in which it was first said."""
+        """The changes, each with its number of pictures and their names, in the order in which they were first added."""
         with self.catalogue.guarded():
             self.catalogue.base.execute("COMMIT")
             self.catalogue.base.execute("CREATE INDEX temp.names_by_head ON names (head, name)")

@@ -1,7 +1,7 @@
-"""`index --scheduler`: pictures are looked at by the workers of a Dask cluster (Debian: python3-distributed).
+"""`index --scheduler`: the workers of a Dask cluster look at the pictures (Debian: python3-distributed).
 
-Names go to the workers relative to the folder, which may be mounted elsewhere there, and what was found comes back: no picture
-travels, and workers write no file. The catalogue is written by this process alone.
+The workers get names relative to the folder, which may be mounted elsewhere there, and return the results: no picture is
+transferred, and workers write no file. Only this process writes the catalogue.
 """
 
 from __future__ import annotations
@@ -25,11 +25,11 @@ except ImportError:
     distributed = None
 
 CHUNK = 64  # pictures of a task
-POLL = 2.0  # seconds after which the workers are counted, where nothing was answered
+POLL = 2.0  # seconds without a result after which the workers are counted
 
 
 def look_there(root: bytes, names: Sequence[bytes], how: How) -> List[Entry]:
-    """What a worker does: looks at files by their names below its own path of the folder."""
+    """A worker's task: looks at files by their names relative to its own path of the folder."""
     tools.set_limit(how.seconds)
     return [looking.look(Found(os.path.join(root, name), root, _stamp(os.path.join(root, name))), how.whole) for name in names]
 
@@ -42,7 +42,7 @@ def _stamp(path: bytes) -> Optional[Stamp]:
 
 
 def looker(scheduler: str, elsewhere: Optional[str], names: Sequence[bytes]) -> Look:
-    """How `index` looks at pictures on this cluster. Raises `tools.Failed` where the words don't fit together."""
+    """How `index` looks at pictures on this cluster. Raises `tools.Failed` if the arguments contradict one another."""
     if distributed is None:
         raise tools.Failed("--scheduler needs Dask's distributed. In Debian: apt-get install python3-distributed")
     if elsewhere and (len(names) != 1 or not os.path.isdir(names[0])):
@@ -56,7 +56,7 @@ def looker(scheduler: str, elsewhere: Optional[str], names: Sequence[bytes]) -> 
 
 
 class _Cluster:
-    """The client of a cluster, and the tasks that it waits for."""
+    """The client of a cluster, and its unfinished tasks."""
 
     def __init__(self, scheduler: str, elsewhere: Optional[bytes], how: How) -> None:
         self.elsewhere, self.how = elsewhere, replace(how, room="")
@@ -65,13 +65,13 @@ class _Cluster:
         self.suspects: List[Found] = []  # the pictures of chunks at which workers died
 
     def looked(self, work: Sequence[Found]) -> Iterator[Entry]:
-        """What each of these files holds, as the answers come."""
+        """The result for each of these files, in order of arrival."""
         try:
             with distributed.Client(self.scheduler, timeout=max(self.how.seconds, 1.0)) as client:
                 for chunk in _chunks(work):
                     self._submit(client, chunk)
                 while self.tasks or self.suspects:
-                    if not self.tasks:  # nothing else is looked at beside one of these, so that it alone can be the cause
+                    if not self.tasks:  # one of these runs without any other task, so a failure has no other cause
                         self._submit(client, [self.suspects.pop()])
                     for task in self._finished(client):
                         yield from self._answers(task)
@@ -85,7 +85,7 @@ class _Cluster:
         self.tasks[task] = chunk
 
     def _finished(self, client: Any) -> List[Any]:
-        """The tasks that have ended, at least one; raises `tools.Failed` where there has been no worker for too long."""
+        """The tasks that have ended, at least one. Raises `tools.Failed` if there has been no worker for too long."""
         since = time.monotonic()
         while True:
             try:
@@ -129,7 +129,7 @@ def _failed(it: Found, why: str) -> Entry:
 
 
 def _here(it: Found, answer: Entry) -> Entry:
-    """A worker's answer under the name, and with the marks, that the file has here."""
+    """A worker's result with the name and the marks that the file has here."""
     if answer.problem == "Vanished":
         detail = f"the worker has no such file: {os.fsdecode(answer.path)!r}"
         return Entry(it.path, it.root, None, problem="Unreadable", detail=detail)

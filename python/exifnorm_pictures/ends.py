@@ -1,4 +1,4 @@
-"""How a run ends: by its status, or by the signal that stopped it; in both cases with nothing left behind."""
+"""The end of a run: by a status, or by the signal that stopped it. In both cases all temporary files are removed."""
 
 from __future__ import annotations
 
@@ -20,7 +20,7 @@ class Stopped(BaseException):
 
 
 class ClosedOutput(Exception):
-    """Standard output is closed, so that nothing can be answered."""
+    """Standard output is closed, so nothing can be printed."""
 
 
 def _stop(number: int, _: Optional[FrameType]) -> None:
@@ -30,7 +30,7 @@ def _stop(number: int, _: Optional[FrameType]) -> None:
 
 
 def heed_signals() -> None:
-    """From now on a signal unwinds the run, so that folders are removed and programs ended. What is ignored stays ignored."""
+    """From now on a signal unwinds the run, so that it removes folders and ends programs. Ignored signals stay ignored."""
     for it in SIGNALS:
         if signal.getsignal(it) == signal.SIG_DFL:
             signal.signal(it, _stop)
@@ -43,7 +43,7 @@ def end_by(number: int) -> None:
 
 
 def ready_streams() -> None:
-    """Puts /dev/null where a standard stream is closed, so that no file takes its number; raises `ClosedOutput`."""
+    """Opens /dev/null for a closed standard stream, so that no file gets its number. Raises `ClosedOutput`."""
     closed: List[int] = []
     for number in (0, 1, 2):
         try:
@@ -61,7 +61,7 @@ def ready_streams() -> None:
 
 
 def drop(stream: Optional[IO[str]]) -> None:
-    """Gives up a stream that can't be written to: what it still holds goes to /dev/null, also when Python ends."""
+    """Abandons a stream that can't be written to: its buffered bytes go to /dev/null, also when Python ends."""
     try:
         if stream is not None:
             os.dup2(os.open(os.devnull, os.O_WRONLY), stream.fileno())

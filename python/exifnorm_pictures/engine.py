@@ -1,4 +1,4 @@
-"""The engine's answers on one block, as records that a catalogue can keep."""
+"""The engine's results for one block, as records that a catalogue can keep."""
 
 from __future__ import annotations
 
@@ -19,18 +19,18 @@ ACCEPTED, REFUSED, TOO_LONG, FAILED, UNREADABLE = "accepted", "refused", "too lo
 
 
 class Judgement(NamedTuple):
-    """What the engine says of a block: `digest` where it is accepted, `cause` and `place` where it is refused."""
+    """The engine's result for a block: `digest` if it is accepted, `cause` and `place` if it is refused."""
 
     kind: str
     status: str
     length: int
-    octets: str  # SHA-256 of the block's bytes as they stand, so that a copied block can be told from one laid out anew
+    octets: str  # SHA-256 of the block's bytes, which distinguishes a copied block from one that was written again
     digest: Optional[str] = None
     cause: Optional[str] = None
     place: Optional[int] = None
-    fields: Optional[bytes] = None  # what it says, as `listing.packed` keeps it, where that was asked for
+    fields: Optional[bytes] = None  # its fields in the form of `listing.packed`, if they were requested
     name: str = ""  # which block of the picture it is: `Exif`, `second Exif`, `page 2`
-    where: str = ""  # its place in the file
+    where: str = ""  # its position in the file
     extractor: str = OWN
 
     @property
@@ -61,7 +61,7 @@ def judge(kind: str, block: bytes, with_fields: bool = False) -> Judgement:
 
 
 def judge_all(blocks: Blocks, with_fields: bool = False) -> List[Judgement]:
-    """Judges all blocks of a picture, in their order. Extended XMP is judged with the packet that names it."""
+    """Judges all blocks of a picture, in their order. Extended XMP is judged with the packet that refers to it."""
     found = []
     extensions: Dict[str, bytes] = {}
     for it in blocks.found:
@@ -115,5 +115,5 @@ def listing(block: bytes) -> str:
 
 
 def captions(block: bytes) -> List[exifnorm.Caption]:
-    """The captions of an accepted block, each with its label, its octets and, where it is declared how to read them, its text."""
+    """The captions of an accepted block, each with its label, its bytes and, if its encoding is declared, its text."""
     return exifnorm.captions(block)

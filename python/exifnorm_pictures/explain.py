@@ -1,4 +1,4 @@
-"""`explain`: a refusal in words, with the entry by its name, both owners of shared bytes, and the bytes around the place."""
+"""`explain`: a refusal as text, with the name of its entry, both owners of shared bytes, and the bytes around the offset."""
 
 from __future__ import annotations
 
@@ -26,12 +26,12 @@ _OTHER_FILES = (
 
 @dataclass
 class Explanation:
-    """What is said of one block."""
+    """The explanation of one block."""
 
     kind: str
     judgement: Judgement
     cause: Optional[Cause] = None
-    here: List[str] = field(default_factory=list)  # what stands at the place
+    here: List[str] = field(default_factory=list)  # the parts at the offset
     octets: List[str] = field(default_factory=list)
 
     def lines(self) -> List[str]:
@@ -58,7 +58,7 @@ class Explanation:
 
 
 def explain(kind: str, block: bytes) -> Explanation:
-    """Explains one block that was taken as one of `kind`; of an accepted one there is nothing to say."""
+    """Explains one block that was judged as `kind`; an accepted one needs no explanation."""
     if kind == XMP:
         return explain_packet(judge_packet(block))
     judgement = judge(kind, block)
@@ -73,7 +73,7 @@ def explain(kind: str, block: bytes) -> Explanation:
 
 
 def explain_packet(judgement: Judgement) -> Explanation:
-    """Explains an XMP packet that was judged; of one that was read there is nothing to say."""
+    """Explains an XMP packet that was judged; one that was read needs no explanation."""
     return Explanation(XMP, judgement, here=[xmp.CAUSES[judgement.cause]] if judgement.cause else [])
 
 
@@ -145,7 +145,7 @@ def _directory(layout: Layout, cause: str, place: int) -> List[str]:
 
 
 def _named(layout: Layout, place: int) -> Optional[int]:
-    """The offset of the directory that is named at a place."""
+    """The offset in the pointer to a directory."""
     it = layout.entries.get(place)
     return it.last if it else layout.number(place, 4)
 

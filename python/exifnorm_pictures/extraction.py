@@ -1,4 +1,4 @@
-"""Extracts the metadata blocks of pictures: by the readers of `formats`, and by ExifTool and exiv2 what these do not read."""
+"""Extracts the metadata blocks of pictures: by the readers of `formats`, and for other files by ExifTool and exiv2."""
 
 from __future__ import annotations
 
@@ -15,10 +15,10 @@ __all__ = ["PROBLEMS", "blocks_of"]
 
 
 def blocks_of(path: bytes, whole: bool = False) -> Blocks:
-    """All blocks of one file, as they are in it, and what was not read. A file that cannot be read has a problem in place of blocks.
+    """All blocks of one file, unchanged, and the parts that were not read. A file that can't be read has a problem and no blocks.
 
-    Of a JPEG the head, the tail and the pictures of its MPF index are read; with `whole` also everything between. ExifTool is
-    asked about what the own readers do not read; raises `tools.Missing` if it is needed and not installed, and `tools.Failed`.
+    Of a JPEG the head, the tail and the pictures of its MPF index are read; with `whole` also everything between. ExifTool reads
+    the files that the readers here don't. Raises `tools.Missing` if it is needed and not installed, and `tools.Failed`.
     """
     try:
         with _opened(path) as stream:
@@ -52,7 +52,7 @@ _RAW_NAME = re.compile(rb"\.(dng|nef|nrw|cr2|arw|arq|sr2|srf|srw|orf|pef|rw2|rwl
 
 
 def _read(stream: BinaryIO, path: bytes, whole: bool) -> Blocks:
-    """Reads a file by the reader of its format, which its first bytes tell. Raises `Broken` and `LeftToOthers`."""
+    """Reads a file by the reader of its format, which its first bytes show. Raises `Broken` and `LeftToOthers`."""
     head = stream.read(12)
     if head.startswith(jpeg.START):
         return jpeg.read(stream, whole)

@@ -1,4 +1,4 @@
-"""`same`: the groups of pictures that say the same, found by SQLite, so that memory doesn't grow with the catalogue."""
+"""`same`: the groups of pictures that mean the same. SQLite finds them, so memory doesn't grow with the catalogue."""
 
 from __future__ import annotations
 
@@ -12,12 +12,12 @@ from .kept import KINDS, WORDS
 
 @dataclass
 class Group:
-    """Pictures whose blocks of the kinds that were asked for say the same, and which don't differ in what was not read."""
+    """Pictures whose blocks of the requested kinds mean the same, and whose unread parts don't differ."""
 
     catalogue: Catalogue
     kinds: Tuple[str, ...]
-    digests: Dict[str, str]  # of the kinds of which they have a block
-    unread: str  # the digest of what was not read; empty: all was read
+    digests: Dict[str, str]  # by kind, for the kinds that they have
+    unread: str  # the digest of the parts that were not read; empty: all was read
     count: int
     only: Optional[str] = None
 
@@ -40,7 +40,7 @@ class Group:
         return all(next(self._rows(", ".join(f"min({it}) = max({it})" for it in columns))))
 
     def sentence(self) -> str:
-        """What was compared, as `Exif and IPTC are the same in the same bytes, no XMP`."""
+        """The kinds that were compared, such as `Exif and IPTC are the same in the same bytes, no XMP`."""
         there = [NAMES[it] for it in self.kinds if it in self.digests]
         words = f"{' and '.join([', '.join(there[:-1]), there[-1]] if len(there) > 1 else there)} {'are' if len(there) > 1 else 'is'} the same"
         if self.same_bytes:
@@ -53,7 +53,7 @@ class Group:
 
 
 def _condition(kinds: Sequence[str], only: Optional[str]) -> str:
-    """The pictures that can be in a group: all kinds are known, there is a block, and what was not read can be compared."""
+    """The pictures that can be in a group: all kinds are known, there is a block, and the unread parts can be compared."""
     columns = [WORDS[it] for it in kinds]
     terms = ["problem IS NULL", "not_read IS NOT NULL", *(f"{it} IS NOT NULL" for it in columns)]
     terms.append("(" + " OR ".join(f"{it} != ''" for it in columns) + ")")
@@ -61,7 +61,7 @@ def _condition(kinds: Sequence[str], only: Optional[str]) -> str:
 
 
 def groups(catalogue: Catalogue, kinds: Sequence[str] = KINDS, only: Optional[str] = None, most: int = -1) -> Iterator[Group]:
-    """The groups of two and more pictures that say the same, the largest first; only the first `most` of them.
+    """The groups of two and more pictures that mean the same, the largest first; only the first `most` of them.
 
     A picture with a refused block of these kinds, with a problem, or without a block of these kinds is in no group.
     """
@@ -76,7 +76,7 @@ def groups(catalogue: Catalogue, kinds: Sequence[str] = KINDS, only: Optional[st
 
 
 def totals(catalogue: Catalogue, kinds: Sequence[str] = KINDS, only: Optional[str] = None) -> Tuple[int, int]:
-    """How many groups there are, and how many pictures stand in them."""
+    """The number of groups, and of pictures in them."""
     columns = ", ".join(WORDS[it] for it in kinds)
     inner = f"SELECT count(*) AS n FROM pictures WHERE {_condition(kinds, only)} GROUP BY {columns}, not_read HAVING n > 1"
     found = next(catalogue.rows(f"SELECT count(*), ifnull(sum(n), 0) FROM ({inner})"))
@@ -84,7 +84,7 @@ def totals(catalogue: Catalogue, kinds: Sequence[str] = KINDS, only: Optional[st
 
 
 def left_out(catalogue: Catalogue, kinds: Sequence[str] = KINDS, only: Optional[str] = None) -> int:
-    """How many pictures with a block stand in no group because a block is refused or a part was neither read nor compared."""
+    """How many pictures with a block are in no group because a block is refused or a part was neither read nor compared."""
     columns = [WORDS[it] for it in kinds]
     where = f"problem IS NULL AND (not_read IS NULL OR {' OR '.join(f'{it} IS NULL' for it in columns)})"
     where += f" AND path IN {only}" if only else ""

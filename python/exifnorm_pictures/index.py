@@ -1,4 +1,4 @@
-"""`index`: looks at all pictures that are new or changed since the last run, and keeps what was found in a catalogue."""
+"""`index`: looks at all pictures that are new or changed since the last run, and keeps the results in a catalogue."""
 
 from __future__ import annotations
 
@@ -19,7 +19,7 @@ from .progress import Progress
 from .walk import Found, Unlisted, below
 
 BATCH = 100  # pictures of one transaction
-LONGEST_WAIT = 2.0  # seconds until what was found is committed, where pictures are slow
+LONGEST_WAIT = 2.0  # seconds until results are committed, if pictures are slow
 GONE = ("Vanished", "Moved")
 NEEDED = {"NeedsExifTool": "exiftool", "NeedsExiv2": "exiv2"}
 
@@ -29,7 +29,7 @@ Look = Callable[[Sequence[Found], How], Iterator[Entry]]
 
 @dataclass
 class Asked:
-    """What a run is about, and how it goes."""
+    """The arguments and the progress of a run."""
 
     names: Sequence[bytes]
     again: bool = False  # also the pictures that haven't changed
@@ -41,7 +41,7 @@ class Asked:
 
 @dataclass
 class Work:
-    """What a run has found that it has to do."""
+    """The pictures that a run has to look at."""
 
     due: List[Found] = field(default_factory=list)
     new: Set[bytes] = field(default_factory=set)  # those of them that the catalogue doesn't know
@@ -51,9 +51,9 @@ class Work:
 
 
 def index(asked: Asked, catalogue: Catalogue) -> "Counter[str]":
-    """Looks at the pictures below some folders, or named by themselves; how many there are of each state, and how many `unchanged`.
+    """Looks at the pictures below some folders or with given names. Returns the number of each state, and of `unchanged`.
 
-    What was looked at before, with this size, these times and this inode, is left as it is, but with `again`.
+    A picture that was looked at with this size, these times and this inode is skipped, unless `again` is set.
     """
     run = catalogue.begin_run(_now())
     with catalogue.reading():
@@ -75,7 +75,7 @@ def _now() -> str:
 
 
 def _own_files(name: str) -> Tuple[bytes, ...]:
-    """The catalogue itself and what SQLite puts beside it, by each name that they may be met under."""
+    """The names of the catalogue itself and of SQLite's files beside it."""
     names = {os.path.abspath(os.fsencode(name)), os.path.realpath(os.fsencode(name))}
     return tuple(it + ending for it in names for ending in (b"", b"-wal", b"-shm", b"-journal"))
 
@@ -107,13 +107,13 @@ def _is_unchanged(it: Found, known: Optional[Known]) -> bool:
 
 
 def _worth_another(problem: Optional[str]) -> bool:
-    """Whether a problem may have gone though the file is the same: rights, a program that was installed, a file that is back."""
+    """Whether a problem may be solved although the file is the same: rights, a program that was installed, a file that is back."""
     program = NEEDED.get(problem or "")
     return problem in ("Unreadable", "ToolFailed", *GONE) or (program is not None and tools.is_there(program))
 
 
 def _gone(names: Iterable[bytes], work: Work, catalogue: Catalogue) -> Tuple[List[Entry], Departed]:
-    """The pictures below the folders that were there before and are not any more, and by what they are known again elsewhere.
+    """The pictures below the folders that are missing now, and the facts by which they are recognised under another name.
 
     Those of a folder that can't be read aren't gone: nothing is known of them.
     """
@@ -130,7 +130,7 @@ def _gone(names: Iterable[bytes], work: Work, catalogue: Catalogue) -> Tuple[Lis
 
 
 def _named_wrong(work: Work, catalogue: Catalogue) -> Iterator[Entry]:
-    """A line for each folder that can't be read, and for each name that leads nowhere. Nothing of it is kept."""
+    """A line for each folder that can't be read, and for each name without a file. The catalogue keeps none of it."""
     for it in work.unlisted:
         known = sum(1 for _ in catalogue.below(it.path))
         kept = f"; its {known} pictures stay as they were" if known else ""
@@ -145,7 +145,7 @@ def _version(program: str) -> Optional[str]:
 
 
 class _Looking:
-    """Looks at pictures and commits what was found in batches, each before it is reported."""
+    """Looks at pictures and commits the results in batches, each before it is reported."""
 
     def __init__(self, asked: Asked, catalogue: Catalogue, run: int, work: Work, departed: Departed) -> None:
         self.asked, self.catalogue, self.run, self.work, self.departed = asked, catalogue, run, work, departed
@@ -166,7 +166,7 @@ class _Looking:
         self.commit()
 
     def commit(self) -> None:
-        """Keeps what was found."""
+        """Adds the result for a picture."""
         self.catalogue.put(self.run, self.ready)
         self.done += len(self.ready)
         for it in self.ready:

@@ -1,4 +1,4 @@
-"""What is kept of a picture: its blocks, what was not read, and by which marks of the file system an edit is noticed."""
+"""The record of a picture: its blocks, its unread parts, and the file system's marks that show an edit."""
 
 from __future__ import annotations
 
@@ -12,17 +12,17 @@ from .formats.found import EXIF, IPTC, NAMES, XMP, Blocks, NotRead
 from .verdicts import ABSENT, ACCEPTED, REFUSED, UNREADABLE, Side, side
 
 KINDS = (EXIF, IPTC, XMP)
-WORDS = {EXIF: "exif", IPTC: "iptc", XMP: "xmp"}  # as people and the catalogue have them: archivists know IPTC, the engine IIM
+WORDS = {EXIF: "exif", IPTC: "iptc", XMP: "xmp"}  # the names for people and in the catalogue: archivists know IPTC, the engine IIM
 KIND_OF = {word: kind for kind, word in WORDS.items()}
 
 
 def _in_64_bits(number: int) -> int:
-    """A number as a signed one of 64 bits, which is what SQLite keeps: times behind the year 2262 and great inodes have more."""
+    """A number as a signed one of 64 bits, as SQLite keeps it: times after the year 2262 and large inodes have more."""
     return (number + (1 << 63)) % (1 << 64) - (1 << 63)
 
 
 class Stamp(NamedTuple):
-    """The marks by which an edit is noticed. ctime tells also of one that keeps size and mtime, as by `exiftool -P`."""
+    """The marks that show an edit. ctime also shows one that keeps size and mtime, as `exiftool -P` does."""
 
     size: int
     modified: int
@@ -36,7 +36,7 @@ class Stamp(NamedTuple):
 
 @dataclass
 class Block:
-    """A block: what it is called, where it is in the file, which reader gave it, and how it was judged."""
+    """A block: its name, its position in the file, its reader, and the result of judging it."""
 
     kind: str
     name: str
@@ -63,13 +63,13 @@ class Block:
 
     @property
     def refusal(self) -> str:
-        """The cause and place of a refusal in a line."""
+        """The cause and byte offset of a refusal in a line."""
         return f"{self.cause} at {self.place}" if self.place is not None else str(self.cause)
 
 
 @dataclass(frozen=True)
 class Entry:
-    """What is known of a picture after it was looked at."""
+    """The known facts about a picture after it was looked at."""
 
     path: bytes
     root: bytes
@@ -83,7 +83,7 @@ class Entry:
 
     @classmethod
     def of(cls, path: bytes, root: bytes, stamp: Optional[Stamp], it: Blocks, judged: Sequence[Judgement] = ()) -> "Entry":
-        """What was found in a file."""
+        """The result for a file."""
         blocks = tuple(Block.of(one) for one in judged)
         return cls(path, root, stamp, it.type, it.extractor, it.problem, it.detail, blocks, tuple(it.not_read))
 
@@ -105,10 +105,10 @@ class Picture:
     problem: Optional[str]
     detail: str
     size: Optional[int]
-    unread: Optional[str]  # the digest of all that was not read; empty: all was read; None: it can't be compared
-    said: Tuple[Optional[str], ...]  # by KINDS: a digest, empty where there is no block, None where that isn't known
-    octets: Tuple[str, ...]  # by KINDS: the digest of the blocks as they stand, empty where there is none
-    file: Optional[Tuple[int, int, int]] = None  # size, modified and inode, which a file keeps where it is renamed
+    unread: Optional[str]  # the digest of all unread parts; empty: all was read; None: they can't be compared
+    said: Tuple[Optional[str], ...]  # by KINDS: the digest of the meaning, empty without a block, None if it isn't known
+    octets: Tuple[str, ...]  # by KINDS: the digest of the blocks' bytes, empty without a block
+    file: Optional[Tuple[int, int, int]] = None  # size, modified and inode, which a renamed file keeps
 
     @property
     def state(self) -> str:
@@ -118,7 +118,7 @@ class Picture:
         return REFUSED if None in self.said else ACCEPTED if any(self.said) else "no block"
 
     def sides(self) -> Dict[str, Side]:
-        """What it says, for each kind of block."""
+        """The digest of its meaning, for each kind of block."""
         found = {}
         for kind, digest, octets in zip(KINDS, self.said, self.octets):
             status = ABSENT if digest == "" else ACCEPTED if digest else UNREADABLE if kind == XMP else REFUSED
@@ -127,7 +127,7 @@ class Picture:
 
 
 def state_of(problem: Optional[str], blocks: Iterable[Block]) -> str:
-    """A problem, `refused` where a block isn't accepted, `accepted`, or `no block`."""
+    """A problem, `refused` if a block isn't accepted, `accepted`, or `no block`."""
     if problem:
         return problem
     states = {it.status for it in blocks}
@@ -157,14 +157,14 @@ def not_read_of_row(row: Tuple[Any, ...]) -> NotRead:
 
 
 def has(kind: type, *values: object) -> None:
-    """Raises `ValueError` where a value of a row isn't of this kind."""
+    """Raises `ValueError` if a value of a row isn't of this type."""
     for it in values:
         if not isinstance(it, kind):
             raise ValueError(f"{it!r} stands where a value of another kind must stand")
 
 
 def picture_of_row(row: Tuple[Any, ...]) -> Picture:
-    """A picture of a row `id, path, root, problem, detail, size, modified, inode, not_read`, what it says by KINDS, and its octets."""
+    """A picture of a row `id, path, root, problem, detail, size, modified, inode, not_read`, its meaning by KINDS, and its octets."""
     number, path, root, kind, extractor, problem, detail, size, modified, inode, unread, *by_kind = row
     has(int, number, *(it for it in (size, modified, inode) if it is not None))
     has(bytes, path, root)

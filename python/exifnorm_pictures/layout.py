@@ -1,6 +1,6 @@
-"""Walks a refused block as far as it can be read, for the eye: which parts stand where, and who owns which bytes.
+"""Walks a refused block as far as it can be read, for people: the offset of each part, and the owner of each byte.
 
-It judges nothing: the cause and the place of a refusal are the engine's own.
+It judges nothing: the cause and the byte offset of a refusal are the engine's.
 """
 
 from __future__ import annotations
@@ -19,7 +19,7 @@ PREFIX = b"Exif\0\0"
 
 
 class Part(NamedTuple):
-    """A range of bytes, what stands there, and the place of what names it."""
+    """A range of bytes, the part in it, and the offset of the entry or pointer that claims it."""
 
     start: int
     end: int
@@ -29,14 +29,14 @@ class Part(NamedTuple):
 
 @dataclass(frozen=True)
 class EntryAt:
-    """An entry of a directory, as it stands."""
+    """An entry of a directory, unchanged."""
 
     where: str
     number: int  # from 1 on
     tag: int
     type: int
     count: int
-    last: int  # the last field as a number
+    last: int  # the last four bytes as a number
     place: int
 
     @property
@@ -66,7 +66,7 @@ class Layout:
             self._walk()
 
     def number(self, place: int, size: int) -> Optional[int]:
-        """The number of two or four bytes at a place, where it stands inside."""
+        """The number of two or four bytes at an offset, or None outside the block."""
         if place < 0 or place + size > len(self.block):
             return None
         return int.from_bytes(self.block[place : place + size], "little" if self.order == "<" else "big")
@@ -88,7 +88,7 @@ class Layout:
         return self._directory(where, pointer.last, pointer.place) if pointer else {}
 
     def _following(self, directory: int) -> Optional[int]:
-        """The place of the offset of the next directory."""
+        """The offset of the next directory's offset."""
         count = self.number(directory, 2)
         return None if count is None else directory + 2 + 12 * count
 
@@ -115,7 +115,7 @@ class Layout:
         return it
 
     def owners(self, place: int) -> Optional[Tuple[Part, Part]]:
-        """The part that is named at a place and shares bytes with an earlier one, and that one."""
+        """The part that the entry at an offset claims and that shares bytes with an earlier one, and that one."""
         for index, mine in enumerate(self.parts):
             if mine.named_at != place or mine.end <= mine.start or index == 0:
                 continue
@@ -126,7 +126,7 @@ class Layout:
 
 
 def hexadecimal(block: bytes, place: int, around: int = 2) -> List[str]:
-    """The bytes around a place, sixteen in a line, with a mark below it.
+    """The bytes around an offset, sixteen in a line, with a mark below it.
 
     >>> for line in hexadecimal(b"MM\\0*\\0\\0\\0\\x08", 4): print(line)
     00000000  4d 4d 00 2a 00 00 00 08                           MM.*....

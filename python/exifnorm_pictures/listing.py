@@ -1,4 +1,4 @@
-"""A listing of `exifnorm show` as fields that people can read, that a catalogue can keep, and that can be compared."""
+"""A listing of `exifnorm show` as fields that people can read, a catalogue can keep, and programs can compare."""
 
 from __future__ import annotations
 
@@ -14,18 +14,18 @@ from .texts import escaped
 LONGEST_TEXT = 400  # characters of a text that is shown whole
 LONGEST_BYTES = 32  # bytes that are shown in hexadecimal
 LONGEST_NUMBERS = 160  # characters of a list of numbers that is shown whole
-_SHORT = 4096  # characters of a listing that is compressed in small rooms
-DIGITS = 32  # hexadecimal digits of SHA-256 that tell a value that is not shown whole
+_SHORT = 4096  # characters of a listing that is compressed with small buffers
+DIGITS = 32  # hexadecimal digits of SHA-256 that identify a value that is not shown in full
 
 _OCTETS = {"BYTE", "ASCII", "SBYTE", "UNDEFINED", "UTF8", "octets"}
 _WIDE_TEXTS = {"9c9b", "9c9c", "9c9d", "9c9e", "9c9f"}  # UTF-16, least significant byte first
-_COMMENTS = {"9286", "001b", "001c"}  # eight bytes that name a character set, and the text (CIPA DC-008 4.6.6)
+_COMMENTS = {"9286", "001b", "001c"}  # eight bytes for a character set, and the text (CIPA DC-008 4.6.6)
 
 
 class Field(NamedTuple):
-    """One field: the directory, its tag or DataSet, its type word, how many elements, and its value as it is shown.
+    """One field: the directory, its tag or DataSet, its type, the number of elements, and its value as it is shown.
 
-    Two fields say the same exactly where they are equal, as far as SHA-256 tells the values apart that are too long to show.
+    Two fields mean the same exactly if they are equal. Values that are too long to show are compared by SHA-256.
     """
 
     where: str
@@ -84,7 +84,7 @@ def _shown(where: str, key: str, kind: str, value: str) -> str:
 
 
 def shown_octets(octets: bytes) -> str:
-    """Octets as a text in quotes where they are one, else in hexadecimal; where they are many, their beginning and a digest."""
+    """Bytes as a text in quotes if they are one, otherwise in hexadecimal; of many bytes, their beginning and a digest."""
     text = _plain_text(octets[:-1] if octets.endswith(b"\0") else octets)
     if text is not None:
         return f'"{text}"'
@@ -94,7 +94,7 @@ def shown_octets(octets: bytes) -> str:
 
 
 def _plain_text(octets: bytes) -> Optional[str]:
-    """The octets as an escaped text: UTF-8, all of it printable or the end of a line, and not too long."""
+    """The bytes as an escaped text: UTF-8, all of it printable or the end of a line, and not too long."""
     if not octets or len(octets) > 4 * LONGEST_TEXT:
         return "" if not octets else None
     try:
@@ -107,7 +107,7 @@ def _plain_text(octets: bytes) -> Optional[str]:
 
 
 def _wide_text(octets: bytes) -> Optional[str]:
-    """A text of UTF-16 that gives its octets back, in quotes with a mark."""
+    """A text of UTF-16 that encodes to these bytes, in quotes with a mark."""
     try:
         text = octets.decode("utf-16-le")
     except UnicodeDecodeError:
@@ -119,7 +119,7 @@ def _wide_text(octets: bytes) -> Optional[str]:
 
 
 def _comment(octets: bytes) -> Optional[str]:
-    """A text behind the eight bytes `ASCII\\0\\0\\0`."""
+    """A text after the eight bytes `ASCII\\0\\0\\0`."""
     if octets[:8] != b"ASCII\0\0\0":
         return None
     text = _plain_text(octets[8:])
@@ -127,13 +127,13 @@ def _comment(octets: bytes) -> Optional[str]:
 
 
 def thumbnail(listing: str) -> Optional[bytes]:
-    """The JPEG thumbnail that a listing holds."""
+    """The JPEG thumbnail in a listing."""
     found = re.search(r"^jpeg \d+: ([0-9a-f]+)$", listing, re.MULTILINE)
     return bytes.fromhex(found[1]) if found else None
 
 
 def shortened(shown: str) -> str:
-    """A shown value with the first twelve digits of its digest: short enough for a line, long enough to tell two apart."""
+    """A shown value with the first twelve digits of its digest: short enough for a line, long enough to distinguish two."""
     return re.sub(r"sha256:([0-9a-f]{12})[0-9a-f]+$", r"sha256:\1", shown)
 
 
@@ -158,13 +158,13 @@ def packed(found: List[Field]) -> bytes:
     text = json.dumps(found, separators=(",", ":")).encode("ascii")
     if len(text) > _SHORT:
         return zlib.compress(text, 6)
-    # the rooms that zlib takes by itself are made for long texts, and to clear them costs more than a short one
+    # zlib's default buffers are made for long texts, and clearing them takes longer than compressing a short one
     compressing = zlib.compressobj(6, zlib.DEFLATED, 12, 5)
     return compressing.compress(text) + compressing.flush()
 
 
 def unpacked(octets: bytes) -> List[Field]:
-    """The fields that `packed` kept.
+    """The fields from the result of `packed`.
 
     >>> some = [Field("main", "010f", "ASCII", 4, '"abc"')]
     >>> unpacked(packed(some)) == some
@@ -174,7 +174,7 @@ def unpacked(octets: bytes) -> List[Field]:
 
 
 class Change(NamedTuple):
-    """A field that two blocks say differently; `before` or `after` is missing where the field is."""
+    """A field that differs between two blocks; `before` or `after` is missing if the field is."""
 
     name: str
     before: Optional[str]
@@ -205,7 +205,7 @@ def changes(before: List[Field], after: List[Field]) -> List[Change]:
 
 
 def only_maker_note(before: List[Field], after: List[Field]) -> bool:
-    """Whether two listings differ in the MakerNote alone."""
+    """Whether two listings differ only in the MakerNote."""
     return [it for it in before if it[:2] != MAKER_NOTE] == [it for it in after if it[:2] != MAKER_NOTE] and before != after
 
 
@@ -220,7 +220,7 @@ def _order(key: Tuple[str, str]) -> Tuple[int, Tuple[int, ...], str]:
     elif ":" in tag:
         number = tuple(int(it) for it in tag.split(":"))
     else:
-        number = (int(tag, 16),) if re.fullmatch("[0-9a-f]{4}", tag) else (1 << 16,)  # a thumbnail, behind all tags
+        number = (int(tag, 16),) if re.fullmatch("[0-9a-f]{4}", tag) else (1 << 16,)  # a thumbnail, after all tags
     return (_PLACES.index(where) if where in _PLACES else len(_PLACES), number, tag)
 
 

@@ -1,4 +1,4 @@
-"""Looks at pictures, one after another or in several processes, and answers in the order in which they were given."""
+"""Looks at pictures, one after another or in several processes, and returns the results in the order of the names."""
 
 from __future__ import annotations
 
@@ -18,8 +18,8 @@ from .formats.found import Blocks
 from .kept import Entry, Stamp
 from .walk import Found, reason
 
-CHUNK = 32  # pictures that a process is given at once
-FEW = 64  # pictures for which no further process is worth its start
+CHUNK = 32  # pictures that a process gets at once
+FEW = 64  # pictures for which starting a further process takes too long
 
 
 @dataclass(frozen=True)
@@ -27,18 +27,18 @@ class How:
     """How pictures are looked at."""
 
     jobs: int = 0  # processes; 0 for as many as there are processors
-    whole: bool = False  # every byte of a JPEG, and not its head and tail alone
+    whole: bool = False  # every byte of a JPEG, not only its head and tail
     seconds: float = tools.SECONDS  # that a program may take for one file
     room: str = ""  # a folder for temporary files
 
     @property
     def processes(self) -> int:
-        """How many processes that is."""
+        """The number of processes."""
         return self.jobs or len(os.sched_getaffinity(0))
 
 
 def look(it: Found, whole: bool) -> Entry:
-    """What one file holds. Whatever happens, the answer is about this file alone."""
+    """The result for one file. An error of any kind affects only this file."""
     try:
         blocks = extraction.blocks_of(it.path, whole)
         judged = [] if blocks.problem else engine.judge_all(blocks, with_fields=True)
@@ -50,7 +50,7 @@ def look(it: Found, whole: bool) -> Entry:
         return Entry.of(it.path, it.root, it.stamp, Blocks(problem="NeedsExifTool", detail=str(error)))
     except engine.exifnorm.LibraryMissing:
         raise
-    except Exception as error:  # a mistake of a reader costs this one file
+    except Exception as error:  # an error of a reader affects only this file
         return _failed(it, f"it could not be read: {type(error).__name__}: {error}")
     return Entry.of(it.path, it.root, _unless_changed(it), blocks, judged)
 
@@ -60,7 +60,7 @@ def _failed(it: Found, why: str) -> Entry:
 
 
 def _unless_changed(it: Found) -> Optional[Stamp]:
-    """The marks by which the file is known again; none where it was written to meanwhile, so that the next run looks again."""
+    """The marks that identify the file; none if it was written to meanwhile, so that the next run looks again."""
     try:
         return it.stamp if it.stamp == Stamp.of(os.stat(it.path)) else None
     except OSError:
@@ -68,7 +68,7 @@ def _unless_changed(it: Found) -> Optional[Stamp]:
 
 
 def look_at_all(chunk: Sequence[Found], whole: bool) -> List[Entry]:
-    """What a process does with some pictures."""
+    """A process's results for some pictures."""
     return [look(it, whole) for it in chunk]
 
 
@@ -76,7 +76,7 @@ _PR_SET_PDEATHSIG = 1
 
 
 def _begin(how: How, parent: int) -> None:
-    """What a process does at first. The parent alone answers signals, and where it is killed its processes end."""
+    """The start of a process. Only the parent handles signals; if it is killed, its processes end."""
     ctypes.CDLL(None).prctl(_PR_SET_PDEATHSIG, signal.SIGKILL)
     if os.getppid() != parent:
         os._exit(1)
@@ -88,7 +88,7 @@ def _begin(how: How, parent: int) -> None:
 
 
 def looked(work: Sequence[Found], how: How) -> Iterator[Entry]:
-    """What each of these files holds, in their order."""
+    """The result for each of these files, in their order."""
     if how.processes == 1 or len(work) <= FEW:
         tools.set_limit(how.seconds)
         session.begin(how.room)
@@ -111,7 +111,7 @@ _Waiting = Tuple[Sequence[Found], "Future[List[Entry]]"]
 
 
 def _by_processes(chunks: Iterator[Sequence[Found]], how: How, broken: List[Sequence[Found]]) -> Iterator[Entry]:
-    """The answers of several processes. Where one of them dies, the chunks that were given out go to `broken`."""
+    """The results of several processes. If one of them dies, its unfinished chunks go to `broken`."""
     waiting: Deque[_Waiting] = deque()
     pool = _pool(how, how.processes)
     try:
@@ -139,7 +139,7 @@ def _pool(how: How, processes: int) -> ProcessPoolExecutor:
 
 
 def _one_by_one(chunk: Sequence[Found], how: How) -> Iterator[Entry]:
-    """The answers on a chunk at which a process died: each file in a process of its own, so that one alone is given up."""
+    """The results for a chunk at which a process died: each file gets a process of its own, so that only one file fails."""
     for it in chunk:
         pool = _pool(how, 1)
         try:

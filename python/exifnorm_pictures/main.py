@@ -1,4 +1,4 @@
-"""The command `exifnorm-pictures`: runs what is asked for, and ends with the documented status."""
+"""The command `exifnorm-pictures`: runs one of its commands, and ends with the documented status."""
 
 from __future__ import annotations
 
@@ -74,6 +74,6 @@ def _failed(text: str, status: int = FAILED) -> int:
 
 
 def _output_failed(error: OSError) -> int:
-    """Standard output can't be written to; where its reader has gone, nothing is to be said about it."""
+    """Standard output can't be written to. If its reader has gone, no message is printed."""
     ends.drop(sys.stdout)
     return FAILED if isinstance(error, BrokenPipeError) else _failed(f"standard output: {error.strerror or error}")

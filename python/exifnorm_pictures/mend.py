@@ -1,4 +1,4 @@
-"""`mend`: a copy of a picture whose blocks are accepted, by the gentlest remedy that works. The picture is never touched."""
+"""`mend`: a copy of a picture with accepted blocks, by the least invasive remedy that works. The picture is never changed."""
 
 from __future__ import annotations
 
@@ -27,12 +27,12 @@ STEP_WORDS = {
 
 
 class NotWritten(Exception):
-    """The copy can't be written: it is there already, or the file system refused."""
+    """The copy can't be written: it exists already, or the file system refused."""
 
 
 @dataclass
 class Mended:
-    """What was done: the refusals before, the step that helped, and the printed values that were lost or changed."""
+    """The result: the refusals before, the step that worked, and the printed values that were lost or changed."""
 
     step: str
     before: Dict[str, str]
@@ -42,11 +42,11 @@ class Mended:
 
 
 def mend(picture: bytes, out: bytes, room: str) -> Mended:
-    """Writes a copy with accepted blocks to `out`, which must not be there; raises `NotWritten`, `tools.Missing`, `tools.Failed`.
+    """Writes a copy with accepted blocks to the new file `out`. Raises `NotWritten`, `tools.Missing` and `tools.Failed`.
 
-    The steps are tried in the order of `STEPS`. The first that changes no printed value is taken, otherwise the one that loses
-    fewest, and of these the one that adds fewest. What ExifTool prints is compared, without offsets. Temporary files are made in
-    the folder `room`.
+    The steps are tried in the order of `STEPS`. The first that changes no printed value is used; if none is, the one that loses
+    the fewest values and, among equals, adds the fewest. The values are those that ExifTool prints, without offsets. Temporary
+    files are in the folder `room`.
     """
     tools.needed("exiftool")
     if os.path.lexists(out):
@@ -118,7 +118,7 @@ def _free_field(name: str) -> Optional[str]:
 
 
 def _touch(name: str) -> bool:
-    """A field of each kind added and taken away, so that both blocks are written anew."""
+    """Adds and removes a field of each kind, so that both blocks are written again."""
     free = _free_field(name)
     if free is None:
         return False
@@ -150,7 +150,7 @@ _OFFSETS = re.compile(rb"Offset|Start |Padding|IPTCDigest")
 
 
 def _printed(name: str) -> "Counter[str]":
-    """All values that ExifTool prints, without those that say where something stands."""
+    """All values that ExifTool prints, except offsets."""
     words = ["-q", "-q", "-m", "-a", "-u", "-s", "-G1", "-x", "System:all", "-x", "File:all", "-x", "Composite:all"]
     said = tools.run(tools.exiftool(*words, "-x", "ExifTool:all", "-x", "JFIF:all", name)).stdout
     lines = [it for it in said.split(b"\n") if it and not _OFFSETS.search(it)]

@@ -1,4 +1,4 @@
-"""`merge`: catalogues of several folders or machines become one, by ATTACH and INSERT .. SELECT, in SQLite alone."""
+"""`merge`: catalogues of several folders or machines become one, only by SQLite's ATTACH and INSERT .. SELECT."""
 
 from __future__ import annotations
 
@@ -8,7 +8,7 @@ from typing import List, Sequence
 
 from .catalogue import Catalogue, NoCatalogue
 
-# Numbers of pictures and runs are moved by the greatest one that is there, so that no row is looked up by itself.
+# The numbers of pictures and runs are raised by the greatest one in the catalogue, so that no row is looked up by itself.
 _COLUMNS = (
     "path, root, size, modified, changed, inode, type, extractor, problem, detail, exif, iptc, xmp, not_read,"
     " exif_octets, iptc_octets, xmp_octets"
@@ -24,7 +24,7 @@ _STEPS = (
 
 
 def merge(all_: Catalogue, names: Sequence[str]) -> int:
-    """Adds the pictures of other catalogues; how many there are then. Of a picture that is there already the one that is named last counts.
+    """Adds the pictures of other catalogues. Returns their number afterwards. The last catalogue with a picture replaces the others.
 
     Each catalogue is one transaction: a merge that is stopped leaves whole catalogues in it.
     """

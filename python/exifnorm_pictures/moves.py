@@ -1,4 +1,4 @@
-"""Which picture that is gone is there again under another name: recognised by what it says, and by the file system's marks."""
+"""Pictures that are gone and are found under another name: recognised by their meaning, and by the file system's marks."""
 
 from __future__ import annotations
 
@@ -13,12 +13,12 @@ Key = Tuple[object, ...]
 
 
 def content_key(octets: Sequence[Optional[str]], unread: Optional[str], size: Optional[int]) -> Optional[Key]:
-    """What tells a picture apart from others, wherever it stands; nothing where it has no block and so says nothing."""
+    """The facts that identify a picture under any name; none if it has no block and so no meaning."""
     return None if not any(octets) or unread is None or size is None else (*octets, unread, size)
 
 
 class Departed:
-    """The pictures that are gone, until it is known where they went."""
+    """The pictures that are gone, until their new names are known."""
 
     def __init__(self) -> None:
         self.by_content: Dict[Key, List[bytes]] = {}
@@ -48,7 +48,7 @@ class Departed:
             self.went[same] = it.path
 
     def settle(self, catalogue: Catalogue, run: int, gone: Sequence[Entry]) -> Iterator[Entry]:
-        """What to report of each picture that is gone: moved or missing."""
+        """The report on each picture that is gone: moved or missing."""
         if self.went:
             with catalogue.transaction():
                 words = ((f"to {shown_path(to)}", path) for path, to in self.went.items())

@@ -1,6 +1,6 @@
-"""Names of tags and DataSets after the standards: TIFF 6.0, CIPA DC-008 (Exif), IPTC-NAA IIM 4.2; and a few others in wide use.
+"""Names of tags and DataSets by the standards: TIFF 6.0, CIPA DC-008 (Exif), IPTC-NAA IIM 4.2; and a few others in wide use.
 
-A tag without a name keeps its number. The names are an aid for the eye; what is compared is the number.
+A tag without a name keeps its number. The names are for people; comparisons use the number.
 """
 
 from __future__ import annotations
@@ -103,7 +103,7 @@ _TABLES = {
 
 
 def name_of(where: str, key: str) -> str:
-    """The name of the tag `key` in the directory `where`; its number where it has no name.
+    """The name of the tag `key` in the directory `where`, or its number if it has no name.
 
     >>> name_of("main", "010f"), name_of("gps", "0002"), name_of("iptc", "2:25"), name_of("main", "fe01")
     ('Make', 'GPSLatitude', 'Keywords', 'Tag fe01')
@@ -117,5 +117,5 @@ def name_of(where: str, key: str) -> str:
 
 
 def full_name(where: str, key: str) -> str:
-    """The name with its directory, as in reports of what changed: `exif:MakerNote`."""
+    """The name with its directory, as in lists of changes: `exif:MakerNote`."""
     return f"{where}:{name_of(where, key)}"

@@ -1,7 +1,7 @@
-"""Blocks that other programs extract: ExifTool from the formats that have no reader here and from damaged files, exiv2 from raw ones.
+"""Blocks from other programs: ExifTool for the formats that have no reader here and for damaged files, exiv2 for raw ones.
 
-Neither hands over all that is in a file, and ExifTool corrects some MakerNotes in the block that it hands over. So such a file is
-never wholly read, and the answer says which program a block comes from.
+Neither extracts everything in a file, and ExifTool corrects some MakerNotes in the block that it extracts. So such a file is
+never read in full, and the result names the program that a block comes from.
 """
 
 from __future__ import annotations
@@ -14,7 +14,7 @@ from . import session, tools
 from .formats.found import EXIF, EXIFTOOL, EXIV2, IPTC, XMP, Blocks, NotRead
 from .formats.streams import digest_of, size_of
 
-# What may be reported in place of blocks, each with its meaning for people.
+# The problems that may be reported instead of blocks, each with its meaning for people.
 PROBLEMS = {
     "Vanished": "there is no such file any more",
     "Unreadable": "the file can't be read",
@@ -26,11 +26,11 @@ PROBLEMS = {
     "ToolFailed": "the program that extracts blocks failed on this file",
 }
 
-MOST = 16_777_216  # bytes of a file whose digest is made though not everything was asked for
+MOST = 16_777_216  # greatest length in bytes of a file that is digested although not everything was requested
 
 _WORDS = ("-EXIF:Exif", "-IPTC:IPTC", "-XMP:XMP", "-FileType#", "-MIMEType#", "-Error#")
 _TAGS = {"EXIF": EXIF, "IPTC": IPTC, "XMP": XMP}
-_SEVERAL = ("CR3", "CRX", "CRM")  # Canon's, by ExifTool's words
+_SEVERAL = ("CR3", "CRX", "CRM")  # Canon's, by ExifTool's names
 
 # Files in the structure of TIFF, of which ExifTool hands over no Exif block.
 _TIFF_TYPES = frozenset(
@@ -39,7 +39,7 @@ _TIFF_TYPES = frozenset(
 
 
 def by_others(path: bytes, stream: BinaryIO, whole: bool, why: str) -> Blocks:
-    """The blocks that ExifTool and exiv2 extract; `why` says why the file was not read here, if it is of a known format.
+    """The blocks that ExifTool and exiv2 extract; `why` is the reason why the file was not read here, for a known format.
 
     Raises `tools.Missing` and `tools.Failed`.
     """
@@ -61,7 +61,7 @@ def _first(answer: Dict[str, str], tag: str) -> str:
 
 
 def _blocks(answer: Dict[str, str]) -> Blocks:
-    """The blocks of an answer of ExifTool."""
+    """The blocks in an output of ExifTool."""
     blocks = Blocks(extractor=EXIFTOOL, type=_first(answer, "FileType"))
     for tag, kind in _TAGS.items():
         for value in session.values(answer, tag):
@@ -78,7 +78,7 @@ def _blocks(answer: Dict[str, str]) -> Blocks:
 
 
 def _add_by_exiv2(blocks: Blocks, path: bytes) -> None:
-    """Adds the Exif block that exiv2 makes of a raw file, or the problem that there is none."""
+    """Adds the Exif block that exiv2 extracts from a raw file, or the problem that it has none."""
     if not tools.is_there("exiv2"):
         blocks.problem, blocks.detail = "NeedsExiv2", PROBLEMS["NeedsExiv2"]
         return

@@ -1,4 +1,4 @@
-"""Says on standard error how far a run is, and how long the rest will take."""
+"""Prints the progress of a run, and its remaining time, on standard error."""
 
 from __future__ import annotations
 
@@ -10,7 +10,7 @@ from .ends import drop
 
 
 def duration(seconds: float) -> str:
-    """A time as people say it.
+    """A time as text.
 
     >>> duration(4.2), duration(75), duration(3725), duration(200000)
     ('5 s', '1 min 15 s', '1 h 2 min', '55 h 33 min')
@@ -32,7 +32,7 @@ class Progress:
         self.last = 0.0
 
     def done(self, count: int) -> None:
-        """Says that `count` pictures are committed."""
+        """Reports that `count` pictures are committed."""
         now = time.monotonic()
         on_terminal = self.stream.isatty()
         if self.quiet or not self.total or (count < self.total and now - self.last < (0.2 if on_terminal else 1.0)):

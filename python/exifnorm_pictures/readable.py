@@ -1,4 +1,4 @@
-"""`show` and `captions`: what a picture says, as lines that people can read and that `diff` tells apart."""
+"""`show` and `captions`: the fields of a picture, as lines that people can read and `diff` can compare."""
 
 from __future__ import annotations
 
@@ -22,7 +22,7 @@ def shown_members(kind: str, block: bytes) -> Members:
 
 
 def read_text(data: bytes, declared: Optional[str]) -> Tuple[str, str]:
-    """The text of octets, and how it was read: nothing where that is declared or beyond doubt, else the guess.
+    """The text of some bytes, and the guess of its encoding, which is empty if the encoding is declared or certain.
 
     >>> read_text(b"Z\\xc3\\xbcrich", None), read_text(b"Z\\xfcrich", None)
     (('Zürich', 'guessed: UTF-8'), ('Zürich', 'not UTF-8; guessed: Windows-1252'))

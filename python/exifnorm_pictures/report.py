@@ -1,6 +1,6 @@
-"""`report`: what is known of a catalogue, gathered, and one self-contained page about it without any script.
+"""`report`: statistics of a catalogue, and one self-contained page about it without scripts.
 
-The page shows counts and the first hundreds of what there is, so that it opens at once; the rest is in `members`.
+The page shows counts and the first hundreds of each list, so that it opens at once; the rest is in `members`.
 """
 
 from __future__ import annotations
@@ -43,7 +43,7 @@ STATE_WORDS = {
 
 @dataclass
 class About:
-    """What a report is about: a catalogue, an older one, and the pictures that were chosen."""
+    """The arguments of a report: a catalogue, an older one, and the chosen pictures."""
 
     catalogue: Catalogue
     old: Optional[Catalogue] = None
@@ -74,7 +74,7 @@ class Refused:
 
 @dataclass
 class EqualChanges:
-    """A difference, in how many pictures it is, and the first of their names."""
+    """A difference, the number of pictures with it, and the first of their names."""
 
     result: str
     note: str
@@ -85,17 +85,17 @@ class EqualChanges:
 
 @dataclass
 class Gathered:
-    """What a page shows."""
+    """The contents of a page."""
 
     total: int = 0
     states: "Counter[str]" = field(default_factory=Counter)
     causes: "Counter[str]" = field(default_factory=Counter)
     refused: Dict[str, List[Refused]] = field(default_factory=dict)  # the first of each cause
-    parts: "Counter[str]" = field(default_factory=Counter)  # what was not read, in how many pictures
+    parts: "Counter[str]" = field(default_factory=Counter)  # the unread parts, and the number of pictures with each
     unread: int = 0
     problems: List[Picture] = field(default_factory=list)
     all_problems: int = 0
-    groups: List[Tuple[int, str, List[bytes]]] = field(default_factory=list)  # how many, what is the same, the first pictures
+    groups: List[Tuple[int, str, List[bytes]]] = field(default_factory=list)  # size, the parts that are the same, first pictures
     all_groups: Tuple[int, int] = (0, 0)  # groups, and pictures in them
     results: "Counter[str]" = field(default_factory=Counter)
     changed: List[EqualChanges] = field(default_factory=list)
@@ -107,7 +107,7 @@ class Gathered:
 
 
 def gather(about: About) -> Gathered:
-    """What a catalogue tells, and what changed since an older one: counts, and the first of each list."""
+    """The contents of a catalogue, and the changes since an older one: counts, and the first of each list."""
     catalogue = about.catalogue
     found = Gathered(runs=catalogue.runs(), since=about.old is not None, roots=catalogue.roots())
     later: List[Picture] = []
@@ -236,7 +236,7 @@ def _text(text: str) -> str:
 
 
 def _name(path: bytes, roots: List[bytes]) -> str:
-    """A picture's name, below the folder where there is one folder alone."""
+    """A picture's name, relative to the folder if there is only one."""
     if len(roots) == 1 and path.startswith(roots[0].rstrip(b"/") + b"/"):
         path = path[len(roots[0].rstrip(b"/")) + 1 :]
     return f'<span class="name">{_text(shown_path(path))}</span>'
@@ -285,7 +285,7 @@ def _share(found: Gathered) -> str:
 
 
 def _bars(counts: List[Tuple[str, int]], tone: str, tones: Optional[Dict[str, str]] = None) -> str:
-    """Counts as bars of one tone, but for those that have their own, with their names before them."""
+    """Counts as bars with their names before them, all of one tone except those that have their own."""
     if not counts:
         return ""
     most = max(count for _, count in counts)
@@ -376,7 +376,7 @@ def _groups(found: Gathered) -> str:
 
 
 def _parts(found: Gathered) -> str:
-    """What was not read."""
+    """The parts that were not read."""
     if not found.parts:
         return ""
     rows = "".join(f"<tr><td>{count:,}</td><td>{_text(what)}</td></tr>" for what, count in found.parts.most_common(MOST_REFUSED))
@@ -406,7 +406,7 @@ def _refusals(found: Gathered) -> str:
 
 
 def _marked(text: str) -> str:
-    """The project's own text, in which backquotes mark what is typed or printed."""
+    """The project's own text, in which backquotes mark commands and their output."""
     pieces = text.split("`")
     return "".join(f"<code>{_text(it)}</code>" if index % 2 else _text(it) for index, it in enumerate(pieces))
 

@@ -1,4 +1,4 @@
-"""A temporary folder for one run. What a killed run has left there is removed by the next one."""
+"""A temporary folder for one run. The next run removes the folders of runs that were killed."""
 
 from __future__ import annotations
 
@@ -32,7 +32,7 @@ def room() -> Iterator[str]:
 
 
 def _sweep(base: str) -> None:
-    """Removes the folders of runs that were killed: ours, and with a lock that nobody holds."""
+    """Removes the folders of runs that were killed: those of this user with a lock that no process has."""
     with contextlib.suppress(OSError), os.scandir(base) as entries:
         for it in entries:
             if it.name.startswith(PREFIX) and it.is_dir(follow_symlinks=False):
@@ -42,7 +42,7 @@ def _sweep(base: str) -> None:
 
 
 def _is_dead(folder: str) -> bool:
-    """Whether a folder has a lock, and no process holds it."""
+    """Whether a folder has a lock file that no process has locked."""
     lock = os.open(os.path.join(folder, _LOCK), os.O_RDWR | os.O_NOFOLLOW | os.O_CLOEXEC)
     try:
         fcntl.flock(lock, fcntl.LOCK_EX | fcntl.LOCK_NB)

@@ -1,4 +1,4 @@
-"""One ExifTool that stays open and answers about one file after another."""
+"""One ExifTool process that stays open for one file after another."""
 
 from __future__ import annotations
 
@@ -17,8 +17,8 @@ from typing import Dict, List, Optional, Sequence
 from . import rooms, tools
 from .tools import Failed
 
-# Octets come in base64 behind the word base64:, texts as they stand. The filter marks a text that begins with that word by
-# itself, so that no picture can pass a text for other octets. -m: go on past minor errors.
+# Bytes come in base64 after the word base64:, texts as they are. The filter marks a text that begins with that word by
+# itself, so that a picture can't make a text look like other bytes. -m: continue after minor errors.
 _WORDS = ("-q", "-q", "-m", "-json", "-a", "-G4", "-b", "-api", "Filter=s/^(base64|text):/text:$1:/")
 
 _PLAIN = re.compile(rb"/[A-Za-z0-9_./+,@%~()=-]*")
@@ -29,13 +29,13 @@ class Session:
     """An ExifTool process in a folder of its own. After `Failed` it is over with this one."""
 
     def __init__(self, room: str) -> None:
-        """Starts ExifTool in the folder `room`, where links with plain names stand for names that could upset it."""
+        """Starts ExifTool in the folder `room`. Links with plain names in it replace names that ExifTool could misread."""
         self.room = room
         self.number = 0
         self.process = tools.start(tools.exiftool("-stay_open", "True", "-@", "-"), room, stdin=subprocess.PIPE)
 
     def ask(self, path: bytes, words: Sequence[str]) -> Dict[str, str]:
-        """The tags of one file that `words` name, each by its copy and name as in `Copy1:IPTC`; raises `Failed`."""
+        """The tags of one file for the arguments `words`, each by its copy and name as in `Copy1:IPTC`. Raises `Failed`."""
         assert self.process.stdin is not None
         self.number += 1
         name = self._handed_over(path)
@@ -51,7 +51,7 @@ class Session:
         return _members(said[: -len(done)], name)
 
     def _handed_over(self, path: bytes) -> bytes:
-        """The path itself where it is plain, else a link to it in this process's folder."""
+        """The path itself if it is plain, otherwise a link to it in this process's folder."""
         whole = os.path.abspath(path)
         if _PLAIN.fullmatch(whole):
             return whole
@@ -70,12 +70,12 @@ class Session:
             return 0
 
     def close(self) -> None:
-        """Ends ExifTool. It doesn't end by itself where its input ends."""
+        """Ends ExifTool. It doesn't end by itself at the end of its input."""
         tools.end(self.process)
 
 
 def _members(said: bytes, name: bytes) -> Dict[str, str]:
-    """The one object of an answer about this file; raises `Failed` for everything else."""
+    """The one object in an output about this file. Raises `Failed` for anything else."""
     if not said.strip():
         return {}
     try:
@@ -98,12 +98,12 @@ class _Own:
     session: Optional[Session] = None
     room: Optional[str] = None
     pid = 0
-    lock = threading.Lock()  # the threads of a cluster's worker ask one after another
+    lock = threading.Lock()  # the threads of a cluster's worker take turns
     rooms = contextlib.ExitStack()
 
 
 def begin(room: str) -> None:
-    """Gives this process a folder for its links and for its ExifTool, which starts at the first question."""
+    """Gives this process a folder for its links and for its ExifTool, which starts at the first call."""
     _Own.session, _Own.pid = None, os.getpid()
     _Own.room = os.path.join(room, str(_Own.pid))
     os.makedirs(_Own.room, exist_ok=True)
@@ -122,7 +122,7 @@ def room() -> str:
 
 
 def ask(path: bytes, words: Sequence[str]) -> Dict[str, str]:
-    """What ExifTool says of one file. Where it fails, the next file is asked of a new ExifTool."""
+    """ExifTool's tags of one file. If it fails, a new ExifTool reads the next file."""
     with _Own.lock:
         there = room()
         if _Own.session is not None and _Own.session.process.poll() is not None:
@@ -137,14 +137,14 @@ def ask(path: bytes, words: Sequence[str]) -> Dict[str, str]:
 
 
 def finish() -> None:
-    """Ends this process's ExifTool, where one runs."""
+    """Ends this process's ExifTool, if one runs."""
     session, _Own.session = _Own.session, None
     if session is not None and _Own.pid == os.getpid():
         session.close()
 
 
 def octets(value: str) -> bytes:
-    """The octets that a member of an answer holds; raises `Failed` where they are no base64.
+    """The bytes in a member of an output. Raises `Failed` if they aren't base64.
 
     >>> octets("base64:HAI="), octets("text:base64:HAI=")
     (b'\\x1c\\x02', b'base64:HAI=')
@@ -158,5 +158,5 @@ def octets(value: str) -> bytes:
 
 
 def values(answer: Dict[str, str], tag: str) -> List[str]:
-    """All copies of a tag in an answer, the first one first."""
+    """All copies of a tag in an output, the first one first."""
     return [value for name, value in answer.items() if name.rpartition(":")[2] == tag]

@@ -1,4 +1,4 @@
-"""The commands about pictures that are named: `show`, `captions`, `explain` and `mend`."""
+"""The commands for pictures that are given by name: `show`, `captions`, `explain` and `mend`."""
 
 from __future__ import annotations
 
@@ -46,7 +46,7 @@ Say = Callable[[Found, Judgement], Said]
 
 
 def _each(asked: argparse.Namespace, say: Say, refused_too: bool = False) -> int:
-    """Says something of each block of each picture; the greatest status."""
+    """Prints something about each block of each picture. Returns the greatest status."""
     worst = DONE
     names = list(dict.fromkeys(named(asked, asked.pictures)))
     tools.set_limit(asked.limit)
@@ -94,7 +94,7 @@ def _kinds(members: Members) -> Members:
 
 
 def show(asked: argparse.Namespace) -> int:
-    """Lists what pictures say."""
+    """Lists the fields or captions of pictures."""
 
     def say(_: Found, it: Judgement) -> Said:
         fields = unpacked(it.fields) if it.fields else []

@@ -1,4 +1,4 @@
-"""Answers as lines for people, or as JSON objects."""
+"""Results as lines for people, or as JSON objects."""
 
 from __future__ import annotations
 
@@ -46,7 +46,7 @@ def named(asked: argparse.Namespace, names: Sequence[str]) -> List[bytes]:
 
 
 def entry_lines(it: Entry) -> List[str]:
-    """Lines for a picture that isn't well: its problem, the refusal of a block, or what was not read."""
+    """Lines for a picture with a problem: the problem, the refusal of a block, or its unread parts."""
     name = shown_path(it.path)
     lines = []
     if it.problem and it.problem != "NoPicture":

@@ -1,4 +1,4 @@
-"""Names of files and texts of pictures as one safe line: nothing in them can steer a terminal or end a line."""
+"""Names of files and texts of pictures as one safe line: they can't control a terminal or end the line."""
 
 from __future__ import annotations
 
@@ -9,7 +9,7 @@ Members = Dict[str, Any]  # of a JSON object
 
 
 def escaped(text: str) -> str:
-    r"""The text with the backslash, control characters, undecodable bytes and what isn't printable escaped.
+    r"""The text with the backslash, control characters, undecodable bytes and unprintable characters escaped.
 
     >>> escaped("a\nb\\c"), escaped(os.fsdecode(b"x\xff"))
     ('a\\nb\\\\c', 'x\\xff')
@@ -41,7 +41,7 @@ def shown_path(path: Union[bytes, str]) -> str:
 
 
 def path_members(path: bytes) -> Members:
-    """The members of a JSON object for a path: `path`, and `path_hex` where the name is no UTF-8."""
+    """The members of a JSON object for a path: `path`, and `path_hex` if the name is no UTF-8."""
     try:
         return {"path": path.decode("utf-8")}
     except UnicodeDecodeError:

@@ -19,7 +19,7 @@ _BEGINNINGS = ((b"\xff\xd8\xff", "image/jpeg"), (b"\x89PNG\r\n\x1a\n", "image/pn
 
 
 def small_pictures(paths: Sequence[bytes]) -> Dict[bytes, str]:
-    """A data URI for each of these pictures that has a small picture, up to the bound; the pictures are read anew."""
+    """A data URI for each of these pictures that has a thumbnail, up to the limit. The pictures are read again."""
     found: Dict[bytes, str] = {}
     left = MOST
     for path in dict.fromkeys(paths):

@@ -1,6 +1,6 @@
-"""The programs that this command calls: each call has a time limit and a bound on its output, and no program outlives us.
+"""Calls of other programs: each has a time limit and a limit on its output, and no program outlives this one.
 
-ExifTool runs with `-config ""`, so that no configuration file changes what it reads.
+ExifTool runs with `-config ""`, so that no configuration file changes its output.
 """
 
 from __future__ import annotations
@@ -17,14 +17,14 @@ from typing import Callable, List, NamedTuple, Optional
 
 PACKAGES = {"exiftool": "libimage-exiftool-perl", "exiv2": "exiv2"}
 SECONDS = 60.0  # that a program may take for one file
-MOST = 256 << 20  # bytes of one answer
+MOST = 256 << 20  # greatest length in bytes of one output
 
 _PIECE = 1 << 20
 _PR_SET_PDEATHSIG = 1
 
 
 class Missing(Exception):
-    """A program isn't installed; its text names Debian's package."""
+    """A program isn't installed. The text names Debian's package."""
 
     def __init__(self, program: str) -> None:
         super().__init__(
@@ -34,11 +34,11 @@ class Missing(Exception):
 
 
 class Failed(Exception):
-    """A program ended early, took too long, or answered something that isn't understood; the text says which."""
+    """A program ended early, took too long, or printed something unexpected. The text describes which."""
 
 
 class Done(NamedTuple):
-    """How a program ended, and what it wrote to its standard output."""
+    """The status of a program, and its standard output."""
 
     returncode: int
     stdout: bytes
@@ -59,7 +59,7 @@ def limit() -> float:
 
 
 def needed(program: str) -> str:
-    """The path of a program; `Missing` where there is none."""
+    """The path of a program. Raises `Missing` if it isn't installed."""
     found = shutil.which(program)
     if found is None:
         raise Missing(program)
@@ -72,13 +72,13 @@ def is_there(program: str) -> bool:
 
 
 def exiftool(*words: str) -> List[str]:
-    """The words of a call of ExifTool that reads no configuration file. `-config` only counts as the first option."""
+    """The arguments of a call of ExifTool that reads no configuration file. `-config` only counts as the first option."""
     return [needed("exiftool"), "-config", "", *words]
 
 
 @functools.lru_cache(maxsize=None)
 def version(program: str) -> Optional[str]:
-    """The version that a program reports, or nothing where it isn't installed; raises `Failed` where it reports none."""
+    """The version that a program prints, or nothing if it isn't installed. Raises `Failed` if it prints none."""
     if not is_there(program):
         return None
     words = exiftool("-ver") if program == "exiftool" else [needed(program), "--version"]
@@ -87,7 +87,7 @@ def version(program: str) -> Optional[str]:
 
 
 def run(words: List[str], folder: Optional[str] = None) -> Done:
-    """Runs a program to its end; raises `Failed` where it takes too long or writes too much."""
+    """Runs a program to its end. Raises `Failed` if it takes too long or writes too much."""
     started = start(words, folder)
     try:
         said = read_until(started, lambda _: False)
@@ -110,7 +110,7 @@ def _end_with_parent() -> None:
 
 
 def start(words: List[str], folder: Optional[str] = None, stdin: int = subprocess.DEVNULL) -> "subprocess.Popen[bytes]":
-    """Starts a program in a process group of its own, which the system ends where this process is killed."""
+    """Starts a program in a process group of its own, which the system ends if this process is killed."""
     return subprocess.Popen(
         words,
         stdin=stdin,
@@ -125,7 +125,7 @@ def start(words: List[str], folder: Optional[str] = None, stdin: int = subproces
 
 
 def end(started: "subprocess.Popen[bytes]") -> None:
-    """Ends a program with all that it started, and waits for it."""
+    """Ends a program with all the processes that it started. Returns after they have ended."""
     try:
         os.killpg(started.pid, signal.SIGKILL)
     except (ProcessLookupError, PermissionError):
@@ -140,7 +140,7 @@ def end(started: "subprocess.Popen[bytes]") -> None:
 
 
 def read_until(started: "subprocess.Popen[bytes]", complete: Callable[[bytearray], bool]) -> bytes:
-    """What a program writes until that is complete, or until it ends its output; raises `Failed` at the limits."""
+    """A program's output until it is complete or ends. Raises `Failed` at the limits."""
     assert started.stdout is not None
     ends = time.monotonic() + limit()
     said = bytearray()

@@ -1,6 +1,6 @@
-"""What two pictures have in common, for each kind of block: the same, different, absent, unreadable or refused; and what was not read.
+"""The result of comparing two pictures, for each kind of block: same, different, absent, unreadable or refused; and unread parts.
 
-The answers name what was compared. Nothing is the same where a part of either picture was not read and may differ.
+A result names the kinds that were compared. No picture is the same as another if a part of either was not read and may differ.
 """
 
 from __future__ import annotations
@@ -18,7 +18,7 @@ NOT_WHOLLY_READ = "not wholly read"
 
 
 class Judged(Protocol):
-    """What is needed of a judgement, or of a row of a catalogue."""
+    """The facts that a comparison needs of a judged picture or of a row of a catalogue."""
 
     kind: str
     name: str
@@ -32,7 +32,7 @@ class Side:
     """The blocks of one kind in one picture."""
 
     status: str  # ACCEPTED, REFUSED, UNREADABLE or ABSENT
-    digest: str = ""  # of what they mean, where all are accepted
+    digest: str = ""  # of their meaning, if all are accepted
     octets: str = ""  # of their bytes
 
 
@@ -63,7 +63,7 @@ class Verdict:
 
     @property
     def is_open(self) -> bool:
-        """Whether nothing can be said: a block is refused or unreadable, and its bytes are not the same."""
+        """Whether the result is unknown: a block is refused or unreadable, and its bytes are not the same."""
         return self.result in (REFUSED, UNREADABLE) and not self.same_bytes
 
 
@@ -105,7 +105,7 @@ def left_open(one: Iterable[NotRead], other: Iterable[NotRead]) -> List[str]:
 
 
 def sentence(found: Sequence[Verdict], open_parts: Sequence[str] = ()) -> str:
-    """What was compared, and what came of it, in a sentence.
+    """The kinds that were compared, and the result, in a sentence.
 
     >>> sentence([Verdict(EXIF, SAME), Verdict(IPTC, SAME), Verdict(XMP, SAME)])
     'Exif, IPTC and XMP are the same'
@@ -131,7 +131,7 @@ def _listed(names: Sequence[str]) -> str:
 
 
 def result(found: Sequence[Verdict], open_parts: Sequence[str] = ()) -> str:
-    """The worst of some verdicts in a word or two: what is known to differ comes before what is not known.
+    """The worst of some verdicts in a word or two: a known difference comes before an unknown result.
 
     >>> result([Verdict(EXIF, SAME), Verdict(XMP, ABSENT)], ["trailer"])
     'not wholly read'

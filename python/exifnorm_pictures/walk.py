@@ -1,4 +1,4 @@
-"""The files that a command is about: all below some folders, or those that are named in a list."""
+"""The files of a command: all below some folders, or those of a list."""
 
 from __future__ import annotations
 
@@ -15,7 +15,7 @@ class Found(NamedTuple):
 
     path: bytes
     root: bytes
-    stamp: Optional[Stamp]  # missing where the file system gives none
+    stamp: Optional[Stamp]  # None if the file system has none
 
 
 class Unlisted(NamedTuple):
@@ -33,10 +33,10 @@ Tell = Callable[[Unlisted], None]
 
 
 def below(names: Iterable[bytes], unlisted: Tell, leave_out: Collection[bytes] = ()) -> Iterator[Found]:
-    """Each file that is named, and all files below each folder that is named, in the order of their names.
+    """Each file of the arguments, and all files below each folder, in the order of their names.
 
-    Paths are absolute. Links to folders aren't followed. Hidden files and folders count like others; the files of `leave_out`
-    don't. A folder that can't be read, and a name that leads nowhere, go to `unlisted`, and the others are looked at all the same.
+    Paths are absolute. Links to folders aren't followed. Hidden files and folders are included; the files of `leave_out` are not.
+    A folder that can't be read, and a name without a file, are added to `unlisted`, and the other files are still returned.
     """
     for name in names:
         top = os.path.abspath(name)
@@ -90,7 +90,7 @@ def reason(error: OSError) -> str:
 
 
 def listed(name: str, by_nul: bool, stdin: Optional[BinaryIO] = None) -> List[bytes]:
-    """The names that a file lists, `-` being standard input: one a line, or each ended by a NUL. Raises `BadList`."""
+    """The names in a list file (`-` is standard input): one for each line, or each ended by a NUL. Raises `BadList`."""
     if name == "-":
         if stdin is None and sys.stdin is None:
             raise BadList("standard input is closed")

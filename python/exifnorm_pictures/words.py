@@ -1,4 +1,4 @@
-"""The words of the command line, and what `--help` says."""
+"""The arguments of the command line, and the text of `--help`."""
 
 from __future__ import annotations
 
@@ -12,20 +12,20 @@ from .kept import KIND_OF
 REFUSED_WORDS = 3
 
 _STATUSES = """Statuses:
-  0    done (index: also where pictures are refused, which the catalogue records)
-  1    it differs (changed: something differs, was moved or is missing; mend: the copy differs in a printed value)
-  2    it can't be compared (changed, show, captions, explain: a block is refused or unreadable, or a picture isn't wholly
-       read; mend: no remedy helped)
-  3    the arguments are refused
-  4    a file, a folder, a program, a stream or the catalogue failed; the others were looked at all the same
-  130  stopped by the keyboard; what was reported is kept, and the same command goes on from there
-Where several apply, the status is the greatest of them. SIGTERM and SIGHUP end the command as signals do.
+  0    success (index: also if pictures are refused, which the catalogue records)
+  1    different (changed: something differs, was moved or is missing; mend: the copy differs in a printed value)
+  2    not comparable (changed, show, captions, explain: a block is refused or unreadable, or a part of a picture wasn't
+       read; mend: no remedy worked)
+  3    bad arguments
+  4    a file, a folder, a program, a stream or the catalogue failed; the other pictures were still looked at
+  130  stopped by the keyboard; reported results are kept, and the same command continues from there
+If several apply, the status is the greatest of them. SIGTERM and SIGHUP end the command by that signal.
 
-A file that can't be read, that is gone, that is no picture or holds no block is a line, and the others are looked at all the
-same. Names are shown with control characters and undecodable bytes escaped; with --json as "path", and as "path_hex" too where
-the name is no UTF-8. Without --json lines are for people, with it each line is one object.
+A file that can't be read, is gone, is no picture or has no block is reported in a line, and the other files are still looked
+at. In names, control characters and undecodable bytes are escaped. With --json each line is one object; it has the name as
+"path", and also as "path_hex" if the name is no UTF-8.
 
-ExifTool reads what has no reader here (Debian: libimage-exiftool-perl)."""
+ExifTool reads the formats that have no reader here (Debian: libimage-exiftool-perl)."""
 
 
 class _Parser(argparse.ArgumentParser):
@@ -36,7 +36,7 @@ class _Parser(argparse.ArgumentParser):
         self.exit(REFUSED_WORDS, f"{self.prog}: {message}\n")
 
     def exit(self, status: int = 0, message: Optional[str] = None) -> NoReturn:
-        """Ends with this status. What --help printed is flushed before, so that a failed write is reported."""
+        """Ends with this status. It flushes the output of --help before, so that a failed write is reported."""
         sys.stdout.flush()
         super().exit(status, message)
         raise SystemExit(status)
@@ -60,11 +60,11 @@ class _Version(argparse.Action):
 
 
 def parser() -> argparse.ArgumentParser:
-    """The words of the command."""
+    """The parser of the arguments."""
     whole = _Parser(
         prog="exifnorm-pictures",
-        description="What many pictures say in their Exif, IPTC and XMP metadata: which say the same, which changed and in which"
-        " fields, which are refused and what helps.",
+        description="Compares the Exif, IPTC and XMP metadata of many pictures: finds pictures that mean the same, lists changed"
+        " pictures with their fields, and explains and mends refused ones.",
         epilog=_STATUSES,
         formatter_class=argparse.RawDescriptionHelpFormatter,
     )
@@ -74,10 +74,10 @@ def parser() -> argparse.ArgumentParser:
         one = commands.add_parser(name, help=words, description=words[0].upper() + words[1:] + ".", epilog=_STATUSES,
                                   formatter_class=argparse.RawDescriptionHelpFormatter)  # fmt: skip
         build(one)
-        one.add_argument("--json", action="store_true", help="one JSON object a line")
+        one.add_argument("--json", action="store_true", help="print one JSON object for each line")
         if name != "merge":
-            one.add_argument("--files-from", metavar="LIST", help="take names from the file LIST, - for standard input: one a line")
-            one.add_argument("-0", "--null", action="store_true", help="the names of LIST are ended by NUL, as by find -print0")
+            one.add_argument("--files-from", metavar="LIST", help="read names from the file LIST, - for standard input: one for each line")
+            one.add_argument("-0", "--null", action="store_true", help="the names in LIST end with NUL, as from find -print0")
     return whole
 
 
@@ -103,12 +103,12 @@ def _name(text: str) -> str:
 
 def _limit_words(it: argparse.ArgumentParser) -> None:
     it.add_argument("--limit", type=_seconds, default=tools.SECONDS, metavar="SECONDS",
-                    help=f"how long ExifTool may take for a file ({tools.SECONDS:g})")  # fmt: skip
+                    help=f"time limit of ExifTool for a file ({tools.SECONDS:g})")  # fmt: skip
 
 
 def _looking_words(it: argparse.ArgumentParser) -> None:
     _limit_words(it)
-    it.add_argument("--whole", action="store_true", help="read every byte of a JPEG, and not its head and tail alone")
+    it.add_argument("--whole", action="store_true", help="read every byte of a JPEG, not only its head and tail")
 
 
 def _many_words(it: argparse.ArgumentParser) -> None:
@@ -119,59 +119,59 @@ def _many_words(it: argparse.ArgumentParser) -> None:
 
 def _index_words(it: argparse.ArgumentParser) -> None:
     it.add_argument("folders", nargs="*", type=_name, metavar="FOLDER", help="a folder, with all below it, or a picture")
-    it.add_argument("--catalogue", required=True, type=_name, metavar="FILE", help="the catalogue; made where it is missing")
+    it.add_argument("--catalogue", required=True, type=_name, metavar="FILE", help="the catalogue; created if it is missing")
     it.add_argument("--keep-old", type=_name, metavar="OLD", help="first copy the catalogue to OLD, for changed and report --since")
-    it.add_argument("--again", action="store_true", help="look at all pictures, also at those that haven't changed")
+    it.add_argument("--again", action="store_true", help="look at all pictures, even if they haven't changed")
     it.add_argument("--scheduler", metavar="tcp://HOST:PORT", help="look at the pictures on the workers of this Dask cluster")
     it.add_argument("--elsewhere", type=_name, metavar="PATH", help="the path of FOLDER on the workers")
     _many_words(it)
 
 
 def _merge_words(it: argparse.ArgumentParser) -> None:
-    it.add_argument("catalogues", nargs="+", type=_name, metavar="CATALOGUE", help="a catalogue; of one picture the last one counts")
-    it.add_argument("--catalogue", required=True, type=_name, metavar="ALL", help="the catalogue to be written; made where it is missing")
+    it.add_argument("catalogues", nargs="+", type=_name, metavar="CATALOGUE", help="a catalogue; the last one with a picture counts")
+    it.add_argument("--catalogue", required=True, type=_name, metavar="ALL", help="the catalogue to write; created if it is missing")
 
 
 def _same_words(it: argparse.ArgumentParser) -> None:
     it.add_argument("--catalogue", required=True, type=_name, metavar="FILE")
-    it.add_argument("--kind", choices=("all", *KIND_OF), default="all", help="which blocks have to say the same (all)")
+    it.add_argument("--kind", choices=("all", *KIND_OF), default="all", help="the blocks that must mean the same (all)")
 
 
 def _changed_words(it: argparse.ArgumentParser) -> None:
     it.add_argument("before", type=_name, metavar="BEFORE", help="a catalogue or a folder")
     it.add_argument("after", type=_name, metavar="AFTER", help="a catalogue or a folder")
-    it.add_argument("--all", action="store_true", help="also the pictures that say the same, or are refused in the same bytes")
+    it.add_argument("--all", action="store_true", help="also list pictures that mean the same, or are refused in the same bytes")
     _many_words(it)
 
 
 def _pictures_words(it: argparse.ArgumentParser) -> None:
     it.add_argument("pictures", nargs="*", type=_name, metavar="PICTURE")
-    it.add_argument("--block", action="store_true", help="each PICTURE is a block by itself, cut out before")
+    it.add_argument("--block", action="store_true", help="each PICTURE is a block that was extracted before")
     _looking_words(it)
 
 
 def _report_words(it: argparse.ArgumentParser) -> None:
     it.add_argument("--catalogue", required=True, type=_name, metavar="FILE")
-    it.add_argument("--since", type=_name, metavar="OLD", help="an older catalogue: also what changed")
-    it.add_argument("--html", type=_name, metavar="PAGE", help="the page to be written")
+    it.add_argument("--since", type=_name, metavar="OLD", help="an older catalogue: also list the changes")
+    it.add_argument("--html", type=_name, metavar="PAGE", help="the page to write")
     it.add_argument("--title", default="Pictures and what they say", help="the page's title")
     _limit_words(it)
 
 
 def _mend_words(it: argparse.ArgumentParser) -> None:
     it.add_argument("names", nargs="+", type=_name, metavar="PICTURE OUT",
-                    help="the picture and the copy; with --files-from a folder OUT alone")  # fmt: skip
+                    help="the picture and the copy; with --files-from only a folder OUT")  # fmt: skip
     _limit_words(it)
 
 
 _COMMANDS: Tuple[Tuple[str, str, Callable[[argparse.ArgumentParser], None]], ...] = (
-    ("index", "look at all new and changed pictures, and keep in a catalogue what they say", _index_words),
+    ("index", "look at all new and changed pictures, and keep their metadata in a catalogue", _index_words),
     ("merge", "join catalogues of several folders or machines", _merge_words),
-    ("same", "groups of pictures that say the same", _same_words),
-    ("changed", "what two catalogues or folders say differently, with the fields", _changed_words),
-    ("show", "what pictures say, field by field", _pictures_words),
-    ("captions", "captions, names, keywords and rights of pictures", _pictures_words),
-    ("explain", "why a block is refused, and what helps", _pictures_words),
-    ("report", "one page about a catalogue", _report_words),
-    ("mend", "a copy of a picture whose block is accepted", _mend_words),
+    ("same", "list groups of pictures that mean the same", _same_words),
+    ("changed", "list the differences between two catalogues or folders, with the fields", _changed_words),
+    ("show", "print the fields of pictures", _pictures_words),
+    ("captions", "print captions, names, keywords and rights of pictures", _pictures_words),
+    ("explain", "explain why a block is refused, and name remedies", _pictures_words),
+    ("report", "write one page about a catalogue", _report_words),
+    ("mend", "write a copy of a picture whose block is accepted", _mend_words),
 )

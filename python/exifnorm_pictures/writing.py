@@ -1,6 +1,6 @@
-"""Files that are written whole or not at all: under no name until all bytes are on the disk, and then under their own.
+"""Files that are written in full or not at all: they get their name only after all bytes are on the disk.
 
-Where the file system allows it the file has no name at all while it is written, so that nothing stays behind a run that is killed.
+If the file system allows it, the file has no name while it is written, so that a killed run leaves no file.
 """
 
 from __future__ import annotations
@@ -15,11 +15,11 @@ Write = Callable[[BinaryIO], None]
 
 
 class NotReplaced(Exception):
-    """A file that is there must not be replaced; the text says why."""
+    """A file exists and must not be replaced. The text is the reason."""
 
 
 def copy_new(source: bytes, out: bytes, like: os.stat_result) -> None:
-    """Copies a file to `out`, with the mode and times of another one; raises `FileExistsError` where `out` is there."""
+    """Copies a file to `out`, with the mode and times of another one. Raises `FileExistsError` if `out` exists."""
 
     def write(file: BinaryIO) -> None:
         with open(source, "rb") as given:
@@ -70,7 +70,7 @@ def _check(out: bytes, allowed: Callable[[bytes], bool], kept: Tuple[str, ...]) 
 
 @contextlib.contextmanager
 def _written(out: bytes, write: Write) -> Iterator[Tuple[BinaryIO, Optional[bytes]]]:
-    """A file in the folder of `out` with all its bytes on the disk, and its name where it needed one."""
+    """A file in the folder of `out` with all its bytes on the disk, and its name if it needed one."""
     folder = os.path.dirname(out) or b"."
     number, name = _opened(folder, out)
     try:
@@ -100,7 +100,7 @@ def _free_name(out: bytes) -> bytes:
 
 
 def _link(file: BinaryIO, name: Optional[bytes], out: bytes) -> None:
-    """Gives a file the name `out`, which must not be there."""
+    """Gives a file the new name `out`."""
     if not name:
         # given a folder, though the path is absolute, since Python follows the link only then
         os.link(b"/proc/self/fd/%d" % file.fileno(), out, src_dir_fd=file.fileno(), follow_symlinks=True)

@@ -8,7 +8,7 @@ from typing import Dict, Tuple
 from .found import XMP, Blocks, Found, ordinal
 
 HEAD = b"http://ns.adobe.com/xmp/extension/\0"
-_DIGEST = 32  # characters of the digest that the main packet names, behind the head
+_DIGEST = 32  # characters of the digest in the main packet, after the head
 _BEFORE = len(HEAD) + _DIGEST + 8  # the total length and the offset of the piece follow, four bytes each
 NAME = "extended XMP"
 

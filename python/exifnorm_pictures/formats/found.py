@@ -1,4 +1,4 @@
-"""What a reader of a picture format returns: the blocks, byte for byte as they are in the file, and the parts it did not read."""
+"""The result of a reader of a picture format: the blocks, byte for byte as they are in the file, and the parts it did not read."""
 
 from __future__ import annotations
 
@@ -15,7 +15,7 @@ _ORDINALS = ("first", "second", "third", "fourth", "fifth", "sixth", "seventh", 
 
 
 def ordinal(number: int) -> str:
-    """The word for a place in a row, from 1 on.
+    """The ordinal of a number, from 1 on.
 
     >>> ordinal(2), ordinal(12)
     ('second', '12th')
@@ -24,38 +24,38 @@ def ordinal(number: int) -> str:
 
 
 class Broken(Exception):
-    """The file does not follow its format where a block may stand. Its text says what is wrong, and where."""
+    """The file does not follow its format at a position that may have a block. Its text describes the fault and its position."""
 
 
 class LeftToOthers(Exception):
-    """The file is of a kind that is read by ExifTool and exiv2 alone."""
+    """Only ExifTool and exiv2 read a file of this kind."""
 
 
 @dataclass(frozen=True)
 class Found:
-    """A block, without the words that its format puts in front of it, as the six bytes `Exif\\0\\0`.
+    """A block, without the bytes that its format puts before it, such as the six bytes `Exif\\0\\0`.
 
-    The first block of a kind has the name of its kind, and each further block a name of its own, as `second Exif` or `page 2`.
+    The first block of a kind has the name of its kind, and each further block a name of its own, such as `second Exif` or `page 2`.
     """
 
     kind: str  # EXIF, IPTC or XMP
     data: bytes
     name: str
-    where: str  # the place in the file, for people: `APP1 segment at 20`
+    where: str  # the position in the file, for people: `APP1 segment at 20`
     extractor: str = OWN
-    extends: str = ""  # of extended XMP: the digest by which its main packet names it
+    extends: str = ""  # for extended XMP: the digest in its main packet
 
 
 @dataclass(frozen=True)
 class NotRead:
-    """A part of a file that may hold metadata and was not read."""
+    """A part of a file that may contain metadata and was not read."""
 
     what: str
-    digest: str  # SHA-256 of its bytes in hexadecimal digits; empty where they were not compared either
+    digest: str  # SHA-256 of its bytes in hexadecimal digits; empty if they were not compared either
 
     @classmethod
     def of(cls, what: str, data: bytes) -> "NotRead":
-        """A part whose bytes are at hand.
+        """A part whose bytes are in memory.
 
         >>> NotRead.of("trailer of 3 bytes", b"abc").digest[:8]
         'ba7816bf'
@@ -65,19 +65,19 @@ class NotRead:
 
 @dataclass
 class Blocks:
-    """All that was found in a file, in the order of the file.
+    """The blocks and unread parts of a file, in the order of the file.
 
-    `problem` is one of `extraction.PROBLEMS` where the file could not be read at all; it then has no block.
+    `problem` is one of `extraction.PROBLEMS` if the file could not be read at all; it then has no block.
     """
 
     found: List[Found] = field(default_factory=list)
     not_read: List[NotRead] = field(default_factory=list)
-    extractor: str = OWN  # EXIFTOOL if any block, or the answer that there is none, comes from ExifTool or exiv2
-    type: str = ""  # the format's name: JPEG, PNG, WEBP, TIFF, or ExifTool's word
+    extractor: str = OWN  # EXIFTOOL if any block, or the result that there is none, comes from ExifTool or exiv2
+    type: str = ""  # the format's name: JPEG, PNG, WEBP, TIFF, or ExifTool's name for it
     problem: Optional[str] = None
     detail: str = ""
     counts: Dict[str, int] = field(default_factory=dict, repr=False)  # of blocks by name
-    has_more: bool = False  # whether a part that was not read is of a kind that ExifTool may find blocks in
+    has_more: bool = False  # whether ExifTool may find blocks in a part that was not read
 
     def add(self, kind: str, data: bytes, where: str, part: str = "", extractor: str = OWN) -> None:
         """Adds the next block of a kind, in the whole file or in one part of it.
@@ -92,7 +92,7 @@ class Blocks:
         self.found.append(Found(kind, data, name if number == 1 else f"{ordinal(number)} {name}", where, extractor))
 
     def leave(self, what: str, data: bytes) -> None:
-        """Notes a part that is not read, whose bytes are at hand."""
+        """Adds a part that is not read, whose bytes are in memory."""
         self.not_read.append(NotRead.of(what, data))
 
     def of_kind(self, kind: str) -> List[Found]:

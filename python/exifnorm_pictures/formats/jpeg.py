@@ -1,7 +1,7 @@
 """JPEG: Exif in APP1, also split over segments, IPTC in the Photoshop resources of APP13, XMP in APP1 and extended XMP, in the picture
 itself and in those of its MPF index (CIPA DC-008 4.7, CIPA DC-007, XMP part 3).
 
-Not compared, because they hold no Exif, IPTC or XMP: JFIF and its thumbnail, ICC profiles, comments, JUMBF, and other APPn segments.
+Not compared, because they contain no Exif, IPTC or XMP: JFIF and its thumbnail, ICC profiles, comments, JUMBF, and other APPn segments.
 """
 
 from __future__ import annotations
@@ -22,7 +22,7 @@ START = b"\xff\xd8\xff"
 _SIX = b"Exif\0\0"
 _XMP = b"http://ns.adobe.com/xap/1.0/\0"
 _TIFF = (b"II*\0", b"MM\0*")
-# Some writers put up to four bytes in front, or spell the word otherwise; ExifTool reads these as well.
+# Some writers put up to four bytes before the word, or write it in another way; ExifTool reads these as well.
 _EXIF_LIKE = re.compile(rb".{0,4}?Exif\0.", re.I | re.S)
 _META = (b"Meta\0\0", b"META\0\0", b"Exif\0\0")  # Kodak's APP3, which has the structure of an Exif block
 
@@ -45,20 +45,20 @@ def read(stream: BinaryIO, whole: bool = False) -> Blocks:
 
 
 class _Head:
-    """The segments of one picture in front of its first scan."""
+    """The segments of one picture before its first scan."""
 
     def __init__(self, blocks: Blocks, part: str = "") -> None:
         self.blocks = blocks
         self.part = part
         self.of = f" of {part}" if part else ""
-        self.end = 0  # behind the header of the first scan, or behind the end mark
+        self.end = 0  # after the header of the first scan, or after the end mark
         self.has_scan = False
-        self.indexes: List[Tuple[int, bytes]] = []  # MPF indexes, each with the place of its header
+        self.indexes: List[Tuple[int, bytes]] = []  # MPF indexes, each with the offset of its header
         self.index_is_wrong = False
-        self._exif: List[Tuple[str, List[bytes]]] = []  # the place of each block, and its pieces
+        self._exif: List[Tuple[str, List[bytes]]] = []  # the position of each block, and its pieces
         self._runs: List[Tuple[str, List[bytes]]] = []  # Photoshop resources, the same way
         self._pieces = Pieces()
-        self._last = b""  # what kind the last segment had
+        self._last = b""  # the kind of the last segment
 
     def read(self, stream: BinaryIO, start: int, budget: Budget) -> None:
         """Reads the picture that begins at `start`."""
@@ -83,7 +83,7 @@ class _Head:
     def _app1(self, it: Segment) -> bytes:
         place = f"APP1 segment at {it.at}"
         if it.data.startswith(_SIX):
-            # What is too long for one segment goes on in the next, behind the same six bytes and without a header.
+            # A block that is too long for one segment continues in the next, after the same six bytes and without a header.
             if self._last == _SIX and it.data[6:10] not in _TIFF:
                 self._exif[-1][1].append(it.data[6:])
             else:
@@ -122,7 +122,7 @@ class _Head:
 
 
 def _further(stream: BinaryIO, head: _Head, end: int) -> List[int]:
-    """Where the further pictures of the MPF index begin. An index that does not fit the file is noted, and not followed."""
+    """The offsets of the further pictures of the MPF index. An index that does not fit the file is noted, and not followed."""
     found: Set[int] = set()
     for at, data in head.indexes:
         try:
@@ -138,7 +138,7 @@ def _further(stream: BinaryIO, head: _Head, end: int) -> List[int]:
 
 
 def _read_behind(stream: BinaryIO, head: _Head, end: int, whole: bool) -> None:
-    """Looks behind a picture's first scan, up to the next picture or the end of the file."""
+    """Reads the part after a picture's first scan, up to the next picture or the end of the file."""
     found = tail(stream, head.end, end, whole) if head.has_scan else Tail([], min(head.end, end), True)
     for at, length in found.segments:
         what = f"metadata segment behind the first scan{head.of}"

@@ -1,4 +1,4 @@
-"""The segments of a JPEG picture in front of its first scan (ITU T.81, Annex B; CIPA DC-008 4.7)."""
+"""The segments of a JPEG picture before its first scan (ITU T.81, Annex B; CIPA DC-008 4.7)."""
 
 from __future__ import annotations
 
@@ -9,12 +9,12 @@ from .found import Broken
 
 SOI, EOI, SOS = 0xD8, 0xD9, 0xDA
 APP1, APP2, APP3, APP13 = 0xE1, 0xE2, 0xE3, 0xED
-KEPT = (APP1, APP2, APP3, APP13)  # the segments that may hold metadata of the kinds that are compared
+KEPT = (APP1, APP2, APP3, APP13)  # the segments that may contain metadata of the kinds that are compared
 
 
 @dataclass
 class Budget:
-    """How much of one file may still be read as segments; a file may say that its pictures overlap."""
+    """How much of one file may still be read as segments. The pictures of an index can overlap, which would read parts again."""
 
     segments: int = 100_000
     bytes: int = 64 << 20
@@ -28,7 +28,7 @@ class Budget:
 
 
 class Segment(NamedTuple):
-    """A segment: its marker, its place, the place behind it, and its data if its kind is kept."""
+    """A segment: its marker, its offset, the offset after it, and its data if its kind is kept."""
 
     marker: int
     at: int
@@ -37,7 +37,7 @@ class Segment(NamedTuple):
 
 
 def segments(stream: BinaryIO, start: int, budget: Budget) -> Iterator[Segment]:
-    """Each segment of the picture that begins at `start`, up to SOS or EOI. A file that ends behind a whole segment just ends.
+    """Each segment of the picture that begins at `start`, up to SOS or EOI. A file may end after a whole segment.
 
     Raises `Broken`.
     """
@@ -64,7 +64,7 @@ def segments(stream: BinaryIO, start: int, budget: Budget) -> Iterator[Segment]:
 
 def _segment(stream: BinaryIO, marker: int, at: int, head: bytes) -> Segment:
     """The segment whose first four bytes were read."""
-    if marker == 0x01 or 0xD0 <= marker <= EOI:  # a marker by itself
+    if marker == 0x01 or 0xD0 <= marker <= EOI:  # a marker without a segment
         return Segment(marker, at, at + 2, b"")
     length = int.from_bytes(head[2:], "big")
     if len(head) < 4 or length < 2:

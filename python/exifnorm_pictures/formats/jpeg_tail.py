@@ -1,8 +1,8 @@
-"""What is behind the first scan of a JPEG picture: further segments of metadata, the end mark, and a trailer.
+"""The part after the first scan of a JPEG picture: further segments of metadata, the end mark, and a trailer.
 
-Picture data is long, and nothing of interest is in it: behind FF there is 00, a restart mark, or the marker of another scan's tables.
-Unless everything is asked for, a long picture is read only in its last bytes. If these show nothing but picture data and an end mark as
-the last two bytes, the rest is taken for picture data; otherwise everything is read.
+Picture data are long and of no interest here: in them FF precedes 00, a restart mark, or the marker of another scan's tables. Unless
+everything is requested, only the last bytes of a long picture are read. If these contain only picture data and end with an end mark,
+the rest is assumed to be picture data; otherwise everything is read.
 """
 
 from __future__ import annotations
@@ -15,17 +15,17 @@ from .jpeg_segments import APP1, APP13, EOI, SOI
 from .streams import CHUNK
 
 WINDOW = 1 << 16  # bytes
-MOST_PLACES = 1000  # of metadata segments behind the first scan
+MOST_PLACES = 1000  # of metadata segments after the first scan
 
 _MARKER = re.compile(rb"\xff[\x01-\xcf\xd8-\xfe]")
 _TABLES = frozenset((0xC4, 0xCC, 0xDA, 0xDB, 0xDD))  # DHT, DAC, SOS, DQT, DRI
 
 
 class Tail(NamedTuple):
-    """What was found: the metadata segments by their places and lengths, and where the picture ends."""
+    """The result: the offsets and lengths of the metadata segments, and the end of the picture."""
 
     segments: "List[tuple[int, int]]"
-    end: int  # behind the end mark, or the end of the part if there is none
+    end: int  # after the end mark, or the end of the part if there is none
     has_mark: bool
 
 
@@ -45,9 +45,9 @@ class _Markers:
 
     def __init__(self, stream: BinaryIO, at: int, end: int) -> None:
         self.stream = stream
-        self.at = at  # behind the last marker, or behind the segment that was passed over
+        self.at = at  # after the last marker, or after the segment that was skipped
         self.end = end
-        self._start = at  # of the piece that is at hand
+        self._start = at  # of the piece in memory
         self._piece = b""
 
     def following(self) -> int:
@@ -71,7 +71,7 @@ class _Markers:
         self._piece = self.stream.read(max(min(CHUNK, self.end - at), 0))
 
     def pass_over(self) -> int:
-        """Passes over the segment whose marker was the last one; its length."""
+        """Skips the segment whose marker was the last one. Returns its length."""
         if self.at + 2 > self._start + len(self._piece):
             self._read(self.at)
         at = self.at - self._start
@@ -81,7 +81,7 @@ class _Markers:
 
 
 def _is_plain(markers: _Markers) -> bool:
-    """Whether a part shows nothing but picture data, its tables, and the end mark as its last two bytes."""
+    """Whether a part contains only picture data and its tables, and ends with the end mark."""
     while True:
         marker = markers.following()
         if marker == EOI:
@@ -92,7 +92,7 @@ def _is_plain(markers: _Markers) -> bool:
 
 
 def _scanned(markers: _Markers) -> Tail:
-    """Looks at all that is behind the first scan's header."""
+    """Reads all bytes after the first scan's header."""
     places: "List[tuple[int, int]]" = []
     while True:
         marker = markers.following()

@@ -1,4 +1,4 @@
-"""The Multi-Picture index of a JPEG (CIPA DC-007): where the further pictures of the file are."""
+"""The Multi-Picture index of a JPEG (CIPA DC-007): the offsets of the further pictures of the file."""
 
 from __future__ import annotations
 
@@ -20,7 +20,7 @@ class Place(NamedTuple):
 
 
 def further_pictures(data: bytes, base: int) -> List[Place]:
-    """The pictures that the index names besides the first one; `base` is the place of the index's own header in the file.
+    """The pictures in the index besides the first one; `base` is the offset of the index's own header in the file.
 
     The first entry, whose offset is 0, is the picture that the index is in. Raises `Broken`.
     """

@@ -1,4 +1,4 @@
-"""Photoshop's image resources, as they are in APP13 segments, in the TIFF tag 8649 and in profiles of PNG files.
+"""Photoshop's image resources, in APP13 segments, in the TIFF tag 8649 and in profiles of PNG files.
 
 A resource is a signature of four letters, a number, a name padded to an even length, the length of its data, and the data padded to
 an even length (Adobe Photoshop File Formats Specification, "Image Resource Blocks").
@@ -12,7 +12,7 @@ from .found import EXIF, IPTC, XMP, Blocks
 
 HEAD = b"Photoshop 3.0\0"
 OLD_HEAD = b"Adobe_Photoshop2.5:"
-OLD_HEAD_LENGTH = 27  # with the eight bytes behind the words
+OLD_HEAD_LENGTH = 27  # with the eight bytes after the text
 SIGNATURES = (b"8BIM", b"PHUT", b"AgHg", b"DCSR", b"MeSa")  # Photoshop, PhotoDeluxe, Lightroom, and two that are not documented
 
 _KINDS = {0x0404: IPTC, 0x0422: EXIF, 0x0424: XMP}
@@ -28,7 +28,7 @@ class Resource(NamedTuple):
 
 
 def resources(data: bytes) -> Tuple[List[Resource], bytes]:
-    """The resources, and the bytes behind the last whole one; zeros there do not count.
+    """The resources, and the bytes after the last whole one, without zeros.
 
     >>> resources(b"8BIM" + b"\\x04\\x04" + b"\\0\\0" + b"\\0\\0\\0\\x03" + b"abc\\0")
     ([Resource(number=1028, data=b'abc')], b'')
@@ -47,8 +47,8 @@ def resources(data: bytes) -> Tuple[List[Resource], bytes]:
 
 
 def add_resources(blocks: Blocks, runs: Sequence[Tuple[str, bytes]], part: str = "") -> None:
-    """Adds the blocks that some runs of resources hold, each run with its place. A resource that goes on from one run into the next is
-    joined, as exiv2 does."""
+    """Adds the blocks in some runs of resources, each run with its position. A resource that continues in the next run is joined, as
+    exiv2 does."""
     if len(runs) > 1 and any(resources(data)[1] for _, data in runs[:-1]):
         runs = [(runs[0][0], b"".join(data for _, data in runs))]
     for where, data in runs:

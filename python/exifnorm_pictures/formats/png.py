@@ -1,7 +1,7 @@
 """PNG: Exif in eXIf chunks, XMP in text chunks, and the raw profiles of text chunks that ImageMagick, ExifTool and others write
 (PNG specification, third edition, 11.3.3 and 11.3.4; XMP part 3).
 
-Not compared, because they hold no Exif, IPTC or XMP: text chunks with other keywords, and colour profiles.
+Not compared, because they contain no Exif, IPTC or XMP: text chunks with other keywords, and colour profiles.
 """
 
 from __future__ import annotations
@@ -15,7 +15,7 @@ from .streams import digest_of, is_blank, read_at, size_of
 
 START = b"\x89PNG\r\n\x1a\n"
 MOST_CHUNKS = 100_000
-MOST_BYTES = 64 << 20  # of chunks that are kept, and of what they are once inflated
+MOST_BYTES = 64 << 20  # of chunks that are kept, and of their inflated data
 
 _SIX = b"Exif\0\0"
 _XMP_KEYWORD = b"xml:com.adobe.xmp"
@@ -52,7 +52,7 @@ class _Reader:
         self.left = MOST_BYTES
 
     def head(self, at: int) -> "tuple[int, bytes]":
-        """The length and the kind of the chunk at a place."""
+        """The length and the kind of the chunk at an offset."""
         head = read_at(self.stream, at, 8)
         length = int.from_bytes(head[:4], "big")
         if at + 12 + length > self.size:
@@ -60,7 +60,7 @@ class _Reader:
         return length, head[4:]
 
     def chunk(self, at: int, length: int, kind: bytes) -> None:
-        """Takes the blocks of a chunk."""
+        """Adds the blocks of a chunk."""
         if kind not in (b"eXIf", b"zxIf", *_TEXTS):
             return
         self.left -= length
@@ -78,7 +78,7 @@ class _Reader:
             self.blocks.leave("compressed Exif chunk", data)
 
     def rest(self, at: int) -> None:
-        """What is behind the last chunk."""
+        """The bytes after the last chunk."""
         if not is_blank(self.stream, at, self.size):
             self.blocks.not_read.append(NotRead(f"trailer of {self.size - at:,} bytes", digest_of(self.stream, at, self.size)))
 
@@ -97,7 +97,7 @@ class _Reader:
             self.blocks.leave(f"text chunk that cannot be read ({why})", data)
 
     def _opened(self, kind: bytes, text: bytes) -> bytes:
-        """The text of a chunk behind its keyword, inflated if it is compressed."""
+        """The text of a chunk after its keyword, inflated if it is compressed."""
         if kind == b"tEXt":
             return text
         if kind == b"zTXt":

@@ -23,7 +23,7 @@ def size_of(stream: BinaryIO) -> int:
 
 
 def read_at(stream: BinaryIO, at: int, length: int) -> bytes:
-    """Exactly `length` bytes; raises `Broken` where the file ends before."""
+    """Exactly `length` bytes. Raises `Broken` if the file ends before."""
     stream.seek(at)
     data = stream.read(length)
     if len(data) < length:

@@ -1,7 +1,7 @@
 """TIFF: each page and each SubIFD is an Exif block by itself, without the entries that lead to pixels and without those whose values
 are blocks of their own: XMP, IPTC and Photoshop's resources (TIFF 6.0; Adobe PageMaker 6.0 TIFF Technical Notes; XMP part 3).
 
-Raw pictures have the same structure, and private pointers besides; they are left to ExifTool and exiv2.
+Raw pictures have the same structure, and private pointers too; ExifTool and exiv2 read them.
 """
 
 from __future__ import annotations
@@ -19,7 +19,7 @@ __all__ = ["BIG_HEADS", "HEADS", "read", "read_big"]
 
 BIG_HEADS = (b"II+\0", b"MM\0+")
 DEEPEST = 10  # SubIFDs below one another
-MOST_STRIPS = 4_000_000  # of which the end is looked for
+MOST_STRIPS = 4_000_000  # whose ends are computed
 LIMIT = 16_777_216  # bytes of a block that the engine judges
 
 PIXELS: Dict[int, str] = {
@@ -42,7 +42,7 @@ _OTHER_POINTERS = {0x0190: "GlobalParametersIFD", 0x8290: "Kodak's IFD", 0x8606:
 _DNG_VERSION = 0xC612
 
 
-_Place = Tuple[int, str, int]  # where a directory is, the name of the row that it is in, and its number there
+_Place = Tuple[int, str, int]  # the offset of a directory, the name of its chain, and its number there
 
 
 class _Page(NamedTuple):
@@ -75,7 +75,7 @@ class _Reader:
     def __init__(self, directories: Directories) -> None:
         self.directories = directories
         self.blocks = Blocks(type="TIFF")
-        self._end: Optional[int] = 8  # behind all that the directories lead to; nothing if that is not known
+        self._end: Optional[int] = 8  # after all parts that the directories point to; None if it is unknown
 
     def pages(self) -> Iterator[_Page]:
         """Each page, followed by its SubIFDs."""
@@ -132,13 +132,13 @@ class _Reader:
                 continue
             pair = [by_tag[tag] for tag in (offsets, lengths) if tag in by_tag]
             if len(pair) < 2 or pair[0].count != pair[1].count or pair[0].count > MOST_STRIPS:
-                self._end = None  # old files do not say how long their strips are
+                self._end = None  # old files have no lengths of strips
                 continue
             starts, sizes = (self.directories.numbers(entry) for entry in pair)
             self._reaches(max((start + size for start, size in zip(starts, sizes)), default=0))
 
     def take(self, page: _Page) -> None:
-        """Takes the blocks of a page."""
+        """Adds the blocks of a page."""
         left_out: Set[str] = set()
         kept: List[Entry] = []
         for it in page.directory.entries:
@@ -158,7 +158,7 @@ class _Reader:
         self.blocks.add(EXIF, layout.block(), where, page.part)
 
     def _is_block(self, it: Entry, part: str) -> bool:
-        """Takes an entry whose value is a block, or that leads away; whether it is taken out of its directory."""
+        """Adds the block of an entry, if it has one. Returns whether the entry is taken out of its directory."""
         of = part or "page 1"
         where = f"tag {it.tag:04x} of {of}"
         data = self.directories.value(it) if it.tag in (_XMP, _IPTC, _PHOTOSHOP) else b""
@@ -191,7 +191,7 @@ class _Reader:
         return Table(entries, below)
 
     def rest(self) -> None:
-        """What is behind all that the directories lead to."""
+        """The bytes after all parts that the directories point to."""
         stream, size = self.directories.stream, self.directories.size
         if self._end is not None and self._end < size and not is_blank(stream, self._end, size):
             self.blocks.not_read.append(NotRead(f"trailer of {size - self._end:,} bytes", digest_of(stream, self._end, size)))

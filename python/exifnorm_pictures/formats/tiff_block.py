@@ -1,7 +1,7 @@
 """A directory of a TIFF file as an Exif block by itself: the tables first, then the values, without the entries that are left out.
 
-Values that share bytes in the file share them in the block, so that what the engine refuses in the file it refuses here. A value
-that leads out of the file leads out of the block.
+Values that share bytes in the file share them in the block, so the engine refuses here what it would refuse in the file. A value
+outside the file is outside the block.
 """
 
 from __future__ import annotations
@@ -16,19 +16,19 @@ NOWHERE = 0xFFFFFFFF
 
 
 class Table(NamedTuple):
-    """A directory that goes into a block: its entries, and the tables that pointers among them lead to, by their tags."""
+    """A directory for a block: its entries, and the tables of the pointers among them, by their tags."""
 
     entries: List[Entry]
     below: "Dict[int, Table]"
 
 
 def is_pointer(it: Entry) -> bool:
-    """Whether an entry has the form of a pointer, which is followed."""
+    """Whether an entry has a pointer's type and count, and is followed."""
     return it.type == LONG and it.count == 1
 
 
 class Layout:
-    """The block of a table: where its tables and its values are. Raises `Broken` through the directories."""
+    """The block of a table: the offsets of its tables and its values. Raises `Broken` through the directories."""
 
     def __init__(self, directories: Directories, table: Table) -> None:
         self._directories = directories
@@ -72,7 +72,7 @@ class Layout:
         return struct.pack(self._directories.order + "I", offset)
 
     def _moved(self, place: int) -> int:
-        """Where a place of the file, at which a value begins, is in the block."""
+        """The offset in the block of a value at an offset of the file."""
         number = bisect_right(self._parts, (place, NOWHERE)) - 1
         return self._offsets[number] + place - self._parts[number][0]
 

@@ -17,11 +17,11 @@ SIZES = {1: 1, 2: 1, 3: 2, 4: 4, 5: 8, 6: 1, 7: 1, 8: 2, 9: 4, 10: 8, 11: 4, 12:
 LONG, IFD = 4, 13
 MOST_DIRECTORIES = 10_000
 MOST_ENTRIES = 1_000_000
-MOST_BYTES = 256 << 20  # of values and blocks that are read from one file, whose directories may lead to the same bytes
+MOST_BYTES = 256 << 20  # of values and blocks that are read from one file, whose directories may point to the same bytes
 
 
 class Entry(NamedTuple):
-    """An entry: its last field is a value of at most four bytes, or the place of the value."""
+    """An entry: its last four bytes are its value, or the offset of its value."""
 
     tag: int
     type: int
@@ -35,7 +35,7 @@ class Entry(NamedTuple):
 
 
 class Directory(NamedTuple):
-    """A directory: its place, its entries in their order, and the place of the next one."""
+    """A directory: its offset, its entries in their order, and the offset of the next one."""
 
     at: int
     entries: List[Entry]
@@ -62,7 +62,7 @@ class Directories:
         return int.from_bytes(data, "little" if self.order == "<" else "big")
 
     def read(self, at: int) -> Directory:
-        """The directory at a place. Raises `Broken`."""
+        """The directory at an offset. Raises `Broken`."""
         count = self.number(read_at(self.stream, at, 2))
         table = read_at(self.stream, at + 2, 12 * count + 4)
         self._claim(at, at + 2 + 12 * count + 4)
@@ -82,25 +82,25 @@ class Directories:
         self._ends[start] = end
 
     def place_of(self, it: Entry) -> Optional[Tuple[int, int]]:
-        """Where a value begins and ends that is not in the entry itself; nothing if it is not wholly in the file."""
+        """The range of a value that is not in the entry itself; None if the file doesn't contain all of it."""
         start = self.number(it.last)
         return (start, start + it.size) if 8 <= start and start + it.size <= self.size else None
 
     def value(self, it: Entry) -> bytes:
-        """The value of an entry; no bytes if it is not wholly in the file. Raises `Broken`."""
+        """The value of an entry; no bytes if the file doesn't contain all of it. Raises `Broken`."""
         if it.size <= 4:
             return it.last[: it.size]
         place = self.place_of(it)
         return self.part(*place) if place else b""
 
     def part(self, start: int, end: int) -> bytes:
-        """The bytes of a part of the file in which values are. Raises `Broken`."""
+        """The bytes of a part of the file with values. Raises `Broken`."""
         self.spend(end - start)
         self._values.append((start, end))
         return read_at(self.stream, start, end - start)
 
     def spend(self, length: int) -> None:
-        """Counts bytes that are read. Raises `Broken` where they are more than any picture needs."""
+        """Counts bytes that are read. Raises `Broken` if they are more than any picture needs."""
         self._left -= length
         if self._left < 0:
             raise Broken(f"more than {MOST_BYTES:,} bytes of values")
@@ -113,7 +113,7 @@ class Directories:
                 raise Broken(f"the value at {start} shares bytes with a directory")
 
     def numbers(self, it: Entry) -> List[int]:
-        """The values of an entry that holds SHORT, LONG or IFD; none if it holds something else. Raises `Broken`."""
+        """The values of an entry of type SHORT, LONG or IFD; none for other types. Raises `Broken`."""
         code = {3: "H", LONG: "I", IFD: "I"}.get(it.type)
         data = self.value(it)
         return [number for number, in struct.iter_unpack(self.order + code, data)] if code and len(data) == it.size else []

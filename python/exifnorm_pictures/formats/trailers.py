@@ -1,4 +1,4 @@
-"""What programs append behind a picture, recognised by its last bytes."""
+"""Trailers: bytes that programs append to a picture, recognised by the last of them."""
 
 from __future__ import annotations
 
@@ -25,7 +25,7 @@ _LONGEST = 64
 
 
 def known_trailer(stream: BinaryIO, end: int) -> Optional[Trailer]:
-    """The kind of the trailer that ends at a place, if it is known.
+    """The kind of the trailer that ends at an offset, if it is known.
 
     >>> import io
     >>> known_trailer(io.BytesIO(b"...." + bytes.fromhex("a1b2c3d4")), 8)

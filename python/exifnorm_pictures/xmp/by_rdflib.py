@@ -1,4 +1,4 @@
-"""All of RDF/XML, by rdflib. Nothing is fetched: the text is at hand, and no document type is allowed in it."""
+"""All of RDF/XML, by rdflib. Nothing is fetched: the text is in memory, and must not have a document type."""
 
 from __future__ import annotations
 
@@ -45,13 +45,13 @@ class _Tree:
         self._reached: Set[Any] = set()
 
     def statements(self) -> Statements:
-        """The statements about the picture, which may have no name, an empty one, or one for all."""
+        """The statements about the picture, which may have no name, an empty one, or one name everywhere."""
         names = {str(it).rstrip("/#") for it in self._tops if isinstance(it, self._rdflib.URIRef)}
         if len(names - {_BASE, ""}) > 1:
             raise Unreadable("SeveralSubjects")
         found = tuple(self._statement(*it) for top in self._tops for it in self._said[top])
         if len(self._reached) + len(self._tops) < len(self._said):
-            raise Unreadable("Shared")  # a ring that nothing leads to
+            raise Unreadable("Shared")  # a ring that no statement points to
         return found
 
     def _statement(self, predicate: Any, value: Any) -> Statement:

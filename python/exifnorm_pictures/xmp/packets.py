@@ -1,4 +1,4 @@
-"""The element rdf:RDF of a packet, after a look for what a packet must not have."""
+"""The element rdf:RDF of a packet, after a check for parts that a packet must not have."""
 
 from __future__ import annotations
 
@@ -10,7 +10,7 @@ from .tree import RDF
 
 LONGEST = 16 << 20  # bytes
 MOST_TAGS = 500_000
-DEEPEST = 100  # elements in one another
+DEEPEST = 100  # nested elements
 
 CAUSES = {
     "TooLong": f"The packet has more than {LONGEST:,} bytes or more than {MOST_TAGS:,} tags.",
@@ -75,7 +75,7 @@ def rdf_of(packet: bytes) -> ElementTree.Element:
 
 
 def _text(packet: bytes) -> str:
-    """The text of a packet without what is around its XML."""
+    """The text of a packet without the bytes around its XML."""
     mark, encoding = next((it for it in _MARKS if packet.startswith(it[0])), (b"", "utf-8"))
     try:
         text = packet.decode(encoding).lstrip("\ufeff").strip("\0 \t\r\n")

@@ -1,4 +1,4 @@
-"""The usual forms of RDF/XML, as XMP writers use them (XMP part 1, 7). What is not usual is left to rdflib."""
+"""The usual forms of RDF/XML, as XMP writers use them (XMP part 1, 7). rdflib reads the others."""
 
 from __future__ import annotations
 
@@ -16,7 +16,7 @@ _LANG = _XML + "lang"
 _ABOUT, _RESOURCE, _PARSE_TYPE, _LI = _R + "about", _R + "resource", _R + "parseType", _R + "li"
 _DESCRIPTION = _R + "Description"
 _NODES = (_DESCRIPTION, _R + "Bag", _R + "Seq", _R + "Alt")
-_PLAIN = re.compile(re.escape(_R) + r"(?:value|type)\Z")  # words of RDF that are properties as all others
+_PLAIN = re.compile(re.escape(_R) + r"(?:value|type)\Z")  # names of RDF that are ordinary properties
 _NOT_IN_URI = re.compile(r"[\s<>\"{|\\^`]")
 _ABSOLUTE = re.compile(r"[A-Za-z][A-Za-z0-9+.-]*:[^\s<>\"{}|\\^`]*\Z")
 
@@ -25,7 +25,7 @@ _LANGUAGE = re.compile(r"(?:[A-Za-z]{1,8}(?:-[A-Za-z0-9]{1,8})*)?\Z")
 
 
 class Unusual(Exception):
-    """A form that is left to rdflib."""
+    """A form that rdflib has to read."""
 
 
 def statements(root: Element) -> Statements:
@@ -68,7 +68,7 @@ def _uri(name: str) -> str:
 
 
 def _node(node: Element, language: str) -> List[Statement]:
-    """What a node element says: by its type, its attributes, and its property elements."""
+    """The statements of a node element: its type, its attributes, and its property elements."""
     if node.tag not in _NODES or _says(node.text):
         raise Unusual
     language = _language(node, language)

@@ -13,7 +13,7 @@ NOTE = "http://ns.adobe.com/xmp/note/HasExtendedXMP"
 
 
 def statements(packet: bytes, extensions: Mapping[str, bytes], used: Set[str]) -> Statements:
-    """What a packet says; `extensions` has the extended XMP of its picture by its names, and those it names go to `used`.
+    """The statements of a packet; `extensions` has the extended XMP of its picture by digest, and the digests in use go to `used`.
 
     Raises `Unreadable`.
 
@@ -45,10 +45,10 @@ def _parsed(packet: bytes) -> Statements:
 
 
 def _named(found: Statements) -> Tuple[str, ...]:
-    """The names of the extended XMP that some statements ask for."""
+    """The digests of the extended XMP that some statements refer to."""
     return tuple(dict.fromkeys(it.value.text.upper() for it in found if it.predicate == NOTE and isinstance(it.value, Literal)))
 
 
 def digest(found: Statements) -> str:
-    """SHA-256 of what some statements say, in any order."""
+    """SHA-256 of some statements, in any order."""
     return digest_of(found)

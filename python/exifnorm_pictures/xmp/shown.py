@@ -1,4 +1,4 @@
-"""XMP properties as fields that people can read, that a catalogue keeps, and that can be compared."""
+"""XMP properties as fields that people can read, a catalogue can keep, and programs can compare."""
 
 from __future__ import annotations
 
@@ -39,7 +39,7 @@ def _shortened(value: Value) -> str:
 
 
 def _form(value: Value) -> Tuple[str, int]:
-    """A word for the form of a value, and how many members it has."""
+    """A word for the form of a value, and the number of its members."""
     if isinstance(value, Node):
         said = unique(value.statements)
         members = sum(MEMBER.match(it.predicate) is not None for it in said)
@@ -56,7 +56,7 @@ def _shown(value: Value) -> str:
     said = unique(value.statements)
     word = value.container
     members = [it for it in said if word and MEMBER.match(it.predicate)]
-    if word and len(members) + 1 == len(said):  # nothing else than its type
+    if word and len(members) + 1 == len(said):  # nothing but its type
         members.sort(key=lambda it: key_of(it.value) if word == "Bag" else f"{len(it.predicate):09}{it.predicate}")
         return f"{word}[" + ", ".join(_shown(it.value) for it in members) + "]"
     return "{" + ", ".join(sorted(f"{escaped(short_name(it.predicate))}={_shown(it.value)}" for it in said)) + "}"

@@ -1,4 +1,4 @@
-"""The statements of a packet as a tree: what is said, without how it is written."""
+"""The statements of a packet as a tree, without the form in which they are written."""
 
 from __future__ import annotations
 
@@ -53,7 +53,7 @@ Statements = Tuple[Statement, ...]
 
 
 def key_of(value: Value) -> str:
-    """A text that is equal for two values exactly if they say the same, as far as SHA-256 tells.
+    """A text that is equal for two values exactly if they mean the same; long values are compared by SHA-256.
 
     >>> key_of(Literal("Z", "de")), key_of(Resource("http://x/"))
     ('"2:de0:Z', '<http://x/')
