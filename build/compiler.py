@@ -16,33 +16,33 @@ from crates import Crates
 
 TARGET = "x86_64-unknown-linux-gnu"
 
-# A command leads a group, by which it is ended with the copies that it makes of itself. A session would be a group too, but the system
-# shares processors among sessions first, whatever gives way in them.
+# A command leads a group, so that it can be ended with the copies of itself that it starts. A session would be a group too, but the
+# system shares processors among sessions first, whatever their priorities inside.
 GROUP = {"process_group": 0} if sys.version_info >= (3, 11) else {"start_new_session": True}
 
 
 def said(*words: str) -> str:
-    """What a command says, in one line."""
+    """The output of a command, in one line."""
     return subprocess.run(words, stdin=subprocess.DEVNULL, stdout=subprocess.PIPE, text=True, check=True).stdout.strip()
 
 
 def version() -> str:
-    """The toolchain's version line; empty where there is no toolchain on the PATH."""
+    """The toolchain's version line; empty without a toolchain on the PATH."""
     return said("rt", "version") if shutil.which("rt") else ""
 
 
 class Compiler:
-    """It proves a crate from nothing, over built libraries, and builds it. Calls may come side by side."""
+    """It proves a crate from nothing, over built libraries, and builds it. Several calls may run at once."""
 
     def __init__(self, crates: Crates, libraries: Path, holds: IO) -> None:
-        """Over the libraries in a folder. Each process holds the open file, until it ends, however this one ends."""
+        """Uses the libraries in a folder. Each process inherits the open file until it ends, however this one ends."""
         self.crates, self.libraries, self.holds = crates, libraries, holds
         self.kit = os.path.dirname(said("rt", "doc"))
         self.running: set[subprocess.Popen] = set()
         self.guard, self.is_stopped = Lock(), False
 
     def stop(self) -> None:
-        """Ends what runs, with the copies that it made of itself; nothing is started any more."""
+        """Ends all running commands with the copies that they started. No command is started afterwards."""
         with self.guard:
             self.is_stopped = True
             for it in self.running:
@@ -63,7 +63,7 @@ class Compiler:
         return status
 
     def words(self, crate: str, made: Path, jobs: int) -> list[str]:
-        """The call that proves and builds a crate: a library for other crates as its statements, which are read sooner than its proofs."""
+        """The call that proves and builds a crate: a library for other crates with its statements, which load faster than its proofs."""
         used = {it: self.libraries if it in self.crates.uses else f"{self.kit}/rlibs" for it in ["std", *self.crates.uses[crate]]}
         words = [f"{self.kit}/bin/rattle", "build", "--crate-name", crate]
         words += ["src/main.rt" if self.crates.is_program(crate) else "src/lib.rt"]
@@ -84,7 +84,7 @@ class Compiler:
         return self.call([*words, str(made), f"{self.kit}/c/libos_c.a", f"{self.kit}/c/liblibc_c.a"], self.crates.top, log)
 
     def build(self, crate: str, made: Path, jobs: int, log: IO, gives_way: bool) -> int:
-        """Proves a crate and builds it as `made`. A call that gives way gets what the others leave of the processors."""
+        """Proves a crate and builds it as `made`. A call with `gives_way` only uses processors that the others leave idle."""
         is_program = self.crates.is_program(crate)
         object_file = made.with_name(f"{crate}.o") if is_program else made
         lower = ["nice", "-n", "19"] * gives_way

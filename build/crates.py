@@ -1,4 +1,4 @@
-"""The crates of the repository: what each uses, in what order they are proved, and what each is made from."""
+"""The crates of the repository: what each uses, the order in which they are proved, and their sources."""
 
 from __future__ import annotations
 
@@ -9,7 +9,7 @@ from pathlib import Path
 
 
 def uses_of(text: str) -> dict[str, list[str]]:
-    """What each crate of a crates.txt uses.
+    """The crates that each crate of a crates.txt uses.
 
     >>> uses_of("low: byteorder # a comment\\nhigh staticlib: low\\n")
     {'low': ['byteorder'], 'high': ['low']}
@@ -29,7 +29,7 @@ def archives_of(text: str) -> set[str]:
 
 
 def below(crate: str, uses: dict[str, list[str]]) -> list[str]:
-    """The repository's crates that a crate stands on, each after those that it uses itself.
+    """The repository's crates below a crate, each after those that it uses itself.
 
     >>> below("c", {"c": ["b", "a", "clap"], "b": ["a"], "a": []})
     ['a', 'b']
@@ -42,7 +42,7 @@ def below(crate: str, uses: dict[str, list[str]]) -> list[str]:
 
 
 def chains(crate: str, uses: dict[str, list[str]]) -> dict[str, int]:
-    """How many crates wait for each, one after the other, at most: the more, the sooner it is proved.
+    """The length of the longest chain of crates above each: the longer, the sooner it is proved.
 
     >>> chains("d", {"d": ["c", "late"], "c": ["b"], "b": ["a"], "late": ["a"], "a": []})
     {'d': 0, 'a': 3, 'b': 2, 'c': 1, 'late': 1}
@@ -57,7 +57,7 @@ def chains(crate: str, uses: dict[str, list[str]]) -> dict[str, int]:
 
 @dataclass(frozen=True)
 class Crates:
-    """The crates in a folder, as its crates.txt names them."""
+    """The crates in a folder, as listed in its crates.txt."""
 
     top: Path
     uses: dict[str, list[str]]
@@ -79,13 +79,13 @@ class Crates:
         return (self.folder(crate) / "src" / "main.rt").exists()
 
     def product(self, crate: str) -> str:
-        """The name of what is built of a crate: a program, a static library, or a library for other crates."""
+        """The name of a crate's product: a program, a static library, or a library for other crates."""
         if self.is_program(crate):
             return crate
         return f"lib{crate}.a" if crate in self.archives else f"{crate}.rlib"
 
     def sources(self, crate: str) -> list[Path]:
-        """The files and folders that a crate is made from. Links are refused, as `rt ci` does: a change behind one would go unnoticed."""
+        """The source files and folders of a crate. Links are refused, as by `rt ci`: a change of their target would not be seen."""
         parts = [self.folder(crate) / part for part in ("src", "specs", "proofs")]
         found = sorted(it for part in parts if os.path.lexists(part) for it in [part, *part.rglob("*")])
         for it in found:
@@ -94,7 +94,7 @@ class Crates:
         return found
 
     def sum(self, crate: str) -> str:
-        """A sum of what the crate uses and of its sources, with their names."""
+        """A sum of the names of the crates that it uses and of its sources, with their names."""
         found = hashlib.sha256(repr((self.uses[crate], crate in self.archives)).encode())
         for it in self.sources(crate):
             if it.is_file():

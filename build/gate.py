@@ -1,12 +1,12 @@
 #!/usr/bin/env python3
-"""What `rt ci` has just proved, which ./test takes in place of a second proof of the same.
+"""Uses the results of `rt ci` in ./test, so that nothing is proved twice.
 
-  build/gate.py       prints the sums of all that `rt ci` is about to read
+  build/gate.py       prints the sums of all that `rt ci` will read
 
-`rt ci` leaves the libraries that it proved without the stamp that other commands of `rt` leave, and it does not build archives.
-./test writes these sums before it calls `rt ci`, and keeps them as out/proved-since where that proved all; EXIFNORM_PROVED, a full
-name, then names the program that was proved. Both are taken only where the sums are still the same, and where the system noted no
-change of a source since: an edit that was taken back while `rt ci` read the sources counts as one.
+`rt ci` doesn't stamp the libraries that it proves, as other commands of `rt` do, and it builds no archives. ./test writes these sums
+before it calls `rt ci`, and keeps them as out/proved-since if everything was proved; EXIFNORM_PROVED, a full name, is then the program
+that was proved. Both are used only if the sums are still the same, and if the system noted no change of a source since: an edit
+that was undone while `rt ci` read the sources counts as a change.
 """
 
 from __future__ import annotations
@@ -25,24 +25,24 @@ from verdict import starts
 
 
 def sums(crates: Crates) -> str:
-    """The toolchain, the scripts that prove, and each crate, a line each with its sum."""
+    """The toolchain, the scripts that prove, and each crate, each in a line with its sum."""
     lines = [f"toolchain {compiler.version()}", f"scripts {scripts_sum()}"]
     return "".join(f"{it}\n" for it in [*lines, *(f"{name} {crates.sum(name)}" for name in crates.uses)])
 
 
 def library(crates: Crates, crate: str) -> Path:
-    """Where `rt` keeps the library of a crate."""
+    """The path at which `rt` keeps the library of a crate."""
     return crates.folder(crate) / "out" / "rlib" / f"{crate}.rlib"
 
 
 def is_of_the_gate(built: Path, mark: int) -> bool:
-    """Whether `rt ci` has built a library since the mark: those of other commands bear a stamp."""
+    """Whether `rt ci` has built a library since the mark: those of other commands have a stamp."""
     files = [it for it in built.rglob("*") if it.is_file()]
     return bool(files) and all(it.stat().st_mtime_ns > mark for it in files) and not (built.parent / "stamp").exists()
 
 
 def is_proved(crates: Crates, crate: str) -> bool:
-    """Whether `rt ci` has proved what a crate stands on from the sources as they are: none was changed since the mark."""
+    """Whether `rt ci` has proved all crates below a crate from the current sources: none was changed since the mark."""
     names = below(crate, crates.uses)
     sources = [crates.top / "crates.txt", Path(shutil.which("rt") or "rt")]
     for it in [*names, crate]:
@@ -69,7 +69,7 @@ def proved_program(crates: Crates) -> Path | None:
 
 
 def take(crates: Crates, crate: str, store: Store) -> bool:
-    """Takes what is unbuilt of a crate into the store, where ./test asks for it and `rt ci` has just proved it."""
+    """Copies the missing products of a crate into the store, if ./test requests it and `rt ci` has just proved them."""
     if not os.path.isabs(os.environ.get("EXIFNORM_PROVED", "")) or not is_proved(crates, crate):
         return False
     has_taken = False

@@ -1,10 +1,10 @@
 #!/usr/bin/env python3
-"""Builds the program if a source has changed, and runs it: what ./exifnorm calls where its quick look finds a change.
+"""Builds the program if a source has changed, and runs it. ./exifnorm calls it if its quick check finds a change.
 
   build/launch.py [WORD ..]
 
-It takes the place of the launcher's process and the program then takes its, with the same arguments and standard streams. Nothing is
-written to standard output before that. Where the program cannot be built the status is 70, which the program never ends with.
+It replaces the launcher's process, and the program then replaces it, with the same arguments and standard streams. It writes nothing
+to standard output. If the program cannot be built the status is 70, which the program never returns.
 """
 
 import contextlib
@@ -22,25 +22,25 @@ MAIN, NOT_BUILT = "px_cli", 70
 TOP = Path(__file__).resolve().parent.parent
 PROGRAM = TOP / "out" / "exifnorm"
 SECOND = 10**9
-# Names of files are bytes, which this keeps.
+# Names of files are bytes; this keeps them unchanged.
 TEXT = {"encoding": "utf-8", "errors": "surrogateescape"}
 
 
 def keep_streams_apart() -> None:
-    """Has no file that is opened here take the number of a standard stream that the caller closed. It stays closed for the program."""
+    """Prevents files that are opened here from getting the number of a closed standard stream. It stays closed for the program."""
     while os.open(os.devnull, os.O_RDWR) < 3:
         pass
 
 
 def listing() -> str:
-    """What the launcher's quick look sees: a line for each source, for the program and for the toolchain's command."""
+    """The data of the launcher's quick check: a line for each source, for the program and for the toolchain's command."""
     return subprocess.run(
         ["sh", TOP / "build" / "listing.sh"], stdin=subprocess.DEVNULL, stdout=subprocess.PIPE, check=False, **TEXT
     ).stdout
 
 
 def is_fresh(line: str) -> bool:
-    """Whether a file was changed so lately that a further edit might bear the same time. What is in out/ only builds write."""
+    """Whether a file was changed so recently that a further edit might have the same time. Only builds write in out/."""
     name, _, changed = line.rpartition(" ")
     try:
         return not name.startswith("out/") and abs(time.time_ns() - float(changed) * SECOND) < SECOND
@@ -49,18 +49,18 @@ def is_fresh(line: str) -> bool:
 
 
 def note(seen: str) -> None:
-    """Notes what a quick look saw while the program was up to date: where the next one sees the same, nothing was changed."""
+    """Keeps the data of a quick check while the program was up to date: if the next one is the same, nothing was changed."""
     aside = TOP / "out" / f"looked.{os.getpid()}"
     try:
         if seen and not any(map(is_fresh, seen.splitlines())):
             aside.write_text(seen, **TEXT)
             os.replace(aside, TOP / "out" / "looked")
     except OSError:
-        aside.unlink(missing_ok=True)  # a folder that may not be written, or a full disk: the next call looks again
+        aside.unlink(missing_ok=True)  # a read-only folder or a full disk: the next call checks again
 
 
 def place() -> bool:
-    """Has the program's name, out/exifnorm, lead to what was built. Returns whether it did so before."""
+    """Makes out/exifnorm a link to the built program. Returns whether it was one before."""
     target = f"proved/{MAIN}"
     if PROGRAM.is_symlink() and os.readlink(PROGRAM) == target:
         return True
@@ -71,7 +71,7 @@ def place() -> bool:
 
 
 def build() -> None:
-    """Builds the program where it is not up to date. Where this returns, it is."""
+    """Builds the program if it is not up to date. If this returns, it is."""
     import prove
     from crates import Crates
 
@@ -94,7 +94,7 @@ def build() -> None:
 
 
 def run(words: list) -> None:
-    """Runs the program in the place of this process, with the signals that Python ignores as they were."""
+    """Replaces this process by the program, with the signals that Python ignores as they were."""
     if words == ["--where"]:
         os.write(1, os.fsencode(f"{PROGRAM}\n"))
         return
@@ -104,7 +104,7 @@ def run(words: list) -> None:
 
 
 def say_why(why: BaseException) -> None:
-    """Says why there is no program: in one line, or with the place in these scripts where the reason is not one of theirs."""
+    """Prints why there is no program: in one line, or with a traceback if the error is not one of these scripts'."""
     is_known = type(why).__name__ == "NotBuilt" or isinstance(why, (OSError, subprocess.SubprocessError))
     with contextlib.suppress(OSError, AttributeError):
         sys.stderr.write(f"exifnorm: {why}\n" if is_known else traceback.format_exc())

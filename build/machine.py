@@ -1,4 +1,4 @@
-"""What this machine has free: processors, and memory."""
+"""The free processors and memory of this machine."""
 
 from __future__ import annotations
 
@@ -13,6 +13,6 @@ def processors() -> int:
 
 
 def free_memory(file: Path = Path("/proc/meminfo")) -> int:
-    """How many bytes can be allocated without swapping; 0 where the system does not say."""
+    """How many bytes can be allocated without swapping; 0 if the system doesn't report it."""
     found = re.search(r"^MemAvailable:\s+(\d+) kB$", file.read_text(encoding="ascii"), re.M)
     return int(found[1]) * 1024 if found else 0

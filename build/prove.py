@@ -1,17 +1,17 @@
 #!/usr/bin/env python3
-"""Proves a crate with all that it stands on, and builds its program or its static library.
+"""Proves a crate with all crates below it, and builds its program or its static library.
 
   build/prove.py CRATE
 
-What is built is in out/proved/, each library, program and archive with a note of what it was made from; what is up to date by
-build/store.py is left as it is. Else the crate is proved from nothing, as soon as what it stands on is proved, beside others where
-there are processors and memory for them. Standard error says how far it is, and out/build-NAME.log what the compiler said of a crate.
-The status is 0 where all is proved and built, and else 1.
+The products are in out/proved/, each library, program and archive with a note of its sources. A product that is up to date by
+build/store.py is kept. Otherwise the crate is proved from nothing, as soon as the crates below it are proved, beside others if there
+are processors and memory for them. Standard error shows the progress, and out/build-NAME.log the compiler's output for a crate. The
+status is 0 if everything is proved and built, otherwise 1.
 
-A crate counts as proved where the compiler says so and its verdict names nothing that the proof leaves out, such as functions that may
-never return, and where it finds no contract that no call can meet; and HANDLES must be as it is. `rt ci` judges more, and decides what
-lands: the layout of the files, what the sources may not name, impls that macros write, terms that a tactic chose, which functions of
-the system the linked program calls, the tests, and the wrong bodies that must be refused.
+A crate counts as proved if the compiler reports so and its verdict names nothing that the proof leaves out, such as functions that
+may never return, and if it finds no contract that no call can meet; and HANDLES must be unchanged. `rt ci` checks more, and decides
+what is merged: the layout of the files, names that sources must not use, impls that macros write, terms that a tactic chose, functions
+of the system that the linked program calls, the tests, and the wrong bodies that must be refused.
 """
 
 from __future__ import annotations
@@ -34,7 +34,7 @@ from crates import Crates, below, chains
 from store import Store, remove
 from verdict import refused_handles, refused_verdict, starts
 
-# More than the proof of one crate was seen to take, in bytes.
+# More than the proof of one crate has ever taken, in bytes.
 MEMORY = 3 << 30
 SIDE_BY_SIDE, JOBS = 3, 4
 
@@ -46,14 +46,14 @@ class NotBuilt(Exception):
 
 
 def say(what: str) -> None:
-    """Writes a line to standard error. A build does not end where nobody can read it."""
+    """Writes a line to standard error. A build doesn't end if nobody can read it."""
     with contextlib.suppress(OSError, AttributeError):  # a full disk, a closed pipe; closed from the start
         sys.stderr.write(f"exifnorm: {what}\n")
         sys.stderr.flush()
 
 
 def places() -> int:
-    """How many crates are proved side by side: as many as there are processors and free memory for."""
+    """How many crates are proved at once: as many as there are processors and free memory for."""
     return max(1, min(SIDE_BY_SIDE, machine.processors(), machine.free_memory() // MEMORY))
 
 
@@ -68,7 +68,7 @@ class Build:
         self.running: dict[Future, str] = {}
 
     def prove(self, crate: str, gives_way: bool) -> None:
-        """Proves a crate and puts what is built of it in its place."""
+        """Proves a crate and moves its product to its path."""
         expected, made = self.store.expected(crate), self.store.making / self.crates.product(crate)
         log = self.crates.top / "out" / f"build-{crate}.log"
         with open(log, "w", encoding="utf-8") as it:
@@ -83,7 +83,7 @@ class Build:
         self.store.put(crate, made, expected)
 
     def ready(self) -> list[str]:
-        """The crates that wait for no other, first those for which the most wait."""
+        """The crates that can be proved now, first those with the longest chain above them."""
         unproved = {*self.left, *self.running.values()}
         return [it for it in self.left if not unproved & {*below(it, self.crates.uses)}]
 
@@ -94,7 +94,7 @@ class Build:
         self.running[pool.submit(self.prove, crate, self.chains[crate] < longest)] = crate
 
     def run(self) -> None:
-        """Proves all that is left. The first crate that fails ends the others."""
+        """Proves all crates that are left. The first one that fails ends the others."""
         with ThreadPoolExecutor(SIDE_BY_SIDE) as pool:
             try:
                 while self.left or self.running:
@@ -115,14 +115,14 @@ def stop(*_) -> None:
 
 
 def listen() -> None:
-    """Has signals stop the build, but for those that the caller has this process ignore, as nohup does."""
+    """Lets signals stop the build, except those that the caller makes this process ignore, as nohup does."""
     for it in STOPS:
         if signal.getsignal(it) != signal.SIG_IGN:
             signal.signal(it, stop)
 
 
 def take_lock(lock: IO) -> None:
-    """Waits until no other build works here, nor a compiler that one left behind. The system frees a lock whose process has ended."""
+    """Blocks until no other build runs here, nor a compiler that one left. The system frees a lock whose process has ended."""
     try:
         fcntl.flock(lock, fcntl.LOCK_EX | fcntl.LOCK_NB)
     except BlockingIOError:
@@ -131,14 +131,14 @@ def take_lock(lock: IO) -> None:
 
 
 def open_store(crates: Crates) -> Store:
-    """What was built of these crates, and the rule of what is up to date."""
+    """The products of these crates, and the rule of what is up to date."""
     if why := refused_handles(crates.top):
         raise NotBuilt(why)
     return Store(crates, version(), crates.top / "out" / "proved")
 
 
 def build(crate: str, store: Store) -> None:
-    """Proves a crate with what it stands on, as far as that is not built, and builds it."""
+    """Proves a crate with those below it, unless they are built, and builds it."""
     crates = store.crates
     if store.is_current(crate):
         return

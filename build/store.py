@@ -1,4 +1,4 @@
-"""What was built, in out/proved/: each library, program and archive, with a note of what it was made from."""
+"""The products in out/proved/: each library, program and archive, with a note of its sources."""
 
 from __future__ import annotations
 
@@ -14,7 +14,7 @@ HERE = Path(__file__).resolve().parent
 
 
 def remove(path: Path) -> None:
-    """Removes a file, or a folder with all that it holds, where there is one."""
+    """Removes a file, or a folder with its content, if it exists."""
     if path.is_dir() and not path.is_symlink():
         shutil.rmtree(path)
     elif os.path.lexists(path):
@@ -22,21 +22,21 @@ def remove(path: Path) -> None:
 
 
 def scripts_sum() -> str:
-    """A sum of the scripts that say how a crate is proved, and what counts as proved."""
+    """A sum of the scripts that define how a crate is proved, and what counts as proved."""
     return hashlib.sha256(b"".join((HERE / it).read_bytes() for it in ("compiler.py", "verdict.py"))).hexdigest()
 
 
 class Store:
-    """The one rule of what is up to date: each product in a folder has a note of what it was made from.
+    """The one rule of what is up to date: each product in a folder has a note of its sources.
 
-    A crate is built where its note has the sum of what it would be made from now: the toolchain, the scripts that prove, its sources
-    with their names, and the notes of the libraries below it. Each note has the time of its build, so a crate is good over the very
-    libraries that it was built over. Contents decide, and never the times of files: a copied, moved or touched folder is not built
+    A crate is up to date if its note has the sum of its current inputs: the toolchain, the scripts that prove, its sources with their
+    names, and the notes of the libraries below it. Each note has the time of its build, so a crate is only valid over the very
+    libraries that it was built over. Contents decide, never the times of files: a copied, moved or touched folder is not built
     again, whatever the clock shows.
     """
 
     def __init__(self, crates: Crates, version: str, folder: Path) -> None:
-        """Without a version, which is without a toolchain, nothing can be built, and what was built by any toolchain is taken."""
+        """Without a version, which means without a toolchain, nothing can be built, and products of any toolchain are used."""
         self.crates, self.version, self.folder = crates, version, folder
         self.making = folder / "making"
 
@@ -47,14 +47,14 @@ class Store:
         return self.folder / f"{crate}.made-from"
 
     def noted(self, crate: str) -> str:
-        """The note of a crate: the sum, the time, and the toolchain; nothing where there is none."""
+        """The note of a crate: the sum, the time, and the toolchain; None if there is none."""
         try:
             return self.note(crate).read_text(encoding="utf-8")
         except (FileNotFoundError, UnicodeDecodeError):
             return ""
 
     def expected(self, crate: str) -> str:
-        """The sum of what the crate would be made from now."""
+        """The sum of the crate's current inputs."""
         version = self.version or "".join(self.noted(crate).splitlines()[2:3])
         notes = [self.noted(it) for it in self.crates.own(crate)]
         return hashlib.sha256(repr((version, scripts_sum(), self.crates.sum(crate), notes)).encode()).hexdigest()
@@ -63,15 +63,15 @@ class Store:
         return self.noted(crate).partition("\n")[0] == self.expected(crate)
 
     def is_built(self, crate: str) -> bool:
-        """Whether a crate can be taken as it is, to build another over it."""
+        """Whether a crate can be used as it is, to build another over it."""
         return self.product(crate).exists() and self.is_noted(crate)
 
     def is_current(self, crate: str) -> bool:
-        """Whether a crate is built from the sources as they are, with all that it stands on: of that the notes are enough."""
+        """Whether a crate is built from the current sources, with all crates below it. The notes are enough to decide it."""
         return self.is_built(crate) and all(map(self.is_noted, below(crate, self.crates.uses)))
 
     def unbuilt(self, crate: str) -> list[str]:
-        """What has to be built for a crate to be current: each after those that it uses."""
+        """The crates to build so that a crate is current: each after those that it uses."""
         found: list[str] = []
         for it in [] if self.is_current(crate) else [*below(crate, self.crates.uses), crate]:
             if {*self.crates.own(it)} & {*found} or not self.is_built(it):
@@ -79,14 +79,14 @@ class Store:
         return found
 
     def clear(self) -> None:
-        """Begins a build: removes what an interrupted one left."""
+        """Begins a build: removes the files of an interrupted one."""
         remove(self.making)
         self.making.mkdir()
 
     def put(self, crate: str, made: Path, expected: str) -> None:
-        """Puts what was made in its place, and then its note, so that one is never beside another's note.
+        """Moves a product to its path, and then its note, so that no product is ever beside another's note.
 
-        Where the sources were changed meanwhile, no note says what it was made from, and the crate counts as not built.
+        If the sources were changed meanwhile, no note matches the product, and the crate counts as not built.
         """
         remove(self.note(crate))
         if self.product(crate).is_dir():

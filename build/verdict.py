@@ -1,6 +1,6 @@
-"""What counts as proved: what the compiler says of a crate, and what the repository allows its crates.
+"""The rule for what counts as proved: the compiler's verdict on a crate, and the permissions of the repository's crates.
 
-`rt ci` judges more, from the sources and from the linked program; build/prove.py says what is left to it.
+`rt ci` checks more, from the sources and from the linked program; build/prove.py lists what it leaves to it.
 """
 
 from __future__ import annotations
@@ -12,8 +12,8 @@ from pathlib import Path
 # The one line of HANDLES: no crate may end the process, wait, start threads or programs, or open sockets.
 HANDLES = "Handles allowed: none.\n"
 
-# What the compiler's verdict may say besides `logic=proved`. Any other word may name what the proof leaves out: `may-wait=1` counts
-# functions that need not return, `hides=1` contracts that may say nothing, `bugs=1` parts that were not checked.
+# The words that the compiler's verdict may have besides `logic=proved`. Any other word may mean that the proof leaves something out:
+# `may-wait=1` counts functions that need not return, `hides=1` contracts that may state nothing, `bugs=1` parts that were not checked.
 WORDS = {"functions", "axioms", "target", "cpu", "sum", "native", "logic-built", "libraries-built", "statements"}
 
 # Contracts that no call can meet, so that any body proves them; or the search for these did not end.
@@ -21,7 +21,7 @@ EMPTY = re.compile(r"^(?:warning: no call of `(?![^`]*::fn::)|note: the search f
 
 
 def refused_handles(top: Path) -> str:
-    """Why the file HANDLES is refused; nothing where it is as it must be."""
+    """Why the file HANDLES is refused; empty if it is unchanged."""
     try:
         text = (top / "HANDLES").read_bytes()
     except OSError as why:
@@ -30,7 +30,7 @@ def refused_handles(top: Path) -> str:
 
 
 def refused_verdict(said: str) -> str:
-    """Why a crate does not count as proved, from what the compiler said of it; nothing where it does.
+    """Why a crate does not count as proved, by the compiler's output; empty if it does.
 
     >>> refused_verdict("logic=proved functions=2 sum=1f\\n")
     ''
@@ -53,7 +53,7 @@ def refused_verdict(said: str) -> str:
 
 
 def starts(program: Path) -> bool:
-    """Whether a program that was built starts here, and ends well."""
+    """Whether a program that was built starts here, and ends with success."""
     quiet = {"stdin": subprocess.DEVNULL, "stdout": subprocess.DEVNULL, "stderr": subprocess.DEVNULL, "timeout": 60}
     try:
         return subprocess.run([program, "--version"], check=False, **quiet).returncode == 0

@@ -1,10 +1,10 @@
 #!/usr/bin/env python3
-"""Prints the script exifnorm-pictures for the Python that runs this file, or for what INTERPRETER says, as '/usr/bin/env python3'.
+"""Prints the script exifnorm-pictures for the Python that runs this file, or for INTERPRETER, such as '/usr/bin/env python3'.
 
   PYTHON packaging/command.py BINDIR PYTHONDIR [INTERPRETER]
 
-The script finds the packages by the way from its own folder to theirs, so that it also runs from a staged installation, and from
-a prefix in which that Python looks for no packages.
+The script finds the packages by a path relative to its own folder, so that it also runs from a staged installation, and from a
+prefix in which that Python looks for no packages.
 """
 
 import os
@@ -27,8 +27,8 @@ sys.exit(main())
 
 
 def first_lines(python):
-    """What starts a script with a Python: a line for the system, or where that can't hold the name, lines for the shell, which are a
-    text to Python.
+    """The start of a script that runs with a Python: a line for the system, or, if that would be too long, lines for the shell, which
+    are a text to Python.
 
     >>> first_lines("/usr/bin/python3")
     '#!/usr/bin/python3\\n'

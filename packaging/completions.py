@@ -1,5 +1,5 @@
 #!/usr/bin/env python3
-"""Writes the completion of a program for bash, zsh and fish, from what its --help says.
+"""Writes the completion of a program for bash, zsh and fish, from its --help.
 
   packaging/completions.py PROGRAM BASHDIR ZSHDIR FISHDIR
 """
@@ -75,7 +75,7 @@ def names_of(options: list[Option]) -> list[str]:
 
 
 def bash_value(command: Command, option: Option) -> str:
-    """The value of an option that takes one."""
+    """The value of an option, if it takes one."""
     names = " | ".join(f"{command.name}:{it}" for it in option.names)
     if option.choices:
         wanted = f"compgen -W '{' '.join(option.choices)}' -- \"$word\""
@@ -112,7 +112,7 @@ def zsh_option(option: Option) -> str:
 
 
 def zsh_command(command: Command) -> str:
-    """The words of a command."""
+    """The arguments of a command."""
     operands = ["'*:file:_files'"] if command.operands == MANY else [f"'{i + 1}:file:_files'" for i in range(command.operands)]
     return f"    {command.name}) _arguments {' '.join([*map(zsh_option, command.options), *operands])} ;;"
 

@@ -1,5 +1,5 @@
 #!/usr/bin/env python3
-"""Lists what the program and the libraries are linked from, as an SPDX document, and copies the licences of these crates.
+"""Lists the crates that the program and the libraries are linked from, as an SPDX document, and copies their licences.
 
   packaging/components.py VERSION SECONDS KIT LIST LICENCES
 
@@ -36,7 +36,7 @@ class Crate:
 
 
 def uses(lines: str) -> dict[str, list[str]]:
-    """What each crate of crates.txt uses.
+    """The crates that each crate of crates.txt uses.
 
     >>> uses("a: b c\\nd staticlib: a  # more\\n")
     {'a': ['b', 'c'], 'd': ['a']}
@@ -46,7 +46,7 @@ def uses(lines: str) -> dict[str, list[str]]:
 
 
 def below(names: tuple[str, ...], table: dict[str, list[str]]) -> set[str]:
-    """Everything that crates use, over any number of steps."""
+    """All crates that some crates use, over any number of steps."""
     found: set[str] = set()
     left = list(names)
     while left:
@@ -63,7 +63,7 @@ def kit_crates(kit: Path, names: set[str]) -> set[str]:
 
 
 def licence_of(files: list[Path]) -> str:
-    """The licence that files of these names and words give, as SPDX writes it."""
+    """The licence of files with these names and words, as SPDX writes it."""
     names = {it.name for it in files}
     if {"LICENSE-APACHE", "LICENSE-MIT"} <= names:
         return "Apache-2.0 OR MIT"
@@ -73,7 +73,7 @@ def licence_of(files: list[Path]) -> str:
 
 
 def crate_of(kit: Path, name: str) -> Crate:
-    """What the toolchain says of a crate."""
+    """The toolchain's description of a crate."""
     folder = kit / "rattle" / name
     page = folder / "README.md"
     said = page.read_text(encoding="utf-8") if page.exists() else ""

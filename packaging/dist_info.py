@@ -1,10 +1,10 @@
 #!/usr/bin/env python3
-"""Writes the dist-info folder of the Python packages, by which importlib.metadata and pip know what is installed.
+"""Writes the dist-info folder of the Python packages, which importlib.metadata and pip read.
 
   packaging/dist_info.py PROJECT FOLDER
 
-PROJECT is the folder of pyproject.toml, FOLDER the one that the packages are installed in. There is no RECORD, as of packages that a
-distribution installs: pip lists the packages and leaves their removal to what installed them.
+PROJECT is the folder of pyproject.toml, FOLDER the one that the packages are installed in. There is no RECORD, as usual for packages
+from a distribution: pip lists the packages and leaves their removal to the program that installed them.
 """
 
 from __future__ import annotations

@@ -1,4 +1,4 @@
-"""What a program takes on its command line, read from its own --help and that of each of its commands."""
+"""The command line of a program, read from its own --help and that of each of its commands."""
 
 from __future__ import annotations
 
@@ -18,7 +18,7 @@ NO_FILES = ("N", "TEXT", "TITLE")  # values that are no file names
 
 @dataclass
 class Option:
-    """An option: its names, what its value is called where it has one, and its text."""
+    """An option: its names, the name of its value if it takes one, and its text."""
 
     names: list[str]
     value: str
@@ -26,7 +26,7 @@ class Option:
 
     @property
     def choices(self) -> list[str]:
-        """The values that an option takes, where its help lists them: {both,exif} are both and exif."""
+        """The possible values of an option, if its help lists them: {both,exif} are both and exif."""
         return self.value[1:-1].split(",") if self.value.startswith("{") else []
 
     @property
@@ -36,7 +36,7 @@ class Option:
 
 @dataclass
 class Command:
-    """A command: its name and text, its options, and how many operands it takes."""
+    """A command: its name and text, its options, and the number of its operands."""
 
     name: str
     text: str
@@ -54,7 +54,7 @@ class Program:
 
 
 def help_of(program: str, *words: str) -> str:
-    """What a program prints for --help."""
+    """The output of a program for --help."""
     surroundings = {**os.environ, "COLUMNS": WIDE, "LC_ALL": "C.UTF-8", "PYTHONDONTWRITEBYTECODE": "1"}
     return subprocess.run([program, *words, "--help"], env=surroundings, stdout=subprocess.PIPE, check=True, encoding="utf-8").stdout
 
@@ -86,7 +86,7 @@ def options_of(text: str) -> Iterator[Option]:
 
 
 def operands_of(text: str) -> int:
-    """How many operands a command takes. Where options may stand between them they aren't counted."""
+    """The number of a command's operands, not counted if options may come between them."""
     lines = section(text, OPERANDS)
     if not lines:
         return 0
@@ -96,7 +96,7 @@ def operands_of(text: str) -> int:
 
 
 def commands_of(program: str, text: str) -> Iterator[Command]:
-    """The commands that a program's help lists, each with its own help."""
+    """The commands in a program's help, each with its own help."""
     for line in section(text, COMMANDS):
         name, _, words = line.strip().partition("  ")
         if re.fullmatch(r"[a-z][a-z-]*", name):

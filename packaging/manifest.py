@@ -1,5 +1,5 @@
 #!/usr/bin/env python3
-"""Installs a staged tree below a root and keeps a list of what it wrote, by which the same files are removed again.
+"""Installs a staged tree below a root and keeps a list of the files, so that the same files can be removed again.
 
   packaging/manifest.py install STAGE ROOT LIST
   packaging/manifest.py uninstall ROOT LIST
@@ -25,7 +25,7 @@ class Failed(Exception):
 
 
 def below(stage: Path) -> Iterator[str]:
-    """The names below a folder: each folder, with a slash at its end, before what it holds.
+    """The names below a folder: each folder, with a slash at its end, before its content.
 
     For a stage with the file usr/bin/exifnorm these are usr/, usr/bin/ and usr/bin/exifnorm.
     """
@@ -42,7 +42,7 @@ def is_folder(name: str) -> bool:
 
 
 def read_list(path: Path) -> list[str]:
-    """The names of a list; none where there is no list."""
+    """The names of a list; none without a list."""
     try:
         text = path.read_text(encoding="utf-8", errors="surrogateescape")
     except FileNotFoundError:
@@ -83,13 +83,13 @@ def make_folders(root: Path, names: Iterable[str]) -> list[str]:
 
 
 def remove_empty(folder: Path) -> None:
-    """Removes a folder if it is there and empty."""
+    """Removes a folder if it exists and is empty."""
     if folder.is_dir() and not folder.is_symlink() and not any(folder.iterdir()):
         folder.rmdir()
 
 
 def remove_compiled(module: Path) -> None:
-    """Removes what Python keeps of a module that was imported, and its folder where that leaves it empty."""
+    """Removes Python's cache of a module, and its folder if that is empty then."""
     kept = list(module.parent.glob(f"__pycache__/{module.stem}.*.pyc"))
     for it in kept:
         it.unlink()
@@ -98,7 +98,7 @@ def remove_compiled(module: Path) -> None:
 
 
 def remove_file(path: Path) -> None:
-    """Removes a file or a link if it is there."""
+    """Removes a file or a link if it exists."""
     if path.suffix == ".py":
         remove_compiled(path)
     if path.is_symlink() or not path.is_dir():
@@ -106,7 +106,7 @@ def remove_file(path: Path) -> None:
 
 
 def remove(root: Path, names: Iterable[str]) -> None:
-    """Removes files, and then the folders that are left empty, the deepest first."""
+    """Removes files, and then the folders that are empty, the deepest first."""
     names = list(names)
     for name in (it for it in names if not is_folder(it)):
         remove_file(root / name)
@@ -137,7 +137,7 @@ def install(stage: Path, root: Path, listed: str) -> None:
 
 
 def uninstall(root: Path, listed: str) -> None:
-    """Removes what the list names, and the list last of the files."""
+    """Removes the files of the list, and the list last."""
     names = read_list(root / listed)
     if not names:
         raise Failed(f"nothing is installed there: there is no list {root / listed}")
