@@ -1,4 +1,4 @@
-"""The bytes that the files of cases spell.
+"""The bytes that the files of cases encode.
 
 A string is the name of a block of cases/blocks.json or of its own file, or hexadecimal digits with spaces wherever they help to read. A list is
 its parts, one after the other. A part is one of these:

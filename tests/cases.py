@@ -1,4 +1,4 @@
-"""Reads the files of cases. cases/README.md says how they are written."""
+"""Reads the files of cases. cases/README.md describes their form."""
 
 import json
 import os
@@ -6,12 +6,12 @@ from dataclasses import dataclass, field
 
 from blocks import Blocks, Misspelled
 
-OLD = b"old"  # what stands in OUT before
+OLD = b"old"  # the content of OUT before a run
 
 
 @dataclass
 class Case:
-    """One run of the program, and what is due."""
+    """One run of the program, and the expected result."""
 
     name: str
     words: list = field(default_factory=list)
@@ -23,13 +23,13 @@ class Case:
     endless: bytes = b""
     output_to: str = ""
     status: int = 0
-    output: object = None  # the bytes that are due, where they are fixed
-    lines: object = None  # the number of lines that are due, where that alone is fixed
-    has: list = field(default_factory=list)  # texts that must stand in the output
-    left: dict = field(default_factory=dict)  # files and the bytes that they hold afterwards
+    output: object = None  # the expected bytes, if they are fixed
+    lines: object = None  # the expected number of lines, if only that is fixed
+    has: list = field(default_factory=list)  # texts that the output must contain
+    left: dict = field(default_factory=dict)  # files and their content afterwards
     absent: list = field(default_factory=list)  # files that must not be there afterwards
     refuses_growths: bool = False
-    holds: object = None  # what is held of what each of its files says, where that is told
+    holds: object = None  # the counts of what a reader keeps of each of its files, if they are given
 
     @property
     def out(self):
@@ -38,14 +38,14 @@ class Case:
         return names[1] if self.words[:1] == ["normalise"] and len(names) == 2 else "OUT"
 
     def is_judged(self):
-        """Whether something besides the status is due. Where a device takes the output, status 4 says by itself what came."""
+        """Whether more than the status is expected. If a device takes the output, status 4 already shows what was written."""
         dues = (self.output, self.lines, self.has or None, self.left or None, self.absent or None)
         return any(it is not None for it in dues) or (self.status == 4 and self.output_to != "")
 
 
 @dataclass
 class Holds:
-    """How much a block says: how many fields, strips, and DataSets of each group."""
+    """The size of a meaning: the numbers of fields, strips, and DataSets of each group."""
 
     fields: int
     strips: int
@@ -59,7 +59,7 @@ class Sweep:
     name: str
     blocks: list
     normal: object = None  # the one normal form of them all, where each must be accepted
-    accepted: object = None  # how many of them say something, where that is told
+    accepted: object = None  # how many of them have a meaning, if that is given
 
 
 def fixed(line):
@@ -115,7 +115,7 @@ def texts(blocks, entry, ways):
 
 
 def runs(blocks, entry, ways):
-    """A run written out: its words, files and streams, and what is due."""
+    """A run in words: its arguments, files and streams, and the expected result."""
     output = None
     if "output" in entry:
         output = blocks.bytes_of(entry["output"])

@@ -6,7 +6,7 @@ NUMBERS = [0, 1, 2, 3, 4, 5, 7, 8, 9, 12, 26, 129, 0x7FFF, 0x8000, 0x8001, 0x800
 
 
 def place(octets, chance):
-    """A place, more often near the front, where tables stand, and seldom in the header and the first count."""
+    """An offset, more often near the start, where tables are, and seldom in the header and the first count."""
     first = 10 if len(octets) > 20 and chance.random() < 0.9 else 0
     return first + int((len(octets) - first) * chance.random() ** 2)
 

@@ -121,7 +121,7 @@ class Counter:
 
 
 def reason(why: BaseException) -> str:
-    """One line on an exception: what it says, and the innermost line that raised it, outside unittest.
+    """One line on an exception: its message, and the innermost line that raised it, outside unittest.
 
     >>> reason(KeyError("a name"))
     "KeyError: 'a name'"

@@ -8,12 +8,15 @@ with the blocks of FILES, and the lines below it, up to the next command, are th
 README are compiled and run in the same folder, and must end with status 0. The last line is 'N passed, N failed'.
 """
 
+import ast
+import io
 import json
 import os
 import re
 import subprocess
 import sys
 import tempfile
+import tokenize
 import unittest
 from pathlib import Path
 
@@ -39,6 +42,12 @@ DOCUMENTS += [f"docs/{name}" for name in sorted(os.listdir(os.path.join(TOP, "do
 DOCUMENTS += sorted(str(it.relative_to(TOP)) for it in Path(TOP).glob("crates/*/*.md"))
 HEADER = "crates/px_c/include/exifnorm.h"
 
+# Old words that comments use in a sense of their own: words of bits, a plan that lays out a block, a process that waits.
+ORDINARY = {"words", "place", "places", "lay", "lays", "laid", "wait", "waits"}
+
+# Sources whose comments still have old words.
+UNREAD = re.compile(r"px_layout/src/|px_bytes/src/(memory|told)|px_tree/src/(strips|rising)|px_iim/src/(survey|read|sorting|places|group)")
+
 
 def text_of(name):
     with open(os.path.join(TOP, name), encoding="utf-8") as it:
@@ -55,6 +64,34 @@ def prose(name):
     text = re.sub(r"^```.*?^```$|`[^`\n]+`", "", text_of(name), flags=re.M | re.S)
     text = "".join(re.findall(r"/\*.*?\*/", text, re.S)) if name == HEADER else text
     return re.sub(r"^\.I place$|\bPLACE\b|^\.B refused words: .*$", "", text, flags=re.M)
+
+
+def old_words():
+    """The words that CONTRIBUTING's table of terms replaces."""
+    table = text_of("CONTRIBUTING.md").partition("| Don't write |")[2]
+    return [it for row in re.findall(r"^\| ([a-z][a-z, ]+) \|", table, re.M) for it in row.split(", ")]
+
+
+def comments_of_rattle(text):
+    """The comments of a Rattle source, without examples and code.
+
+    >>> comments_of_rattle("//! A `told` b.\\n//! ```\\n//! c\\n//! ```\\nfn d() {} // e\\n    /// f")
+    [' A  b.', ' f']
+    """
+    lines = re.findall(r"^ *//[/!]?( .*)$", re.sub(r"^//! ```.*?^//! ```$", "", text, flags=re.M | re.S), re.M)
+    return [re.sub(r"`[^`]*`", "", it) for it in lines]
+
+
+def comments_of_python(text):
+    """The comments and docstrings of a Python source, without examples and code.
+
+    >>> comments_of_python("'A `told` b.'\\nd = 'e'  # f")
+    ['A  b.', '# f']
+    """
+    statements = [it.value for it in ast.walk(ast.parse(text)) if isinstance(it, ast.Expr)]
+    found = [it.value for it in statements if isinstance(it, ast.Constant) and isinstance(it.value, str)]
+    found += [it.string for it in tokenize.generate_tokens(io.StringIO(text).readline) if it.type == tokenize.COMMENT]
+    return [re.sub(r"`[^`]*`|^ *(?:>>>|\.\.\.).*", "", it, flags=re.M) for it in found]
 
 
 def commands(block):
@@ -197,19 +234,29 @@ class Written(unittest.TestCase):
 
     def test_examples(self):
         examples(named)
+        examples(sys.modules[__name__])
 
     def test_the_readme_is_short(self):
         self.assertLessEqual(len(text_of("README.md").split()), 700)
 
     def test_readers_meet_the_terms_of_the_field(self):
         """What users read has none of the words that CONTRIBUTING's table of terms replaces."""
-        table = text_of("CONTRIBUTING.md").partition("| Don't write |")[2]
-        old = [it for row in re.findall(r"^\| ([a-z][a-z, ]+) \|", table, re.M) for it in row.split(", ")]
+        old = old_words()
         self.assertGreater(len(old), 40)
         pages = [f"docs/{name}" for name in os.listdir(os.path.join(TOP, "docs")) if re.search(r"\.[1-9]$", name)]
         documents = ("README.md", "SECURITY.md", "CHANGELOG.md", "docs/RECIPES.md", "docs/PACKAGING.md")
         for name in (*documents, HEADER, *sorted(pages)):
             self.assertEqual(re.findall(rf"\b(?:{'|'.join(old)})\b", prose(name), re.I), [], name)
+
+    def test_comments_have_the_terms_of_the_field(self):
+        """Comments of sources have none of these words either, but for those that have a sense of their own there."""
+        old = re.compile(rf"\b(?:{'|'.join(set(old_words()) - ORDINARY)})\b", re.I)
+        sources = [(it, comments_of_rattle) for it in sorted(Path(TOP).glob("crates/*/src/*.rt")) if not UNREAD.search(str(it))]
+        sources += [(it, comments_of_python) for folder in ("python", "build", "packaging") for it in sorted(Path(TOP, folder).rglob("*.py"))]
+        self.assertGreater(len(sources), 150)
+        for path, comments in sources:
+            for it in comments(path.read_text(encoding="utf-8")):
+                self.assertNotRegex(it, old, str(path.relative_to(TOP)))
 
     def test_each_paragraph_is_one_line(self):
         for path in named.DOCUMENTS:

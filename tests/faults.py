@@ -1,15 +1,15 @@
 #!/usr/bin/env python3
-"""Runs the built program while the system fails: each system call in turn answers an error, a signal ends the program at each call,
+"""Runs the built program while the system fails: each system call in turn returns an error, a signal ends the program at each call,
 a write stops after each byte, and memory is limited.
 
   tests/faults.py PROGRAM
 
 strace makes the faults, prlimit's limits the others. The calls by which the loader starts a program are left alone: their failures
 end any program. A run must end as it does without a fault, or with status 4 and the line that fits what failed; a file or a stream
-that is written holds a prefix of the expected bytes, or what it held before.
+that is written has a prefix of the expected bytes, or its old content.
 
-Left out are `openat` and `ftruncate` that answer EINTR each time: Rust's standard library tries these two again until they answer
-something else, so such a run has no end, and no file system answers so. Each of them answers EINTR once here.
+Left out are `openat` and `ftruncate` that return EINTR each time: Rust's standard library tries these two again until they return
+something else, so such a run has no end, and no file system does so. Each of them returns EINTR once here.
 """
 
 import os
@@ -44,7 +44,7 @@ OF_MEMORY = {"brk", "mmap", "mremap", "munmap", "mprotect", "madvise"}
 
 
 def record(datasets: int) -> bytes:
-    """A caption record of so many keywords, whose lengths are spelled in four bytes.
+    """A caption record of so many keywords, whose lengths are encoded in four bytes.
 
     >>> record(1)
     b'\\x1c\\x02\\x19\\x80\\x04\\x00\\x00\\x00\\nkeyword  0'
@@ -63,7 +63,7 @@ class Run:
     status: int = 0
     output: bytes = b""
     stdin: str = ""
-    out: Optional[bytes] = None  # what OUT must hold
+    out: Optional[bytes] = None  # the expected content of OUT
 
     @property
     def name(self) -> str:
@@ -116,7 +116,7 @@ class Bench:
         self.program, self.room = os.path.abspath(program), room
 
     def run(self, run: Run, before: Tuple[str, ...] = (), trace: bool = True, limits: Tuple[Tuple[int, int], ...] = ()) -> Outcome:
-        """Runs behind these words, under strace or with limits."""
+        """Runs the program after these words, under strace or with limits."""
         with tempfile.TemporaryDirectory(dir=self.room) as folder:
             for name, octets in FILES.items():
                 Path(folder, name).write_bytes(octets)
@@ -150,7 +150,7 @@ def is_right(run: Run, outcome: Outcome) -> bool:
 
 
 def keeps_files(run: Run, files: Dict[str, bytes]) -> bool:
-    """Whether the files are as they were, and OUT holds what it held, or a prefix of the expected bytes."""
+    """Whether the files are unchanged, and OUT has its old content or a prefix of the expected bytes."""
     due, written = files_due(run), [it for it in ("OUT", "NEW") if it in run.words]
     others = {name: octets for name, octets in files.items() if name not in written}
     return others == {name: octets for name, octets in FILES.items() if name not in written} and all(
@@ -179,7 +179,7 @@ class Call:
 
 
 def calls_of(trace: str) -> List[Call]:
-    """The calls of a trace behind those of the loader, which ends by unmapping the list of its libraries.
+    """The calls of a trace after those of the loader, which ends by unmapping the list of its libraries.
 
     >>> [it.name for it in calls_of('openat(AT_FDCWD, "/etc/ld.so.cache") = 3\\nmunmap(0x1, 2) = 0\\nbrk(NULL) = 0x1\\n')]
     ['brk']
@@ -220,7 +220,7 @@ def lines_due(run: Run, call: Call, line: str, error: str) -> List[bytes]:
 
 
 def failing_calls(bench: Bench, counter: Counter) -> None:
-    """Each call of each run answers an error once, and each error from one call on."""
+    """Each call of each run returns an error once, and each error from one call on."""
     with ThreadPoolExecutor(os.cpu_count()) as pool:
         for run in runs():
             plain = bench.run(run)
@@ -236,7 +236,7 @@ def failing_calls(bench: Bench, counter: Counter) -> None:
 def ways(call: Call) -> Iterator[Tuple[str, str]]:
     """How a call fails: by which error, once or from this call on."""
     if call.name == "brk":
-        yield from (("retval=0", ""), ("retval=0", "+"))  # it answers no error, but where the memory ends
+        yield from (("retval=0", ""), ("retval=0", "+"))  # it returns no error, except out of memory
         return
     for error in (*ERRORS, "ENOSPC") if call.name in ("openat", "write", "ftruncate") else ERRORS:
         yield f"error={error}", ""
@@ -278,7 +278,7 @@ def kills(bench: Bench, counter: Counter) -> None:
 
 
 def cut_writes(bench: Bench, counter: Counter) -> None:
-    """A file that takes so many bytes and no more holds exactly these, and the status is 4."""
+    """A file that takes only so many bytes has exactly these, and the status is 4."""
     for name, most in (("turned", range(len(ONE))), ("record", range(0, len(form_of(FILES["record"])), 997))):
         form = form_of(FILES[name])
         for length in most:

@@ -36,7 +36,7 @@ TOP = os.path.dirname(HERE)
 HEADER = os.path.join(TOP, "crates", "px_c", "include")
 CC = ["cc", "-std=c99", "-Wall", "-Wextra", "-Werror", "-O2", "-I", HEADER, "-I", HERE]
 SOURCES = [os.path.join(HERE, it) for it in ("fuzz.c", "fuzz/laws.c", "fuzz/changes.c", "fuzz/memory.c")]
-LONGEST = 4096  # longer blocks take longer, and say little more
+LONGEST = 4096  # longer blocks take longer, and show little more
 BLOCKS, SEED = 4_000_000, 1
 CAUSES = range(2, 20)  # each but TooLong, which takes 16 MB
 WRONG_BLOCKS = 8_000
@@ -99,7 +99,7 @@ class Fuzz:
         subprocess.run([*CC, "-rdynamic", "-o", self.program, *SOURCES, shared], check=True)
 
     def make_wrong(self) -> None:
-        """A library that stands before the built one, and changes what it answers."""
+        """A library that is loaded before the built one, and changes its results."""
         os.mkdir(self.wrong)
         source, target = os.path.join(HERE, "fuzz", "wrong.c"), os.path.join(self.wrong, "libexifnorm.so.1")
         subprocess.run([*CC, "-shared", "-fPIC", "-Wl,-soname,libexifnorm.so.1", "-o", target, source, "-ldl"], check=True)
@@ -115,7 +115,7 @@ class Fuzz:
 
 
 def judge_blocks(fuzz: Fuzz, counter: Counter, seed: int, blocks: int) -> None:
-    """Each law holds, is looked at often, and each cause is met."""
+    """Each law is true, is checked often, and each cause occurs."""
     parts = os.cpu_count() or 1
     with ThreadPoolExecutor(parts) as pool:
         reports = list(pool.map(lambda it: fuzz.run(seed + it, blocks // parts), range(parts)))
@@ -146,7 +146,7 @@ def mistakes() -> List[Tuple[str, str]]:
 
 
 def find_mistakes(fuzz: Fuzz, counter: Counter) -> None:
-    """A library that answers wrongly breaks a law; without a mistake it breaks none."""
+    """A library with wrong results breaks a law; without a mistake it breaks none."""
     fuzz.make_wrong()
     known = mistakes()
     plain = fuzz.run(7, WRONG_BLOCKS, "NONE")
@@ -170,7 +170,7 @@ def document_command(tool: str) -> List[str]:
 
 
 def try_target(fuzz: Fuzz, counter: Counter, tool: str) -> None:
-    """The target of a fuzzer is compiled as the document says; it runs, and stops at a library that is wrong."""
+    """The target of a fuzzer is compiled as in the document; it runs, and stops at a wrong library."""
     if not shutil.which(tool):
         raise SkipTest(f"{tool} is not installed")
     words, target, corpus = document_command(tool), os.path.join(fuzz.room, tool), os.path.join(fuzz.room, f"{tool}-known")

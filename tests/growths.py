@@ -1,5 +1,5 @@
-"""Runs a case with each of the program's growths refused in turn: first the first call for memory, then the second, and
-so on until a run meets no refusal. Each run answers as the case says, or it says that memory was refused."""
+"""Runs a case with each of the program's allocations failing in turn: first the first one, then the second, and so on until no
+allocation of a run fails. Each run has the case's result, or reports that it is out of memory."""
 
 import os
 
@@ -10,7 +10,7 @@ SECONDS = 20
 
 
 def run_refusing(program, shim, case, number):
-    """Runs the case with this growth refused, and returns the outcome and whether the growth was met."""
+    """Runs the case with this allocation failing. Returns the outcome and whether the run had so many allocations."""
     hears, tells = os.pipe()
     try:
         environment = {"LD_PRELOAD": shim, "REFUSE_GROWTH": str(number), "REFUSE_GROWTH_TELLS": str(tells)}
@@ -22,7 +22,7 @@ def run_refusing(program, shim, case, number):
 
 
 def out_of_memory(case):
-    """The lines that may say so: compare names the file, where it has opened one. Where nothing takes a line there is none."""
+    """The lines that may report it: compare names the file, if it has opened one. If nothing takes a line there is none."""
     if case.output_to:
         return [b""]
     sides = ["", " in file 1", " in file 2"] if case.words[:1] == ["compare"] else [""]
@@ -30,7 +30,7 @@ def out_of_memory(case):
 
 
 def says_out_of_memory(case, outcome):
-    """Whether the run says that memory was refused, wrote nothing else, and left the files as they were; OUT may be empty."""
+    """Whether the run reports out of memory, wrote nothing else, and left the files unchanged; OUT may be empty."""
     kept = {name: octets for name, octets in outcome.files.items() if name != case.out}
     were = {name: octets for name, octets in case.files.items() if name != case.out}
     return (
@@ -43,12 +43,12 @@ def says_out_of_memory(case, outcome):
 
 
 def every():
-    """Each growth."""
+    """Each allocation."""
     return range(1, MOST_GROWTHS + 1)
 
 
 def sample():
-    """A growth in so many: the first ones, then ever fewer."""
+    """Some allocations: the first ones, then ever fewer."""
     number = 1
     while number <= MOST_GROWTHS * 100:
         yield number
@@ -56,7 +56,7 @@ def sample():
 
 
 def complaints_under_refusals(program, shim, case, complaints_of, numbers):
-    """Returns what is wrong, and how many growths were refused: those with these numbers, until a run meets none."""
+    """Returns what is wrong, and how many allocations failed: those with these numbers, until a run has no such one."""
     bad, refused = [], 0
     for number in numbers:
         outcome, was_met = run_refusing(program, shim, case, number)

@@ -182,7 +182,7 @@ class Room(unittest.TestCase):
 
 
 class Programs(Room):
-    """What program.py says of runs."""
+    """The output of program.py for runs."""
 
     def test_its_status_its_texts_and_its_files(self):
         program = self.program('cat; echo "$*" >OUT; echo note >&2; exit 3')
@@ -214,7 +214,7 @@ class Programs(Room):
 
 
 class Wrong(Room):
-    """What run.py says of the built program with something changed around it."""
+    """The output of run.py for the built program with something changed around it."""
 
     cases = {it.name: it for it in read_all(str(HERE))}
     refused = "a caption behind the six bytes of a JPEG segment, by check"

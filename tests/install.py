@@ -54,7 +54,7 @@ class Shared:
 
 
 def setUpModule() -> None:
-    """Makes a Python in a folder whose name has a space, and says where the shared installations are."""
+    """Makes a Python in a folder whose name has a space, and sets the paths of the shared installations."""
     global ROOM, USR, OTHER
     ROOM = Path(tempfile.mkdtemp())
     unittest.addModuleCleanup(shutil.rmtree, ROOM)
@@ -239,7 +239,7 @@ class Libraries(unittest.TestCase):
         self.work = Path(tempfile.mkdtemp(dir=ROOM))
 
     def pkg_config(self, it: Shared, *words: str) -> list[str]:
-        """What pkg-config says of the installation, and of no other."""
+        """The output of pkg-config for this installation, and no other."""
         found = run("pkg-config", *words, "exifnorm", PKG_CONFIG_LIBDIR=str(it.at("lib/pkgconfig")), PKG_CONFIG_SYSROOT_DIR=str(it.root))
         return found.split()
 
@@ -543,7 +543,7 @@ class Manifest(unittest.TestCase):
 
 
 class Papers(unittest.TestCase):
-    """What documents say of packages."""
+    """The facts about packages in the documents."""
 
     def test_security_page_marks_the_address_once(self) -> None:
         page = text_of("SECURITY.md").partition("## How to report")[2]

@@ -70,7 +70,7 @@ def modules() -> list[str]:
 
 
 def packages_path(python: str, prefix: str) -> str:
-    """Where a Python looks for packages below a prefix: what its own module site says, or else the usual place."""
+    """The folder below a prefix in which a Python looks for packages: that of its own module site, or else the usual one."""
     code = """
 import site, sys
 print(*site.getsitepackages(), "%s/lib/python%d.%d/site-packages" % (sys.argv[1], *sys.version_info[:2]), sep="\\n")"""
@@ -106,7 +106,7 @@ class Tree:
         return Path(f"{self.root}{self.packages}")
 
     def expected(self) -> dict[str, int | str]:
-        """All that install writes, spelled out."""
+        """The list of all that install writes."""
         prefix, packages = self.prefix[1:], self.packages[1:]
         dist_info = f"{packages}/exifnorm-{VERSION}.dist-info"
         up = os.path.relpath(f"/{prefix}/lib", f"/{packages}/exifnorm")

@@ -1,4 +1,4 @@
-"""Tests of builds that are interrupted: killed, or out of space, at each change that they make to a file; and of what is left behind.
+"""Tests of builds that are interrupted: killed, or out of space, at each change that they make to a file; and of files that they leave.
 
 tests/launcher.py runs these.
 """

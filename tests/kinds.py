@@ -1,4 +1,4 @@
-"""Blocks of every kind that is accepted, made from what they say, each with what is due of it from every command.
+"""Blocks of every kind that is accepted, made from their meanings, each with the expected result of every command.
 
 Two layouts of each meaning are made: in either byte order, with parts moved and gaps and spare bytes filled by chance (the same
 chance in every run).
@@ -13,14 +13,14 @@ from meanings import Exif, Layout, Record, Value, laid
 
 @dataclass
 class Kind:
-    """A meaning, and blocks that say it."""
+    """A meaning, and blocks that have it."""
 
     name: str
     meaning: object
     blocks: list
 
     def other(self):
-        """A block that says something else, of the same kind."""
+        """A block with another meaning, of the same kind."""
         if isinstance(self.meaning, Record):
             return Record([*self.meaning.datasets[:1000], (2, 255, b"else")]).spelled()
         return Exif({0x0112: Value(SHORT, [8])}).normal()
@@ -127,7 +127,7 @@ def directories():
 
 
 def records():
-    """Caption records by themselves and inside an Exif block, behind other entries and alone."""
+    """Caption records by themselves and inside an Exif block, after other entries and without any."""
     keywords = [(2, 25, bytes(f"keyword {i}", "ascii").ljust(1000, b".")) for i in range(70)]
     some = [(1, 90, b"\x1b\x25\x47"), (2, 80, b"A"), (2, 5, b"T\xc3\xa9"), (2, 85, b"a"), (2, 80, b"B"), (2, 120, b"c\\\n"), (2, 0, b"\0\2")]
     long = [(2, 120, Random(11).randbytes(40_000)), (7, 20, b""), (0, 0, b"x"), (255, 255, b"y")]
@@ -157,7 +157,7 @@ def many_strips():
 
 
 def strips_far_apart():
-    """The last range that is held below a strip is always far below it."""
+    """The last range that is claimed below a strip is always far below it."""
     count = 1_000_000
     layout = Layout(">", shuffled=True, gap=14, chance=OfStrips(count, -1))
     yield exif("a million strips far apart, descending", Exif(dict(ORIENTATION), thumb={}, strips=[b"x"] * count), layout)
@@ -218,6 +218,6 @@ def small_kinds():
 
 
 def large_kinds():
-    """Blocks in which anything that is quadratic would take hours, or that hold as much as a block may, one after the other."""
+    """Blocks for which anything quadratic would take hours, or that contain as much as a block may, one after the other."""
     for make in (many_fields, placed_values, many_strips, strips_far_apart, many_datasets, many_groups, groups_in_turn, long_values):
         yield from make()

@@ -240,7 +240,7 @@ def a_proof_that_fails_after_a_good_build_is_not_taken(room: Room) -> None:
     due(room.call("a").stdout == "one: a\n", "the sources that were proved are taken as they were")
 
 
-# What a compiler says of a crate that is not proved, though it ends with status 0; and what is said of the crate then.
+# The compiler's output for a crate that is not proved, although it ends with status 0; and the expected report on the crate.
 NOT_PROVED = {
     "": "0 verdicts",
     "fn px_iim::one: proved\n": "0 verdicts",

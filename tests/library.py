@@ -119,7 +119,7 @@ class Library:
         run(self.calls, "once", self.small)
 
     def answers_each_large_block_in_c(self):
-        run("sh", "-c", 'ulimit -s 256 && exec "$@"', "sh", self.calls, "once", self.large)  # as much stack as exifnorm.h says
+        run("sh", "-c", 'ulimit -s 256 && exec "$@"', "sh", self.calls, "once", self.large)  # the stack size in exifnorm.h
 
     def answers_sixteen_threads_in_c(self):
         run(self.calls, "threads", self.small)

@@ -41,7 +41,7 @@ def make(room: Room, *words: str) -> subprocess.CompletedProcess:
 
 
 def built(room: Room) -> dict:
-    """When each file was last written that make builds, and what it holds."""
+    """The time of the last write of each file that make builds, and its content."""
     paths = [*(room.top / "out/lib").iterdir(), room.top / "out/proved/libpx_c.a", room.top / "out/exifnorm"]
     return {it.name: (it.stat().st_mtime_ns, it.read_bytes()) for it in paths}
 

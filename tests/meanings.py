@@ -1,4 +1,4 @@
-"""What blocks say, laid out in any way, and the normal form, the listing and the captions that are due of it.
+"""Meanings of blocks, laid out in any way, and the normal form, the listing and the captions that are expected of them.
 
 A telling of docs/FORMAT.md that has nothing in common with the program: it starts from what is said, lays that out, and reads no
 block. An Exif block's meaning is made as `Exif`, a caption record as `Record`.
@@ -114,7 +114,7 @@ class Record:
         return dict(sorted(lists.items()))
 
     def spelled(self, extended=0, zeros=0):
-        """An IIM block that says it; `extended` is the octets of the counts of extended DataSets, 0 for standard ones."""
+        """An IIM block with this record; `extended` is the number of bytes of the lengths of extended DataSets, 0 for standard ones."""
         return b"".join(dataset(*it, extended) for it in self.datasets) + bytes(zeros)
 
     def normal(self):
@@ -260,7 +260,7 @@ def entries_of(meaning, name, fields, layout):
 
 
 def laid(meaning, layout):
-    """A block that says the meaning."""
+    """A block with the meaning."""
     entries = {name: entries_of(meaning, name, fields, layout) for name, fields in meaning.directories()}
     parts = []  # the name and the size of each, in the order of the normal form
     for name, them in entries.items():

@@ -22,7 +22,7 @@ from shims import make_shim
 
 # one SHORT
 ONE = bytes.fromhex("4D4D002A00000008 0001 0112000300000001 00010000 00000000")
-LONG = 2_000_000  # bytes that an OUT may have held
+LONG = 2_000_000  # the length in bytes of an old OUT
 PROGRAM = ""
 
 
@@ -85,7 +85,7 @@ def files_with_one_number_in_common(counter: Counter) -> None:
 
 
 def an_out_that_held_more(counter: Counter) -> None:
-    """Nothing is left of what OUT held."""
+    """Nothing is left of the old content of OUT."""
     with tempfile.TemporaryDirectory() as room:
         folder = Path(room)
         for count in (len(ONE) + 1, 8_193, LONG):

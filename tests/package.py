@@ -55,7 +55,7 @@ LONG_FORM = laid(Exif({0x0116: Value(SHORT, NUMBERS)}), Layout("<"))
 
 
 def outcome(call: Callable, *arguments: Any) -> Any:
-    """What a call returns, or the name of what it raises, with what it tells.
+    """The result of a call, or the name of its exception, with its values.
 
     >>> outcome(int, "a")
     ('ValueError', "invalid literal for int() with base 10: 'a'")
@@ -341,7 +341,7 @@ def places_of_the_library(counter: Counter) -> None:
 
 
 def statuses(counter: Counter) -> None:
-    """What each status is here, from a library that answers it always."""
+    """The exception for each status, from a library that always returns it."""
     code = """
 import exifnorm, json
 def outcome(call, *blocks):
@@ -391,7 +391,7 @@ def watched(**environment: str) -> Iterator[Watch]:
 
 
 def calls_of_the_library(counter: Counter) -> None:
-    """How often the library is called, and with how much room."""
+    """How often the library is called, and with buffers of which size."""
     escaped = Record([(2, 120, bytes(60_000))]).spelled()
     record = laid(Exif({0x0112: Value(SHORT, [1])}, record=Record([(2, 5, b"T")])), Layout(">"))
     large = laid(Exif({0x9999: Value(7, bytes(100_000))}), Layout("<"))
@@ -440,7 +440,7 @@ def loads(counter: Counter) -> None:
 
 
 def bytes_that_are_taken(call: Callable, *arguments: Any) -> int:
-    """The most bytes that Python holds during a call, over those it held before."""
+    """The most bytes that Python has allocated during a call, over those before it."""
     call(*arguments)
     gc.collect()
     tracemalloc.start()
@@ -471,7 +471,7 @@ def bytes_of_the_calls(counter: Counter) -> None:
 
 
 def what_is_given_back(counter: Counter) -> None:
-    """A block can be changed and freed behind a call, also behind one that fails, and nothing is left."""
+    """A block can be changed and freed after a call, also after one that fails, and nothing is left."""
     calls = [(call, block) for block in (bytearray(ONE), bytearray(LOOP)) for call in OF_BLOCK]
     for call, block in [*calls, (exifnorm.normal, bytearray(LONG_FORM))]:
         outcome(call, block)
@@ -500,7 +500,7 @@ def what_is_given_back(counter: Counter) -> None:
 
 
 def sixteen_threads(counter: Counter) -> None:
-    """Each call by sixteen threads at once answers as by one, for blocks whose forms differ in each byte."""
+    """Each call by sixteen threads at once returns the same as by one, for blocks whose forms differ in each byte."""
     blocks = [Record([(2, 120, bytes([it]) * (it % 7 + 1) * 900)]).spelled(extended=4) for it in range(16)]
     blocks += [it.block for it in made_by_tools.ALL] + [made_by_tools.PIEXIF_REFUSED, LOOP, b""]
     jobs = [(call, block) for block in blocks for call in OF_BLOCK]
@@ -517,7 +517,7 @@ def sixteen_threads(counter: Counter) -> None:
 
 
 def calls_at_once(counter: Counter) -> None:
-    """A call doesn't hold up other threads: sixteen of them are inside the library at the same time."""
+    """A call doesn't block other threads: sixteen of them are inside the library at the same time."""
     with watched(MEET="16") as watch, ThreadPoolExecutor(16) as pool:
         came = list(pool.map(lambda _: exifnorm.kind(ONE), range(16)))
         counter.check("their answers", came == ["exif"] * 16)

@@ -85,7 +85,7 @@ def run_all(only):
             elif not outcome.skipped:
                 counts["passed"] += 1
 
-    # what is measured runs by itself, behind all others
+    # what is measured runs by itself, after all others
     together = [it for it in found if not getattr(it, "alone", False)]
     with ThreadPoolExecutor(min(4, os.cpu_count() or 1)) as pool:
         list(pool.map(judge, together))

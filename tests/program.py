@@ -1,4 +1,4 @@
-"""Runs a program as a user does, in a new folder with the files of a case, and tells what it left."""
+"""Runs a program as a user does, in a new folder with the files of a case, and returns what it wrote and left."""
 
 import os
 import subprocess
@@ -6,7 +6,7 @@ import tempfile
 import threading
 from dataclasses import dataclass, field
 
-CLOSED_PIPE = "a closed pipe"  # in place of a device: what stands behind standard output reads nothing any more
+CLOSED_PIPE = "a closed pipe"  # in place of a device: nothing reads the pipe any more
 
 
 @dataclass

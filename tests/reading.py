@@ -1,4 +1,4 @@
-"""What a file says, or the first fault of its block, by the rules of docs/FORMAT.md, sections 2, 3 and 5.
+"""The meaning of a file, or the first fault of its block, by the rules of docs/FORMAT.md, sections 2, 3 and 5.
 
 It is written as those sections are: each check in its order, each byte of the block marked once a range covers it, nothing made
 quick. It has nothing in common with the program, so that any block can be judged by both.
@@ -128,7 +128,7 @@ class Block:
         return {tag: Value(it.form, it.numbers(self.order)) for tag, it in sorted(table.items()) if tag not in NOT_PLAIN}
 
     def next_of(self, at):
-        """The next offset of the table at a place, and where it stands."""
+        """The next offset of the table at an offset, and where it is."""
         place = at + 2 + 12 * self.number(at, "H")
         return self.number(place), place
 

@@ -94,7 +94,7 @@ def due(is_so: bool, what: object) -> None:
 
 
 def wait_until(holds, what: object) -> None:
-    """Waits until something holds, for at most two minutes."""
+    """Returns once something is true, after at most two minutes."""
     for _ in range(6000):
         if holds():
             return
@@ -159,7 +159,7 @@ class Room:
         return self.top / "crates" / "px_cli" / "src" / "main.rt"
 
     def machine(self, processors: int, gigabytes: int) -> None:
-        """Says what the builds find free."""
+        """Sets what the builds find free."""
         build = self.top / "build"
         (build / "machine.py").write_text(MACHINE)
         (build / "processors").write_text(str(processors))

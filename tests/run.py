@@ -80,7 +80,7 @@ def judge_case(program, case):
 
 
 def case_of(file, command=""):
-    """What is due of any file from a command, or from the filter, by the rules of the format."""
+    """The expected result of a command, or of the filter, for any file, by the rules of the format."""
     how = {"words": [command, "a"], "files": {"a": file}} if command else {"input": file}
     try:
         meaning = said(file)
@@ -115,7 +115,7 @@ def judge_sweep(program, sweep):
 
 
 def cases_of_kind(kind):
-    """What is due of a kind of block from every command. Standard input is a file, so that reads are as many in every run."""
+    """The expected result of every command for a kind of block. Standard input is a file, so every run has as many reads."""
     meaning, (first, *_, last) = kind.meaning, [*kind.blocks, kind.blocks[-1]]
     normal, files = meaning.normal(), {"a": first, "b": last}
     form = {"status": 2, "output": b"refused: NormalTooLong\n"} if len(normal) > LIMIT else {"output": normal}
@@ -146,7 +146,7 @@ def holds(meaning):
 
 
 def named(kind):
-    """The cases of a kind, with its name, and with what is held of its meaning."""
+    """The cases of a kind, with its name, and with the counts of what a reader keeps of its meaning."""
     held = holds(kind.meaning)
     for case in cases_of_kind(kind):
         case.name = f"{kind.name}: {case.name}"
@@ -227,13 +227,13 @@ class Parts:
 
 
 def is_counted(case):
-    """Whether what a run costs can be told: it reads files or a whole input, and its standard output is read."""
+    """Whether the cost of a run can be measured: it reads files or a whole input, and its standard output is read."""
     fed = case.endless or case.in_pieces or case.input_from if isinstance(case, Case) else True
     return not (fed or case.output_to or case.folders)
 
 
 def all_of(tests, pool, failures):
-    """Runs these tests side by side, says in order which failed, and returns how many passed. Tests are made as they are run."""
+    """Runs these tests side by side, prints in order which failed, and returns how many passed. Tests are made as they are run."""
     passed, waiting = 0, []
 
     def take_first():

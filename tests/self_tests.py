@@ -180,7 +180,7 @@ class Judging(unittest.TestCase):
         self.assertLess(growth(3_300_000).room, 3_300_000 * 33 // 32 + 1)
 
     def test_a_copy_of_what_is_read_costs_too_much(self):
-        """Where a file's bytes would be held twice, or asked for once more, the limits are passed: they leave less than that."""
+        """If a file's bytes were kept twice, or requested once more, the limits would be passed: they leave less than that."""
         size = LIMIT
         most = limits_of(Case("", words=["check", "a"], files={"a": bytes(size)}, holds=[Holds(1, 0, [])]), Outcome(0, b"ok exif\n", b""))
         judged = size // 8 + size // 100  # a bit for each of the bytes
@@ -220,7 +220,7 @@ class Judging(unittest.TestCase):
 
 
 class Meanings(unittest.TestCase):
-    """Worked blocks, spelled by hand, and what is made of their meanings."""
+    """Worked blocks, encoded by hand, and what is made of their meanings."""
 
     def test_one_short_in_both_byte_orders(self):
         meaning = Exif({0x0112: Value(SHORT, [1])})
@@ -248,7 +248,7 @@ class Meanings(unittest.TestCase):
 
 
 class Reading(unittest.TestCase):
-    """What reading.py tells of blocks: of those whose meaning is known, and of those of the cases, spelled by hand."""
+    """The results of reading.py for blocks: those whose meaning is known, and those of the cases, encoded by hand."""
 
     def entries(self, table):
         for name in sorted(os.listdir(os.path.join(HERE, "cases"))):

@@ -1,4 +1,4 @@
-"""What the built program answers to each block of the cases: what the library must answer too."""
+"""The results of the built program for each block of the cases: the library must return the same."""
 
 import os
 import re
@@ -23,12 +23,12 @@ CAUSES = (
 
 
 class Unexpected(Exception):
-    """The program answered what no test knows how to read."""
+    """The program's output has a form that no test knows."""
 
 
 @dataclass
 class Answer:
-    """What is due of a block: its kind, or its fault, and three texts, each with its status."""
+    """The expected result for a block: its kind, or its fault, and three texts, each with its status."""
 
     block: bytes
     kind: int = 0
@@ -94,7 +94,7 @@ def blocks_of_cases():
 
 
 def all_answers(program, folder, blocks):
-    """The answers to these blocks and their normal forms, and pairs of them."""
+    """The results for these blocks and their normal forms, and pairs of them."""
     paths = []
     with ThreadPoolExecutor(os.cpu_count()) as pool:
 

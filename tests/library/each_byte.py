@@ -62,7 +62,7 @@ def others(block):
 
 
 def judged(name):
-    """How many blocks there were, and those of which the two tell different things."""
+    """The number of blocks, and those for which the two differ."""
     with open(os.path.join(TESTS, "cases", "blocks.json"), encoding="utf-8") as it:
         block = Blocks(json.load(it)["blocks"]).bytes_of(name)
     count, bad = 0, []

@@ -1,4 +1,4 @@
-"""Blocks that other tools wrote, the commands that wrote them, and what they were asked to say."""
+"""Blocks that other tools wrote, the commands that wrote them, and the values that they were given."""
 
 from dataclasses import dataclass, field
 from typing import List, Optional, Tuple
@@ -6,7 +6,7 @@ from typing import List, Optional, Tuple
 
 @dataclass
 class Made:
-    """A block, and what is in it as the package's objects tell it, without their classes."""
+    """A block, and its content as the package's objects show it, without their classes."""
 
     tool: str
     block: bytes

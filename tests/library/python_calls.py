@@ -173,7 +173,7 @@ def try_text_of_captions():
 
 
 def try_fields():
-    """A thumbnail with a JPEG and with strips, of which each object is told by hand."""
+    """A thumbnail with a JPEG and with strips, each of whose objects is listed by hand."""
     head = "4d4d002a 00000008 0001 0112 0003 00000001 00010000 0000001a 0004"
     strips = "0111 0003 00000002 00500053  0117 0003 00000002 00030001"
     jpeg = "0201 0004 00000001 00000054  0202 0004 00000001 00000002"
@@ -203,7 +203,7 @@ def try_objects():
         due(False, "no", error, "for", wrong)
     block = bytearray(b"\x1c\x02\x78\x00\x01a")
     exifnorm.kind(block)
-    block.append(0)  # a bytearray that is still held can't grow
+    block.append(0)  # a bytearray that a view still uses can't grow
     block = bytearray(b"\x1c\x02\x78\x00\x01a" + b"\x1c\x02\x78\x80\x04\x00\x98\x96\x80" + bytes(10_000_000))
     tracemalloc.start()
     exifnorm.kind(block)
@@ -233,7 +233,7 @@ def call_with_little_memory():
 
 
 def try_missing(named, words):
-    """What is said where the library isn't there, or isn't one."""
+    """The error if the library is missing, or the file isn't one."""
     code = "import exifnorm\ntry: exifnorm.kind(b'')\nexcept exifnorm.LibraryMissing as why: print(why)"
     ran = subprocess.run(
         [sys.executable, "-B", "-c", code], env={**os.environ, "EXIFNORM_LIBRARY": named}, capture_output=True, text=True, check=False

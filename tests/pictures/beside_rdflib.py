@@ -1,4 +1,4 @@
-"""Reads packets by the usual reader and by rdflib alone, and says where they differ: python3 beside_rdflib.py SEED COUNT
+"""Reads packets by the usual reader and only by rdflib, and prints the differences: python3 beside_rdflib.py SEED COUNT
 
 What two packets have in common is judged by rdflib's own canonical graphs. It is a program by itself, since rdflib may be installed
 for another Python than the one that runs the tests. The last line is a JSON object.
@@ -26,7 +26,7 @@ RDF = "http://www.w3.org/1999/02/22-rdf-syntax-ns#"
 
 
 def read(call, root):
-    """An answer: what is said, or the cause that it can't be."""
+    """A result: the statements, or the cause of failure."""
     try:
         found = call(root)
         return tree.digest_of(found), shown.fields(found)

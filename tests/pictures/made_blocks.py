@@ -64,11 +64,11 @@ def segment(marker, octets):
 
 
 def with_exif(jpeg, octets):
-    """A JPEG with a segment that holds these octets as its Exif block."""
+    """A JPEG with a segment that has these bytes as its Exif block."""
     return jpeg[:2] + segment(0xE1, b"Exif\0\0" + octets) + jpeg[2:]
 
 
 def with_iptc(jpeg, octets):
-    """A JPEG with Photoshop resources that hold these octets as the IPTC record."""
+    """A JPEG with Photoshop resources that have these bytes as the IPTC record."""
     resource = b"8BIM\x04\x04\0\0" + struct.pack(">I", len(octets)) + octets + bytes(len(octets) % 2)
     return jpeg[:2] + segment(0xED, b"Photoshop 3.0\0" + resource) + jpeg[2:]

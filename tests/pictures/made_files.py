@@ -18,7 +18,7 @@ SPACES = (
 
 
 def exif(make):
-    """An Exif block that says who made the camera, in three letters."""
+    """An Exif block with the camera's maker, in three letters."""
     return block([entry(0x010F, ASCII, 4, make + b"\0")])
 
 
@@ -48,7 +48,7 @@ def resource(number, data, signature=b"8BIM"):
 
 
 def jpeg(*segments, behind=b"", base=SMALL_JPEG):
-    """A JPEG with these segments behind its SOI, and bytes behind its end."""
+    """A JPEG with these segments after its SOI, and bytes after its end."""
     return base[:2] + b"".join(segments) + base[2:] + behind
 
 

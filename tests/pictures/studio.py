@@ -138,7 +138,7 @@ def make_collection(folder):
     tool(folder, "exiftool", "-q", "-overwrite_original", *fields, "-IPTC:CodedCharacterSet=UTF8",
          "-IPTC:Caption-Abstract=Zürich", f"-ThumbnailImage<={small}", first)  # fmt: skip
     shutil.copy(first, os.path.join(pictures, "sub", "copy.jpg"))
-    turned = os.path.join(pictures, "turned.jpg")  # says the same in other bytes
+    turned = os.path.join(pictures, "turned.jpg")  # the same meaning in other bytes
     shutil.copy(first, turned)
     write(os.path.join(folder, "normal"), run(["exifnorm"], folder, tool(folder, "exiftool", "-b", "-Exif", first)).stdout)
     tool(folder, "exiftool", "-q", "-overwrite_original", f"-Exif<={os.path.join(folder, 'normal')}", turned)

@@ -1,4 +1,4 @@
-"""The states of an archive, run by run: what `index` says of each picture, and what the catalogue then holds."""
+"""The states of an archive, run by run: the report of `index` on each picture, and the content of the catalogue afterwards."""
 
 import json
 import os
@@ -35,7 +35,7 @@ class Archive(WithPictures):
         return found
 
     def run_again(self, *words, status=0, **more):
-        """What a further run says, by the names of the files."""
+        """The report of a further run, by the names of the files."""
         lines = self.asked("index", "p", "--catalogue", "c", "--quiet", "--json", *words, status=status, **more)
         found = [json.loads(it) for it in lines]
         named = {os.path.relpath(it["path"], self.path("p")): it.get("problem", "looked at") for it in found[:-1]}
@@ -300,7 +300,7 @@ class Kinds(WithPictures):
         self.assertEqual(found["fields"], [{"name": "second Exif: main:Make", "before": '"One"', "after": '"Two"'}])
 
     def test_lines_of_fields(self):
-        """A sign says whether a field came, went or changed."""
+        """A sign shows whether a field came, went or changed."""
         for side, octets in (("before", with_exif(SMALL_JPEG, block([MAKE]))), ("after", with_exif(SMALL_JPEG, block([MODEL])))):
             os.mkdir(self.path(side))
             write(self.path(side, "a.jpg"), octets)

@@ -10,7 +10,7 @@ from studio import SMALL_JPEG, WithPictures, collection, needs, read, refused, r
 
 
 def with_maker_note(note):
-    """A JPEG whose Exif directory holds a MakerNote of these octets."""
+    """A JPEG whose Exif directory has a MakerNote of these bytes."""
     octets = block([MAKE, entry(0x8769, LONG, 1, 38)]) + table([entry(0x927C, UNDEFINED, len(note), 56)]) + note
     return with_exif(SMALL_JPEG, octets)
 

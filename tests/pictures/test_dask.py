@@ -38,7 +38,7 @@ class Cluster(WithPictures):
         return it
 
     def cluster(self, **more):
-        """The address of a new cluster, whose scheduler gives up a picture at which one worker died."""
+        """The address of a new cluster, whose scheduler drops a picture at which one worker died."""
         told = self.path("scheduler.json")
         self.started("distributed.cli.dask_scheduler", "--host", "127.0.0.1", "--port", "0", "--no-dashboard", "--scheduler-file", told,
                      DASK_DISTRIBUTED__SCHEDULER__ALLOWED_FAILURES=more.pop("failures", "3"))  # fmt: skip
@@ -56,7 +56,7 @@ class Cluster(WithPictures):
         return done.stdout.decode().splitlines()
 
     def deadly(self, condition):
-        """An ExifTool that kills the worker that asks it, where the condition holds."""
+        """An ExifTool that kills the worker that calls it, if the condition is true."""
         os.mkdir(self.path("bin"))
         real = shutil.which("exiftool")
         text = f'#!/bin/sh\n[ "$3" = -ver ] && exec {real} "$@"\nif {condition}; then kill -9 $PPID; exit; fi\nexec {real} "$@"\n'

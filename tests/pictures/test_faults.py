@@ -1,4 +1,4 @@
-"""Faults made on purpose: each is a line or a clear error with its documented status, and nothing is lost or left behind."""
+"""Faults made on purpose: each is a line or a clear error with its documented status, and no result is lost and no file left."""
 
 import json
 import os
@@ -15,7 +15,7 @@ GIF = b"GIF89a\x01\0\x01\0\0\0\0;"
 GOOD = with_exif(SMALL_JPEG, block([MAKE]))
 PAGE = b"<!DOCTYPE html>an earlier page"
 
-# What a fake ExifTool prints in place of an answer about `$name`, and the words of the line about that file.
+# The output of a fake ExifTool in place of that about `$name`, and the words of the line about that file.
 ANSWERS = {
     "a text": ("echo this is no JSON", "no JSON"),
     "an object without a name": ("echo '[{\"EXIF\":\"x\"}]'", "another file"),
@@ -31,7 +31,7 @@ ANSWERS = {
     "silence": ("exec sleep 1000", "took longer than"),
 }
 
-# Reads questions as ExifTool does with -stay_open; the answer about a file that is called bad*.gif is the fault.
+# Reads requests as ExifTool does with -stay_open; the output about a file that is called bad*.gif is the fault.
 FAKE = """#!/bin/sh
 if [ "$3" = -ver ]; then echo 12.57; exit; fi
 name=

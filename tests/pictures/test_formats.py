@@ -295,7 +295,7 @@ def damaged(octets, chance):
 
 
 def with_what_is_packed(octets):
-    """The bytes of a file, and those that its compressed or hexadecimal parts stand for."""
+    """The bytes of a file, and those that its compressed or hexadecimal parts encode."""
     found = [octets]
     for at in (it.start() for it in re.finditer(rb"\x78[\x01\x5e\x9c\xda]", octets)):
         opened = zlib.decompressobj()
@@ -310,7 +310,7 @@ def with_what_is_packed(octets):
 
 
 def is_made_of(data, sources):
-    """Whether bytes are pieces of the sources behind one another: few pieces, so that not any bytes would pass."""
+    """Whether bytes are pieces of the sources one after another: few pieces, so that not any bytes would pass."""
     pieces = 0
     while data:
         length = len(data)
@@ -327,7 +327,7 @@ class Damaged(unittest.TestCase):
     COUNT = 2500  # of each format
 
     def test_damaged_files(self):
-        """10,000 files: an answer or `Broken`, only bytes that are in the file, and few reads."""
+        """10,000 files: a result or `Broken`, only bytes that are in the file, and few reads."""
         from exifnorm_pictures.formats.found import Broken, LeftToOthers
 
         answers = {"read": 0, "broken": 0, "blocks": 0}

@@ -16,7 +16,7 @@ class Many(WithPictures):
     alone = True  # what is measured runs by itself
 
     def test_time_beside_exiftool(self):
-        """The times are told, and none is held: they hang on the machine's other work."""
+        """The times are printed, but not checked: they depend on the machine's other work."""
         folder = many()
         words = ["exiftool", "-q", "-q", "-json", "-b", "-Exif", "-IPTC", folder]
         tool, whole = [], []

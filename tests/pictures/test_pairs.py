@@ -20,7 +20,7 @@ _ASKED = threading.Lock()  # of one ExifTool in this process
 
 
 def sides(path, whole=False):
-    """What a picture says for each kind, and what was not read."""
+    """The meaning of a picture for each kind, and its unread parts."""
     from exifnorm_pictures import engine, extraction, verdicts
 
     with _ASKED:
@@ -31,7 +31,7 @@ def sides(path, whole=False):
 
 
 def turned(octets):
-    """The Exif block of one short field in the other byte order, which says the same."""
+    """The Exif block of one short field in the other byte order, which means the same."""
     (count,) = struct.unpack_from(">H", octets, 8)
     found = b"II*\0\x08\0\0\0" + struct.pack("<H", count)
     for at in range(10, 10 + 12 * count, 12):
@@ -330,7 +330,7 @@ class Others(Pairs):
 
 
 class Explained(WithPictures):
-    """`explain` says what tiled, pyramid and Big TIFFs are, and why a packet is unreadable."""
+    """`explain` names tiled, pyramid and Big TIFFs, and why a packet is unreadable."""
 
     def explained(self, kind, octets):
         from exifnorm_pictures import explain

@@ -16,7 +16,7 @@ def picture(maker, model=b"Xyz\0"):
 
 
 class Text(HTMLParser):
-    """The texts of a page by the element, or its class, that they stand in; whether each element is closed."""
+    """The texts of a page by their element, or its class; whether each element is closed."""
 
     VOID = {"meta", "img", "rect", "br"}
 

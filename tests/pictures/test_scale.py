@@ -62,7 +62,7 @@ SELECT id, 0, 'exif', 'Exif', 'APP1 at 2', 'own', 'accepted', exif, 100, exif_oc
 
 class Scale(WithPictures):
     def catalogue(self, name, count, says="n / 20", folder="one", mark=0, named="n"):
-        """A catalogue with this many pictures, of which each says a number; all is SQL over the number n of a picture."""
+        """A catalogue with this many pictures, each with a number as its meaning; all is SQL over the number n of a picture."""
         with Catalogue(self.path(name), make=True) as made_:
             made_.begin_run("2000-01-01T00:00:00Z")
             made_.base.execute(_ROWS.format(count=count, says=says, folder=folder, mark=mark, name=named))
@@ -84,7 +84,7 @@ class Scale(WithPictures):
         return counts
 
     def pictures(self, folder, count, ending=".jpg"):
-        """A folder with small pictures of which no two say the same."""
+        """A folder with small pictures, no two of which mean the same."""
         os.mkdir(self.path(folder))
         for number in range(count):
             octets = GIF if ending == ".gif" else made.jpeg(made.app1(made.exif(b"%03d" % number)), made.app1_xmp(made.title(str(number))))
@@ -153,7 +153,7 @@ class Scale(WithPictures):
         self.assertEqual(again[1] - again[0], 100)
 
     def test_statements_of_equal_pictures_that_moved(self):
-        """A thousand pictures that say the same are paired each with one, and not by looking at all others for each of them."""
+        """A thousand pictures that mean the same are paired each with one, and not by looking at all others for each of them."""
         costs = []
         for count in (100, 1000):
             before = self.catalogue(f"before{count}", count, "1")

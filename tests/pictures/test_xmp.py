@@ -1,4 +1,4 @@
-"""XMP: which packets say the same, beside rdflib on packets made at random, and packets that mean harm."""
+"""XMP: which packets mean the same, compared with rdflib on random packets, and packets that mean harm."""
 
 import hashlib
 import json
@@ -140,7 +140,7 @@ class Harm(unittest.TestCase):
         self.assertLessEqual({None, "NotWellFormed"}, answers)
 
     def test_nothing_is_fetched(self):
-        """The readers open no file and no connection, whatever a packet says."""
+        """The readers open no file and no connection, for any packet."""
         call = (
             "import sys; opened = []; sys.addaudithook(lambda name, it: opened.append(name) if name in"
             " ('socket.connect', 'socket.getaddrinfo', 'urllib.Request') or name == 'open' and 'etc' in str(it[0]) else None);"
