@@ -1,5 +1,6 @@
 -- Where the parts of a normal form begin, one behind the other.
-use Rattle.std.proofs.Common.{◌≡◌, ℕ, zero, suc, ◌+◌, Option, Some, List, [], ◌∷◌, length, map, drop, slice_get, get_or, refl, ◌∙◌, ap, subst, arith}
+use Rattle.std.proofs.Common.{◌≡◌, ℕ, zero, suc, ◌+◌, Option, Some, List, [], ◌∷◌, length, map, drop, slice_get, get_or}
+use Rattle.std.proofs.Common.{refl, ◌∙◌, ap, subst, arith}
 use Rattle.px_tree.specs.Tree.{Meaning}
 use Rattle.px_tree.specs.Fits.{Item, items, Fits}
 use Rattle.px_tree.specs.Entry.{table_size}
