@@ -41,8 +41,15 @@ push_reserved-requires c =
     let (ds, s, n) = c.requires.said in
     let (h, q) = c.loop-form_len.invariant.reading ds (datasets_is x ∙ s) in
     let (left, w) = rest_is x c.loop-form_len.at f r (map dataset_view c.loop-form_len.items.items) ds h in
-    omega (arith, n, ap length w, length-append (map dataset_view c.loop-form_len.items.items) (found_view f ∷ left),
-      length-map c.loop-form_len.items.items dataset_view, c.loop-form_len.items.ok.0, c.loop-form_len.invariant.capacity)
+    omega (
+      arith,
+      n,
+      ap length w,
+      length-append (map dataset_view c.loop-form_len.items.items) (found_view f ∷ left),
+      length-map c.loop-form_len.items.items dataset_view,
+      c.loop-form_len.items.ok.0,
+      c.loop-form_len.invariant.capacity,
+    )
 
 pub longer-form_len-requires-clause-counted : goal.longer-form_len-requires-clause-counted
 longer-form_len-requires-clause-counted c =
