@@ -1,4 +1,4 @@
-// Memory, which tells whether it has refused a growth.
+// Memory, which counts failed allocations.
 ghost use Rattle.std.specs.Prelude.{◌≡◌, ◌≤◌, ◌<◌, ◌+◌, ◌-◌, ◌*◌, ◌++◌, ◌∷◌, [], true, false, length, take, replicate, insert};
 ghost use Rattle.std.specs.Prelude.{max, vec_len, vec_capacity, string_bytes, string_len, string_capacity, is_ok, is_some};
 ghost use Rattle.std.specs.Prelude.{if◌then◌else◌, IfOk, OnOk, OnErr, IsOk, IsErr, ◌↔◌, None, Some};
@@ -13,10 +13,10 @@ use std::marker::Model;
 use std::mem::size_of;
 use thiserror::Error;
 
-// What `put` is taken to request beside key and value, `entry_links` of the definitions.
+// What `put` counts as requested in addition to key and value: `entry_links` of the definitions.
 const ENTRY_LINKS: usize = 32;
 
-/// A growth was refused. `Memory` alone makes one.
+/// The error that an allocation failed. Only `Memory` makes one.
 #[derive(Debug, Drop, Error)]
 #[error("out of memory")]
 pub struct Refused {
@@ -29,22 +29,21 @@ impl From<Refused> for AllocError {
     }
 }
 
-/// The memory that a run may take. Contracts see how many growths it has refused, as they see how many
-/// calls of a device have failed. Its calls are the only ones that let a vector, a map or a text grow: each
-/// one that fails has met one refused growth, and leaves what should grow as it was.
+/// The memory that a run may take. Contracts see how many allocations have failed, as they see how many
+/// calls of a device have failed. Only its calls enlarge a vector, a map or a text. A call that fails counts
+/// one failed allocation and leaves its vector, map or text as it was.
 ///
-/// Room for many elements at once is asked for by `reserve`, `reserve_exact` and `resize` alone, and no
-/// element or room for elements is larger than sixteen bytes for each byte of the longest block: no request
-/// that memory could never meet can pass for a refusal.
+/// No element, and no capacity that `reserve`, `reserve_exact` or `resize` requests, is larger than sixteen
+/// bytes for each byte of the longest block. So no request is one that memory could never meet.
 ///
-/// Contracts see as well how many bytes its calls have requested: the sizes of the elements, entries and
-/// texts that they were to make room for, whether they got it or not. That counts requests and not what is
-/// held at once, and since vectors and texts grow by doubling, what they take is at most a small factor more.
+/// Contracts also see how many bytes its calls have requested: the sizes of the elements, entries and texts
+/// that needed capacity, whether the allocation succeeded or not. This counts requests, not the bytes that
+/// are allocated at one time. Vectors and texts grow by doubling, so they take at most a small factor more.
 #[derive(Drop)]
 pub struct Memory {
     alloc: Global,
     refused: bool,
-    // How many growths were refused and how many bytes requested, which only proofs read.
+    // The number of failed allocations and of requested bytes, which only proofs read.
     told: Told,
 }
 
@@ -60,7 +59,7 @@ impl Model for Memory {
 }
 
 impl Memory {
-    /// Memory that has refused nothing, and of which nothing was requested.
+    /// Memory over an allocator, with no failed allocation and no requested byte. Allocates nothing.
     pub fn new(alloc: Global) -> Memory
         ensures { result ≡ record { refusals = 0; asked = 0 } }
     {
@@ -71,22 +70,22 @@ impl Memory {
         }
     }
 
-    /// Whether it has refused a growth.
+    /// Whether an allocation has failed.
     pub fn has_refused(&self) -> bool
         ensures { result ≡ true ↔ 0 < self.now.refusals }
     {
         self.refused
     }
 
-    /// Memory of the same allocator that has refused nothing, and of which nothing was requested.
+    /// Memory over the same allocator, with no failed allocation and no requested byte. Allocates nothing.
     pub fn fresh(&self) -> Memory
         ensures { result ≡ record { refusals = 0; asked = 0 } }
     {
         Memory::new(self.alloc)
     }
 
-    /// Tells as its own what other memory has refused, `Err` exactly where that has refused a growth, and adds
-    /// the bytes that were requested of that.
+    /// Takes over the counts of other memory. It adds that memory's requested bytes to its own. It returns
+    /// `Err` and counts one failed allocation exactly if an allocation of that memory failed. Allocates nothing.
     pub fn join(&mut self, other: &Memory) -> Result<(), Refused>
         ensures which { IsErr result ↔ 0 < other.now.refusals }
         ensures memory { Lacks result self.old self.new }
@@ -100,7 +99,7 @@ impl Memory {
         Ok(())
     }
 
-    // Tells that one more growth was refused.
+    // Counts one more failed allocation.
     fn refuse(&mut self) -> Refused
         ensures refusals { self.new.refusals ≡ self.old.refusals + 1 }
         ensures asked { self.new.asked ≡ self.old.asked }
@@ -111,7 +110,7 @@ impl Memory {
         Refused { _made: () }
     }
 
-    // Tells that room for so many elements of such a size is requested.
+    // Counts a request of capacity for `count` elements of `size` bytes each.
     #[inline(always)]
     fn ask(&mut self, count: usize, size: usize)
         ensures refusals { self.new.refusals ≡ self.old.refusals }
@@ -121,7 +120,7 @@ impl Memory {
         self.told = told;
     }
 
-    /// An empty vector. It takes no memory.
+    /// An empty vector. Allocates nothing.
     pub fn list<T>(&self) -> Vec<T>
         ensures items { result.items ≡ [] }
         ensures len { vec_len result ≡ 0 }
@@ -129,7 +128,7 @@ impl Memory {
         Vec::new(self.alloc)
     }
 
-    /// An empty map. It takes no memory.
+    /// An empty map. Allocates nothing.
     pub fn map<K: Ord, V>(&self) -> BTreeMap<K, V>
         ensures entries { result.entries ≡ [] }
         ensures len { btree_map_len result ≡ 0 }
@@ -137,7 +136,7 @@ impl Memory {
         BTreeMap::new(self.alloc)
     }
 
-    /// An empty text. It takes no memory.
+    /// An empty text. Allocates nothing.
     pub fn text(&self) -> String
         ensures bytes { string_bytes result ≡ [] }
         ensures len { string_len result ≡ 0 }
@@ -145,8 +144,8 @@ impl Memory {
         String::new(self.alloc)
     }
 
-    /// Puts an element behind the others. On `Err` the vector's elements are as they were, and there was
-    /// no room for one more.
+    /// Appends an element. Allocates if the vector has no capacity for one more. `Err`: that allocation
+    /// failed; the vector's elements are as they were.
     pub fn push<T: Drop>(&mut self, list: &mut Vec<T>, x: T) -> Result<(), Refused>
         requires { MayAsk (type_size T.row) }
         ensures items { list.new.items ≡ (if is_ok result then list.old.items ++ x ∷ [] else list.old.items) }
@@ -163,8 +162,8 @@ impl Memory {
         }
     }
 
-    /// Puts an element before the one at `index`, which is at most the number of elements. On `Err` the
-    /// vector's elements are as they were, and there was no room for one more.
+    /// Inserts an element at `index`, which is at most the number of elements. Allocates if the vector has no
+    /// capacity for one more. `Err`: that allocation failed; the vector's elements are as they were.
     pub fn insert<T: Drop>(&mut self, list: &mut Vec<T>, index: usize, x: T) -> Result<(), Refused>
         requires place { index ≤ vec_len list.old }
         requires size { MayAsk (type_size T.row) }
@@ -181,8 +180,8 @@ impl Memory {
         }
     }
 
-    /// Makes room for so many more. On `Err` that room was missing; the elements are as
-    /// they were in either case.
+    /// Makes capacity for at least `more` more elements. `Err`: the allocation failed; that capacity is
+    /// missing. In either case the elements are as they were.
     pub fn reserve<T>(&mut self, list: &mut Vec<T>, more: usize) -> Result<(), Refused>
         requires { MayAsk (more * type_size T.row) }
         ensures items { list.new.items ≡ list.old.items }
@@ -200,7 +199,7 @@ impl Memory {
         }
     }
 
-    /// Makes room for exactly so many more; else as `reserve`.
+    /// Like `reserve`, but makes capacity for exactly `more` more elements.
     pub fn reserve_exact<T>(&mut self, list: &mut Vec<T>, more: usize) -> Result<(), Refused>
         requires { MayAsk (more * type_size T.row) }
         ensures items { list.new.items ≡ list.old.items }
@@ -219,8 +218,8 @@ impl Memory {
         }
     }
 
-    /// Puts copies of the elements behind the others. On `Err` the vector's elements are as they were, and
-    /// there was no room for all of these.
+    /// Appends copies of the elements. Allocates if the vector has no capacity for all of them. `Err`: that
+    /// allocation failed; the vector's elements are as they were.
     pub fn extend_from_slice<T: Copy>(
         &mut self,
         list: &mut Vec<T>,
@@ -242,8 +241,8 @@ impl Memory {
         }
     }
 
-    /// Cuts it to `n` elements, or fills it up with `x`. On `Err` the vector's elements
-    /// are as they were, and there was no room for `n`.
+    /// Makes the vector `n` elements long: it removes the last elements or appends copies of `x`. Allocates if
+    /// the vector has no capacity for `n`. `Err`: that allocation failed; the elements are as they were.
     pub fn resize<T: Copy>(&mut self, list: &mut Vec<T>, n: usize, x: T) -> Result<(), Refused>
         requires { MayAsk (n * type_size T.row) }
         ensures items { list.new.items ≡ (if is_ok result then take n list.old.items ++ replicate (n - vec_len list.old) x else
@@ -260,8 +259,8 @@ impl Memory {
         }
     }
 
-    /// Puts a value at a key, and answers the value that stood there before. On `Err` the map is as it was,
-    /// and had nothing at that key.
+    /// Puts a value at a key and returns the value that was at that key before. Allocates only if there was
+    /// none. `Err`: that allocation failed; the map is as it was.
     pub fn put<K: Ord + Drop, V: Drop>(
         &mut self,
         map: &mut BTreeMap<K, V>,
@@ -287,7 +286,8 @@ impl Memory {
         }
     }
 
-    /// Puts a text behind another. On `Err` that is as it was, and had no room for all of it.
+    /// Appends `more` to a text. Allocates if the text has no capacity for all of it. `Err`: that allocation
+    /// failed; the text is as it was.
     pub fn push_str(&mut self, text: &mut String, more: &str) -> Result<(), Refused>
         ensures bytes { string_bytes text.new ≡ (if is_ok result then string_bytes text.old ++ more.now else string_bytes text.old) }
         ensures len { string_len text.new ≡ (if is_ok result then string_len text.old + length more.now else string_len text.old) }

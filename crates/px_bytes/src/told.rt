@@ -1,11 +1,11 @@
-// How many growths were refused, and how many bytes were requested, which only proofs read.
+// The number of failed allocations and of requested bytes, which only proofs read.
 ghost use Rattle.std.specs.Prelude.{◌≡◌, ◌+◌, ◌*◌, ℕ};
 ghost use Rattle.std.specs.Borrow.{ftrue};
 
 use std::marker::Model;
 
-/// A number of refusals and a number of bytes requested. It takes no memory, and its calls do nothing when
-/// they run.
+/// The number of failed allocations and the number of requested bytes. It has no size when the program runs,
+/// and its functions do nothing then.
 #[derive(Drop)]
 pub struct Told {
     pub ghost refusals: { ℕ },
@@ -17,14 +17,14 @@ impl Model for Told {
 }
 
 impl Told {
-    /// No refusal, and no request.
+    /// Both numbers are 0.
     pub fn none() -> Told
         ensures { (result.refusals ≡ 0) × (result.asked ≡ 0) }
     {
         Told {}
     }
 
-    /// One refusal more.
+    /// One more failed allocation.
     #[inline(always)]
     pub fn one_more(&self) -> Told
         ensures { (result.refusals ≡ self.now.refusals + 1) × (result.asked ≡ self.now.asked) }
@@ -32,7 +32,7 @@ impl Told {
         Told {}
     }
 
-    /// So many elements of such a size requested.
+    /// The bytes of `_count` elements of `_size` bytes each are added to the requested bytes.
     #[inline(always)]
     pub fn asking(&self, _count: usize, _size: usize) -> Told
         ensures { (result.refusals ≡ self.now.refusals) × (result.asked ≡ self.now.asked + _count * _size) }
@@ -40,7 +40,7 @@ impl Told {
         Told {}
     }
 
-    /// What other has requested besides.
+    /// The requested bytes of `_other` are added. The failed allocations stay the same.
     #[inline(always)]
     pub fn besides(&self, _other: &Told) -> Told
         ensures { (result.refusals ≡ self.now.refusals) × (result.asked ≡ self.now.asked + _other.now.asked) }

@@ -1,11 +1,11 @@
--- The numbers that stand for kinds in C, and the names of the causes with a number.
+-- The numbers of kinds in C, and the names of causes by number.
 use Rattle.std.specs.Prelude.{ℕ, List, [], Option, Some, None}
 use Rattle.px_bytes.specs.declared.Cause.{Cause}
 use Rattle.px_bytes.specs.Causes.{name_of, cause_of}
 use Rattle.px_engine.specs.declared.kinds.BlockKind.{BlockKind}
 use Rattle.px_engine.specs.declared.kinds.BlockKind.TheVariants as kind
 
--- the name of the cause with a number; the empty text if no cause has it
+-- the name of a cause; the empty text if there is no cause
 abbrev pub text_of : Option Cause → List ℕ
 text_of (Some c) = name_of c
 text_of None = []

@@ -1,5 +1,5 @@
 -- The result of a run that writes, from the results of its parts.
-use Rattle.std.proofs.Common.{◌≡◌, ◌<◌, ◌≤◌, ◌*◌, ℕ, Bool, Option, Some, None, List, length, Result, Ok, Err, IfOk, IfErr, IfSome, refl}
+use Rattle.std.proofs.Common.{◌≡◌, ◌<◌, ◌≤◌, ◌*◌, ℕ, Option, Some, None, List, length, Result, Ok, Err, IfOk, IfErr, IfSome, refl}
 use Rattle.std.proofs.Common.{sym, subst, arith}
 use Rattle.px_bytes.specs.Parts.{limit}
 use Rattle.px_bytes.specs.Reading.{ReadsUpTo}
@@ -30,7 +30,7 @@ normalised (Err OutOfMemory) left left_now bytes s old new a b x h w = absurd w
 normalised (Err ReadFailed) left left_now bytes s old new a b x h w = absurd w
 normalised (Err (Refused cause place)) left left_now bytes s old new a b x h w = absurd w
 
--- a writer takes no memory
+-- a writer allocates nothing
 pub lacks_nothing : (r : Result ℕ Fault) (old new : Option (List ℕ)) (a b : ℕ) (s : Said) (first last : ℕ) → last ≡ first
     → WritesSaid r old new a b s → LacksRunBy r first last
 lacks_nothing (Ok n) old new a b s first last q w = q

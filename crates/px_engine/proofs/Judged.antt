@@ -1,5 +1,5 @@
 -- The meanings of blocks and files, from the results of reading them.
-use Rattle.std.proofs.Common.{◌≡◌, ◌<◌, ℕ, Bool, Option, Some, None, List, length, Err, refl, sym, subst, arith}
+use Rattle.std.proofs.Common.{◌≡◌, ◌<◌, ℕ, Option, Some, None, List, length, Err, refl, sym, subst, arith}
 use Rattle.px_bytes.specs.declared.Cause.{Cause}
 use Rattle.px_bytes.specs.declared.Cause.TheVariants.{TooLong}
 use Rattle.px_bytes.specs.declared.Refusal.{Refusal}

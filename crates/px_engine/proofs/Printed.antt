@@ -1,5 +1,5 @@
 -- The results of runs that print, from the results of their parts.
-use Rattle.std.proofs.Common.{◌≡◌, ◌++◌, ℕ, Bool, Option, List, [], Result, Ok, Err, refl, sym, subst}
+use Rattle.std.proofs.Common.{◌≡◌, ◌++◌, ℕ, Option, List, [], Result, Ok, Err, refl, sym, subst}
 use Rattle.px_bytes.specs.Devices.{Counts, Writes}
 use Rattle.px_bytes.specs.Reading.{ReadsUpTo}
 use Rattle.px_bytes.specs.Waiting.{Owes}

@@ -1,5 +1,5 @@
 -- A slice that is filled with a form of exactly its length.
-use Rattle.std.proofs.Common.{◌≡◌, ◌≤◌, ℕ, Bool, List, ◌∷◌, length, take, min, nat_lt, true, false, if◌then◌else◌}
+use Rattle.std.proofs.Common.{◌≡◌, ◌≤◌, ℕ, Bool, List, ◌∷◌, length, take, nat_lt, true, false, if◌then◌else◌}
 use Rattle.std.proofs.Common.{Some, Result, Ok, Err, arith, refl, sym, ◌∙◌, ap}
 use Rattle.std.proofs.lemmas.Bool.{ltb-false}
 use Rattle.std.proofs.lemmas.List.{take_all, length-take, length-take-le}

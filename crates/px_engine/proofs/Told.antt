@@ -1,9 +1,8 @@
 -- The main promise, from the result of normalising two files and the laws of files.
-use Rattle.std.proofs.Common.{◌≡◌, ◌≤◌, ◌*◌, ◌↔◌, ℕ, Bool, IsTrue, List, length, Some, Ok, sym, refl, ◌∙◌, ap, subst, arith}
+use Rattle.std.proofs.Common.{◌≡◌, ◌≤◌, ◌*◌, ℕ, List, length, sym, refl, ◌∙◌, ap, subst, arith}
 use Rattle.px_bytes.specs.Parts.{limit}
 use Rattle.px_engine.specs.Files.{Said, Says, normal, block_of}
 use Rattle.px_engine.specs.Input.{IsSaid}
-use Rattle.px_engine.specs.Runs.{Compares}
 use Rattle.px_engine.specs.Hand.{IsFormOf}
 use Rattle.px_engine.specs.Headline.{IsItsOwn, Headline, RunsTell, ComparingTells}
 use Rattle.px_engine.specs.Laws.{OneSaid, NormalSays}

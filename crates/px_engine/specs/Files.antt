@@ -1,6 +1,6 @@
--- What a file says. It holds an Exif block, perhaps behind the six bytes that stand before one in the APP1 segment of a JPEG
--- file (CIPA DC-008, "Exif Identifier Code"), or a block of DataSets (IIM 4.2, chapter 1). How the two are told apart is this
--- project's profile.
+-- The meaning of a file. A file is an Exif block, perhaps after the six bytes that precede one in the APP1 segment of a JPEG
+-- file (CIPA DC-008, "Exif Identifier Code"), or a block of DataSets (IIM 4.2, chapter 1). How the two are distinguished is
+-- this project's profile.
 use Rattle.std.specs.Prelude.{ℕ, nat_eq, Bool, if◌then◌else◌, List, [], ◌∷◌, drop}
 use Rattle.std.specs.List.{starts_with}
 use Rattle.px_bytes.specs.declared.Cause.{Cause}
@@ -16,7 +16,7 @@ use Rattle.px_layout.specs.Normal.{normal_exif}
 use Rattle.px_engine.specs.declared.kinds.BlockKind.{BlockKind}
 use Rattle.px_engine.specs.declared.kinds.BlockKind.TheVariants as kind
 
--- what is said: a tree of directories, or a record
+-- a meaning: a tree of directories, or a record
 pub data Said : Type 0 where
   Exif : Meaning → Said
   Iim : Record → Said
@@ -30,7 +30,7 @@ prefix = 0x45 ∷ 0x78 ∷ 0x69 ∷ 0x66 ∷ 0 ∷ 0 ∷ []
 abbrev pub is_prefixed : List ℕ → Bool
 is_prefixed f = starts_with nat_eq f prefix
 
--- the tag marker of a DataSet stands in front
+-- the first byte is the tag marker of a DataSet
 abbrev pub is_marked : List ℕ → Bool
 is_marked f = starts_with nat_eq f (0x1C ∷ [])
 
@@ -40,18 +40,18 @@ kind_of f = if is_prefixed f then kind.Exif else if is_marked f then kind.Iim el
 unfoldable pub block_of : List ℕ → List ℕ
 block_of f = if is_prefixed f then drop 6 f else f
 
--- ---- what it says
+-- ---- its meaning
 
 abbrev pub SaysBlock : BlockKind → List ℕ → Said → Type 0
 SaysBlock kind.Exif b (Exif m) = SaysExif b m
 SaysBlock kind.Iim b (Iim i) = SaysIim b i
 SaysBlock _ b s = ⊥
 
--- the block in the file, as one of its kind, says it
+-- the block in the file, read as its kind, has this meaning
 abbrev pub Says : List ℕ → Said → Type 0
 Says f s = SaysBlock (kind_of f) (block_of f) s
 
--- the kind of block that says it
+-- the kind of block that has this meaning
 abbrev pub kind_said : Said → BlockKind
 kind_said (Exif m) = kind.Exif
 kind_said (Iim i) = kind.Iim
@@ -66,7 +66,7 @@ abbrev pub normal : Said → List ℕ
 normal (Exif m) = normal_exif m
 normal (Iim i) = normal_iim i
 
--- ---- its faults; places count from the block's first byte
+-- ---- its faults; byte offsets count from the block's first byte
 
 abbrev pub FirstIn : BlockKind → List ℕ → Cause → ℕ → Type 0
 FirstIn kind.Exif b c p = FirstFault b c p
@@ -80,6 +80,6 @@ abbrev pub StandsIn : BlockKind → List ℕ → Cause → ℕ → Type 0
 StandsIn kind.Exif b c p = Fault b c p
 StandsIn kind.Iim b c p = IimFault b c p
 
--- a fault that stands in the block in the file
+-- a fault of the block in the file
 abbrev pub FaultOf : List ℕ → Cause → ℕ → Type 0
 FaultOf f c p = StandsIn (kind_of f) (block_of f) c p

@@ -1,4 +1,4 @@
--- What calls over files in hand answer.
+-- What calls over files in memory return.
 use Rattle.std.specs.Prelude.{◌≡◌, ◌↔◌, ◌<◌, ◌≤◌, ◌*◌, ◌++◌, ℕ, Bool, IsTrue, List, length, drop}
 use Rattle.px_bytes.specs.Parts.{limit}
 use Rattle.px_engine.specs.declared.faults.Fault.{Fault}
@@ -10,39 +10,39 @@ use Rattle.px_engine.specs.declared.kinds.BlockKind.{BlockKind}
 use Rattle.px_engine.specs.Files.{Said, kind_said, normal, block_of}
 use Rattle.px_engine.specs.Input.{IsSaid, IsUnsaid, OnSide}
 
--- the kind of what the file says
+-- the kind of the file's meaning
 abbrev pub IsKindOf : List ℕ → BlockKind → Type 0
 IsKindOf f kind = (s : Said) × IsSaid f s × (kind ≡ kind_said s)
 
--- whether what the two files say is the same
+-- whether the two files have the same meaning
 abbrev pub SaysSame : List ℕ → List ℕ → Bool → Type 0
 SaysSame f g same = (s t : Said) × IsSaid f s × IsSaid g t × (IsTrue same ↔ (s ≡ t))
 
--- a fault of the first file; or one of the second, where the first says something
+-- a fault of the first file; or one of the second, if the first has a meaning
 abbrev pub IsUnsaidAt : List ℕ → List ℕ → ℕ → CompareFault → Type 0
 IsUnsaidAt f g refused e = OnSide e.side (IsUnsaid f refused e.fault) ((s : Said) × IsSaid f s) (IsUnsaid g refused e.fault)
 
--- n is the normal form of what the file f says
+-- n is the normal form of s, the meaning of the file f
 abbrev pub IsFormOf : List ℕ → Said → List ℕ → Type 0
 IsFormOf f s n = IsSaid f s × (n ≡ normal s) × (length n ≤ limit)
 
--- Why nothing was written of f: it says nothing, for its content's first fault; or the form of what it says is too long; or
--- memory has refused a growth. No device is asked, so none fails.
+-- Why nothing was written of f: it has no meaning, and this is its first fault; or the form of its meaning is too long; or
+-- an allocation failed. No device is called, so none fails.
 abbrev pub IsUnwritten : List ℕ → ℕ → Fault → Type 0
 IsUnwritten f refused NormalTooLong = (s : Said) × IsSaid f s × (limit < length (normal s)) × (limit < 2 * length (block_of f))
 IsUnwritten f refused fault = IsUnsaid f refused fault
 
--- the fault of the first file; or of the second, where the first has a form
+-- the fault of the first file; or of the second, if the first has a form
 abbrev pub IsUnwrittenAt : List ℕ → List ℕ → ℕ → CompareFault → Type 0
 IsUnwrittenAt f g refused e =
     OnSide e.side (IsUnwritten f refused e.fault) ((s : Said) × (n : List ℕ) × IsFormOf f s n) (IsUnwritten g refused e.fault)
 
--- Of a form and the room that a caller has for it: the room begins with the form, and is as it was behind it; or it is too little,
--- and is as it was. In both cases the form's length is told.
+-- A form and a caller's buffer: the buffer begins with the form and is unchanged after it; or the buffer is too small, and is
+-- unchanged. In both cases the form's length is returned.
 abbrev pub IsPut : Given → List ℕ → List ℕ → List ℕ → Type 0
 IsPut (Whole len) form old new = (len ≡ length form) × (length form ≤ length old) × (new ≡ form ++ drop (length form) old)
 IsPut (Needs len) form old new = (len ≡ length form) × (length old < length form) × (new ≡ old)
 
--- the form is that of what the file says
+-- the form is that of the file's meaning
 abbrev pub PutsForm : List ℕ → Given → List ℕ → List ℕ → Type 0
 PutsForm f given old new = (s : Said) × (n : List ℕ) × IsFormOf f s n × IsPut given n old new

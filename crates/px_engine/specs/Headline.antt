@@ -1,4 +1,4 @@
--- The headline: two files, and the normal forms that are written of them.
+-- The headline: two files, and the normal forms that are written for them.
 use Rattle.std.specs.Prelude.{◌≡◌, ◌↔◌, ℕ, Bool, IsTrue, List, Option, Some, Ok}
 use Rattle.std.specs.Io.KnownBytes.{Appends}
 use Rattle.px_engine.specs.Files.{Said, Says, normal}
@@ -6,15 +6,15 @@ use Rattle.px_engine.specs.Hand.{IsFormOf}
 use Rattle.px_engine.specs.Input.{IsSaid}
 use Rattle.px_engine.specs.Runs.{Normalises, Compares}
 
--- as a file n says s and nothing else, and n is the normal form of what it says
+-- as a file n has the meaning s and no other, and n is the normal form of its meaning
 pub record IsItsOwn (n : List ℕ) (s : Said) : Type 0 where
   pub says : IsSaid n s
   pub alone : (t : Said) → Says n t → t ≡ s
   pub again : (t : Said) → Says n t → normal t ≡ n
 
--- Of two files f and g the bytes m and n were written.
+-- For two files f and g the bytes m and n were written.
 pub record Headline (f g m n : List ℕ) : Type 0 where
-  -- what the files say: each is accepted only with the meaning that the layout of its bytes gives, which is one
+  -- the meanings: each file is accepted only with the meaning that the layout of its bytes gives, and it has only that one
   pub first : Said
   pub second : Said
   pub first_form : IsFormOf f first m
@@ -29,13 +29,13 @@ pub record Headline (f g m n : List ℕ) : Type 0 where
 
 -- ---- the headline of runs
 
--- Two runs that normalise two files and are done, whatever their devices took before: of each file the normal form was taken, and
--- the forms say all of the above.
+-- Two runs that normalise two files and succeed, whatever their devices took before: each writer took the normal form, and all
+-- of the above is true of the forms.
 abbrev pub RunsTell : Type 0
 RunsTell = (f g : List ℕ) (i j : ℕ) (old new other_old other_new : Option (List ℕ)) → Normalises (Ok i) (Some f) old new
     → Normalises (Ok j) (Some g) other_old other_new
     → (m n : List ℕ) × Appends old new m × Appends other_old other_new n × Headline f g m n
 
--- Comparing two files that have normal forms answers whether these are equal.
+-- Comparing two files that have normal forms returns whether these are equal.
 abbrev pub ComparingTells : Type 0
 ComparingTells = (f g m n : List ℕ) (same : Bool) → Headline f g m n → Compares (Ok same) (Some f) (Some g) → IsTrue same ↔ (m ≡ n)

@@ -1,4 +1,4 @@
--- What reading a file answers.
+-- What reading a file returns.
 use Rattle.std.specs.Prelude.{◌≡◌, ◌<◌, ◌≤◌, ◌+◌, ◌*◌, ℕ, List, length, Result, Ok, Err, ⊤}
 use Rattle.px_bytes.specs.declared.Cause.{Cause}
 use Rattle.px_bytes.specs.declared.Refusal.{Refusal}
@@ -13,25 +13,25 @@ use Rattle.px_engine.specs.declared.faults.Side.TheVariants.{First, Second}
 use Rattle.px_engine.specs.declared.kinds.BlockKind.{BlockKind}
 use Rattle.px_engine.specs.Files.{Said, SaysBlock, CanBeWritten, normal, kind_of, block_of, FirstIn, StandsIn}
 
--- a block, as one of its kind, says it; it can be written, in a normal form at most twice as long as the block
+-- a block, read as its kind, has this meaning; it can be written, in a normal form at most twice as long as the block
 pub record IsSaidIn (k : BlockKind) (b : List ℕ) (s : Said) : Type 0 where
   pub says : SaysBlock k b s
   pub fits : CanBeWritten s
   pub bounded : length (normal s) ≤ 2 * length b
 
--- the fault is the block's first, it stands, its place is at most the limit, and the block says nothing
+-- this is the block's first fault, and one of its faults; its byte offset is at most the limit; the block has no meaning
 pub record IsFaultyIn (k : BlockKind) (b : List ℕ) (cause : Cause) (place : ℕ) : Type 0 where
   pub first : FirstIn k b cause place
   pub stands : StandsIn k b cause place
   pub bounded : place ≤ limit
   pub unsaid : (s : Said) → SaysBlock k b s → ⊥
 
--- a refusal of content names such a fault; want of memory comes where memory has refused a growth
+-- a refusal for content names such a fault; a refusal with OutOfMemory means that an allocation failed
 abbrev pub IsRefusedIn : BlockKind → List ℕ → ℕ → Refusal → Type 0
 IsRefusedIn k b refused (refusal.Content cause place) = IsFaultyIn k b cause place
 IsRefusedIn k b refused refusal.OutOfMemory = 0 < refused
 
--- the same of the block in a file
+-- the same, for the block in a file
 abbrev pub IsSaid : List ℕ → Said → Type 0
 IsSaid f s = IsSaidIn (kind_of f) (block_of f) s
 
@@ -47,14 +47,14 @@ IsUnsaid f refused (Refused cause place) = IsFaulty f cause place
 IsUnsaid f refused OutOfMemory = 0 < refused
 IsUnsaid f refused fault = ⊥
 
--- what is said of a fault of the first file; or of one of the second, where the first is as `well` says
+-- a fault of the first file, with `first`; or one of the second, with `second`, and `well` of the first
 abbrev pub OnSide : Side → Type 0 → Type 0 → Type 0 → Type 0
 OnSide First first well second = first
 OnSide Second first well second = well × second
 
 -- ---- counts of failures, before a call and after it
 
--- memory refused one growth exactly where that is the fault
+-- the number of failed allocations rose by one exactly if that is the fault
 abbrev pub LacksFault : Fault → ℕ → ℕ → Type 0
 LacksFault OutOfMemory old new = new ≡ old + 1
 LacksFault fault old new = new ≡ old
@@ -67,14 +67,14 @@ abbrev pub LacksPairBy : {A : Type 0} → Result A CompareFault → ℕ → ℕ 
 LacksPairBy (Ok x) old new = new ≡ old
 LacksPairBy (Err e) old new = LacksFault e.fault old new
 
--- the same of memory
+-- the same, with the counts of a memory
 abbrev pub LacksRun : {A : Type 0} → Result A Fault → Taken → Taken → Type 0
 LacksRun r old new = LacksRunBy r old.refusals new.refusals
 
 abbrev pub LacksPair : {A : Type 0} → Result A CompareFault → Taken → Taken → Type 0
 LacksPair r old new = LacksPairBy r old.refusals new.refusals
 
--- a call of the reader failed exactly where that is the fault
+-- a call of the reader failed exactly if that is the fault
 abbrev pub CountsFault : Fault → ℕ → ℕ → Type 0
 CountsFault ReadFailed failed failed_now = failed_now ≡ failed + 1
 CountsFault fault failed failed_now = failed_now ≡ failed

@@ -1,4 +1,4 @@
--- What `show` and `captions` print, and what they make of a file.
+-- What `show` and `captions` print, and how their runs end.
 use Rattle.std.specs.Prelude.{◌≡◌, ℕ, Bool, List, Option, Result, Ok, Err}
 use Rattle.std.specs.Io.KnownBytes.{Appends}
 use Rattle.px_bytes.specs.Devices.{AppendsPrefix}
@@ -19,18 +19,18 @@ abbrev pub captions_in : Said → Bool × List Labelled
 captions_in (Exif m) = captions_of_exif m
 captions_in (Iim i) = captions_of_iim i
 
--- their text
+-- the text of the captions
 abbrev pub caption_text : Said → List ℕ
 caption_text (Exif m) = exif_text m
 caption_text (Iim i) = iim_text i
 
--- Of `file` the writer, which had taken `old`, has now taken `new`. Done: exactly the text of what the file says. A failed
--- write: a prefix of it. Every other fault: nothing. No text is too long.
+-- The writer had taken `old` before the run of `file` and has taken `new` after it. Success: exactly the text of the file's
+-- meaning. A failed write: a prefix of it. Every other fault: nothing. No text is too long.
 abbrev pub Prints : {A : Type 0} → (Said → List ℕ) → Result A Fault → Option (List ℕ) → Option (List ℕ) → Option (List ℕ) → Type 0
 Prints text (Ok x) file old new = (s : Said) × KnownSaid file s × Appends old new (text s)
 Prints text (Err WriteFailed) file old new = (s : Said) × KnownSaid file s × AppendsPrefix old new (text s)
 Prints text (Err fault) file old new = Stops fault file × (new ≡ old)
 
--- the bytes are the text of what the bytes that were read say
+-- `out` is the text of the meaning of the bytes that were read
 abbrev pub IsTextOf : (Said → List ℕ) → List ℕ → List ℕ → Type 0
 IsTextOf text bytes out = (s : Said) × IsSaid bytes s × (out ≡ text s)

@@ -1,4 +1,4 @@
--- What whole runs answer, and what they do to their devices.
+-- What whole runs return, and what they do to their devices.
 use Rattle.std.specs.Prelude.{◌≡◌, ◌<◌, ◌≤◌, ◌+◌, ◌*◌, ◌↔◌, ℕ, Bool, IsTrue, List, length, Option, IfSome, Result, Ok, Err, ⊤}
 use Rattle.std.specs.Io.KnownBytes.{Appends}
 use Rattle.px_bytes.specs.Devices.{AppendsPrefix}
@@ -10,14 +10,14 @@ use Rattle.px_engine.specs.declared.kinds.BlockKind.{BlockKind}
 use Rattle.px_engine.specs.Files.{Said, kind_said, block_of, normal}
 use Rattle.px_engine.specs.Input.{IsSaid, IsFaulty, OnSide, CountsFault}
 
--- ---- what is known of a file. `file` is what a reader had to give, where it tells its bytes
+-- ---- what is known of a file. `file` is the bytes that a reader returns, if the reader's contract states them
 
--- it says s
+-- its meaning is s
 abbrev pub KnownSaid : Option (List ℕ) → Said → Type 0
 KnownSaid file s = IfSome file (λ f. IsSaid f s)
 
--- a fault of reading and judging it: its first fault; or a failed read or want of memory, of which this word says nothing at all:
--- when they come is said by the clauses `reads` and `memory` of each run
+-- a fault of reading and judging it: its first fault; or a failed read or a failed allocation. This definition doesn't state when
+-- those two come; the clauses `reads` and `memory` of each run do
 abbrev pub Stops : Fault → Option (List ℕ) → Type 0
 Stops (Refused cause place) file = (place ≤ limit) × IfSome file (λ f. IsFaulty f cause place)
 Stops OutOfMemory file = ⊤
@@ -26,14 +26,14 @@ Stops fault file = ⊥
 
 -- ---- one file
 
--- the kind of what the file says
+-- the kind of the file's meaning
 abbrev pub Checks : Result BlockKind Fault → Option (List ℕ) → Type 0
 Checks (Ok kind) file = (s : Said) × KnownSaid file s × (kind ≡ kind_said s)
 Checks (Err fault) file = Stops fault file
 
--- Of `file` the writer, which had taken `old`, has now taken `new`. Done: exactly the normal form of what the file says, whose
--- length is answered. Too long a form: nothing, and the form of what the file says is longer than the limit, as then the block
--- is longer than half of it. A failed write: a prefix of that form. Every other fault: nothing.
+-- The writer had taken `old` before the run of `file` and has taken `new` after it. Success: exactly the normal form of the file's
+-- meaning, whose length is returned. Too long a form: nothing; the form of the file's meaning is longer than the limit, and the
+-- block is longer than half of the limit. A failed write: a prefix of that form. Every other fault: nothing.
 abbrev pub Normalises : Result ℕ Fault → Option (List ℕ) → Option (List ℕ) → Option (List ℕ) → Type 0
 Normalises (Ok n) file old new = (s : Said) × KnownSaid file s × Appends old new (normal s) × (n ≡ length (normal s)) × (n ≤ limit)
 Normalises (Err NormalTooLong) file old new =
@@ -41,24 +41,24 @@ Normalises (Err NormalTooLong) file old new =
 Normalises (Err WriteFailed) file old new = (s : Said) × KnownSaid file s × AppendsPrefix old new (normal s) × (length (normal s) ≤ limit)
 Normalises (Err fault) file old new = Stops fault file × (new ≡ old)
 
--- a failed write is answered exactly where the writer's count of failures rose
+-- the fault is a failed write exactly if the writer's count of failures rose
 abbrev pub CountsWrites : {A : Type 0} → Result A Fault → ℕ → ℕ → Type 0
 CountsWrites (Err WriteFailed) failed failed_now = failed_now ≡ failed + 1
 CountsWrites result failed failed_now = failed_now ≡ failed
 
 -- ---- two files
 
--- whether what the two files say is the same
+-- whether the two files have the same meaning
 abbrev pub Compares : Result Bool CompareFault → Option (List ℕ) → Option (List ℕ) → Type 0
 Compares (Ok same) first second = (s t : Said) × KnownSaid first s × KnownSaid second t × (IsTrue same ↔ (s ≡ t))
 Compares (Err e) first second = OnSide e.side (Stops e.fault first) ((s : Said) × KnownSaid first s) (Stops e.fault second)
 
--- where the fault is of the first file, the second reader is as it was
+-- if the fault is the first file's, the second reader is unchanged
 abbrev pub Untouched : {R : Type 0} → Result Bool CompareFault → R → R → Type 0
 Untouched (Ok same) old new = ⊤
 Untouched (Err e) old new = OnSide e.side (new ≡ old) ⊤ ⊤
 
--- a failed read is answered exactly where the count of that side's reader rose
+-- the fault is a failed read exactly if the count of that side's reader rose
 abbrev pub CountsSides : Result Bool CompareFault → ℕ → ℕ → ℕ → ℕ → Type 0
 CountsSides (Ok same) first first_now second second_now = (first_now ≡ first) × (second_now ≡ second)
 CountsSides (Err e) first first_now second second_now =

@@ -1,4 +1,4 @@
--- Words of the contracts of single calls. What the promises rest on stands a folder above.
+-- Definitions for the contracts of single calls. Those that the promises need are one folder above.
 pub mod Faults
 pub mod Filled
 pub mod Second

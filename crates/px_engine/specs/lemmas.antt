@@ -1,2 +1,2 @@
--- Lemmas: proved here, and not to be read to know what is promised.
+-- Lemmas: proved here. They need not be read to know what is promised.
 pub mod FileLaws

@@ -47,7 +47,7 @@ repeated : iim_of (keyword 97 ++ keyword 97) ≡ Some (record { rec = 2; number 
 unfolding opened keyword
 repeated = refl
 
--- a by-line's title stands among the by-lines
+-- a by-line's title is among the by-lines
 abbrev byline : ℕ → List ℕ
 byline o = 0x1C ∷ 2 ∷ 80 ∷ 0 ∷ 1 ∷ o ∷ []
 
@@ -64,7 +64,7 @@ title_behind : iim_of (byline 65 ++ byline 66 ++ title) ≡ Some
 unfolding opened
 title_behind = refl
 
--- the same caption with an extended count, with a standard one, and with zeros behind
+-- the same caption with an extended count, with a standard one, and with zeros at the end
 abbrev abc : Record
 abc = record { rec = 2; number = 120; items = (120, 97 ∷ 98 ∷ 99 ∷ []) ∷ [] } ∷ []
 

@@ -1,4 +1,4 @@
-// DataSets, and the groups that they belong to.
+// DataSets, and the groups to which they belong.
 ghost use Rattle.std.specs.Prelude.{◌≡◌, ◌+◌, ◌*◌, ◌/◌, ◌<◌, ◌≤◌, insert, max, vec_len, vec_capacity, OnOk, OnErr};
 ghost use Rattle.px_bytes.specs.Lacking.{Lacks};
 ghost use Rattle.px_bytes.specs.Parts.{limit};
@@ -7,18 +7,18 @@ ghost use Rattle.px_iim.specs.calls.View.{octets_left};
 
 use px_bytes::{LIMIT, Memory, Refused};
 
-/// A DataSet as it stands in its group; the group tells its record number.
+/// A DataSet in its group. The record number is the group's.
 #[derive(Clone, Copy, Debug)]
 pub struct Item<'a> {
-    // Here the record number takes no room: it fills a gap behind the number.
+    // Here the record number makes the item no larger: it fills a gap after the number.
     pub(crate) rec: u8,
     /// The DataSet number.
     pub number: u8,
-    /// The data, as they stand in the block; at most `LIMIT` octets.
+    /// The data as they are in the block, at most `LIMIT` octets.
     pub octets: &'a [u8],
 }
 
-// The number that names the group of a DataSet.
+// The number that names a DataSet's group: in record 2 some numbers share one.
 #[tactic(auto, unfolding(crate::specs::Group::named))]
 pub(crate) fn named(rec: u8, number: u8) -> u8
     ensures { result ≡ named rec number }
@@ -34,7 +34,7 @@ pub(crate) fn named(rec: u8, number: u8) -> u8
     }
 }
 
-// The place of a group among all that can be: by record, then number.
+// The key of a group. Groups are ordered by record, then by number, and so are their keys.
 pub(crate) fn key_of(rec: u8, number: u8) -> usize
     ensures value { result ≡ 256 * rec + named rec number }
     ensures bounded { result < 65536 }
@@ -46,8 +46,8 @@ pub(crate) fn key_of(rec: u8, number: u8) -> usize
 // A list of more items than this is long.
 const LONG: usize = 65536;
 
-// For how many more a full list of so many items makes room: for half as many, and three at least; in a long list for a
-// 32nd. A long list so needs few growths, and holds little more than it needs; the system moves it without a copy.
+// How many more items a full list of `len` items gets capacity for: half as many, and at least three; in a long list a
+// 32nd. So a long list needs few allocations and has little unused capacity. The system moves it without a copy.
 fn room_for(len: usize) -> usize
     ensures some { 1 ≤ result }
     ensures most { result ≤ max 3 (len / 2) }
@@ -60,7 +60,8 @@ fn room_for(len: usize) -> usize
     (len / 2).max(3)
 }
 
-// Makes room for one more in a full list: in an empty one for that one alone, since many records have one DataSet.
+// Makes capacity for one more item in a full list. An empty list gets capacity for one item only, since many records
+// have one DataSet.
 fn make_room<'a>(memory: &mut Memory, list: &mut Vec<Item<'a>>) -> Result<(), Refused>
     ensures items { list.new.items ≡ list.old.items }
     ensures len { vec_len list.new ≡ vec_len list.old }
@@ -80,7 +81,7 @@ fn make_room<'a>(memory: &mut Memory, list: &mut Vec<Item<'a>>) -> Result<(), Re
     memory.reserve_exact(list, room_for(list.len()))
 }
 
-// Puts an item before the one at a place; at the end, where most belong, nothing has to be moved.
+// Inserts an item at an index. Most items are appended at the end, and then no item is moved.
 pub(crate) fn put_at<'a>(
     memory: &mut Memory,
     list: &mut Vec<Item<'a>>,
@@ -100,7 +101,7 @@ pub(crate) fn put_at<'a>(
     memory.insert(list, at, item)
 }
 
-// Makes room for just so many more.
+// Makes capacity for exactly `count` more items.
 pub(crate) fn make_room_for<'a>(
     memory: &mut Memory,
     list: &mut Vec<Item<'a>>,
@@ -116,8 +117,8 @@ pub(crate) fn make_room_for<'a>(
     memory.reserve_exact(list, count)
 }
 
-/// The data of the DataSets of one number, in their group's order: what `Iim::all` answers. It takes
-/// no memory.
+/// The iterator that `Iim::all` returns: the data of the DataSets of one number, in their group's order.
+/// Allocates nothing.
 #[derive(Clone, Copy)]
 pub struct All<'b, 'a> {
     pub(crate) items: &'b [Item<'a>],

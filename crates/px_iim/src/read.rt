@@ -1,4 +1,4 @@
-// A whole block, read DataSet by DataSet.
+// Reads a whole block, DataSet by DataSet.
 ghost use Rattle.std.specs.Prelude.{◌≡◌, ◌≤◌, ◌*◌, ℕ, length, Some, is_some, IfOk, IfErr};
 ghost use Rattle.px_bytes.specs.Checks.{Judges, LacksBlock};
 ghost use Rattle.px_bytes.specs.Parts.{limit};
@@ -15,7 +15,7 @@ use crate::survey::survey;
 use px_bytes::{Cause, LIMIT, Memory, Refusal};
 use std::alloc::Global;
 
-// Reads the DataSets of a block, which are so many, one after another.
+// Reads the `count` DataSets of a block, and inserts each at its position.
 fn read_put<'a>(memory: &mut Memory, bytes: &'a [u8], count: usize) -> Result<Iim<'a>, Refusal>
     requires bounded { length bytes.now ≤ limit }
     requires few { 5 * count ≤ limit }
@@ -34,7 +34,7 @@ fn read_put<'a>(memory: &mut Memory, bytes: &'a [u8], count: usize) -> Result<Ii
     }
 }
 
-// Reads the groups, judged by the checks.
+// Judges a block that isn't too long, and reads its groups.
 fn read_groups<'a>(memory: &mut Memory, bytes: &'a [u8]) -> Result<Iim<'a>, Refusal>
     requires { length bytes.now ≤ limit }
     ensures judged { Judges result (iim_checks bytes.now) (λ i. iim_of bytes.now ≡ Some i) }
@@ -50,14 +50,14 @@ fn read_groups<'a>(memory: &mut Memory, bytes: &'a [u8]) -> Result<Iim<'a>, Refu
     Ok(read_sorted(memory, bytes, seen.count, seen.keys)?)
 }
 
-/// The record that a block says. IIM 4.2, chapter 1.
+/// The record of a block of DataSets. IIM 4.2, chapter 1. Its data are borrowed from the block. Allocates the
+/// record's list, and counters if more than 64 DataSets are out of order.
 ///
-/// A refusal of content is the first check that is false: TooLong at `LIMIT` for more octets than that;
-/// then at each place where a DataSet must begin NoMarker where no `1C` stands, DataSetCut where fewer
-/// than five octets are left, LengthForm where an extended count has no octets or more than four, and
-/// DataSetCut where its octets or the data pass the end. The block ends behind a DataSet where at most
-/// three octets are left, all of them zero. Places count from the first octet. OutOfMemory is answered
-/// where a growth was refused, of the record or of the counters by which DataSets are put in order.
+/// `Content`: the first check that fails. `TooLong` at `LIMIT`: the block has more octets than that. Then, for
+/// each DataSet: `NoMarker`: it doesn't begin with `1C`; `DataSetCut`: fewer than five octets are left;
+/// `LengthForm`: an extended count has no octets or more than four; `DataSetCut`: the octets of the count or
+/// the data pass the end. The block ends after a DataSet if at most three octets are left, all of them zero.
+/// Offsets count from the first octet. `OutOfMemory`: an allocation failed.
 pub fn read_iim<'a>(alloc: Global, bytes: &'a [u8]) -> Result<Iim<'a>, Refusal>
     ensures judged { Judges result (iim_checks bytes.now) (SaysIim bytes.now) }
     ensures computed { IfOk result (λ i. iim_of bytes.now ≡ Some i) }
@@ -67,8 +67,8 @@ pub fn read_iim<'a>(alloc: Global, bytes: &'a [u8]) -> Result<Iim<'a>, Refusal>
     read_iim_in(&mut Memory::new(alloc), bytes)
 }
 
-/// The record that a block says, as `read_iim` tells it, in the memory that is lent: OutOfMemory tells that
-/// it refused a growth in this call, and no other answer comes where it did.
+/// Like `read_iim`, with the caller's memory: it returns `OutOfMemory` exactly if an allocation failed in this
+/// call.
 pub fn read_iim_in<'a>(memory: &mut Memory, bytes: &'a [u8]) -> Result<Iim<'a>, Refusal>
     ensures judged { Judges result (iim_checks bytes.now) (SaysIim bytes.now) }
     ensures computed { IfOk result (λ i. iim_of bytes.now ≡ Some i) }
@@ -82,7 +82,7 @@ pub fn read_iim_in<'a>(memory: &mut Memory, bytes: &'a [u8]) -> Result<Iim<'a>, 
     read_groups(memory, bytes)
 }
 
-/// Judges a block as `read_iim` does, and keeps nothing of it. It takes no memory.
+/// Judges a block as `read_iim` does, with the same errors but `OutOfMemory`. Allocates nothing.
 pub fn judge_iim(bytes: &[u8]) -> Result<(), Refusal>
     ensures judged { Judges result (iim_checks bytes.now) (λ u. (i : Record) × SaysIim bytes.now i) }
     ensures stands { (refused : ℕ) → IfErr result (RefusesIim bytes.now refused) }
@@ -94,7 +94,7 @@ pub fn judge_iim(bytes: &[u8]) -> Result<(), Refusal>
     Ok(())
 }
 
-/// Whether the octets say a record, as `read_iim` judges it. It takes no memory.
+/// Whether the octets mean a record, as `read_iim` judges them. Allocates nothing.
 pub fn accepts(bytes: &[u8]) -> bool
     ensures { result ≡ is_some (iim_of bytes.now) }
 {

@@ -1,4 +1,4 @@
-// A block gone through once: it is judged, and what reading it will need is found out.
+// One pass over a block: it judges the block and finds what reading it needs.
 ghost use Rattle.std.specs.Prelude.{◌≡◌, ◌≤◌, ◌<◌, ◌+◌, ◌*◌, ℕ, List, Some, IfOk, true, false, length, max};
 ghost use Rattle.std.specs.List.{AllByRecursion};
 ghost use Rattle.px_bytes.specs.Checks.{ContentOnly, Judges};
@@ -12,22 +12,22 @@ use crate::dataset::{dataset_at, is_end, rest};
 use crate::group::key_of;
 use px_bytes::Refusal;
 
-// So many DataSets, or fewer, are put one after another, whatever their order.
+// A block of at most so many DataSets that are out of order is read by inserting one after another.
 const FEW: usize = 64;
 
-// What was found out of a block.
+// What the pass finds.
 #[derive(Clone, Copy)]
 pub(crate) struct Overview {
-    // How many DataSets there are.
+    // The number of DataSets.
     pub(crate) count: usize,
-    // All groups come before this place.
+    // Greater than the key of each group (`key_of`).
     pub(crate) keys: usize,
-    // Whether no group comes behind one that belongs behind it.
+    // Whether the DataSets are in the order of their groups.
     pub(crate) in_order: bool,
 }
 
 impl Overview {
-    // Whether the DataSets are so few that each is put at its place, in whatever order they come.
+    // Whether the DataSets are so few that each is inserted at its position, in whatever order they come.
     pub(crate) fn is_few(&self) -> bool
         ensures { result ≡ false → FEW < self.now.count }
     {
@@ -35,7 +35,7 @@ impl Overview {
     }
 }
 
-// The least bound above this one that is also past the place.
+// The smallest bound that is at least `keys` and greater than `key`.
 fn past(keys: usize, key: usize) -> usize
     requires { key < 65536 }
     ensures { result ≡ max keys (key + 1) }
@@ -43,7 +43,7 @@ fn past(keys: usize, key: usize) -> usize
     keys.max(key + 1)
 }
 
-// Judges a block, and counts its DataSets.
+// Judges a block and counts its DataSets.
 pub(crate) fn survey(bytes: &[u8]) -> Result<Overview, Refusal>
     requires { length bytes.now ≤ limit }
     ensures judged { Judges result (iim_checks bytes.now) (λ s. (ds : List DataSet)

@@ -1,12 +1,12 @@
 -- The headline of the program's runs, from that of the engine's.
-use Rattle.std.proofs.Common.{◌≡◌, ◌<◌, ℕ, Bool, true, false, List, Option, Some, Result, Ok, Err, inl, inr, refl, subst, sym, arith}
+use Rattle.std.proofs.Common.{◌≡◌, ◌<◌, ℕ, Bool, true, false, List, Option, Some, Result, Ok, Err, inl, inr, refl, subst, arith}
 use Rattle.px_engine.specs.declared.CompareFault.{CompareFault}
 use Rattle.px_engine.specs.declared.Fault.{Fault}
 use Rattle.px_engine.specs.declared.Fault.TheVariants.{Refused, NormalTooLong, OutOfMemory, ReadFailed, WriteFailed}
 use Rattle.px_engine.specs.declared.Side.{Side}
 use Rattle.px_engine.specs.Runs.{Normalises, Compares}
 use Rattle.px_engine.specs.Headline.{Headline, RunsTell, ComparingTells}
-use Rattle.px_jobs.specs.Lines.{Device, Tells, TellsFault, status_of}
+use Rattle.px_jobs.specs.Lines.{Device, Tells, TellsFault}
 use Rattle.px_jobs.specs.Endings.{TellsWritten, TellsCompared}
 use Rattle.px_jobs.specs.Laws.{FormsTell, ComparisonTells}
 

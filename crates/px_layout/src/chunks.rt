@@ -1,7 +1,7 @@
 // The chunks of a layout.
 use px_tree::Dir;
 
-/// A part of a block that stands at an offset of its own. The header is none: it stands at 0.
+/// A part of a block that a plan puts at a byte offset. The header is not one: it is always at 0.
 #[derive(Clone, Copy, Debug, PartialEq, Eq)]
 pub enum Chunk {
     /// The table of a directory.

@@ -1,5 +1,5 @@
-// The entries of a directory by ascending tag, without a list of them: its fields, with at most four
-// further entries put between. TIFF 6.0 section 2, "Sort Order".
+// The entries of a directory by ascending tag, without a list of them: its fields, and at most four further
+// entries between the fields. TIFF 6.0 section 2, "Sort Order".
 ghost use Rattle.std.specs.Prelude.{◌≡◌, ◌<◌, ◌≤◌, ◌+◌, ◌*◌, ◌^◌, ℕ, List, length, map, slice_get, option_map, option_and_then, is_some};
 ghost use Rattle.std.specs.Prelude.{Option, Some, None, IfSome};
 ghost use Rattle.std.specs.List.{AllByRecursion};
@@ -18,7 +18,7 @@ use px_iim::Iim;
 use px_tree::{Dir, ExifPart, Fields, Meaning, Strips, Thumb};
 use std::marker::Model;
 
-// An entry that is no field, and how many entries stand before it.
+// An entry that is no field. `place` is the number of entries before it.
 #[derive(Clone, Copy)]
 struct Extra<'m, 'a> {
     place: usize,
@@ -26,18 +26,18 @@ struct Extra<'m, 'a> {
     item: Item<'m, 'a>,
 }
 
-// At a place: an entry that is no field, or the place under it.
+// What is at an index: an entry that is no field, or the index among the entries without it.
 enum Step<'m, 'a> {
     Here(u16, Item<'m, 'a>),
     Under(usize),
 }
 
-/// The entries of a directory by ascending tag. It takes no memory, and an entry is found in a few
-/// comparisons; in one, where it stands before each that is no field.
+/// The entries of a directory by ascending tag. Allocates nothing. Finding an entry takes a few comparisons,
+/// or one if it comes before every entry that is no field.
 #[derive(Drop)]
 pub struct Entries<'m, 'a> {
     fields: &'m Fields<'a>,
-    // Every entry that is no field stands at this place or behind it.
+    // Every entry that is no field is at this index or after it.
     clear: usize,
     first: Option<Extra<'m, 'a>>,
     second: Option<Extra<'m, 'a>>,
@@ -57,7 +57,7 @@ impl<'m, 'a> Model for Entries<'m, 'a> {
     ghost invariant = { AreLayers };
 }
 
-// Goes by one further entry.
+// Looks up an index where one further entry may be.
 fn pass<'m, 'a>(extra: &Option<Extra<'m, 'a>>, i: usize) -> Step<'m, 'a>
     ensures { (xs : List (ℕ × said.Item)) → Stands extra.now xs → i < length (over extra.now xs) → Tells result extra.now xs i }
 {
@@ -73,7 +73,7 @@ fn pass<'m, 'a>(extra: &Option<Extra<'m, 'a>>, i: usize) -> Step<'m, 'a>
     Step::Under(i - 1)
 }
 
-// Goes by two, the upper one first.
+// Looks up an index where two further entries may be, the upper one first.
 fn pass_both<'m, 'a>(
     upper: &Option<Extra<'m, 'a>>,
     lower: &Option<Extra<'m, 'a>>,
@@ -88,7 +88,7 @@ fn pass_both<'m, 'a>(
     }
 }
 
-// How many entries it adds.
+// How many entries a further entry adds: one, or none if there is no such entry.
 #[tactic(auto, using(crate::proofs::plans::EntryLists::length_over))]
 fn number(extra: &Option<Extra>) -> usize
     ensures added { (xs : List (ℕ × said.Item)) → length (over extra.now xs) ≡ length xs + result }
@@ -100,7 +100,7 @@ fn number(extra: &Option<Extra>) -> usize
     }
 }
 
-// How many of the entries that stand before the first of a greater tag it adds.
+// How many entries it adds before the first entry with a greater tag.
 fn adds(extra: &Option<Extra>, tag: u16) -> usize
     ensures added { (xs : List (ℕ × said.Item)) → rank tag (over extra.now xs) ≡ rank tag xs + result }
     ensures bound { result ≤ 1 }
@@ -114,7 +114,7 @@ fn adds(extra: &Option<Extra>, tag: u16) -> usize
     0
 }
 
-// How many fields stand before the first of a greater tag. It is found by halving.
+// How many fields come before the first one with a greater tag, found by binary search.
 fn fields_before(fields: &Fields, tag: u16) -> usize
     ensures rank { result ≡ rank tag (field_items fields.now) }
     ensures bound { result ≤ length fields.now }
@@ -133,7 +133,7 @@ fn fields_before(fields: &Fields, tag: u16) -> usize
     low
 }
 
-// The lesser of a place and that of a further entry.
+// The smaller of an index and the index of a further entry.
 fn clear_of(extra: &Option<Extra>, most: usize) -> usize
     ensures clear { IsClear result extra.now }
     ensures others { (e : Option CodeExtra) → IsClear most e → IsClear result e }
@@ -145,7 +145,7 @@ fn clear_of(extra: &Option<Extra>, most: usize) -> usize
 }
 
 impl<'m, 'a> Entries<'m, 'a> {
-    // The fields, with each further entry put over those before it.
+    // The fields, with each further entry inserted among those before it.
     fn layered(
         fields: &'m Fields<'a>,
         first: Option<Extra<'m, 'a>>,
@@ -174,7 +174,7 @@ impl<'m, 'a> Entries<'m, 'a> {
         }
     }
 
-    /// How many there are.
+    /// The number of entries.
     pub fn len(&self) -> usize
         ensures { result ≡ length self.now }
     {
@@ -185,7 +185,7 @@ impl<'m, 'a> Entries<'m, 'a> {
             + number(&self.fourth)
     }
 
-    /// The entry at place `i`, counted from 0.
+    /// The entry at index `i`, counted from 0.
     pub fn at(&self, i: usize) -> Entry<'m, 'a>
         requires { i < length self.now }
         ensures entry { slice_get self.now i ≡ Some (entry_of result) }
@@ -201,7 +201,7 @@ impl<'m, 'a> Entries<'m, 'a> {
         self.at_between(i)
     }
 
-    // The same of any place.
+    // The entry at any index, before or after an entry that is no field.
     fn at_between(&self, i: usize) -> Entry<'m, 'a>
         requires { i < length self.now }
         ensures entry { slice_get self.now i ≡ Some (entry_of result) }
@@ -223,7 +223,7 @@ impl<'m, 'a> Entries<'m, 'a> {
     }
 }
 
-// ---- further entries, each put over the fields and those before it, where there is one
+// ---- further entries, each inserted among the fields and the further entries before it, if there is one
 
 fn first_extra<'m, 'a>(
     fields: &Fields,
@@ -289,7 +289,7 @@ fn third_extra<'m, 'a>(
     }
 }
 
-// The JPEG's offset, where there is a JPEG.
+// The entry of the JPEG's offset, if there is a JPEG.
 fn jpeg_extra<'m, 'a>(
     fields: &Fields,
     first: &Option<Extra>,
@@ -317,9 +317,9 @@ fn jpeg_extra<'m, 'a>(
     }
 }
 
-// ---- what they say
+// ---- what the entries mean
 
-// The record, where there is one, with the length of its normal form.
+// The record, if there is one.
 fn record_item<'m, 'a>(iim: &'m Option<Iim<'a>>) -> Option<Item<'m, 'a>>
     requires { IfSome iim.now (λ i. length (normal_iim i) ≤ 2 * limit) }
     ensures item { option_map item_of result ≡ option_map Iptc iim.now }
@@ -340,7 +340,7 @@ fn exif_link<'m, 'a>(part: &Option<ExifPart>) -> Option<Item<'m, 'a>>
     }
 }
 
-// A pointer to a directory of fields alone, where it is there.
+// A pointer to a directory that has only fields, if there is that directory.
 fn fields_link<'m, 'a>(dir: Dir, fields: &Option<Fields>) -> Option<Item<'m, 'a>>
     ensures { option_map item_of result ≡ link dir fields.now }
 {
@@ -421,7 +421,7 @@ fn thumb_part_entries<'m, 'a>(thumb: &'m Thumb<'a>) -> Entries<'m, 'a>
     Entries::layered(fields, lengths, offsets, size, jpeg)
 }
 
-// The entries of a directory of fields alone, where it is there.
+// The entries of a directory that has only fields, if there is that directory.
 fn field_entries<'m, 'a>(fields: &'m Option<Fields<'a>>) -> Option<Entries<'m, 'a>>
     requires { IfSome fields.now (λ fs. length fs < 2 ^ 16) }
     ensures { result ≡ option_map field_items fields.now }
@@ -472,7 +472,7 @@ fn has_interop(part: &Option<ExifPart>) -> bool
     }
 }
 
-/// Whether a directory is there.
+/// Whether a meaning has this directory.
 #[tactic(auto, using(crate::proofs::plans::EntryLists::items_are))]
 pub(crate) fn is_there(m: &Meaning, dir: Dir) -> bool
     ensures { result ≡ is_some (items (meaning_of m.now) dir) }
@@ -486,8 +486,8 @@ pub(crate) fn is_there(m: &Meaning, dir: Dir) -> bool
     }
 }
 
-/// The entries of a directory, where it is there: its fields, pointers, the record, and what names the
-/// thumbnail's bytes.
+/// The entries of a directory: its fields, pointers, the record, and the offsets and lengths of the
+/// thumbnail's bytes. `None` if the meaning doesn't have the directory. Allocates nothing.
 #[tactic(auto, using(crate::proofs::plans::EntryLists::items_are))]
 pub fn entries_in<'m, 'a>(m: &'m Meaning<'a>, dir: Dir) -> Option<Entries<'m, 'a>>
     requires { Fits (meaning_of m.now) }

@@ -1,4 +1,4 @@
-// A normal form, before it is written.
+// A normal form that is measured but not yet written.
 ghost use Rattle.std.specs.Prelude.{◌≡◌, length};
 ghost use Rattle.px_tree.specs.Fits.{Fits};
 ghost use Rattle.px_tree.specs.calls.Seen.{meaning_of};
@@ -9,8 +9,8 @@ use crate::starts::{Starts, starts_of};
 use px_bytes::WriteRefusal;
 use px_tree::Meaning;
 
-/// A meaning whose normal form is no longer than `LIMIT`, and where the parts of that form begin. `put_normal`
-/// puts its bytes.
+/// A meaning whose normal form is no longer than `LIMIT`, with the byte offsets of the form's parts.
+/// `put_normal` writes it.
 #[derive(Clone, Copy)]
 pub struct NormalForm<'p, 'a> {
     pub(crate) m: &'p Meaning<'a>,
@@ -18,8 +18,8 @@ pub struct NormalForm<'p, 'a> {
 }
 
 impl<'p, 'a> NormalForm<'p, 'a> {
-    /// Sums up where the parts begin, of a meaning that can be written (`fits`). NormalTooLong where the form
-    /// is longer than `LIMIT`; no other error comes. It takes no memory.
+    /// Computes the byte offsets of the form's parts, for a meaning that can be written (`fits`). Allocates
+    /// nothing. `NormalTooLong`: the form is longer than `LIMIT`. There is no other error.
     pub fn new(m: &'p Meaning<'a>) -> Result<NormalForm<'p, 'a>, WriteRefusal>
         requires { Fits (meaning_of m.now) }
         ensures { AnswersForm result (meaning_of m.now) }
@@ -30,7 +30,7 @@ impl<'p, 'a> NormalForm<'p, 'a> {
         }
     }
 
-    /// How many bytes the form has, at most `LIMIT`.
+    /// The form's length in bytes, at most `LIMIT`.
     pub fn len(&self) -> u64
         requires { IsForm self.now }
         ensures { result ≡ length (normal_exif (said_in self.now)) }

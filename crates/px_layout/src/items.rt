@@ -1,4 +1,4 @@
-// What the entries of a directory say.
+// What the entries of a directory mean.
 ghost use Rattle.std.specs.Prelude.{◌≡◌};
 ghost use Rattle.px_field.specs.Values.{form_in};
 ghost use Rattle.px_tree.specs.Fits.{item_form, item_count, item_size};
@@ -9,8 +9,8 @@ use px_field::{Form, Kind, Value};
 use px_iim::{Iim, normal_len};
 use px_tree::{Dir, Strips};
 
-/// What an entry says: a field, the record, a pointer, the JPEG's offset or its length, or the
-/// offsets or the lengths of the strips.
+/// What an entry means: a field, the record, a pointer, the JPEG's offset or length, or the offsets or
+/// lengths of the strips.
 #[derive(Clone, Copy)]
 pub enum Item<'m, 'a> {
     /// A field.
@@ -19,22 +19,22 @@ pub enum Item<'m, 'a> {
     Record(&'m Iim<'a>),
     /// A pointer to a directory.
     Link(Dir),
-    /// Where the JPEG stands.
+    /// The JPEG's byte offset.
     JpegOffset,
     /// The JPEG's length in bytes.
     JpegLength(u32),
-    /// Where the strips stand.
+    /// The strips' byte offsets.
     StripOffsets(&'m Strips<'a>),
-    /// How many bytes each strip has.
+    /// The length of each strip in bytes.
     StripLengths(&'m Strips<'a>),
 }
 
-/// An entry: its tag, and what it says.
+/// An entry: its tag and what it means.
 #[derive(Clone, Copy)]
 pub struct Entry<'m, 'a> {
-    /// Its tag.
+    /// The tag.
     pub tag: u16,
-    /// What it says.
+    /// What the entry means.
     pub item: Item<'m, 'a>,
 }
 
@@ -49,7 +49,7 @@ fn form_of(value: &Value) -> Form
 }
 
 impl Item<'_, '_> {
-    /// The type of the entry.
+    /// The entry's type.
     pub fn form(self) -> Form
         ensures { result ≡ item_form (item_of self.entry) }
     {
@@ -60,7 +60,7 @@ impl Item<'_, '_> {
         }
     }
 
-    /// The count of the entry.
+    /// The entry's count of elements.
     pub fn count(self) -> u32
         requires { IsCounted (item_of self) }
         ensures { result ≡ item_count (item_of self.entry) }
@@ -74,7 +74,7 @@ impl Item<'_, '_> {
         }
     }
 
-    /// How many bytes the entry's value has.
+    /// The length of the entry's value in bytes.
     pub fn size(self) -> u64
         requires { IsCounted (item_of self) }
         ensures { result ≡ item_size (item_of self.entry) }

@@ -1,7 +1,10 @@
-//! The normal form of an Exif meaning: one block for each meaning. `write_normal` hands it to a writer, and `put_normal` puts it
-//! behind bytes that wait for one. Beside it stand the pieces that any block of a meaning is made of (the entries of its
-//! directories, their heads, the values, the lengths of strips), which px_plans lays out by other plans. It reads no block, opens no
-//! file and changes no value.
+//! The normal form of an Exif meaning: one block for each meaning. `write_normal` writes it to a writer, and
+//! `put_normal` puts it into an output buffer. This crate also has the pieces of any block of a meaning: the
+//! entries of its directories, their heads, the values and the lengths of strips. px_plans writes them by
+//! other plans. This crate reads no block, opens no file and changes no value.
+//!
+//! Nothing here allocates. `write_normal` takes an allocator and leaves it alone. It is for callers of this
+//! crate: nothing that ships calls it. `write_normal_in` is the form without the allocator.
 //!
 //! ```
 //! let bytes = b"II\x2a\x00\x08\x00\x00\x00\x01\x00\x12\x01\x03\x00\x01\x00\x00\x00\x01\x00\x00\x00\x00\x00\x00\x00";

@@ -1,4 +1,4 @@
-// Numbers, values and filler, put behind the bytes that wait for a writer.
+// Puts numbers, values and filler into the output buffer.
 ghost use Rattle.std.specs.Prelude.{◌≡◌, ◌≤◌, ◌%◌, length, replicate, flat_map};
 ghost use Rattle.px_bytes.specs.Devices.{CanFail, Counts};
 ghost use Rattle.px_bytes.specs.Numbers.{spelling};
@@ -13,7 +13,7 @@ use crate::items::{Entry, Item};
 use px_bytes::{Failed, Order, Pending, Sink};
 use px_field::Value;
 
-/// Puts a number of two bytes behind those that wait. It takes no memory.
+/// Puts a number of two bytes into the output buffer. Allocates nothing. `Err`: a call of the writer failed.
 pub fn put_short<W: Sink>(
     pending: &mut Pending,
     writer: &mut W,
@@ -29,7 +29,7 @@ pub fn put_short<W: Sink>(
     pending.put(writer, &bytes)
 }
 
-/// Puts a number of four bytes behind those that wait. It takes no memory.
+/// Puts a number of four bytes into the output buffer. Allocates nothing. `Err`: a call of the writer failed.
 pub fn put_long<W: Sink>(
     pending: &mut Pending,
     writer: &mut W,
@@ -45,7 +45,8 @@ pub fn put_long<W: Sink>(
     pending.put(writer, &bytes)
 }
 
-/// Puts up to four bytes of filler behind those that wait. It takes no memory.
+/// Puts `count` bytes of filler, at most four, into the output buffer. Allocates nothing. `Err`: a call of the
+/// writer failed.
 pub fn put_filler<W: Sink>(
     pending: &mut Pending,
     writer: &mut W,
@@ -63,7 +64,7 @@ pub fn put_filler<W: Sink>(
     pending.put(writer, &[filler; 4][..count])
 }
 
-// The 0 behind an odd number of bytes.
+// Puts the 0 that pads an odd number of bytes.
 pub(crate) fn put_padding<W: Sink>(
     pending: &mut Pending,
     writer: &mut W,
@@ -76,7 +77,7 @@ pub(crate) fn put_padding<W: Sink>(
     put_filler(pending, writer, 0, (len % 2) as usize)
 }
 
-// The elements of a value, as many at a time as the piece has room for.
+// Puts the elements of a value, as many at a time as `piece` has space for.
 fn put_by_pieces<W: Sink>(
     pending: &mut Pending,
     writer: &mut W,
@@ -99,7 +100,8 @@ fn put_by_pieces<W: Sink>(
     Ok(())
 }
 
-// A value of eight bytes, as one RATIONAL: the most common that is placed. One caller alone has it in its loop.
+// Puts a value of eight bytes, such as one RATIONAL: the most common size of a placed value. Only one caller
+// has it in its loop.
 pub(crate) fn put_eight<W: Sink>(
     pending: &mut Pending,
     writer: &mut W,
@@ -114,13 +116,13 @@ pub(crate) fn put_eight<W: Sink>(
     pending.put(writer, &value.spell_eight(order))
 }
 
-// The bytes in which the elements of a short value are turned round. They are zeroed for each value, so they are few.
+// The size of the buffer in which the bytes of a short value are swapped. It is zeroed for each value, so it is small.
 const FEW: usize = 64;
 
-// Those for a longer value: more of them, so that its pieces are few.
+// The size of that buffer for a longer value: larger, so that the value has few pieces.
 const MANY: usize = 1024;
 
-// The elements of a value.
+// Puts the elements of a value.
 fn put_elements<W: Sink>(
     pending: &mut Pending,
     writer: &mut W,
@@ -137,8 +139,8 @@ fn put_elements<W: Sink>(
     put_by_pieces(pending, writer, order, value, &mut [0; MANY])
 }
 
-/// Puts a value behind the bytes that wait. Where its bytes stand in that order as they were read, they go as they are. It takes no
-/// memory, and ends at the first call that fails.
+/// Puts a value into the output buffer. If its bytes were read in that byte order, they are put as they are.
+/// Allocates nothing. `Err`: a call of the writer failed, which ends the call.
 pub fn put_value<W: Sink>(
     pending: &mut Pending,
     writer: &mut W,
@@ -155,7 +157,7 @@ pub fn put_value<W: Sink>(
     put_elements(pending, writer, order, value)
 }
 
-// The entry of a field, up to its last field.
+// The first eight bytes of a field's entry: tag, type and count.
 pub(crate) fn field_head(order: Order, tag: u16, value: &Value) -> [u8; 8]
     ensures { result ≡ head_bytes order (tag, Field value.now) }
 {
@@ -167,7 +169,7 @@ pub(crate) fn field_head(order: Order, tag: u16, value: &Value) -> [u8; 8]
     head
 }
 
-/// An entry up to its last field: tag, type, count. TIFF 6.0 section 2, "IFD Entry".
+/// The first eight bytes of an entry: tag, type and count. TIFF 6.0 section 2, "IFD Entry".
 pub fn entry_head(order: Order, entry: &Entry) -> [u8; 8]
     requires { IsCounted (item_of entry.now.item) }
     ensures { result ≡ head_bytes order (entry_of entry.now) }

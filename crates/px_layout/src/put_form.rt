@@ -1,4 +1,4 @@
-// The parts of a normal form, put behind the bytes that wait for a writer: each is padded to an even number of bytes. TIFF 6.0
+// Puts the parts of a normal form into the output buffer. Each is padded to an even number of bytes. TIFF 6.0
 // section 2, "IFD Entry".
 ghost use Rattle.std.specs.Prelude.{◌≡◌, Some, flat_map};
 ghost use Rattle.px_bytes.specs.Devices.{CanFail, Counts};
@@ -26,7 +26,7 @@ use px_bytes::{Failed, Order, Pending, Sink};
 use px_field::Value;
 use px_tree::{Dir, needs_place};
 
-// The value of an entry, padded.
+// Puts the value of an entry, padded.
 fn put_padded_item<W: Sink>(
     pending: &mut Pending,
     writer: &mut W,
@@ -48,7 +48,7 @@ fn put_padded_item<W: Sink>(
     put_padding(pending, writer, item.size())
 }
 
-// The value of a field, padded.
+// Puts the value of a field, padded.
 fn put_padded_field<W: Sink>(
     pending: &mut Pending,
     writer: &mut W,
@@ -62,7 +62,7 @@ fn put_padded_field<W: Sink>(
     put_padding(pending, writer, value.size())
 }
 
-// The value of a field, padded; nothing where it stands in its entry.
+// Puts the value of a field, padded. Puts nothing if the value is in its entry.
 fn put_placed_field<W: Sink>(
     pending: &mut Pending,
     writer: &mut W,
@@ -82,7 +82,7 @@ fn put_placed_field<W: Sink>(
     Ok(())
 }
 
-// A value that is placed; nothing where it stands in its entry.
+// Puts the value of an entry, padded. Puts nothing if the value is in its entry.
 fn put_any_placed<W: Sink>(
     pending: &mut Pending,
     writer: &mut W,
@@ -105,7 +105,7 @@ fn put_any_placed<W: Sink>(
     Ok(())
 }
 
-// The same. Most entries are fields, whose values are put with no look at what else an entry may say.
+// The same. Most entries are fields, so these are put without a check for the other kinds of entries.
 fn put_placed<W: Sink>(
     pending: &mut Pending,
     writer: &mut W,
@@ -128,7 +128,7 @@ fn put_placed<W: Sink>(
     }
 }
 
-// The placed values of a directory, by ascending tag.
+// Puts the placed values of a directory, by ascending tag.
 fn put_values<W: Sink>(
     pending: &mut Pending,
     writer: &mut W,
@@ -151,7 +151,7 @@ fn put_values<W: Sink>(
     Ok(())
 }
 
-// A directory that is there: its table, then its placed values.
+// Puts a directory: its table, then its placed values.
 fn put_dir<W: Sink>(
     pending: &mut Pending,
     writer: &mut W,
@@ -172,7 +172,7 @@ fn put_dir<W: Sink>(
     put_values(pending, writer, form, dir, entries)
 }
 
-// A directory, if it is there.
+// Puts a directory, if the meaning has it.
 fn put_any_dir<W: Sink>(
     pending: &mut Pending,
     writer: &mut W,
@@ -194,7 +194,7 @@ fn put_any_dir<W: Sink>(
 
 const DIRS: [Dir; 5] = [Dir::Main, Dir::Exif, Dir::Interop, Dir::Gps, Dir::Thumb];
 
-// The directories that are there, each with its placed values.
+// Puts all directories of the meaning, each with its placed values.
 fn put_dirs<W: Sink>(pending: &mut Pending, writer: &mut W, form: &NormalForm) -> Result<(), Failed>
     requires few { CanFail (W.failed writer.old) }
     requires form { IsForm form.now }
@@ -210,7 +210,7 @@ fn put_dirs<W: Sink>(pending: &mut Pending, writer: &mut W, form: &NormalForm) -
     Ok(())
 }
 
-// All that stands behind the header: the directories, then the thumbnail's bytes.
+// Puts all that follows the header: the directories, then the thumbnail's bytes.
 fn put_contents<W: Sink>(
     pending: &mut Pending,
     writer: &mut W,
@@ -226,7 +226,7 @@ fn put_contents<W: Sink>(
     put_thumb(pending, writer, &form.m.thumb)
 }
 
-// The header, and all that stands behind it.
+// Puts the header and all that follows it.
 #[tactic(auto, unfolding(crate::specs::Normal::normal_exif))]
 fn put_block<W: Sink>(
     pending: &mut Pending,
@@ -242,9 +242,9 @@ fn put_block<W: Sink>(
     put_contents(pending, writer, form)
 }
 
-/// Puts a normal form behind the bytes that wait: where these are 8,192 bytes together, or fewer, all of them
-/// wait, and the writer isn't called. It takes no memory, and ends at the first call that fails: the writer
-/// has then taken a prefix of those that waited and of the form behind them.
+/// Puts a normal form into the output buffer, after the bytes that are in it. If these are at most 8,192 bytes
+/// together, all of them stay in the buffer, and the writer isn't called. Allocates nothing. `Err`: a call of
+/// the writer failed, which ends the call; the writer has taken a prefix of the buffered bytes and the form.
 pub fn put_normal<W: Sink>(
     pending: &mut Pending,
     writer: &mut W,

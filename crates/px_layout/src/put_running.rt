@@ -1,4 +1,4 @@
-// The entries of a normal form, put behind the bytes that wait for a writer: offsets run along, so that no plan is kept.
+// Puts the entries of a normal form into the output buffer. Offsets are computed on the way, so no plan is kept.
 ghost use Rattle.std.specs.Prelude.{◌≡◌, ◌<◌, ◌≤◌, ◌+◌, ◌-◌, ◌*◌, ◌++◌, ◌^◌, ℕ, Some, None, length, take, drop, flat_map, unwrap_or, []};
 ghost use Rattle.std.specs.Prelude.{replicate};
 ghost use Rattle.px_bytes.specs.Devices.{CanFail, Counts};
@@ -28,7 +28,7 @@ use px_field::Value;
 use px_iim::put_iim;
 use px_tree::{Dir, Strips, needs_place};
 
-// Where a directory begins.
+// The byte offset of a directory.
 fn start_of(form: &NormalForm, dir: Dir) -> u32
     requires { IsForm form.now }
     ensures { result ≡ start (said_in form.now) dir }
@@ -42,7 +42,7 @@ fn start_of(form: &NormalForm, dir: Dir) -> u32
     }
 }
 
-// Where the table of a directory stands, 0 where it isn't there.
+// The byte offset of a directory's table; 0 if the meaning doesn't have the directory.
 fn table_at(form: &NormalForm, dir: Dir) -> u32
     requires { IsForm form.now }
     ensures { result ≡ place (plan_in form.now) (Chunk.Table dir) }
@@ -53,7 +53,7 @@ fn table_at(form: &NormalForm, dir: Dir) -> u32
     0
 }
 
-// Where the JPEG stands, 0 where there is none.
+// The byte offset of the JPEG; 0 if there is none.
 fn jpeg_at(form: &NormalForm) -> u32
     requires { IsForm form.now }
     ensures { result ≡ place (plan_in form.now) Chunk.Jpeg }
@@ -67,7 +67,8 @@ fn jpeg_at(form: &NormalForm) -> u32
     }
 }
 
-// Spells where the strips from `start` up to `end` stand, the first of them at `at`, and answers where the next one does.
+// Encodes the byte offsets of the strips from `start` up to `end`, the first of which is at `at`. Returns the byte
+// offset of the next strip.
 fn spell_places(at: u32, strips: &Strips, start: usize, end: usize, into: &mut [u8]) -> u32
     requires rising { start ≤ end }
     requires inside { end ≤ length strips.now }
@@ -88,7 +89,7 @@ fn spell_places(at: u32, strips: &Strips, start: usize, end: usize, into: &mut [
     next
 }
 
-// Where strips stand, the first at `at`.
+// Puts the byte offsets of strips, the first of which is at `at`.
 fn put_strip_places<W: Sink>(
     pending: &mut Pending,
     writer: &mut W,
@@ -132,7 +133,7 @@ fn put_any_places<W: Sink>(
     }
 }
 
-// Where the thumbnail's strips stand.
+// Puts the byte offsets of the thumbnail's strips.
 fn put_strips_told<W: Sink>(
     pending: &mut Pending,
     writer: &mut W,
@@ -150,7 +151,7 @@ fn put_strips_told<W: Sink>(
     }
 }
 
-// The value of an entry.
+// Puts the value of an entry.
 #[tactic(auto, unfolding(crate::specs::Laid::item_bytes))]
 pub(crate) fn put_told_item<W: Sink>(
     pending: &mut Pending,
@@ -177,7 +178,7 @@ pub(crate) fn put_told_item<W: Sink>(
     }
 }
 
-// An entry whose value stands at `at`: its twelve bytes, so that one call puts them.
+// An entry whose value is at the byte offset `at`: its twelve bytes, so that one call puts them.
 fn entry_to(at: u32, entry: &Entry) -> [u8; 12]
     requires { IsCounted (item_of entry.now.item) }
     ensures { result ≡ head_bytes Order.Most (entry_of entry.now) ++ long_bytes Order.Most at }
@@ -188,7 +189,7 @@ fn entry_to(at: u32, entry: &Entry) -> [u8; 12]
     bytes
 }
 
-// The entry of a field whose value stands at `at`.
+// The entry of a field whose value is at the byte offset `at`.
 fn field_to(at: u32, tag: u16, value: &Value) -> [u8; 12]
     ensures { result ≡ head_bytes Order.Most (tag, Field value.now) ++ long_bytes Order.Most at }
 {
@@ -198,7 +199,7 @@ fn field_to(at: u32, tag: u16, value: &Value) -> [u8; 12]
     bytes
 }
 
-// The entry of a field whose value is its last field: the value, and zeros behind it.
+// The entry of a field whose value is in the entry: its last four bytes are the value, then zeros.
 fn field_with(tag: u16, value: &Value) -> [u8; 12]
     requires { length (spelled Order.Most value.now) ≤ 4 }
     ensures { result ≡ head_bytes Order.Most (tag, Field value.now)
@@ -210,7 +211,7 @@ fn field_with(tag: u16, value: &Value) -> [u8; 12]
     bytes
 }
 
-// The entry of a field, whose value stands at `at` if it has a place of its own.
+// Puts the entry of a field. `at` is the byte offset of its value, if that isn't in the entry.
 fn put_field_entry<W: Sink>(
     pending: &mut Pending,
     writer: &mut W,
@@ -228,7 +229,7 @@ fn put_field_entry<W: Sink>(
     pending.put(writer, &field_with(tag, value))
 }
 
-// An entry whose value is its last field, with padding behind it.
+// Puts an entry whose value is in it, then the padding.
 fn put_near_entry<W: Sink>(
     pending: &mut Pending,
     writer: &mut W,
@@ -250,7 +251,7 @@ fn put_near_entry<W: Sink>(
     put_filler(pending, writer, 0, 4 - size as usize)
 }
 
-// An entry, whose value stands at `at` if it has a place of its own. Else the value is its last field, with padding behind it.
+// Puts an entry. `at` is the byte offset of its value, if that isn't in the entry.
 fn put_any_entry<W: Sink>(
     pending: &mut Pending,
     writer: &mut W,
@@ -272,7 +273,7 @@ fn put_any_entry<W: Sink>(
     put_near_entry(pending, writer, form, &entry)
 }
 
-// The same. Most entries are fields, whose twelve bytes are put with no look at what else an entry may say.
+// The same. Most entries are fields, so these are put without a check for the other kinds of entries.
 fn put_given_entry<W: Sink>(
     pending: &mut Pending,
     writer: &mut W,
@@ -294,7 +295,7 @@ fn put_given_entry<W: Sink>(
     }
 }
 
-// Where the value of the next entry stands.
+// The byte offset of the next placed value, after this entry's.
 fn next_at(at: u32, entry: &Entry) -> u32
     requires counted { IsCounted (item_of entry.now.item) }
     requires most { at + value_size (item_of entry.now.item) ≤ limit }
@@ -307,7 +308,7 @@ fn next_at(at: u32, entry: &Entry) -> u32
     at + (size + size % 2) as u32
 }
 
-// The entries of a directory that is there.
+// Puts the entries of a directory.
 fn put_running_entries<W: Sink>(
     pending: &mut Pending,
     writer: &mut W,
@@ -331,7 +332,7 @@ fn put_running_entries<W: Sink>(
     Ok(())
 }
 
-// The offset of the next directory: the thumbnail directory behind the main one.
+// Puts the next offset of a directory: after the main directory comes the thumbnail directory.
 fn put_running_next<W: Sink>(
     pending: &mut Pending,
     writer: &mut W,
@@ -351,7 +352,7 @@ fn put_running_next<W: Sink>(
     }
 }
 
-// The offset of the thumbnail directory, 0 where there is none.
+// Puts the offset of the thumbnail directory; 0 if there is none.
 fn put_next_of_main<W: Sink>(
     pending: &mut Pending,
     writer: &mut W,
@@ -372,7 +373,7 @@ fn put_next_of_main<W: Sink>(
     }
 }
 
-// The table of a directory that is there.
+// Puts the table of a directory.
 pub(crate) fn put_running_table<W: Sink>(
     pending: &mut Pending,
     writer: &mut W,
@@ -393,7 +394,7 @@ pub(crate) fn put_running_table<W: Sink>(
     put_running_next(pending, writer, form, dir)
 }
 
-// The header: the main directory stands right behind it.
+// Puts the header, which the main directory follows directly.
 pub(crate) fn put_running_header<W: Sink>(
     pending: &mut Pending,
     writer: &mut W,

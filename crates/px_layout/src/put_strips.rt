@@ -1,4 +1,4 @@
-// The lengths of strips, put behind the bytes that wait for a writer. TIFF 6.0 section 8, "StripByteCounts".
+// Puts the lengths of strips into the output buffer. TIFF 6.0 section 8, "StripByteCounts".
 ghost use Rattle.std.specs.Prelude.{◌≡◌, ◌≤◌, ◌-◌, ◌*◌, ◌++◌, length, take, map, flat_map};
 ghost use Rattle.std.specs.List.{AllByRecursion};
 ghost use Rattle.px_bytes.specs.Devices.{CanFail, Counts};
@@ -9,10 +9,10 @@ ghost use Rattle.px_layout.specs.Laid.{long_bytes};
 use px_bytes::{Failed, Order, Pending, Sink};
 use px_tree::Strips;
 
-// How many numbers of strips are spelled before they are put.
+// How many offsets or lengths of strips are encoded before they are put.
 pub(crate) const AT_ONCE: usize = 64;
 
-// Spells the lengths of the strips from `start` up to `end`.
+// Encodes the lengths of the strips from `start` up to `end`.
 fn spell_lengths(order: Order, strips: &Strips, start: usize, end: usize, into: &mut [u8])
     requires rising { start ≤ end }
     requires inside { end ≤ length strips.now }
@@ -27,8 +27,8 @@ fn spell_lengths(order: Order, strips: &Strips, start: usize, end: usize, into: 
     }
 }
 
-/// Puts the lengths of strips in bytes, each a LONG, behind the bytes that wait. It takes no memory, and ends at the first call
-/// that fails.
+/// Puts the lengths of strips in bytes, each a LONG, into the output buffer. Allocates nothing. `Err`: a call
+/// of the writer failed, which ends the call.
 pub fn put_strip_lengths<W: Sink>(
     pending: &mut Pending,
     writer: &mut W,

@@ -1,5 +1,5 @@
-// The thumbnail's bytes, behind all directories: the JPEG, then the strips, each padded to an even number. CIPA DC-008 4.5.5;
-// TIFF 6.0 section 8.
+// Puts the thumbnail's bytes, after all directories: the JPEG, then the strips, each padded to an even number
+// of bytes. CIPA DC-008 4.5.5; TIFF 6.0 section 8.
 ghost use Rattle.std.specs.Prelude.{Some, option_map, flat_map};
 ghost use Rattle.px_bytes.specs.Devices.{CanFail, Counts};
 ghost use Rattle.px_bytes.specs.Waiting.{PutsTo};
@@ -77,7 +77,7 @@ fn put_parts<W: Sink>(pending: &mut Pending, writer: &mut W, thumb: &Thumb) -> R
     put_all_strips(pending, writer, &thumb.strips)
 }
 
-// The JPEG and the strips, where there is a thumbnail.
+// Puts the JPEG and the strips, if there is a thumbnail.
 #[tactic(auto, unfolding(crate::specs::Laid::thumb_contents))]
 pub(crate) fn put_thumb<W: Sink>(
     pending: &mut Pending,

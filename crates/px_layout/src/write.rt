@@ -1,4 +1,4 @@
-// The normal form, written.
+// Writes a normal form to a writer.
 ghost use Rattle.std.specs.Prelude.{◌≡◌, IfErr};
 ghost use Rattle.px_bytes.specs.declared.causes.WriteRefusal.TheVariants.{NormalTooLong};
 ghost use Rattle.px_tree.specs.Fits.{Fits};
@@ -12,20 +12,21 @@ use px_bytes::{Pending, Sink, WriteRefusal};
 use px_tree::Meaning;
 use std::alloc::Global;
 
-/// Writes the normal form of a meaning that can be written (`fits`) and answers its length in bytes, at
-/// most `LIMIT`: the most significant byte first; behind the header the main directory, then the Exif,
-/// Interoperability, GPS and thumbnail directories, each table followed by its placed values by ascending
-/// tag; then the JPEG and the strips. Each part stands directly behind the one before, and is padded with
-/// a 0 to an even number of bytes. TIFF 6.0 section 2; CIPA DC-008 4.6.3 and 4.5.5. One flush follows the
-/// last byte.
+/// Writes the normal form of a meaning that can be written (`fits`), and flushes the writer once at the end.
+/// Returns the form's length in bytes, at most `LIMIT`.
 ///
-/// NormalTooLong where the form is longer than `LIMIT`, before the first byte. WriteFailed comes at the first
-/// failed call of the writer, the flush too; the writer has then taken a prefix of the form. OutOfMemory never
-/// comes: it takes no memory, and leaves `alloc` alone.
+/// The form has the most significant byte first. After the header come the main directory, then the Exif,
+/// Interoperability, GPS and thumbnail directories. Each table is followed by its placed values by ascending
+/// tag. The JPEG and the strips come last. Each part follows directly after the one before, and is padded with
+/// a 0 to an even number of bytes. TIFF 6.0 section 2; CIPA DC-008 4.6.3 and 4.5.5.
 ///
-/// Where each part stands is summed up first (`NormalForm::new`), and offsets run along with the parts. A form of at
-/// most 8,192 bytes goes out in one whole write: all of it waits (`put_normal`, clause `waits`), and is then
-/// sent. Bytes of a longer one go out in writes of up to 8,192, and longer values at once.
+/// `NormalTooLong`: the form is longer than `LIMIT`; nothing is written. `WriteFailed`: a call of the writer
+/// failed, or the flush, which ends the call; the writer has taken a prefix of the form. `OutOfMemory` never
+/// comes: it allocates nothing and leaves the allocator alone.
+///
+/// `NormalForm::new` computes the byte offset of each part first. A form of at most 8,192 bytes is one whole
+/// write, since all of it fits into the output buffer (`put_normal`, clause `waits`). A longer form is written
+/// in pieces of up to 8,192 bytes, and a longer value at once.
 pub fn write_normal<W: Sink>(
     _alloc: Global,
     m: &Meaning,
@@ -40,7 +41,7 @@ pub fn write_normal<W: Sink>(
     write_normal_in(m, writer)
 }
 
-/// As `write_normal`, which takes no memory either.
+/// Like `write_normal`, without an allocator.
 pub fn write_normal_in<W: Sink>(m: &Meaning, writer: &mut W) -> Result<u64, WriteRefusal>
     requires few { CanFail (W.failed writer.old) }
     requires fits { Fits (meaning_of m.now) }

@@ -1,18 +1,18 @@
-// Strips that follow one another in the block, as nearly all writers place them.
+// Strips in the block by ascending offset, as nearly all writers write them.
 ghost use Rattle.std.specs.Prelude.{◌≡◌, ◌≤◌, length, IfSome};
 ghost use Rattle.px_bytes.specs.Parts.{limit};
 ghost use Rattle.px_tree.specs.calls.Strips.{Rise, ranges_in};
 
 use crate::strip_lists::{StripLists, number_in};
 
-// From the start of the first strip up to the end of the last: offsets from the block's first byte.
+// The range from the start of the first strip up to the end of the last, as offsets from the block's first byte.
 #[derive(Clone, Copy)]
 pub struct Span {
     pub start: u32,
     pub end: u32,
 }
 
-// Where the first strip starts; 0 where there is none.
+// The byte offset of the first strip; 0 if there is none.
 fn first_start(lists: &StripLists) -> u32 {
     if lists.starts.count() == 0 {
         return 0;
@@ -20,7 +20,7 @@ fn first_start(lists: &StripLists) -> u32 {
     number_in(&lists.starts, 0)
 }
 
-// The span of strips of which each starts at the end of the one before or behind it, inside the block. None where they don't.
+// The span of strips inside the block, if no strip starts before the end of the one before. Otherwise None.
 pub fn rising_span(lists: &StripLists) -> Option<Span>
     requires bounded { length lists.now.block.now ≤ limit }
     requires same { length lists.now.starts.elements ≡ length lists.now.sizes.elements }

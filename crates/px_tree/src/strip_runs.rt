@@ -1,4 +1,4 @@
-// Strips that stand one behind another in the block, so that they are put together.
+// Strips that follow one another directly in the block, so that they are written together.
 ghost use Rattle.std.specs.Prelude.{◌≡◌, ◌<◌, ◌≤◌, ◌+◌, ◌-◌, ◌%◌, length, Some};
 ghost use Rattle.px_bytes.specs.Parts.{part};
 ghost use Rattle.px_tree.specs.calls.Strips.{AreNamed, AreJoined, named_strips};
@@ -6,16 +6,17 @@ ghost use Rattle.px_tree.specs.calls.Strips.{AreNamed, AreJoined, named_strips};
 use crate::parts::bytes_between;
 use crate::strip_lists::{StripLists, number_in};
 
-/// The bytes of strips that stand one behind another, and how many strips these are.
+/// The bytes of strips that follow one another directly in the block, and the number of these strips.
 #[derive(Clone, Copy)]
 pub struct StripRun<'a> {
     /// The bytes of the strips.
     pub bytes: &'a [u8],
-    /// How many strips they are, at least one.
+    /// The number of strips, at least one.
     pub count: usize,
 }
 
-// The strips from `i` on whose bytes go from `start` to `end`, and those of an even length that stand right behind them.
+// The strip at `i`, whose bytes are those from `start` to `end`, and the next strips of an even length that follow
+// it directly in the block.
 fn longer_run<'a>(lists: &StripLists<'a>, i: u32, start: usize, end: usize) -> StripRun<'a>
     requires named { AreNamed lists.now }
     requires there { i < length lists.now.starts.elements }
@@ -46,7 +47,8 @@ fn longer_run<'a>(lists: &StripLists<'a>, i: u32, start: usize, end: usize) -> S
     }
 }
 
-// The strip at `i`, counted from 0. Where it has an even length, also those of an even length that stand right behind it.
+// The strip at `i`, counted from 0. If its length is even, also the next strips of an even length that follow it
+// directly in the block.
 pub fn run_in<'a>(lists: &StripLists<'a>, i: u32) -> StripRun<'a>
     requires named { AreNamed lists.now }
     requires there { i < length lists.now.starts.elements }

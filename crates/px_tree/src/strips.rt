@@ -9,12 +9,12 @@ use px_bytes::{Memory, Refused};
 use std::alloc::{AllocError, Global};
 use std::marker::Model;
 
-/// The strips of an uncompressed thumbnail, in the order of the list that names them: slices of the
-/// block that was read. TIFF 6.0 section 8, "StripOffsets" and "StripByteCounts". Those that were read
-/// take no memory: the block has their lists.
+/// The strips of an uncompressed thumbnail, in the order of the lists that name them: slices of the block
+/// that was read. TIFF 6.0 section 8, "StripOffsets" and "StripByteCounts". Reading them allocates nothing:
+/// the block has their lists.
 #[derive(Drop)]
 pub struct Strips<'a> {
-    // Those that a block names, and behind them those that were pushed.
+    // The strips that a block names, followed by those that were pushed.
     named: Option<StripLists<'a>>,
     list: Vec<&'a [u8]>,
 }
@@ -31,14 +31,14 @@ impl<'a> Model for Strips<'a> {
 }
 
 impl<'a> Strips<'a> {
-    /// No strips. Takes no memory.
+    /// No strips. Allocates nothing.
     pub fn new(alloc: Global) -> Strips<'a>
         ensures { result ≡ [] }
     {
         Strips::new_in(&Memory::new(alloc))
     }
 
-    /// No strips, and what is put later takes that memory. It takes none.
+    /// No strips. Later calls allocate in that memory. Allocates nothing.
     pub fn new_in(memory: &Memory) -> Strips<'a>
         ensures { result ≡ [] }
     {
@@ -48,7 +48,7 @@ impl<'a> Strips<'a> {
         }
     }
 
-    // The strips that a block names. Takes no memory.
+    // The strips that a block names. Allocates nothing.
     pub(crate) fn of_lists(memory: &Memory, lists: StripLists<'a>) -> Strips<'a>
         requires { AreNamed lists }
         ensures { result ≡ named_strips (Some lists.entry) }
@@ -59,8 +59,8 @@ impl<'a> Strips<'a> {
         }
     }
 
-    /// Puts a strip behind the others. On an error, which comes only for want of memory, nothing has
-    /// changed.
+    /// Appends a strip. Allocates if the list has no capacity for it. `Err`: an allocation failed; the strips
+    /// are as they were.
     pub fn push(&mut self, strip: &'a [u8]) -> Result<(), AllocError>
         ensures ok { OnOk result (self.new ≡ self.old ++ strip.now ∷ []) }
         ensures err { OnErr result (self.new ≡ self.old) }
@@ -69,7 +69,7 @@ impl<'a> Strips<'a> {
         Ok(self.push_in(&mut memory, strip)?)
     }
 
-    /// As `push`, with memory that tells whether a growth was refused: where the error came, and there alone.
+    /// Like `push`, with the caller's memory: it returns `Err` exactly if an allocation failed in this call.
     pub fn push_in(&mut self, memory: &mut Memory, strip: &'a [u8]) -> Result<(), Refused>
         ensures ok { OnOk result (self.new ≡ self.old ++ strip.now ∷ []) }
         ensures err { OnErr result (self.new ≡ self.old) }
@@ -79,7 +79,7 @@ impl<'a> Strips<'a> {
         Ok(())
     }
 
-    /// How many strips there are. Takes no memory.
+    /// The number of strips. Allocates nothing.
     pub fn len(&self) -> usize
         ensures { result ≡ length self.now }
     {
@@ -89,14 +89,14 @@ impl<'a> Strips<'a> {
         lists.starts.count() as usize + self.list.len()
     }
 
-    /// Whether there are none. Takes no memory.
+    /// Whether there are no strips. Allocates nothing.
     pub fn is_empty(&self) -> bool
         ensures { IsTrue result ↔ (self.now ≡ []) }
     {
         self.len() == 0
     }
 
-    /// The bytes of the strip at `i`, counted from 0; `i` is below `len`. Takes no memory.
+    /// The bytes of the strip at `i`, counted from 0; `i` is less than `len`. Allocates nothing.
     pub fn at(&self, i: usize) -> &'a [u8]
         requires { i < length self.now }
         ensures { slice_get self.now i ≡ Some result.now }
@@ -111,7 +111,8 @@ impl<'a> Strips<'a> {
         self.list[i - count as usize]
     }
 
-    /// How many bytes the strip at `i` has; `i` is below `len`. It reads one number where `at` reads two. Takes no memory.
+    /// The length in bytes of the strip at `i`; `i` is less than `len`. It reads one number, and `at` reads two.
+    /// Allocates nothing.
     pub fn len_at(&self, i: usize) -> usize
         requires { i < length self.now }
         ensures { slice_get (map (λ x. length x) self.now) i ≡ Some result }
@@ -124,8 +125,8 @@ impl<'a> Strips<'a> {
         self.at(i).len()
     }
 
-    /// The strip at `i`, and those behind it that can be put together with it, since they stand right behind it in the block and
-    /// no padding comes between them; `i` is below `len`. Takes no memory.
+    /// The strip at `i`, and the strips after it that can be written together with it: in the block they follow it
+    /// directly, and the normal form has no padding between them. `i` is less than `len`. Allocates nothing.
     pub fn run_at(&self, i: usize) -> StripRun<'a>
         requires { i < length self.now }
         ensures some { 0 < result.count }

@@ -104,7 +104,7 @@ abbrev pub AskedBy : List Text → Words → Type 0
 AskedBy ws asked = (ws ≡ [] ↔ asked ≡ words.Filter) × Asks (subcommand_of exifnorm ws) asked
     × IsFor (fault_of exifnorm ws) asked × (AreTaken ws → AsksFiles (subcommand_of exifnorm ws) asked)
 
--- out of memory met one failed allocation, and no other answer did: `old` and `new` are the counts of failed allocations before and
+-- running out of memory counts one failed allocation, and no other result counts any: `old` and `new` are the counts before and
 -- after the call
 abbrev pub LacksWordsBy : Words → ℕ → ℕ → Type 0
 LacksWordsBy words.NoMemory old new = new ≡ old + 1

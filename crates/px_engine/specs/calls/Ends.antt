@@ -7,7 +7,7 @@ use Rattle.px_engine.specs.Files.{Said, normal}
 use Rattle.std.specs.Io.KnownBytes.{Appends}
 use Rattle.px_bytes.specs.Devices.{AppendsPrefix}
 
--- the normal form of what is said was written, or a prefix of it
+-- the normal form of the meaning was written, or a prefix of it
 abbrev pub WritesSaid : Result ℕ Fault → Option (List ℕ) → Option (List ℕ) → ℕ → ℕ → Said → Type 0
 WritesSaid (Ok n) old new failed failed_now s = Appends old new (normal s) × (n ≡ length (normal s)) × (n ≤ limit) × (failed_now ≡ failed)
 WritesSaid (Err NormalTooLong) old new failed failed_now s = (limit < length (normal s)) × (new ≡ old) × (failed_now ≡ failed)
@@ -17,7 +17,7 @@ WritesSaid (Err WriteFailed) old new failed failed_now s =
 WritesSaid (Err (Refused cause place)) old new failed failed_now s = ⊥
 WritesSaid (Err ReadFailed) old new failed failed_now s = ⊥
 
--- why there is no form of what is said: it is too long, and nothing was allocated; or an allocation failed
+-- why there is no form of the meaning: it is too long, and nothing was allocated; or an allocation failed
 abbrev pub IsUnformed : Said → ℕ → Fault → Type 0
 IsUnformed s refused NormalTooLong = limit < length (normal s)
 IsUnformed s refused OutOfMemory = (0 < refused) × (length (normal s) ≤ limit)
@@ -25,7 +25,7 @@ IsUnformed s refused (Refused cause place) = ⊥
 IsUnformed s refused ReadFailed = ⊥
 IsUnformed s refused WriteFailed = ⊥
 
--- the text was taken, or a prefix of it where a write failed
+-- the text was taken, or a prefix of it if a write failed
 abbrev pub WritesText : {A : Type 0} → Result A Fault → Option (List ℕ) → Option (List ℕ) → ℕ → ℕ → List ℕ → Type 0
 WritesText (Ok x) old new failed failed_now out = Appends old new out × (failed_now ≡ failed)
 WritesText (Err WriteFailed) old new failed failed_now out = AppendsPrefix old new out × (failed_now ≡ failed + 1)

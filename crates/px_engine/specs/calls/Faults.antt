@@ -22,12 +22,12 @@ unwritten write.NormalTooLong = NormalTooLong
 unwritten write.OutOfMemory = OutOfMemory
 unwritten write.WriteFailed = WriteFailed
 
--- the answer of a writer of texts
+-- the result of a writer of texts
 abbrev pub told : {A E : Type 0} → Result A E → Result A Fault
 told (Ok x) = Ok x
 told (Err e) = Err WriteFailed
 
--- the answer of a writer of normal forms
+-- the result of a writer of normal forms
 abbrev pub written : Result ℕ WriteRefusal → Result ℕ Fault
 written (Ok n) = Ok n
 written (Err e) = Err (unwritten e)

@@ -1,20 +1,20 @@
--- Forms that are put into room of the caller's, and the writer that puts them there.
+-- Forms that are put into the caller's buffer, and the writer that puts them there.
 use Rattle.std.specs.Prelude.{◌≡◌, ◌<◌, ◌≤◌, ℕ, List, ◌∷◌, length, take, nat_lt, if◌then◌else◌, Option, Some, None}
 use Rattle.px_bytes.specs.Parts.{limit}
 use Rattle.px_engine.specs.declared.filling.Filling.{Filling}
 use Rattle.px_engine.specs.declared.given.Given.{Given}
 use Rattle.px_engine.specs.Hand.{IsPut}
 
--- The bytes that the writer has put, behind two numbers: which slice it writes to, and how long that is. A call over any writer only
--- appends to this list, so it leaves the slice and its length as they were.
+-- Two numbers, the slice to which the writer writes and its length, then the bytes that the writer has put. A call over any writer
+-- only appends to this list, so it leaves the slice and its length as they were.
 abbrev pub told_in : Filling → List ℕ
 told_in f = f.room.ghost_name ∷ length f.room.now ∷ take f.held f.room.now
 
--- how many calls have found the slice full: none where it isn't
+-- how many calls have found the slice full: none if it isn't full
 abbrev pub refused_in : Filling → ℕ
 refused_in f = if nat_lt f.held (length f.room.now) then 0 else f.refusals
 
--- a form that is no longer than the limit is put; a longer one isn't, and the room is as it was
+-- a form that is no longer than the limit is put; a longer one isn't, and the buffer is unchanged
 abbrev pub PutsShort : Option Given → List ℕ → List ℕ → List ℕ → Type 0
 PutsShort (Some given) form old new = IsPut given form old new × (length form ≤ limit)
 PutsShort None form old new = (new ≡ old) × (limit < length form)

@@ -1,4 +1,4 @@
--- A block that says something as one of its kind.
+-- A block that has a meaning of its kind.
 use Rattle.std.specs.Prelude.{◌≡◌, ℕ, List}
 use Rattle.px_engine.specs.declared.kinds.BlockKind.{BlockKind}
 use Rattle.px_engine.specs.Files.{Said, kind_said}

@@ -1,4 +1,4 @@
--- What reading and judging the second of two files answers, where the first says s.
+-- What reading and judging the second of two files returns, if s is the meaning of the first.
 use Rattle.std.specs.Prelude.{◌≡◌, ◌↔◌, ℕ, Bool, IsTrue, List, Option, Result, Ok, Err}
 use Rattle.px_engine.specs.declared.faults.CompareFault.{CompareFault}
 use Rattle.px_engine.specs.declared.faults.Side.TheVariants.{Second}
@@ -6,17 +6,17 @@ use Rattle.px_engine.specs.Files.{Said}
 use Rattle.px_engine.specs.Input.{IsSaid, IsUnsaid, CountsFault}
 use Rattle.px_engine.specs.Runs.{KnownSaid, Stops}
 
--- whether it says the same; or the fault is the second file's
+-- whether it has the same meaning; or the fault is the second file's
 abbrev pub ComparesSecond : Result Bool CompareFault → Said → Option (List ℕ) → Type 0
 ComparesSecond (Ok same) s second = (t : Said) × KnownSaid second t × (IsTrue same ↔ (s ≡ t))
 ComparesSecond (Err e) s second = (e.side ≡ Second) × Stops e.fault second
 
--- a failed read is answered exactly where the count of its reader rose
+-- the fault is a failed read exactly if the count of its reader rose
 abbrev pub CountsSecond : {A : Type 0} → Result A CompareFault → ℕ → ℕ → Type 0
 CountsSecond (Ok x) second second_now = second_now ≡ second
 CountsSecond (Err e) second second_now = CountsFault e.fault second second_now
 
--- the same of a file in hand
+-- the same, for a file in memory
 abbrev pub SaysSecond : Result Bool CompareFault → Said → List ℕ → ℕ → Type 0
 SaysSecond (Ok same) s g refused = (t : Said) × IsSaid g t × (IsTrue same ↔ (s ≡ t))
 SaysSecond (Err e) s g refused = (e.side ≡ Second) × IsUnsaid g refused e.fault

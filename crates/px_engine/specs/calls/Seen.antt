@@ -1,4 +1,4 @@
--- What the program's value of what is said says.
+-- The meaning that a value of the program has.
 use Rattle.px_tree.specs.calls.Seen.{meaning_of}
 use Rattle.px_engine.specs.declared.meanings.Said.{Said}
 use Rattle.px_engine.specs.declared.meanings.Said.TheVariants.{Exif, Iim}

@@ -1,5 +1,5 @@
--- What a file says is one thing, has one normal form, and can be written; or the file has a fault. The laws of trees, which
--- are functions of the crate of trees, are taken as premises.
+-- The meaning of a file is one, has one normal form, and can be written; or the file has a fault. The laws of trees, which
+-- are functions of the crate of trees, are premises.
 use Rattle.std.proofs.Common.{◌≡◌, ◌≤◌, ◌<◌, ◌+◌, ◌*◌, ◌⊎◌, inl, inr, ℕ, nat_eq, nat_le, if◌then◌else◌, Option, Some, List, [], ◌∷◌, ◌++◌}
 use Rattle.std.proofs.Common.{length, take, drop, refl, sym, ◌∙◌, ap, subst, ap₂, arith, leb-true, leb-false, length-drop}
 use Rattle.std.proofs.lemmas.Bool.{cond-true, cond-false, cases_Bool, lt-leb}
@@ -126,7 +126,7 @@ faults_tell tell = (
 
 -- ---- normal forms
 
--- a block of that kind, with nothing in front
+-- a block of that kind, with nothing before it
 record Is (k : BlockKind) (f : List ℕ) : Type 0 where
   kind_is : kind_of f ≡ k
   block_is : block_of f ≡ f
@@ -183,7 +183,7 @@ length-block f = elim (cases_Bool (is_prefixed f)) [
   | inr t ↦ subst (λ z. length f ≤ length z + 6) (sym (cond-false (is_prefixed f) (drop 6 f) f t)) (omega arith)
 ]
 
--- a file that is read whole, or one whose block is too long, as that of the bytes that are read is
+-- a file that is read whole, or one whose block is too long, as is the block of the bytes that are read
 whole_or_long : (f : List ℕ) → (taken f ≡ f) ⊎ ((limit < length (block_of f)) × (limit < length (block_of (taken f))))
 whole_or_long f = elim (cases_Bool (nat_le (length f) (limit + 7))) [
   | inl t ↦ inl (take_all (limit + 7) f (leb-true (length f) (limit + 7) t))
@@ -195,7 +195,7 @@ whole_or_long f = elim (cases_Bool (nat_le (length f) (limit + 7))) [
       ((omega arith), (omega arith)))
 ]
 
--- what is said of the bytes that are read is said of the whole file, which they are
+-- the meaning of the bytes that are read is that of the whole file, which they are
 pub said_whole : (f : List ℕ) (s : Said) → Says (taken f) s → taken f ≡ f
 said_whole f s x = elim (whole_or_long f) [
   | inl e ↦ e
@@ -211,7 +211,7 @@ whole_said f s x = elim (whole_or_long f) [
 first_long : (f : List ℕ) → limit < length (block_of f) → FirstFaultOf f TooLong limit
 first_long f l = long_in (block_of f) (kind_of f) l
 
--- where two files have the same first fault, one by one
+-- two files that are both too long have the same first fault
 moved : (f g : List ℕ) (c : Cause) (p : ℕ) → FirstFaultOf f TooLong limit → FirstFaultOf g TooLong limit → FirstFaultOf f c p
     → FirstFaultOf g c p
 moved f g c p x y h =
@@ -235,7 +235,7 @@ too_long_stands : (k : BlockKind) (b : List ℕ) → limit < length b → Stands
 too_long_stands kind.Exif b l = (refl, l)
 too_long_stands kind.Iim b l = (refl, l)
 
--- the first fault of the bytes that are read stands in the whole file
+-- the first fault of the bytes that are read is a fault of the whole file
 pub stands_whole : (f : List ℕ) (c : Cause) (p : ℕ) → FirstFaultOf (taken f) c p → FaultOf (taken f) c p → FaultOf f c p
 stands_whole f c p h s = elim (whole_or_long f) [
   | inl e ↦ subst (λ z. FaultOf z c p) e s
@@ -244,7 +244,7 @@ stands_whole f c p h s = elim (whole_or_long f) [
       subst (λ z. FaultOf f z p) e.0 (subst (λ z. FaultOf f TooLong z) e.1 (too_long_stands (kind_of f) (block_of f) l.0))
 ]
 
--- nothing stands in front of the block in a normal form
+-- nothing is before the block in a normal form
 pub own_block : (s : Said) → CanBeWritten s → block_of (normal s) ≡ normal s
 own_block (Exif m) h = (exif_kind m).block_is
 own_block (Iim i) h = (iim_kind i h).block_is

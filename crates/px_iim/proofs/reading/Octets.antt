@@ -1,4 +1,4 @@
--- The number of some octets, one octet more; and the DataSet that they say.
+-- The number that octets encode, with one more octet; and the DataSet that they mean.
 use Rattle.std.proofs.Common.{◌≡◌, ℕ, ◌+◌, ◌*◌, ◌^◌, ◌<◌, ◌≤◌, zero, suc, List, slice_index, ap, ◌∙◌, arith, ◌-◌, nat_lt, false, length}
 use Rattle.std.proofs.Common.{take, drop, length-drop, length-take-le}
 use Rattle.px_bytes.specs.declared.Order.TheVariants.{Most}
@@ -40,7 +40,7 @@ number_part x k e q h =
     ∙ ap (λ (n : ℕ). number Most n (take e (drop 5 x))) (length-take-le e (drop 5 x) room)
     ∙ number-take Most e e (drop 5 x) (omega arith)
 
--- what is cut out is the DataSet in front
+-- what is cut out is the first DataSet
 pub dataset_value : (x : List ℕ) (k n : ℕ) → k ≡ extra x → n ≡ count x → ◌≡◌ {A = DataSet}
     (record { rec = slice_index x 1; number = slice_index x 2; octets = take (5 + k + n - (5 + k)) (drop (5 + k) x) }) (dataset x)
 unfolding dataset

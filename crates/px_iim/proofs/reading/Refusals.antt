@@ -1,4 +1,4 @@
--- A refusal of a block carries a fault that stands.
+-- A refusal of a block names one of its faults.
 use Rattle.std.proofs.Common.{◌≡◌, ℕ, ◌≤◌, Option, Some, None, List, length, ap, refl, arith, length-append}
 use Rattle.px_bytes.specs.declared.Refusal.TheVariants.{Content}
 use Rattle.px_bytes.specs.declared.Cause.{Cause}

@@ -74,7 +74,7 @@ datasets_more (y ∷ ys) e f =
     (cond-false (is_end (drop (size (y ∷ ys)) (y ∷ ys))) _ _ f
     ∙ same_sequence (length ys) (length (drop (size (y ∷ ys)) (y ∷ ys))) (drop (size (y ∷ ys)) (y ∷ ys)) (omega arith) (omega arith))
 
--- ---- behind a DataSet that was read
+-- ---- after a DataSet that was read
 
 refused : (p : ℕ) (x : List ℕ) (f : Cause × ℕ) → first_false (dataset_checks p x) ≡ Some f → is_dataset x ≡ false
 refused p x f h =

@@ -26,7 +26,7 @@ none_read (Some ds) = refl
 pub none_left : (front all : List DataSet) (o : Option (List DataSet)) → o ≡ None → behind front o ≡ Some all → ⊥
 none_left front all o e h = let clash : ◌≡◌ {A = Option (List DataSet)} None (Some all) = sym (ap (behind front) e) ∙ h in cc
 
--- where the octets that are left say DataSets, one stands in front of them
+-- if the octets that are left mean DataSets, one is at their start
 pub one_left : (front all : List DataSet) (y : List ℕ) → behind front (datasets y) ≡ Some all → is_dataset y ≡ true
 one_left front all y h = elim (cases_Bool (is_dataset y)) [
   | inl t ↦ t
@@ -74,7 +74,7 @@ one_of : (P : DataSet → Type 0) (front rest : List DataSet) (d : DataSet) → 
 one_of P [] rest d a = a.0
 one_of P (x ∷ xs) rest d a = one_of P xs rest d a.1
 
--- what holds of all holds of one that was read
+-- what is true of all is true of one that was read
 pub each_read : (P : DataSet → Type 0) (x : List ℕ) (at : ℕ) (f : Found) (r : Reads (drop at x) f) (front all : List DataSet)
     → behind front (datasets (drop at x)) ≡ Some all → AllByRecursion P all → P (found_view f)
 each_read P x at f r front all h a =

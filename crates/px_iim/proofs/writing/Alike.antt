@@ -1,10 +1,10 @@
--- Lists that are the same, place by place.
+-- Lists that are the same, index by index.
 use Rattle.std.proofs.Common.{◌≡◌, ℕ, ◌+◌, ◌++◌, List, [], ◌∷◌, take, get_or, slice_get, Some, sym, ap, ◌∙◌}
 use Rattle.std.proofs.lemmas.List.{take_more}
 use Rattle.std.proofs.lemmas.Option.{slice_get_within, get_or_from_slice_get}
 
 module _ {X : Type 0} (xs ys : List X) (i : ℕ) (x y : X) (first : slice_get xs i ≡ Some x) (second : slice_get ys i ≡ Some y) where
-  -- one more place
+  -- one more index
   pub same_more : take i xs ≡ take i ys → x ≡ y → take (i + 1) xs ≡ take (i + 1) ys
   same_more e s =
       take_more xs i x (slice_get_within xs i x first) ∙ ap (λ (z : X). take i xs ++ z ∷ []) (get_or_from_slice_get xs i x x first ∙ s)

@@ -1,4 +1,4 @@
--- Lengths and growths of parts put one behind another.
+-- Lengths of parts that are put one after another, and how they grow.
 use Rattle.std.proofs.Common.{◌≡◌, ℕ, zero, suc, ◌+◌, ◌<◌, ◌≤◌, ◌++◌, List, [], ◌∷◌, length, take, get_or, slice_get, Option, Some, None}
 use Rattle.std.proofs.Common.{IfSome, Result, Ok, Err, refl, sym, ap, ◌∙◌, subst, inl, inr, map, option_map, unwrap_or, is_ok}
 use Rattle.std.proofs.Common.{if◌then◌else◌, nat_le, le-leb, arith, append_assoc, append-nil, length-append}
@@ -51,7 +51,7 @@ none_more m n e h = elim (cases_lt most m) [
   | inr l ↦ let clash : ◌≡◌ {A = Option ℕ} None (Some m) = e ∙ sym (within_some m m refl l) in absurd (cc)
 ]
 
--- what a loop names where there is no item
+-- what a loop names if there is no item
 abbrev pub no_item : Item
 no_item = record { rec = 0; number = 0; octets = record { ref_ptr = (0, 0); now = [] } }
 
@@ -105,7 +105,7 @@ module _ (i left : Record) (x : Group) (step : i ≡ x ∷ left) (all : List ℕ
 pub rest_none : (i : Record) (out all : List ℕ) → i ≡ [] → out ++ normal_iim i ≡ all → out ≡ all
 rest_none i out all e f = sym (append-nil out) ∙ ap (λ (k : Record). out ++ normal_iim k) (sym e) ∙ f
 
--- ---- growth
+-- ---- how lengths grow
 
 pub grows_stop : (old now new parts : List ℕ) → now ≡ old ++ parts → take (length now) new ≡ now → take (length old) new ≡ old
 grows_stop old now new parts e f =

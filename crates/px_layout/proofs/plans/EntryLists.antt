@@ -23,7 +23,7 @@ use Rattle.px_layout.specs.declared.entries.Step.{Step}
 use Rattle.px_layout.specs.declared.entries.Step.TheVariants.{Here, Under}
 use Rattle.px_layout.specs.lemmas.EntryLaws.{good_fields, few_items}
 
--- ---- a pair put in its place
+-- ---- a pair put at its position
 
 module _ {X : Type 0} where
   pub rank_le : (t : ℕ) (xs : List (ℕ × X)) → rank t xs ≤ length xs
@@ -83,9 +83,9 @@ module _ {X : Type 0} where
         ∙ put_behind t x ys j (let r = rank_later t y ys q in omega arith)
   ]
 
-  -- ---- a place counted
+  -- ---- a position counted
 
-  -- what is put behind none of a greater tag, and what is put behind one
+  -- a pair that is put after no greater tag, and one that is put after a greater tag
   pub rank_put : (t u : ℕ) (x : X) (xs : List (ℕ × X)) → u ≤ t → rank t (put u x xs) ≡ rank t xs + 1
   rank_put t u x [] l = rank_later t (u, x) [] (le-ltb t u l)
   rank_put t u x (y ∷ ys) l = elim (cases_Bool (nat_lt u y.0)) [
@@ -118,7 +118,7 @@ module _ {X : Type 0} where
   tag_read P (y ∷ ys) zero x h e = let q : y ≡ x = cc in subst (λ (z : ℕ × X). P z.0) q h.0
   tag_read P (y ∷ ys) (suc i) x h e = tag_read P ys i x h.1 e
 
-  -- where tags rise, all up to one that isn't greater aren't, and none behind one that is greater counts
+  -- if tags rise: all before a tag that isn't greater aren't greater either, and none after a greater one counts
   pub rank_behind : (t : ℕ) (xs : List (ℕ × X)) (i : ℕ) (x : ℕ × X) → Rising (map (λ y. y.0) xs) → slice_get xs i ≡ Some x → x.0 ≤ t
       → i + 1 ≤ rank t xs
   rank_behind t [] i x r e l = cc
@@ -178,12 +178,12 @@ Passes p o i = (xs : List (ℕ × Item)) → Stands o xs → i < length (over o 
 pub passes : (p : Step) (o : Option Extra) (e : Extra) (i : ℕ) → o ≡ Some e → Passes p (Some e) i → Passes p o i
 passes p o e i q f = subst (λ o. Passes p o i) (sym q) f
 
--- an entry that stands at n or behind it leaves each place before n as it is
+-- an entry at n or after n leaves each index before n as it is
 pub clear_passes : (o : Option Extra) (n i : ℕ) → IsClear n o → i < n → Passes (Under i) o i
 clear_passes None n i c l xs s h = (refl, h)
 clear_passes (Some e) n i c l xs s h = pass_before e xs i (omega arith) s h
 
--- past four further entries stands the field at the place that is left
+-- after the steps over four further entries, the field is at the index that is left
 pub through : (a b c d : Option Extra) (fs : Fields) (i k j h g : ℕ) →
     Passes (Under k) d i → Passes (Under j) c k → Passes (Under h) b j → Passes (Under g) a h →
     Stands a (field_items fs) → Stands b (over a (field_items fs)) → Stands c (over b (over a (field_items fs)))
@@ -226,7 +226,7 @@ both_twice p a b c d ys i j pd pb sa sb sc sd l =
     let z = pd (over b (over a ys)) sc sd l in
     found_under p (over d (over c (over b (over a ys)))) (over b (over a ys)) ys i j z.0 (pb ys sa sb z.1)
 
--- and the field at the place that is left
+-- the field at the index that is left is found
 pub field_found : (fs : Fields) (ys : List (ℕ × Item)) (i g : ℕ) → Finds (Under g) ys (field_items fs) i
     → (slice_get ys i ≡ option_map (λ p. (p.0, Field p.1)) (slice_get fs g)) × (g < length fs)
 field_found fs ys i g w = (
@@ -234,7 +234,7 @@ field_found fs ys i g w = (
   subst (λ n. g < n) (length-map fs (λ (p : ℕ × Value). (p.0, Field p.1))) w.1,
 )
 
--- before all further entries stand the fields
+-- the fields come before all further entries
 pub clear_through : (a b c d : Option Extra) (fs : Fields) (n i : ℕ) →
     IsClear n a → IsClear n b → IsClear n c → IsClear n d →
     Stands a (field_items fs) → Stands b (over a (field_items fs)) → Stands c (over b (over a (field_items fs)))

@@ -1,4 +1,4 @@
--- Where the parts of a normal form begin, one behind the other.
+-- The byte offsets of the parts of a normal form, one after the other.
 use Rattle.std.proofs.Common.{◌≡◌, ℕ, zero, suc, ◌+◌, Option, Some, List, [], ◌∷◌, length, map, drop, slice_get, get_or}
 use Rattle.std.proofs.Common.{refl, ◌∙◌, ap, subst, arith}
 use Rattle.px_tree.specs.Tree.{Meaning}

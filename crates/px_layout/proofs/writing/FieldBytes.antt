@@ -13,7 +13,7 @@ use Rattle.px_layout.specs.calls.Placed.{placed_bytes}
 use Rattle.px_layout.specs.calls.Given.{head_bytes, entry_given, field_given, field_bytes}
 use Rattle.px_layout.proofs.writing.Runs.{given_far, given_near}
 
--- ---- a size, told by a call
+-- ---- a size that a call returns
 
 pub field_size : (v : Value) (n : ℕ) → n ≡ length v.elements * size (form_in v.kind) → n ≡ item_size (Field v)
 unfolding item_size
@@ -50,7 +50,7 @@ given_field plan at t v =
           ∙ given_near plan at (t, Field v) (item_size (Field v)) head refl (ltb-false 4 (item_size (Field v)) q) refl
     ]
 
--- where an entry says a field
+-- an entry that is a field
 pub entry_of_field : (plan : Plan) (at : ℕ) (i : ℕ × Item) (v : Value) → i.1 ≡ Field v → field_given at i.0 v ≡ entry_given plan at i
 entry_of_field plan at i v e = given_field plan at i.0 v ∙ ap (λ (x : Item). entry_given plan at (i.0, x)) (sym e)
 

@@ -32,7 +32,7 @@ use Rattle.px_tree.specs.Directory.{magic}
 use Rattle.px_layout.proofs.writing.Beginnings.{dir_there, form_end, sized_read, sized_length}
 use Rattle.px_layout.specs.lemmas.WalkLaws.{drop_here}
 
--- what holds of each holds of one that is read
+-- what is true of each element is true of one that is read
 pub each_read : {X : Type 0} (P : X → Type 0) (xs : List X) (i : ℕ) (x : X) → AllByRecursion P xs → slice_get xs i ≡ Some x → P x
 each_read P [] i x h e = cc
 each_read P (y ∷ xs) zero x h e = let q : y ≡ x = cc in subst P q h.0
@@ -64,7 +64,7 @@ module _ (plan : Plan) where
       let count = long_bytes Most (item_count i.1) in
       ap (λ x. x ++ last) e ∙ append_assoc tag (form ++ count) last ∙ ap (λ x. tag ++ x) (append_assoc form count last)
 
-  -- with a place of its own, and without
+  -- an entry whose value is placed, and one with its value in it
   pub given_far : (at : ℕ) (i : ℕ × Item) (n : ℕ) (bytes : List ℕ) → n ≡ item_size i.1 → 4 < n
       → bytes ≡ head_bytes Most i ++ long_bytes Most at → bytes ≡ entry_given plan at i
   given_far at i n bytes s l e =
@@ -74,7 +74,7 @@ module _ (plan : Plan) where
       → head ++ (item_bytes plan Most 0 i.1 ++ replicate (4 - n) 0) ≡ entry_given plan at i
   given_near at i n head s l e = ap (λ x. head ++ x) (last_near at i.1 n s l) ∙ given_as at i head e
 
-  -- at the place of its value, these are the entry's bytes
+  -- if `at` is the offset of its value, these are the entry's bytes
   pub given_is : (d : Dir) (at : ℕ) (i : ℕ × Item) → (4 < item_size i.1 → place plan (Placed d i.0) ≡ at)
       → entry_given plan at i ≡ entry_bytes plan Most 0 d i
   unfolding entry_given entry_bytes last_given last_bytes
@@ -93,7 +93,7 @@ module _ (plan : Plan) where
 -- ---- in the normal form
 
 module _ (m : Meaning) where
-  -- an entry of a directory, where its values run
+  -- an entry of a directory, at the offset that the values have reached
   pub entry_running : (d : Dir) (xs : List (ℕ × Item)) (i at : ℕ) (x : ℕ × Item) → Fits m → items m d ≡ Some xs → slice_get xs i ≡ Some x →
       at + values_size (drop i xs) ≡ start m d + even (table_size (length xs)) + values_size xs
       → entry_given (normal_plan m) at x ≡ entry_bytes (normal_plan m) Most 0 d x
@@ -101,7 +101,7 @@ module _ (m : Meaning) where
       let g : Good d xs = subst (λ (o : Option (List (ℕ × Item))). IfSome o (Good d)) e (good_items m f d) in
       given_is (normal_plan m) d at x (λ l. value_place m d xs i at x e g.rising r l h)
 
-  -- no directory ends behind the limit
+  -- no directory ends after the limit
   dir_most : (s : Starts) (d : Dir) → AreStarts s m → Fits m → dir_end (start m d) m d ≤ limit
   dir_most s Main a f = let e = form_end m f in let n = a.ends in let l = a.most in omega arith
   dir_most s Exif a f = let e = form_end m f in let n = a.ends in let l = a.most in omega arith
@@ -113,7 +113,7 @@ module _ (m : Meaning) where
       → start m d + even (table_size (length xs)) + values_size xs ≤ limit
   values_most s d xs a f e = let t = dir_there m d (start m d) xs e in let l = dir_most s d a f in omega arith
 
--- ---- the strips that an entry tells
+-- ---- the strips that an entry names
 
 tells_fields : (m : Meaning) (fs : Fields) → AllByRecursion (λ i. TellsAll m i.1) (field_items fs)
 tells_fields m [] = tt
@@ -134,7 +134,7 @@ place_read x [] i at l h = absurd (omega arith)
 place_read x (y ∷ s) zero at l h = ap (λ (n : ℕ). Some n) (omega arith)
 place_read x (y ∷ s) (suc i) at l h = place_read (x + even (length y)) s i at (omega arith) (omega arith)
 
--- the same places, told by the plan and running along
+-- the offsets of the plan are those that are computed on the way
 same_places : (p : ℕ → ℕ) (n x : ℕ) (s : List (List ℕ)) → ((j : ℕ) → j < length s → p (n + j) ≡ x + strips_size (take j s))
     → flat_map (λ i. long_bytes Most (p i)) (range_with_len n (length s)) ≡ flat_map (long_bytes Most) (strip_places x s)
 same_places p n x [] h = refl
@@ -142,7 +142,7 @@ same_places p n x (y ∷ s) h = ap₂ (λ (k : ℕ) (ys : List ℕ). long_bytes 
     (ap p (omega arith) ∙ h 0 (omega arith) ∙ omega arith)
     (same_places p (n + 1) (x + even (length y)) s (λ j l. ap p (omega arith) ∙ h (suc j) (omega arith) ∙ omega arith))
 
--- the bytes of the item that tells all strips
+-- the bytes of the item that names all strips
 pub strips_told : (m : Meaning) (n : ℕ) → TellsAll m (AtStrips n)
     → flat_map (long_bytes Most) (strip_places (strips_start m) (strip_list m.thumb)) ≡ flat_map
     (λ i. long_bytes Most (place (normal_plan m) (Strip i))) (range_with_len 0 n)
@@ -180,7 +180,7 @@ jpeg_gone m t e f =
 pub thumb_gone : (m : Meaning) → m.thumb ≡ None → 0 ≡ place (normal_plan m) Jpeg
 thumb_gone m e = sym (jpeg_run m ∙ ap (λ o. unwrap_or o 0) (ap (λ y. running (thumb_start m) (jpeg_part y ++ strips_part y) Jpeg) e))
 
--- ---- the entries that tell strips
+-- ---- the entries that name strips
 
 tells_link : {X : Type 0} (m : Meaning) (d : Dir) (o : Option X) → IfSome (link d o) (TellsAll m)
 tells_link m d None = tt
@@ -271,7 +271,7 @@ strips_most m s t a f e =
     part None = refl
     part (Some t) = all t.strips
 
--- the item that tells all strips
+-- the item that names all strips
 pub item_told : (m : Meaning) (x : Item) (n : ℕ) → x ≡ AtStrips n → TellsAll m x
     → flat_map (long_bytes Most) (strip_places (strips_start m) (strip_list m.thumb)) ≡ item_bytes (normal_plan m) Most 0 x
 unfolding item_bytes
@@ -291,7 +291,7 @@ place_gone m d None e f = no_table_place m d e
 
 -- ---- the header
 
--- the main directory begins right behind the header
+-- the main directory follows the header directly
 pub header_is : (m : Meaning) → 0x4D ∷ 0x4D ∷ 0 ∷ 0x2A ∷ 0 ∷ 0 ∷ 0 ∷ 8 ∷ [] ≡ header (normal_plan m) Most 0
 unfolding header items
 header_is m = sym (ap (λ n. magic Most ++ long_bytes Most n) (table_place m Main (main_items m) refl))

@@ -1,4 +1,4 @@
--- The answers of writing the normal form.
+-- The results of writing the normal form.
 use Rattle.std.proofs.Common.{◌≡◌, ℕ, ◌+◌, ◌≤◌, List, [], ◌++◌, length, Option, Ok, Err, refl, sym, ◌∙◌, ap, subst}
 use Rattle.std.specs.Io.KnownBytes.{Appends, Keeps}
 use Rattle.px_bytes.specs.declared.WriteRefusal.{WriteRefusal}
@@ -20,7 +20,7 @@ no_form m a failed NormalTooLong h = (h, refl, refl)
 no_form m a failed OutOfMemory h = absurd h
 no_form m a failed WriteFailed h = absurd h
 
--- the form of s is that of m, is not too long, and is put where nothing waits
+-- the form of s is that of m, is not too long, and is put into an empty output buffer
 module _ (m s : Meaning) (a : Option (List ℕ)) (failed : ℕ) (h : List ℕ) (same : s ≡ m) (l : length (normal_exif m) ≤ limit)
     (none : h ≡ []) where
   of_form : (P : List ℕ → Type 0) → P (h ++ normal_exif s) → P (normal_exif m)

@@ -62,7 +62,7 @@ module _ (b : List ℕ) (o : Order) (start count : ℕ) where
     here = record { head = h; place = at }
 
     module _ (test : Entry → Bool) (t : ℕ) (tagged : Tagged test t) (reads : Reads o test) where
-      -- one that passes comes where none was kept
+      -- one that passes comes when none was kept
       taken : (x : Option Found) → SeesSoFar test t x at before n → test e ≡ true → SeesSoFar test t (Some here) (at + 12) (Some h.tag) m
       taken None s p = (
         record {

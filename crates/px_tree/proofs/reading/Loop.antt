@@ -24,7 +24,7 @@ use Rattle.px_bytes.specs.lemmas.RangeLaws.{agrees-same}
 use Rattle.px_bytes.specs.lemmas.ApartLaws.{same_refl, same_trans, same_front}
 use Rattle.px_bytes.specs.lemmas.CheckLaws.{first_false-true, Refuses-more, Refuses-same}
 
--- the range of an entry, held before those of the entries behind it or after them
+-- the range of an entry, claimed before or after the ranges of the entries that follow it
 pub same_moved : (x : Option Range) (es now : List Range) → SameFree (es ++ (option_to_list x ++ now)) (cons_option x es ++ now)
 same_moved None es now = same_refl (es ++ now)
 same_moved (Some x) es now = same_front x es now
@@ -47,7 +47,7 @@ module _ (b : List ℕ) (o : Order) (d : Dir) where
   abbrev tag_of : Entry → ℕ
   tag_of e = e.tag
 
-  -- the first entry of those left, and those behind
+  -- the first entry of those left, and the entries after it
   behind : (now : List Range) (at : ℕ) (before : Option ℕ) (m : ℕ) → List Check
   behind now at before m =
       entries_checks b o d (option_to_list (placed_range o (entry o (part b at 12)))
@@ -86,7 +86,7 @@ module _ (b : List ℕ) (o : Order) (d : Dir) where
           ++ taken)) more s.free);
     }
 
-  -- the fields of the first entry and those behind
+  -- the fields of the first entry and of the entries after it
   pub fields_step : (at n m : ℕ) → n ≡ suc m → filter_map (field b o d) (entries_from b o at n) ≡ option_to_list
       (field b o d (entry o (part b at 12))) ++ filter_map (field b o d) (entries_from b o (at + 12) m)
   fields_step at n m more =
@@ -103,7 +103,7 @@ module _ (b : List ℕ) (o : Order) (d : Dir) where
       ap (λ (x : Option Form). option_map (λ (v : Value). (e.tag, v)) (option_and_then (value_in b o e (role d e.tag)) x)) i.form
       ∙ ap (λ (r : Role). option_map (λ (v : Value). (e.tag, v)) (value_in b o e r s.form)) (sym i.role_is)
 
-  -- where none is left
+  -- if none is left
   pub so_far_end : (taken : List Range) (all : List Entry) (start : ℕ) (held : List (ℕ × ℕ)) (at : ℕ) (before : Option ℕ) (n : ℕ) → n ≡ 0
       → SoFar taken all start held at before n
       → (first_false (entries_checks b o d taken start None all) ≡ None) × Agrees (filter_map (placed_range o) all ++ taken) held

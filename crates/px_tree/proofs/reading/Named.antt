@@ -1,4 +1,4 @@
--- Directories where they are named.
+-- Directories at the offsets that name them.
 use Rattle.std.proofs.Common.{◌≡◌, ℕ, ◌+◌, List, [], ◌∷◌, ◌++◌, Option, Some, None, option_map, option_to_list, refl, sym, ap, ◌∙◌, subst}
 use Rattle.std.specs.Prelude.{IfSome, option_and_then, unwrap_or}
 use Rattle.px_bytes.specs.declared.Order.{Order}
@@ -34,9 +34,9 @@ module _ (b : List ℕ) (o : Order) (d : Dir) where
     pub some_fields : fields_at b o d ≡ Some (fields b o d link.at)
     some_fields = ap (λ (x : Option ℕ). option_map (fields b o d) x) (sym n.leads)
 
--- ---- the directories, one behind another
+-- ---- the directories, one after another
 module _ (b : List ℕ) (o : Order) (taken : List Range) where
-  -- behind the directories of the links the checks of those left have the first fault of all, and the same ranges are held in the end
+  -- after the directories of the links, the checks of those left have the first fault of all, and in the end the same ranges are claimed
   pub record DirsSoFar (earlier : List (Option Link)) (ds : List Dir) (held : List (ℕ × ℕ)) : Type 0 where
     pub now : List Range
     pub agrees : Agrees now held
@@ -91,7 +91,7 @@ module _ (b : List ℕ) (o : Order) where
   unfolding dir_at
   main_is k n = let e : Some k.at ≡ Some (main_at b o) = n.leads in cc
 
-  -- where the pointer of tag t in the table at a leads, and its place
+  -- where the pointer of tag t in the table at a leads, and its byte offset
   abbrev Follows : ℕ → Option Link → ℕ → Type 0
   Follows t link a = option_map (λ (l : Link). l.at) link ≡ pointer o t (entries_at b o a)
 

@@ -13,7 +13,7 @@ use Rattle.px_tree.specs.Directory.{is_pointer}
 use Rattle.px_tree.specs.calls.Used.{HasNoUse}
 use Rattle.px_tree.specs.calls.Uses.{Keeps, kept, has_tag}
 
--- ---- where they lie
+-- ---- their offsets
 
 pub between_tables : (t : ℕ) → 0x0209 < t → t < 0x83BB → HasNoUse t
 between_tables t a b = record {

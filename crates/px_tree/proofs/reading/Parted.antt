@@ -151,7 +151,7 @@ module _ (b : List ℕ) (o : Order) (a : ℕ) where
     strip_checks-is taken = strip_checks-same taken p.strip_offsets p.strip_lengths found.strip_offsets
         ∙ ap (λ (r : Option (List Range)). range_checks b at_strips taken (listed r)) strips-is
 
-    -- ---- all of them, one behind another
+    -- ---- all of them, one after another
     module _ (taken : List Range) where
       abbrev jpegs : List Range
       jpegs = option_to_list (jpeg_range o es)
@@ -213,7 +213,7 @@ module _ (b : List ℕ) (o : Order) (a : ℕ) where
                 (all_true (end_checks b o a) (jpeg_part ++ strip_part) ended
                 (all_true jpeg_part strip_part jpeg_true (subst (λ (cs : List Check). first_false cs ≡ None) strips_now-is h)))
 
--- as many offsets as lengths, where the checks say so
+-- as many offsets as lengths, if the checks pass
 even_from : (x y : Option Found) → first_false (count_check x y) ≡ None → AreEven x y
 even_from (Some f) (Some g) h = even_by (f.head.count == g.head.count) f.head.count g.head.count f.place refl h
   where

@@ -7,11 +7,11 @@ use Rattle.px_bytes.specs.lemmas.PartLaws.{part-part, drop-part}
 use Rattle.px_tree.specs.Entry.{Entry, entry}
 use Rattle.px_tree.specs.calls.Reading.{entries_from}
 
--- a part of a part, at a place that is told
+-- a part of a part, at a given offset
 pub part_at : (b : List ℕ) (p m x n q : ℕ) → x + n ≤ m → q ≡ p + x → part (part b p m) x n ≡ part b q n
 part_at b p m x n q h e = part-part b p m x n h ∙ ap (λ (k : ℕ). part b k n) (sym e)
 
--- the entries of a table, place by place
+-- the entries of a table, offset by offset
 pub pieces_from : (b : List ℕ) (o : Order) (p m n : ℕ) → 12 * n ≤ m → map (entry o) (pieces n 12 (part b p m)) ≡ entries_from b o p n
 pieces_from b o p m zero h = refl
 pieces_from b o p m (suc n) h =

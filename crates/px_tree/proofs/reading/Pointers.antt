@@ -1,4 +1,4 @@
--- Where entries are found.
+-- Finding entries in a table.
 use Rattle.std.proofs.Common.{◌≡◌, ℕ, zero, suc, ◌+◌, ◌-◌, ◌*◌, ◌==◌, ◌&&◌, Bool, true, false, if◌then◌else◌, List, None, Some, drop}
 use Rattle.std.proofs.Common.{length, refl, ap, ap₂, ◌∙◌, arith}
 use Rattle.std.specs.Prelude.{find}
@@ -20,7 +20,7 @@ module _ (b : List ℕ) (o : Order) (test : Entry → Bool) (p n m : ℕ) (more 
   abbrev e : Entry
   e = entry o (part b p 12)
 
-  -- the entry is none, and those behind are left
+  -- the entry isn't such a one, and those after it are left
   pub find_pass : test e ≡ false → find test (entries_from b o p n) ≡ find test (entries_from b o (p + 12) m)
   find_pass f = ap (λ (k : ℕ). find test (entries_from b o p k)) more
       ∙ ap (λ (x : Bool). if x then Some e else find test (entries_from b o (p + 12) m)) f

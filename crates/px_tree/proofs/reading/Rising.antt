@@ -35,7 +35,7 @@ free_between taken held low high a f s n l h = a.all_free s n (λ t e holds.
     let gap : min e high ≤ max t low = f t e holds in
     omega arith)
 
--- and those behind r stay free once r is taken
+-- and those after r stay free once r is taken
 free_behind : (now : List Range) (low high : ℕ) (r : Range) → AreFree now low high → low ≤ r.start
     → AreFree (r ∷ now) (r.start + r.size) high
 free_behind now low high r f l s n k h =

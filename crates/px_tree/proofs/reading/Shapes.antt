@@ -45,7 +45,7 @@ shape_same o d p u h e s =
     (is_some (form_of e.code)) ∷ check MisplacedOffset p (is_allowed (role d e.tag)) ∷ check PointerForm p k ∷ [])
     (form_any (role d e.tag) e.tag e.code e.count [] e.last)
 
--- the checks of a value, by its place and its size
+-- the checks of a value, by its offset and its size
 value_checks-is : (b : List ℕ) (o : Order) (taken : List Range) (p : ℕ) (e : Entry)
     → value_checks b o taken p e ≡ span_checks b taken p (offset o e) (raw_size e)
 unfolding has_raw placed_range

@@ -1,4 +1,4 @@
--- The table of a directory as the entries from a place on.
+-- The table of a directory as the entries from an offset on.
 use Rattle.std.proofs.Common.{◌≡◌, ℕ, ◌+◌, ◌-◌, nat_le, true, List, [], ◌∷◌, ◌++◌, None, Some, map, filter_map, take, drop, length, refl}
 use Rattle.std.proofs.Common.{sym, ap, ap₂, ◌∙◌, arith, subst, le-leb}
 use Rattle.std.proofs.lemmas.Bool.{cond-true, and_from}

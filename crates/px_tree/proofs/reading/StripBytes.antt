@@ -37,7 +37,7 @@ get_behind (y ∷ xs) ys zero h = absurd (omega arith)
 get_behind (y ∷ xs) ys (suc i) h =
     get_behind xs ys i (omega arith) ∙ (let e : i - length xs ≡ suc i - suc (length xs) = omega arith in ap (λ (n : ℕ). slice_get ys n) e)
 
--- what holds of each range holds of the one at i
+-- what is true of each range is true of the one at i
 pub inside_at : (b : List ℕ) (rs : List Range) (i : ℕ) (r : Range) → AllByRecursion (IsInside b) rs → slice_get rs i ≡ Some r → IsInside b r
 inside_at b [] i r a h = cc
 inside_at b (s ∷ rs) zero r a h = let e : s ≡ r = cc in subst (λ (x : Range). IsInside b x) e a.0

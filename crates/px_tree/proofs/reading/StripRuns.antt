@@ -1,4 +1,4 @@
--- Strips that stand one behind another, and the lengths of strips.
+-- Strips that follow one another directly, and the lengths of strips.
 use Rattle.std.proofs.Common.{◌≡◌, ℕ, zero, suc, ◌+◌, ◌-◌, ◌<◌, ◌≤◌, ◌%◌, Some, option_map, List, [], ◌∷◌, ◌++◌, length, map, take, drop}
 use Rattle.std.proofs.Common.{sym, ap, ap₂, ◌∙◌, arith, slice_get, get_or, length-append, append_assoc, subst}
 use Rattle.std.specs.List.{flat_map}
@@ -23,7 +23,7 @@ both_even m n p q =
     let e : m + 0 ≡ m = omega arith in
     sym (add-mod-mod m n 2) ∙ ap (λ (k : ℕ). (m + k) % 2) q ∙ ap (λ (k : ℕ). k % 2) e ∙ p
 
--- two parts, one right behind the other
+-- two parts, one directly after the other
 part_both : (b : List ℕ) (x m n : ℕ) → part b x m ++ part b (x + m) n ≡ part b x (m + n)
 part_both b x m n =
     ap (λ (ys : List ℕ). part b x m ++ take n ys) (sym (drop-drop m x b)) ∙ sym (take-add m n (drop x b))

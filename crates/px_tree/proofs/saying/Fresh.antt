@@ -7,7 +7,7 @@ use Rattle.px_bytes.specs.lemmas.EachLaws.{each_map, each_map₂, each_left, eac
 pub apart_turned : (r s : Range) → Apart r s → Apart s r
 apart_turned r s a p i j = a p j i
 
--- no range of rs shares a byte with one of held
+-- no range of rs shares a byte with a claimed range
 abbrev pub Clear : List Range → List Range → Type 0
 Clear held rs = AllByRecursion (λ r. AllByRecursion (Apart r) held) rs
 

@@ -23,7 +23,7 @@ abbrev pub Rise : ℕ → ℕ → List Range → Type 0
 Rise low high [] = low ≤ high
 Rise low high (r ∷ rs) = (low ≤ r.start) × Rise (r.start + r.size) high rs
 
--- what puts a padding behind bytes of an odd length alone
+-- a function that pads only bytes of an odd length
 abbrev pub KeepsEven : (List ℕ → List ℕ) → Type 0
 KeepsEven f = (x : List ℕ) → length x % 2 ≡ 0 → f x ≡ x
 

@@ -1,8 +1,3 @@
-use Rattle.std.proofs.Common.{ℕ, List, Result, IfOk, IfErr, sym, subst}
-use Rattle.px_bytes.specs.declared.Refusal.{Refusal}
-use Rattle.px_engine.specs.declared.kinds.BlockKind.{BlockKind}
-use Rattle.px_engine.specs.Input.{IsRefusedIn}
-use Rattle.px_engine.specs.calls.Kinds.{SaysKind}
 use Rattle.px_engine.proofs.input.judge_block.Goals as goal
 
 pub returns-in-Exif-clause-said : goal.returns-in-Exif-clause-said

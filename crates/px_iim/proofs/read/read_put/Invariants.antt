@@ -7,7 +7,7 @@ use Rattle.px_iim.specs.lemmas.ScanLaws.{checks_left}
 use Rattle.px_iim.proofs.reading.Steps.{datasets}
 use Rattle.px_iim.proofs.read.read_put.Given as goal
 
--- what is left, put behind what was read, is all; and what is wrong with all is wrong with what is left
+-- what was read, followed by what is left, is all; and a fault of all is a fault of what is left
 abbrev pub invariant-loop-record : goal.invariant-loop-record
 invariant-loop-record l = record {
   inside : l.at ≤ length l.bytes;

@@ -52,7 +52,7 @@ below : (ds : List DataSet) (d : DataSet) (n m k : ℕ) → k ≡ key_of d → n
 below ds d n m k e l h a =
     both (λ y. key_of y < m) ds (d ∷ []) (weaker (λ y. key_of y < n) (λ y. key_of y < m) (λ y b. omega arith) ds a) (omega arith, tt)
 
--- all so far and one more are in order where this one's group is none before the last one's
+-- all so far and one more are in order if this one's group isn't before the last one's
 rising : (ds : List DataSet) (d : DataSet) (in_order : Bool) (last key : ℕ) → key ≡ key_of d
     → (in_order ≡ true → InOrder ds × AllByRecursion (λ y. key_of y ≤ last) ds) → in_order && nat_le last key ≡ true
     → InOrder (ds ++ d ∷ []) × AllByRecursion (λ y. key_of y ≤ key) (ds ++ d ∷ [])

@@ -11,7 +11,7 @@ use Rattle.px_layout.specs.calls.Items.{item_of, entry_of}
 use Rattle.px_layout.specs.lemmas.PutLaws.{both_as, first_as, fails_as, second_of}
 use Rattle.px_layout.proofs.put_running.put_near_entry.Goals as goal
 
--- where the size is known by another name
+-- the same, with another name for the size
 near : (plan : Plan) (i : ℕ × Item) (n : ℕ) (head : List ℕ) → n ≡ item_size i.1 → head ≡ head_bytes Most i
     → head ++ (item_bytes plan Most 0 i.1 ++ replicate (4 - n) 0) ≡ near_given plan i
 unfolding near_given

@@ -8,7 +8,7 @@ use Rattle.px_layout.specs.Normal.{even, normal_plan}
 use Rattle.px_layout.specs.lemmas.RunLaws.{start, values_size}
 use Rattle.px_layout.proofs.put_running.put_running_entries.Given as goal
 
--- the entries so far were put, no call failed, and the next value stands behind those of these entries
+-- the entries so far were put, no call failed, and the next value comes after the values of these entries
 abbrev pub invariant-loop-i : goal.invariant-loop-i
 invariant-loop-i g l = record {
   put : HasPut g.W.Sink.bytes_taken l.initial.writer l.writer l.initial.pending l.pending

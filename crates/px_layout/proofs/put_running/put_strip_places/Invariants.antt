@@ -5,7 +5,7 @@ use Rattle.px_layout.specs.Laid.{long_bytes}
 use Rattle.px_layout.specs.calls.Given.{strips_size, strip_places}
 use Rattle.px_layout.proofs.put_running.put_strip_places.Given as goal
 
--- the offsets so far were put, no call failed, and the next strip stands behind those
+-- the offsets so far were put, no call failed, and the next strip comes after these strips
 abbrev pub invariant-loop-i : goal.invariant-loop-i
 invariant-loop-i g l = record {
   inside : l.i ≤ length l.strips;

@@ -4,7 +4,7 @@ use Rattle.px_layout.specs.Laid.{long_bytes}
 use Rattle.px_layout.specs.calls.Given.{strips_size, strip_places}
 use Rattle.px_layout.proofs.put_running.spell_places.Given as goal
 
--- the places so far are spelled, and the next strip stands behind those
+-- the offsets so far are encoded, and the next strip comes after these strips
 abbrev pub invariant-loop-i : goal.invariant-loop-i
 invariant-loop-i l = record {
   behind : l.start ≤ l.i;

@@ -2,7 +2,7 @@ use Rattle.std.proofs.Common.{◌≡◌, ◌≤◌, ◌-◌, ◌*◌, ◌++◌, 
 use Rattle.px_layout.specs.Laid.{long_bytes}
 use Rattle.px_layout.proofs.put_strips.spell_lengths.Given as goal
 
--- the lengths so far are spelled
+-- the lengths so far are encoded
 abbrev pub invariant-loop-i : goal.invariant-loop-i
 invariant-loop-i l = record {
   behind : l.start ≤ l.i;

@@ -3,7 +3,7 @@ use Rattle.px_bytes.specs.Parts.{part}
 use Rattle.px_tree.specs.calls.Strips.{AreJoined, named_strips}
 use Rattle.px_tree.proofs.strip_runs.longer_run.Given as goal
 
--- the strips so far stand from the start up to the end
+-- the strips so far are from the start up to the end
 abbrev pub invariant-loop-j : goal.invariant-loop-j
 invariant-loop-j l = record {
   behind : l.i + 1 ≤ l.j;

@@ -12,7 +12,7 @@ use Rattle.px_iim.proofs.reading.Order.{whole_put}
 use Rattle.px_iim.proofs.reading.Parts.{inserted_order, inserted_numbers, inserted_put}
 use Rattle.px_iim.proofs.iim.Iim.push_in.Goals as goal
 
--- the list with one DataSet more, at its place
+-- the list with one more DataSet at its position
 put_in : (ss seen new : List Item) (at key : ℕ) (x : Item) → seen ≡ ss → new ≡ insert ss at x
     → key ≡ key_of (dataset_view x) → named (dataset_view x).rec (dataset_view x).number < 256
     → ((k : ℕ) (d : Item) → k < at → key_of (dataset_view (get_or seen k d)) ≤ key)
