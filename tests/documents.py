@@ -45,9 +45,6 @@ HEADER = "crates/px_c/include/exifnorm.h"
 # Old words that comments use in a sense of their own: words of bits, a plan that lays out a block, a process that waits.
 ORDINARY = {"words", "place", "places", "lay", "lays", "laid", "wait", "waits"}
 
-# Sources whose comments still have old words.
-UNREAD = re.compile(r"px_layout/src/|px_bytes/src/(memory|told)|px_tree/src/(strips|rising)|px_iim/src/(survey|read|sorting|places|group)")
-
 
 def text_of(name):
     with open(os.path.join(TOP, name), encoding="utf-8") as it:
@@ -251,7 +248,7 @@ class Written(unittest.TestCase):
     def test_comments_have_the_terms_of_the_field(self):
         """Comments of sources have none of these words either, but for those that have a sense of their own there."""
         old = re.compile(rf"\b(?:{'|'.join(set(old_words()) - ORDINARY)})\b", re.I)
-        sources = [(it, comments_of_rattle) for it in sorted(Path(TOP).glob("crates/*/src/*.rt")) if not UNREAD.search(str(it))]
+        sources = [(it, comments_of_rattle) for it in sorted(Path(TOP).glob("crates/*/src/*.rt"))]
         sources += [(it, comments_of_python) for folder in ("python", "build", "packaging") for it in sorted(Path(TOP, folder).rglob("*.py"))]
         self.assertGreater(len(sources), 150)
         for path, comments in sources:

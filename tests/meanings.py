@@ -1,7 +1,7 @@
 """Meanings of blocks, laid out in any way, and the normal form, the listing and the captions that are expected of them.
 
-A telling of docs/FORMAT.md that has nothing in common with the program: it starts from what is said, lays that out, and reads no
-block. An Exif block's meaning is made as `Exif`, a caption record as `Record`.
+This follows docs/FORMAT.md and shares nothing with the program: it starts from a meaning, writes a block with it, and reads no
+block. `Exif` is the meaning of an Exif block, and `Record` is a caption record.
 """
 
 import struct
@@ -11,7 +11,7 @@ from random import Random
 MAIN, EXIF, INTEROP, GPS, THUMB = DIRECTORIES = ("main", "exif", "interop", "gps", "thumb")
 LIMIT = 16_777_216
 
-# number: (word in a listing, bytes of an element, letter of `struct`, how many numbers an element has)
+# number: (name in a listing, bytes of an element, letter of `struct`, how many numbers an element has)
 TYPES = {
     1: ("BYTE", 1, "", 1),
     2: ("ASCII", 1, "", 1),
@@ -29,7 +29,7 @@ TYPES = {
 }
 BYTE, ASCII, SHORT, LONG, RATIONAL, SBYTE, UNDEFINED, SSHORT, SLONG, SRATIONAL, FLOAT, DOUBLE, UTF8 = TYPES
 
-# where SHORT and LONG mean the same
+# tags for which SHORT and LONG mean the same
 WIDENED = {
     MAIN: {0x0100, 0x0101, 0x0116},
     THUMB: {0x0100, 0x0101, 0x0116},
@@ -43,7 +43,7 @@ NOT_PLAIN = {0x0111, 0x0117, 0x0201, 0x0202, 0x8769, 0x8825, 0xA005, 0x0120, 0x0
 
 @dataclass(frozen=True)
 class Value:
-    """A field's value: the number of its type, and its elements: bytes, numbers, or pairs of numbers."""
+    """A field's value: the number of its type, and its elements, which are bytes, numbers or pairs of numbers."""
 
     form: int
     elements: object
@@ -53,7 +53,7 @@ class Value:
         return len(self.elements)
 
     def spelled(self, order):
-        """Its bytes in a byte order, '<' or '>'."""
+        """The value's bytes in a byte order, '<' or '>'."""
         _, _, letter, numbers = TYPES[self.form]
         if not letter:
             return bytes(self.elements)
@@ -156,7 +156,7 @@ def dataset(record, number, octets, extended):
 
 @dataclass
 class Exif:
-    """What an Exif block says: the fields of each directory that is there, by their tags, and what stands beside them."""
+    """The meaning of an Exif block: the fields of each directory that it has, by their tags, the record and the thumbnail."""
 
     main: dict
     exif: dict = None
@@ -204,8 +204,8 @@ class Exif:
 
 @dataclass
 class Layout:
-    """How a block is laid out: its byte order; whether in the normal form; and else the source of the chance by which parts are
-    moved, gaps and spare bytes filled, and, where `shorts`, lists of strips spelled as SHORT."""
+    """The layout of a block: its byte order, and whether it is the normal form. If it isn't, `chance` moves parts and fills gaps
+    and spare bytes, and with `shorts` the lists of strips may be SHORT."""
 
     order: str
     normal: bool = False
@@ -223,7 +223,7 @@ class Entry:
     tag: int
     form: int
     count: int
-    spelled: object  # a call: the bytes, once the places of the parts are known
+    spelled: object  # a call that returns the bytes, after the offsets of the parts are known
 
     @property
     def size(self):
@@ -260,7 +260,7 @@ def entries_of(meaning, name, fields, layout):
 
 
 def laid(meaning, layout):
-    """A block with the meaning."""
+    """Returns a block with the meaning."""
     entries = {name: entries_of(meaning, name, fields, layout) for name, fields in meaning.directories()}
     parts = []  # the name and the size of each, in the order of the normal form
     for name, them in entries.items():

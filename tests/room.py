@@ -1,7 +1,7 @@
 """A repository of a few small crates with a toolchain that proves nothing, for the tests of the launcher, of build/ and of the Makefile.
 
-A test says what the compiler is to do by files in the room, and waits for what it does by the room's log, so that no test depends on
-how busy the machine is.
+A test controls the compiler by files in the `Room`'s folder, and waits for its actions by the folder's log. So no test depends on how
+busy the machine is.
 """
 
 import os
@@ -14,7 +14,7 @@ from pathlib import Path
 TOP = Path(__file__).resolve().parent.parent
 HANDLES = "Handles allowed: none.\n"
 
-# Begins a command with no signal ignored, as a terminal does. Where the tests run in the background, some are.
+# Starts a command with no signal ignored, as a terminal does. If the tests run in the background, some signals are ignored.
 SIGNALS = [shutil.which("env") or "env", "--default-signal", "--"]
 
 # In place of the toolchain's command.
@@ -26,10 +26,10 @@ doc) echo 'ROOM/kit/START-HERE.md' ;;
 esac
 """
 
-# In place of the compiler. It writes a line when it begins and when it ends. As the compiler does, it refuses to begin where a library
-# that it uses is not built. What it makes of a program prints the text of main.rt and its arguments. Files in the room change it:
-# holds-NAME, a pipe: it waits there; killed-NAME: it is killed, once; fails-NAME: it fails; says-NAME: what it says of the crate;
-# starts-NAME: it starts another process, whose number is written there; program: the program that it makes.
+# In place of the compiler. It writes a line when it begins and when it ends. Like the compiler, it doesn't begin if a library that the
+# crate uses is not built. A program that it makes prints the text of main.rt and its arguments. Files in the folder change what it does:
+# holds-NAME, a pipe: it waits for the pipe; killed-NAME: it is killed, once; fails-NAME: it fails; says-NAME: it prints this text for
+# the crate; starts-NAME: it starts another process and writes its number there; program: the program that it makes.
 RATTLE = r"""#!/bin/sh
 room='ROOM'
 echo "$*" >>"$room/asked"
@@ -66,7 +66,7 @@ while [ "$1" != -o ]; do shift; done
 cp "$3" "$2" && chmod +x "$2"
 """
 
-# In place of build/machine.py: what the room's files say.
+# In place of build/machine.py: it returns what the folder's files contain.
 MACHINE = """from pathlib import Path
 HERE = Path(__file__).resolve().parent
 
@@ -94,7 +94,7 @@ def due(is_so: bool, what: object) -> None:
 
 
 def wait_until(holds, what: object) -> None:
-    """Returns once something is true, after at most two minutes."""
+    """Waits until something is true, at most two minutes."""
     for _ in range(6000):
         if holds():
             return
@@ -103,7 +103,7 @@ def wait_until(holds, what: object) -> None:
 
 
 def runs(process: int) -> bool:
-    """Whether a process runs; one that has ended and was not waited for doesn't."""
+    """Whether a process runs. A process that has ended, but was not waited for, doesn't run."""
     try:
         return Path(f"/proc/{process}/stat").read_text().rpartition(")")[2].split()[0] not in "ZX"
     except (FileNotFoundError, ProcessLookupError):
@@ -111,7 +111,7 @@ def runs(process: int) -> bool:
 
 
 def tick(file: Path, write, *older: Path) -> None:
-    """Writes a file until the clock by which files get their times has gone on since the other files were changed."""
+    """Writes a file until its time is later than the times of the other files."""
     wait_until(lambda: [write()] and file.stat().st_mtime_ns > max(it.stat().st_ctime_ns for it in older), "the clock stands")
 
 
@@ -159,19 +159,19 @@ class Room:
         return self.top / "crates" / "px_cli" / "src" / "main.rt"
 
     def machine(self, processors: int, gigabytes: int) -> None:
-        """Sets what the builds find free."""
+        """Sets the free resources that the builds find."""
         build = self.top / "build"
         (build / "machine.py").write_text(MACHINE)
         (build / "processors").write_text(str(processors))
         (build / "memory").write_text(str(gigabytes << 30))
 
     def hold(self, *names: str) -> None:
-        """Has the compiler wait at these crates."""
+        """Makes the compiler wait at these crates."""
         for it in names:
             os.mkfifo(self.folder / f"holds-{it}")
 
     def let_go(self, *names: str) -> None:
-        """Has the compiler go on at these crates, now and later."""
+        """Makes the compiler continue at these crates, now and later."""
         for it in names:
             pipe = self.folder / f"holds-{it}"
             opened = os.open(pipe, os.O_RDWR)
@@ -211,16 +211,16 @@ class Room:
         return self.built().count("px_cli")
 
     def until(self, what: str, name: str, times: int = 1) -> int:
-        """Waits until the compiler has so often begun or ended a crate, and returns the number of its process."""
+        """Waits until the compiler has begun or ended a crate `times` times, and returns the number of its process."""
         wait_until(lambda: sum(it[0] == what and it[2] == name for it in self.log()) >= times, f"no {what} of {name}: {self.log()}")
         return int([it[3] for it in self.log() if it[0] == what and it[2] == name][-1])
 
     def settle(self) -> None:
-        """Calls until a quick look is noted: not before a second has passed since the last change."""
+        """Calls until a quick look is noted, which takes at least a second since the last change."""
         wait_until(lambda: self.call().returncode != 0 or (self.top / "out" / "looked").exists(), "no look is noted")
 
     def is_proved(self) -> None:
-        """Leaves what ./test leaves where it has proved everything: the mark, and then the libraries and the program."""
+        """Makes the files that ./test leaves after it has proved everything: the mark, then the libraries and the program."""
         sums = self.call(str(self.top / "build/gate.py"), program=sys.executable)
         due(sums.returncode == 0 and "px_" in sums.stdout, sums)
         self.mark.parent.mkdir(exist_ok=True)
@@ -234,7 +234,7 @@ class Room:
         self.named = {"EXIFNORM_PROVED": str(self.proved)}
 
     def note(self) -> None:
-        """Notes what a quick look sees now, and waits until a change bears another time."""
+        """Notes what a quick look sees now, and waits until a change would have another time."""
         listing = self.call(str(self.top / "build" / "listing.sh"), program="/bin/sh").stdout
         due("out/exifnorm" in listing, listing)
         (self.top / "out" / "looked").write_text(listing)

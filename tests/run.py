@@ -1,9 +1,9 @@
 #!/usr/bin/env python3
-"""Runs the built program as a user does, and compares what it does with what is due: the files of cases, and blocks of every kind
-made from what they say.
+"""Runs the built program as a user does, and compares its results with the expected ones: for the files of cases, and for blocks of
+every kind, made from their meaning.
 
 Each case that fails has a line, with the expected and the actual result. The last line is 'N passed, N failed', and the status is 0 only
-where something ran and nothing failed.
+if something ran and nothing failed.
 """
 
 import argparse
@@ -48,7 +48,7 @@ def shown(octets):
 
 
 def complaints_of(case, outcome):
-    """What is wrong with the outcome of a case; nothing where it is as it should be."""
+    """What is wrong with the outcome of a case. The list is empty if nothing is wrong."""
     bad = []
     if outcome.status != case.status:
         bad.append(f"status {case.status} was due, and {outcome.status} came with the output {shown(outcome.output)}")
@@ -68,7 +68,7 @@ def complaints_of(case, outcome):
 
 
 def complaints_of_other_files(case, outcome):
-    """What is wrong with the files that the run has no business with: only OUT of normalise is written."""
+    """What is wrong with the files that the run must not change: only OUT of normalise is written."""
     named = {*case.left, *case.absent, *([case.out] if case.words[:1] == ["normalise"] else [])}
     bad = [f"{name} was changed" for name, octets in case.files.items() if name not in named and outcome.files.get(name) != octets]
     return bad + [f"a file {name} was made" for name in outcome.files if name not in named and name not in case.files]
@@ -93,7 +93,7 @@ def case_of(file, command=""):
 
 
 def judge_files(program, files, commands=("",)):
-    """What is wrong with what these files come to, each by the next of the commands."""
+    """What is wrong with the results for these files, each with the next of the commands."""
     bad = []
     for i, file in enumerate(files):
         due = case_of(file, commands[i % len(commands)])
@@ -136,7 +136,7 @@ def other(kind):
 
 
 def holds(meaning):
-    """How much a meaning makes a reader hold. Room for the fields is asked for by the number of entries, of which six are no fields."""
+    """How much a reader keeps of a meaning. It allocates for the number of entries, of which up to six are no fields."""
     record = meaning if isinstance(meaning, Record) else meaning.record
     lists = [len(them) for them in record.groups().values()] if record else []
     if meaning is record:
@@ -233,7 +233,7 @@ def is_counted(case):
 
 
 def all_of(tests, pool, failures):
-    """Runs these tests side by side, prints in order which failed, and returns how many passed. Tests are made as they are run."""
+    """Runs these tests in parallel, prints in order which failed, and returns how many passed. Each test is made when it is run."""
     passed, waiting = 0, []
 
     def take_first():

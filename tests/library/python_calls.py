@@ -1,9 +1,9 @@
-"""Calls the Python package exifnorm with each block of a file of jobs, and compares with what the built program answers; then
-runs the package's doctests.
+"""Calls the Python package exifnorm with each block of a file of jobs, and compares its results with those of the built program. Then
+it runs the package's doctests.
 
   python_calls.py JOBS
 
-Each line that is printed is a failure; the last one says how many blocks there were. library.py writes the file of jobs.
+Each line that is printed is a failure, except for the last one, which has the number of blocks. library.py writes the file of jobs.
 """
 
 import doctest
@@ -102,7 +102,7 @@ def lines_of(field):
 
 
 def listing_of(kind, fields):
-    """The listing's lines, without those that name a directory, since the objects know none that is empty."""
+    """The listing's lines without those that name a directory, since the objects have no empty directory."""
     lines, found = [kind], list(fields)
     record = [it for it in found if it.directory == "record"]
     for at, field in enumerate(found):
@@ -120,7 +120,7 @@ def escaped(data):
 
 
 def as_given(block):
-    """The block in each form in which it may be given; the last one doesn't begin where its object does."""
+    """The block in each form that a caller may pass. The last one doesn't begin at the first byte of its object."""
     return [block, bytearray(block), memoryview(block), memoryview(bytearray(b"xx" + block + b"yy"))[2 : 2 + len(block)]]
 
 
@@ -192,7 +192,7 @@ def try_fields():
 
 
 def try_objects():
-    """Refusals in other processes, wrong arguments, and that a block isn't copied."""
+    """Tests refusals in other processes, wrong arguments, and that a block isn't copied."""
     again = pickle.loads(pickle.dumps(exifnorm.Refused("Overlap", 22, 2)))
     due((again.cause, again.place, again.side, str(again)) == ("Overlap", 22, 2, "Overlap at 22 in block 2"), "a refusal, pickled")
     for wrong, error in (("a text", TypeError), (None, TypeError), (memoryview(b"abcd")[::2], BufferError)):
@@ -214,8 +214,8 @@ def try_objects():
 
 
 def try_memory():
-    """MemoryError where the system gives no more memory: told by a process of its own, since one that has run threads has room set
-    aside for them, which no limit takes back."""
+    """Tests for MemoryError if the system has no more memory. It needs a process of its own: a process that has run threads has
+    reserved memory for them, which no limit takes back."""
     ran = subprocess.run([sys.executable, "-B", os.path.abspath(__file__), LITTLE_MEMORY], capture_output=True, text=True, check=False)
     due(ran.stdout == "MemoryError\n", "where there is no memory:", ran.stdout, ran.stderr)
 
