@@ -40,6 +40,10 @@ SIDE_BY_SIDE, JOBS = 3, 4
 
 STOPS = (signal.SIGHUP, signal.SIGINT, signal.SIGTERM)
 
+# The system may give a signal to a thread that waits for a compiler. What is to be done then is done by the main thread, which that
+# doesn't wake: it looks each second.
+WAKES = 1
+
 
 class NotBuilt(Exception):
     """Why there is no program."""
@@ -100,7 +104,7 @@ class Build:
                 while self.left or self.running:
                     for it in self.ready()[: self.places - len(self.running)]:
                         self.begin(it, pool)
-                    for it in wait(self.running, return_when=FIRST_COMPLETED).done:
+                    for it in wait(self.running, WAKES, FIRST_COMPLETED).done:
                         del self.running[it]
                         it.result()
             except BaseException:

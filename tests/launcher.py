@@ -7,6 +7,7 @@ build/, of builds that are interrupted and of the Makefile follow, and those of 
 Each test that fails has a line. The last line is 'N passed, N failed', and the status is 0 only where nothing failed.
 """
 
+import ctypes
 import os
 import shutil
 import signal
@@ -101,6 +102,7 @@ def every_kind_of_change_in_each_folder_is_noticed(room: Room) -> None:
             "added": lambda it: it.write_text("text"),
             "edited": lambda it: it.write_text("more"),
             "edited, with its time put back": lambda it: [it.write_text("most"), os.utime(it, (10**9, 10**9))],
+            "edited, with the time that it had": lambda it: [it.write_text("much"), os.utime(it, (10**9, 10**9))],
             "another in its place": lambda it: [spare.write_text("text"), os.utime(spare, (10**9, 10**9)), os.rename(spare, it)],
             "taken away": lambda it: it.unlink(),
         }
@@ -361,6 +363,16 @@ def it_is_called_from_any_folder_and_through_links(room: Room) -> None:
     due((ran.stdout, room.builds()) == ("one: c\n", 1), ran)
 
 
+def settings_of_the_callers_python_do_not_reach_the_build(room: Room) -> None:
+    shadow = room.folder / "shadow"
+    shadow.mkdir()
+    for name in ("hashlib", "subprocess", "sitecustomize"):
+        (shadow / f"{name}.py").write_text("raise SystemExit(5)\n")
+    room.named = {"PYTHONPATH": str(shadow), "PYTHONHOME": str(shadow)}
+    ran = room.call("a")
+    due((ran.returncode, ran.stdout) == (0, "one: a\n"), ran)
+
+
 def a_copy_outside_its_folder_is_an_error(room: Room) -> None:
     shutil.copy(room.top / "exifnorm", room.folder / "exifnorm")
     ran = room.call("a", program=str(room.folder / "exifnorm"))
@@ -498,6 +510,19 @@ def a_build_that_is_stopped_ends_with_all_that_it_started(room: Room) -> None:
         stopped(Room(room.folder / how.name), how)
 
 
+def a_signal_that_any_thread_of_a_build_takes_stops_it(room: Room) -> None:
+    """The system may give a signal to a thread that waits for a compiler, where it wakes no other."""
+    room.hold("px_bytes")
+    started = room.start("a")
+    working = room.until("begin", "px_bytes")
+    others = [int(it.name) for it in Path(f"/proc/{started.pid}/task").iterdir() if it.name != str(started.pid)]
+    due(len(others) == 1, others)
+    due(ctypes.CDLL(None).tgkill(started.pid, others[0], signal.SIGTERM) == 0, "no such thread")
+    out, why = started.communicate(timeout=300)
+    due((started.returncode, out) == (70, "") and "stopped" in why, (started.returncode, out, why))
+    wait_until(lambda: not runs(working), "the compiler still runs")
+
+
 TESTS = [
     the_first_call_builds_each_crate_once_and_runs,
     a_later_call_builds_nothing_and_says_nothing,
@@ -523,6 +548,7 @@ TESTS = [
     it_says_where_the_built_program_is,
     odd_names_of_folders_and_arguments,
     it_is_called_from_any_folder_and_through_links,
+    settings_of_the_callers_python_do_not_reach_the_build,
     a_copy_outside_its_folder_is_an_error,
     a_folder_that_cannot_be_written_is_told,
     a_built_program_is_for_all_users,
@@ -533,6 +559,7 @@ TESTS = [
     a_name_that_is_not_a_full_one_names_nothing_proved,
     signals_that_the_caller_ignores_do_not_stop_a_build,
     a_build_that_is_stopped_ends_with_all_that_it_started,
+    a_signal_that_any_thread_of_a_build_takes_stops_it,
 ]
 
 
