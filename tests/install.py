@@ -384,6 +384,14 @@ class PicturesCommand(unittest.TestCase):
         link.symlink_to(OTHER.at("bin/exifnorm-pictures"))
         self.assertIn("--catalogue", run(link, "same", "--help", folder=Path("/"), PYTHONPATH="", PYTHONDONTWRITEBYTECODE="1"))
 
+    def test_takes_the_packages_that_were_installed_with_it(self) -> None:
+        another = Path(tempfile.mkdtemp(dir=ROOM))
+        (another / "exifnorm_pictures").mkdir()
+        (another / "exifnorm_pictures/__init__.py").touch()
+        (another / "exifnorm_pictures/main.py").write_text("def main():\n    print('another version')\n")
+        said = run(OTHER.at("bin/exifnorm-pictures"), "--version", PYTHONPATH=str(another), PYTHONDONTWRITEBYTECODE="1")
+        self.assertEqual(said, f"exifnorm-pictures {VERSION}\n")
+
     def test_wrong_words_end_with_status_three(self) -> None:
         self.call(OTHER, "no-such-command", status=3)
 
@@ -510,6 +518,12 @@ class Manifest(unittest.TestCase):
         manifest.uninstall(self.root, self.LIST)
         self.assertEqual(self.names(), {"usr/lib/old/foreign"})
 
+    def test_compiled_modules_of_others_stay(self) -> None:
+        manifest.install(self.stage, self.root, self.LIST)
+        self.files(self.root, "usr/lib/__pycache__/a.cpython-311.pyc", "usr/lib/__pycache__/ab.cpython-311.pyc", "usr/lib/ab.py")
+        manifest.uninstall(self.root, self.LIST)
+        self.assertEqual(self.names(), {"usr/lib/ab.py", "usr/lib/__pycache__/ab.cpython-311.pyc"})
+
     def test_an_interrupted_installation_can_be_removed(self) -> None:
         (self.root / "usr/lib/old/deep/b").mkdir(parents=True)  # where a file belongs
         with self.assertRaises(manifest.Failed):
@@ -540,6 +554,56 @@ class Manifest(unittest.TestCase):
         self.files(self.root, "usr/lib/a.py/foreign")
         manifest.uninstall(self.root, self.LIST)
         self.assertEqual(self.names(), {"usr/lib/a.py/foreign"})
+
+
+class DebianLists(unittest.TestCase):
+    """How debian/*.install share out what `make install` writes, without building the packages."""
+
+    PACKAGES = {
+        "bin/exifnorm": "exifnorm",
+        "bin/exifnorm-pictures": "exifnorm-pictures",
+        "include/exifnorm.h": "libexifnorm-dev",
+        "lib/MACHINE/libexifnorm.a": "libexifnorm-dev",
+        "lib/MACHINE/libexifnorm.so": "libexifnorm-dev",
+        "lib/MACHINE/libexifnorm.so.1": "libexifnorm1",
+        f"lib/MACHINE/libexifnorm.so.{VERSION}": "libexifnorm1",
+        "lib/MACHINE/pkgconfig/exifnorm.pc": "libexifnorm-dev",
+        "lib/python3/dist-packages/exifnorm/__init__.py": "python3-exifnorm",
+        "lib/python3/dist-packages/exifnorm/py.typed": "python3-exifnorm",
+        "lib/python3/dist-packages/exifnorm_pictures/py.typed": "exifnorm-pictures",
+        "lib/python3/dist-packages/exifnorm_pictures/formats/jpeg.py": "exifnorm-pictures",
+        f"lib/python3/dist-packages/exifnorm-{VERSION}.dist-info/METADATA": "python3-exifnorm",
+        "share/doc/exifnorm/FORMAT.md": "exifnorm",
+        "share/man/man1/exifnorm.1": "exifnorm",
+        "share/man/man1/exifnorm-pictures.1": "exifnorm-pictures",
+        "share/man/man3/exifnorm.3": "libexifnorm-dev",
+        "share/zsh/vendor-completions/_exifnorm-pictures": "exifnorm-pictures",
+    }
+
+    def setUp(self) -> None:
+        lists = [(it.stem, it) for it in sorted((TOP / "debian").glob("*.install"))] + [("nobody", TOP / "debian/not-installed")]
+        self.patterns = [(package, line) for package, it in lists for line in it.read_text().splitlines() if line and line[0] != "#"]
+
+    def owners(self, name: str) -> list[str]:
+        """The packages whose lists have a file, or a folder that it is in. A star stands for no slash."""
+        parts = name.split("/")
+        ways = ["/".join(parts[: i + 1]) for i in range(len(parts))]
+        as_pattern = {line: re.escape(line).replace(r"\*", "[^/]*") for _, line in self.patterns}
+        return [package for package, line in self.patterns if any(re.fullmatch(as_pattern[line], it) for it in ways)]
+
+    def test_each_file_is_in_one_package(self) -> None:
+        here = Tree(Path("/"), "/usr", DEBIAN_PYTHON).expected()
+        names = [it for it in here if not it.endswith("/")]
+        moved = [re.sub(r"^usr/lib/(lib|pkgconfig)", r"usr/lib/MACHINE/\1", it).replace("site-functions", "vendor-completions") for it in names]
+        self.assertGreater(len(moved), 70)
+        self.assertEqual({it: self.owners(it) for it in moved if len(self.owners(it)) != 1}, {})
+        for name, package in self.PACKAGES.items():
+            self.assertIn(f"usr/{name}", moved)
+            self.assertEqual(self.owners(f"usr/{name}"), [package], name)
+
+    def test_the_symbols_are_the_calls_of_the_header(self) -> None:
+        found = re.findall(r"^ (\S+)@EXIFNORM_1 (\S+)$", text_of("debian", "libexifnorm1.symbols"), re.MULTILINE)
+        self.assertEqual(sorted(name for name, _ in found), ["EXIFNORM_1", *CALLS])
 
 
 class Papers(unittest.TestCase):

@@ -30,7 +30,7 @@ def made(room: Room) -> Room:
 def own_code(room: Room, text: str) -> None:
     """The code of the toolchain that the library is linked with."""
     folder = room.folder / "kit/c"
-    (folder / "own.c").write_text(f'const char exifnorm_own[] = "own {text}";\n')
+    (folder / "own.c").write_text(f'const char exifnorm_own[] = "own {text}";\nconst char of_the_toolchain[] = "own";\n')
     subprocess.run(["cc", "-c", "-o", "own.o", "own.c"], cwd=folder, check=True)
     (folder / "liblibc_c.a").unlink(missing_ok=True)
     subprocess.run(["ar", "rc", "liblibc_c.a", "own.o"], cwd=folder, check=True)
@@ -169,6 +169,28 @@ def a_library_that_is_half_made_is_made_again(room: Room) -> None:
         due({name: it[1] for name, it in built(room).items()} == {name: it[1] for name, it in whole.items()}, f"{target} is half made")
 
 
+def the_archive_and_the_library_show_their_calls_alone(room: Room) -> None:
+    room = made(room)
+    make(room)
+    for name, words in (("libexifnorm.a", ["-g"]), ("libexifnorm.so.1", ["-D"])):
+        shown = room.call(*words, "--defined-only", str(room.top / "out/lib" / name), program="nm").stdout
+        names = {it.split()[-1].partition("@")[0] for it in shown.splitlines() if len(it.split()) > 2}
+        due(names - {"EXIFNORM_1"} <= {"exifnorm_text", "exifnorm_own"} and "of_the_toolchain" not in shown, (name, shown))
+    due("exifnorm_text" in room.call("-g", str(room.top / "out/lib/libexifnorm.a"), program="nm").stdout, "it shows nothing")
+
+
+def the_program_that_make_built_is_installed(room: Room) -> None:
+    room = made(room)
+    make(room)
+    room.proved.parent.mkdir()
+    room.proved.write_text("what an earlier ./test left")
+    (target := room.top / "stage/usr/local/bin").mkdir(parents=True)
+    lines = make(room, "-n", "stage", "stage=stage").stdout.splitlines()
+    (line,) = (it for it in lines if it.startswith("install ") and it.endswith("/bin/exifnorm'"))
+    ran = room.call("-c", line, program="/bin/sh", cwd=room.top)
+    due(ran.returncode == 0 and (target / "exifnorm").read_bytes() == (room.top / "out/exifnorm").read_bytes(), (line, ran))
+
+
 def make_check_ends_as_the_tests_do(room: Room) -> None:
     room = made(room)
     for status in (0, 1, 3, 127):
@@ -188,5 +210,7 @@ TESTS = [
     another_makefile_links_the_library_again,
     a_proof_that_fails_fails_make,
     a_library_that_is_half_made_is_made_again,
+    the_archive_and_the_library_show_their_calls_alone,
+    the_program_that_make_built_is_installed,
     make_check_ends_as_the_tests_do,
 ]
