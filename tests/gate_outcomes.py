@@ -230,6 +230,13 @@ class Listed(unittest.TestCase):
         self.assertEqual(names[0], "rt")
         self.assertLessEqual({"build", "program", "tests", "sources", "launcher", "streams", "library", "documents", "pictures"}, set(names))
 
+    def test_the_part_rt_counts_each_crate_and_each_wrong_body(self):
+        """`rt ci` counts one test for each crate, and one for each edit that must fail."""
+        crates = [it for it in (TOP / "crates.txt").read_text().splitlines() if ":" in it.partition("#")[0]]
+        edits = list(TOP.glob("crates/*/must-fail/*.edit"))
+        (least,) = (int(it["Least"]) for it in self.parts() if it["Part"] == "rt")
+        self.assertEqual(least, len(crates) + len(edits))
+
     def test_the_gate_installs_these_packages_and_runs_all(self):
         """.ci/run with an apt-get that writes down how it was called, as an ordinary user and as root."""
         for user, fails, expected in (("1000", "", []), ("0", "", ["update", "a b"]), ("0", "a b", ["update", "a b", "a", "b"]),

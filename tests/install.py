@@ -42,26 +42,28 @@ def text_of(*path: str) -> str:
 class Shared:
     """An installation that several tests use. It is made where one first asks for something of it."""
 
-    def __init__(self, it: Tree, mask: int) -> None:
-        self.it, self.mask, self.is_made = it, mask, False
+    def __init__(self, it: Tree, mask: int, python: str = "") -> None:
+        """With a folder for a Python of its own, which is made too."""
+        self.it, self.mask, self.own_python, self.is_made = it, mask, python, False
 
     def __getattr__(self, name: str) -> Any:
         if not self.is_made:
             self.is_made = True
             self.it.root.mkdir()
+            if self.own_python:
+                run(sys.executable, "-m", "venv", "--without-pip", self.own_python)
             self.it.make("install", mask=self.mask)
         return getattr(self.it, name)
 
 
 def setUpModule() -> None:
-    """Makes a Python in a folder whose name has a space, and sets the paths of the shared installations."""
+    """Sets the paths of the shared installations, and of a Python in a folder whose name has a space."""
     global ROOM, USR, OTHER
     ROOM = Path(tempfile.mkdtemp())
     unittest.addModuleCleanup(shutil.rmtree, ROOM)
     other = ROOM / "other python"
-    run(sys.executable, "-m", "venv", "--without-pip", other)
     USR = Shared(Tree(ROOM / "usr", "/usr", DEBIAN_PYTHON), 0o022)
-    OTHER = Shared(Tree(ROOM / "other", "/x", str(other / "bin" / "python3")), 0o077)
+    OTHER = Shared(Tree(ROOM / "other", "/x", str(other / "bin" / "python3")), 0o077, str(other))
 
 
 class Files(unittest.TestCase):

@@ -116,6 +116,15 @@ def every_kind_of_change_in_each_folder_is_noticed(room: Room) -> None:
         due(room.call("a").stdout == "one: a\n" and sorted(room.built()) == built, (source, room.log()))
 
 
+def a_change_of_what_is_no_source_of_a_crate_is_noticed(room: Room) -> None:
+    room.call()
+    for name in ("crates.txt", "HANDLES", "build/prove.py", "build/machine.py", "out/proved/px_cli", "out/proved/px_cli.made-from"):
+        room.note()
+        due(room.looks(), "no quick look")
+        (room.top / name).touch()
+        due(not room.looks(), f"the quick look passes over a change of {name}")
+
+
 def a_look_is_noted_of_nothing_that_has_just_changed(room: Room) -> None:
     room.call()
     looked = room.top / "out" / "looked"
@@ -322,10 +331,12 @@ def it_says_where_the_built_program_is(room: Room) -> None:
     ran = room.call("--where", cwd="/")
     due((ran.returncode, ran.stdout) == (0, f"{room.top.resolve() / 'out' / 'exifnorm'}\n"), ran)
     due(room.call("a", program=ran.stdout.strip()).stdout == "one: a\n", ran)
-    room.settle()
-    due(room.call("--where", cwd="/").stdout == ran.stdout, "another call says another place")
-    for words in (("--where", "a"), ("--where", ""), ("", "--where"), ("--where a",)):
-        due(room.call(*words).stdout == f"one: {' '.join(words)}\n", "beside other arguments it is the program's")
+    for is_quick in (True, False):
+        room.settle()
+        due(room.call("--where", cwd="/").stdout == ran.stdout, "another call says another place")
+        for words in (("--where", "a"), ("--where", ""), ("", "--where"), ("--where a",)):
+            is_quick or (room.top / "out/looked").unlink(missing_ok=True)
+            due(room.call(*words).stdout == f"one: {' '.join(words)}\n", "beside other arguments it is the program's")
 
 
 def odd_names_of_folders_and_arguments(room: Room) -> None:
@@ -530,6 +541,7 @@ TESTS = [
     an_older_source_in_its_place_is_built,
     most_calls_are_a_quick_look_without_python,
     every_kind_of_change_in_each_folder_is_noticed,
+    a_change_of_what_is_no_source_of_a_crate_is_noticed,
     a_look_is_noted_of_nothing_that_has_just_changed,
     touched_and_copied_sources_are_not_built_again,
     a_clock_that_is_set_back_hides_no_change,
