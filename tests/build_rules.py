@@ -3,12 +3,14 @@
 tests/launcher.py runs these.
 """
 
+import contextlib
 import doctest
 import os
 import signal
 import subprocess
 import sys
 from pathlib import Path
+from unittest import mock
 
 sys.path.insert(0, str(Path(__file__).resolve().parent.parent / "build"))
 
@@ -108,6 +110,11 @@ def whatever_the_list_of_crates_says_is_in_the_sum(room: Room) -> None:
         due(not store_of(room).is_current("px_high"), new)
     (room.top / "crates.txt").write_text(LEVELS.replace("px_aside: px_low", "px_aside:") + "# a comment\n")
     due(store_of(room).is_current("px_high"), "what does not concern it counts")
+    (room.top / "crates.txt").write_text(LEVELS.replace("px_high staticlib", "px_high"))
+    (room.top / "crates/px_high/src/lib.rt").write_text("two")
+    due(room.prove("px_high").returncode == 0, room.log())
+    (room.top / "crates.txt").write_text(LEVELS)
+    due(not store_of(room).is_current("px_high"), "the archive of other sources, from before it became a library, is taken")
 
 
 def a_crate_is_good_over_the_very_libraries_that_it_was_built_over(room: Room) -> None:
@@ -137,6 +144,19 @@ def a_crate_is_good_over_the_very_libraries_that_it_was_built_over(room: Room) -
     (room.top / "crates/px_low/src/lib.rt").write_text("one")
     room.prove("px_aside")
     due(store_of(room).unbuilt("px_high") == ["px_middle", "px_high"], "another px_low of the same sources is below it now")
+
+
+def a_product_that_was_put_without_its_note_is_not_taken(room: Room) -> None:
+    """A build is killed between the two, and the edit is taken back."""
+    room.call()
+    room.main.write_text("two")
+    store = store_of(room)
+    store.clear()
+    made = room.command(store.making / "px_cli", "#!/bin/sh\necho two\n")
+    with mock.patch("store.time.time_ns", side_effect=KeyboardInterrupt), contextlib.suppress(KeyboardInterrupt):
+        store.put("px_cli", made, store.expected("px_cli"))
+    room.main.write_text("one")
+    due(room.call("a").stdout == "one: a\n" and room.builds() == 2, room.log())
 
 
 def only_what_was_changed_and_what_stands_on_it_is_proved_again(room: Room) -> None:
@@ -404,6 +424,7 @@ TESTS = [
     whatever_a_crate_is_made_from_is_in_the_sum,
     whatever_the_list_of_crates_says_is_in_the_sum,
     a_crate_is_good_over_the_very_libraries_that_it_was_built_over,
+    a_product_that_was_put_without_its_note_is_not_taken,
     only_what_was_changed_and_what_stands_on_it_is_proved_again,
     what_stands_on_a_crate_that_another_build_proved_again_is_proved_again,
     nothing_is_written_where_all_is_built,

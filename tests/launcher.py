@@ -235,10 +235,11 @@ def a_crate_that_fails_is_told_and_built_by_the_next_call(room: Room) -> None:
 
 def a_proof_that_fails_after_a_good_build_is_not_taken(room: Room) -> None:
     room.settle()
-    for crate, text in (("px_iim", "logic=proved functions=1 sum=1f\nerror: it cannot be written\n"), ("px_cli", "")):
+    late = "logic=proved functions=1 sum=1f\nerror: it cannot be written\n"
+    for crate, text in (("px_iim", late), ("px_cli", late), ("px_cli", "")):
         fails = room.folder / f"fails-{crate}"
         fails.write_text(text)
-        (room.top / "crates" / crate / "proofs/Answers.antt").write_text(f"wrong {crate}")
+        (room.top / "crates" / crate / "proofs/Answers.antt").write_text(f"wrong {crate}{'' if text else ' again'}")
         for _ in range(2):
             ran = room.call("a")
             due(ran.returncode == 70 and ran.stdout == "" and f"{crate} was not proved" in ran.stderr, ran)

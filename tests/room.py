@@ -45,7 +45,7 @@ echo "begin build $name $$" >>"$room/log"
 if [ -e "$room/starts-$name" ]; then sleep 1000 & echo $! >"$room/starts-$name"; fi
 if [ -p "$room/holds-$name" ]; then read -r _ <"$room/holds-$name"; fi
 touch "$made"
-if [ -e "$room/killed-$name" ]; then rm "$room/killed-$name"; echo "logic=proved functions=1 sum=1f"; kill -9 $$; fi
+if [ -e "$room/killed-$name" ]; then rm "$room/killed-$name"; printf '%0999d\n' 0; echo "logic=proved functions=1 sum=1f"; kill -9 $$; fi
 if [ -e src/main.rt ]; then printf '#!/bin/sh\necho "%s: $*"\n' "$(cat src/main.rt)" >"$made"; fi
 if [ -e src/main.rt ] && [ -e "$room/program" ]; then cp "$room/program" "$made"; fi
 case $made in
