@@ -228,6 +228,10 @@ def nothing_counts_as_just_proved_that_is_not_of_the_last_run(room: Room) -> Non
         "another toolchain": lambda: (room.folder / "version").write_text("toolchain 2\n"),
         "another command": lambda: room.rt.touch(),
         "other scripts": lambda: (room.top / "build/verdict.py").write_text((room.top / "build/verdict.py").read_text() + "# more\n"),
+        "an edit that was taken back, with the time of the file": lambda: [
+            *((room.top / "crates/px_low/src/lib.rt").write_text(it) for it in ("two", "one")),
+            os.utime(room.top / "crates/px_low/src/lib.rt", (10**9, 10**9)),
+        ],
         "an edit after the clock was set back": lambda: [
             (room.top / "crates/px_low/src/lib.rt").write_text("two"),
             *(os.utime(it, (ahead, ahead)) for it in (room.mark, *room.top.glob("crates/*/out/rlib/*/checked"))),

@@ -355,8 +355,8 @@ class Python(unittest.TestCase):
         self.assertIn("Typing :: Typed", found.get_all("Classifier"))
 
     def test_metadata_lists_the_command(self) -> None:
-        code = "import importlib.metadata as m; print(*(it.name + ' ' + it.value for it in m.distribution('exifnorm').entry_points))"
-        self.assertEqual(self.python(USR, "-c", code), "exifnorm-pictures exifnorm_pictures.main:main\n")
+        code = "import importlib.metadata as m; print(*(it.group + ' ' + it.name + ' ' + it.value for it in m.distribution('exifnorm').entry_points))"
+        self.assertEqual(self.python(USR, "-c", code), "console_scripts exifnorm-pictures exifnorm_pictures.main:main\n")
 
 
 class PicturesCommand(unittest.TestCase):
@@ -385,6 +385,10 @@ class PicturesCommand(unittest.TestCase):
         link = ROOM / "linked-pictures"
         link.symlink_to(OTHER.at("bin/exifnorm-pictures"))
         self.assertIn("--catalogue", run(link, "same", "--help", folder=Path("/"), PYTHONPATH="", PYTHONDONTWRITEBYTECODE="1"))
+
+    def test_a_refused_block_ends_with_its_status(self) -> None:
+        (ROOM / "refused").write_bytes(BLOCK[:-4] + bytes.fromhex("00000008"))
+        self.assertIn("refused: Loop at 22", self.call(USR, "show", "--block", ROOM / "refused", status=2))
 
     def test_takes_the_packages_that_were_installed_with_it(self) -> None:
         another = Path(tempfile.mkdtemp(dir=ROOM))

@@ -20,6 +20,7 @@ sys.dont_write_bytecode = True
 import counting
 import gate_outcomes
 import harness_outcomes
+import judges_outcomes
 import mutations_outcomes
 import watching
 from blocks import Blocks, Misspelled
@@ -380,7 +381,7 @@ def main() -> int:
     if not unittest.TextTestRunner(stream=sys.stdout).run(loaded(harness_outcomes.Counting)).wasSuccessful():
         print("0 passed, 1 failed")
         return 1
-    return counting.run_suite(unittest.TestSuite(map(loaded, (sys.modules[__name__], gate_outcomes, harness_outcomes, mutations_outcomes))))
+    return counting.run_suite(unittest.TestSuite(map(loaded, (sys.modules[__name__], gate_outcomes, harness_outcomes, judges_outcomes, mutations_outcomes))))
 
 
 if __name__ == "__main__":
