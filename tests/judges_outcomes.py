@@ -105,19 +105,19 @@ class Faults(unittest.TestCase):
         trace = "execve(1) = 0\nmmap(1) = 1\nmunmap(2) = 0\nbrk(3) = 1\nmmap(4) = 1\nmunmap(5) = 0\nexit_group(0)\n"
         self.assertEqual([(it.name, it.number) for it in faults.calls_of(trace)], [("brk", 1), ("mmap", 2), ("munmap", 2)])
 
-    def judged(self, found: Outcome) -> bool:
+    def judged(self, found: Outcome) -> tuple:
         counter = Counter(only="")
         with contextlib.redirect_stdout(io.StringIO()):
             faults.judge_failure(counter, "a call", NORMALISE, Call("write", 1, ""), "error=EIO", found)
-        return (counter.passed, counter.failed) == (1, 0)
+        return counter.passed, counter.failed
 
     def test_a_failure_that_was_made_is_judged(self):
         trace = "write(4</room/OUT>, ..) = -1 EIO (Input/output error) (INJECTED)\n"
-        self.assertTrue(self.judged(outcome(trace=trace)))
-        self.assertTrue(self.judged(outcome(0, b"", trace=trace, OUT=FORM)))
+        self.assertEqual(self.judged(outcome(trace=trace)), (1, 0))
+        self.assertEqual(self.judged(outcome(0, b"", trace=trace, OUT=FORM)), (1, 0))
         for wrong in (outcome(), outcome(trace=trace, complaints=b"panicked"), outcome(3, trace=trace), outcome(trace=trace, output=READ + b"\n"),
                       outcome(0, b"", trace=trace), outcome(trace=trace, OUT=b"x")):  # fmt: skip
-            self.assertFalse(self.judged(wrong), wrong.status)
+            self.assertEqual(self.judged(wrong), (0, 1), wrong.status)
 
     def test_each_way_in_which_a_call_fails(self):
         ways = {name: [f"{error}{when}" for error, when in faults.ways(Call(name, 1, ""))] for name in ("write", "openat", "read", "brk")}
