@@ -2,11 +2,12 @@
 
 from __future__ import annotations
 
+import contextlib
 import os
 import signal
 import sys
 from types import FrameType
-from typing import IO, List, Optional
+from typing import IO, Iterator, List, Optional, Set
 
 SIGNALS = (signal.SIGTERM, signal.SIGHUP)
 
@@ -34,6 +35,19 @@ def heed_signals() -> None:
     for it in SIGNALS:
         if signal.getsignal(it) == signal.SIG_DFL:
             signal.signal(it, _stop)
+
+
+@contextlib.contextmanager
+def signals_held() -> Iterator[Set[int]]:
+    """Signals that end the run come at the end of this, which gives the mask from before: a process that is started has it too.
+
+    Python calls functions of its modules around a fork, and an exception that is raised in one of them is lost.
+    """
+    before = signal.pthread_sigmask(signal.SIG_BLOCK, (*SIGNALS, signal.SIGINT))
+    try:
+        yield before
+    finally:
+        signal.pthread_sigmask(signal.SIG_SETMASK, before)
 
 
 def end_by(number: int) -> None:

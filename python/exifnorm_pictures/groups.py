@@ -3,11 +3,11 @@
 from __future__ import annotations
 
 from dataclasses import dataclass
-from typing import Dict, Iterator, List, Optional, Sequence, Tuple
+from typing import Callable, Dict, Iterator, List, Optional, Sequence, Tuple
 
-from .catalogue import Catalogue
+from .catalogue import Catalogue, Made
 from .formats.found import NAMES
-from .kept import KINDS, WORDS
+from .kept import KINDS, WORDS, has
 
 
 @dataclass
@@ -21,23 +21,21 @@ class Group:
     count: int
     only: Optional[str] = None
 
-    def _rows(self, columns: str, more: str = "") -> Iterator[Tuple[object, ...]]:
+    def _rows(self, made: Callable[..., Made], columns: str, more: str = "") -> Iterator[Made]:
         terms = [f"{WORDS[it]} = ?" for it in self.kinds] + [f"path IN {self.only}"] * bool(self.only)
         values = [self.digests.get(it, "") for it in self.kinds] + [self.unread]
         where = " AND ".join(["problem IS NULL", *terms[: len(self.kinds)], "not_read = ?", *terms[len(self.kinds) :]])
-        return self.catalogue.rows(f"SELECT {columns} FROM pictures WHERE {where} {more}", values)
+        return self.catalogue.rows(f"SELECT {columns} FROM pictures WHERE {where} {more}", values, made)
 
     def pictures(self, most: int = -1) -> Iterator[bytes]:
         """Each picture of the group, or the first ones, by path."""
-        for path, *_ in self._rows("path", f"ORDER BY path LIMIT {most}"):
-            assert isinstance(path, bytes)
-            yield path
+        return self._rows(_path, "path", f"ORDER BY path LIMIT {most}")
 
     @property
     def same_bytes(self) -> bool:
         """Whether their blocks are the same byte for byte."""
         columns = (f"{WORDS[it]}_octets" for it in self.kinds)
-        return all(next(self._rows(", ".join(f"min({it}) = max({it})" for it in columns))))
+        return all(next(self._rows(tuple, ", ".join(f"min({it}) = max({it})" for it in columns))))
 
     def sentence(self) -> str:
         """The kinds that were compared, such as `Exif and IPTC are the same in the same bytes, no XMP`."""
@@ -47,9 +45,21 @@ class Group:
             words += " in the same bytes"
         words += "".join(f", no {NAMES[it]}" for it in self.kinds if it not in self.digests)
         if self.unread:
-            what = next(self._rows("(SELECT group_concat(what, ', ') FROM not_read WHERE picture = pictures.id)", "LIMIT 1"))[0]
+            what = next(self._rows(tuple, "(SELECT group_concat(what, ', ') FROM not_read WHERE picture = pictures.id)", "LIMIT 1"))[0]
             words += f"; not read, but the same bytes: {what}"
         return words
+
+
+def _path(row: Tuple[bytes]) -> bytes:
+    has(bytes, row[0])
+    return row[0]
+
+
+def _counted(row: Tuple[int, str, str]) -> Tuple[int, str, List[str]]:
+    """A row `count, not_read`, and a digest of each kind."""
+    count, unread, *digests = row
+    has(str, unread, *digests)
+    return count, unread, digests
 
 
 def _condition(kinds: Sequence[str], only: Optional[str]) -> str:
@@ -70,7 +80,7 @@ def groups(catalogue: Catalogue, kinds: Sequence[str] = KINDS, only: Optional[st
         f"SELECT count(*), not_read, {columns} FROM pictures WHERE {_condition(kinds, only)}"
         f" GROUP BY {columns}, not_read HAVING count(*) > 1 ORDER BY 1 DESC, min(path) LIMIT {most}"
     )
-    for count, unread, *found in catalogue.rows(query):
+    for count, unread, found in catalogue.rows(query, (), _counted):
         said = {kind: digest for kind, digest in zip(kinds, found) if digest}
         yield Group(catalogue, tuple(kinds), said, unread, count, only)
 

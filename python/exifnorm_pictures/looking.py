@@ -11,9 +11,9 @@ from collections import deque
 from concurrent.futures import Future, ProcessPoolExecutor
 from concurrent.futures.process import BrokenProcessPool
 from dataclasses import dataclass
-from typing import Deque, Iterator, List, Optional, Sequence, Tuple
+from typing import Deque, Iterator, List, Optional, Sequence, Set, Tuple
 
-from . import engine, extraction, session, tools
+from . import ends, engine, extraction, session, tools
 from .formats.found import Blocks
 from .kept import Entry, Stamp
 from .walk import Found, reason
@@ -75,7 +75,7 @@ def look_at_all(chunk: Sequence[Found], whole: bool) -> List[Entry]:
 _PR_SET_PDEATHSIG = 1
 
 
-def _begin(how: How, parent: int) -> None:
+def _begin(how: How, parent: int, mask: Set[int]) -> None:
     """The start of a process. Only the parent handles signals; if it is killed, its processes end."""
     ctypes.CDLL(None).prctl(_PR_SET_PDEATHSIG, signal.SIGKILL)
     if os.getppid() != parent:
@@ -83,6 +83,7 @@ def _begin(how: How, parent: int) -> None:
     signal.signal(signal.SIGINT, signal.SIG_IGN)
     signal.signal(signal.SIGHUP, signal.SIG_DFL)
     signal.signal(signal.SIGTERM, signal.SIG_DFL)
+    signal.pthread_sigmask(signal.SIG_SETMASK, mask)
     tools.set_limit(how.seconds)
     session.begin(how.room)
 
@@ -134,8 +135,16 @@ def _by_processes(chunks: Iterator[Sequence[Found]], how: How, broken: List[Sequ
 
 
 def _pool(how: How, processes: int) -> ProcessPoolExecutor:
+    """Processes that have begun. A signal that comes meanwhile ends them."""
     context = multiprocessing.get_context("fork")
-    return ProcessPoolExecutor(processes, mp_context=context, initializer=_begin, initargs=(how, os.getpid()))
+    try:
+        with ends.signals_held() as mask:
+            pool = ProcessPoolExecutor(processes, mp_context=context, initializer=_begin, initargs=(how, os.getpid(), mask))
+            pool.submit(os.getpid)  # the first task starts all of them
+        return pool
+    except BaseException:
+        end_children()
+        raise
 
 
 def _one_by_one(chunk: Sequence[Found], how: How) -> Iterator[Entry]:

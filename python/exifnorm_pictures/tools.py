@@ -13,7 +13,9 @@ import shutil
 import signal
 import subprocess
 import time
-from typing import Callable, List, NamedTuple, Optional
+from typing import Callable, List, NamedTuple, Optional, Set
+
+from . import ends
 
 PACKAGES = {"exiftool": "libimage-exiftool-perl", "exiv2": "exiv2"}
 SECONDS = 60.0  # that a program may take for one file
@@ -105,12 +107,24 @@ def _name(words: List[str]) -> str:
 _libc = ctypes.CDLL(None)
 
 
-def _end_with_parent() -> None:
-    _libc.prctl(_PR_SET_PDEATHSIG, signal.SIGKILL)
-
-
 def start(words: List[str], folder: Optional[str] = None, stdin: int = subprocess.DEVNULL) -> "subprocess.Popen[bytes]":
     """Starts a program in a process group of its own, which the system ends if this process is killed."""
+    started: "Optional[subprocess.Popen[bytes]]" = None
+    try:
+        with ends.signals_held() as mask:
+            started = _started(words, folder, stdin, mask)
+        return started
+    except BaseException:  # a signal that came meanwhile
+        if started is not None:
+            end(started)
+        raise
+
+
+def _started(words: List[str], folder: Optional[str], stdin: int, mask: Set[int]) -> "subprocess.Popen[bytes]":
+    def begin() -> None:
+        _libc.prctl(_PR_SET_PDEATHSIG, signal.SIGKILL)
+        signal.pthread_sigmask(signal.SIG_SETMASK, mask)
+
     return subprocess.Popen(
         words,
         stdin=stdin,
@@ -120,7 +134,7 @@ def start(words: List[str], folder: Optional[str] = None, stdin: int = subproces
         cwd=folder,
         env={**os.environ, "LC_ALL": "C"},
         start_new_session=True,
-        preexec_fn=_end_with_parent,
+        preexec_fn=begin,
     )
 
 

@@ -128,6 +128,27 @@ class Tools(WithPictures):
         self.asked("index", "p", "--catalogue", "d", "--quiet", TMPDIR=own, **self.fake("exiftool", FAKE % ":"))
         self.assertEqual(os.listdir(own), [], "what a killed run left is removed by the next one")
 
+    def test_a_signal_while_a_process_is_started(self):
+        """What a handler raises in a function that Python calls around a fork is lost, as here, where each fork brings a signal."""
+        self.pictures()
+        os.mkdir(self.path("many"))
+        for number in range(70):
+            write(self.path("many", f"{number}.jpg"), SMALL_JPEG)
+        sleeping = self.fake("exiftool", '#!/bin/sh\n[ "$3" = -ver ] && echo 12.57 && exit\nexec sleep 1000\n')
+        call = ("import os, sys; from exifnorm_pictures.main import main\n"
+                "os.register_at_fork(after_in_parent=lambda: os.kill(os.getpid(), int(sys.argv[1])))\n"
+                "sys.exit(main(['index', sys.argv[2], '--catalogue', 'c', '--quiet', '--jobs', '2', '--limit', '20']))\n")  # fmt: skip
+        for number, due in ((signal.SIGTERM, -signal.SIGTERM), (signal.SIGINT, 130)):
+            for folder, environment in (("p", sleeping), ("many", {"PATH": self.path("none")})):
+                with self.subTest(number.name, folder=folder):
+                    own = self.path(f"own {number.name} {folder}")
+                    os.mkdir(own)
+                    words = [shutil.which("env"), f"--default-signal={number.name[3:]}", sys.executable, "-c", call, str(int(number)), folder]
+                    done = subprocess.run(words, cwd=self.folder, env={**Studio.environment(**environment), "TMPDIR": own},
+                                          capture_output=True, timeout=60)  # fmt: skip
+                    self.assertEqual(done.returncode, due, done.stderr)
+                    self.assertEqual(os.listdir(own), [])
+
     def wait_for_end(self, pid):
         """Waits until a process that isn't ours has ended; the system has already been asked to end it."""
         for _ in range(2000):
@@ -224,6 +245,19 @@ class Catalogues(WithPictures):
         for call in (["same", "--catalogue", "cut"], ["index", "p", "--catalogue", "cut", "--quiet"]):
             self.asked(*call, status=4)
             self.assertEqual(len(self.complaint.splitlines()), 1)
+
+    def test_values_of_a_wrong_kind_in_groups(self):
+        write(self.path("p", "twin.jpg"), GOOD)
+        self.asked("index", "p", "--catalogue", "good", "--quiet")
+        known = "problem = NULL, exif = 'a', iptc = '', xmp = '', not_read = ''"
+        for number, wrong in enumerate(("path = 'x' || id", "exif = x'00'", "not_read = x'00'")):
+            name = f"wrong{number}"
+            shutil.copy(self.path("good"), self.path(name))
+            self.database(name, f"UPDATE pictures SET {known}", f"UPDATE pictures SET {wrong}")
+            with self.subTest(wrong):
+                for form in ([], ["--json"]):
+                    self.asked("same", "--catalogue", name, *form, status=4)
+                    self.assertIn(f"{name} is damaged", self.complaint)
 
     def test_names_that_sqlite_takes_for_something_else(self):
         for name in (":memory:", "file:x?mode=memory"):
