@@ -20,6 +20,7 @@ from .listing import Field, unpacked
 
 APPLICATION = 0x45584E50  # 'EXNP', which distinguishes a catalogue from other SQLite files
 VERSION = 2
+CACHE = 32_000  # kB of a catalogue that is written to: digests go into its index in no order
 
 _TABLES = """
 CREATE TABLE runs (
@@ -63,7 +64,7 @@ CREATE TABLE blocks (
     place INTEGER,
     length INTEGER NOT NULL,        -- bytes of the block
     octets TEXT NOT NULL,           -- SHA-256 of the block as it stands
-    fields BLOB,                    -- what it says, field by field: JSON, compressed by zlib
+    fields BLOB,                    -- what it says, field by field: JSON, compressed by zlib where it is long
     PRIMARY KEY (picture, number)
 ) WITHOUT ROWID;
 CREATE TABLE not_read (
@@ -79,6 +80,10 @@ CREATE INDEX pictures_by_content ON pictures (exif, iptc, xmp, not_read) WHERE p
 _OCTETS = "exif_octets, iptc_octets, xmp_octets"
 _PICTURE = f"id, path, root, type, extractor, problem, detail, size, modified, inode, not_read, exif, iptc, xmp, {_OCTETS}"
 _BLOCK = "number, kind, name, source, extractor, status, digest, cause, place, length, octets"
+_COLUMNS = f"path, root, size, modified, changed, inode, type, extractor, problem, detail, exif, iptc, xmp, not_read, {_OCTETS}"
+# A row that replaces another of the same path takes the other's blocks and parts with it, by ON DELETE CASCADE.
+_PUT_PICTURE = f"INSERT OR REPLACE INTO pictures (id, {_COLUMNS}, run) VALUES (?{', ?' * 18})"
+_PUT_BLOCK = f"INSERT INTO blocks (picture, {_BLOCK}, fields) VALUES (?{', ?' * 12})"
 
 Run = Tuple[str, Optional[str], Optional[str], Optional[str]]  # when it began and ended, ExifTool's version, exiv2's
 Made = TypeVar("Made")
@@ -158,6 +163,7 @@ class Catalogue:
         self.base.execute("COMMIT")
         self.base.execute("PRAGMA journal_mode = WAL")
         self.base.execute("PRAGMA synchronous = FULL")
+        self.base.execute(f"PRAGMA cache_size = -{CACHE}")
 
     def _check_tables(self) -> None:
         self.base.execute("SELECT count(*) FROM (SELECT 1 FROM pictures, blocks, not_read, runs LIMIT 1)").fetchone()
@@ -216,29 +222,23 @@ class Catalogue:
                 raise
 
     def put(self, run: int, entries: Iterable[Entry]) -> None:
-        """Keeps some pictures, in one transaction."""
+        """Keeps some pictures, in one transaction; of several entries with one path the last one counts."""
         with self.transaction():
-            for it in entries:
-                self._put_one(run, it)
+            new = [it for it in {it.path: it for it in entries}.values() if not self._is_kept(run, it)]
+            first = 1 + int(self.base.execute("SELECT ifnull(max(id), 0) FROM pictures").fetchone()[0])
+            numbered = list(enumerate(new, first))
+            self.base.executemany(_PUT_PICTURE, [(number, *_row(it), run) for number, it in numbered])
+            blocks = [(number, at, *block.row(), block.kept) for number, it in numbered for at, block in enumerate(it.blocks)]
+            self.base.executemany(_PUT_BLOCK, blocks)
+            parts = [(number, at, part.what, part.digest) for number, it in numbered for at, part in enumerate(it.not_read)]
+            self.base.executemany("INSERT INTO not_read VALUES (?, ?, ?, ?)", parts)
 
-    def _put_one(self, run: int, it: Entry) -> None:
-        if it.problem in ("Vanished", "Unreadable"):  # keep the earlier results of the picture
+    def _is_kept(self, run: int, it: Entry) -> bool:
+        """Whether a picture that can't be read now was known before. Its earlier results are kept."""
+        if it.problem in ("Vanished", "Unreadable"):
             words = (it.problem, it.detail, run, it.path)
-            if self.base.execute("UPDATE pictures SET problem = ?, detail = ?, run = ? WHERE path = ?", words).rowcount:
-                return
-        self.base.execute("DELETE FROM pictures WHERE path = ?", (it.path,))
-        said = digests(it)
-        stamp = it.stamp or (None, None, None, None)
-        row = (it.path, it.root, *stamp, it.type, it.extractor, it.problem, it.detail, *said, run)
-        columns = "path, root, size, modified, changed, inode, type, extractor, problem, detail, exif, iptc, xmp, not_read"
-        added = self.base.execute(f"INSERT INTO pictures ({columns}, {_OCTETS}, run) VALUES (?{', ?' * 17})", row).lastrowid
-        self.base.executemany(
-            f"INSERT INTO blocks (picture, {_BLOCK}, fields) VALUES (?{', ?' * 12})",
-            [(added, number, *block.row(), block.kept) for number, block in enumerate(it.blocks)],
-        )
-        self.base.executemany(
-            "INSERT INTO not_read VALUES (?, ?, ?, ?)", [(added, number, part.what, part.digest) for number, part in enumerate(it.not_read)]
-        )
+            return self.base.execute("UPDATE pictures SET problem = ?, detail = ?, run = ? WHERE path = ?", words).rowcount > 0
+        return False
 
     # Reading
 
@@ -320,6 +320,12 @@ class Catalogue:
                 other.execute("PRAGMA journal_mode = DELETE")
             finally:
                 other.close()
+
+
+def _row(it: Entry) -> Tuple[object, ...]:
+    """A picture as a row, without its number and run."""
+    stamp = it.stamp or (None, None, None, None)
+    return (it.path, it.root, *stamp, it.type, it.extractor, it.problem, it.detail, *digests(it))
 
 
 def _known(row: Tuple[int, Optional[int], int, int, int, Optional[str]]) -> Known:

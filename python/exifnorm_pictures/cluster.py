@@ -134,4 +134,4 @@ def _here(it: Found, answer: Entry) -> Entry:
         detail = f"the worker has no such file: {os.fsdecode(answer.path)!r}"
         return Entry(it.path, it.root, None, problem="Unreadable", detail=detail)
     same = answer.stamp is not None and it.stamp is not None and answer.stamp.size == it.stamp.size
-    return replace(answer, path=it.path, root=it.root, stamp=it.stamp if same else None)
+    return answer._replace(path=it.path, root=it.root, stamp=it.stamp if same else None)

@@ -22,9 +22,9 @@ class Judgement(NamedTuple):
     """The engine's result for a block: `digest` if it is accepted, `cause` and `place` if it is refused."""
 
     kind: str
-    status: str
     length: int
     octets: str  # SHA-256 of the block's bytes, which distinguishes a copied block from one that was written again
+    status: str
     digest: Optional[str] = None
     cause: Optional[str] = None
     place: Optional[int] = None
@@ -45,19 +45,23 @@ class Judgement(NamedTuple):
         return "refused: NormalTooLong" if self.status == TOO_LONG else "failed: OutOfMemory"
 
 
-def judge(kind: str, block: bytes, with_fields: bool = False) -> Judgement:
+_BY_ITSELF = Found("", b"", "", "")  # where a block is that was given without a picture
+
+
+def judge(kind: str, block: bytes, with_fields: bool = False, at: Found = _BY_ITSELF) -> Judgement:
     """Judges a block that was taken as one of `kind`; a refused block never gets a digest."""
     octets = hashlib.sha256(block).hexdigest()
+    known, named = (kind, len(block), octets), (at.name, at.where, at.extractor)
     try:
         fields = packed(read_fields(exifnorm.show(block))) if with_fields else None
-        digest = exifnorm.digest(block)
+        digest = hashlib.sha256(exifnorm.normal(block)).hexdigest()
     except exifnorm.Refused as refused:
-        return Judgement(kind, REFUSED, len(block), octets, cause=refused.cause, place=refused.place)
+        return Judgement(*known, REFUSED, None, refused.cause, refused.place, None, *named)
     except exifnorm.NormalTooLong:
-        return Judgement(kind, TOO_LONG, len(block), octets, cause="NormalTooLong")
+        return Judgement(*known, TOO_LONG, None, "NormalTooLong", None, None, *named)
     except MemoryError:
-        return Judgement(kind, FAILED, len(block), octets, cause="OutOfMemory")
-    return Judgement(kind, ACCEPTED, len(block), octets, digest=digest, fields=fields)
+        return Judgement(*known, FAILED, None, "OutOfMemory", None, None, *named)
+    return Judgement(*known, ACCEPTED, digest, None, None, fields, *named)
 
 
 def judge_all(blocks: Blocks, with_fields: bool = False) -> List[Judgement]:
@@ -69,44 +73,41 @@ def judge_all(blocks: Blocks, with_fields: bool = False) -> List[Judgement]:
             extensions.setdefault(it.extends, it.data)
     left = dict(extensions)
     for it in blocks.found:
-        if not it.extends:
-            judged = _judge_xmp(it.data, extensions, left, with_fields) if it.kind == XMP else judge(it.kind, it.data, with_fields)
-            found.append(_named(judged, it))
-    for it in blocks.found:
+        if it.extends:
+            continue
+        found.append(_judge_xmp(it, extensions, left, with_fields) if it.kind == XMP else judge(it.kind, it.data, with_fields, it))
+    for it in blocks.found if extensions else ():
         if it.extends and (it.extends in left or it.data != extensions[it.extends]):
-            found.append(_named(_unreadable(it.data, hashlib.sha256(it.data).hexdigest(), "ExtensionNotNamed"), it))
+            found.append(_unreadable(it, hashlib.sha256(it.data).hexdigest(), "ExtensionNotNamed"))
     return found
-
-
-def _named(judged: Judgement, it: Found) -> Judgement:
-    return judged._replace(name=it.name, where=it.where, extractor=it.extractor)
 
 
 def judge_packet(packet: bytes, with_fields: bool = False) -> Judgement:
     """Judges an XMP packet by itself."""
-    return _judge_xmp(packet, {}, {}, with_fields)
+    return _judge_xmp(_BY_ITSELF._replace(data=packet), {}, {}, with_fields)
 
 
-def _judge_xmp(packet: bytes, extensions: Dict[str, bytes], left: Dict[str, bytes], with_fields: bool) -> Judgement:
+def _judge_xmp(at: Found, extensions: Dict[str, bytes], left: Dict[str, bytes], with_fields: bool) -> Judgement:
     """Reads a packet with its extended XMP, which is taken out of `left`."""
     used: Set[str] = set()
     try:
-        said: Optional[xmp.Statements] = xmp.statements(packet, extensions, used)
+        said: Optional[xmp.Statements] = xmp.statements(at.data, extensions, used)
         cause = ""
     except xmp.Unreadable as error:
         said, cause = None, error.cause
-    parts = [packet, *(extensions.get(it, b"") for it in sorted(used))]
-    octets = hashlib.sha256(b"".join(parts)).hexdigest()
-    for it in used:
+    octets = hashlib.sha256(at.data)
+    for it in sorted(used):
+        octets.update(extensions.get(it, b""))
         left.pop(it, None)
     if said is None:
-        return _unreadable(packet, octets, cause)
+        return _unreadable(at, octets.hexdigest(), cause)
     fields = packed(xmp.fields(said)) if with_fields else None
-    return Judgement(XMP, ACCEPTED, len(packet), octets, digest=xmp.digest(said), fields=fields)
+    known, named = (XMP, len(at.data), octets.hexdigest()), (at.name, at.where, at.extractor)
+    return Judgement(*known, ACCEPTED, xmp.digest(said), None, None, fields, *named)
 
 
-def _unreadable(packet: bytes, octets: str, cause: str) -> Judgement:
-    return Judgement(XMP, UNREADABLE, len(packet), octets, cause=cause)
+def _unreadable(at: Found, octets: str, cause: str) -> Judgement:
+    return Judgement(XMP, len(at.data), octets, UNREADABLE, None, cause, None, None, at.name, at.where, at.extractor)
 
 
 def listing(block: bytes) -> str:

@@ -18,7 +18,7 @@ from .moves import Departed
 from .progress import Progress
 from .walk import Found, Unlisted, below
 
-BATCH = 100  # pictures of one transaction
+BATCH = 1000  # pictures of one transaction
 LONGEST_WAIT = 2.0  # seconds until results are committed, if pictures are slow
 GONE = ("Vanished", "Moved")
 NEEDED = {"NeedsExifTool": "exiftool", "NeedsExiv2": "exiv2"}

@@ -67,8 +67,7 @@ class Block:
         return f"{self.cause} at {self.place}" if self.place is not None else str(self.cause)
 
 
-@dataclass(frozen=True)
-class Entry:
+class Entry(NamedTuple):
     """The known facts about a picture after it was looked at."""
 
     path: bytes

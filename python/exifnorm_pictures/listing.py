@@ -14,6 +14,7 @@ from .texts import escaped
 LONGEST_TEXT = 400  # characters of a text that is shown whole
 LONGEST_BYTES = 32  # bytes that are shown in hexadecimal
 LONGEST_NUMBERS = 160  # characters of a list of numbers that is shown whole
+_SHORTEST = 200  # characters of a listing that compression makes longer, or hardly shorter
 _SHORT = 4096  # characters of a listing that is compressed with small buffers
 DIGITS = 32  # hexadecimal digits of SHA-256 that identify a value that is not shown in full
 
@@ -39,10 +40,13 @@ class Field(NamedTuple):
         return full_name(self.where, self.key)
 
 
-_DIRECTORY = re.compile(r"\[(\w+)\]")
-_ENTRY = re.compile(r"([0-9a-f]{4}) (\w+) (\d+):(?: (.*))?")
-_DATASET = re.compile(r"(\d+:\d+) (\d+):(?: (.*))?")
-_PICTURE = re.compile(r"(jpeg|strip) (\d+):(?: (.*))?")
+# A line of a listing: a directory, a field, a DataSet, or a picture of the thumbnail directory.
+_LINE = re.compile(
+    r"\[(\w+)\]"
+    r"|([0-9a-f]{4}) (\w+) (\d+):(?: (.*))?"
+    r"|(\d+:\d+) (\d+):(?: (.*))?"
+    r"|(jpeg|strip) (\d+):(?: (.*))?"
+)
 
 
 def fields(listing: str) -> List[Field]:
@@ -57,17 +61,19 @@ def fields(listing: str) -> List[Field]:
 def _fields(listing: str) -> Iterator[Field]:
     where = "iptc"
     for line in listing.splitlines():
-        if found := _DIRECTORY.fullmatch(line):
-            where = found[1]
-        elif found := _ENTRY.fullmatch(line):
-            key, kind, count, value = found[1], found[2], int(found[3]), found[4] or ""
-            yield Field(where, key, kind, count, _shown(where, key, kind, value))
-        elif found := _DATASET.fullmatch(line):
-            yield Field("iptc", found[1], "octets", int(found[2]), shown_octets(bytes.fromhex(found[3] or "")))
-        elif found := _PICTURE.fullmatch(line):
-            value = found[3] or ""
-            digest = hashlib.sha256(bytes.fromhex(value)).hexdigest()[:DIGITS]
-            yield Field("thumb", found[1], "octets", int(found[2]), f"sha256:{digest}")
+        found = _LINE.fullmatch(line)
+        if found is None:
+            continue
+        directory, key, kind, count, value, dataset, length, octets, picture, size, data = found.groups()
+        if directory:
+            where = directory
+        elif key:
+            yield Field(where, key, kind, int(count), _shown(where, key, kind, value or ""))
+        elif dataset:
+            yield Field("iptc", dataset, "octets", int(length), shown_octets(bytes.fromhex(octets or "")))
+        else:
+            digest = hashlib.sha256(bytes.fromhex(data or "")).hexdigest()[:DIGITS]
+            yield Field("thumb", picture, "octets", int(size), f"sha256:{digest}")
 
 
 def _shown(where: str, key: str, kind: str, value: str) -> str:
@@ -101,7 +107,7 @@ def _plain_text(octets: bytes) -> Optional[str]:
         text = octets.decode("utf-8")
     except UnicodeDecodeError:
         return None
-    if len(text) > LONGEST_TEXT or not all(it.isprintable() or it in "\n\r\t" for it in text):
+    if len(text) > LONGEST_TEXT or not (text.isprintable() or all(it.isprintable() or it in "\n\r\t" for it in text)):
         return None
     return escaped(text).replace('"', '\\"')
 
@@ -153,9 +159,18 @@ def readable(found: List[Field], kind: str) -> Iterator[str]:
         yield f"    {it.key:<6} {name:<28} {count:<14} {shortened(it.shown)}".rstrip()
 
 
+_encoded = json.JSONEncoder(separators=(",", ":"), check_circular=False).encode
+
+
 def packed(found: List[Field]) -> bytes:
-    """The fields as few bytes, for a catalogue."""
-    text = json.dumps(found, separators=(",", ":")).encode("ascii")
+    """The fields as few bytes, for a catalogue: JSON, and where that is long, compressed.
+
+    >>> packed([Field("main", "010f", "ASCII", 4, '"abc"')])
+    b'[["main","010f","ASCII",4,"\\\\"abc\\\\""]]'
+    """
+    text = _encoded(found).encode("ascii")
+    if len(text) <= _SHORTEST:
+        return text
     if len(text) > _SHORT:
         return zlib.compress(text, 6)
     # zlib's default buffers are made for long texts, and clearing them takes longer than compressing a short one
@@ -164,13 +179,13 @@ def packed(found: List[Field]) -> bytes:
 
 
 def unpacked(octets: bytes) -> List[Field]:
-    """The fields from the result of `packed`.
+    """The fields from the result of `packed`. No compressed text begins with a bracket (RFC 1950, 2.2).
 
-    >>> some = [Field("main", "010f", "ASCII", 4, '"abc"')]
-    >>> unpacked(packed(some)) == some
-    True
+    >>> few, many = ([Field("main", "010f", "ASCII", 4, '"abc"')] * number for number in (1, 1000))
+    >>> unpacked(packed(few)) == few, unpacked(packed(many)) == many
+    (True, True)
     """
-    return [Field(*it) for it in json.loads(zlib.decompress(octets))]
+    return [Field(*it) for it in json.loads(octets if octets[:1] == b"[" else zlib.decompress(octets))]
 
 
 class Change(NamedTuple):

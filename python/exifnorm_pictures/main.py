@@ -3,6 +3,7 @@
 from __future__ import annotations
 
 import argparse
+import gc
 import sqlite3
 import sys
 from typing import Callable, Dict, Optional, Sequence
@@ -16,6 +17,7 @@ from .words import REFUSED_WORDS, parser
 from .writing import NotReplaced
 
 FAILED, STOPPED = 4, 130
+COLLECTED = 50_000  # objects after which Python looks for rings of objects: what a picture needs makes none, so mostly it looks in vain
 
 _CALLS: Dict[str, Callable[[argparse.Namespace], int]] = {
     "index": archives.index_,
@@ -35,6 +37,8 @@ def main(words: Optional[Sequence[str]] = None) -> int:
     try:
         ends.ready_streams()
         ends.heed_signals()
+        gc.freeze()
+        gc.set_threshold(COLLECTED)
         status = _run(words)
         sys.stdout.flush()
         return status

@@ -8,7 +8,7 @@ from __future__ import annotations
 import hashlib
 from collections import Counter
 from dataclasses import dataclass
-from typing import Dict, Iterable, List, Protocol, Sequence, Tuple
+from typing import Dict, Iterable, List, NamedTuple, Protocol, Sequence, Tuple
 
 from .formats.found import EXIF, IPTC, NAMES, XMP, NotRead
 
@@ -27,8 +27,7 @@ class Judged(Protocol):
     octets: str
 
 
-@dataclass(frozen=True)
-class Side:
+class Side(NamedTuple):
     """The blocks of one kind in one picture."""
 
     status: str  # ACCEPTED, REFUSED, UNREADABLE or ABSENT

@@ -4,7 +4,7 @@ from __future__ import annotations
 
 import hashlib
 from dataclasses import dataclass, field
-from typing import Dict, List, Optional
+from typing import Dict, List, NamedTuple, Optional
 
 EXIF, IPTC, XMP = "exif", "iim", "xmp"
 NAMES = {EXIF: "Exif", IPTC: "IPTC", XMP: "XMP"}
@@ -31,8 +31,7 @@ class LeftToOthers(Exception):
     """Only ExifTool and exiv2 read a file of this kind."""
 
 
-@dataclass(frozen=True)
-class Found:
+class Found(NamedTuple):
     """A block, without the bytes that its format puts before it, such as the six bytes `Exif\\0\\0`.
 
     The first block of a kind has the name of its kind, and each further block a name of its own, such as `second Exif` or `page 2`.
@@ -46,8 +45,7 @@ class Found:
     extends: str = ""  # for extended XMP: the digest in its main packet
 
 
-@dataclass(frozen=True)
-class NotRead:
+class NotRead(NamedTuple):
     """A part of a file that may contain metadata and was not read."""
 
     what: str

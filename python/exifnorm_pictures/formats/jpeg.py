@@ -143,6 +143,8 @@ def _read_behind(stream: BinaryIO, head: _Head, end: int, whole: bool) -> None:
     for at, length in found.segments:
         what = f"metadata segment behind the first scan{head.of}"
         head.blocks.not_read.append(NotRead(what, digest_of(stream, at, min(at + length, end))))
+    if found.has_mark and found.end >= end:
+        return
     trailer = known_trailer(stream, end)
     start = found.end if found.has_mark or trailer is None else max(head.end, end - WINDOW)
     if start >= end or is_blank(stream, start, end):

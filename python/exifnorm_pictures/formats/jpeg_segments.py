@@ -6,6 +6,7 @@ from dataclasses import dataclass
 from typing import BinaryIO, Iterator, NamedTuple
 
 from .found import Broken
+from .streams import Window
 
 SOI, EOI, SOS = 0xD8, 0xD9, 0xDA
 APP1, APP2, APP3, APP13 = 0xE1, 0xE2, 0xE3, 0xED
@@ -42,9 +43,9 @@ def segments(stream: BinaryIO, start: int, budget: Budget) -> Iterator[Segment]:
     Raises `Broken`.
     """
     at = start + 2
+    window = Window(stream)
     while True:
-        stream.seek(at)
-        head = stream.read(4)
+        head = window.read(at, 4)
         if len(head) < 2:
             return
         marker = head[1]
@@ -54,7 +55,7 @@ def segments(stream: BinaryIO, start: int, budget: Budget) -> Iterator[Segment]:
             budget.spend(0)
             at += 1
             continue
-        it = _segment(stream, marker, at, head)
+        it = _segment(window, at, head)
         budget.spend(len(it.data))
         yield it
         if marker in (SOS, EOI):
@@ -62,14 +63,15 @@ def segments(stream: BinaryIO, start: int, budget: Budget) -> Iterator[Segment]:
         at = it.end
 
 
-def _segment(stream: BinaryIO, marker: int, at: int, head: bytes) -> Segment:
+def _segment(window: Window, at: int, head: bytes) -> Segment:
     """The segment whose first four bytes were read."""
+    marker = head[1]
     if marker == 0x01 or 0xD0 <= marker <= EOI:  # a marker without a segment
         return Segment(marker, at, at + 2, b"")
     length = int.from_bytes(head[2:], "big")
     if len(head) < 4 or length < 2:
         raise Broken(f"no segment at {at}")
-    data = stream.read(length - 2) if marker in KEPT else b""
+    data = window.read(at + 4, length - 2) if marker in KEPT else b""
     if marker in KEPT and len(data) < length - 2:
         raise Broken(f"the file ends inside the segment at {at}")
     return Segment(marker, at, at + 2 + length, data)

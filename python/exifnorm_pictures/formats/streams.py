@@ -4,12 +4,14 @@ file that another program shortens ends the process with a signal."""
 from __future__ import annotations
 
 import hashlib
+import io
 import os
 from typing import BinaryIO, Iterator
 
 from .found import Broken
 
 CHUNK = 1 << 18
+PIECE = 1 << 13  # bytes of a window
 
 
 def size_of(stream: BinaryIO) -> int:
@@ -19,7 +21,10 @@ def size_of(stream: BinaryIO) -> int:
     >>> size_of(io.BytesIO(b"abc"))
     3
     """
-    return stream.seek(0, os.SEEK_END)
+    try:
+        return os.fstat(stream.fileno()).st_size  # what was read of the file stays in its buffer
+    except io.UnsupportedOperation:
+        return stream.seek(0, os.SEEK_END)
 
 
 def read_at(stream: BinaryIO, at: int, length: int) -> bytes:
@@ -29,6 +34,31 @@ def read_at(stream: BinaryIO, at: int, length: int) -> bytes:
     if len(data) < length:
         raise Broken(f"the file ends inside the {length} bytes at {at}")
     return data
+
+
+class Window:
+    """Small parts of a file, one behind the other. The file is read in pieces, and not for each part."""
+
+    def __init__(self, stream: BinaryIO) -> None:
+        self._stream = stream
+        self._start = 0
+        self._piece = b""
+
+    def read(self, at: int, length: int) -> bytes:
+        """So many bytes at a place; fewer where the file ends before.
+
+        >>> import io
+        >>> window = Window(io.BytesIO(b"abcdef"))
+        >>> window.read(1, 2), window.read(4, 9), window.read(2, 1)
+        (b'bc', b'ef', b'c')
+        """
+        first = at - self._start
+        if first < 0 or first + length > len(self._piece):
+            self._stream.seek(at)
+            if length > PIECE:
+                return self._stream.read(length)
+            self._start, self._piece, first = at, self._stream.read(PIECE), 0
+        return self._piece[first : first + length]
 
 
 def pieces(stream: BinaryIO, start: int, end: int) -> Iterator[bytes]:

@@ -35,6 +35,7 @@ _MARKS = (
     (codecs.BOM_UTF16_LE, "utf-16-le"), (codecs.BOM_UTF16_BE, "utf-16-be"), (codecs.BOM_UTF8, "utf-8"),
     (b"<\0\0\0", "utf-32-le"), (b"\0\0\0<", "utf-32-be"), (b"<\0", "utf-16-le"), (b"\0<", "utf-16-be"),
 )  # fmt: skip
+_ANY_MARK = tuple(mark for mark, _ in _MARKS)
 _DECLARATION = re.compile(r"""<\?xml\s[^>]*?\?>\s*""")
 _ENCODING = re.compile(r"""encoding\s*=\s*["']\s*(utf-?(8|16|16-?le|16-?be|32|32-?le|32-?be))\s*["']""", re.I)
 
@@ -76,7 +77,7 @@ def rdf_of(packet: bytes) -> ElementTree.Element:
 
 def _text(packet: bytes) -> str:
     """The text of a packet without the bytes around its XML."""
-    mark, encoding = next((it for it in _MARKS if packet.startswith(it[0])), (b"", "utf-8"))
+    encoding = next(it[1] for it in _MARKS if packet.startswith(it[0])) if packet.startswith(_ANY_MARK) else "utf-8"
     try:
         text = packet.decode(encoding).lstrip("\ufeff").strip("\0 \t\r\n")
     except UnicodeDecodeError:
