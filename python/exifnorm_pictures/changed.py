@@ -9,7 +9,7 @@ from dataclasses import dataclass, field
 from typing import Any, Callable, Dict, Iterator, List, Optional, Set, Tuple, TypeVar
 
 from .catalogue import Catalogue
-from .formats.found import EXIF, NAMES
+from .formats.found import EXIF, NAMES, OWN, PROGRAMS
 from .kept import Block, Picture
 from .listing import Change, changes, only_maker_note
 from .moves import Key, content_key
@@ -178,10 +178,18 @@ def _compared(name: bytes, one: Picture, other: Picture, sides: Sides) -> Compar
     parts: List[str] = []
     if one.unread is None or one.unread != other.unread:
         parts = left_open(sides.before.not_read_of(one), sides.after.not_read_of(other))
-    it = Compared(name, result(found, parts), sentence(found, parts), [], found)
+    it = Compared(name, result(found, parts), sentence(found, parts) + _extracted(one, other, sides), [], found)
     if any(one.result in (DIFFERENT, REFUSED, UNREADABLE) for one in found):
         _add_details(it, one, other, sides)
     return it
+
+
+def _extracted(one: Picture, other: Picture, sides: Sides) -> str:
+    """Which programs extracted blocks that no reader here reads."""
+    if one.extractor == other.extractor == OWN:
+        return ""
+    used = {it.extractor for it in [*sides.before.blocks_of(one), *sides.after.blocks_of(other)]}
+    return "".join(f"; extracted by {PROGRAMS[it]}" for it in PROGRAMS if it in used)
 
 
 Named = Dict[Tuple[str, str], Block]

@@ -8,7 +8,7 @@ from typing import Callable, Iterator, List, Tuple
 
 from . import explain, extraction, mend, readable, rooms, session, tools
 from .engine import Judgement, judge_all
-from .formats.found import EXIF, IPTC, NAMES, XMP, Blocks, Found
+from .formats.found import EXIF, IPTC, NAMES, PROGRAMS, XMP, Blocks, Found
 from .kept import WORDS, Block
 from .listing import readable as listed
 from .listing import unpacked
@@ -100,7 +100,8 @@ def show(asked: argparse.Namespace) -> int:
         fields = unpacked(it.fields) if it.fields else []
         keys = ("directory", "key", "type", "count", "value")
         members = [{"name": one.name, **dict(zip(keys, one))} for one in fields]
-        return list(listed(fields, it.name)), {"kind": WORDS[it.kind], "fields": members}
+        by = f", extracted by {PROGRAMS[it.extractor]}" if it.extractor in PROGRAMS else ""
+        return list(listed(fields, it.name + by)), {"kind": WORDS[it.kind], "extractor": it.extractor, "fields": members}
 
     return _each(asked, say)
 

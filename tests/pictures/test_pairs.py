@@ -14,7 +14,7 @@ from made_blocks import ASCII, LONG, BLOCKS, block, entry, segment
 from made_files import (
     app1, app1_xmp, app13, chunk, exif, extension, iim, jpeg, mpf, page, png, png_xmp, profile, resource, tiff, title, webp, xmp,
 )  # fmt: skip
-from studio import SMALL_JPEG, WithPictures, needs, tool, write
+from studio import SMALL_JPEG, WithPictures, needs, run, tool, write
 
 _ASKED = threading.Lock()  # of one ExifTool in this process
 
@@ -306,6 +306,21 @@ class Others(Pairs):
             one, two, copy = self.pair(name, *words)
             self.not_same(one, two, name=name)
             self.same(one, copy, name=name)
+
+    @needs("convert")
+    def test_the_program_is_named(self):
+        """Where ExifTool extracted the blocks, also of pictures that are the same, the result says so; that of own readers doesn't."""
+        one, _, copy = self.pair("psd", "-IFD0:Artist")
+        for folder, octets in (("before", one), ("after", copy)):
+            os.mkdir(self.path(folder))
+            write(self.path(folder, "a.psd"), octets)
+            write(self.path(folder, "b.jpg"), jpeg(app1(A)))
+        lines = run(["exifnorm-pictures", "changed", "before", "after", "--all", "--quiet"], self.folder).stdout.decode().splitlines()
+        said = [it for it in lines if it.startswith(("a.psd", "b.jpg"))]
+        self.assertEqual(["extracted by ExifTool" in it for it in said], [True, False], lines)
+        for name, due in (("a.psd", True), ("b.jpg", False)):
+            shown = run(["exifnorm-pictures", "show", os.path.join("before", name)], self.folder).stdout.decode()
+            self.assertEqual(shown.startswith("Exif, extracted by ExifTool:"), due, shown)
 
     @needs("convert")
     def test_same_blocks_but_not_wholly_read(self):

@@ -9,6 +9,7 @@ from typing import Dict, List, NamedTuple, Optional
 EXIF, IPTC, XMP = "exif", "iim", "xmp"
 NAMES = {EXIF: "Exif", IPTC: "IPTC", XMP: "XMP"}
 OWN, EXIFTOOL, EXIV2 = "own", "exiftool", "exiv2"  # which program extracted a block
+PROGRAMS = {EXIFTOOL: "ExifTool", EXIV2: "exiv2"}
 
 
 _ORDINALS = ("first", "second", "third", "fourth", "fifth", "sixth", "seventh", "eighth", "ninth")
