@@ -96,7 +96,12 @@ class Cost:
     """What a command needed."""
 
     seconds: float
+    processor: float  # seconds of processor time, with the processes that it started and waited for
     megabytes: float
+
+    def all(self) -> Tuple[float, float, float]:
+        """The numbers in their order."""
+        return self.seconds, self.processor, self.megabytes
 
 
 def cost(words: Sequence[str], statuses: Sequence[int] = (0,)) -> Cost:
@@ -107,7 +112,7 @@ def cost(words: Sequence[str], statuses: Sequence[int] = (0,)) -> Cost:
     started.returncode = os.waitstatus_to_exitcode(status)
     if started.returncode not in statuses:
         raise SystemExit(f"{' '.join(words)}: status {started.returncode}")
-    return Cost(time.perf_counter() - began, used.ru_maxrss / 1024)
+    return Cost(time.perf_counter() - began, used.ru_utime + used.ru_stime, used.ru_maxrss / 1024)
 
 
 def pictures(*words: str) -> List[str]:
@@ -119,7 +124,7 @@ class Timed:
 
     def __init__(self, folder: str, count: int) -> None:
         self.folder, self.count = folder, count
-        self.least: Dict[str, float] = {}
+        self.least: Dict[str, Cost] = {}
         self.jpegs, self.others, self.empty = (os.path.join(folder, it) for it in ("jpegs", "others", "empty"))
         for it in (self.jpegs, self.others, self.empty):
             os.mkdir(it)
@@ -144,7 +149,8 @@ class Timed:
         self._time(name, pictures("index", folder, "--catalogue", catalogue, "--jobs", jobs, "--quiet"))
 
     def _time(self, name: str, words: Sequence[str]) -> None:
-        self.least[name] = min(cost(words).seconds, self.least.get(name, float("inf")))
+        one, other = cost(words), self.least.get(name)
+        self.least[name] = Cost(*map(min, one.all(), other.all())) if other else one
 
     def rows(self) -> Iterator[ROW]:
         """The lines of the table."""
@@ -152,14 +158,19 @@ class Timed:
         count = f"{self.count:,} JPEG files"
         yield f"`index`, over `exiftool -b -Exif`, one process each ({count})", ratio(least, "one", "exiftool"), "0.1"
         yield f"`index` with four processes, over one ({count})", ratio(least, "four", "one"), "0.35"
-        again = (least["again"] - least["start"]) / self.count * 100000
-        yield f"a second run, nothing changed, for each 100,000 pictures ({count})", f"{again:.1f} s", "3.5 s"
+        again = (least["again"].processor - least["start"].processor) / self.count * 100000
+        yield f"a second run, nothing changed, for each 100,000 pictures ({count})", f"{again:.1f} s of processor time", "3.5 s"
         if self.has_others:
             yield "files through ExifTool (PSD), four processes over one", ratio(least, "others by four", "others by one"), "0.4"
 
 
-def ratio(least: Dict[str, float], one: str, other: str) -> str:
-    return f"{least[one] / least[other]:.3f} ({least[one]:.2f} s over {least[other]:.2f} s)"
+def ratio(least: Dict[str, Cost], one: str, other: str) -> str:
+    """By the clock, and by processor time, which hangs less on what else the machine does."""
+    mine, its = least[one], least[other]
+    return (
+        f"{mine.seconds / its.seconds:.2f} ({mine.seconds:.2f} s over {its.seconds:.2f} s); processor time:"
+        f" {mine.processor / its.processor:.3f} ({mine.processor:.2f} s over {its.processor:.2f} s)"
+    )
 
 
 def great(folder: str, rows: int, compared: int) -> Iterator[ROW]:
@@ -176,11 +187,17 @@ def great(folder: str, rows: int, compared: int) -> Iterator[ROW]:
         yield f"{name} of which half say something else", megabytes(cost(pictures("changed", first, half), [1])), "100 MB"
         yield f"{name} all moved", megabytes(cost(pictures("changed", first, moved), [1])), "100 MB"
         page = os.path.join(folder, "page.html")
+        cost(pictures("report", "--catalogue", first, "--html", page))
+        yield f"page of `report`, {compared:,} pictures", paged(page), ""
         spent = cost(pictures("report", "--catalogue", half, "--since", first, "--html", page))
         yield f"memory of `report --since`, {compared:,} pictures", megabytes(spent), ""
-        size = f"{os.path.getsize(page) / 1000:.0f} kB"
-        opened = opening(page)
-        yield "its page" + (", and the time in which Chromium opens it" if opened is not None else ""), size + (opened or ""), ""
+        yield "its page", paged(page), ""
+
+
+def paged(page: str) -> str:
+    """The size of a page, and where Chromium is installed, in which time it opens."""
+    opened = opening(page)
+    return f"{os.path.getsize(page) / 1000:.0f} kB" + (f", opens in {opened:.1f} s" if opened is not None else "")
 
 
 def plain(number: int) -> bytes:
@@ -189,16 +206,16 @@ def plain(number: int) -> bytes:
 
 
 def megabytes(it: Cost) -> str:
-    return f"{it.megabytes:.0f} MB ({it.seconds:.0f} s)"
+    return f"{it.megabytes:.0f} MB ({it.processor:.0f} s of processor time)"
 
 
-def opening(page: str) -> Optional[str]:
+def opening(page: str) -> Optional[float]:
     """How long Chromium takes for a page beyond its time for an empty one."""
     if not shutil.which("chromium"):
         return None
     words = ["chromium", "--headless", "--no-sandbox", "--disable-gpu", "--dump-dom"]
     least = [min(cost([*words, it]).seconds for _ in range(3)) for it in ("about:blank", "file://" + page)]
-    return f", {max(least[1] - least[0], 0.0):.1f} s"
+    return max(least[1] - least[0], 0.0)
 
 
 def main() -> None:
