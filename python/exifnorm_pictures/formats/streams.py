@@ -37,7 +37,7 @@ def read_at(stream: BinaryIO, at: int, length: int) -> bytes:
 
 
 class Window:
-    """Small parts of a file, one behind the other. The file is read in pieces, and not for each part."""
+    """Small parts of a file, one after the other. The file is read in pieces, and not for each part."""
 
     def __init__(self, stream: BinaryIO) -> None:
         self._stream = stream
