@@ -56,8 +56,10 @@ def numbers_of_the_sources():
     known = {"EXIFNORM_LIMIT": number_in(r"pub const LIMIT: u32 = ([\d_]+);", "crates", "px_bytes", "src", "blocks.rt")}
     statuses = re.findall(r"pub const (\w+): u32 = (\d+);", text_of("crates", "px_c", "src", "statuses.rt"))
     known.update((f"EXIFNORM_{name}", int(number)) for name, number in statuses)
-    causes = re.findall(r'^ +(\d+) => b"(\w+)",$', text_of("crates", "px_c", "src", "names.rt"), re.M)
-    due([name for _, name in causes] == CAUSES, "names.rt has other causes")
+    table = text_of("crates", "px_bytes", "src", "causes.rt")
+    causes = re.findall(r"^ +(\d+) => Some\(Cause::(\w+)\),$", table, re.M)
+    due([name for _, name in causes] == CAUSES, "causes.rt has other causes")
+    due(re.findall(r'^ +Cause::\w+ => b"(\w+)",$', table, re.M) == CAUSES, "causes.rt has other names")
     spelled = {name: re.sub(r"(?<!^)(?=[A-Z])", "_", name.replace("DataSet", "Dataset")).upper() for _, name in causes}
     known.update((f"EXIFNORM_CAUSE_{spelled[name]}", int(number)) for number, name in causes)
     return {**known, "EXIFNORM_EXIF": 1, "EXIFNORM_IIM": 2, "EXIFNORM_NAME_ROOM": 32}
