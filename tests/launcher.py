@@ -373,6 +373,8 @@ def it_is_called_from_any_folder_and_through_links(room: Room) -> None:
     room.named = {"PATH": f"{room.top}:{room.environment()['PATH']}"}
     ran = room.call("c", program="exifnorm", cwd="/")
     due((ran.stdout, room.builds()) == ("one: c\n", 1), ran)
+    ran = room.call("exifnorm", "d", program="bash", cwd="/")  # bash looks for it on the PATH, and gives it its bare name
+    due((ran.stdout, ran.stderr) == ("one: d\n", ""), ran)
 
 
 def settings_of_the_callers_python_do_not_reach_the_build(room: Room) -> None:
