@@ -1,5 +1,5 @@
 #!/usr/bin/env python3
-"""Draws docs/one-form.svg: two blocks of tests/cases that differ in nearly every byte, and the one normal form of both.
+"""Draws docs/one-form.svg: two blocks of tests/program/cases that differ in nearly every byte, and the one normal form of both.
 
   docs/draw.py            writes the picture beside this file
   docs/draw.py --check    ends with 1 where the picture there isn't the one that it would write
@@ -15,6 +15,7 @@ sys.dont_write_bytecode = True
 
 import json
 
+import paths
 from blocks import Blocks
 
 PICTURE = os.path.join(HERE, "one-form.svg")
@@ -74,7 +75,7 @@ def main():
     words = argparse.ArgumentParser(description=__doc__, formatter_class=argparse.RawDescriptionHelpFormatter)
     words.add_argument("--check", action="store_true", help="compare, and write nothing")
     words = words.parse_args()
-    with open(os.path.join(HERE, "..", "tests", "cases", "blocks.json"), encoding="utf-8") as it:
+    with open(paths.CASES / "cases" / "blocks.json", encoding="utf-8") as it:
         blocks = Blocks(json.load(it)["blocks"])
     names = ("ASCII before its directory", "ASCII at an even place, least first", "ASCII in normal form")
     due = picture(*map(blocks.named, names))

@@ -23,6 +23,7 @@ HERE = os.path.dirname(os.path.abspath(__file__))
 sys.path.insert(0, os.path.join(HERE, "..", "..", "tests"))
 sys.dont_write_bytecode = True
 
+import paths
 import kinds
 from cases import Case
 from meanings import *

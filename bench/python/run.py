@@ -23,6 +23,7 @@ TOP = HERE.parent.parent
 sys.path[:0] = [str(TOP / "tests"), str(TOP / "python")]
 sys.dont_write_bytecode = True
 
+import paths
 import kinds
 from meanings import Layout, laid
 

@@ -7,11 +7,11 @@ import subprocess
 import sys
 from concurrent.futures import ThreadPoolExecutor
 from dataclasses import dataclass, field
+from pathlib import Path
 
-HERE = os.path.dirname(os.path.abspath(__file__))
-TESTS = os.path.dirname(HERE)
-sys.path.insert(0, TESTS)
+sys.path.insert(0, str(Path(__file__).resolve().parent.parent))
 
+import paths
 from cases import Sweep, read_all
 
 DONE, REFUSED, TOO_LONG, SECOND_REFUSED = 0, 2, 3, 6
@@ -85,7 +85,7 @@ def blocks_of_cases():
     """Each block that a case reads, once: small ones and those of many bytes. Of a sweep over many blocks some forty are taken, as
     each_byte.py judges them all."""
     found = {}
-    for case in read_all(TESTS):
+    for case in read_all(paths.CASES):
         if isinstance(case, Sweep):
             found.update(dict.fromkeys(case.blocks if len(case.blocks) < 300 else case.blocks[:: len(case.blocks) // 40]))
         elif not case.endless:

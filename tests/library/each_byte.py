@@ -1,21 +1,21 @@
 """Judges every block that differs from one of the worked blocks in one byte, by the library and by the rules of the format as
-../reading.py tells them.
+tests/blocks/reading.py tells them.
 
   each_byte.py NAME ..
 
-NAME is a block of ../cases/blocks.json. Each line that is printed is a failure; the last one says how many blocks there were.
+NAME is a block of tests/program/cases/blocks.json. Each line that is printed is a failure; the last one says how many blocks there were.
 """
 
 import json
 import os
 import sys
 from concurrent.futures import ProcessPoolExecutor
+from pathlib import Path
 
 sys.dont_write_bytecode = True
+sys.path.insert(0, str(Path(__file__).resolve().parent.parent))
 
-TESTS = os.path.dirname(os.path.dirname(os.path.abspath(__file__)))
-sys.path.insert(0, TESTS)
-
+import paths
 import exifnorm
 from blocks import Blocks
 from reading import Fault, said
@@ -63,7 +63,7 @@ def others(block):
 
 def judged(name):
     """The number of blocks, and those for which the two differ."""
-    with open(os.path.join(TESTS, "cases", "blocks.json"), encoding="utf-8") as it:
+    with open(paths.CASES / "cases" / "blocks.json", encoding="utf-8") as it:
         block = Blocks(json.load(it)["blocks"]).bytes_of(name)
     count, bad = 0, []
     for it in others(block):

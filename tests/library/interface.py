@@ -1,0 +1,176 @@
+#!/usr/bin/env python3
+"""Tests the interface of the C library: the header's names and prototypes against the sources, the manual page and the exports, and
+the calls at the edges of what they allow.
+
+  tests/library/interface.py LIBRARY
+
+LIBRARY is the folder with libexifnorm.so.1, libexifnorm.a and exifnorm.h. It needs cc, c++, nm and readelf besides Python 3.
+"""
+
+import os
+import re
+import shlex
+import sys
+import tempfile
+from pathlib import Path
+
+sys.dont_write_bytecode = True
+sys.path.insert(0, str(Path(__file__).resolve().parent.parent))
+
+import paths
+from counting import Counter
+from library import CAUSES, EXPORTS, HEADER, PARTS, TOP, due, need, run, tests_of, text_of
+
+STRICT = ["-Wall", "-Wextra", "-pedantic", "-Werror", "-Wundef", "-Wstrict-prototypes", f"-I{HEADER}"]
+COMPILERS = (["cc", "-std=c99"], ["cc", "-std=c11"], ["c++", "-std=c++11", "-x", "c++"])
+
+
+def header():
+    return text_of("crates", "px_c", "include", "exifnorm.h")
+
+
+def prototypes(text):
+    """Each function of a C text, with its type and its parameters.
+
+    >>> prototypes("uint32_t exifnorm_version(char *out,  /* here */ size_t out_length,\\n   size_t *written);")
+    {'exifnorm_version': 'uint32_t(char *out, size_t out_length, size_t *written)'}
+    """
+    plain = re.sub(r"\s+", " ", re.sub(r"/\*.*?\*/", "", text, flags=re.S))
+    found = re.findall(r"(\w+) (exifnorm_\w+)\(([^()]*)\);", plain)
+    return {name: f"{kind}({', '.join(it.strip() for it in parameters.split(','))})" for kind, name, parameters in found}
+
+
+def page_prototypes():
+    """Those of the manual page's synopsis."""
+    synopsis = re.search(r"^\.SH SYNOPSIS\n(.*?)^\.SH", text_of("docs", "exifnorm.3"), re.M | re.S)[1]
+    # the words of a line with .BI are printed without the spaces that part them
+    return prototypes(" ".join("".join(shlex.split(it[4:])) for it in synopsis.splitlines() if it.startswith(".BI ")))
+
+
+def number_in(pattern, *path):
+    """The number that a source names."""
+    found = re.findall(pattern, text_of(*path))
+    due(len(found) == 1, f"{path[-1]} has {len(found)} of {pattern}")
+    return int(found[0].replace("_", ""))
+
+
+def numbers_of_the_sources():
+    """The numbers that the header's names must have, from the sources in Rattle."""
+    known = {"EXIFNORM_LIMIT": number_in(r"pub const LIMIT: u32 = ([\d_]+);", "crates", "px_bytes", "src", "blocks.rt")}
+    statuses = re.findall(r"pub const (\w+): u32 = (\d+);", text_of("crates", "px_c", "src", "statuses.rt"))
+    known.update((f"EXIFNORM_{name}", int(number)) for name, number in statuses)
+    table = text_of("crates", "px_bytes", "src", "causes.rt")
+    causes = re.findall(r"^ +(\d+) => Some\(Cause::(\w+)\),$", table, re.M)
+    due([name for _, name in causes] == CAUSES, "causes.rt has other causes")
+    due(re.findall(r'^ +Cause::\w+ => b"(\w+)",$', table, re.M) == CAUSES, "causes.rt has other names")
+    spelled = {name: re.sub(r"(?<!^)(?=[A-Z])", "_", name.replace("DataSet", "Dataset")).upper() for _, name in causes}
+    known.update((f"EXIFNORM_CAUSE_{spelled[name]}", int(number)) for number, name in causes)
+    return {**known, "EXIFNORM_EXIF": 1, "EXIFNORM_IIM": 2, "EXIFNORM_NAME_ROOM": 32}
+
+
+class Interface:
+    """The tests of the header and of what the library shows; each method is one."""
+
+    def __init__(self, library, room):
+        self.library, self.room = os.path.abspath(library), room
+        self.shared, self.archive = os.path.join(self.library, "libexifnorm.so.1"), os.path.join(self.library, "libexifnorm.a")
+
+    def shows_its_calls_alone(self):
+        shown = run("nm", "-D", "--defined-only", self.shared).split("\n")
+        due({it.split()[-1] for it in shown if it} == {"EXIFNORM_1", *(f"{it}@@EXIFNORM_1" for it in EXPORTS)}, f"the shared library shows {shown}")
+        shown = [it.split()[-1] for it in run("nm", "-g", "--defined-only", self.archive).split("\n") if " T " in it or " D " in it]
+        due(set(shown) == EXPORTS, f"the archive shows {shown}")
+        due(set(prototypes(header())) == EXPORTS, f"the header has {sorted(prototypes(header()))}")
+        listed = re.search(r"global:\n(.*)local:", text_of("packaging", "exifnorm.map"), re.S)[1]
+        due(set(re.findall(r"\w+", listed)) == EXPORTS, f"the linker's list is {listed}")
+
+    def needs_the_c_library_alone(self):
+        dynamic = run("readelf", "-dW", self.shared)
+        due(re.findall(r"\(NEEDED\).*\[(.*)\]", dynamic) == ["libc.so.6"], f"it needs {dynamic}")
+        due("SONAME" in dynamic and "[libexifnorm.so.1]" in dynamic, "it has another name")
+        due("BIND_NOW" in dynamic or re.search(r"FLAGS_1.*NOW", dynamic), "its symbols are looked up late")
+        segments = run("readelf", "-lW", self.shared)
+        stack = [it for it in segments.split("\n") if "GNU_STACK" in it]
+        due(len(stack) == 1 and "RWE" not in stack[0], "its stack could be run")
+        due("GNU_RELRO" in segments, "its tables could be written to")
+
+    def has_one_set_of_numbers(self):
+        due(dict(re.findall(r"(EXIFNORM_\w+) = (\d+)", header())).keys() < numbers_of_the_sources().keys(), "the header has other names")
+        statuses = re.findall(r"pub const (\w+): u32 = (\d+);", text_of("crates", "px_c", "src", "statuses.rt"))
+        page = text_of("docs", "exifnorm.3")
+        told = dict(re.findall(r'^\.BR EXIFNORM_(\w+) " \((\d+)\)"', page, re.MULTILINE))
+        due({it: told[it] for it in told if it not in ("EXIF", "IIM")} == dict(statuses), "other statuses in the manual page")
+        causes = re.findall(r"^(\d+)\t(\w+)\t", page, re.MULTILINE)
+        due(causes == [(str(i + 1), it) for i, it in enumerate(CAUSES)], "other causes in the manual page")
+        code = "import exifnorm; print(*(f'{it.name}={it.value}' for it in exifnorm.Status))"
+        due(dict(it.split("=") for it in self.python(code).split()) == dict(statuses), "other statuses in Python")
+        code = "from exifnorm import _calls as c; print(*(c._text(c.library().exifnorm_cause_name, i) for i in range(1, 21)))"
+        due(self.python(code).split() == CAUSES, "the library names other causes")
+        code = "from exifnorm import _library as it; print(it.LIMIT, it.NAME_ROOM, it.NAME)"
+        due(self.python(code).split() == ["16777216", "32", "libexifnorm.so.1"], "other numbers in Python")
+
+    def has_one_version(self):
+        version = re.search(r'VERSION: &str = "(.*)";', text_of("crates", "px_engine", "src", "version.rt"))[1]
+        due(self.python("import exifnorm; print(exifnorm.version())").strip() == version, "another version in the library")
+        due(self.python("import exifnorm; print(exifnorm.__version__)").strip() == version, "another version in the package")
+        due(version in text_of("python", "pyproject.toml") or "__version__" in text_of("python", "pyproject.toml"), "another in pyproject.toml")
+
+    def has_the_prototypes_of_its_page(self):
+        due(prototypes(header()) == page_prototypes(), f"the header has {prototypes(header())}, and the page {page_prototypes()}")
+
+    def has_a_header_with_the_numbers_of_the_sources(self):
+        """What compilers make of the header's names, included twice, are the numbers of the sources in Rattle."""
+        names = sorted(set(re.findall(r"^(?:#define | +)(EXIFNORM_[A-Z_]+)(?= = | \d)", header(), re.M)))
+        source = os.path.join(self.room, "names.c")
+        lines = [f'    printf("%s %lld\\n", "{it}", (long long){it});' for it in names]
+        start = "#include <exifnorm.h>\n#include <exifnorm.h>\n#include <stdio.h>\n\nint main(void) {\n"
+        with open(source, "w", encoding="ascii") as it:
+            it.write(start + "\n".join(lines) + "\n    return 0;\n}\n")
+        for compiler in COMPILERS:
+            need(compiler[0])
+            options = [it for it in STRICT if compiler[0] == "cc" or it != "-Wstrict-prototypes"]
+            run(*compiler, *options, source, "-o", os.path.join(self.room, "names"))
+            said = {name: int(number) for name, number in (it.split() for it in run(os.path.join(self.room, "names")).splitlines())}
+            due(said == numbers_of_the_sources(), f"{compiler[0]} finds {said}")
+
+    def has_a_fault_of_two_numbers(self):
+        """The struct is laid out as the library writes it."""
+        source, made = os.path.join(self.room, "fault.c"), os.path.join(self.room, "fault")
+        places = '(int)sizeof(struct exifnorm_fault), (int)offsetof(struct exifnorm_fault, cause), (int)offsetof(struct exifnorm_fault, place)'
+        text = f'#include <exifnorm.h>\n#include <stdio.h>\n\nint main(void) {{\n    printf("%d %d %d\\n", {places});\n    return 0;\n}}\n'
+        with open(source, "w", encoding="ascii") as it:
+            it.write(text)
+        run("cc", "-std=c99", *STRICT, source, "-o", made)
+        due(run(made) == "8 0 4\n", "another struct")
+
+    def is_called_from_cpp(self):
+        need("c++")
+        example, made = os.path.join(PARTS, "examples", "compare.c"), os.path.join(self.room, "plus")
+        options = [it for it in STRICT if it != "-Wstrict-prototypes"]
+        run("c++", *options, "-x", "c++", example, "-x", "none", self.archive, "-o", made)
+        due(run(made) == "same\n", "another answer in C++")
+
+    def answers_at_its_edges(self):
+        version = re.search(r'VERSION: &str = "(.*)";', text_of("crates", "px_engine", "src", "version.rt"))[1]
+        for name, library in (("shared", [self.shared, f"-Wl,-rpath,{self.library}"]), ("static", [self.archive])):
+            program = os.path.join(self.room, f"edges-{name}")
+            run("cc", "-std=c99", "-O1", *STRICT, os.path.join(PARTS, "edges.c"), "-o", program, *library)
+            said = run(program, version)
+            due(re.fullmatch(r"[1-9]\d{3}\d* checks\n", said), f"{name}: it said {said[:500]}")
+
+    def python(self, code):
+        return run(sys.executable, "-B", "-c", code, PYTHONPATH=os.path.join(TOP, "python"), EXIFNORM_LIBRARY=self.shared)
+
+
+def main(words):
+    if len(words) != 1:
+        sys.exit(__doc__)
+    counter = Counter()
+    with tempfile.TemporaryDirectory() as room:
+        for name, test in tests_of(Interface(words[0], room)):
+            counter.run(name, test)
+    return counter.finish()
+
+
+if __name__ == "__main__":
+    sys.exit(main(sys.argv[1:]))

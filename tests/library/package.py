@@ -1,0 +1,577 @@
+#!/usr/bin/env python3
+"""Tests the Python package exifnorm: each public call with its exact result on blocks that other tools wrote, each argument, each
+exception, where the library is looked for, and what the calls cost, counted.
+
+  tests/library/package.py LIBRARY
+
+LIBRARY is the folder with libexifnorm.so.1 and exifnorm.h. What is expected of other blocks comes from meanings.py and reading.py, which
+know nothing of the library. It needs cc besides Python 3.
+"""
+
+import array
+import contextlib
+import ctypes
+import gc
+import hashlib
+import inspect
+import json
+import mmap
+import os
+import pickle
+import shutil
+import subprocess
+import sys
+import tempfile
+import tracemalloc
+from concurrent.futures import ThreadPoolExecutor
+from pathlib import Path
+from typing import Any, Callable, Dict, Iterator, List
+
+sys.dont_write_bytecode = True
+sys.path.insert(0, str(Path(__file__).resolve().parent.parent))
+
+import paths
+
+TOP = str(paths.TOP)
+PACKAGES = os.path.join(TOP, "python")
+sys.path.insert(0, PACKAGES)
+
+import exifnorm
+import made_by_tools
+from counting import Counter
+from exifnorm import _library, _listings
+from kinds import small_kinds
+from meanings import LONG, SHORT, Exif, Layout, Record, Value, laid
+from reading import Fault, said
+
+ROOM = ""  # a folder for this run
+REAL = ""  # the built library
+WATCHED = ""  # the one of library/watched.c
+CALLS = ("check", "normalise", "compare", "show", "captions", "cause_name", "version")
+OF_BLOCK = (exifnorm.kind, exifnorm.normal, exifnorm.digest, exifnorm.show, exifnorm.fields, exifnorm.captions)
+ONE = bytes.fromhex("4d4d002a00000008 0001 0112 0003 00000001 00060000 00000000")
+LOOP = ONE[:-4] + bytes.fromhex("00000008")
+CAPTION = b"\x1c\x02\x78\x00\x04Vase"
+# numbers of RowsPerStrip, which take two bytes here, and four in the form: its form is too long
+NUMBERS = [*range(1000), *bytes(4_200_000)]
+LONG_FORM = laid(Exif({0x0116: Value(SHORT, NUMBERS)}), Layout("<"))
+
+
+def outcome(call: Callable, *arguments: Any) -> Any:
+    """The result of a call, or the name of its exception, with its values.
+
+    >>> outcome(int, "a")
+    ('ValueError', "invalid literal for int() with base 10: 'a'")
+    """
+    try:
+        return call(*arguments)
+    except Exception as why:
+        return type(why).__name__, *why.args
+
+
+# ---- results
+
+
+def blocks_of_tools(counter: Counter) -> None:
+    for made in made_by_tools.ALL:
+        meaning = said(made.block)
+        form, name = meaning.normal(), f"{made.tool}, {made.kind}"
+        counter.check(f"{name}: kind", exifnorm.kind(made.block) == made.kind)
+        counter.check(f"{name}: normal", exifnorm.normal(made.block) == form and type(exifnorm.normal(made.block)) is bytes)
+        counter.check(f"{name}: digest", exifnorm.digest(made.block) == hashlib.sha256(form).hexdigest())
+        counter.check(f"{name}: show", exifnorm.show(made.block) == meaning.listing())
+        found = exifnorm.fields(made.block)
+        counter.check(f"{name}: fields", found == [exifnorm.Field(*it) for it in made.fields], found)
+        classes = {type(it) for it in found} | {type(it) for field in found if field.type.endswith("RATIONAL") for it in field.values}
+        counter.check(f"{name}: classes", classes <= {exifnorm.Field, exifnorm.Ratio} and type(found) is list, classes)
+        texts = exifnorm.captions(made.block)
+        counter.check(f"{name}: captions", texts == [exifnorm.Caption(*it) for it in made.captions], texts)
+        counter.check(f"{name}: same", exifnorm.same(made.block, form) is True and exifnorm.same(form, ONE) is False)
+
+
+def refusals_of_tools(counter: Counter) -> None:
+    for call in OF_BLOCK:
+        came = outcome(call, made_by_tools.PIEXIF_REFUSED)
+        counter.check(f"{call.__name__} of a block that is refused", came == ("Refused", *made_by_tools.PIEXIF_FAULT, None), came)
+
+
+def fields_of_each_kind(counter: Counter) -> None:
+    """The fields from the form are those of the expected listing, for blocks with each type, directory and thumbnail."""
+    for kind in small_kinds():
+        due, form = _listings.fields_of_listing(kind.meaning.listing()), kind.meaning.normal()
+        counter.check(kind.name, all(exifnorm.fields(it) == due for it in kind.blocks))
+        counter.check(f"{kind.name}: its form", all(exifnorm.normal(it) == form for it in kind.blocks))
+
+
+def fields_that_are_nearly_others(counter: Counter) -> None:
+    """Tags that mean something in one directory alone, and records that are none."""
+    Field = exifnorm.Field
+    inside = {0x0100: Value(LONG, [7]), 0xA002: Value(LONG, [8]), 0x83BB: Value(7, CAPTION)}
+    block = laid(Exif(dict(inside), dict(inside), dict(inside), dict(inside), dict(inside)), Layout("<"))
+    due = []
+    for name in ("main", "exif", "interop", "gps", "thumb"):
+        due.append(Field(name, 0x0100, "WHOLE" if name in ("main", "thumb") else "LONG", (7,)))
+        due += [] if name == "main" else [Field(name, 0x83BB, "UNDEFINED", CAPTION)]
+        due.append(Field(name, 0xA002, "WHOLE" if name == "exif" else "LONG", (8,)))
+        due += [Field("record", 0x0278, "DATASET", b"Vase")] if name == "main" else []
+    counter.check("one tag in five directories", exifnorm.fields(block) == due, exifnorm.fields(block))
+    for octets, form in ((b"\x1c\x02\x78\x00\x09Vase", 7), (CAPTION, 2), (b"", 7), (ONE, 7), (b"\x1c", 1)):
+        found = exifnorm.fields(laid(Exif({0x83BB: Value(form, octets)}), Layout(">")))
+        counter.check(f"no record: {octets!r}", [it[:2] + it[3:] for it in found] == [("main", 0x83BB, octets)], found)
+    record = laid(Exif({0x83BB: Value(1, CAPTION + b"\0")}), Layout(">"))
+    counter.check("a record of type BYTE", exifnorm.fields(record) == [Field("record", 0x0278, "DATASET", b"Vase")])
+    long = Record([(2, 120, bytes(40_000)), (2, 25, b"")])
+    due = [Field("record", 0x0219, "DATASET", b""), Field("record", 0x0278, "DATASET", bytes(40_000))]
+    counter.check("a DataSet of 40,000 bytes", exifnorm.fields(long.spelled()) == due)
+
+
+def forms_that_are_too_long(counter: Counter) -> None:
+    counter.check("its kind", exifnorm.kind(LONG_FORM) == "exif")
+    counter.check("its form", outcome(exifnorm.normal, LONG_FORM) == ("NormalTooLong",))
+    counter.check("its digest", outcome(exifnorm.digest, LONG_FORM) == ("NormalTooLong",))
+    counter.check("what is said of it", str(exifnorm.NormalTooLong()) == "the normal form is longer than 16777216 bytes")
+    due = [exifnorm.Field("main", 0x0116, "WHOLE", tuple(NUMBERS))]
+    counter.check("its fields", exifnorm.fields(LONG_FORM) == due)
+    counter.check("its captions", exifnorm.captions(LONG_FORM) == [])
+    counter.check("it says the same as itself", exifnorm.same(LONG_FORM, LONG_FORM) is True)
+    counter.check("a block that is too long", outcome(exifnorm.kind, ONE + bytes(2**24)) == ("Refused", "TooLong", 2**24, None))
+    counter.check("a block that is just long enough", exifnorm.kind(ONE + bytes(2**24 - len(ONE))) == "exif")
+
+
+def captions_once(counter: Counter) -> None:
+    """Each caption of a record and of an Exif block is returned once, in the order of the labels."""
+    labels = {5: "title", 120: "caption", 105: "headline", 110: "credit", 115: "source", 116: "copyright", 80: "byline",
+        85: "byline-title", 25: "keyword", 103: "inventory"}  # fmt: skip
+    datasets = [(2, number, label.encode()) for number, label in reversed(list(labels.items()))]
+    for repeats in (1, 2):
+        found = [(it.label, it.data) for it in exifnorm.captions(Record(datasets * repeats).spelled())]
+        due = {(label, label.encode()): repeats for label in labels.values()}
+        counter.check(f"each label {repeats} times", {it: found.count(it) for it in found} == due, found)
+    texts = {0x010E: Value(2, b"d\xc3\xa9\0"), 0x013B: Value(129, b"\xc3\xa9\0"), 0x8298: Value(2, b"no zero")}
+    record = Record([(1, 90, b"\x1b%G"), (2, 120, b"\xc3\xa9"), (2, 5, b"\xff")])
+    found = exifnorm.captions(laid(Exif(texts, record=record), Layout("<")))
+    due = [
+        ("description", b"d\xc3\xa9\0", None),
+        ("artist", b"\xc3\xa9\0", "é"),
+        ("copyright", b"no zero", "no zero"),
+        ("title", b"\xff", None),
+        ("caption", b"\xc3\xa9", "é"),
+    ]
+    counter.check("texts and a record", found == [exifnorm.Caption(*it) for it in due], found)
+    for octets in (bytes(range(256)), b"charset: a: b", b"", b"\\0a\n"):
+        found = exifnorm.captions(Record([(2, 120, octets)]).spelled())
+        counter.check(f"a caption of {octets[:20]!r}", [(it.label, it.data) for it in found] == [("caption", octets)], found)
+
+
+def digests(counter: Counter) -> None:
+    form = exifnorm.normal(CAPTION)
+    for algorithm in ("sha256", "md5", "sha1", "sha512", "sha3_256", "blake2b"):
+        due = hashlib.new(algorithm, form).hexdigest()
+        counter.check(algorithm, exifnorm.digest(CAPTION, algorithm) == due == exifnorm.digest(CAPTION, algorithm=algorithm))
+    for algorithm in ("no such", "shake_128"):
+        counter.check(algorithm, outcome(exifnorm.digest, CAPTION, algorithm)[0] == "ValueError", outcome(exifnorm.digest, CAPTION, algorithm))
+
+
+# ---- arguments
+
+
+def ways_to_give_a_block(counter: Counter) -> None:
+    """Whatever gives its bytes in one piece."""
+
+    class Own(bytes):
+        """A kind of bytes of the caller's."""
+
+        def __len__(self) -> int:
+            return 3
+
+    mapped = mmap.mmap(-1, len(ONE))
+    mapped[:] = ONE
+    numbers = array.array("H", ONE)
+    ways = {
+        "bytes": ONE,
+        "bytearray": bytearray(ONE),
+        "memoryview": memoryview(b"xx" + ONE + b"yy")[2:-2],
+        "memoryview of numbers": memoryview(numbers),
+        "array": numbers,
+        "mmap": mapped,
+        "a kind of bytes": Own(ONE),
+        "ctypes": (ctypes.c_char * len(ONE)).from_buffer_copy(ONE),
+    }
+    for name, block in ways.items():
+        came = [outcome(call, block) for call in OF_BLOCK]
+        counter.check(name, came == [call(ONE) for call in OF_BLOCK], came)
+        counter.check(f"{name}, compared", exifnorm.same(block, ONE) and exifnorm.same(ONE, block))
+
+
+def what_is_no_block(counter: Counter) -> None:
+    wrong = {"None": None, "a number": 5, "a text": "MM", "a float": 1.5, "a list": [77, 77], "an object": object(), "a class": bytes}
+    for name, it in wrong.items():
+        for call in OF_BLOCK:
+            counter.check(f"{call.__name__} of {name}", outcome(call, it)[0] == "TypeError", outcome(call, it))
+        came = outcome(exifnorm.same, it, ONE), outcome(exifnorm.same, ONE, it)
+        counter.check(f"same of {name}", [it[0] for it in came] == ["TypeError"] * 2, came)
+    for call in (*OF_BLOCK, exifnorm.same):
+        counter.check(f"{call.__name__} of nothing", outcome(call)[0] == "TypeError")
+        came = outcome(call, memoryview(ONE * 2)[::2], ONE) if call is exifnorm.same else outcome(call, memoryview(ONE * 2)[::2])
+        counter.check(f"{call.__name__} of bytes that lie apart", came[0] == "BufferError", came)
+
+
+def blocks_of_no_bytes(counter: Counter) -> None:
+    for empty in (b"", bytearray(), memoryview(b""), array.array("B")):
+        for call in OF_BLOCK:
+            came = outcome(call, empty)
+            counter.check(f"{call.__name__} of {empty!r}", came == ("Refused", "UnknownKind", 0, None), came)
+        came = outcome(exifnorm.same, empty, ONE), outcome(exifnorm.same, ONE, empty)
+        counter.check(f"same of {empty!r}", came == (("Refused", "UnknownKind", 0, 1), ("Refused", "UnknownKind", 0, 2)), came)
+
+
+def names_and_arguments(counter: Counter) -> None:
+    due = "Block Caption Field LibraryMissing NormalTooLong Ratio Refused Status Values captions digest fields kind normal same show version"
+    counter.check("the public names", sorted(exifnorm.__all__) == due.split(), exifnorm.__all__)
+    arguments = {
+        "captions": "block",
+        "digest": "block algorithm=sha256",
+        "fields": "block",
+        "kind": "block",
+        "normal": "block",
+        "same": "first second",
+        "show": "block",
+        "version": "",
+    }
+    for name, words in arguments.items():
+        found = inspect.signature(getattr(exifnorm, name)).parameters.values()
+        told = " ".join(it.name if it.default is it.empty else f"{it.name}={it.default}" for it in found)
+        counter.check(f"the arguments of {name}", told == words, told)
+        counter.check(f"the text of {name}", getattr(exifnorm, name).__doc__)
+    counter.check("the version", exifnorm.version() == exifnorm.__version__, exifnorm.version())
+    statuses = {"DONE": 0, "REFUSED": 2, "TOO_LONG": 3, "NO_MEMORY": 4, "TOO_LITTLE_ROOM": 5, "SECOND_REFUSED": 6}
+    counter.check("the statuses", {it.name: it.value for it in exifnorm.Status} == statuses)
+
+
+def exceptions(counter: Counter) -> None:
+    counter.check("Refused is a ValueError", exifnorm.Refused.__mro__[1] is ValueError)
+    counter.check("NormalTooLong is a ValueError", exifnorm.NormalTooLong.__mro__[1] is ValueError)
+    counter.check("LibraryMissing is an OSError", exifnorm.LibraryMissing.__mro__[1] is OSError)
+    for first, second, due in (
+        (LOOP, ONE, ("Loop", 22, 1, "Loop at 22 in block 1")),
+        (ONE, LOOP, ("Loop", 22, 2, "Loop at 22 in block 2")),
+        (LOOP, CAPTION[:3], ("Loop", 22, 1, "Loop at 22 in block 1")),
+        (CAPTION, CAPTION[:3], ("DataSetCut", 0, 2, "DataSetCut at 0 in block 2")),
+    ):
+        try:
+            came = exifnorm.same(first, second)
+        except exifnorm.Refused as why:
+            came = (why.cause, why.place, why.side, str(why))
+            again = pickle.loads(pickle.dumps(why))
+            counter.check(f"{due[3]}, pickled", (again.cause, again.place, again.side, str(again)) == due)
+        counter.check(due[3], came == due, came)
+    try:
+        exifnorm.kind(b"Exif\0\0" + LOOP)
+    except exifnorm.Refused as why:
+        counter.check("a fault behind six bytes", (why.cause, why.place, why.side, str(why)) == ("Loop", 22, None, "Loop at 22"), why)
+
+
+def objects(counter: Counter) -> None:
+    field = exifnorm.fields(ONE)[0]
+    counter.check("a field's text", repr(field) == "Field(directory='main', tag=274, type='SHORT', values=(6,))", field)
+    counter.check("a field, pickled", pickle.loads(pickle.dumps(field)) == field and hash(field) == hash(exifnorm.fields(ONE)[0]))
+    caption = exifnorm.Caption("title", b"T", None)
+    counter.check("a caption, pickled", pickle.loads(pickle.dumps(caption)) == caption)
+    for it, name in ((field, "tag"), (caption, "label"), (exifnorm.Ratio(1, 2), "numerator")):
+        counter.check(f"{type(it).__name__} can't be changed", outcome(setattr, it, name, 1)[0] in ("AttributeError", "FrozenInstanceError"))
+    counter.check("a ratio", (exifnorm.Ratio(1, 0).numerator, exifnorm.Ratio(1, 0).denominator) == (1, 0))
+
+
+# ---- where the library is looked for
+
+
+def told(code: str, packages: str = PACKAGES, **environment: str) -> str:
+    """What Python prints that runs this code with these variables."""
+    kept = {name: value for name, value in os.environ.items() if name not in ("EXIFNORM_LIBRARY", "LD_LIBRARY_PATH", "PYTHONPATH")}
+    ran = subprocess.run(
+        [sys.executable, "-B", "-c", code],
+        env={**kept, "PYTHONPATH": packages, "RIGHT": REAL, **environment},
+        capture_output=True,
+        text=True,
+        cwd=ROOM,
+        check=False,
+    )
+    return ran.stdout.strip() or ran.stderr.strip()[-300:]
+
+
+SAYS_VERSION = "import exifnorm\ntry: print(exifnorm.version())\nexcept exifnorm.LibraryMissing as why: print('missing:', why)"
+
+
+def copied_packages(name: str, *library: str) -> str:
+    """A copy of the package, perhaps with a library beside it."""
+    folder = os.path.join(ROOM, name)
+    shutil.copytree(os.path.join(PACKAGES, "exifnorm"), os.path.join(folder, "exifnorm"), ignore=shutil.ignore_patterns("*.so*", "__pycache__"))
+    for path in library:
+        shutil.copy(path, os.path.join(folder, "exifnorm", "libexifnorm.so.1"))
+    return folder
+
+
+def places_of_the_library(counter: Counter) -> None:
+    real, own = exifnorm.version(), {"VERSION": "9.9.9"}
+    alone, beside, broken = copied_packages("alone"), copied_packages("beside", WATCHED), copied_packages("broken", __file__)
+    system = {"LD_LIBRARY_PATH": os.path.dirname(REAL)}
+    for name, packages, environment, due in (
+        ("the variable's file", alone, {"EXIFNORM_LIBRARY": WATCHED}, "9.9.9"),
+        ("the variable's file before the one beside", beside, {"EXIFNORM_LIBRARY": REAL}, real),
+        ("the variable's file before the system's", alone, {"EXIFNORM_LIBRARY": WATCHED, **system}, "9.9.9"),
+        ("the file beside the package", beside, {}, "9.9.9"),
+        ("the file beside before the system's", beside, system, "9.9.9"),
+        ("an empty variable", beside, {"EXIFNORM_LIBRARY": ""}, "9.9.9"),
+        ("the system's", alone, system, real),
+        ("the system's where the file beside is none", broken, system, real),
+    ):
+        came = told(SAYS_VERSION, packages, **own, **environment)
+        counter.check(name, came == due, came)
+    wrong = "/no/such/libexifnorm.so.1"
+    for packages in (alone, beside):
+        came = told(SAYS_VERSION, packages, EXIFNORM_LIBRARY=wrong, **system)
+        is_told = came.startswith("missing:") and f"tried: {wrong} (there is no such file). " in came
+        counter.check("a variable that names no file", is_told, came)
+    came = told(SAYS_VERSION, broken, EXIFNORM_LIBRARY="")
+    counter.check("no place serves", came.startswith("missing:") and os.path.join(broken, "exifnorm", "libexifnorm.so.1") in came, came)
+    counter.check("no place serves: what to do", "; libexifnorm.so.1 (" in came and "EXIFNORM_LIBRARY" in came and "make install" in came, came)
+    came = told(SAYS_VERSION, alone, EXIFNORM_LIBRARY="libc.so.6")
+    counter.check("a library without the calls", "libc.so.6 (it has no exifnorm_check)" in came, came)
+    code = "import exifnorm, os\ntry: exifnorm.version()\nexcept exifnorm.LibraryMissing: os.environ.pop('EXIFNORM_LIBRARY')\nprint(exifnorm.version())"
+    came = told(code, beside, EXIFNORM_LIBRARY=wrong, **own)
+    counter.check("the variable is mended", came == "9.9.9", came)
+    counter.check("importing needs no library", told("import exifnorm; print('well')", alone, EXIFNORM_LIBRARY=wrong) == "well")
+
+
+def statuses(counter: Counter) -> None:
+    """The exception for each status, from a library that always returns it."""
+    code = """
+import exifnorm, json
+def outcome(call, *blocks):
+    try: call(*blocks)
+    except Exception as why: return type(why).__name__
+calls = exifnorm.kind, exifnorm.normal, exifnorm.digest, exifnorm.show, exifnorm.fields, exifnorm.captions
+print(json.dumps([*(outcome(it, b"ab") for it in calls), outcome(exifnorm.same, b"a", b"b")]))
+"""
+    for status, due in ((1, "AssertionError"), (2, "Refused"), (3, "NormalTooLong"), (4, "MemoryError"), (6, "Refused"), (7, "AssertionError")):
+        came = told(code, EXIFNORM_LIBRARY=WATCHED, STATUS=str(status))
+        counter.check(f"status {status}", came == json.dumps([due] * 7), came)
+
+
+# ---- costs
+
+
+class Watch:
+    """What the library in front of the built one counts."""
+
+    def __init__(self) -> None:
+        self.library = ctypes.CDLL(WATCHED)
+        self.calls = (ctypes.c_ulong * len(CALLS)).in_dll(self.library, "watched_calls")
+
+    def number(self, name: str) -> int:
+        return ctypes.c_ulong.in_dll(self.library, f"watched_{name}").value
+
+    def of(self, call: Callable, *arguments: Any) -> Dict[str, int]:
+        """How often each call of the library is made by one of the package."""
+        before = list(self.calls)
+        outcome(call, *arguments)
+        return {name: now - was for name, now, was in zip(CALLS, self.calls, before) if now != was}
+
+
+@contextlib.contextmanager
+def watched(**environment: str) -> Iterator[Watch]:
+    """Lets the package call the library that counts."""
+    kept = {name: os.environ.get(name) for name in ("EXIFNORM_LIBRARY", *environment)}
+    os.environ.update(EXIFNORM_LIBRARY=WATCHED, **environment)
+    _library.library.cache_clear()
+    try:
+        yield Watch()
+    finally:
+        os.environ.update({name: value for name, value in kept.items() if value is not None})
+        for name in environment:
+            os.environ.pop(name, None)
+        _library.library.cache_clear()
+
+
+def calls_of_the_library(counter: Counter) -> None:
+    """How often the library is called, and with buffers of which size."""
+    escaped = Record([(2, 120, bytes(60_000))]).spelled()
+    record = laid(Exif({0x0112: Value(SHORT, [1])}, record=Record([(2, 5, b"T")])), Layout(">"))
+    large = laid(Exif({0x9999: Value(7, bytes(100_000))}), Layout("<"))
+    doubled = laid(Exif({0x0116: Value(SHORT, [1] * 40_000)}), Layout("<"))
+    with watched() as watch:
+        blocks_of_no_bytes(counter)
+        for name, due, call, *arguments in (
+            ("kind", {"check": 1}, exifnorm.kind, ONE),
+            ("kind of a refused block", {"check": 1, "cause_name": 1}, exifnorm.kind, LOOP),
+            ("normal", {"normalise": 1}, exifnorm.normal, ONE),
+            ("normal of a large block", {"normalise": 1}, exifnorm.normal, large),
+            ("normal of a form that is longer than its block", {"normalise": 1}, exifnorm.normal, doubled),
+            ("normal of a refused block", {"normalise": 1, "cause_name": 1}, exifnorm.normal, LOOP),
+            ("digest", {"normalise": 1}, exifnorm.digest, ONE),
+            ("same", {"compare": 1}, exifnorm.same, ONE, CAPTION),
+            ("show", {"show": 1}, exifnorm.show, ONE),
+            ("show of a large block", {"show": 1}, exifnorm.show, large),
+            ("captions", {"captions": 1}, exifnorm.captions, CAPTION),
+            ("captions that are longer than expected", {"captions": 2}, exifnorm.captions, escaped),
+            ("fields", {"normalise": 1}, exifnorm.fields, ONE),
+            ("fields with a record", {"normalise": 1, "check": 1}, exifnorm.fields, record),
+            ("fields of a form that is too long", {"normalise": 1, "show": 1}, exifnorm.fields, LONG_FORM),
+            ("version", {"version": 1}, exifnorm.version),
+        ):
+            came = watch.of(call, *arguments)
+            counter.check(f"calls of {name}", came == due, came)
+        exifnorm.normal(large)
+        counter.check("the room of a form", watch.number("room") <= 2 * len(large) + 1, watch.number("room"))
+        outcome(exifnorm.normal, LONG_FORM)
+        counter.check("the most room of a form", watch.number("room") <= 2**24 + 1, watch.number("room"))
+        exifnorm.captions(escaped)
+        counter.check("the room of captions, the second time", watch.number("room") == len(said(escaped).captions()), watch.number("room"))
+
+
+def loads(counter: Counter) -> None:
+    """The library is loaded once."""
+    opened, plain = [], ctypes.CDLL
+    _library.library.cache_clear()
+    _library.ctypes.CDLL = lambda place: opened.append(place) or plain(place)
+    try:
+        for _ in range(100):
+            exifnorm.kind(ONE), exifnorm.normal(ONE), exifnorm.fields(ONE), exifnorm.version()
+    finally:
+        _library.ctypes.CDLL = plain
+    counter.check("loads", opened == [REAL], opened)
+
+
+def bytes_that_are_taken(call: Callable, *arguments: Any) -> int:
+    """The most bytes that Python has allocated during a call, over those before it."""
+    call(*arguments)
+    gc.collect()
+    tracemalloc.start()
+    before = tracemalloc.get_traced_memory()[0]
+    call(*arguments)
+    peak = tracemalloc.get_traced_memory()[1]
+    tracemalloc.stop()
+    return peak - before
+
+
+def bytes_of_the_calls(counter: Counter) -> None:
+    """No block is copied, and no form beside the one that is returned."""
+    large = laid(Exif({0x9999: Value(7, bytes(4_000_000))}), Layout("<"))
+    for block in (large, bytearray(large), memoryview(large)):
+        kind = type(block).__name__
+        counter.check(f"kind of 4 MB as {kind}", bytes_that_are_taken(exifnorm.kind, block) < 10_000, bytes_that_are_taken(exifnorm.kind, block))
+        counter.check(f"same of 4 MB as {kind}", bytes_that_are_taken(exifnorm.same, block, block) < 10_000)
+        taken = bytes_that_are_taken(exifnorm.normal, block)
+        counter.check(f"normal of 4 MB as {kind}", taken < 2 * len(large) + 10_000, taken)
+    taken = bytes_that_are_taken(exifnorm.normal, ONE)
+    counter.check("normal of a small block", taken < 1000, taken)
+    held = [exifnorm.normal(large) for _ in range(3)]
+    tracemalloc.start()
+    held.append(exifnorm.normal(large))
+    left = tracemalloc.get_traced_memory()[0]
+    tracemalloc.stop()
+    counter.check("a form holds its own bytes alone", left < len(held[0]) + 10_000, left)
+
+
+def what_is_given_back(counter: Counter) -> None:
+    """A block can be changed and freed after a call, also after one that fails, and nothing is left."""
+    calls = [(call, block) for block in (bytearray(ONE), bytearray(LOOP)) for call in OF_BLOCK]
+    for call, block in [*calls, (exifnorm.normal, bytearray(LONG_FORM))]:
+        outcome(call, block)
+        outcome(exifnorm.same, block, block)
+        came = outcome(lambda block=block: block.append(0) or block.pop())
+        counter.check(f"{call.__name__} of {len(block)} bytes lets go", came == 0, came)
+    for name, call in (("normal", lambda: exifnorm.normal(ONE)), ("a large form", lambda: exifnorm.normal(bytes(ONE) + bytes(70_000)))):
+        result = call()
+        counter.check(f"{name}: one reference", sys.getrefcount(result) == 2, sys.getrefcount(result))
+    large = ONE + bytes(50_000)
+    before = sys.getrefcount(ONE), sys.getrefcount(large)
+    tracemalloc.start()
+    first = tracemalloc.get_traced_memory()[0]
+    for _ in range(300):
+        for block in (ONE, LOOP, large, bytearray(ONE)):
+            for call in OF_BLOCK:
+                outcome(call, block)
+    gc.collect()
+    grown = tracemalloc.get_traced_memory()[0] - first
+    tracemalloc.stop()
+    counter.check("memory after 7,200 calls", grown < 200_000, grown)
+    counter.check("references after them", (sys.getrefcount(ONE), sys.getrefcount(large)) == before)
+
+
+# ---- threads
+
+
+def sixteen_threads(counter: Counter) -> None:
+    """Each call by sixteen threads at once returns the same as by one, for blocks whose forms differ in each byte."""
+    blocks = [Record([(2, 120, bytes([it]) * (it % 7 + 1) * 900)]).spelled(extended=4) for it in range(16)]
+    blocks += [it.block for it in made_by_tools.ALL] + [made_by_tools.PIEXIF_REFUSED, LOOP, b""]
+    jobs = [(call, block) for block in blocks for call in OF_BLOCK]
+    due = [outcome(*it) for it in jobs]
+    kept = sys.getswitchinterval()
+    sys.setswitchinterval(1e-6)
+    try:
+        with ThreadPoolExecutor(16) as pool:
+            rounds: List[list] = list(pool.map(lambda _: [outcome(*it) for it in jobs], range(16)))
+    finally:
+        sys.setswitchinterval(kept)
+    for at, came in enumerate(rounds):
+        counter.check(f"thread {at}", came == due, [it for it, one, two in zip(jobs, came, due) if one != two][:2])
+
+
+def calls_at_once(counter: Counter) -> None:
+    """A call doesn't block other threads: sixteen of them are inside the library at the same time."""
+    with watched(MEET="16") as watch, ThreadPoolExecutor(16) as pool:
+        came = list(pool.map(lambda _: exifnorm.kind(ONE), range(16)))
+        counter.check("their answers", came == ["exif"] * 16)
+        counter.check("threads inside", watch.number("inside") == 16, watch.number("inside"))
+
+
+TESTS = (
+    blocks_of_tools,
+    refusals_of_tools,
+    fields_of_each_kind,
+    fields_that_are_nearly_others,
+    forms_that_are_too_long,
+    captions_once,
+    digests,
+    ways_to_give_a_block,
+    what_is_no_block,
+    blocks_of_no_bytes,
+    names_and_arguments,
+    exceptions,
+    objects,
+    places_of_the_library,
+    statuses,
+    calls_of_the_library,
+    loads,
+    bytes_of_the_calls,
+    what_is_given_back,
+    sixteen_threads,
+    calls_at_once,
+)
+
+
+def make_watched(folder: str) -> str:
+    path = os.path.join(folder, "watched.so")
+    header = os.path.join(TOP, "crates", "px_c", "include")
+    words = ["cc", "-std=c99", "-Wall", "-Wextra", "-Werror", "-O1", "-shared", "-fPIC", "-I", header, "-o", path]
+    subprocess.run([*words, str(paths.TESTS / "library" / "watched.c"), "-ldl", "-lpthread"], check=True)
+    return path
+
+
+def main(words: List[str]) -> int:
+    global ROOM, REAL, WATCHED
+    if len(words) != 1:
+        sys.exit(__doc__)
+    counter, REAL = Counter(), os.path.join(os.path.abspath(words[0]), "libexifnorm.so.1")
+    os.environ.update(EXIFNORM_LIBRARY=REAL, RIGHT=REAL)
+    with tempfile.TemporaryDirectory() as ROOM:
+        WATCHED = make_watched(ROOM)
+        for test in TESTS:
+            counter.collect(test.__name__, test)
+    return counter.finish()
+
+
+if __name__ == "__main__":
+    sys.exit(main(sys.argv[1:]))

@@ -1,0 +1,334 @@
+#!/usr/bin/env python3
+"""Runs the built program while the system fails: each system call in turn returns an error, a signal ends the program at each call,
+a write stops after each byte, and memory is limited.
+
+  tests/program/faults.py PROGRAM
+
+strace makes the faults, prlimit's limits the others. The calls by which the loader starts a program are left alone: their failures
+end any program. A run must end as it does without a fault, or with status 4 and the line that fits what failed; a file or a stream
+that is written has a prefix of the expected bytes, or its old content.
+
+Left out are `openat` and `ftruncate` that return EINTR each time: Rust's standard library tries these two again until they return
+something else, so such a run has no end, and no file system does so. Each of them returns EINTR once here.
+"""
+
+import os
+import re
+import resource
+import shutil
+import signal
+import subprocess
+import sys
+import tempfile
+from concurrent.futures import ThreadPoolExecutor
+from dataclasses import dataclass, field
+from pathlib import Path
+from typing import Dict, Iterator, List, Optional, Tuple
+
+sys.dont_write_bytecode = True
+sys.path.insert(0, str(Path(__file__).resolve().parent.parent))
+
+import paths
+from counting import Counter
+from meanings import Record
+from reading import Fault, said
+
+ONE = bytes.fromhex("4D4D002A00000008 0001 0112000300000001 00010000 00000000")
+TURNED = bytes.fromhex("49492A0008000000 0100 1201030001000000 01000000 00000000")
+LOOP = ONE[:-4] + bytes.fromhex("00000008")
+OLD = b"what OUT held before"
+SECONDS = 60
+ERRORS = ("EIO", "EINTR", "ENOMEM")
+READ, WRITE, MEMORY = b"failed: ReadFailed", b"failed: WriteFailed", b"failed: OutOfMemory"
+SIDES = (b"", b" in file 1", b" in file 2")
+# calls that take or give back memory; what fails there is memory, or the program does without
+OF_MEMORY = {"brk", "mmap", "mremap", "munmap", "mprotect", "madvise"}
+
+
+def record(datasets: int) -> bytes:
+    """A caption record of so many keywords, whose lengths are encoded in four bytes.
+
+    >>> record(1)
+    b'\\x1c\\x02\\x19\\x80\\x04\\x00\\x00\\x00\\nkeyword  0'
+    """
+    return Record([(2, 25, b"keyword %2d" % i) for i in range(datasets)]).spelled(extended=4)
+
+
+FILES = {"one": ONE, "turned": TURNED, "loop": LOOP, "record": record(4000), "OUT": OLD}
+
+
+@dataclass
+class Run:
+    """One run of the program, and what is expected of it if nothing fails."""
+
+    words: List[str]
+    status: int = 0
+    output: bytes = b""
+    stdin: str = ""
+    out: Optional[bytes] = None  # the expected content of OUT
+
+    @property
+    def name(self) -> str:
+        return " ".join(self.words) or f"the filter < {self.stdin}"
+
+    @property
+    def out_due(self) -> bytes:
+        return OLD if self.out is None else self.out
+
+
+@dataclass
+class Outcome:
+    status: int
+    output: bytes
+    complaints: bytes
+    files: Dict[str, bytes] = field(default_factory=dict)
+    trace: str = ""
+
+    @property
+    def injected(self) -> List[str]:
+        return [it for it in self.trace.splitlines() if "(INJECTED)" in it]
+
+
+def form_of(block: bytes) -> bytes:
+    return said(block).normal()
+
+
+def runs() -> Iterator[Run]:
+    """Each command with a block that is accepted and one that is refused, and words that ask for texts."""
+    yield Run(["check", "one"], output=b"ok exif\n")
+    yield Run(["check", "loop"], 2, b"refused: Loop at 22\n")
+    yield Run(["show", "record"], output=said(FILES["record"]).listing().encode())
+    yield Run(["captions", "record"], output=said(FILES["record"]).captions().encode())
+    yield Run(["compare", "one", "turned"], output=b"same\n")
+    yield Run(["compare", "record", "loop"], 2, b"refused: Loop at 22 in file 2\n")
+    yield Run(["normalise", "turned", "OUT"], out=form_of(TURNED))
+    yield Run(["normalise", "record", "OUT"], out=form_of(FILES["record"]))
+    yield Run(["normalise", "loop", "OUT"], 2, b"refused: Loop at 22\n", out=b"")
+    yield Run(["normalise", "record", "NEW"])
+    yield Run(["check", "absent"], 4, READ + b"\n")
+    yield Run([], output=form_of(FILES["record"]), stdin="record")
+    yield Run([], 2, b"refused: Loop at 22\n", stdin="loop")
+    yield Run(["--version"], output=b"exifnorm 1.0.0\n")
+
+
+class Bench:
+    """The program, and a folder in which each run has one of its own."""
+
+    def __init__(self, program: str, room: str) -> None:
+        self.program, self.room = os.path.abspath(program), room
+
+    def run(self, run: Run, before: Tuple[str, ...] = (), trace: bool = True, limits: Tuple[Tuple[int, int], ...] = ()) -> Outcome:
+        """Runs the program after these words, under strace or with limits."""
+        with tempfile.TemporaryDirectory(dir=self.room) as folder:
+            for name, octets in FILES.items():
+                Path(folder, name).write_bytes(octets)
+            words = ["strace", "-y", "-o", f"{folder}/trace", *before] if trace else [*before]
+            with open(f"{folder}/{run.stdin}" if run.stdin else os.devnull, "rb") as given:
+                ran = subprocess.run(
+                    [*words, self.program, *run.words],
+                    cwd=folder,
+                    stdin=given,
+                    capture_output=True,
+                    timeout=SECONDS,
+                    env={"PATH": os.environ.get("PATH", ""), "LANG": "C"},
+                    restore_signals=False,  # a write beyond a limit fails, and ends no process
+                    preexec_fn=lambda: [resource.setrlimit(which, (most, most)) for which, most in limits] if limits else None,
+                )
+            text = Path(folder, "trace").read_text("utf-8", "replace") if trace else ""
+            files = {it.name: it.read_bytes() for it in Path(folder).iterdir() if it.name != "trace"}
+            return Outcome(ran.returncode, ran.stdout, ran.stderr, files, text)
+
+
+def files_due(run: Run) -> Dict[str, bytes]:
+    files = {**FILES, "OUT": run.out_due}
+    if "NEW" in run.words:
+        files["NEW"] = form_of(FILES["record"])
+    return files
+
+
+def is_right(run: Run, outcome: Outcome) -> bool:
+    """Whether a run ended as one without a fault does."""
+    return (outcome.status, outcome.output, outcome.files) == (run.status, run.output, files_due(run))
+
+
+def keeps_files(run: Run, files: Dict[str, bytes]) -> bool:
+    """Whether the files are unchanged, and OUT has its old content or a prefix of the expected bytes."""
+    due, written = files_due(run), [it for it in ("OUT", "NEW") if it in run.words]
+    others = {name: octets for name, octets in files.items() if name not in written}
+    return others == {name: octets for name, octets in FILES.items() if name not in written} and all(
+        files.get(name, b"") == FILES.get(name, b"") or due[name].startswith(files[name]) for name in written
+    )
+
+
+def says(run: Run, outcome: Outcome, lines: List[bytes]) -> bool:
+    """Whether a run ended with status 4 and one of these lines, behind a prefix of its output. Where nothing takes the line, it
+    is missing."""
+    ends = [b"", *(line + b"\n" for line in lines)]
+    starts = [outcome.output[: len(outcome.output) - len(end)] for end in ends if outcome.output.endswith(end)]
+    return outcome.status == 4 and keeps_files(run, outcome.files) and any(run.output.startswith(it) for it in starts)
+
+
+# ---- each system call
+
+
+@dataclass(frozen=True)
+class Call:
+    """A system call of a run: its name, which of those of that name it is, and its line in the trace."""
+
+    name: str
+    number: int
+    line: str
+
+
+def calls_of(trace: str) -> List[Call]:
+    """The calls of a trace after those of the loader, which ends by unmapping the list of its libraries.
+
+    >>> [it.name for it in calls_of('openat(AT_FDCWD, "/etc/ld.so.cache") = 3\\nmunmap(0x1, 2) = 0\\nbrk(NULL) = 0x1\\n')]
+    ['brk']
+    """
+    found, counts, begins = [], {}, 0
+    for line in trace.splitlines():
+        name = re.match(r"\w+(?=\()", line)
+        if name:
+            counts[name[0]] = counts.get(name[0], 0) + 1
+            found.append(Call(name[0], counts[name[0]], line))
+            begins = len(found) if name[0] == "munmap" and not begins else begins
+    return [it for it in found[begins:] if it.name != "exit_group"]
+
+
+def side_of(run: Run, line: str) -> bytes:
+    """Where a comparison is asked for, the file that a line of a trace names."""
+    if run.words[:1] != ["compare"]:
+        return b""
+    return SIDES[next((at for at in (1, 2) if re.search(rf'[/"<]{run.words[at]}[">]', line)), 0)]
+
+
+def lines_due(run: Run, call: Call, line: str, error: str) -> List[bytes]:
+    """The lines that fit where this call fails; none where the program does without the call."""
+    if call.name in OF_MEMORY:
+        return [MEMORY + it for it in SIDES]
+    names_out = re.search(r'[/"<](OUT|NEW)[">]', line)
+    if call.name == "write" or names_out:
+        lines = [WRITE]
+    elif call.name == "read" or re.search(r'[/"<](one|turned|loop|record|absent)[">]', line):
+        lines = [READ + side_of(run, line)]
+    else:
+        return []
+    if call.name == "fstat" or call.name == "statx":
+        lines.append(WRITE)  # whether FILE is OUT is asked of both
+    if error == "error=ENOMEM" and call.name != "read":
+        lines.append(MEMORY + side_of(run, line))
+    return lines
+
+
+def failing_calls(bench: Bench, counter: Counter) -> None:
+    """Each call of each run returns an error once, and each error from one call on."""
+    with ThreadPoolExecutor(os.cpu_count()) as pool:
+        for run in runs():
+            plain = bench.run(run)
+            counter.check(f"{run.name}: no fault", is_right(run, plain), plain)
+            calls = calls_of(plain.trace)
+            counter.check(f"{run.name}: its calls", len(calls) > 3, plain.trace)
+            asked = [(it, error, when) for it in calls for error, when in ways(it)]
+            for (call, error, when), outcome in zip(asked, pool.map(lambda it: fail(bench, run, *it), asked)):
+                name = f"{run.name}: {call.name} {call.number}{when} with {error}"
+                judge_failure(counter, name, run, call, error, outcome)
+
+
+def ways(call: Call) -> Iterator[Tuple[str, str]]:
+    """How a call fails: by which error, once or from this call on."""
+    if call.name == "brk":
+        yield from (("retval=0", ""), ("retval=0", "+"))  # it returns no error, except out of memory
+        return
+    for error in (*ERRORS, "ENOSPC") if call.name in ("openat", "write", "ftruncate") else ERRORS:
+        yield f"error={error}", ""
+    yield "error=EIO", "+"
+    if call.name not in ("openat", "ftruncate"):
+        yield "error=EINTR", "+"
+
+
+def fail(bench: Bench, run: Run, call: Call, error: str, when: str) -> Outcome:
+    return bench.run(run, (f"--inject={call.name}:{error}:when={call.number}{when}",))
+
+
+def judge_failure(counter: Counter, name: str, run: Run, call: Call, error: str, outcome: Outcome) -> None:
+    if not outcome.injected:
+        counter.check(name, False, f"the call was not reached: {outcome.trace[-300:]}")
+        return
+    lines = lines_due(run, call, outcome.injected[0], error)
+    well = outcome.complaints == b"" and (is_right(run, outcome) or says(run, outcome, lines))
+    counter.check(name, well, f"status {outcome.status}, {outcome.output[-80:]!r} {outcome.complaints[-80:]!r}, {outcome.injected[0]}")
+
+
+# ---- a kill at each system call
+
+
+def kills(bench: Bench, counter: Counter) -> None:
+    """SIGKILL at each call of a run leaves OUT old, empty, a prefix or complete, and every other file as it was."""
+    with ThreadPoolExecutor(os.cpu_count()) as pool:
+        for run in (it for it in runs() if it.words[:1] == ["normalise"]):
+            calls = calls_of(bench.run(run).trace)
+            asked = [f"--inject={it.name}:signal=SIGKILL:when={it.number}" for it in calls]
+            left = set()
+            for it, outcome in zip(asked, pool.map(lambda it: bench.run(run, (it,)), asked)):
+                counter.check(f"{run.name} {it}", outcome.status == -signal.SIGKILL and keeps_files(run, outcome.files), outcome)
+                left.add(outcome.files.get(run.words[2]))
+            counter.check(f"{run.name}: before and behind the writes", len(left) > 1 or run.status == 2, left)
+
+
+# ---- writes that stop
+
+
+def cut_writes(bench: Bench, counter: Counter) -> None:
+    """A file that takes only so many bytes has exactly these, and the status is 4."""
+    for name, most in (("turned", range(len(ONE))), ("record", range(0, len(form_of(FILES["record"])), 997))):
+        form = form_of(FILES[name])
+        for length in most:
+            outcome = bench.run(Run(["normalise", name, "OUT"]), trace=False, limits=((resource.RLIMIT_FSIZE, max(length, 1)),))
+            came = (outcome.status, outcome.output, outcome.files["OUT"])
+            counter.check(f"{name}: a write of {max(length, 1)} bytes", came == (4, WRITE + b"\n", form[: max(length, 1)]), came)
+
+
+# ---- little memory
+
+
+def little_memory(bench: Bench, counter: Counter) -> None:
+    """With ever more memory a run ends with its line, until it ends well; never in another way."""
+    block = record(200_000)
+    FILES["large"] = block
+    for run in (
+        Run(["check", "large"], output=b"ok iim\n"),
+        Run(["show", "large"], output=said(block).listing().encode()),
+        Run(["captions", "large"], output=said(block).captions().encode()),
+        Run(["compare", "large", "large"], output=b"same\n"),
+        Run(["normalise", "large", "OUT"], out=form_of(block)),
+        Run([], output=form_of(block), stdin="large"),
+    ):
+        ends = set()
+        for most in (it * 2**20 for it in (0.25, 0.5, 1, 2, 3, 4, 5, 6, 8, 10, 12, 16, 24, 64)):
+            outcome = bench.run(run, trace=False, limits=((resource.RLIMIT_DATA, int(most)),))
+            told = says(run, outcome, [MEMORY + it for it in SIDES]) and outcome.output.startswith(MEMORY)
+            counter.check(f"{run.name} with {most} bytes", told or is_right(run, outcome), (outcome.status, outcome.output[-80:], outcome.complaints))
+            ends.add(outcome.status)
+        counter.check(f"{run.name}: memory is short, and is enough", ends == {0, 4}, ends)
+    del FILES["large"]
+
+
+def main(words: List[str]) -> int:
+    if len(words) != 1:
+        sys.exit(__doc__)
+    counter = Counter()
+    with tempfile.TemporaryDirectory() as room:
+        bench = Bench(words[0], room)
+        for test in (failing_calls, kills):
+            if shutil.which("strace"):
+                counter.collect(test.__name__, lambda counter, test=test: test(bench, counter))
+            else:
+                counter.skip(test.__name__, "strace is not installed")
+        for test in (cut_writes, little_memory):
+            counter.collect(test.__name__, lambda counter, test=test: test(bench, counter))
+    return counter.finish()
+
+
+if __name__ == "__main__":
+    sys.exit(main(sys.argv[1:]))

@@ -1,0 +1,347 @@
+#!/usr/bin/env python3
+"""Tests the built program where the files of cases can't: standard streams that are closed or stay open, links, devices, pipes, and
+files that may not be read.
+
+  tests/program/streams.py PROGRAM
+
+The tests run as root too, so no device is named as an output but by a link in a folder of the test's own, or as another user: a
+program that replaces what it writes could otherwise replace the device.
+"""
+
+import itertools
+import os
+import stat
+import subprocess
+import sys
+import tempfile
+import threading
+from pathlib import Path
+from typing import Dict, Iterator, Tuple
+
+sys.dont_write_bytecode = True
+sys.path.insert(0, str(Path(__file__).resolve().parent.parent))
+
+import paths
+from counting import Counter
+from meanings import Record
+
+# one SHORT, and the same with a next offset that leads to the directory itself
+ONE = bytes.fromhex("4D4D002A00000008 0001 0112000300000001 00010000 00000000")
+LOOP = ONE[:-4] + bytes.fromhex("00000008")
+REFUSED = b"refused: Loop at 22\n"
+LARGE = Record([(2, 25, b"keyword %6d" % i) for i in range(60_000)])
+COMMANDS = [["check", "loop"], ["show", "loop"], ["captions", "loop"], ["normalise", "loop", "OUT"], ["compare", "loop", "loop"]]
+NOBODY = 65534
+
+
+def run(program: str, folder: Path, words: list, closed: tuple = (), **how) -> tuple:
+    """The status and the output of a run in the folder, with these of the standard streams closed.
+
+    >>> run("/bin/echo", Path("/"), ["a"])
+    (0, b'a\\n')
+    """
+    shut = " ".join(f"{it}{'<' if it == 0 else '>'}&-" for it in closed)
+    it = subprocess.run(
+        ["/bin/sh", "-c", f'exec "$@" {shut}', "sh", program, *words],
+        cwd=folder,
+        stdout=subprocess.PIPE,
+        timeout=60,
+        **{"stdin": subprocess.DEVNULL, **how},
+    )
+    return it.returncode, it.stdout
+
+
+def fill(folder: Path) -> None:
+    for name, octets in {"one": ONE, "loop": LOOP, "OUT": b"old"}.items():
+        (folder / name).write_bytes(octets)
+
+
+def closed_streams(program: str, folder: Path):
+    """No line goes into a file, whichever streams are closed."""
+    for count in (1, 2, 3):
+        for closed in itertools.combinations(range(3), count):
+            for words in COMMANDS:
+                fill(folder)
+                came = run(program, folder, words, closed)
+                line = REFUSED[:-1] + b" in file 1\n" if words[0] == "compare" else REFUSED
+                due = (4, b"") if 1 in closed else (2, line)
+                out = b"" if words[0] == "normalise" else b"old"
+                left = [(folder / name).read_bytes() for name in ("one", "loop", "OUT")]
+                yield f"{words[0]} with {closed} closed", (came, left) == (due, [ONE, LOOP, out]), (came, left)
+    fill(folder)
+    came = run(program, folder, ["normalise", "one", "OUT"], (0, 1, 2))
+    yield "normalise with no stream", (came, (folder / "OUT").read_bytes()) == ((0, b""), ONE), came
+    came = run(program, folder, [], (0,))
+    yield "the filter without standard input", came == (4, b"failed: ReadFailed\n"), came
+    came = run(program, folder, [], (1,), input=ONE, stdin=None)
+    yield "the filter without standard output", came == (4, b""), came
+
+
+def links(program: str, folder: Path):
+    """OUT is FILE by another name: it is refused, and stays as it was."""
+    os.link(folder / "one", folder / "hard")
+    os.symlink("one", folder / "symbolic")
+    (folder / "d").mkdir()
+    for name in ("./one", "d/../one", str(folder / "one"), "hard", "symbolic"):
+        came = run(program, folder, ["normalise", "one", name])
+        left = (folder / "one").read_bytes()
+        yield f"one and {name}", (came, left) == ((3, b"refused words: OUT is FILE\n"), ONE), (came, left)
+    with open(folder / "one", "rb") as given:
+        came = run(program, folder, ["normalise", "/dev/stdin", "one"], stdin=given)
+    left = (folder / "one").read_bytes()
+    yield "standard input's own file", (came, left) == ((3, b"refused words: OUT is FILE\n"), ONE), (came, left)
+
+
+def an_input_that_stays_open(program: str, folder: Path):
+    """Standard input is read by the filter alone: every other run ends while nothing comes there and nobody closes it."""
+    reads, writes = os.pipe()
+    for words, status in (
+        (["check", "one"], 0),
+        (["show", "one"], 0),
+        (["captions", "one"], 0),
+        (["normalise", "one", "OUT"], 0),
+        (["compare", "one", "one"], 0),
+        (["check", "loop"], 2),
+        (["compare", "loop", "one"], 2),
+        (["check", "absent"], 4),
+        (["normalise", "absent", "OUT"], 4),
+        (["normalise", "one", "one"], 3),
+        (["check"], 3),
+        (["chek"], 3),
+        (["-"], 3),
+        (["--help"], 0),
+        (["--version"], 0),
+    ):
+        try:
+            came = run(program, folder, words, stdin=reads)[0]
+        except subprocess.TimeoutExpired:
+            came = "no end"
+        yield f"{words} while standard input stays open", came == status, came
+    os.close(reads)
+    os.close(writes)
+
+
+def a_file_that_may_not_be_read(program: str, folder: Path):
+    """It is a failed read, and one that may not be written a failed write."""
+    for name in ("secret", "fixed"):
+        (folder / name).write_bytes(ONE)
+        (folder / name).chmod(0o000 if name == "secret" else 0o444)
+    (folder / "closed").mkdir()
+    (folder / "closed" / "one").write_bytes(ONE)
+    (folder / "closed").chmod(0o000)
+    folder.chmod(0o755)
+    how = {"user": NOBODY, "group": NOBODY} if os.getuid() == 0 else {}
+    for words, line in (
+        (["check", "secret"], b"failed: ReadFailed\n"),
+        (["show", "secret"], b"failed: ReadFailed\n"),
+        (["captions", "secret"], b"failed: ReadFailed\n"),
+        (["normalise", "secret", "OUT"], b"failed: ReadFailed\n"),
+        (["compare", "one", "secret"], b"failed: ReadFailed in file 2\n"),
+        (["compare", "secret", "one"], b"failed: ReadFailed in file 1\n"),
+        (["check", "closed/one"], b"failed: ReadFailed\n"),
+        (["normalise", "one", "closed/OUT"], b"failed: WriteFailed\n"),
+        (["normalise", "one", "fixed"], b"failed: WriteFailed\n"),
+    ):
+        came = run(program, folder, words, **how)
+        left = [(folder / name).read_bytes() for name in ("one", "OUT", "fixed")]
+        yield f"{words} as nobody", (came, left) == ((4, line), [ONE, b"old", ONE]), (came, left)
+    (folder / "closed").chmod(0o755)
+
+
+def links_that_lead_nowhere(program: str, folder: Path):
+    """A link without an end is a failed read or write; one to a file that isn't there makes that file."""
+    os.symlink("round", folder / "round")
+    os.symlink("made", folder / "ahead")
+    for words, line in (
+        (["check", "round"], b"failed: ReadFailed\n"),
+        (["check", "ahead"], b"failed: ReadFailed\n"),
+        (["normalise", "one", "round"], b"failed: WriteFailed\n"),
+    ):
+        came = run(program, folder, words)
+        yield f"{words} through a link", came == (4, line), came
+    came = run(program, folder, ["normalise", "one", "ahead"])
+    left = (folder / "made").read_bytes()
+    yield "an output through a link", (came, left) == ((0, b""), ONE), (came, left)
+
+
+def ways_to_leave_an_output(program: str, folder: Path) -> Iterator[Tuple[str, bool, object]]:
+    """OUT is written in place: nothing of what it held is left behind the form, and it stays the file that it was."""
+    for length in (0, 1, len(ONE) - 1, len(ONE), len(ONE) + 1, len(ONE) + 2_000_000):
+        for name, octets in (("one", ONE), ("loop", b"")):
+            fill(folder)
+            (folder / "OUT").write_bytes(b"x" * length)
+            run(program, folder, ["normalise", name, "OUT"])
+            left = (folder / "OUT").read_bytes()
+            yield f"normalise {name} over {length} bytes", left == octets, left[:100]
+    out = folder / "OUT"
+    out.chmod(0o640)
+    os.link(out, folder / "again")
+    was = out.stat()
+    run(program, folder, ["normalise", "one", "OUT"])
+    now = out.stat()
+    yield "OUT is the same file", (was.st_ino, was.st_mode, was.st_nlink) == (now.st_ino, now.st_mode, now.st_nlink), now
+    yield "OUT by its other name", (folder / "again").read_bytes() == ONE, (folder / "again").read_bytes()
+    yield "nothing is left beside OUT", sorted(it.name for it in folder.iterdir()) == ["OUT", "again", "loop", "one"], list(folder.iterdir())
+    old = os.umask(0o027)
+    run(program, folder, ["normalise", "one", "new"])
+    os.umask(old)
+    yield "a new OUT", (folder / "new").stat().st_mode & 0o777 == 0o640, oct((folder / "new").stat().st_mode)
+    (folder / "d").mkdir()
+    for name in ("d", "absent/OUT", "one/OUT", ""):
+        came = run(program, folder, ["normalise", "one", name])
+        yield f"OUT is {name or 'no name'}", came == (4, b"failed: WriteFailed\n"), came
+
+
+def devices() -> Dict[str, Tuple[int, int]]:
+    """What /dev/null and /dev/full are."""
+    found = {it: os.stat(it) for it in ("/dev/null", "/dev/full")}
+    return {it: (stat.S_IFMT(found[it].st_mode), found[it].st_rdev) for it in found}
+
+
+def outputs_that_are_no_files(program: str, folder: Path) -> Iterator[Tuple[str, bool, object]]:
+    """A device takes the form, or fails; it stays the device that it was."""
+    were = devices()
+    folder.chmod(0o755)
+    how = {"user": NOBODY, "group": NOBODY} if os.getuid() == 0 else {}
+    for name in ("null", "full", "stdout"):
+        os.symlink(f"/dev/{name}", folder / name)
+    for name, due in (("null", (0, b"")), ("full", (4, b"failed: WriteFailed\n"))):
+        came = run(program, folder, ["normalise", "one", name])
+        yield f"OUT is a link to /dev/{name}", came == due, came
+        came = run(program, folder, ["normalise", "one", f"/dev/{name}"], **how)
+        yield f"OUT is /dev/{name}", came == due, came
+    came = run(program, folder, ["normalise", "loop", "null"])
+    yield "a refused block, and OUT is /dev/null", came == (2, REFUSED), came
+    came = run(program, folder, ["normalise", "one", "stdout"])
+    yield "OUT is standard output, a pipe", came == (0, ONE), came
+    with open(folder / "to", "wb+") as to:
+        to.write(b"what stood there before, which is longer")
+        to.flush()
+        subprocess.run([program, "normalise", "one", "stdout"], cwd=folder, stdout=to, timeout=60, check=False)
+    yield "OUT is standard output, a file", (folder / "to").read_bytes() == ONE, (folder / "to").read_bytes()
+    with open(folder / "to", "ab") as to:
+        subprocess.run([program], cwd=folder, input=ONE, stdout=to, timeout=60, check=False)
+    yield "a form behind what stands there", (folder / "to").read_bytes() == ONE + ONE, (folder / "to").read_bytes()
+    yield "the devices", devices() == were and all((folder / it).is_symlink() for it in ("null", "full", "stdout")), devices()
+
+
+def pipes_by_a_name(program: str, folder: Path) -> Iterator[Tuple[str, bool, object]]:
+    """A FIFO is read to its end, and takes the form; where nobody reads it any more a write fails."""
+    os.mkfifo(folder / "fifo")
+    block, form = LARGE.spelled(extended=4), LARGE.normal()
+    (folder / "large").write_bytes(block)
+    for name, octets in (("one", ONE), ("large", form)):
+        came, took = beside(lambda: run(program, folder, ["normalise", name, "fifo"]), lambda: (folder / "fifo").read_bytes())
+        yield f"OUT is a FIFO, for {name}", (came, took) == ((0, b""), octets), (came, len(took))
+        came, _ = beside(lambda: run(program, folder, ["normalise", "fifo", "OUT"]), lambda: (folder / "fifo").write_bytes(octets))
+        left = (folder / "OUT").read_bytes()
+        yield f"FILE is a FIFO, for {name}", (came, left) == ((0, b""), octets), came
+    came, _ = beside(lambda: run(program, folder, ["normalise", "large", "fifo"]), lambda: os.close(os.open(folder / "fifo", os.O_RDONLY)))
+    yield "nobody reads the FIFO any more", came == (4, b"failed: WriteFailed\n"), came
+    came, _ = beside(lambda: run(program, folder, ["compare", "one", "fifo"]), lambda: (folder / "fifo").write_bytes(ONE))
+    yield "a FIFO is compared", came == (0, b"same\n"), came
+
+
+def beside(one, other) -> tuple:
+    """What two calls return that run at the same time."""
+    found = []
+    thread = threading.Thread(target=lambda: found.append(other()), daemon=True)
+    thread.start()
+    came = one()
+    thread.join(60)
+    return came, found[0] if found else b""
+
+
+def standard_inputs(program: str, folder: Path) -> Iterator[Tuple[str, bool, object]]:
+    """Standard input is read from where it stands, and can be named as a file."""
+    (folder / "behind").write_bytes(b"xyz" + ONE)
+    with open(folder / "behind", "rb", buffering=0) as given:
+        given.seek(3)
+        came = run(program, folder, [], stdin=given)
+    yield "a block behind other bytes", came == (0, ONE), came
+    came = run(program, folder, ["check", "/dev/stdin"], input=ONE, stdin=None)
+    yield "standard input as FILE", came == (0, b"ok exif\n"), came
+    came = run(program, folder, ["compare", "/dev/stdin", "one"], input=ONE, stdin=None)
+    yield "standard input as FIRST", came == (0, b"same\n"), came
+    came = run(program, folder, ["compare", "/dev/stdin", "/dev/stdin"], input=ONE, stdin=None)
+    yield "standard input twice", came == (2, b"refused: UnknownKind at 0 in file 2\n"), came
+    directory = os.open(folder, os.O_RDONLY)
+    came = run(program, folder, [], stdin=directory)
+    os.close(directory)
+    yield "a directory as standard input", came == (4, b"failed: ReadFailed\n"), came
+
+
+def an_output_that_may_not_be_read(program: str, folder: Path) -> Iterator[Tuple[str, bool, object]]:
+    """OUT is only written, so that it need not be readable."""
+    how = {"user": NOBODY, "group": NOBODY} if os.getuid() == 0 else {}
+    out = folder / "OUT"
+    if how:
+        os.chown(out, NOBODY, NOBODY)
+    folder.chmod(0o755)
+    out.chmod(0o200)
+    came = run(program, folder, ["normalise", "one", "OUT"], **how)
+    out.chmod(0o600)
+    yield "a write-only OUT", (came, out.read_bytes()) == ((0, b""), ONE), came
+
+
+def words_and_names(program: str, folder: Path) -> Iterator[Tuple[str, bool, object]]:
+    """Behind `--` each word is a name; more names than a command takes are refused, and no file is opened."""
+    for name in ("-a", "--help", "--", "-"):
+        (folder / name).write_bytes(ONE)
+        came = run(program, folder, ["check", "--", name])
+        yield f"check -- {name}", came == (0, b"ok exif\n"), came
+        came = run(program, folder, ["compare", "--", name, "one"])
+        yield f"compare -- {name} one", came == (0, b"same\n"), came
+        came = run(program, folder, ["normalise", "--", "one", f"{name}.out"])
+        left = (folder / f"{name}.out").read_bytes() if (folder / f"{name}.out").exists() else b""
+        yield f"normalise -- one {name}.out", (came, left) == ((0, b""), ONE), came
+    for words, wrong in (
+        (["compare", "one", "one", "one", "one", "one"], "one"),
+        (["normalise", "one", "OUT", "third", "fourth", "fifth"], "third"),
+        (["check", "--", "one", "second", "third", "fourth", "fifth"], "second"),
+        (["show", "one", "b", "c", "d", "e"], "b"),
+    ):
+        came = run(program, folder, words)
+        is_told = came[1].startswith(b"error: unexpected argument '%s' found\n" % wrong.encode())
+        yield " ".join(words), came[0] == 3 and is_told and (folder / "OUT").read_bytes() == b"old", came
+
+
+TESTS = (
+    closed_streams,
+    links,
+    an_input_that_stays_open,
+    a_file_that_may_not_be_read,
+    links_that_lead_nowhere,
+    ways_to_leave_an_output,
+    outputs_that_are_no_files,
+    pipes_by_a_name,
+    standard_inputs,
+    an_output_that_may_not_be_read,
+    words_and_names,
+)
+
+
+def check_all(counter: Counter, program: str, folder: Path, test) -> None:
+    for name, is_well, came in test(program, folder):
+        counter.check(name, is_well, came)
+
+
+def main(words: list) -> int:
+    if len(words) != 1:
+        sys.exit(__doc__)
+    counter = Counter()
+    with tempfile.TemporaryDirectory() as room:
+        program = Path(room) / "program"  # nobody may reach this copy
+        program.write_bytes(Path(words[0]).read_bytes())
+        program.chmod(0o755)
+        Path(room).chmod(0o755)
+        for test in TESTS:
+            folder = Path(room) / test.__name__
+            folder.mkdir()
+            fill(folder)
+            counter.collect(test.__name__, lambda counter, test=test, folder=folder: check_all(counter, str(program), folder, test))
+    return counter.finish()
+
+
+if __name__ == "__main__":
+    sys.exit(main(sys.argv[1:]))

@@ -1,0 +1,305 @@
+#!/usr/bin/env python3
+"""Tests the documents: their examples are run, and their lists are compared with the sources.
+
+  tests/repository/documents.py PROGRAM LIBRARY
+
+LIBRARY is the folder with libexifnorm.so and exifnorm.h. In a block ```console of a document, each line `$ COMMAND` is run in a folder
+with the blocks of FILES, and the lines below it, up to the next command, are the expected output. Blocks ```c and ```python of the
+README are compiled and run in the same folder, and must end with status 0. The last line is 'N passed, N failed'.
+"""
+
+import ast
+import io
+import json
+import os
+import re
+import subprocess
+import sys
+import tempfile
+import tokenize
+import unittest
+from pathlib import Path
+
+sys.dont_write_bytecode = True
+sys.path.insert(0, str(Path(__file__).resolve().parent.parent))
+
+import paths
+import named
+from blocks import Blocks
+from counting import examples, run_suite
+
+TOP = str(paths.TOP)
+PROGRAM, LIBRARY = "", ""
+
+# the files in the documents' examples, each with the name of its block in cases/blocks.json
+FILES = {
+    "one.exif": "ASCII before its directory",
+    "other.exif": "ASCII at an even place, least first",
+    "caption.iim": "five labelled DataSets",
+    "broken.exif": "one SHORT that leads on to itself",
+}
+DOCUMENTS = [name for name in ("README.md", "CONTRIBUTING.md", "SECURITY.md", "CHANGELOG.md") if os.path.exists(os.path.join(TOP, name))]
+DOCUMENTS += [f"docs/{name}" for name in sorted(os.listdir(os.path.join(TOP, "docs"))) if name.endswith(".md")]
+DOCUMENTS += sorted(str(it.relative_to(TOP)) for it in Path(TOP).glob("crates/*/*.md"))
+HEADER = "crates/px_c/include/exifnorm.h"
+
+# Old words that comments use in a sense of their own: words of bits, a plan that lays out a block, a process that waits.
+ORDINARY = {"words", "place", "places", "lay", "lays", "laid", "wait", "waits"}
+
+
+def text_of(name):
+    with open(os.path.join(TOP, name), encoding="utf-8") as it:
+        return it.read()
+
+
+def fenced(name, kind):
+    """The blocks of a kind in a document."""
+    return re.findall(rf"^```{kind}\n(.*?)^```$", text_of(name), re.M | re.S)
+
+
+def prose(name):
+    """The sentences of a document without what programs read or print: code, C outside comments, fixed names and lines."""
+    text = re.sub(r"^```.*?^```$|`[^`\n]+`", "", text_of(name), flags=re.M | re.S)
+    text = "".join(re.findall(r"/\*.*?\*/", text, re.S)) if name == HEADER else text
+    return re.sub(r"^\.I place$|\bPLACE\b|^\.B refused words: .*$", "", text, flags=re.M)
+
+
+def old_words():
+    """The words that CONTRIBUTING's table of terms replaces."""
+    table = text_of("CONTRIBUTING.md").partition("| Don't write |")[2]
+    return [it for row in re.findall(r"^\| ([a-z][a-z, ]+) \|", table, re.M) for it in row.split(", ")]
+
+
+def comments_of_rattle(text):
+    """The comments of a Rattle source, without examples and code.
+
+    >>> comments_of_rattle("//! A `told` b.\\n//! ```\\n//! c\\n//! ```\\nfn d() {} // e\\n    /// f")
+    [' A  b.', ' f']
+    """
+    lines = re.findall(r"^ *//[/!]?( .*)$", re.sub(r"^//! ```.*?^//! ```$", "", text, flags=re.M | re.S), re.M)
+    return [re.sub(r"`[^`]*`", "", it) for it in lines]
+
+
+def comments_of_python(text):
+    """The comments and docstrings of a Python source, without examples and code.
+
+    >>> comments_of_python("'A `told` b.'\\nd = 'e'  # f")
+    ['A  b.', '# f']
+    """
+    statements = [it.value for it in ast.walk(ast.parse(text)) if isinstance(it, ast.Expr)]
+    found = [it.value for it in statements if isinstance(it, ast.Constant) and isinstance(it.value, str)]
+    found += [it.string for it in tokenize.generate_tokens(io.StringIO(text).readline) if it.type == tokenize.COMMENT]
+    return [re.sub(r"`[^`]*`|^ *(?:>>>|\.\.\.).*", "", it, flags=re.M) for it in found]
+
+
+def commands(block):
+    """Each command of a console block with its expected output."""
+    for part in re.split(r"^\$ ", block, flags=re.M)[1:]:
+        command, _, output = part.partition("\n")
+        yield command, output
+
+
+class Folder(unittest.TestCase):
+    """Tests that run in a folder with the files of the examples, and with the program on the path."""
+
+    def setUp(self):
+        self.room = tempfile.TemporaryDirectory()
+        self.folder = self.room.name
+        blocks = Blocks(json.loads(text_of("tests/program/cases/blocks.json"))["blocks"])
+        for name, block in FILES.items():
+            with open(os.path.join(self.folder, name), "wb") as it:
+                it.write(blocks.named(block))
+        os.mkdir(os.path.join(self.folder, "bin"))
+        os.symlink(PROGRAM, os.path.join(self.folder, "bin", "exifnorm"))
+        self.environment = {
+            **os.environ,
+            "PATH": f"{self.folder}/bin:{os.environ['PATH']}",
+            "LD_LIBRARY_PATH": LIBRARY,
+            "EXIFNORM_LIBRARY": os.path.join(LIBRARY, "libexifnorm.so"),
+            "PYTHONPATH": os.path.join(TOP, "python"),
+            "PYTHONDONTWRITEBYTECODE": "1",
+        }
+
+    def tearDown(self):
+        self.room.cleanup()
+
+    def ran(self, words, **options):
+        return subprocess.run(words, cwd=self.folder, env=self.environment, capture_output=True, text=True, timeout=60, **options)
+
+
+class Shown(Folder):
+    def test_each_command_of_a_console_block_prints_the_lines_below_it(self):
+        count = 0
+        for name in DOCUMENTS:
+            for block in fenced(name, "console"):
+                for command, expected in commands(block):
+                    with self.subTest(name, command=command):
+                        self.assertEqual(self.ran(["bash", "-c", command]).stdout, expected)
+                        count += 1
+        self.assertGreaterEqual(count, 4)
+
+    def test_each_python_block_of_the_readme_runs(self):
+        blocks = fenced("README.md", "python")
+        self.assertTrue(blocks)
+        for block in blocks:
+            ran = self.ran([sys.executable, "-c", block])
+            self.assertEqual((ran.returncode, ran.stderr), (0, ""), block)
+
+    def test_each_c_block_of_the_readme_runs(self):
+        blocks = fenced("README.md", "c")
+        self.assertTrue(blocks)
+        for block in blocks:
+            with open(os.path.join(self.folder, "a.c"), "w", encoding="utf-8") as it:
+                it.write(block)
+            words = ["cc", "-std=c99", "-Wall", "-Wextra", "-pedantic", "-Werror", "-I", LIBRARY, "a.c", "-L", LIBRARY, "-lexifnorm", "-o", "a.out"]
+            made = self.ran(words)
+            self.assertEqual((made.returncode, made.stderr), (0, ""), block)
+            self.assertEqual(self.ran(["./a.out"]).returncode, 0, block)
+
+
+class Listed(unittest.TestCase):
+    """Lists in documents and sources that must agree."""
+
+    def causes(self):
+        body = re.search(r"pub enum Cause \{(.*?)\n\}", text_of("crates/px_bytes/src/causes.rt"), re.S).group(1)
+        return re.findall(r"^    (\w+),$", body, re.M)
+
+    def test_causes_are_listed_in_the_format(self):
+        listed = re.findall(r"^\| (\w+) \| .* \| .* \|$", text_of("docs/FORMAT.md").split("## 5.")[1].split("## 6.")[0], re.M)
+        self.assertEqual([it for it in listed if it != "Cause"], self.causes())
+
+    def test_causes_have_a_section_on_what_to_do(self):
+        listed = re.findall(r"^## (\w+)", text_of("docs/REFUSALS.md"), re.M)
+        self.assertEqual([it for it in listed if it in self.causes()], self.causes())
+
+    def test_causes_are_listed_in_the_header_in_their_order(self):
+        listed = re.findall(r"EXIFNORM_CAUSE_(\w+) = (\d+)", text_of(HEADER))
+        self.assertEqual([int(number) for _, number in listed], list(range(1, len(self.causes()) + 1)))
+        self.assertEqual([name.replace("_", "") for name, _ in listed], [it.upper() for it in self.causes()])
+
+    def test_commands_are_the_same_wherever_they_are_listed(self):
+        helped = subprocess.run([PROGRAM, "--help"], capture_output=True, text=True).stdout
+        names = re.findall(r"^  (\w+)  +\w", helped.split("Commands:")[1].split("Options:")[0], re.M)
+        self.assertEqual(len(names), 5)
+        for name in ("README.md", "docs/FORMAT.md", "docs/exifnorm.1"):
+            for command in names:
+                self.assertRegex(text_of(name), rf"\b{command}\b", name)
+
+    def test_statuses_are_the_same_wherever_they_are_listed(self):
+        helped = subprocess.run([PROGRAM, "--help"], capture_output=True, text=True).stdout
+        statuses = set(re.findall(r"^  (\d)  ", helped.split("Statuses:")[1], re.M))
+        self.assertEqual(statuses, set("01234"))
+        for name, row in (("README.md", r"^\| (\d) \|"), ("docs/FORMAT.md", r"^\| (\d) \| .* \| .* \|$"), ("docs/exifnorm.1", r"^\.B (\d)$")):
+            self.assertLessEqual(statuses, set(re.findall(row, text_of(name), re.M)), name)
+
+    def test_what_must_be_read_has_so_many_lines(self):
+        rows = re.findall(r"^\| (px_\w+) \| ([^|]*) \| (\d+) \|$", text_of("docs/PROOFS.md"), re.M)
+        code = {("px_bytes", "src/memory.rt"), ("px_bytes", "src/devices.rt"), ("px_cli", "src/files.rt")}
+        self.assertEqual(len(rows), len(os.listdir(os.path.join(TOP, "crates"))) + len(code))
+        for crate, files, lines in rows:
+            names = [it if "." in it else f"specs/{it}.antt" for it in re.findall(r"`([\w/.]+)`", files)]
+            # a row names all definitions of the crate, or files of src/
+            known = {f"specs/{it.name}" for it in Path(TOP, "crates", crate, "specs").glob("[A-Z]*.antt")} - {"specs/Lib.antt"}
+            self.assertTrue(set(names) == known or {(crate, it) for it in names} <= code, (crate, names, known))
+            self.assertEqual(sum(text_of(f"crates/{crate}/{it}").count("\n") for it in names), int(lines), crate)
+
+    def test_what_must_be_read_comes_in_order(self):
+        """A definition follows those that it uses."""
+        seen = set()
+        for crate, files in re.findall(r"^\| (px_\w+) \| ([^|]*) \| \d+ \|$", text_of("docs/PROOFS.md"), re.M):
+            for name in re.findall(r"`(\w+)`", files):
+                text = text_of(f"crates/{crate}/specs/{name}.antt")
+                used = set(re.findall(r"^(?:pub )?use Rattle\.(px_\w+)\.specs\.([A-Z]\w*)\b", text, re.M))
+                self.assertLessEqual(used, seen, f"{crate}: {name}")
+                seen.add((crate, name))
+
+    def test_what_must_be_read_uses_no_words_of_single_calls(self):
+        files = sorted(Path(TOP, "crates").glob("px_*/specs/[A-Z]*.antt"))
+        self.assertGreater(len(files), 40)
+        for file in files:
+            self.assertNotRegex(file.read_text(encoding="utf-8"), r"Rattle\.px_\w+\.specs\.calls", str(file))
+
+    def test_the_version_is_stated_once(self):
+        stated = re.search(r'VERSION: &str = "([^"]+)"', text_of("crates/px_engine/src/version.rt")).group(1)
+        self.assertEqual(re.search(r"^## (\S+)", text_of("CHANGELOG.md"), re.M).group(1), stated)
+        self.assertEqual(re.search(r'^version = "(.*)"', text_of("python/pyproject.toml"), re.M).group(1), stated)
+        printed = subprocess.run([PROGRAM, "--version"], capture_output=True, text=True).stdout
+        self.assertEqual(printed, f"exifnorm {stated}\n")
+
+
+class Written(unittest.TestCase):
+    """How documents and sources are written."""
+
+    def test_examples(self):
+        examples(named)
+        examples(sys.modules[__name__])
+
+    def test_the_readme_is_short(self):
+        self.assertLessEqual(len(text_of("README.md").split()), 700)
+
+    def test_readers_meet_the_terms_of_the_field(self):
+        """What users read has none of the words that CONTRIBUTING's table of terms replaces."""
+        old = old_words()
+        self.assertGreater(len(old), 40)
+        pages = [f"docs/{name}" for name in os.listdir(os.path.join(TOP, "docs")) if re.search(r"\.[1-9]$", name)]
+        documents = ("README.md", "SECURITY.md", "CHANGELOG.md", "docs/RECIPES.md", "docs/PACKAGING.md")
+        for name in (*documents, HEADER, *sorted(pages)):
+            self.assertEqual(re.findall(rf"\b(?:{'|'.join(old)})\b", prose(name), re.I), [], name)
+
+    def test_comments_have_the_terms_of_the_field(self):
+        """Comments of sources have none of these words either, but for those that have a sense of their own there."""
+        old = re.compile(rf"\b(?:{'|'.join(set(old_words()) - ORDINARY)})\b", re.I)
+        sources = [(it, comments_of_rattle) for it in sorted(Path(TOP).glob("crates/*/src/*.rt"))]
+        sources += [(it, comments_of_python) for folder in ("python", "build", "packaging") for it in sorted(Path(TOP, folder).rglob("*.py"))]
+        self.assertGreater(len(sources), 150)
+        for path, comments in sources:
+            for it in comments(path.read_text(encoding="utf-8")):
+                self.assertNotRegex(it, old, str(path.relative_to(TOP)))
+
+    def test_each_paragraph_is_one_line(self):
+        for path in named.DOCUMENTS:
+            lines = re.sub(r"^```.*?^```$", "", path.read_text(encoding="utf-8"), flags=re.M | re.S).splitlines()
+            plain = [not re.match(r"$|[#|>!]|- |\d+\. |    ", it) for it in lines]
+            self.assertEqual([it for it, one, next_one in zip(lines, plain, plain[1:]) if one and next_one], [], path.name)
+
+    def test_links_lead_to_files(self):
+        for name in DOCUMENTS:
+            for target in re.findall(r"\]\(([^)#]+)[^)]*\)", text_of(name)):
+                if "://" not in target:
+                    self.assertTrue(os.path.exists(os.path.join(TOP, os.path.dirname(name), target)), f"{name}: {target}")
+
+    def test_the_packages_are_installed_by_one_command(self):
+        command = "apt-get install -y --no-install-recommends $(./test --packages)"
+        for name in ("README.md", ".ci/run"):
+            self.assertIn(command, text_of(name), name)
+        for name in (*DOCUMENTS, ".ci/run"):
+            for found in re.findall(r"apt-get install[^`\n]*", text_of(name)):
+                self.assertTrue(found.startswith((command, command.replace("$(./test --packages)", '"$package"'))), f"{name}: {found}")
+
+    def test_the_picture_is_drawn_of_the_cases(self):
+        self.assertEqual(subprocess.run([sys.executable, os.path.join(TOP, "docs", "draw.py"), "--check"]).returncode, 0)
+
+    def test_man_pages_have_no_mistake_that_groff_reports(self):
+        if not any(os.access(os.path.join(it, "groff"), os.X_OK) for it in os.environ["PATH"].split(os.pathsep)):
+            self.skipTest("groff is not installed")
+        for name in sorted(os.listdir(os.path.join(TOP, "docs"))):
+            if re.search(r"\.[1-9]$", name):
+                words = ["groff", "-man", "-Tutf8", "-ww", "-z", os.path.join(TOP, "docs", name)]
+                self.assertEqual(subprocess.run(words, capture_output=True, text=True).stderr, "", name)
+
+    def test_each_document_begins_with_its_title(self):
+        for name in DOCUMENTS:
+            self.assertTrue(text_of(name).startswith("# "), name)
+
+
+def main(words):
+    if len(words) != 2:
+        sys.exit(__doc__)
+    global PROGRAM, LIBRARY
+    PROGRAM, LIBRARY = map(os.path.abspath, words)
+    load = unittest.defaultTestLoader.loadTestsFromModule
+    return run_suite(unittest.TestSuite(map(load, (sys.modules[__name__], named))))
+
+
+if __name__ == "__main__":
+    sys.exit(main(sys.argv[1:]))

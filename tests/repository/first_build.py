@@ -1,0 +1,256 @@
+"""Builds a small repository from nothing, as users build this one, with the toolchain itself: by the launcher and by make.
+
+./test builds its program and its library over what `rt ci` has just proved, so the way from nothing is tested here: with a library of
+one function, two that are proved side by side over it, a program over all, and the same for C. Beside it ./test does what it does, and
+`rt lib` what it does, which have to make the same bytes. tests/repository/launcher.py runs these.
+"""
+
+import os
+import shutil
+import subprocess
+import tempfile
+from concurrent.futures import ThreadPoolExecutor
+from pathlib import Path
+
+from counting import Counter
+from paths import TOP
+
+PROGRAM, ARCHIVE = "crates/px_cli/out/px_cli", "out/proved/libpx_c.a"
+
+# The parts of ./test that this repository has: the crates, an edit less and a program more, and what is built.
+PARTS = """Part: rt
+Command: prove
+Least: 5
+
+Part: build
+Command: build
+Least: 2
+"""
+
+# A library over px_bytes.
+OVER = """// The same under another name.
+#![tactic(auto)]
+
+ghost use Rattle.px_bytes.specs.Echo.{echo_of};
+ghost use Rattle.std.specs.Prelude.{◌≡◌};
+
+/// What `echo` answers.
+pub fn NAME(x: usize) -> usize
+    ensures { result ≡ echo_of x }
+{
+    px_bytes::echo(x)
+}
+"""
+
+# The files besides the library, px_bytes, which is the toolchain's template of one.
+FILES = {
+    "HANDLES": "Handles allowed: none.\n",
+    "crates.txt": "px_bytes:\npx_one: px_bytes\npx_two: px_bytes\npx_cli: px_bytes px_one px_two\npx_c staticlib: px_bytes\n",
+    "crates/px_one/src/lib.rt": OVER.replace("NAME", "one"),
+    "crates/px_two/src/lib.rt": OVER.replace("NAME", "two"),
+    "crates/px_c/include/exifnorm.h": "unsigned long exifnorm_echo(unsigned long x);\n",
+    "crates/px_cli/status": "2\n",
+    "crates/px_cli/src/main.rt": """// Prints the first of its words. Without any it ends with status 2.
+#![tactic(auto)]
+
+use px_bytes::echo;
+use px_one::one;
+use px_two::two;
+use std::env;
+use std::process::ExitCode;
+
+fn run(rt: &HostRuntime) -> u8 {
+    let Ok(args) = env::args(rt) else {
+        return 4;
+    };
+    let all: Vec<String> = match args.collect(rt.alloc()) {
+        Ok(all) => all,
+        Err(_) => return 4,
+    };
+    let Some(word) = all.get(echo(one(two(1)))) else {
+        return 2;
+    };
+    match println!(rt; "one: {word}") {
+        Ok(()) => 0,
+        Err(_) => 4,
+    }
+}
+
+fn main(rt: HostRuntime) -> ExitCode {
+    ExitCode::from(run(&rt))
+}
+""",
+    "crates/px_c/src/lib.rt": """// The same for C.
+#![tactic(auto)]
+
+ghost use Rattle.px_bytes.specs.Echo.{echo_of};
+ghost use Rattle.std.specs.Prelude.{◌≡◌};
+
+use px_bytes::echo;
+
+#[unsafe(no_mangle)]
+pub extern "C" fn exifnorm_echo(x: usize) -> usize
+    ensures { result ≡ echo_of x }
+{
+    echo(x)
+}
+""",
+}
+
+
+# Two functions that are proved though no body could be wrong: no call can meet the first contract, and the second may never return.
+NEVER = """// A contract that no call can meet.
+#![tactic(auto)]
+
+ghost use Rattle.std.specs.Prelude.{◌<◌, ◌≡◌};
+
+/// Answers 1.
+pub fn one(n: u32) -> u32
+    requires { n < 0 }
+    ensures { result ≡ 1 }
+{
+    n
+}
+"""
+WAITS = """// A function that may never return.
+#![tactic(auto)]
+
+use std::sync::Wait;
+
+ghost use Rattle.std.specs.Prelude.{◌≡◌};
+
+/// Answers 1.
+pub fn two(rt: &impl Wait) -> u32
+    ensures { result ≡ 1 }
+{
+    for _ in rt.forever() {}
+    2
+}
+"""
+
+
+class Project:
+    """The small repository in a folder that is made for it."""
+
+    def __init__(self, top: Path) -> None:
+        self.top = top
+        top.mkdir()
+        (top / "crates.txt").touch()
+        self.call("rt", "new", "crates/px_bytes", "start_lib")
+        (top / "crates/px_bytes/BUILD.bazel").unlink()
+        for name, text in FILES.items():
+            (top / name).parent.mkdir(parents=True, exist_ok=True)
+            (top / name).write_text(text, encoding="utf-8")
+        shutil.copytree(TOP / "build", top / "build", ignore=shutil.ignore_patterns("__pycache__"))
+        shutil.copytree(TOP / "packaging", top / "packaging")
+        for name in ("exifnorm", "Makefile", "test"):
+            shutil.copy(TOP / name, top / name)
+        (top / "tests").mkdir()
+        (top / "tests/parts.txt").write_text(PARTS, encoding="utf-8")
+
+    def call(self, *words: str, folder: str = ".", **named: str) -> subprocess.CompletedProcess:
+        environment = {key: value for key, value in os.environ.items() if not key.startswith(("RT_", "EXIFNORM_", "MAKE", "TEST_PARTS"))}
+        how = {"cwd": self.top / folder, "stdin": subprocess.DEVNULL, "capture_output": True, "text": True, "timeout": 900}
+        return subprocess.run(words, env={**environment, **named}, check=False, **how)
+
+    def bytes_of(self, name: str) -> bytes:
+        return (self.top / name).read_bytes()
+
+
+class FromNothing(Project):
+    """The repository that is built as users do."""
+
+    def build(self) -> "FromNothing":
+        self.launched = self.call("./exifnorm", "a b")
+        self.library = self.call("make", ARCHIVE)
+        self.by_rt = self.call("rt", "lib", folder="crates/px_c")
+        return self
+
+
+class Gate(Project):
+    """The repository that ./test proves and builds."""
+
+    def build(self) -> "Gate":
+        self.ran = self.call("./test")
+        archive = self.top / ARCHIVE
+        before = archive.stat().st_mtime_ns if archive.exists() else 0
+        self.is_archived = self.call("make", ARCHIVE).returncode == 0 and archive.stat().st_mtime_ns == before
+        return self
+
+
+def due(is_so: bool, what: object) -> None:
+    if not is_so:
+        raise AssertionError(what)
+
+
+def the_launcher_proves_builds_and_runs(user: FromNothing, gate: Gate) -> None:
+    ran = user.launched
+    due((ran.returncode, ran.stdout) == (0, "one: a b\n"), ran)
+    due("proving px_bytes (1 of 4, 3 left)" in ran.stderr, ran.stderr)
+    due(all((user.top / f"out/proved/px_{it}.made-from").exists() for it in ("bytes", "one", "two", "cli")), "what was built isn't kept")
+    due("logic=proved" in (user.top / "out/build-px_bytes.log").read_text(encoding="utf-8"), "nothing tells of a proof")
+
+
+def the_gate_proves_each_crate_once_and_builds(user: FromNothing, gate: Gate) -> None:
+    said = gate.ran.stdout + gate.ran.stderr
+    due(gate.ran.returncode == 0 and gate.ran.stdout.endswith(" seconds\n7 passed, 0 failed\n"), said)
+    due((said.count("fn px_bytes::echo: proved\n"), said.count("fn px_cli::main: proved\n")) == (1, 1), said)
+    due("taking what was just proved of px_cli" in said and "proving px_bytes" not in said, said)
+    due("proving px_c (1 of 1, 0 left)" in said, said)
+
+
+def the_program_that_the_gate_proved_is_the_launcher_s(user: FromNothing, gate: Gate) -> None:
+    due(gate.bytes_of(PROGRAM) == user.bytes_of("out/exifnorm"), "another program")
+    due(gate.bytes_of(PROGRAM) == gate.bytes_of("out/exifnorm"), "the launcher took another program")
+    due(gate.call("./exifnorm", "a b").stdout == "one: a b\n", "it does something else")
+
+
+def the_archive_is_that_of_rt_lib(user: FromNothing, gate: Gate) -> None:
+    due((user.library.returncode, user.by_rt.returncode) == (0, 0), (user.library, user.by_rt))
+    due("proving px_c (1 of 1, 0 left)" in user.library.stderr, "what the program stands on was proved again")
+    by_rt = user.bytes_of("crates/px_c/out/libpx_c.a")
+    due(user.bytes_of(ARCHIVE) == by_rt, "another archive than that of `rt lib`")
+    due(gate.bytes_of(ARCHIVE) == by_rt, "another archive over what was proved")
+    due(gate.is_archived, "make would build it again")
+
+
+def nothing_of_the_gate_is_taken_that_was_changed_since(user: FromNothing, gate: Gate) -> None:
+    shutil.rmtree(gate.top / "out/proved")
+    (gate.top / "crates/px_bytes/src/lib.rt").touch()
+    ran = gate.call("make", ARCHIVE, EXIFNORM_PROVED=str(gate.top / PROGRAM))
+    due(ran.returncode == 0 and "taking" not in ran.stderr and "proving px_bytes (1 of 2, 1 left)" in ran.stderr, ran)
+
+
+def what_the_gate_refuses_is_not_built(user: FromNothing, gate: Gate) -> None:
+    for name, text, why in (("px_one", NEVER, "no call of `px_one::one`"), ("px_two", WAITS, "may-wait=1")):
+        (user.top / f"crates/{name}/src/lib.rt").write_text(text, encoding="utf-8")
+        ran = user.call("python3", "build/prove.py", name)
+        due(ran.returncode == 1 and f"fn {name}" in ran.stderr and ": proved" in ran.stderr and why in ran.stderr, ran)
+    (user.top / "HANDLES").write_text("Handles allowed: Wait.\n", encoding="utf-8")
+    ran = user.call("python3", "build/prove.py", "px_two")
+    due(ran.returncode == 1 and "HANDLES" in ran.stderr and "proving" not in ran.stderr, ran)
+
+
+# The last two change what was built.
+TESTS = [
+    the_launcher_proves_builds_and_runs,
+    the_gate_proves_each_crate_once_and_builds,
+    the_program_that_the_gate_proved_is_the_launcher_s,
+    the_archive_is_that_of_rt_lib,
+    nothing_of_the_gate_is_taken_that_was_changed_since,
+    what_the_gate_refuses_is_not_built,
+]
+
+
+def run(counter: Counter, only: str = "") -> None:
+    """Builds both repositories, and counts the tests whose names have a text."""
+    tests = [it for it in TESTS if only in it.__name__]
+    for test in tests if not shutil.which("rt") else []:
+        counter.skip(test.__name__, "there is no command rt on the PATH")
+    if not tests or not shutil.which("rt"):
+        return
+    with tempfile.TemporaryDirectory() as folder, ThreadPoolExecutor(2) as pool:
+        made = [FromNothing(Path(folder) / "user"), Gate(Path(folder) / "gate")]
+        user, gate = pool.map(lambda it: it.build(), made)
+        for test in tests:
+            counter.run(test.__name__, lambda it=test: it(user, gate))

@@ -1,0 +1,263 @@
+"""Tests ./test over parts that are none: each way in which a part can end, with its last line and its status."""
+
+import os
+import shutil
+import subprocess
+import tempfile
+import unittest
+from dataclasses import dataclass
+from pathlib import Path
+from typing import Optional
+
+from paths import TESTS, TOP
+
+
+@dataclass
+class Ended:
+    """How a run ended: its status, its last line, and all that it printed."""
+
+    status: int
+    last: str
+    printed: str
+
+
+class Folder(unittest.TestCase):
+    """./test in a folder of its own, with a list of parts that a test writes."""
+
+    def setUp(self) -> None:
+        room = tempfile.TemporaryDirectory()
+        self.addCleanup(room.cleanup)
+        self.folder = Path(room.name)
+        (self.folder / "tests").mkdir()
+        (self.folder / "bin").mkdir()
+        shutil.copy(TOP / "test", self.folder / "test")
+
+    def command(self, name: str, text: str) -> None:
+        """Puts a command on the path."""
+        (self.folder / "bin" / name).write_text(f"#!/bin/sh\n{text}\n")
+        (self.folder / "bin" / name).chmod(0o755)
+
+    def ran(self, listed: Optional[str], *words: str, **environment: str) -> Ended:
+        if listed is not None:
+            (self.folder / "tests" / "parts.txt").write_text(listed)
+        own = {it: value for it, value in os.environ.items() if it not in ("CI", "TEST_PARTS")}
+        own["PATH"] = f"{self.folder}/bin:{own['PATH']}"
+        ran = subprocess.run([self.folder / "test", *words], env={**own, **environment}, capture_output=True, text=True, timeout=60)
+        return Ended(ran.returncode, (ran.stdout.splitlines() or [""])[-1], ran.stdout + ran.stderr)
+
+    def part(self, command: str, least: str = "3", name: str = "a", more: str = "") -> str:
+        return f"# a comment\nPart: {name}\nCommand: {command}\nLeast: {least}\n{more}\n"
+
+    def fails(self, listed: str, last: str, why: str, **environment: str) -> None:
+        ended = self.ran(listed, **environment)
+        self.assertEqual((ended.status, ended.last), (1, last), ended.printed)
+        self.assertIn(why, ended.printed)
+
+
+class Gate(Folder):
+    """The last line and the status of ./test, by how its parts end."""
+
+    def test_a_good_part(self):
+        ended = self.ran(self.part("echo 3 passed, 0 failed"))
+        self.assertEqual((ended.status, ended.last), (0, "3 passed, 0 failed"), ended.printed)
+        self.assertNotIn("raise", ended.printed)
+
+    def test_a_part_with_more_tests_than_the_list_says(self):
+        ended = self.ran(self.part("echo 10 passed, 0 failed"))
+        self.assertEqual((ended.status, ended.last), (0, "10 passed, 0 failed"), ended.printed)
+        self.assertIn("raise its number in tests/parts.txt, 3", ended.printed)
+
+    def test_the_numbers_of_two_parts_are_added(self):
+        listed = self.part('echo "3 passed, 1 failed"; false') + self.part('echo "4 passed, 2 failed"; false', name="b")
+        self.fails(listed, "7 passed, 3 failed", "test: b begins")
+
+    def test_a_part_that_crashes(self):
+        self.fails(self.part("echo it begins; nosuchcommand"), "0 passed, 1 failed", "a ended with status 127 and without a last line")
+
+    def test_a_part_that_leaves_the_shell(self):
+        self.fails(self.part("exit 5"), "0 passed, 1 failed", "a ended with status 5 and without a last line")
+
+    def test_a_part_that_is_missing(self):
+        self.fails(self.part("python3 tests/nothing.py"), "0 passed, 1 failed", "without a last line")
+
+    def test_a_part_that_is_killed(self):
+        self.fails(self.part("sh -c 'kill -9 $$'"), "0 passed, 1 failed", "a ended with status 137 and without a last line")
+        self.fails(self.part("exec sh -c 'echo 3 passed, 0 failed; kill -9 $$'"), "3 passed, 1 failed", "ended with status 137, though")
+
+    def test_a_part_that_prints_nothing(self):
+        self.fails(self.part("true"), "0 passed, 1 failed", "a ended with status 0 and without a last line")
+
+    def test_a_part_without_a_count(self):
+        for line in ("all is well", "3 passed", "3 passed, 0 failed.", "ok: 3 passed, 0 failed", "3 passed, 0 failed, skipped",
+                     "-3 passed, 0 failed", "3 passed, 0 failed, 1 skipped, 1 lost", " 3 passed, 0 failed", ""):  # fmt: skip
+            self.fails(self.part(f"echo '3 passed, 0 failed'; echo '{line}'"), "0 passed, 1 failed", "without a last line")
+
+    def test_a_part_whose_last_line_is_cut_off(self):
+        self.fails(self.part("printf '3 passed, 0 failed'"), "0 passed, 1 failed", "without a last line")
+
+    def test_a_part_that_counts_nothing(self):
+        self.fails(self.part("echo 0 passed, 0 failed"), "0 passed, 1 failed", "a counted 0 tests, and tests/parts.txt says 3")
+
+    def test_a_part_with_fewer_tests_than_the_list_says(self):
+        self.fails(self.part("echo 2 passed, 0 failed"), "2 passed, 1 failed", "a counted 2 tests, and tests/parts.txt says 3")
+
+    def test_a_count_of_failures_and_a_good_status(self):
+        self.fails(self.part("echo 3 passed, 2 failed"), "3 passed, 3 failed", "a ended with status 0, though its last line counts failures")
+
+    def test_a_count_of_no_failure_and_a_bad_status(self):
+        self.fails(self.part("echo 3 passed, 0 failed; false"), "3 passed, 1 failed", "a ended with status 1, though its last line counts no")
+
+    def test_a_part_that_skips(self):
+        listed = self.part("echo 2 passed, 0 failed, 1 skipped")
+        ended = self.ran(listed)
+        self.assertEqual((ended.status, ended.last), (0, "2 passed, 0 failed, 1 skipped"), ended.printed)
+        self.fails(listed, "2 passed, 1 failed, 1 skipped", "a skipped 1 tests, and CI is set", CI="true")
+
+    def test_a_part_that_skips_all(self):
+        ended = self.ran(self.part("echo 0 passed, 0 failed, 3 skipped"))
+        self.assertEqual((ended.status, ended.last), (1, "0 passed, 0 failed, 3 skipped"), ended.printed)
+
+    def test_nothing_that_is_skipped_is_not_counted(self):
+        ended = self.ran(self.part("echo 3 passed, 0 failed, 0 skipped"), CI="true")
+        self.assertEqual((ended.status, ended.last), (0, "3 passed, 0 failed"), ended.printed)
+
+    def test_what_a_part_prints_on_standard_error_is_no_last_line(self):
+        self.fails(self.part("echo 3 passed, 0 failed; echo oh >&2"), "0 passed, 1 failed", "without a last line")
+
+    def test_a_part_beside_others(self):
+        listed = self.part("sleep 0.3; echo beside; echo 5 passed, 0 failed", more="Beside: yes\n") + self.part("echo 3 passed, 0 failed", name="b")
+        ended = self.ran(listed)
+        self.assertEqual((ended.status, ended.last), (0, "8 passed, 0 failed"), ended.printed)
+        self.assertLess(ended.printed.index("test: b took"), ended.printed.index("\nbeside\n"))
+
+    def test_two_parts_beside_others(self):
+        listed = "".join(self.part(f"echo {it} passed, 0 failed", name=f"p{it}", more="Beside: yes\n") for it in (3, 4))
+        self.assertEqual(self.ran(listed).last, "7 passed, 0 failed")
+
+    def test_a_part_beside_others_that_fails(self):
+        good = self.part("echo 3 passed, 0 failed", name="b")
+        for command, last in (("sh -c 'kill -9 $$'", "3 passed, 1 failed"), ("echo 1 passed, 0 failed", "4 passed, 1 failed"),
+                              ("echo 3 passed, 1 failed; false", "6 passed, 1 failed")):  # fmt: skip
+            ended = self.ran(self.part(command, more="Beside: yes\n") + good)
+            self.assertEqual((ended.status, ended.last), (1, last), ended.printed)
+
+    def test_only_the_parts_that_are_asked_for(self):
+        listed = self.part("echo 3 passed, 0 failed") + self.part("false", name="b") + self.part("echo 4 passed, 0 failed", name="c")
+        self.assertEqual(self.ran(listed, TEST_PARTS="a").last, "3 passed, 0 failed")
+        self.assertEqual(self.ran(listed, TEST_PARTS="c a").last, "7 passed, 0 failed")
+
+    def test_a_part_that_is_asked_for_and_not_listed(self):
+        self.fails(self.part("echo 3 passed, 0 failed"), "0 passed, 1 failed", "has no part b", TEST_PARTS="a b")
+        self.fails(self.part("echo 3 passed, 0 failed", name="abc"), "0 passed, 1 failed", "has no part ab", TEST_PARTS="ab")
+
+    def test_a_list_without_a_part(self):
+        for listed in ("", "# Part: a\n", "part: a\n"):
+            self.fails(listed, "0 passed, 1 failed", "tests/parts.txt has no part")
+
+    def test_a_list_that_is_misspelled(self):
+        good = self.part("echo 3 passed, 0 failed")
+        for listed in (
+            good.replace("Command", "Comand"),
+            good.replace("Least", "least"),
+            *(good.replace("Least: 3", f"Least: {it}") for it in ("0", "-1", "some", "")),
+            good.rstrip("\n") + "\n" + self.part("echo 4 passed, 0 failed", name="b").removeprefix("# a comment\n"),
+            good + good,
+        ):
+            ended = self.ran(listed)
+            self.assertEqual((ended.status, ended.last[:9]), (1, "0 passed,"), listed + ended.printed)
+            self.assertNotIn("begins", ended.printed)
+
+    def test_no_list(self):
+        ended = self.ran(None)
+        self.assertEqual((ended.status, ended.last), (1, "0 passed, 1 failed"))
+
+    def test_the_packages_of_all_parts(self):
+        listed = self.part("true", more="Packages: zsh build-essential\n") + self.part("true", name="b", more="Packages: fish zsh\n")
+        self.assertEqual(self.ran(listed, "--packages").printed, "build-essential fish zsh\n")
+
+    def test_the_packages_that_are_missing(self):
+        self.command("dpkg-query", 'for it; do :; done; case $it in zsh) echo installed ;; fish) echo config-files ;; *) exit 1 ;; esac')
+        listed = self.part("echo 3 passed, 0 failed", more="Packages: zsh fish no-such-package\n")
+        listed += self.part("echo 3 passed, 0 failed", name="b", more="Packages: another\n")
+        self.assertIn("\nanother fish no-such-package\n", "\n" + self.ran(listed).printed)
+        self.assertIn("\nfish no-such-package\n", "\n" + self.ran(listed, TEST_PARTS="a").printed)
+        self.command("dpkg-query", "echo installed")
+        self.assertNotIn("missing", self.ran(listed).printed)
+
+
+class Proved(Folder):
+    """The part rt over an rt that is none, and the mark that says since when what was proved holds."""
+
+    def proved(self, *lines: str, status: int = 0) -> tuple:
+        """The status and the last line, and whether the mark is there, which a run before it left."""
+        (self.folder / "out").mkdir(exist_ok=True)
+        (self.folder / "out" / "proved-since").touch()
+        self.command("rt", '[ "$*" = ci ] || exit 9\n' + "".join(f"echo '{it}'\n" for it in lines) + f"exit {status}")
+        ended = self.ran(self.part("prove", name="rt", least="1"))
+        return ended.status, ended.last, (self.folder / "out" / "proved-since").exists()
+
+    def test_an_rt_that_runs_no_test_is_a_failure(self):
+        self.assertEqual(self.proved("0 passed, 0 failed"), (1, "0 passed, 1 failed", False))
+
+    def test_a_program_that_is_not_proved_is_not_taken(self):
+        lines = "rt: px_cli NOT PROVED", "rt: px_cli: its tests are proved", "1 passed, 1 failed"
+        self.assertEqual(self.proved(*lines, status=1), (1, "1 passed, 1 failed", False))
+
+    def test_a_program_that_is_proved_is_taken(self):
+        self.assertEqual(self.proved("rt: px_cli proved", "2 passed, 0 failed"), (0, "2 passed, 0 failed", True))
+        self.assertEqual(self.proved("rt: px_cli proved", "2 passed, 1 failed", status=1), (1, "2 passed, 1 failed", True))
+
+
+class Listed(unittest.TestCase):
+    """tests/parts.txt itself, and who uses it."""
+
+    def parts(self) -> list:
+        return [dict(line.split(": ", 1) for line in it.splitlines() if not line.startswith("#"))
+                for it in (TOP / "tests" / "parts.txt").read_text().split("\n\n") if "\nPart: " in f"\n{it}"]  # fmt: skip
+
+    def test_each_script_is_a_part(self):
+        commands = " ".join(it["Command"] for it in self.parts())
+        scripts = {str(it.relative_to(TOP)) for it in TESTS.rglob("*.py") if it.read_text().startswith("#!")}
+        self.assertGreaterEqual(len(scripts), 8)
+        self.assertEqual({it for it in scripts if it not in commands.split()}, set())
+
+    def test_each_part_has_its_lines(self):
+        for part in self.parts():
+            self.assertLessEqual({"Part", "Command", "Least", "Packages"}, set(part), part)
+            self.assertLessEqual(set(part), {"Part", "Command", "Least", "Packages", "Beside"}, part)
+        names = [it["Part"] for it in self.parts()]
+        self.assertEqual(names[0], "rt")
+        self.assertLessEqual({"build", "program", "tests", "sources", "launcher", "streams", "library", "documents", "pictures"}, set(names))
+
+    def test_the_part_rt_counts_each_crate_and_each_wrong_body(self):
+        """`rt ci` counts one test for each crate, and one for each edit that must fail."""
+        crates = [it for it in (TOP / "crates.txt").read_text().splitlines() if ":" in it.partition("#")[0]]
+        edits = list(TOP.glob("crates/*/must-fail/*.edit"))
+        (least,) = (int(it["Least"]) for it in self.parts() if it["Part"] == "rt")
+        self.assertEqual(least, len(crates) + len(edits))
+
+    def test_the_gate_installs_these_packages_and_runs_all(self):
+        """.ci/run with an apt-get that writes down how it was called, as an ordinary user and as root."""
+        for user, fails, expected in (("1000", "", []), ("0", "", ["update", "a b"]), ("0", "a b", ["update", "a b", "a", "b"]),
+                                      ("0", "update", ["update"])):  # fmt: skip
+            with self.subTest(user=user, fails=fails), tempfile.TemporaryDirectory() as room:
+                called = self.gate(Path(room), user, fails)
+                self.assertEqual(called, [*expected, "test "])
+
+    def gate(self, room: Path, user: str, fails: str) -> list:
+        """What .ci/run calls, in order: the packages of each apt-get, and ./test with its words."""
+        for name in (".ci", "bin"):
+            (room / name).mkdir()
+        shutil.copy(TOP / ".ci" / "run", room / ".ci" / "run")
+        skip = "while [ $# -gt 1 ]; do case $1 in install|-*) shift ;; *) break ;; esac; done"
+        fakes = {
+            "bin/apt-get": f'{skip}\necho "$*" >>"{room}/called"; [ "$*" != "{fails}" ]',
+            "bin/id": f"echo {user}",
+            "test": f'if [ "$*" = --packages ]; then echo a b; else echo "test $*" >>"{room}/called"; exit 7; fi',
+        }
+        for name, text in fakes.items():
+            (room / name).write_text(f"#!/bin/sh\n{text}\n")
+            (room / name).chmod(0o755)
+        ran = subprocess.run([room / ".ci" / "run"], cwd="/", env={**os.environ, "PATH": f"{room}/bin:{os.environ['PATH']}"})
+        self.assertEqual(ran.returncode, 7, "the status of ./test is that of the gate")
+        return (room / "called").read_text().splitlines()

@@ -1,0 +1,321 @@
+"""Tests counting.py over tests of every outcome, program.py over programs of every outcome, and the judgement of run.py over a program
+that is wrong in one way: the built program, with something changed around it."""
+
+import contextlib
+import io
+import itertools
+import os
+import sys
+import tempfile
+import types
+import unittest
+from concurrent.futures import ThreadPoolExecutor
+from pathlib import Path
+from typing import List, Tuple
+from unittest import mock
+
+import counting
+from cases import Case, Sweep, read_all
+from paths import CASES, TOP
+from program import Outcome, run
+from run import Parts, all_of, complaints_of, judge_files, judge_sweep, run_titles
+
+PROGRAM = TOP / "crates" / "px_cli" / "out" / "px_cli"
+ONE = bytes.fromhex("4D4D002A00000008 0001 0112000300000001 00010000 00000000")
+
+
+class Fails(unittest.TestCase):
+    """Tests of each outcome, for Counting alone; none is loaded with the others."""
+
+    def fails(self):
+        self.assertEqual(1, 2)
+
+    def has_an_error(self):
+        raise KeyError("a name")
+
+    def leaves(self):
+        sys.exit(0)
+
+    def has_two_subtests_that_fail(self):
+        for number in (1, 2, 3):
+            with self.subTest(number=number):
+                self.assertEqual(number, 2)
+
+    def skips_and_fails(self):
+        with self.subTest():
+            self.skipTest("no tool")
+        self.fail("behind it")
+
+    @unittest.expectedFailure
+    def is_expected_to_fail(self):
+        self.fail("as expected")
+
+    @unittest.expectedFailure
+    def is_expected_to_fail_and_passes(self):
+        pass
+
+
+class Passes(unittest.TestCase):
+    """The same of tests that don't fail."""
+
+    def passes(self):
+        pass
+
+    def skips(self):
+        self.skipTest("no tool")
+
+    def skips_a_subtest(self):
+        with self.subTest():
+            self.skipTest("no tool")
+
+
+class IsNotSetUp(unittest.TestCase):
+    """A class whose tests cannot begin."""
+
+    @classmethod
+    def setUpClass(cls):
+        raise OSError("no folder")
+
+    def passes(self):
+        pass
+
+
+class Counting(unittest.TestCase):
+    """What counting.py makes of tests."""
+
+    def setUp(self) -> None:
+        changed = mock.patch.dict(os.environ)
+        changed.start()
+        self.addCleanup(changed.stop)
+        os.environ.pop("TEST_ONLY", None)
+
+    def counted(self, *tests: unittest.TestCase) -> Tuple[int, List[str]]:
+        printed = io.StringIO()
+        with contextlib.redirect_stdout(printed):
+            status = counting.run_suite(unittest.TestSuite(tests))
+        return status, printed.getvalue().splitlines()
+
+    def test_each_test_that_fails_is_one_with_its_reason(self):
+        for name, why in (
+            ("fails", "1 != 2"),
+            ("has_an_error", "KeyError: 'a name' (harness_outcomes.py:"),
+            ("leaves", "SystemExit: 0"),
+            ("has_two_subtests_that_fail", "(number=1) 1 != 2"),
+            ("skips_and_fails", "behind it"),
+            ("is_expected_to_fail", "marked as one that fails"),
+            ("is_expected_to_fail_and_passes", "and passed"),
+        ):
+            status, lines = self.counted(Fails(name), Passes("passes"))
+            self.assertEqual((status, lines[-1]), (1, "1 passed, 1 failed"), lines)
+            self.assertEqual(len(lines), 2, lines)
+            self.assertTrue(lines[0].startswith(f"FAILED Fails.{name}: ") and why in lines[0], lines)
+
+    def test_a_class_that_cannot_be_set_up_fails(self):
+        status, lines = self.counted(IsNotSetUp("passes"))
+        self.assertEqual((status, lines[-1]), (1, "0 passed, 1 failed"), lines)
+        self.assertIn("OSError: no folder", lines[0])
+
+    def test_skipped_tests_are_counted(self):
+        for name in ("skips", "skips_a_subtest"):
+            status, lines = self.counted(Passes(name), Passes("passes"))
+            self.assertEqual((status, lines), (0, [f"skipped: Passes.{name}: no tool", "1 passed, 0 failed, 1 skipped"]))
+
+    def test_no_test_is_a_failure(self):
+        self.assertEqual(self.counted(), (1, ["FAILED: no test ran", "0 passed, 1 failed"]))
+
+    def test_functions_that_check(self):
+        def good(counter):
+            counter.check("two", True)
+            counter.run("three", lambda: None)
+            counter.skip("four", "no tool")
+
+        def bad(counter):
+            counter.check("five", True)
+            raise KeyError("a name")
+
+        def nothing(counter):
+            pass
+
+        def skips(counter):
+            raise unittest.SkipTest("no tool")
+
+        for tests, status, last in (
+            ([good], 0, "2 passed, 0 failed, 1 skipped"),
+            ([good, bad], 1, "3 passed, 1 failed, 1 skipped"),
+            ([good, nothing], 1, "2 passed, 1 failed, 1 skipped"),
+            ([good, skips], 0, "2 passed, 0 failed, 2 skipped"),
+            ([], 1, "0 passed, 1 failed"),
+        ):
+            printed = io.StringIO()
+            with contextlib.redirect_stdout(printed):
+                ended = counting.run_tests(tests)
+            self.assertEqual((ended, printed.getvalue().splitlines()[-1]), (status, last))
+
+    def test_examples(self):
+        for text, holds in ((">>> 1 + 1\n2\n", True), (">>> 1 + 1\n3\n", False), ("no example", False)):
+            module = types.ModuleType("a_module", text)
+            with contextlib.redirect_stdout(io.StringIO()), contextlib.nullcontext() if holds else self.assertRaises(AssertionError):
+                counting.examples(module)
+
+    def test_only_some(self):
+        counter = counting.Counter(only="this")
+        ran = []
+        for name in ("this one", "another"):
+            counter.run(name, lambda name=name: ran.append(name))
+            counter.collect(f"{name} collects", lambda inner, name=name: inner.check("a name", not ran.append(name)))
+        self.assertEqual((ran, counter.passed, counter.failed), (["this one", "this one"], 2, 0))
+
+
+class Room(unittest.TestCase):
+    """A folder with a program of a few lines."""
+
+    def setUp(self) -> None:
+        room = tempfile.TemporaryDirectory()
+        self.addCleanup(room.cleanup)
+        self.folder = Path(room.name)
+
+    def program(self, text: str) -> str:
+        path = self.folder / "program"
+        path.write_text(f"#!/bin/sh\n{text}\n")
+        path.chmod(0o755)
+        return str(path)
+
+
+class Programs(Room):
+    """The output of program.py for runs."""
+
+    def test_its_status_its_texts_and_its_files(self):
+        program = self.program('cat; echo "$*" >OUT; echo note >&2; exit 3')
+        outcome = run(program, Case("", words=["a", "b c"], files={"a": b"1"}, folders=["d"], input=b"in"))
+        self.assertEqual(outcome, Outcome(3, b"in", b"note\n", {"a": b"1", "OUT": b"a b c\n"}))
+
+    def test_a_program_that_is_killed(self):
+        self.assertEqual(run(self.program("kill -9 $$"), Case("")).status, -9)
+
+    def test_a_program_that_does_not_end(self):
+        self.assertEqual(run(self.program("exec sleep 50"), Case(""), seconds=0.2).status, "no end")
+
+    def test_an_input_in_pieces_and_one_without_end(self):
+        self.assertEqual(run(self.program("cat"), Case("", input=bytes(1000), in_pieces=7)).output, bytes(1000))
+        self.assertEqual(run(self.program("head -c 1000000"), Case("", input=b"a", endless=b"bc")).output, (b"a" + b"bc" * 500000)[:1000000])
+
+    def test_an_input_from_a_file(self):
+        outcome = run(self.program("test -f /dev/stdin && cat"), Case("", files={"a": b"of a file"}, input_from="a"))
+        self.assertEqual((outcome.status, outcome.output), (0, b"of a file"))
+
+    def test_where_the_output_goes(self):
+        full = run(self.program("echo a"), Case("", output_to="/dev/full"))
+        self.assertNotEqual((full.status, full.complaints), (0, b""))
+        self.assertEqual(run(self.program("trap '' PIPE; echo a 2>/dev/null || exit 7"), Case("", output_to="a closed pipe")).status, 7)
+
+    def test_the_environment_is_the_same_everywhere(self):
+        names = {it.split(b"=")[0] for it in run("/usr/bin/env", Case(""), {"MORE": "1"}).output.splitlines()}
+        self.assertEqual(names, {b"PATH", b"LANG", b"MORE"})
+
+
+class Wrong(Room):
+    """The output of run.py for the built program with something changed around it."""
+
+    cases = {it.name: it for it in read_all(CASES)}
+    refused = "a caption behind the six bytes of a JPEG segment, by check"
+    shown = "a FLOAT, an SRATIONAL and two SSHORTs, by show"
+    normalised = "a caption with three zero octets behind it, by normalise"
+    filtered = "own form of one SHORT, through standard input"
+
+    def judged(self, name: str, text: str) -> list:
+        case = self.cases[name]
+        return complaints_of(case, run(self.program(text.replace("REAL", f"'{PROGRAM}'")), case))
+
+    def test_the_program_as_it_is(self):
+        for name in (self.refused, self.shown, self.normalised, self.filtered):
+            self.assertEqual(self.judged(name, 'exec REAL "$@"'), [])
+
+    def test_each_change_is_one_complaint(self):
+        for name, text in (
+            (self.refused, 'REAL "$@"; exit 1'),
+            (self.refused, 'REAL "$@"; exit 3'),
+            (self.refused, 'REAL "$@"; kill -9 $$'),
+            (self.shown, 'REAL "$@"; exit 4'),
+            (self.shown, 'echo note >&2; exec REAL "$@"'),
+            (self.shown, 'REAL "$@" && echo'),
+            (self.shown, 'REAL "$@" | head -c -1'),
+            (self.shown, 'REAL "$@" | tail -n +2'),
+            (self.shown, 'touch more; exec REAL "$@"'),
+            (self.shown, 'REAL "$@" && echo >>"$2"'),
+            (self.shown, 'REAL "$@" && rm "$2"'),
+            (self.normalised, 'REAL "$1" "$2" other && mv other more'),
+            (self.normalised, 'REAL "$@" && printf x >>"$3"'),
+            (self.normalised, 'REAL "$@" && rm "$3"'),
+            (self.normalised, 'REAL "$@" && cp "$3" "$2"'),
+            (self.normalised, 'REAL "$@" && echo done'),
+            (self.filtered, 'REAL | tail -c +2'),
+            (self.filtered, 'REAL >/dev/null'),
+        ):
+            with self.subTest(name, text=text):
+                self.assertTrue(1 <= len(self.judged(name, text)) <= 2)
+
+    def test_sweeps(self):
+        for block, kinds in ((ONE, {}), (ONE, {"accepted": 5}), (ONE, {"normal": ONE, "accepted": 5})):
+            blocks = [block] * 5
+            self.assertEqual(judge_sweep(str(PROGRAM), Sweep("", blocks, **kinds)), [])
+            self.assertNotEqual(judge_sweep(self.program(f"'{PROGRAM}' \"$@\"; exit 2"), Sweep("", blocks, **kinds)), [])
+        for wrong in ({"accepted": 4}, {"accepted": 6}, {"normal": b"another"}):
+            self.assertNotEqual(judge_sweep(str(PROGRAM), Sweep("", [ONE] * 5, **wrong)), [], wrong)
+        self.assertNotEqual(judge_sweep(str(PROGRAM), Sweep("", [ONE, ONE[:-1]], normal=ONE)), [])
+
+    def test_what_a_sweep_tries(self):
+        sizes = {name: len(sweep.blocks) for name, sweep in self.cases.items() if isinstance(sweep, Sweep)}
+        self.assertEqual(sizes["every cut of one SHORT"], len(ONE))
+        self.assertEqual(sizes["every bit of one SHORT"], 8 * len(ONE))
+        self.assertGreaterEqual(sum(sizes.values()), 11380)
+
+    def test_files_by_each_command(self):
+        self.assertEqual(judge_files(str(PROGRAM), [ONE] * 4, ("", "check", "show", "captions")), [])
+        for command in ("check", "show", "captions"):
+            wrong = self.program(f'[ "$1" = {command} ] && echo; exec \'{PROGRAM}\' "$@"')
+            self.assertEqual(len(judge_files(wrong, [ONE] * 4, ("", "check", "show", "captions"))), 1, command)
+
+
+class Titles(unittest.TestCase):
+    """What run.py runs: so many tests under each title, and none of them lost on the way."""
+
+    least = {
+        "cases": 594,
+        "cases, with growths refused in turn": 485,
+        "what the cases cost": 521,
+        "blocks nearly in order": 78,
+        "blocks of every kind, and what they cost": 423,
+        "blocks of every kind, with growths refused": 423,
+        "devices that fail once": 259,
+        "devices that move one byte in a call": 481,
+        "devices that move one byte in a call, and fail once": 10,
+        "large blocks, and what they cost": 9,
+        "the libraries that are preloaded": 1,
+    }
+
+    def test_each_title_has_its_tests(self):
+        with tempfile.TemporaryDirectory() as folder:
+            titles = {title: len(list(itertools.islice(tests, self.least[title])))
+                      for title, tests in Parts("/bin/true", read_all(CASES), "", folder).all()}  # fmt: skip
+        self.assertEqual(titles, self.least)
+
+    def test_each_test_is_counted_as_it_ends(self):
+        printed, failures = io.StringIO(), []
+        tests = [(f"test {i}", lambda i=i: [f"fault {i}"] if i % 3 == 0 else []) for i in range(100)]
+        with ThreadPoolExecutor(2) as pool, contextlib.redirect_stdout(printed):
+            self.assertEqual(all_of(tests, pool, failures), 66)
+        self.assertEqual(failures, [f"test {i}" for i in range(0, 100, 3)])
+        self.assertEqual(printed.getvalue().splitlines(), [f"FAILED test {i}: fault {i}" for i in range(0, 100, 3)])
+
+    def test_a_test_that_ends_with_an_exception_fails(self):
+        with ThreadPoolExecutor(2) as pool, contextlib.redirect_stdout(io.StringIO()):
+            failures: list = []
+            self.assertEqual(all_of([("a division", lambda: 1 / 0), ("none", lambda: [])], pool, failures), 1)
+        self.assertEqual(failures, ["a division"])
+
+    def test_a_title_without_a_test_fails(self):
+        for only, failed in (("", 1), ("some", 0)):
+            printed = io.StringIO()
+            with contextlib.redirect_stdout(printed):
+                self.assertEqual(run_titles([("one", [("a test", lambda: [])]), ("cases", iter(()))], only), (1, failed))
+            self.assertEqual("FAILED cases: there is no test" in printed.getvalue(), failed == 1)

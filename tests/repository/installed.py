@@ -1,0 +1,149 @@
+"""Trees that `make install` writes, for tests/repository/install.py and tests/packages.py."""
+
+from __future__ import annotations
+
+import os
+import re
+import stat
+import subprocess
+from dataclasses import dataclass, field
+from pathlib import Path
+
+from paths import TOP
+
+EXAMPLES = TOP / "tests" / "library" / "examples"
+DEBIAN_PYTHON = "/usr/bin/python3"
+VERSION = re.search(r'VERSION: &str = "(.*)";', (TOP / "crates/px_engine/src/version.rt").read_text(encoding="utf-8"))[1]
+PROGRAM, FILE, FOLDER = 0o755, 0o644, 0o755
+
+
+def run(*words: str | Path, folder: Path = TOP, status: int = 0, mask: int = 0o022, **environment: str) -> str:
+    """Runs a command, which must end with a status, and returns what it prints.
+
+    >>> run("echo", "a")
+    'a\\n'
+    """
+    ran = subprocess.run(
+        [str(it) for it in words],
+        cwd=folder,
+        env={**os.environ, **environment},
+        stdin=subprocess.DEVNULL,
+        stdout=subprocess.PIPE,
+        stderr=subprocess.STDOUT,
+        umask=mask,
+        timeout=1800,
+        check=False,
+    )
+    said = ran.stdout.decode("utf-8", "replace")
+    if ran.returncode != status:
+        raise AssertionError(f"{' '.join(map(str, words))[:200]} ended with status {ran.returncode}: {said[-2000:].strip()}")
+    return said
+
+
+def kind_of(path: Path) -> int | str:
+    """The mode of a file or a folder, or where a link leads."""
+    return os.readlink(path) if path.is_symlink() else stat.S_IMODE(path.stat().st_mode)
+
+
+def tree(folder: Path) -> dict[str, int | str]:
+    """All that is below a folder: the modes of files and of folders, whose names end with a slash, and where links lead."""
+    found = {}
+    for path in folder.rglob("*"):
+        is_folder = path.is_dir() and not path.is_symlink()
+        found[f"{path.relative_to(folder)}{'/' if is_folder else ''}"] = kind_of(path)
+    return found
+
+
+def with_folders(files: dict[str, int | str]) -> dict[str, int | str]:
+    """The files, and each folder that they are in.
+
+    >>> with_folders({"a/b/c": 0o644})
+    {'a/': 493, 'a/b/': 493, 'a/b/c': 420}
+    """
+    folders = {f"{it}/": FOLDER for name in files for it in Path(name).parents if str(it) != "."}
+    return dict(sorted({**files, **folders}.items()))
+
+
+def modules() -> list[str]:
+    """The files of the Python packages in the sources."""
+    kept = (it for package in ("exifnorm", "exifnorm_pictures") for it in (TOP / "python" / package).rglob("*") if it.is_file())
+    return sorted(str(it.relative_to(TOP / "python")) for it in kept if it.parent.name != "__pycache__")
+
+
+def packages_path(python: str, prefix: str) -> str:
+    """The folder below a prefix in which a Python looks for packages: that of its own module site, or else the usual one."""
+    code = """
+import site, sys
+print(*site.getsitepackages(), "%s/lib/python%d.%d/site-packages" % (sys.argv[1], *sys.version_info[:2]), sep="\\n")"""
+    places = run(python, "-c", code, prefix).split("\n")
+    return next(it for it in places if it.startswith(f"{prefix}/lib"))
+
+
+@dataclass
+class Tree:
+    """An installation for one prefix and one Python, below a folder."""
+
+    root: Path
+    prefix: str
+    python: str
+    words: list[str] = field(default_factory=list)
+
+    def make(self, target: str, *words: str, mask: int = 0o022) -> str:
+        """Runs make with the variables of this installation."""
+        given = [f"DESTDIR={self.root}", f"PREFIX={self.prefix}", f"PYTHON={self.python}"]
+        return run("make", target, *given, *self.words, *words, mask=mask)
+
+    @property
+    def packages(self) -> str:
+        """The folder of the Python packages, without the root."""
+        return packages_path(self.python, self.prefix)
+
+    def at(self, *names: str) -> Path:
+        """A file below the prefix."""
+        return Path(f"{self.root}{self.prefix}", *names)
+
+    @property
+    def module_folder(self) -> Path:
+        return Path(f"{self.root}{self.packages}")
+
+    def expected(self) -> dict[str, int | str]:
+        """The list of all that install writes."""
+        prefix, packages = self.prefix[1:], self.packages[1:]
+        dist_info = f"{packages}/exifnorm-{VERSION}.dist-info"
+        up = os.path.relpath(f"/{prefix}/lib", f"/{packages}/exifnorm")
+        files: dict[str, int | str] = {
+            f"{prefix}/bin/exifnorm": PROGRAM,
+            f"{prefix}/bin/exifnorm-pictures": PROGRAM,
+            f"{prefix}/include/exifnorm.h": FILE,
+            f"{prefix}/lib/libexifnorm.a": FILE,
+            f"{prefix}/lib/libexifnorm.so": "libexifnorm.so.1",
+            f"{prefix}/lib/libexifnorm.so.1": f"libexifnorm.so.{VERSION}",
+            f"{prefix}/lib/libexifnorm.so.{VERSION}": FILE,
+            f"{prefix}/lib/pkgconfig/exifnorm.pc": FILE,
+            f"{prefix}/share/bash-completion/completions/exifnorm": FILE,
+            f"{prefix}/share/bash-completion/completions/exifnorm-pictures": FILE,
+            f"{prefix}/share/doc/exifnorm/CHANGELOG.md": FILE,
+            f"{prefix}/share/doc/exifnorm/DECISIONS.md": FILE,
+            f"{prefix}/share/doc/exifnorm/FORMAT.md": FILE,
+            f"{prefix}/share/doc/exifnorm/LICENSE-APACHE": FILE,
+            f"{prefix}/share/doc/exifnorm/LICENSE-MIT": FILE,
+            f"{prefix}/share/doc/exifnorm/RECIPES.md": FILE,
+            f"{prefix}/share/doc/exifnorm/REFUSALS.md": FILE,
+            f"{prefix}/share/exifnorm/installed": FILE,
+            f"{prefix}/share/fish/vendor_completions.d/exifnorm-pictures.fish": FILE,
+            f"{prefix}/share/fish/vendor_completions.d/exifnorm.fish": FILE,
+            f"{prefix}/share/man/man1/exifnorm-pictures.1": FILE,
+            f"{prefix}/share/man/man1/exifnorm.1": FILE,
+            f"{prefix}/share/man/man3/exifnorm.3": FILE,
+            f"{prefix}/share/zsh/site-functions/_exifnorm": FILE,
+            f"{prefix}/share/zsh/site-functions/_exifnorm-pictures": FILE,
+            f"{packages}/exifnorm/libexifnorm.so.1": f"{up}/libexifnorm.so.1",
+            f"{dist_info}/INSTALLER": FILE,
+            f"{dist_info}/LICENSE-APACHE": FILE,
+            f"{dist_info}/LICENSE-MIT": FILE,
+            f"{dist_info}/METADATA": FILE,
+            f"{dist_info}/entry_points.txt": FILE,
+        }
+        files.update({f"{packages}/{it}": FILE for it in modules()})
+        return with_folders(files)
+

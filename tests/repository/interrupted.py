@@ -1,0 +1,142 @@
+"""Tests of builds that are interrupted: killed, or out of space, at each change that they make to a file; and of files that they leave.
+
+tests/repository/launcher.py runs these.
+"""
+
+import os
+import shutil
+import sys
+
+from room import Room, due
+
+# Runs build/launch.py, and at its Nth change of a file kills it, or lets that change and all later ones fail for want of space.
+FAULTY = """import errno, os, runpy, signal, sys
+how, left = sys.argv[1], int(sys.argv[2])
+sys.argv = sys.argv[3:]
+CHANGES = {"os.mkdir", "os.rename", "os.remove", "os.rmdir", "os.symlink", "os.link", "os.truncate", "subprocess.Popen"}
+NEED_SPACE = {"open", "os.mkdir", "os.rename", "os.symlink", "os.link"}
+
+
+def hook(event, args):
+    global left
+    if event != "open" and event not in CHANGES or event == "open" and not (isinstance(args[2], int) and args[2] & 3):
+        return
+    if event == "open" and args[0] in ("/dev/null", os.devnull):
+        return
+    left -= 1
+    if how == "kill" and left == 0:
+        os.kill(os.getpid(), signal.SIGKILL)
+    if how == "full" and left <= 0 and event in NEED_SPACE:
+        raise OSError(errno.ENOSPC, os.strerror(errno.ENOSPC))
+
+
+sys.addaudithook(hook)
+sys.path.insert(0, os.path.dirname(sys.argv[0]))
+runpy.run_path(sys.argv[0], run_name="__main__")
+"""
+CRATES = "px_bytes: byteorder\npx_cli: px_bytes\n"
+
+
+def small(room: Room, name: str) -> Room:
+    """Two crates, and a Python that makes the fault which the room's file `fault` names."""
+    made = Room(room.folder / name, CRATES)
+    (made.folder / "faulty.py").write_text(FAULTY)
+    made.command(made.bin / "python3", f'#!/bin/sh\nshift\nexec "{sys.executable}" -E "ROOM/faulty.py" $(cat "ROOM/fault") "$@"\n')
+    (made.folder / "fault").write_text("no 0")
+    return made
+
+
+def at_each_step(room: Room, how: str, begin) -> None:
+    """Builds with a fault at the first change of a file, at the second, and so on; a call after each is right."""
+    made = small(room, how)
+    for step in range(1, 200):
+        text = f"text {step}"
+        begin(made, text)
+        (made.folder / "fault").write_text(f"{how} {step}")
+        ran = made.call("a")
+        due((ran.returncode, ran.stdout) in ((0, f"{text}: a\n"), (70, ""), (-9, "")), (step, ran))
+        due(how != "kill" or ran.returncode != 70, (step, ran))
+        (made.folder / "fault").write_text("no 0")
+        if step % 2:
+            made.main.write_text(f"{text}, edited")
+            text = f"{text}, edited"
+        again = made.call("a")
+        due((again.returncode, again.stdout) == (0, f"{text}: a\n"), (step, ran, again))
+        if ran.returncode == 0 and step > 20:
+            return
+    raise AssertionError("a build that ends was not seen")
+
+
+def from_nothing(room: Room, text: str) -> None:
+    shutil.rmtree(room.top / "out", ignore_errors=True)
+    room.main.write_text(text)
+
+
+def after_an_edit(room: Room, text: str) -> None:
+    room.main.write_text(text)
+    (room.top / "crates/px_bytes/src/lib.rt").write_text(text)
+
+
+def a_first_build_that_is_killed_at_any_step_leaves_nothing_wrong(room: Room) -> None:
+    at_each_step(room, "kill", from_nothing)
+
+
+def a_later_build_that_is_killed_at_any_step_leaves_nothing_wrong(room: Room) -> None:
+    at_each_step(room, "kill", after_an_edit)
+
+
+def a_full_disk_at_any_step_of_a_first_build_is_an_error(room: Room) -> None:
+    at_each_step(room, "full", from_nothing)
+
+
+def a_full_disk_at_any_step_of_a_later_build_is_an_error(room: Room) -> None:
+    at_each_step(room, "full", after_an_edit)
+
+
+def a_file_that_cannot_grow_is_an_error(room: Room) -> None:
+    """What this process may write to one file ends after some bytes, as on a full disk; the compiler may write more."""
+    made = Room(room.folder / "bytes", CRATES)
+    rattle = (made.folder / "kit/bin/rattle").read_text()
+    made.command(made.folder / "kit/bin/rattle", rattle.replace("#!/bin/sh\n", "#!/bin/sh\nulimit -S -f unlimited\n"))
+    for size in (0, 1, 50, 96, 4096):
+        text = f"text {size}"
+        after_an_edit(made, text)
+        ran = made.call(f"--fsize={size}:", str(made.top / "exifnorm"), "a", program="prlimit")
+        due((ran.returncode, ran.stdout) in ((0, f"{text}: a\n"), (70, "")), (size, ran))
+        due(ran.returncode == (70 if size < 97 else 0), (size, ran))
+        due(made.call("a").stdout == f"{text}: a\n", size)
+
+
+def what_is_left_behind_is_no_obstacle(room: Room) -> None:
+    """Locks of processes that are gone, and half of what a build makes."""
+    proved = room.top / "out/proved"
+    (proved / "making/px_bytes.rlib/old").mkdir(parents=True)
+    (proved / "px_iim.rlib/old").mkdir(parents=True)
+    (proved / "px_cli").write_text("half")
+    (proved / "lock").write_text("99999999\n")
+    os.symlink("99999999", room.top / "out/building")
+    os.symlink("99999999", room.top / "out/sweeping")
+    (room.top / "out/looked").write_text("")
+    (room.top / "out/exifnorm").mkdir()
+    ran = room.call("a")
+    due(ran.returncode == 70 and "exifnorm" in ran.stderr, ran)
+    (room.top / "out/exifnorm").rmdir()
+    due(room.call("a").stdout == "one: a\n" and len(room.built()) == 4, room.log())
+    due(not (proved / "making").exists(), "half of a build is left")
+
+
+def a_lock_that_cannot_be_taken_ends_the_call(room: Room) -> None:
+    (room.top / "out/proved/lock").mkdir(parents=True)
+    ran = room.call("a")
+    due(ran.returncode == 70 and ran.stdout == "" and "lock" in ran.stderr, ran)
+
+
+TESTS = [
+    a_first_build_that_is_killed_at_any_step_leaves_nothing_wrong,
+    a_later_build_that_is_killed_at_any_step_leaves_nothing_wrong,
+    a_full_disk_at_any_step_of_a_first_build_is_an_error,
+    a_full_disk_at_any_step_of_a_later_build_is_an_error,
+    a_file_that_cannot_grow_is_an_error,
+    what_is_left_behind_is_no_obstacle,
+    a_lock_that_cannot_be_taken_ends_the_call,
+]

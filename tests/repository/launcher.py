@@ -1,0 +1,600 @@
+#!/usr/bin/env python3
+"""Tests ./exifnorm, the launcher, with a toolchain that proves nothing: each test has a folder of its own with a few crates. Those of
+build/, of builds that are interrupted and of the Makefile follow, and those of first_build.py with the toolchain itself.
+
+  tests/repository/launcher.py
+
+Each test that fails has a line. The last line is 'N passed, N failed', and the status is 0 only where nothing failed.
+"""
+
+import ctypes
+import os
+import shutil
+import signal
+import subprocess
+import sys
+import tempfile
+import time
+from concurrent.futures import ThreadPoolExecutor
+from pathlib import Path
+
+sys.dont_write_bytecode = True
+sys.path.insert(0, str(Path(__file__).resolve().parent.parent))
+
+import paths
+import build_rules
+import first_build
+import interrupted
+import makefile
+from counting import Counter
+from room import HANDLES, Room, due, runs, wait_until
+
+# Prints the state of the process that a program runs as: its number, how it treats signals, and its open files.
+PROGRAM = r"""#!/bin/sh
+[ "$1" != --version ] || exit 0
+echo $$
+while read -r name value; do case $name in SigIgn: | SigBlk:) echo "$name $value" ;; esac; done </proc/$$/status
+for it in 0 1 2; do [ -e /proc/$$/fd/$it ] && echo "$it is open"; done
+echo "this is an error" >&2
+exit "${1:-0}"
+"""
+
+
+def the_first_call_builds_each_crate_once_and_runs(room: Room) -> None:
+    ran = room.call("check", "a b")
+    due((ran.returncode, ran.stdout) == (0, "one: check a b\n"), ran)
+    due(sorted(room.built()) == ["px_bytes", "px_cli", "px_field", "px_iim"], room.log())
+    due(room.built()[0] == "px_bytes" and room.built()[-1] == "px_cli", room.log())
+    due("proving px_cli (4 of 4, 0 left)" in ran.stderr, ran.stderr)
+
+
+def a_later_call_builds_nothing_and_says_nothing(room: Room) -> None:
+    room.call()
+    for _ in range(3):
+        ran = room.call("show", "x")
+        due((ran.returncode, ran.stdout, ran.stderr) == (0, "one: show x\n", ""), ran)
+    due(room.builds() == 1, room.log())
+
+
+def a_changed_source_is_built(room: Room) -> None:
+    room.call()
+    room.main.write_text("two")
+    due(room.call().stdout == "two: \n", room.log())
+
+
+def an_older_source_in_its_place_is_built(room: Room) -> None:
+    room.main.write_text("old")
+    os.utime(room.main, (10**9, 10**9))
+    shutil.copy2(room.main, room.folder / "old.rt")
+    room.main.write_text("new")
+    due(room.call().stdout == "new: \n", room.log())
+    shutil.copy2(room.folder / "old.rt", room.main)  # the same name and size, an older time
+    due(room.call().stdout == "old: \n", room.log())
+
+
+def most_calls_are_a_quick_look_without_python(room: Room) -> None:
+    room.settle()
+    for name in ("find", "cmp", "sh", "readlink", "ls", "python3", "rt", "cat", "ps"):
+        real = shutil.which(name, path=room.environment()["PATH"])
+        room.command(room.folder / "counted" / name, f'#!/bin/dash\necho {name} >>"ROOM/started"\nexec "{real}" "$@"\n')
+    # (the one of the PATH stays in the look that was noted)
+    room.named = {"PATH": f"{room.folder}/counted:{room.environment()['PATH']}"}
+    (room.folder / "counted" / "rt").unlink()
+    due(room.call("a").stdout == "one: a\n", "the program does not run")
+    started = sorted((room.folder / "started").read_text().split())
+    due(started == ["cmp", "find", "sh"], f"a call starts {started}")
+    room.main.write_text("two")
+    due(room.call("a").stdout == "two: a\n" and "python3" in (room.folder / "started").read_text(), "commands are not counted")
+
+
+def each_source(room: Room):
+    """A further file in each folder of sources of three crates, with the crates that have to be built after a change of it."""
+    above = {"px_bytes": ["px_bytes", "px_cli", "px_field", "px_iim"], "px_iim": ["px_cli", "px_iim"], "px_cli": ["px_cli"]}
+    for crate, built in above.items():
+        for part in ("src", "specs", "specs/calls", "specs/lemmas", "proofs", "proofs/lists"):
+            yield room.top / "crates" / crate / part / ("Further.antt" if part != "src" else "further.rt"), built
+
+
+def every_kind_of_change_in_each_folder_is_noticed(room: Room) -> None:
+    room.call()
+    spare = room.folder / "spare"
+    for source, built in each_source(room):
+        source.parent.mkdir(exist_ok=True)
+        kinds = {
+            "added": lambda it: it.write_text("text"),
+            "edited": lambda it: it.write_text("more"),
+            "edited, with its time put back": lambda it: [it.write_text("most"), os.utime(it, (10**9, 10**9))],
+            "edited, with the time that it had": lambda it: [it.write_text("much"), os.utime(it, (10**9, 10**9))],
+            "another in its place": lambda it: [spare.write_text("text"), os.utime(spare, (10**9, 10**9)), os.rename(spare, it)],
+            "taken away": lambda it: it.unlink(),
+        }
+        for kind, change in kinds.items():
+            room.note()
+            due(room.looks(), "no quick look")
+            change(source)
+            due(not room.looks(), f"the quick look passes over {source}: {kind}")
+        source.write_text("new")
+        room.forget()
+        due(room.call("a").stdout == "one: a\n" and sorted(room.built()) == built, (source, room.log()))
+
+
+def a_change_of_what_is_no_source_of_a_crate_is_noticed(room: Room) -> None:
+    room.call()
+    for name in ("crates.txt", "HANDLES", "build/prove.py", "build/machine.py", "out/proved/px_cli", "out/proved/px_cli.made-from"):
+        room.note()
+        due(room.looks(), "no quick look")
+        (room.top / name).touch()
+        due(not room.looks(), f"the quick look passes over a change of {name}")
+
+
+def a_look_is_noted_of_nothing_that_has_just_changed(room: Room) -> None:
+    room.call()
+    looked = room.top / "out" / "looked"
+    for it in (room.main, room.top / "crates.txt", room.rt):
+        room.settle()
+        looked.unlink()
+        it.touch()
+        room.call()
+        due(not looked.exists() or time.time() - it.stat().st_ctime > 1, f"{it} was changed within a tick of the clock")
+
+
+def touched_and_copied_sources_are_not_built_again(room: Room) -> None:
+    room.settle()
+    room.main.touch()
+    due(not room.looks(), "a time is passed over")
+    ran = room.call("a")
+    due((ran.stdout, ran.stderr, room.builds()) == ("one: a\n", "", 1), ran)
+    shutil.copytree(room.top, room.folder / "copy")
+    ran = room.call("a", program=str(room.folder / "copy" / "exifnorm"))
+    due((ran.stdout, ran.stderr, room.builds()) == ("one: a\n", "", 1), ran)
+
+
+def a_clock_that_is_set_back_hides_no_change(room: Room) -> None:
+    room.settle()
+    ahead = room.main.stat().st_mtime + 86_400
+    for it in (room.top / "out").rglob("*"):
+        os.utime(it, (ahead, ahead), follow_symlinks=False)
+    room.call()
+    room.main.write_text("two")
+    os.utime(room.main, (10**9, 10**9))
+    due(room.call().stdout == "two: \n", room.log())
+
+
+def another_toolchain_builds_again_and_the_same_elsewhere_does_not(room: Room) -> None:
+    room.settle()
+    room.rt.touch()
+    due(not room.looks(), "another command is passed over")
+    room.call()
+    due(room.builds() == 1, room.log())
+    (room.folder / "version").write_text("toolchain 2\n")
+    room.rt.touch()
+    room.call()
+    due(room.builds() == 2 and len(room.built()) == 8, room.log())
+    room.settle()
+    shutil.copytree(room.bin, room.folder / "other")
+    room.named = {"PATH": f"{room.folder}/other:{room.environment()['PATH']}"}
+    due(not room.looks(), "a command in another folder is passed over")
+    due((room.call("a").stdout, room.builds()) == ("one: a\n", 2), room.log())
+
+
+def other_scripts_that_prove_build_again(room: Room) -> None:
+    room.settle()
+    for name, builds in (("compiler.py", 2), ("verdict.py", 3), ("prove.py", 3), ("launch.py", 3)):
+        with open(room.top / "build" / name, "a", encoding="utf-8") as it:
+            it.write("# changed\n")
+        due(not room.looks(), f"a change of {name} is passed over")
+        due((room.call("a").stdout, room.builds()) == ("one: a\n", builds), (name, room.log()))
+        room.settle()
+
+
+def a_changed_or_missing_program_is_noticed(room: Room) -> None:
+    room.settle()
+    program = room.top / "out/proved/px_cli"
+    program.unlink()
+    due(room.call("a").stdout == "one: a\n" and room.built()[4:] == ["px_cli"], room.log())
+    room.settle()
+    program.touch()
+    due(not room.looks(), "a program that was changed is passed over")
+    room.settle()
+    (room.top / "out/exifnorm").unlink()
+    due(room.call("a").stdout == "one: a\n" and room.builds() == 2, room.log())
+    (room.top / "out/exifnorm").unlink()
+    (room.top / "out/exifnorm").write_text("what another version of this left")
+    due(room.call("a").stdout == "one: a\n" and room.builds() == 2, room.log())
+
+
+def a_built_program_runs_without_the_toolchain(room: Room) -> None:
+    room.call()
+    ran = room.call("a", has_rt=False)
+    due((ran.returncode, ran.stdout, ran.stderr) == (0, "one: a\n", ""), ran)
+    room.main.write_text("two")
+    ran = room.call("a", has_rt=False)
+    due(ran.returncode == 70 and ran.stdout == "" and "no command rt" in ran.stderr, ran)
+
+
+def a_call_without_python_runs_what_is_built_and_builds_nothing(room: Room) -> None:
+    room.settle()
+    few = room.folder / "few"
+    few.mkdir()
+    for name in ("sh", "find", "cmp", "readlink"):
+        (few / name).symlink_to(shutil.which(name))
+    room.named = {"PATH": f"{room.bin}:{few}"}
+    ran = room.call("a")
+    due((ran.returncode, ran.stdout, ran.stderr) == (0, "one: a\n", ""), ran)
+    room.main.write_text("two")
+    ran = room.call("a")
+    due(ran.returncode == 70 and ran.stdout == "" and "python3" in ran.stderr, ran)
+
+
+def a_crate_that_fails_is_told_and_built_by_the_next_call(room: Room) -> None:
+    (room.folder / "fails-px_iim").write_text("this crate is not proved\n")
+    ran = room.call("a")
+    due(ran.returncode == 70 and ran.stdout == "", ran)
+    due("this crate is not proved" in ran.stderr and "px_iim was not proved" in ran.stderr, ran.stderr)
+    (room.folder / "fails-px_iim").unlink()
+    due(room.call("a").stdout == "one: a\n", room.log())
+
+
+def a_proof_that_fails_after_a_good_build_is_not_taken(room: Room) -> None:
+    room.settle()
+    late = "logic=proved functions=1 sum=1f\nerror: it cannot be written\n"
+    for crate, text in (("px_iim", late), ("px_cli", late), ("px_cli", "")):
+        fails = room.folder / f"fails-{crate}"
+        fails.write_text(text)
+        (room.top / "crates" / crate / "proofs/Answers.antt").write_text(f"wrong {crate}{'' if text else ' again'}")
+        for _ in range(2):
+            ran = room.call("a")
+            due(ran.returncode == 70 and ran.stdout == "" and f"{crate} was not proved" in ran.stderr, ran)
+        fails.unlink()
+        due(room.call("a").stdout == "one: a\n", room.log())
+    (room.folder / "fails-px_iim").write_text("no")
+    (room.top / "crates/px_iim/proofs/Answers.antt").write_text("wrong")
+    due(room.call("a").returncode == 70, "it was built")
+    (room.top / "crates/px_iim/proofs/Answers.antt").write_text("wrong px_iim")
+    due(room.call("a").stdout == "one: a\n", "the sources that were proved are taken as they were")
+
+
+# The compiler's output for a crate that is not proved, although it ends with status 0; and the expected report on the crate.
+NOT_PROVED = {
+    "": "0 verdicts",
+    "fn px_iim::one: proved\n": "0 verdicts",
+    "logic=failed functions=1 sum=1f\n": "logic=failed",
+    "logic=proved-in-part functions=1 sum=1f\n": "logic=proved-in-part",
+    " logic=proved functions=1 sum=1f\n": "0 verdicts",
+    "logic=proved functions=1 sum=1f\nlogic=failed functions=1 sum=1f\n": "2 verdicts",
+    "logic=failed functions=1 sum=1f\nlogic=proved functions=1 sum=1f\n": "2 verdicts",
+    **{f"logic=proved functions=1 {it} sum=1f\n": it for it in
+        "may-wait=1 may-abort=1 may-serve=2 partial=1 hides=1 bugs=1 main=Wait foreign=px_iim::c batches=trusted newer-word=3".split()},
+    **{f"logic=proved functions=1 sum=1f native=nat {it}\n": it for it in
+        "cache=trusted incremental=trusted crate-checked=trusted pinned=no".split()},
+    "warning: no call of `px_iim::never` can meet its contract\nlogic=proved functions=1 sum=1f\n": "px_iim::never",
+    "note: the search for empty contracts did not end\nlogic=proved functions=1 sum=1f\n": "did not end",
+}
+
+
+def a_crate_counts_as_proved_by_its_verdict_alone(room: Room) -> None:
+    room.call()
+    says = room.folder / "says-px_iim"
+    for i, (text, why) in enumerate(NOT_PROVED.items()):
+        due(why in build_rules.verdict.refused_verdict(text), text)
+        if i % 4 == 0:
+            says.write_text(text)
+            (room.top / "crates/px_iim/src/lib.rt").write_text(text)
+            ran = room.call("a")
+            due(ran.returncode == 70 and ran.stdout == "" and "px_iim was not proved" in ran.stderr and why in ran.stderr, (text, ran))
+    closure = "warning: no call of `px_iim::one::fn::two` can meet its contract\nlogic=proved functions=1 sum=1f\n"
+    says.write_text(closure)  # |e| match e {} is honest code
+    due(room.call("a").stdout == "one: a\n", room.log())
+
+
+def a_compiler_is_asked_for_contracts_that_no_call_can_meet(room: Room) -> None:
+    room.call()
+    asked = (room.folder / "asked").read_text().splitlines()
+    due(len(asked) == 4 and all("--empty-contracts" in it.split() for it in asked), asked)
+
+
+def changed_handles_are_refused(room: Room) -> None:
+    room.settle()
+    handles = room.top / "HANDLES"
+    for text in ("", "Handles allowed: Wait.\n", "Handles allowed: none", f"{HANDLES}Handles allowed: Wait.\n"):
+        handles.write_text(text)
+        ran = room.call("a")
+        due(ran.returncode == 70 and ran.stdout == "" and "HANDLES" in ran.stderr, (text, ran))
+    handles.unlink()
+    ran = room.call("a")
+    due(ran.returncode == 70 and ran.stdout == "" and "HANDLES" in ran.stderr, ran)
+    handles.write_text(HANDLES)
+    due((room.call("a").stdout, room.builds()) == ("one: a\n", 1), room.log())
+
+
+def links_among_the_sources_are_refused(room: Room) -> None:
+    room.settle()
+    for part in ("src/further.rt", "specs/calls", "proofs/Further.antt"):
+        link = room.top / "crates/px_iim" / part
+        link.symlink_to(room.folder / "elsewhere")  # which is not there
+        ran = room.call("a")
+        due(ran.returncode == 70 and ran.stdout == "" and "link" in ran.stderr, ran)
+        link.unlink()
+    due(room.call("a").stdout == "one: a\n", room.log())
+
+
+def a_program_that_does_not_start_is_never_put_in_place(room: Room) -> None:
+    room.call("a")
+    for text in ("#!/no/such/interpreter\n", "#!/bin/sh\nexit 1\n", "#!/bin/sh\nkill -9 $$\n", ""):
+        (room.folder / "program").write_text(text)
+        room.main.write_text(f"two {text}")
+        ran = room.call("a")
+        due(ran.returncode == 70 and ran.stdout == "" and "does not start" in ran.stderr, (text, ran))
+    (room.folder / "program").unlink()
+    room.main.write_text("one")
+    due(room.call("a").stdout == "one: a\n", room.log())
+
+
+def it_says_where_the_built_program_is(room: Room) -> None:
+    ran = room.call("--where", cwd="/")
+    due((ran.returncode, ran.stdout) == (0, f"{room.top.resolve() / 'out' / 'exifnorm'}\n"), ran)
+    due(room.call("a", program=ran.stdout.strip()).stdout == "one: a\n", ran)
+    for is_quick in (True, False):
+        room.settle()
+        due(room.call("--where", cwd="/").stdout == ran.stdout, "another call says another place")
+        for words in (("--where", "a"), ("--where", ""), ("", "--where"), ("--where a",)):
+            is_quick or (room.top / "out/looked").unlink(missing_ok=True)
+            due(room.call(*words).stdout == f"one: {' '.join(words)}\n", "beside other arguments it is the program's")
+
+
+def odd_names_of_folders_and_arguments(room: Room) -> None:
+    words = ("-a", "", " b  c ", "*", "$(exit 3)", "d\ne", "--")
+    for i, name in enumerate(("-repository", "with space", "a'b\"c", "$HOME", "line\nfeed", "é*?[x]", "\\n")):
+        other = Room(room.folder / str(i), name=name)
+        for _ in range(2):
+            ran = other.call(*words, program=f"{name}/exifnorm", cwd=other.folder)
+            due((ran.returncode, ran.stdout) == (0, f"one: {' '.join(words)}\n"), (name, ran))
+        os.symlink(f"{name}/exifnorm", other.folder / "-link")
+        for program, folder in (("./-link", other.folder), (str(other.folder / "-link"), "/")):
+            ran = other.call("b", program=program, cwd=folder)
+            due((ran.returncode, ran.stdout) == (0, "one: b\n"), (name, ran))
+        other.settle()
+        due(other.looks(), f"no quick look in {name!r}")
+        due(other.call("-", "b", program=f"{name}/exifnorm", cwd=other.folder).stdout == "one: - b\n", name)
+
+
+def it_is_called_from_any_folder_and_through_links(room: Room) -> None:
+    room.settle()
+    ran = room.call("a", program="./exifnorm", cwd=room.top)
+    due((ran.stdout, ran.stderr) == ("one: a\n", ""), ran)
+    os.symlink(room.top / "exifnorm", room.folder / "first")
+    os.symlink("first", room.folder / "second")
+    os.symlink(room.top, room.folder / "folder")
+    calls = [(str(room.folder / "second"), "/"), ("./second", room.folder), ("folder/exifnorm", room.folder)]
+    for program, folder in calls:
+        ran = room.call("b", program=program, cwd=folder)
+        due((ran.stdout, ran.stderr) == ("one: b\n", ""), ran)
+    shell = ("-c", 'exec "$@"', "", "sh", "exifnorm", "c")
+    ran = room.call(*shell, program="/bin/sh", cwd=room.top)
+    due((ran.stdout, ran.stderr) == ("one: c\n", ""), ran)
+    room.named = {"PATH": f"{room.top}:{room.environment()['PATH']}"}
+    ran = room.call("c", program="exifnorm", cwd="/")
+    due((ran.stdout, room.builds()) == ("one: c\n", 1), ran)
+    ran = room.call("exifnorm", "d", program="bash", cwd="/")  # bash looks for it on the PATH, and gives it its bare name
+    due((ran.stdout, ran.stderr) == ("one: d\n", ""), ran)
+
+
+def settings_of_the_callers_python_do_not_reach_the_build(room: Room) -> None:
+    shadow = room.folder / "shadow"
+    shadow.mkdir()
+    for name in ("hashlib", "subprocess", "sitecustomize"):
+        (shadow / f"{name}.py").write_text("raise SystemExit(5)\n")
+    room.named = {"PYTHONPATH": str(shadow), "PYTHONHOME": str(shadow)}
+    ran = room.call("a")
+    due((ran.returncode, ran.stdout) == (0, "one: a\n"), ran)
+
+
+def a_copy_outside_its_folder_is_an_error(room: Room) -> None:
+    shutil.copy(room.top / "exifnorm", room.folder / "exifnorm")
+    ran = room.call("a", program=str(room.folder / "exifnorm"))
+    due(ran.returncode == 70 and ran.stdout == "" and "folder" in ran.stderr, ran)
+
+
+def a_folder_that_cannot_be_written_is_told(room: Room) -> None:
+    (room.top / "out").write_text("a file in place of the folder")
+    ran = room.call("a")
+    due(ran.returncode == 70 and ran.stdout == "" and "out" in ran.stderr, ran)
+
+
+def nobody(room: Room) -> dict:
+    """Has the calls made by a user who can write nothing there."""
+    if os.geteuid():
+        return {}
+    for it in (room.folder, *room.folder.rglob("*")):
+        it.chmod(it.stat().st_mode & 0o755 | (0o055 if it.is_dir() else 0o044))
+    return {"user": 65534, "group": 65534, "extra_groups": []}
+
+
+def a_built_program_is_for_all_users(room: Room) -> None:
+    room.call()
+    room.main.touch()
+    how = nobody(room)
+    if not how:
+        (room.top / "out").chmod(0o555)
+    ran = room.call("a", **how)
+    (room.top / "out").chmod(0o755)
+    due((ran.returncode, ran.stdout, ran.stderr) == (0, "one: a\n", ""), ran)
+
+
+def no_shell_and_no_python_stays_beside_the_program(room: Room) -> None:
+    (room.folder / "program").write_text(PROGRAM)
+    said = []
+    for _ in range(2):
+        started = room.start("7")
+        out, why = started.communicate(timeout=300)
+        number, rest = out.split("\n", 1)
+        due((int(number), started.returncode) == (started.pid, 7) and why.endswith("this is an error\n"), (out, why))
+        said.append(rest)
+        room.settle()
+    due(said[0] == said[1] and "SigIgn: 0000000000000000" in said[0] and "SigBlk: 0000000000000000" in said[0], said)
+
+
+def closed_streams_stay_closed(room: Room) -> None:
+    (room.folder / "program").write_text(PROGRAM)
+    file = room.folder / "written"
+    for closes, expected in (("<&-", [1, 2]), ("2>&-", [0, 1]), ("<&- 2>&-", [1])):
+        room.main.write_text(closes)
+        for _ in range(2):
+            words = ("-c", f'exec "$@" {closes} >"{file}"', "", str(room.top / "exifnorm"))
+            ran = room.call(*words, program="/bin/sh")
+            seen = [int(it.split()[0]) for it in file.read_text().splitlines() if it.endswith("open")]
+            due(ran.returncode == 0 and seen == expected, (closes, ran, file.read_text()))
+            room.settle()
+        room.main.write_text(f"{closes} again")
+        (room.folder / "fails-px_cli").write_text("no")
+        ran = room.call(*words, program="/bin/sh")
+        due((ran.returncode, file.read_text()) == (70, ""), (closes, ran, file.read_text()))
+        (room.folder / "fails-px_cli").unlink()
+    ran = room.call("-c", 'exec "$@" >&-', "", str(room.top / "exifnorm"), program="/bin/sh")
+    due(ran.returncode == 0, ran)
+
+
+def an_output_that_takes_nothing_ends_no_build(room: Room) -> None:
+    with open("/dev/full", "w", encoding="ascii") as full:
+        ran = room.call("a", stderr=full)
+        due((ran.returncode, ran.stdout) == (0, "one: a\n"), ran)
+        room.main.write_text("two")
+        (room.folder / "fails-px_cli").write_text("no")
+        ran = room.call("a", stderr=full)
+        due((ran.returncode, ran.stdout) == (70, ""), ran)
+        (room.folder / "fails-px_cli").unlink()
+        due(room.call("--where", stdout=full).returncode == 70, "a place that could not be written was said")
+
+
+def what_was_just_proved_is_taken(room: Room) -> None:
+    room.is_proved()
+    ran = room.call("a")
+    due((ran.returncode, ran.stdout, room.log()) == (0, "proved: a\n", []), (ran, room.log()))
+    due("taking" in ran.stderr and "proving" not in ran.stderr, ran.stderr)
+    ran = room.call("b")
+    due((ran.stdout, ran.stderr) == ("proved: b\n", ""), ran)
+    due(room.proved.exists(), "what was proved is gone")
+    room.proved.unlink()
+    due(room.call("c", has_rt=False).stdout == "proved: c\n", "the program is no copy")
+    room.named = {}
+    due(room.call("d").stdout == "proved: d\n", "it is built again")
+    room.main.write_text("two")
+    due(room.call().stdout == "two: \n" and room.built() == ["px_cli"], room.log())
+
+
+def a_name_that_is_not_a_full_one_names_nothing_proved(room: Room) -> None:
+    room.is_proved()
+    for name in ("crates/px_cli/out/px_cli", "", "./crates/px_cli/out/px_cli"):
+        room.named = {"EXIFNORM_PROVED": name}
+        due(room.call("a", cwd=room.top).stdout == "one: a\n", room.log())
+
+
+def signals_that_the_caller_ignores_do_not_stop_a_build(room: Room) -> None:
+    room.hold("px_iim")
+    words = ["env", "--default-signal", "--ignore-signal=HUP", str(room.top / "exifnorm"), "a"]
+    started = subprocess.Popen(words, env=room.environment(), stdout=subprocess.PIPE, text=True)
+    room.until("begin", "px_iim")
+    started.send_signal(signal.SIGHUP)
+    room.let_go("px_iim")
+    due(started.communicate(timeout=300)[0] == "one: a\n", "nohup has no effect")
+
+
+def stopped(room: Room, how: int) -> None:
+    """Stops a build in its last step, while the compiler works; the next call must build."""
+    room.call()
+    room.main.write_text("two")
+    room.forget()
+    room.hold("px_cli")
+    (room.folder / "starts-px_cli").touch()
+    started = room.start("a")
+    working = room.until("begin", "px_cli")
+    wait_until(lambda: (room.folder / "starts-px_cli").read_text(), "it starts no process")
+    below = int((room.folder / "starts-px_cli").read_text())
+    due(runs(working) and runs(below), "they have ended by themselves")
+    started.send_signal(how)
+    out, why = started.communicate(timeout=300)
+    due((started.returncode, out) == (70, "") and "stopped" in why, (started.returncode, out, why))
+    wait_until(lambda: not runs(working) and not runs(below), "the compiler still runs, or what it started")
+    (room.folder / "holds-px_cli").unlink()
+    (room.folder / "starts-px_cli").unlink()
+    ran = room.call("a")
+    due((ran.returncode, ran.stdout) == (0, "two: a\n"), ran)
+
+
+def a_build_that_is_stopped_ends_with_all_that_it_started(room: Room) -> None:
+    for how in (signal.SIGTERM, signal.SIGINT, signal.SIGHUP):
+        stopped(Room(room.folder / how.name), how)
+
+
+def a_signal_that_any_thread_of_a_build_takes_stops_it(room: Room) -> None:
+    """The system may give a signal to a thread that waits for a compiler, where it wakes no other."""
+    room.hold("px_bytes")
+    started = room.start("a")
+    working = room.until("begin", "px_bytes")
+    others = [int(it.name) for it in Path(f"/proc/{started.pid}/task").iterdir() if it.name != str(started.pid)]
+    due(len(others) == 1, others)
+    due(ctypes.CDLL(None).tgkill(started.pid, others[0], signal.SIGTERM) == 0, "no such thread")
+    out, why = started.communicate(timeout=300)
+    due((started.returncode, out) == (70, "") and "stopped" in why, (started.returncode, out, why))
+    wait_until(lambda: not runs(working), "the compiler still runs")
+
+
+TESTS = [
+    the_first_call_builds_each_crate_once_and_runs,
+    a_later_call_builds_nothing_and_says_nothing,
+    a_changed_source_is_built,
+    an_older_source_in_its_place_is_built,
+    most_calls_are_a_quick_look_without_python,
+    every_kind_of_change_in_each_folder_is_noticed,
+    a_change_of_what_is_no_source_of_a_crate_is_noticed,
+    a_look_is_noted_of_nothing_that_has_just_changed,
+    touched_and_copied_sources_are_not_built_again,
+    a_clock_that_is_set_back_hides_no_change,
+    another_toolchain_builds_again_and_the_same_elsewhere_does_not,
+    other_scripts_that_prove_build_again,
+    a_changed_or_missing_program_is_noticed,
+    a_built_program_runs_without_the_toolchain,
+    a_call_without_python_runs_what_is_built_and_builds_nothing,
+    a_crate_that_fails_is_told_and_built_by_the_next_call,
+    a_proof_that_fails_after_a_good_build_is_not_taken,
+    a_crate_counts_as_proved_by_its_verdict_alone,
+    a_compiler_is_asked_for_contracts_that_no_call_can_meet,
+    changed_handles_are_refused,
+    links_among_the_sources_are_refused,
+    a_program_that_does_not_start_is_never_put_in_place,
+    it_says_where_the_built_program_is,
+    odd_names_of_folders_and_arguments,
+    it_is_called_from_any_folder_and_through_links,
+    settings_of_the_callers_python_do_not_reach_the_build,
+    a_copy_outside_its_folder_is_an_error,
+    a_folder_that_cannot_be_written_is_told,
+    a_built_program_is_for_all_users,
+    no_shell_and_no_python_stays_beside_the_program,
+    closed_streams_stay_closed,
+    an_output_that_takes_nothing_ends_no_build,
+    what_was_just_proved_is_taken,
+    a_name_that_is_not_a_full_one_names_nothing_proved,
+    signals_that_the_caller_ignores_do_not_stop_a_build,
+    a_build_that_is_stopped_ends_with_all_that_it_started,
+    a_signal_that_any_thread_of_a_build_takes_stops_it,
+]
+
+
+def run_in_a_room(test) -> None:
+    with tempfile.TemporaryDirectory() as folder:
+        test(Room(Path(folder)))
+
+
+def main() -> int:
+    """Runs the tests, four at a time; with TEST_ONLY those whose names have that text."""
+    only = os.environ.get("TEST_ONLY", "")
+    tests = [it for it in [*TESTS, *build_rules.TESTS, *interrupted.TESTS, *makefile.TESTS] if only in it.__name__]
+    counter = Counter()
+    with ThreadPoolExecutor(4) as pool:
+        list(pool.map(lambda it: counter.run(it.__name__, lambda: run_in_a_room(it)), tests))
+    first_build.run(counter, only)
+    return counter.finish()
+
+
+if __name__ == "__main__":
+    sys.exit(main())

@@ -1,0 +1,197 @@
+#!/usr/bin/env python3
+"""Plants mistakes, one at a time, and sees that a test fails of each.
+
+  tests/repository/mutations.py PROGRAM [--only TEXT]
+
+mutations/README.md says how the tables of mistakes are written. Each mistake is planted in a copy of the tree and of what was built,
+and the tests that are named beside it are run there. They must fail; without the mistake they must pass. The last line is
+'N passed, N failed'.
+"""
+
+import argparse
+import json
+import os
+import re
+import shutil
+import subprocess
+import sys
+import tempfile
+from concurrent.futures import ThreadPoolExecutor
+from dataclasses import dataclass
+from pathlib import Path
+from typing import Dict, List, Optional, Sequence, Tuple
+
+sys.dont_write_bytecode = True
+sys.path.insert(0, str(Path(__file__).resolve().parent.parent))
+
+import paths
+from counting import Counter
+
+SECONDS = 600  # what a run may take at most, also on a busy machine: one that takes longer says nothing
+PROGRAM = "crates/px_cli/out/px_cli"
+NEEDED, ALLOWED = {"file", "old", "new", "part", "why"}, {"only"}
+COUNT = re.compile(r"(\d+) passed, (\d+) failed(?:, (\d+) skipped)?")
+
+# Everything but the folder is read-only for what runs in it, and what it leaves running ends with it.
+APART = ["unshare", "--mount", "--pid", "--fork", "--kill-child", "--mount-proc", "sh", "-c",
+         'mount --bind "$0" "$0" && mount -o remount,bind,ro / && mount -o remount,bind,ro /dev && cd "$0" && exec "$@"']  # fmt: skip
+
+
+class Misspelled(Exception):
+    """A table is not as it must be."""
+
+
+@dataclass(frozen=True)
+class Part:
+    """A part of ./test: its command, and how many tests it must count."""
+
+    command: str
+    least: int
+
+
+@dataclass(frozen=True)
+class Mistake:
+    """A text of a file that is replaced, the part of ./test that must fail then, and those of its tests that are run."""
+
+    file: str
+    old: str
+    new: str
+    part: str
+    why: str
+    only: str = ""
+
+    def plant(self, folder: Path) -> None:
+        """Replaces the text, which must be there once, by writing a new file."""
+        path = folder / self.file
+        text = path.read_text(encoding="utf-8") if path.is_file() else ""
+        if text.count(self.old) != 1:
+            raise Misspelled(f"the old text is there {text.count(self.old)} times")
+        mode = path.stat().st_mode
+        path.unlink()
+        path.write_text(text.replace(self.old, self.new), encoding="utf-8")
+        path.chmod(mode)
+
+
+def parts(top: Path) -> Dict[str, Part]:
+    """The parts of ./test, by name."""
+    found = {}
+    for text in (top / "tests" / "parts.txt").read_text(encoding="utf-8").split("\n\n"):
+        lines = dict(it.split(": ", 1) for it in text.splitlines() if ": " in it and not it.startswith("#"))
+        if "Part" in lines:
+            found[lines["Part"]] = Part(lines["Command"], int(lines["Least"]))
+    return found
+
+
+def read_table(path: Path, known: Dict[str, Part]) -> List[Mistake]:
+    entries = json.loads(path.read_text(encoding="utf-8"))
+    if not entries:
+        raise Misspelled(f"{path.name} is empty")
+    for entry in entries:
+        if not NEEDED <= set(entry) <= NEEDED | ALLOWED or not all(isinstance(it, str) for it in entry.values()):
+            raise Misspelled(f"{path.name}: the members of {entry} must be {sorted(NEEDED)}, and may be {sorted(ALLOWED)}")
+        if entry["part"] not in known or not entry["why"] or entry["old"] == entry["new"]:
+            raise Misspelled(f"{path.name}: an unknown part, no reason, or no change in {entry}")
+    return [Mistake(**it) for it in entries]
+
+
+def read_all(folder: Path, known: Dict[str, Part]) -> List[Mistake]:
+    """The mistakes of all tables of a folder, each once."""
+    found = [mistake for path in sorted(folder.glob("*.json")) for mistake in read_table(path, known)]
+    if len({(it.file, it.old, it.new) for it in found}) < len(found):
+        raise Misspelled("a mistake is listed twice")
+    return found
+
+
+def copy_tree(top: Path, program: Path, target: Path) -> None:
+    """Copies the sources, and of what was built the program, the library and the notes on what they were built from."""
+    shutil.copytree(top, target, symlinks=True, ignore=lambda _, names: {it for it in names if it in ("out", ".git", "__pycache__")})
+    for folder in ("out", "out/proved"):
+        (target / folder).mkdir()
+        for it in (top / folder).iterdir() if (top / folder).is_dir() else ():
+            if it.is_file() and not it.is_symlink():
+                shutil.copy2(it, target / folder)
+    if (top / "out" / "lib").is_dir():
+        shutil.copytree(top / "out" / "lib", target / "out" / "lib", symlinks=True)
+    (target / PROGRAM).parent.mkdir(exist_ok=True)
+    shutil.copy2(program, target / PROGRAM)
+
+
+def can_be_apart() -> bool:
+    """Whether a run can be kept from writing outside its folder, as root can be. Other users can't write there."""
+    with tempfile.TemporaryDirectory() as room:
+        return os.getuid() == 0 and shutil.which("unshare") is not None and not subprocess.run([*APART, room, "true"], capture_output=True).returncode
+
+
+class Copies:
+    """Copies of a tree, in which a part is run, with a mistake or without one."""
+
+    def __init__(self, seed: Path, room: Path) -> None:
+        self.seed, self.room = seed, room
+        self.parts = parts(seed)
+        self.apart = APART if can_be_apart() else ["sh", "-c", 'cd "$0" && exec "$@"']
+
+    def fault(self, part: str, only: str, mistake: Optional[Mistake] = None) -> Tuple[str, str]:
+        """Runs a part, or those of its tests whose name has a text. Returns what ./test would find wrong, and what was printed."""
+        with tempfile.TemporaryDirectory(dir=self.room) as name:
+            folder = Path(name)
+            tree = folder / "tree"
+            subprocess.run(["cp", "-a", self.seed, tree], check=True)
+            if mistake:
+                mistake.plant(tree)
+            (folder / "tmp").mkdir()
+            words = [*self.apart, name, "sh", "-c", f"cd tree && program={PROGRAM} && {self.parts[part].command}"]
+            environment = {**os.environ, "TEST_ONLY": only, "TMPDIR": f"{name}/tmp", "PYTHONDONTWRITEBYTECODE": "1"}
+            ran = subprocess.run(words, env=environment, stdin=subprocess.DEVNULL, stdout=subprocess.PIPE, stderr=subprocess.STDOUT, timeout=SECONDS)
+        printed = ran.stdout.decode("utf-8", "replace")
+        return self.judged(part, only, ran.returncode, printed), printed
+
+    def judged(self, part: str, only: str, status: int, printed: str) -> str:
+        """What ./test would find wrong with a part that ended like this."""
+        count = COUNT.fullmatch(printed.rpartition("\n")[0].rpartition("\n")[2])
+        if not count:
+            return f"status {status} without a count"
+        passed, failed, skipped = (int(it or 0) for it in count.groups())
+        least = 1 if only else self.parts[part].least
+        if status or failed or passed + skipped < least:
+            return f"status {status}, {count[0]}, where {least} had to be counted"
+        return ""
+
+
+def see_fail(copies: Copies, mistake: Mistake) -> None:
+    assert copies.fault(mistake.part, mistake.only, mistake)[0], f"no test of {mistake.part} fails"
+
+
+def see_pass(copies: Copies, part: str, only: str) -> None:
+    fault, printed = copies.fault(part, only)
+    assert not fault, f"{fault}: {printed[-1500:]}"
+
+
+def try_all(counter: Counter, copies: Copies, mistakes: Sequence[Mistake]) -> None:
+    """Runs the tests without a mistake and with each, several at once."""
+    runs = sorted({(it.part, it.only) for it in mistakes})
+    with ThreadPoolExecutor(os.cpu_count()) as pool:
+        waits = [pool.submit(counter.run, f"{part} {only}, without a mistake", lambda it=(part, only): see_pass(copies, *it)) for part, only in runs]
+        waits += [pool.submit(counter.run, f"{it.file}: {it.why}", lambda it=it: see_fail(copies, it)) for it in mistakes]
+        for it in waits:
+            it.result()
+
+
+def try_tables(counter: Counter, program: Path, only: str, room: Path) -> None:
+    copy_tree(paths.TOP, program, room / "seed")
+    copies = Copies(room / "seed", room)
+    try_all(counter, copies, [it for it in read_all(paths.TESTS / "repository" / "mutations", copies.parts) if only in f"{it.file}: {it.why}"])
+
+
+def main(words: Sequence[str]) -> int:
+    parser = argparse.ArgumentParser(description=__doc__, formatter_class=argparse.RawDescriptionHelpFormatter)
+    parser.add_argument("program", help="the built program")
+    parser.add_argument("--only", default="", metavar="TEXT", help="only the mistakes whose file or reason has TEXT")
+    asked = parser.parse_args(words)
+    counter = Counter(only="")
+    with tempfile.TemporaryDirectory(prefix="exifnorm-mutations-") as room:
+        counter.collect("the tables", lambda inner: try_tables(inner, Path(asked.program).resolve(), asked.only, Path(room)))
+    return counter.finish()
+
+
+if __name__ == "__main__":
+    sys.exit(main(sys.argv[1:]))

@@ -1,0 +1,130 @@
+"""Tests tests/repository/mutations.py over a small tree, whose one part compares two files."""
+
+import json
+import os
+import subprocess
+import sys
+import tempfile
+import unittest
+from pathlib import Path
+from typing import Any, Tuple
+
+from mutations import COUNT, Copies, Part, can_be_apart
+from paths import TESTS
+
+NEEDED = ("repository/mutations.py", "counting.py", "paths.py")
+PARTS = """# Part: no part
+Part: compared
+Command: sh tests/compare.sh
+Least: 2
+Packages: diffutils
+
+Part: broken
+Command: false
+Least: 1
+Packages: diffutils
+"""
+# It counts two tests, one where TEST_ONLY is set, and writes into the file of which mistakes are planted.
+COMPARE = """cmp -s a b && is=0 || is=1
+echo changed >>c
+rm -f a && echo other >a
+[ -e crates/px_cli/out/px_cli ] && [ ! -e "$TOP/written" ] || is=1
+[ -n "$TEST_ONLY" ] && one=1 || one=2
+if [ "$is" = 0 ]; then echo "$one passed, 0 failed"; else echo "0 passed, $one failed"; exit 1; fi
+"""
+GOOD = {"file": "a", "old": "one", "new": "two", "part": "compared", "why": "another word"}
+
+
+class Planted(unittest.TestCase):
+    """What mutations.py counts of a table."""
+
+    def setUp(self) -> None:
+        room = tempfile.TemporaryDirectory()
+        self.addCleanup(room.cleanup)
+        self.top = Path(room.name, "top")
+        (self.top / "tests" / "repository" / "mutations").mkdir(parents=True)
+        (self.top / "crates" / "px_cli").mkdir(parents=True)
+        for name, text in {"a": "one three three\n", "b": "one three three\n", "c": "one\n", "tests/parts.txt": PARTS,
+                           "tests/compare.sh": COMPARE}.items():  # fmt: skip
+            (self.top / name).write_text(text)
+        for name in NEEDED:
+            (self.top / "tests" / name).write_bytes((TESTS / name).read_bytes())
+
+    def ran(self, *entries: Any, words: Tuple[str, ...] = ()) -> Tuple[int, str, str]:
+        """The status, the last line and all that is printed."""
+        (self.top / "tests" / "repository" / "mutations" / "some.json").write_text(json.dumps(entries))
+        environment = {**os.environ, "TOP": str(self.top)}
+        ran = subprocess.run([sys.executable, self.top / "tests" / "repository" / "mutations.py", "/bin/true", *words], env=environment, capture_output=True, text=True)
+        return ran.returncode, (ran.stdout.splitlines() or [""])[-1], ran.stdout + ran.stderr
+
+    def fails(self, why: str, last: str, *entries: Any, **others: Any) -> None:
+        status, line, printed = self.ran(*entries, **others)
+        self.assertEqual((status, line), (1, last), printed)
+        self.assertIn(why, printed)
+
+    def test_a_mistake_that_a_test_notices(self):
+        self.assertEqual(self.ran(GOOD)[:2], (0, "2 passed, 0 failed"))
+        self.assertEqual((self.top / "a").read_text(), (self.top / "b").read_text(), "the tree itself was changed")
+        self.assertEqual((self.top / "c").read_text(), "one\n", "the tree itself was changed")
+
+    def test_each_has_a_tree_of_its_own(self):
+        others = ({**GOOD, "new": it} for it in ("2", "3", "4", "5", "6", "7"))
+        self.assertEqual(self.ran(GOOD, *others)[:2], (0, "8 passed, 0 failed"))
+
+    def test_a_mistake_that_no_test_notices(self):
+        self.fails("FAILED c: unseen: no test of compared fails", "1 passed, 1 failed", {**GOOD, "file": "c", "why": "unseen"})
+
+    def test_a_text_that_is_not_there(self):
+        self.fails("the old text is there 0 times", "1 passed, 1 failed", {**GOOD, "old": "gone"})
+        self.fails("the old text is there 0 times", "1 passed, 1 failed", {**GOOD, "file": "gone"})
+
+    def test_a_text_that_is_there_twice(self):
+        self.fails("the old text is there 2 times", "1 passed, 1 failed", {**GOOD, "old": "three"})
+
+    def test_a_part_that_fails_without_a_mistake(self):
+        self.fails("FAILED broken , without a mistake", "1 passed, 1 failed", {**GOOD, "part": "broken"})
+
+    def test_a_part_of_which_too_few_tests_run(self):
+        (self.top / "tests" / "parts.txt").write_text(PARTS.replace("Least: 2", "Least: 3"))
+        self.fails("2 passed, 0 failed, where 3 had to be counted", "1 passed, 1 failed", GOOD)
+        self.assertEqual(self.ran({**GOOD, "only": "some"})[:2], (0, "2 passed, 0 failed"))
+
+    def test_no_mistake(self):
+        self.fails("some.json is empty", "0 passed, 1 failed")
+        self.fails("it checked nothing", "0 passed, 1 failed", GOOD, words=("--only", "no mistake is named so"))
+
+    def test_a_table_that_is_misspelled(self):
+        entries = [{**GOOD, "par": ""}, {**GOOD, "part": "gone"}, {**GOOD, "new": "one"}, {**GOOD, "why": ""}, {**GOOD, "only": 3}]
+        entries += [{name: it for name, it in GOOD.items() if name != left_out} for left_out in GOOD]
+        for entry in entries:
+            self.fails("some.json:", "0 passed, 1 failed", entry)
+        self.fails("listed twice", "0 passed, 1 failed", GOOD, GOOD)
+
+    def test_nothing_outside_is_written(self):
+        if not can_be_apart():
+            self.skipTest("only root can be kept from writing elsewhere, where the system allows it")
+        (self.top / "tests" / "compare.sh").write_text(f'touch "{self.top}/written"; rm -f /dev/no-such-device\n' + COMPARE)
+        self.ran(GOOD)
+        self.assertFalse((self.top / "written").exists())
+
+
+class Judged(unittest.TestCase):
+    """What counts as a part that fails."""
+
+    def test_what_a_part_printed(self):
+        copies = Copies.__new__(Copies)
+        copies.parts = {"a": Part("true", 3)}
+        for status, printed, only, is_well in (
+            (0, "x\n3 passed, 0 failed\n", "", True),
+            (0, "2 passed, 0 failed, 1 skipped\n", "", True),
+            (0, "1 passed, 0 failed\n", "some", True),
+            (0, "2 passed, 0 failed\n", "", False),
+            (0, "0 passed, 0 failed\n", "some", False),
+            (1, "3 passed, 0 failed\n", "", False),
+            (0, "3 passed, 1 failed\n", "", False),
+            (0, "3 passed, 0 failed", "", False),
+            (0, "3 passed, 0 failed\nmore\n", "", False),
+            (-9, "", "", False),
+        ):
+            self.assertEqual(copies.judged("a", only, status, printed) == "", is_well, (status, printed, only))
+        self.assertTrue(COUNT.fullmatch("3 passed, 0 failed, 1 skipped"))

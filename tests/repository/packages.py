@@ -1,0 +1,400 @@
+#!/usr/bin/env python3
+"""Builds the wheel, the Debian packages and the archive of `make dist`, and uses what is in them.
+
+  tests/repository/packages.py
+
+The program and the library have to be built: `make`. Nothing is proved here: the packages are built in copies of the built tree, and
+the Debian packages without the toolchain on the PATH. Each test that fails has a line, and the last line counts them.
+"""
+
+from __future__ import annotations
+
+import email
+import hashlib
+import json
+import os
+import re
+import shutil
+import sys
+import tarfile
+import tempfile
+import unittest
+import zipfile
+from pathlib import Path
+
+sys.dont_write_bytecode = True
+sys.path.insert(0, str(Path(__file__).resolve().parent.parent))
+
+import paths
+from counting import run_module
+from installed import DEBIAN_PYTHON, EXAMPLES, TOP, VERSION, modules, run, tree
+
+BLOCK = bytes.fromhex("4d4d002a00000008 0001 0112 0003 00000001 00060000 00000000")
+SYSTEM_PATH = "/usr/sbin:/usr/bin:/sbin:/bin"
+LICENCES = ("LICENSE-APACHE", "LICENSE-MIT")
+
+
+def setUpModule() -> None:
+    global ROOM
+    ROOM = Path(tempfile.mkdtemp())
+    unittest.addModuleCleanup(shutil.rmtree, ROOM)
+    (ROOM / "block").write_bytes(BLOCK)
+
+
+def copy_built(folder: Path) -> Path:
+    """Copies the sources with what was built of them, so that nothing is built again there."""
+    unneeded = shutil.ignore_patterns(".git", "__pycache__", "*.rlib", "making", "stage", "wheel", "dist", "*.log")
+
+    def ignored(at: str, names: list[str]) -> set[str]:
+        return unneeded(at, names) | ({"out"} if Path(at).parent.name == "crates" else set())
+
+    shutil.copytree(TOP, folder, symlinks=True, ignore=ignored)
+    return folder
+
+
+def python_of(folder: Path, *words: str | Path, **environment: str) -> str:
+    """Runs Debian's Python with the packages of a folder, and with no other way to the library than the environment given."""
+    return run(DEBIAN_PYTHON, "-B", *words, folder=ROOM, PYTHONPATH=str(folder), EXIFNORM_LIBRARY="", **environment)
+
+
+class Wheel(unittest.TestCase):
+    """The wheel that `pip wheel` builds."""
+
+    @classmethod
+    def setUpClass(cls) -> None:
+        before = tree(TOP / "python")
+        cls.folder = ROOM / "wheels"
+        cls.folder.mkdir()
+        cls.build(TOP / "python", cls.folder)
+        (cls.file,) = cls.folder.iterdir()
+        cls.left = {it for it in set(tree(TOP / "python")) ^ set(before) if "__pycache__" not in it}
+        cls.unpacked = ROOM / "unpacked"
+        with zipfile.ZipFile(cls.file) as it:
+            it.extractall(cls.unpacked)
+            cls.names = sorted(it.namelist())
+        cls.info = cls.unpacked / f"exifnorm-{VERSION}.dist-info"
+
+    @staticmethod
+    def build(project: Path, folder: Path, **environment: str) -> None:
+        words = ["--no-index", "--no-build-isolation", "--no-deps", "--disable-pip-version-check", "-w", folder, project]
+        run(DEBIAN_PYTHON, "-m", "pip", "wheel", *words, folder=ROOM, **environment)
+
+    def test_has_all_modules_the_library_and_the_licences(self) -> None:
+        info = (*LICENCES, "METADATA", "RECORD", "WHEEL", "entry_points.txt", "top_level.txt")
+        wanted = [*modules(), "exifnorm/libexifnorm.so.1", *(f"exifnorm-{VERSION}.dist-info/{it}" for it in info)]
+        self.assertEqual(self.names, sorted(wanted))
+        self.assertIn("exifnorm/py.typed", self.names)
+        self.assertIn("exifnorm_pictures/py.typed", self.names)
+
+    def test_is_for_one_machine(self) -> None:
+        machine = run("uname", "-m").strip()
+        self.assertRegex(self.file.name, rf"^exifnorm-{re.escape(VERSION)}-py3-none-(manylinux_\d+_\d+|linux)_{machine}\.whl$")
+        wheel = email.message_from_string((self.info / "WHEEL").read_text(encoding="utf-8"))
+        self.assertEqual(wheel["Root-Is-Purelib"], "false")
+        self.assertEqual(f"exifnorm-{VERSION}-{wheel['Tag']}.whl", self.file.name)
+
+    def test_claims_manylinux_for_the_newest_glibc_that_it_needs(self) -> None:
+        symbols = run("readelf", "--dyn-syms", "-W", self.unpacked / "exifnorm/libexifnorm.so.1")
+        needed = {(int(a), int(b)) for a, b in re.findall(r"@GLIBC_(\d+)\.(\d+)", symbols)}
+        self.assertTrue(needed)
+        self.assertIn("-manylinux_%d_%d_" % max(needed), self.file.name)
+        self.assertEqual(re.findall(r"\(NEEDED\).*\[(.*)\]", run("readelf", "-dW", self.unpacked / "exifnorm/libexifnorm.so.1")), ["libc.so.6"])
+
+    def test_claims_no_manylinux_for_a_library_that_needs_more(self) -> None:
+        copy = copy_built(ROOM / "needs more")
+        (copy / "more.c").write_text("#include <math.h>\ndouble more(double x) { return pow(x, x); }\n")
+        run("cc", "-shared", "-fPIC", "more.c", "-lm", "-o", "out/lib/libexifnorm.so.1", folder=copy)
+        (folder := ROOM / "more").mkdir()
+        self.build(copy / "python", folder)
+        self.assertEqual([it.name for it in folder.iterdir()], [f"exifnorm-{VERSION}-py3-none-linux_{os.uname().machine}.whl"])
+
+    def test_installer_of_packages_takes_it(self) -> None:
+        target = ROOM / "target"
+        words = ["--no-index", "--no-deps", "--disable-pip-version-check", "--root-user-action=ignore", "--target", target]
+        run(DEBIAN_PYTHON, "-m", "pip", "install", *words, self.file, folder=ROOM)
+        block = ROOM / "block"
+        command = target / "bin" / "exifnorm-pictures"
+        self.assertIn("Orientation", run(command, "show", "--block", block, PYTHONPATH=str(target), PYTHONDONTWRITEBYTECODE="1"))
+
+    def test_metadata_is_that_of_an_installation(self) -> None:
+        found = email.message_from_string((self.info / "METADATA").read_text(encoding="utf-8"))
+        (folder := ROOM / "info").mkdir()
+        run(sys.executable, TOP / "packaging/dist_info.py", TOP / "python", folder)
+        installed = folder / f"exifnorm-{VERSION}.dist-info"
+        other = email.message_from_string((installed / "METADATA").read_text(encoding="utf-8"))
+        licences = [("License-File", it) for it in LICENCES]
+        self.assertEqual(sorted(it for it in found.items() if it not in licences), sorted(other.items()))
+        for name in (*LICENCES, "entry_points.txt"):
+            self.assertEqual((self.info / name).read_text(encoding="utf-8").strip(), (installed / name).read_text(encoding="utf-8").strip(), name)
+
+    def test_licences_are_those_of_the_sources(self) -> None:
+        for name in LICENCES:
+            self.assertEqual((self.info / name).read_bytes(), (TOP / name).read_bytes())
+
+    def test_package_runs_with_its_own_library(self) -> None:
+        code = "import exifnorm; print(exifnorm.version(), exifnorm.__version__, open('/proc/self/maps').read())"
+        said = python_of(self.unpacked, "-c", code)
+        self.assertTrue(said.startswith(f"{VERSION} {VERSION} "))
+        self.assertIn(str(self.unpacked / "exifnorm/libexifnorm.so.1"), said)
+        self.assertEqual(python_of(self.unpacked, EXAMPLES / "compare.py"), "same\n")
+
+    def test_library_is_stripped(self) -> None:
+        self.assertNotIn(".symtab", run("readelf", "-SW", self.unpacked / "exifnorm/libexifnorm.so.1"))
+
+    def test_leaves_nothing_in_the_sources(self) -> None:
+        self.assertEqual(self.left, set())
+
+    def test_has_no_module_of_an_earlier_build(self) -> None:
+        copy = copy_built(ROOM / "earlier")
+        stale = copy / "python/exifnorm/stale.py"
+        stale.write_text('"""Gone."""\n')
+        (folder := ROOM / "later").mkdir()
+        self.build(copy / "python", folder)
+        stale.unlink()
+        self.build(copy / "python", folder)
+        with zipfile.ZipFile(folder / self.file.name) as it:
+            self.assertEqual(sorted(it.namelist()), self.names)
+
+    def test_same_date_gives_the_same_bytes(self) -> None:
+        found = set()
+        for name in ("one", "an other"):
+            copy = copy_built(ROOM / "dated" / name)
+            run("make", "wheel", f"PYTHON={DEBIAN_PYTHON}", folder=copy, mask=0o022)
+            (wheel,) = (copy / "out/wheel").glob("*.whl")
+            found.add(hashlib.sha256(wheel.read_bytes()).hexdigest())
+            (copy / "python/exifnorm/_calls.py").touch()
+        self.assertEqual(len(found), 1)
+
+    def test_without_a_library_it_says_what_to_do(self) -> None:
+        copy = copy_built(ROOM / "unbuilt")
+        shutil.rmtree(copy / "out/lib")
+        words = ["--no-index", "--no-build-isolation", "--no-deps", "--disable-pip-version-check", "-w", ROOM, copy / "python"]
+        said = run(DEBIAN_PYTHON, "-m", "pip", "wheel", *words, folder=ROOM, status=1)
+        self.assertIn("run `make` first", said)
+
+
+class Debian(unittest.TestCase):
+    """The Debian packages."""
+
+    NAMES = ("exifnorm", "exifnorm-pictures", "libexifnorm-dev", "libexifnorm1", "python3-exifnorm")
+
+    @classmethod
+    def setUpClass(cls) -> None:
+        """Builds the packages and installs them below a folder, whose package database is a copy of this machine's."""
+        cls.room = ROOM / "debian"
+        copy = copy_built(cls.room / "exifnorm")
+        run("dpkg-buildpackage", "-b", "-us", "-uc", folder=copy, PATH=SYSTEM_PATH, PYTHONDONTWRITEBYTECODE="")
+        cls.files = {it.name.partition("_")[0]: it for it in cls.room.glob("*.deb")}
+        cls.libraries = f"usr/lib/{run('dpkg-architecture', '-qDEB_HOST_MULTIARCH').strip()}"
+        cls.root = cls.room / "root"
+        cls.tools = cls.make_tools()
+        for name in ("info", "updates", "triggers"):
+            (cls.root / "var/lib/dpkg" / name).mkdir(parents=True)
+        (cls.root / "var/lib/dpkg/available").touch()
+        shutil.copy("/var/lib/dpkg/status", cls.root / "var/lib/dpkg/status")
+        cls.before = cls.outside_database()
+        cls.dpkg("--install", *(cls.files[it] for it in cls.NAMES))
+
+    @classmethod
+    def make_tools(cls) -> Path:
+        """Commands for the scripts of packages, which run outside the root: they compile what is below it, as Debian's do."""
+        folder = cls.room / "tools"
+        folder.mkdir()
+        listed = 'dpkg --root="$DPKG_ROOT" -L "$2" | grep "[.]py$" | sed "s|^|$DPKG_ROOT|"'
+        cleaned = 'dpkg --root="$DPKG_ROOT" -L "$2" | grep "/__init__[.]py$" | sed "s|^\\(.*\\)/[^/]*$|$DPKG_ROOT\\1/__pycache__|"'
+        scripts = {"py3compile": f"{listed} | xargs {DEBIAN_PYTHON} -m py_compile", "py3clean": f"{cleaned} | xargs rm -rf", "pypy3compile": ":"}
+        for name, code in scripts.items():
+            (folder / name).write_text(f"#!/bin/sh\nset -e\n{code}\n")
+            (folder / name).chmod(0o755)
+        return folder
+
+    @classmethod
+    def dpkg(cls, *words: str | Path) -> str:
+        path = f"{cls.tools}:{SYSTEM_PATH}"
+        return run("dpkg", f"--root={cls.root}", "--force-script-chrootless", *words, PATH=path, PYTHONDONTWRITEBYTECODE="")
+
+    @classmethod
+    def outside_database(cls) -> set[str]:
+        return {it for it in tree(cls.root) if not it.startswith("var/lib/dpkg/")}
+
+    def field(self, package: str, name: str) -> list[str]:
+        return [it.strip() for it in run("dpkg-deb", "-f", self.files[package], name).split(",")]
+
+    def used(self, program: str, *words: str | Path) -> str:
+        """Runs an installed program, with the library of the root."""
+        paths = {"LD_LIBRARY_PATH": str(self.root / self.libraries), "PYTHONPATH": "", "EXIFNORM_LIBRARY": ""}
+        return run(self.root / "usr/bin" / program, *words, folder=ROOM, PYTHONDONTWRITEBYTECODE="1", **paths)
+
+    def test_packages_are_these(self) -> None:
+        self.assertEqual(sorted(self.files), sorted(self.NAMES))
+        for name, file in self.files.items():
+            architecture = "all" if name in ("exifnorm-pictures", "python3-exifnorm") else run("dpkg", "--print-architecture").strip()
+            self.assertEqual(file.name, f"{name}_{VERSION}-1_{architecture}.deb")
+
+    def test_lintian_has_no_error_and_no_warning(self) -> None:
+        """But for the bug of Debian that a first upload closes."""
+        (changes,) = self.room.glob("*.changes")
+        words = ["--allow-root", "--fail-on", "error,warning", "--suppress-tags", "initial-upload-closes-no-bugs"]
+        said = run("lintian", *words, changes, PATH=SYSTEM_PATH)
+        self.assertEqual(re.findall(r"^[EW]: .*$", said, re.MULTILINE), [])
+
+    def test_dependencies(self) -> None:
+        self.assertTrue({"libimage-exiftool-perl", f"python3-exifnorm (= {VERSION}-1)"} <= set(self.field("exifnorm-pictures", "Depends")))
+        self.assertEqual(self.field("exifnorm-pictures", "Suggests"), ["exiv2", "python3-distributed", "python3-rdflib"])
+        self.assertIn(f"libexifnorm1 (>= {VERSION})", self.field("python3-exifnorm", "Depends"))
+        self.assertEqual(self.field("libexifnorm-dev", "Depends"), [f"libexifnorm1 (= {VERSION}-1)"])
+        for name in ("exifnorm", "libexifnorm1"):
+            self.assertRegex(", ".join(self.field(name, "Depends")), r"^libc6 \(>= [\d.]+\)$")
+
+    def test_the_library_is_alone_in_its_package(self) -> None:
+        listed = set(self.dpkg("-L", "libexifnorm1").split())
+        files = {it for it in listed if (self.root / it[1:]).is_file() and "/usr/share/doc/" not in it}
+        self.assertEqual(files, {f"/{self.libraries}/libexifnorm.so.1", f"/{self.libraries}/libexifnorm.so.1.0.0".replace("1.0.0", VERSION)})
+
+    def test_symbols_are_those_of_the_header(self) -> None:
+        symbols = (self.root / "var/lib/dpkg/info").glob("libexifnorm1*.symbols")
+        (text,) = (it.read_text(encoding="utf-8") for it in symbols)
+        header = (TOP / "crates/px_c/include/exifnorm.h").read_text(encoding="utf-8")
+        calls = set(re.findall(r"\b(exifnorm_\w+)\(", header))
+        self.assertEqual(set(re.findall(r"^ (\S+)@EXIFNORM_1 ", text, re.MULTILINE)), {"EXIFNORM_1", *calls})
+
+    def test_each_package_has_its_copyright_and_changes(self) -> None:
+        for name in self.NAMES:
+            folder = self.root / "usr/share/doc" / name
+            self.assertIn("Expat or Apache-2.0", (folder / "copyright").read_text(encoding="utf-8"))
+            self.assertTrue((folder / "changelog.Debian.gz").exists(), name)
+
+    def test_program_and_pictures_run(self) -> None:
+        self.assertEqual(self.used("exifnorm", "--version"), f"exifnorm {VERSION}\n")
+        self.assertIn("Orientation", self.used("exifnorm-pictures", "show", "--block", ROOM / "block"))
+        first = (self.root / "usr/bin/exifnorm-pictures").read_text(encoding="utf-8").split("\n")[0]
+        self.assertEqual(first, f"#!{DEBIAN_PYTHON}")
+
+    def test_python_package_runs(self) -> None:
+        folder = self.root / "usr/lib/python3/dist-packages"
+        code = "import exifnorm as e, importlib.metadata as m; print(e.version(), m.version('exifnorm'), open('/proc/self/maps').read())"
+        said = python_of(folder, "-c", code, LD_LIBRARY_PATH=str(self.root / self.libraries))
+        self.assertTrue(said.startswith(f"{VERSION} {VERSION} "))
+        self.assertIn(str(self.root / self.libraries / f"libexifnorm.so.{VERSION}"), said)
+        for package in ("exifnorm", "exifnorm_pictures"):
+            self.assertTrue(list((folder / package / "__pycache__").glob("*.pyc")), package)
+
+    def test_all_modules_are_there(self) -> None:
+        folder = self.root / "usr/lib/python3/dist-packages"
+        self.assertEqual([it for it in modules() if not (folder / it).is_file()], [])
+
+    def test_example_in_c_is_built(self) -> None:
+        places = {"PKG_CONFIG_LIBDIR": str(self.root / self.libraries / "pkgconfig"), "PKG_CONFIG_SYSROOT_DIR": str(self.root)}
+        flags = run("pkg-config", "--cflags", "--libs", "exifnorm", **places).split()
+        run("cc", EXAMPLES / "compare.c", *flags, "-o", ROOM / "packaged")
+        self.assertEqual(run(ROOM / "packaged", LD_LIBRARY_PATH=str(self.root / self.libraries)), "same\n")
+        self.assertEqual(run("pkg-config", "--modversion", "exifnorm", **places), f"{VERSION}\n")
+
+    def test_man_finds_each_page(self) -> None:
+        for section, name in ((1, "exifnorm"), (3, "exifnorm"), (1, "exifnorm-pictures")):
+            where = run("man", "-M", self.root / "usr/share/man", "-w", str(section), name).strip()
+            self.assertEqual(Path(where), self.root / "usr/share/man" / f"man{section}" / f"{name}.{section}.gz")
+
+    def test_program_and_library_are_hardened(self) -> None:
+        for file in (self.root / "usr/bin/exifnorm", self.root / self.libraries / "libexifnorm.so.1"):
+            self.assertIn("BIND_NOW", run("readelf", "-dW", file))
+            self.assertIn("GNU_RELRO", run("readelf", "-lW", file))
+            self.assertIn("DYN (", run("readelf", "-hW", file))
+
+    def test_zz_removal_leaves_nothing(self) -> None:
+        """Runs last: tests are sorted by name."""
+        self.assertGreater(len(self.outside_database() - self.before), 80)
+        self.dpkg("--purge", *self.NAMES)
+        self.assertEqual(self.outside_database(), self.before)
+
+
+class Archive(unittest.TestCase):
+    """What `make dist` writes."""
+
+    KIT_CRATES = {"byteorder": "MIT", "clap": "Apache-2.0 OR MIT", "hex": "Apache-2.0 OR MIT", "itoa": "MIT", "thiserror": "MIT"}
+
+    @classmethod
+    def setUpClass(cls) -> None:
+        """Makes it twice, in folders of other names and with another umask, time, zone and locale."""
+        cls.name = f"exifnorm-{VERSION}-linux-{os.uname().machine}"
+        cls.one, cls.other = (copy_built(ROOM / "dist" / it) / "out/dist" for it in ("one", "an other"))
+        run("make", "dist", folder=cls.one.parent.parent)
+        os.utime(cls.other.parent.parent / "README.md", (1, 1))
+        run("make", "dist", folder=cls.other.parent.parent, mask=0o077, TZ="Asia/Tokyo", LC_ALL="C.UTF-8")
+        with tarfile.open(cls.one / f"{cls.name}.tar.gz") as it:
+            cls.members = it.getmembers()
+            it.extractall(ROOM / "dist/unpacked")
+        cls.top = ROOM / "dist/unpacked" / cls.name
+
+    def test_two_builds_give_the_same_bytes(self) -> None:
+        for name in (f"{self.name}.tar.gz", f"exifnorm-{VERSION}.spdx.json", "SHA256SUMS"):
+            self.assertEqual((self.one / name).read_bytes(), (self.other / name).read_bytes(), name)
+
+    def test_sums_are_those_of_the_files(self) -> None:
+        run("sha256sum", "--check", "--strict", "SHA256SUMS", folder=self.one)
+        named = {it.split()[1] for it in (self.one / "SHA256SUMS").read_text(encoding="utf-8").splitlines()}
+        self.assertEqual(named, {it.name for it in self.one.iterdir()} - {"SHA256SUMS"})
+        self.assertEqual(len(named), 2)
+
+    def test_members_are_in_order_and_of_nobody(self) -> None:
+        names = [it.name for it in self.members]
+        self.assertEqual(names[0], self.name)
+        self.assertTrue(all(it == self.name or it.startswith(f"{self.name}/") for it in names))
+        self.assertEqual({(it.uid, it.gid, it.uname, it.gname) for it in self.members}, {(0, 0, "", "")})
+        self.assertEqual(len({it.mtime for it in self.members}), 1)
+        self.assertEqual({it.mode for it in self.members if it.isdir()}, {0o755})
+        programs = {f"{self.name}/bin/exifnorm", f"{self.name}/bin/exifnorm-pictures"}
+        self.assertEqual({it.name for it in self.members if it.isfile() and it.mode == 0o755}, programs)
+        self.assertEqual({it.mode for it in self.members if it.isfile() and it.name not in programs}, {0o644})
+
+    def test_has_everything(self) -> None:
+        found = {it.name.removeprefix(f"{self.name}/") for it in self.members if not it.isdir()}
+        wanted = "bin/exifnorm bin/exifnorm-pictures include/exifnorm.h lib/libexifnorm.a lib/libexifnorm.so lib/libexifnorm.so.1"
+        wanted += f" lib/libexifnorm.so.{VERSION} lib/pkgconfig/exifnorm.pc share/man/man1/exifnorm.1 share/man/man3/exifnorm.3"
+        wanted += f" share/man/man1/exifnorm-pictures.1 share/doc/exifnorm/exifnorm-{VERSION}.spdx.json"
+        wanted += " share/doc/exifnorm/LICENSE-APACHE share/doc/exifnorm/LICENSE-MIT share/doc/exifnorm/crates/clap/LICENSE-MIT"
+        self.assertEqual(set(wanted.split()) - found, set())
+        self.assertEqual({f"lib/python3/site-packages/{it}" for it in modules()} - found, set())
+
+    def test_runs_where_it_is_unpacked(self) -> None:
+        clean = {"PYTHONPATH": "", "EXIFNORM_LIBRARY": "", "PYTHONDONTWRITEBYTECODE": "1"}
+        self.assertEqual(run(self.top / "bin/exifnorm", "--version", folder=ROOM), f"exifnorm {VERSION}\n")
+        self.assertIn("Orientation", run(self.top / "bin/exifnorm-pictures", "show", "--block", ROOM / "block", folder=ROOM, **clean))
+        flags = run("pkg-config", "--cflags", "--libs", "exifnorm", PKG_CONFIG_LIBDIR=str(self.top / "lib/pkgconfig")).split()
+        run("cc", EXAMPLES / "compare.c", *flags, "-o", ROOM / "unpacked-example")
+        self.assertEqual(run(ROOM / "unpacked-example", LD_LIBRARY_PATH=str(self.top / "lib")), "same\n")
+
+    def test_no_file_names_the_folder_that_it_was_built_in(self) -> None:
+        for it in self.top.rglob("*"):
+            if it.is_file():
+                self.assertNotIn(str(ROOM).encode(), it.read_bytes(), it)
+
+    def test_list_of_components(self) -> None:
+        found = json.loads((self.one / f"exifnorm-{VERSION}.spdx.json").read_text(encoding="utf-8"))
+        self.assertEqual((found["spdxVersion"], found["dataLicense"]), ("SPDX-2.3", "CC0-1.0"))
+        packages = {it["name"]: it for it in found["packages"]}
+        self.assertEqual(packages["exifnorm"]["versionInfo"], VERSION)
+        self.assertEqual(packages["exifnorm"]["licenseDeclared"], "MIT OR Apache-2.0")
+        named = set(re.findall(r"\b(?!px_|staticlib)[a-z_]+\b", (TOP / "crates.txt").read_text(encoding="utf-8")))
+        self.assertEqual(named, set(self.KIT_CRATES))
+        self.assertEqual({it: packages[it]["licenseDeclared"] for it in named}, self.KIT_CRATES)
+        standard = set(packages) - named - {"exifnorm"}
+        self.assertLessEqual({"std", "std_alloc", "std_io"}, standard)
+        self.assertEqual({packages[it]["licenseDeclared"] for it in standard}, {"NOASSERTION"})
+        linked = {it["relatedSpdxElement"] for it in found["relationships"] if it["relationshipType"] == "STATIC_LINK"}
+        self.assertEqual(linked, {it["SPDXID"] for it in found["packages"][1:]})
+        for name in named:
+            self.assertTrue(list((self.top / "share/doc/exifnorm/crates" / name).glob("LICENSE*")), name)
+
+    def test_date_is_that_of_the_version(self) -> None:
+        date = run("dpkg-parsechangelog", "-l", TOP / "debian/changelog", "-S", "Timestamp").strip()
+        self.assertEqual({it.mtime for it in self.members}, {int(date)})
+
+
+class Versions(unittest.TestCase):
+    def test_debian_has_the_version(self) -> None:
+        self.assertEqual(run("dpkg-parsechangelog", "-l", TOP / "debian/changelog", "-S", "Version").strip(), f"{VERSION}-1")
+
+
+if __name__ == "__main__":
+    sys.exit(run_module(sys.modules[__name__]))

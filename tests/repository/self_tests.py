@@ -1,0 +1,389 @@
+#!/usr/bin/env python3
+"""Tests the tests: broken tables are refused, a run that runs nothing fails, and a program that is wrong fails each check. The tests of
+./test itself are in gate_outcomes.py.
+
+The last line is 'N passed, N failed'."""
+
+import dataclasses
+import json
+import os
+import subprocess
+import sys
+import tempfile
+import time
+import unittest
+from pathlib import Path
+from unittest import mock
+
+sys.dont_write_bytecode = True
+sys.path.insert(0, str(Path(__file__).resolve().parent.parent))
+
+import paths
+import counting
+import gate_outcomes
+import harness_outcomes
+import judges_outcomes
+import mutations_outcomes
+import watching
+from blocks import Blocks, Misspelled
+from cases import Case, Holds, read_all
+from changed import changed
+from kinds import small_kinds
+from meanings import ASCII, LIMIT, SHORT, Exif, Layout, Record, Value, laid
+from program import Outcome
+from reading import Fault, said
+from run import case_of, complaints_of
+from watching import TIMES, Counts, complaints_of_cost, growth, limits_of, reading, says_failed
+
+sys.path.insert(0, str(paths.TOP / "build"))
+
+import crates
+import gate
+
+GOOD = {"name": "a case", "block": "1C0205000141", "refused": "NoMarker at 0"}
+
+
+class Tables(unittest.TestCase):
+    """Files of cases as they must not be."""
+
+    def read(self, tables, listed="some: filter commands\n", files=None):
+        with tempfile.TemporaryDirectory() as folder:
+            os.mkdir(os.path.join(folder, "cases"))
+            for name, held in {"blocks": {"blocks": {"a block": "1C"}}, "some": tables, **(files or {})}.items():
+                with open(os.path.join(folder, "cases", f"{name}.json"), "w", encoding="utf-8") as it:
+                    json.dump(held, it)
+            with open(os.path.join(folder, "cases.txt"), "w", encoding="utf-8") as it:
+                it.write(listed)
+            return read_all(folder)
+
+    def refused(self, tables, **others):
+        with self.assertRaises((Misspelled, KeyError, ValueError)):
+            self.read(tables, **others)
+
+    def test_a_good_table_is_read(self):
+        self.assertEqual(len(self.read({"refusals": [GOOD]})), 2)
+
+    def test_an_empty_file(self):
+        self.refused({})
+
+    def test_an_empty_table(self):
+        self.refused({"refusals": []})
+
+    def test_an_unknown_table(self):
+        self.refused({"refusal": [GOOD]})
+
+    def test_an_unknown_word(self):
+        self.refused({"refusals": [{**GOOD, "refused too": "x"}]})
+
+    def test_a_misspelled_word_that_may_be_left_out(self):
+        self.refused({"normal forms": [{"name": "n", "block": "1C0205000141", "noraml": "1C"}]})
+
+    def test_a_misspelled_table_flag(self):
+        self.refused({"refuse growhts": True, "refusals": [GOOD]})
+
+    def test_a_missing_word(self):
+        self.refused({"refusals": [{"name": "n", "block": "1C"}]})
+
+    def test_a_text_of_which_nothing_is_due(self):
+        self.refused({"texts": [{"name": "n", "block": "1C"}]})
+
+    def test_a_run_of_which_nothing_but_a_status_is_due(self):
+        for status in range(5):
+            self.refused({"runs": [{"name": "n", "words": ["check", "a"], "status": status}]})
+        self.refused({"runs": [{"name": "n", "words": ["check", "a"], "status": 3, "output to": "/dev/full"}]})
+        self.assertEqual(len(self.read({"runs": [{"name": "n", "words": ["check", "a"], "status": 4, "output to": "/dev/full"}]})), 1)
+
+    def test_a_sweep_over_no_block(self):
+        self.refused({"sweeps": [{"name": "n", "block": "", "each": "cut"}]})
+
+    def test_two_cases_of_one_name(self):
+        self.refused({"refusals": [GOOD, GOOD]})
+
+    def test_an_unknown_block(self):
+        self.refused({"refusals": [{**GOOD, "block": "no block"}]})
+
+    def test_an_unknown_way(self):
+        self.refused({"refusals": [GOOD]}, listed="some: filter comands\n")
+
+    def test_no_way(self):
+        self.refused({"refusals": [GOOD]}, listed="some:\n")
+
+    def test_no_file_listed(self):
+        self.refused({"refusals": [GOOD]}, listed="# none\n")
+
+    def test_a_file_that_is_not_listed(self):
+        self.refused({"refusals": [GOOD]}, files={"more": {"refusals": [GOOD]}})
+
+    def test_a_file_that_is_not_there(self):
+        self.refused({"refusals": [GOOD]}, listed="some: filter\nmore: filter\n")
+
+
+class Judging(unittest.TestCase):
+    """Outcomes that are not as they should be."""
+
+    due = Case("a case", output=b"same\n", left={"OUT": b"new"}, absent=["gone"], has=[b"am"])
+    good = Outcome(0, b"same\n", b"", {"OUT": b"new"})
+
+    def test_what_is_due_is_no_complaint(self):
+        self.assertEqual(complaints_of(self.due, self.good), [])
+
+    def test_each_part_that_differs_is_one(self):
+        for other in (
+            Outcome(1, b"same\n", b"", {"OUT": b"new"}),
+            Outcome("no end", b"same\n", b"", {"OUT": b"new"}),
+            Outcome(0, b"same", b"", {"OUT": b"new"}),
+            Outcome(0, b"same\n", b"note", {"OUT": b"new"}),
+            Outcome(0, b"same\n", b"", {"OUT": b""}),
+            Outcome(0, b"same\n", b"", {}),
+            Outcome(0, b"same\n", b"", {"OUT": b"new", "gone": b""}),
+        ):
+            self.assertEqual(len(complaints_of(self.due, other)), 1, other)
+        for case in (Case("", has=[b"x"]), Case("", lines=2), Case("", lines=0), Case("", has=[b"x", b"am"])):
+            self.assertEqual(len(complaints_of(case, Outcome(0, b"same\n", b""))), 1)
+
+    def test_a_failure_is_told_once_behind_a_prefix(self):
+        case, due = Case("", words=["show", "a"]), Outcome(0, b"exif\n[main]\n", b"")
+        line = b"failed: WriteFailed"
+        self.assertTrue(says_failed(case, Outcome(4, b"exif\nfailed: WriteFailed\n", b""), line, due))
+        self.assertTrue(says_failed(case, Outcome(4, b"", b""), line, due))
+        self.assertFalse(says_failed(case, Outcome(0, b"exif\n[main]\n", b""), line, due))
+        self.assertFalse(says_failed(case, Outcome(4, b"iim\nfailed: WriteFailed\n", b""), line, due))
+        self.assertFalse(says_failed(case, Outcome(4, b"failed: ReadFailed\n", b""), line, due))
+        self.assertTrue(says_failed(case, Outcome(4, b"exif\n", b""), line, due, 5))
+        self.assertFalse(says_failed(case, Outcome(4, b"exif\n", b""), line, due, 6))
+
+    def test_a_small_form_in_two_writes_costs_too_much(self):
+        case = Case("", input_from="a", files={"a": bytes(100)})
+        self.assertEqual(limits_of(case, Outcome(0, bytes(8192), b"")).writes, 1)
+        self.assertEqual(limits_of(case, Outcome(0, bytes(8193), b"")).writes, 4)
+
+    def test_a_text_goes_out_as_a_form_does(self):
+        for command in ("show", "captions"):
+            case = Case("", words=[command, "a"], files={"a": bytes(100)})
+            self.assertEqual(limits_of(case, Outcome(0, bytes(8192), b"")).writes, 1)
+            self.assertEqual(limits_of(case, Outcome(0, bytes(8_192_000), b"")).writes, 2002)
+
+    def test_a_text_that_is_made_whole_costs_too_much(self):
+        """Its memory is none of the limit, however long it is."""
+        case = Case("", words=["show", "a"], files={"a": bytes(1_000_000)})
+        short, long = (limits_of(case, Outcome(0, bytes(it), b"")) for it in (10, 10_000_000))
+        self.assertEqual((short.held, short.asked, short.calls), (long.held, long.asked, long.calls))
+
+    def test_a_large_file_is_held_a_few_times_at_most(self):
+        for size, most in ((1 << 20, int(TIMES * (1 << 20))), ((1 << 20) - 1, None)):
+            case = Case("", words=["check", "a"], files={"a": bytes(size)}, holds=[Holds(0, 0, [size // 5] * 10)])
+            held = limits_of(case, Outcome(0, b"ok iim\n", b"")).held
+            self.assertTrue(held == most if most else held > 8 << 20)
+        both = Case("", words=["compare", "a", "b"], files={"a": bytes(1 << 21), "b": bytes(1 << 20)}, holds=[Holds(0, 0, [1 << 20])] * 2)
+        self.assertEqual(limits_of(both, Outcome(0, b"same\n", b"")).held, int(TIMES * (3 << 20)))
+
+    def test_a_long_list_grows_by_a_32nd(self):
+        self.assertEqual(growth(65_536).room, growth(60_000).room)
+        self.assertLess(growth(3_300_000).room, 3_300_000 * 33 // 32 + 1)
+
+    def test_a_copy_of_what_is_read_costs_too_much(self):
+        """If a file's bytes were kept twice, or requested once more, the limits would be passed: they leave less than that."""
+        size = LIMIT
+        most = limits_of(Case("", words=["check", "a"], files={"a": bytes(size)}, holds=[Holds(1, 0, [])]), Outcome(0, b"ok exif\n", b""))
+        judged = size // 8 + size // 100  # a bit for each of the bytes
+        read = reading(size)
+        self.assertLess(most.held, read.room + judged + size)
+        self.assertLess(most.asked, read.asked + judged + size)
+
+    def test_a_file_that_is_read_into_a_list_that_doubles_costs_too_much(self):
+        size = 9 << 20
+        most = limits_of(Case("", words=["check", "a"], files={"a": bytes(size)}, holds=[Holds(1, 0, [])]), Outcome(0, b"ok exif\n", b""))
+        self.assertLess(most.held, (16 << 20) + size // 8)
+
+    def test_a_record_that_is_listed_twice_costs_too_much(self):
+        size, once = 5 * 3_000_000, growth(3_000_000)
+        most = limits_of(Case("", words=["check", "a"], files={"a": bytes(size)}, holds=[Holds(0, 0, [3_000_000])]), Outcome(0, b"ok iim\n", b""))
+        self.assertLess(most.asked, 24 * 2 * once.asked)
+        self.assertLess(most.calls, 2 * once.calls + 2 * 80)
+
+    def test_room_for_4096_in_each_group_costs_too_much(self):
+        most = limits_of(Case("", words=["check", "a"], files={"a": bytes(70)}, holds=[Holds(0, 0, [1, 1])]), Outcome(0, b"ok iim\n", b""))
+        self.assertLess(most.held, 24 * 2 * 4096)
+
+    def test_a_run_that_tells_no_counts_is_a_complaint(self):
+        case = Case("", input_from="a", files={"a": b""}, output=b"")
+        bad = complaints_of_cost("/bin/true", "/no/such/library.so", case, lambda case, outcome: [])
+        self.assertEqual(bad, ["the run told no counts"])
+
+    def test_counts_are_compared_one_by_one(self):
+        self.assertEqual(list(vars(Counts(1, 2, 3, 4, 5, 6, 7))), ["calls", "asked", "held", "reads", "writes", "spent", "failed"])
+        case, outcome = Case("", words=["check", "a"], files={"a": bytes(100)}), Outcome(0, b"ok exif\n", b"")
+        most = limits_of(case, outcome)
+        for name in ("calls", "asked", "held", "reads", "writes", "spent"):
+            for more, complaints in ((0, 0), (1, 1)):
+                counts = dataclasses.replace(most, **{name: getattr(most, name) + more})
+                with mock.patch("watching.watched", return_value=(outcome, counts)):
+                    self.assertEqual(len(complaints_of_cost("", "", case, lambda case, outcome: [])), complaints, name)
+
+
+class Meanings(unittest.TestCase):
+    """Worked blocks, encoded by hand, and what is made of their meanings."""
+
+    def test_one_short_in_both_byte_orders(self):
+        meaning = Exif({0x0112: Value(SHORT, [1])})
+        most = bytes.fromhex("4D4D002A00000008 0001 0112000300000001 00010000 00000000")
+        least = bytes.fromhex("49492A0008000000 0100 1201030001000000 01000000 00000000")
+        self.assertEqual(meaning.normal(), most)
+        self.assertEqual(laid(meaning, Layout("<", normal=True)), least)
+        self.assertEqual(meaning.listing(), "exif\n[main]\n0112 SHORT 1: 1\n")
+
+    def test_a_placed_text_of_odd_length(self):
+        meaning = Exif({0x010E: Value(ASCII, b"Urns\0")})
+        due = bytes.fromhex("4D4D002A00000008 0001 010E000200000005 0000001A 00000000 55726E730000")
+        self.assertEqual(meaning.normal(), due)
+        self.assertEqual(meaning.captions(), "exif\ndescription: Urns\\00\n")
+
+    def test_keywords_keep_their_order_and_groups_rise(self):
+        record = Record([(2, 120, b"c"), (2, 25, b"b"), (2, 25, b"a")])
+        self.assertEqual(record.normal(), bytes.fromhex("1C0219000162 1C0219000161 1C0278000163"))
+        self.assertEqual(record.captions(), "iim\ncharset: not declared\ncaption: c\nkeyword: b\nkeyword: a\n")
+
+    def test_no_two_parts_of_a_layout_share_a_byte(self):
+        for kind in small_kinds():
+            self.assertTrue(all(kind.blocks), kind.name)
+            self.assertTrue(isinstance(kind.meaning, Record) or kind.blocks[0] != kind.blocks[-1] or kind.name, kind.name)
+
+
+class Reading(unittest.TestCase):
+    """The results of reading.py for blocks: those whose meaning is known, and those of the cases, encoded by hand."""
+
+    def entries(self, table):
+        for name in sorted(os.listdir(paths.CASES / "cases")):
+            if name.endswith(".json"):
+                with open(paths.CASES / "cases" / name, encoding="utf-8") as it:
+                    yield from json.load(it).get(table, [])
+
+    def blocks(self):
+        with open(paths.CASES / "cases" / "blocks.json", encoding="utf-8") as it:
+            return Blocks(json.load(it)["blocks"])
+
+    def test_each_layout_of_a_kind_says_its_meaning(self):
+        for kind in small_kinds():
+            for block in (*kind.blocks, kind.meaning.normal()):
+                found = said(block)
+                self.assertEqual((found.listing(), found.captions()), (kind.meaning.listing(), kind.meaning.captions()), kind.name)
+                self.assertEqual(found.normal(), kind.meaning.normal(), kind.name)
+
+    def test_each_refusal_of_the_cases(self):
+        blocks = self.blocks()
+        for entry in self.entries("refusals"):
+            with self.assertRaises(Fault) as told:
+                said(blocks.bytes_of(entry["block"]))
+            self.assertEqual(str(told.exception), entry["refused"], entry["name"])
+
+    def test_each_normal_form_and_each_text_of_the_cases(self):
+        blocks = self.blocks()
+        for entry in self.entries("normal forms"):
+            due = blocks.bytes_of(entry.get("normal", entry["block"]))
+            self.assertTrue(said(blocks.bytes_of(entry["block"])).normal() == due, entry["name"])
+        for entry in self.entries("texts"):
+            found = said(blocks.bytes_of(entry["block"]))
+            for word, text in (("check", f"ok {found.kind}\n"), ("show", found.listing()), ("captions", found.captions())):
+                due = entry.get(word)
+                lines = text.split("\n")[:-1]
+                if due is not None:
+                    self.assertEqual(len(lines) if isinstance(due, int) else lines, [due] if isinstance(due, str) else due, entry["name"])
+
+    def test_what_is_due_of_a_file(self):
+        one = bytes.fromhex("4D4D002A00000008 0001 0112000300000001 00010000 00000000")
+        self.assertEqual((case_of(one).output, case_of(one).status), (one, 0))
+        self.assertEqual(case_of(b"Exif\0\0" + one, "check").output, b"ok exif\n")
+        self.assertEqual((case_of(one[:25], "show").output, case_of(one[:25]).status), (b"refused: DirectoryOutside at 4\n", 2))
+        self.assertEqual(case_of(b"\x1c" + bytes(LIMIT)).output, f"refused: TooLong at {LIMIT}\n".encode())
+
+    def test_blocks_are_changed_the_same_way_in_every_run(self):
+        block = bytes(range(100))
+        first, second = list(changed(block, 50)), list(changed(block, 50))
+        self.assertEqual(first, second)
+        self.assertGreater(len(set(first)), 40)
+        self.assertTrue(all(first))
+
+
+class Running(unittest.TestCase):
+    """run.py over programs that are none."""
+
+    def ran(self, program, *words):
+        ran = subprocess.run([sys.executable, paths.CASES / "run.py", program, *words], capture_output=True, text=True)
+        return ran.returncode, ran.stdout.splitlines()[-1:]
+
+    def test_nothing_that_runs_is_a_failure(self):
+        self.assertEqual(self.ran("/bin/true", "--only", "no case has this name"), (1, ["0 passed, 1 failed"]))
+
+    def test_no_program_is_a_failure(self):
+        self.assertEqual(self.ran("/no/such/program"), (1, ["0 passed, 1 failed"]))
+
+    def test_a_program_that_does_nothing_fails(self):
+        status, last = self.ran("/bin/true", "--only", "one width as SHORT")
+        self.assertEqual(status, 1)
+        self.assertRegex(last[0], r"^\d+ passed, [1-9]\d* failed$")
+
+
+class Builds(unittest.TestCase):
+    """What counts as just proved where the library's archive is built over it, and in what order crates are proved."""
+
+    @mock.patch("compiler.version", return_value="toolchain 1")
+    def is_proved_after(self, change, _):
+        with tempfile.TemporaryDirectory() as folder:
+            top = Path(folder)
+            sources = ["crates.txt", "crates/px_bytes/src/lib.rt", "crates/px_c/src/lib.rt"]
+            for name in [*sources, "out/proved-since", "crates/px_bytes/out/rlib/px_bytes.rlib/checked"]:
+                if name not in sources:
+                    time.sleep(0.05)  # longer than a tick of the clock by which files get their times
+                (top / name).parent.mkdir(parents=True, exist_ok=True)
+                (top / name).touch()
+            time.sleep(0.05)
+            read = crates.Crates(top, {"px_bytes": [], "px_c": ["px_bytes"]}, {"px_c"})
+            mark = top / "out/proved-since"
+            time_of_mark = mark.stat().st_mtime_ns
+            mark.write_text(gate.sums(read), encoding="utf-8")
+            os.utime(mark, ns=(time_of_mark, time_of_mark))
+            change(top)
+            return gate.is_proved(read, "px_c")
+
+    def test_what_was_proved_since_the_mark(self):
+        self.assertTrue(self.is_proved_after(lambda top: None))
+
+    def test_a_source_that_was_changed_since(self):
+        for name in ("crates.txt", "crates/px_bytes/src/lib.rt", "crates/px_c/src/lib.rt"):
+            self.assertFalse(self.is_proved_after(lambda top: os.utime(top / name, (10**9, 10**9))), name)
+        self.assertFalse(self.is_proved_after(lambda top: (top / "crates/px_bytes/src/lib.rt").unlink()))
+
+    def test_no_mark(self):
+        self.assertFalse(self.is_proved_after(lambda top: (top / "out/proved-since").unlink()))
+
+    def test_a_library_of_another_run(self):
+        folder = "crates/px_bytes/out/rlib"
+        self.assertFalse(self.is_proved_after(lambda top: os.utime(top / folder / "px_bytes.rlib/checked", (10**9, 10**9))))
+        self.assertFalse(self.is_proved_after(lambda top: (top / folder / "px_bytes.rlib/checked").unlink()))
+        self.assertFalse(self.is_proved_after(lambda top: (top / folder / "stamp").touch()))
+
+
+class Examples(unittest.TestCase):
+    """The examples in docstrings."""
+
+    def test_they_are_right(self):
+        for module in (counting, crates, watching):
+            with self.subTest(module.__name__):
+                counting.examples(module)
+
+
+def loaded(it: object) -> unittest.TestSuite:
+    load = unittest.defaultTestLoader
+    return load.loadTestsFromTestCase(it) if isinstance(it, type) else load.loadTestsFromModule(it)
+
+
+def main() -> int:
+    # what counts all others is judged by unittest alone
+    if not unittest.TextTestRunner(stream=sys.stdout).run(loaded(harness_outcomes.Counting)).wasSuccessful():
+        print("0 passed, 1 failed")
+        return 1
+    return counting.run_suite(unittest.TestSuite(map(loaded, (sys.modules[__name__], gate_outcomes, harness_outcomes, judges_outcomes, mutations_outcomes))))
+
+
+if __name__ == "__main__":
+    sys.exit(main())
