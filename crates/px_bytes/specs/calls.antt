@@ -4,6 +4,5 @@ pub mod Watching
 pub mod Grown
 pub mod Writing
 pub mod Marked
-pub mod Spaces
 pub mod Reading
 pub mod Freed

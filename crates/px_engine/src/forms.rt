@@ -31,7 +31,7 @@ fn send_exif<W: Sink>(form: &NormalForm, writer: &mut W) -> Result<(), Failed>
     ensures bytes { Writes result (W.bytes_taken writer.old) (W.bytes_taken writer.new) (normal_exif (said_in form.now)) }
     ensures count { Counts result (W.failed writer.old) (W.failed writer.new) }
 {
-    let mut pending = Pending::expecting(form.len());
+    let mut pending = Pending::new();
     put_normal(&mut pending, writer, form)?;
     pending.send(writer)
 }

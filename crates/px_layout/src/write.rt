@@ -51,7 +51,7 @@ pub fn write_normal_in<W: Sink>(m: &Meaning, writer: &mut W) -> Result<u64, Writ
 {
     let form = NormalForm::new(m)?;
     let len = form.len();
-    let mut pending = Pending::expecting(len);
+    let mut pending = Pending::new();
     put_normal(&mut pending, writer, &form)?;
     pending.send(writer)?;
     writer.flush_all()?;

@@ -5,5 +5,5 @@ use Rattle.px_engine.proofs.forms.send_exif.Goals as goal
 
 pub returns-clause-bytes : goal.returns-clause-bytes
 returns-clause-bytes g c =
-    sent c.send.result _ _ _ c.expecting-pending.result c.put_normal.new.pending (normal_exif (said_in c.args.form.now))
-    c.expecting-pending.ensures c.in_ok-put_normal.ensures.bytes c.send.ensures.bytes
+    sent c.send.result _ _ _ c.new-pending.result c.put_normal.new.pending (normal_exif (said_in c.args.form.now))
+    c.new-pending.ensures c.in_ok-put_normal.ensures.bytes c.send.ensures.bytes
