@@ -486,10 +486,11 @@ pub(crate) fn is_there(m: &Meaning, dir: Dir) -> bool
     }
 }
 
-/// The entries of a directory: its fields, pointers, the record, and the offsets and lengths of the
-/// thumbnail's bytes. `None` if the meaning doesn't have the directory. Allocates nothing.
+// The entries of a directory: its fields, pointers, the record, and the offsets and lengths of the
+// thumbnail's bytes. `None` if the meaning doesn't have the directory.
+#[inline(never)]
 #[tactic(auto, using(crate::proofs::plans::EntryLists::items_are))]
-pub fn entries_in<'m, 'a>(m: &'m Meaning<'a>, dir: Dir) -> Option<Entries<'m, 'a>>
+fn any_entries<'m, 'a>(m: &'m Meaning<'a>, dir: Dir) -> Option<Entries<'m, 'a>>
     requires { Fits (meaning_of m.now) }
     ensures { result ≡ items (meaning_of m.now) dir }
 {
@@ -500,4 +501,18 @@ pub fn entries_in<'m, 'a>(m: &'m Meaning<'a>, dir: Dir) -> Option<Entries<'m, 'a
         Dir::Gps => field_entries(&m.gps),
         Dir::Thumb => thumb_entries(&m.thumb),
     }
+}
+
+/// The entries of a directory: its fields, pointers, the record, and the offsets and lengths of the
+/// thumbnail's bytes. `None` if the meaning doesn't have the directory, which costs one comparison. Allocates
+/// nothing.
+#[inline(always)]
+pub fn entries_in<'m, 'a>(m: &'m Meaning<'a>, dir: Dir) -> Option<Entries<'m, 'a>>
+    requires { Fits (meaning_of m.now) }
+    ensures { result ≡ items (meaning_of m.now) dir }
+{
+    if !is_there(m, dir) {
+        return None;
+    }
+    any_entries(m, dir)
 }
