@@ -23,3 +23,18 @@ AppendsPrefix old new bs = (n : ℕ) × (n ≤ length bs) × Appends old new (ta
 abbrev pub Writes : {A E : Type 0} → Result A E → Option (List ℕ) → Option (List ℕ) → List ℕ → Type 0
 Writes (Ok x) old new bytes = Appends old new bytes
 Writes (Err e) old new bytes = AppendsPrefix old new bytes
+
+-- ---- a device over a call: its failed calls and its bytes, before and after
+
+pub record Device : Type 0 where
+  pub failed : ℕ
+  pub failed_now : ℕ
+  pub old : Option (List ℕ)
+  pub new : Option (List ℕ)
+
+abbrev pub over : {W : Type 0} → (W → ℕ) → (W → Option (List ℕ)) → W → W → Device
+over failed bytes old new = record { failed = failed old; failed_now = failed new; old = bytes old; new = bytes new }
+
+-- as many bytes were taken as `Writes` says, and a failure is counted
+abbrev pub Sends : {A E : Type 0} → Result A E → Device → List ℕ → Type 0
+Sends result d bytes = Writes result d.old d.new bytes × Counts result d.failed d.failed_now

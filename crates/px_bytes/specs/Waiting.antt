@@ -1,7 +1,7 @@
 -- The output buffer in front of a writer. `held` are the buffered bytes.
 use Rattle.std.specs.Prelude.{◌≡◌, ◌≤◌, ◌+◌, ℕ, List, length, ◌++◌, Option, Result, Ok, Err}
 use Rattle.std.specs.Io.KnownBytes.{Appends}
-use Rattle.px_bytes.specs.Devices.{AppendsPrefix}
+use Rattle.px_bytes.specs.Devices.{AppendsPrefix, Counts, Device}
 
 -- the writer has taken all of `out` except the buffered bytes
 abbrev pub Owes : Option (List ℕ) → Option (List ℕ) → List ℕ → List ℕ → Type 0
@@ -11,6 +11,10 @@ Owes old new held out = (w : List ℕ) × Appends old new w × (w ++ held ≡ ou
 abbrev pub Puts : {A E : Type 0} → Result A E → Option (List ℕ) → Option (List ℕ) → List ℕ → List ℕ → List ℕ → Type 0
 Puts (Ok x) old new held held_now bytes = Owes old new held_now (held ++ bytes)
 Puts (Err e) old new held held_now bytes = AppendsPrefix old new (held ++ bytes)
+
+-- that, and a failure is counted
+abbrev pub Adds : {A E : Type 0} → Result A E → Device → List ℕ → List ℕ → List ℕ → Type 0
+Adds result d held held_now bytes = Puts result d.old d.new held held_now bytes × Counts result d.failed d.failed_now
 
 -- the bytes fit into the buffer
 abbrev pub Fits : List ℕ → List ℕ → Type 0

@@ -10,7 +10,8 @@ use Rattle.px_words.specs.declared.One.{One}
 use Rattle.px_words.specs.declared.One.TheVariants as one
 use Rattle.px_words.specs.declared.Words.{Words}
 use Rattle.px_words.specs.declared.Words.TheVariants as words
-use Rattle.px_jobs.specs.Lines.{Device, TellsFault, TellsWords}
+use Rattle.px_bytes.specs.Devices.{Device}
+use Rattle.px_jobs.specs.Lines.{TellsFault, TellsWords}
 use Rattle.px_jobs.specs.Endings.{Ends, EndsCompare}
 use Rattle.px_words.specs.Words.{out_is_file, AskedBy, LacksWordsBy}
 

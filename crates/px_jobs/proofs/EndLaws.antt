@@ -5,7 +5,7 @@ use Rattle.px_engine.specs.declared.CompareFault.{CompareFault}
 use Rattle.px_engine.specs.declared.Fault.{Fault}
 use Rattle.px_engine.specs.Input.{LacksPairBy, LacksRunBy, CountsReads}
 use Rattle.px_engine.specs.Runs.{Checks, Compares, CountsSides, CountsWrites, Normalises}
-use Rattle.px_jobs.specs.Lines.{Device}
+use Rattle.px_bytes.specs.Devices.{Device}
 use Rattle.px_jobs.specs.Endings.{EndsCheck, EndsCompare, EndsNormalise, TellsChecked, TellsCompared, TellsWritten}
 
 pub ends_normalise : (r : Result ℕ Fault) (reader out lines : Device) (refused refused_now : ℕ) (status : ℕ)

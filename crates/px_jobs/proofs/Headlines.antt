@@ -6,7 +6,8 @@ use Rattle.px_engine.specs.declared.Fault.TheVariants.{Refused, NormalTooLong, O
 use Rattle.px_engine.specs.declared.Side.{Side}
 use Rattle.px_engine.specs.Runs.{Normalises, Compares}
 use Rattle.px_engine.specs.Headline.{Headline, RunsTell, ComparingTells}
-use Rattle.px_jobs.specs.Lines.{Device, Tells, TellsFault}
+use Rattle.px_bytes.specs.Devices.{Device}
+use Rattle.px_jobs.specs.Lines.{Tells, TellsFault}
 use Rattle.px_jobs.specs.Endings.{TellsWritten, TellsCompared}
 use Rattle.px_jobs.specs.Laws.{FormsTell, ComparisonTells}
 

@@ -2,12 +2,16 @@
 use Rattle.std.proofs.Common.{◌≡◌, ◌+◌, ◌++◌, ◌∙◌, ap, inl, inr, ℕ, List, [], Option, Result, Ok, Err}
 use Rattle.std.specs.Prelude.{⊤}
 use Rattle.std.specs.Io.KnownBytes.{Appends}
-use Rattle.px_bytes.specs.Devices.{AppendsPrefix, Writes}
+use Rattle.px_bytes.specs.Devices.{AppendsPrefix, Device, Writes}
 use Rattle.px_bytes.specs.Waiting.{Owes, Puts}
 use Rattle.px_bytes.specs.lemmas.WaitingLaws.{from_none, owed_all, owed_prefix, puts_both, puts_first}
 use Rattle.px_bytes.specs.lemmas.WriteLaws.{appends_kept, prefix_all}
-use Rattle.px_jobs.specs.Lines.{device, Tells}
+use Rattle.px_jobs.specs.Lines.{Tells}
 use Rattle.px_jobs.specs.calls.Flushing.{Flushes}
+
+-- a device over a call, of its failures and its bytes
+abbrev pub device : ℕ → ℕ → Option (List ℕ) → Option (List ℕ) → Device
+device failed failed_now old new = record { failed = failed; failed_now = failed_now; old = old; new = new }
 
 -- the first of two parts was added, and a call failed after it
 stops_behind : (a b c : Option (List ℕ)) (h i xs ys : List ℕ) → Owes a b i (h ++ xs) → AppendsPrefix b c (i ++ ys)

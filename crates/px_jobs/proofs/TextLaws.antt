@@ -8,9 +8,10 @@ use Rattle.px_engine.specs.declared.Fault.TheVariants.{Refused, NormalTooLong, O
 use Rattle.px_engine.specs.Files.{Said}
 use Rattle.px_engine.specs.Runs.{CountsWrites}
 use Rattle.px_engine.specs.Prints.{Prints}
-use Rattle.px_jobs.specs.Lines.{device, TellsFault}
+use Rattle.px_jobs.specs.Lines.{TellsFault}
 use Rattle.px_jobs.specs.Endings.{TellsText}
 use Rattle.px_jobs.specs.calls.Telling.{TellsPrinted}
+use Rattle.px_jobs.proofs.LineLaws.{device}
 
 -- a fault that is reported when nothing of the text was written
 moved : (e : Fault) (status failed mid now : ℕ) (old shown new : Option (List ℕ)) → mid ≡ failed → shown ≡ old

@@ -11,7 +11,8 @@ use Rattle.px_engine.specs.Runs.{KnownSaid, Stops, Checks, Compares, Normalises,
 use Rattle.px_engine.specs.Prints.{listing, caption_text}
 use Rattle.px_jobs.specs.declared.job.Job.{Job}
 use Rattle.px_jobs.specs.declared.job.Job.TheVariants.{Show, Check, Captions, Normalise}
-use Rattle.px_jobs.specs.Lines.{Device, IsFailed, IsWell, Took, TookNothing, TookPrefix, Tells, TellsFault}
+use Rattle.px_bytes.specs.Devices.{Device}
+use Rattle.px_jobs.specs.Lines.{IsFailed, IsWell, Took, TookNothing, TookPrefix, Tells, TellsFault}
 
 -- ---- the status and the line of an outcome
 

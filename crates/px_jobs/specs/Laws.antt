@@ -2,7 +2,8 @@
 use Rattle.std.specs.Prelude.{◌≡◌, ℕ, List, Some}
 use Rattle.px_engine.specs.Headline.{Headline}
 use Rattle.px_jobs.specs.declared.job.Job.TheVariants.{Normalise}
-use Rattle.px_jobs.specs.Lines.{Device, Took}
+use Rattle.px_bytes.specs.Devices.{Device}
+use Rattle.px_jobs.specs.Lines.{Took}
 use Rattle.px_jobs.specs.Endings.{Ends, EndsCompare}
 
 -- Two runs of `normalise` with status 0 wrote the two normal forms of the headline, each of them whole.

@@ -2,7 +2,7 @@
 use Rattle.std.specs.Prelude.{◌≡◌, ◌⊎◌, ◌+◌, ◌-◌, ◌==◌, ◌++◌, ℕ, Bool, false, if◌then◌else◌, List, length, slice_get, Option, Some, None}
 use Rattle.std.specs.Prelude.{codes, decimal}
 use Rattle.std.specs.Io.KnownBytes.{Appends, Keeps}
-use Rattle.px_bytes.specs.Devices.{AppendsPrefix}
+use Rattle.px_bytes.specs.Devices.{AppendsPrefix, Device}
 use Rattle.px_bytes.specs.Causes.{name_of}
 use Rattle.px_engine.specs.declared.Fault.{Fault}
 use Rattle.px_engine.specs.declared.Fault.TheVariants.{Refused, NormalTooLong, OutOfMemory, ReadFailed, WriteFailed}
@@ -31,17 +31,7 @@ status_of OutOfMemory = 4
 status_of ReadFailed = 4
 status_of WriteFailed = 4
 
--- a device over a call: its failures before and after, and its bytes
-pub record Device : Type 0 where
-  pub failed : ℕ
-  pub failed_now : ℕ
-  pub old : Option (List ℕ)
-  pub new : Option (List ℕ)
-
-abbrev pub device : ℕ → ℕ → Option (List ℕ) → Option (List ℕ) → Device
-device failed failed_now old new = record { failed = failed; failed_now = failed_now; old = old; new = new }
-
--- no call of it failed
+-- no call of the device failed
 abbrev pub IsWell : Device → Type 0
 IsWell d = d.failed_now ≡ d.failed
 

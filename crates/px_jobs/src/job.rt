@@ -6,8 +6,7 @@ ghost use Rattle.px_engine.specs.Prints.{caption_text, listing};
 ghost use Rattle.px_jobs.specs.Endings.{accepted, compared, compared_status, Ends, EndsCheck, EndsCompare, EndsNormalise, EndsText};
 ghost use Rattle.px_jobs.specs.Endings.{TellsChecked, TellsCompared, TellsWritten};
 ghost use Rattle.px_jobs.specs.calls.Telling.{TellsPrinted, TellsBehind};
-ghost use Rattle.px_jobs.specs.Lines.{device};
-ghost use Rattle.px_bytes.specs.Devices.{CanFail};
+ghost use Rattle.px_bytes.specs.Devices.{CanFail, over};
 
 use crate::lines::{say, tell};
 use px_bytes::{Memory, Sink, Source};
@@ -31,8 +30,7 @@ pub enum Job {
 // Reports a failed normal form. A written one needs no line.
 fn tell_written<L: Sink>(lines: &mut L, written: Result<u64, Fault>) -> u8
     requires { CanFail (L.failed lines.old) }
-    ensures { TellsWritten written result (device (L.failed lines.old) (L.failed lines.new) (L.bytes_taken lines.old)
-        (L.bytes_taken lines.new)) }
+    ensures { TellsWritten written result (over L.failed L.bytes_taken lines.old lines.new) }
 {
     match written {
         Ok(_) => 0,
@@ -53,8 +51,7 @@ fn accepted(kind: BlockKind) -> &'static [u8]
 // Reports the kind of a block.
 fn tell_checked<L: Sink>(lines: &mut L, checked: Result<BlockKind, Fault>) -> u8
     requires { CanFail (L.failed lines.old) }
-    ensures { TellsChecked checked result (device (L.failed lines.old) (L.failed lines.new) (L.bytes_taken lines.old)
-        (L.bytes_taken lines.new)) }
+    ensures { TellsChecked checked result (over L.failed L.bytes_taken lines.old lines.new) }
 {
     match checked {
         Ok(kind) => say(lines, accepted(kind), 0),
@@ -65,8 +62,7 @@ fn tell_checked<L: Sink>(lines: &mut L, checked: Result<BlockKind, Fault>) -> u8
 // Reports the fault of a text. If the lines failed, it writes no more to them.
 fn tell_behind<L: Sink>(lines: &mut L, fault: Fault) -> u8
     requires { fault ≢ WriteFailed → CanFail (L.failed lines.old) }
-    ensures { TellsBehind fault result (device (L.failed lines.old) (L.failed lines.new) (L.bytes_taken lines.old)
-        (L.bytes_taken lines.new)) }
+    ensures { TellsBehind fault result (over L.failed L.bytes_taken lines.old lines.new) }
 {
     if fault == Fault::WriteFailed {
         return 4;
@@ -77,8 +73,7 @@ fn tell_behind<L: Sink>(lines: &mut L, fault: Fault) -> u8
 // Reports a failed text. A written one needs no further line.
 fn tell_printed<L: Sink>(lines: &mut L, printed: Result<(), Fault>) -> u8
     requires { (e : Fault) → printed ≡ Err e → e ≢ WriteFailed → CanFail (L.failed lines.old) }
-    ensures { TellsPrinted printed result (device (L.failed lines.old) (L.failed lines.new) (L.bytes_taken lines.old)
-        (L.bytes_taken lines.new)) }
+    ensures { TellsPrinted printed result (over L.failed L.bytes_taken lines.old lines.new) }
 {
     match printed {
         Ok(()) => 0,
@@ -109,8 +104,7 @@ fn compared_status(same: bool) -> u8
 // Reports whether two blocks mean the same.
 fn tell_compared<L: Sink>(lines: &mut L, same: Result<bool, CompareFault>) -> u8
     requires { CanFail (L.failed lines.old) }
-    ensures { TellsCompared same result (device (L.failed lines.old) (L.failed lines.new) (L.bytes_taken lines.old)
-        (L.bytes_taken lines.new)) }
+    ensures { TellsCompared same result (over L.failed L.bytes_taken lines.old lines.new) }
 {
     match same {
         Ok(same) => say(lines, compared(same), compared_status(same)),
@@ -129,9 +123,9 @@ fn run_normalise<R: Source, O: Sink, L: Sink>(
     requires reading { CanFail (R.failed reader.old) }
     requires writing { CanFail (O.failed out.old) }
     requires telling { CanFail (L.failed lines.old) }
-    ensures { EndsNormalise (device (R.failed reader.old) (R.failed reader.new) (R.bytes_left reader.old) (R.bytes_left reader.new))
-        (device (O.failed out.old) (O.failed out.new) (O.bytes_taken out.old) (O.bytes_taken out.new))
-        (device (L.failed lines.old) (L.failed lines.new) (L.bytes_taken lines.old) (L.bytes_taken lines.new))
+    ensures { EndsNormalise (over R.failed R.bytes_left reader.old reader.new)
+        (over O.failed O.bytes_taken out.old out.new)
+        (over L.failed L.bytes_taken lines.old lines.new)
         memory.old.refusals memory.new.refusals result }
 {
     tell_written(lines, normalise_in(memory, reader, out))
@@ -142,8 +136,8 @@ fn run_normalise<R: Source, O: Sink, L: Sink>(
 fn run_check<R: Source, L: Sink>(memory: &mut Memory, reader: &mut R, lines: &mut L) -> u8
     requires reading { CanFail (R.failed reader.old) }
     requires telling { CanFail (L.failed lines.old) }
-    ensures { EndsCheck (device (R.failed reader.old) (R.failed reader.new) (R.bytes_left reader.old) (R.bytes_left reader.new))
-        (device (L.failed lines.old) (L.failed lines.new) (L.bytes_taken lines.old) (L.bytes_taken lines.new))
+    ensures { EndsCheck (over R.failed R.bytes_left reader.old reader.new)
+        (over L.failed L.bytes_taken lines.old lines.new)
         memory.old.refusals memory.new.refusals result }
 {
     tell_checked(lines, check_in(memory, reader))
@@ -153,8 +147,8 @@ fn run_check<R: Source, L: Sink>(memory: &mut Memory, reader: &mut R, lines: &mu
 fn run_show<R: Source, L: Sink>(memory: &mut Memory, reader: &mut R, lines: &mut L) -> u8
     requires reading { CanFail (R.failed reader.old) }
     requires telling { CanFail (L.failed lines.old) }
-    ensures { EndsText listing (device (R.failed reader.old) (R.failed reader.new) (R.bytes_left reader.old) (R.bytes_left reader.new))
-        (device (L.failed lines.old) (L.failed lines.new) (L.bytes_taken lines.old) (L.bytes_taken lines.new))
+    ensures { EndsText listing (over R.failed R.bytes_left reader.old reader.new)
+        (over L.failed L.bytes_taken lines.old lines.new)
         memory.old.refusals memory.new.refusals result }
 {
     let printed = show_in(memory, reader, lines);
@@ -165,8 +159,8 @@ fn run_show<R: Source, L: Sink>(memory: &mut Memory, reader: &mut R, lines: &mut
 fn run_captions<R: Source, L: Sink>(memory: &mut Memory, reader: &mut R, lines: &mut L) -> u8
     requires reading { CanFail (R.failed reader.old) }
     requires telling { CanFail (L.failed lines.old) }
-    ensures { EndsText caption_text (device (R.failed reader.old) (R.failed reader.new) (R.bytes_left reader.old) (R.bytes_left reader.new))
-        (device (L.failed lines.old) (L.failed lines.new) (L.bytes_taken lines.old) (L.bytes_taken lines.new))
+    ensures { EndsText caption_text (over R.failed R.bytes_left reader.old reader.new)
+        (over L.failed L.bytes_taken lines.old lines.new)
         memory.old.refusals memory.new.refusals result }
 {
     let printed = captions_in(memory, reader, lines);
@@ -191,9 +185,9 @@ pub fn run_one_in<R: Source, O: Sink, L: Sink>(
     requires reading { CanFail (R.failed reader.old) }
     requires writing { CanFail (O.failed out.old) }
     requires telling { CanFail (L.failed lines.old) }
-    ensures { Ends job (device (R.failed reader.old) (R.failed reader.new) (R.bytes_left reader.old) (R.bytes_left reader.new))
-        (device (O.failed out.old) (O.failed out.new) (O.bytes_taken out.old) (O.bytes_taken out.new))
-        (device (L.failed lines.old) (L.failed lines.new) (L.bytes_taken lines.old) (L.bytes_taken lines.new))
+    ensures { Ends job (over R.failed R.bytes_left reader.old reader.new)
+        (over O.failed O.bytes_taken out.old out.new)
+        (over L.failed L.bytes_taken lines.old lines.new)
         memory.old.refusals memory.new.refusals result }
 {
     match job {
@@ -218,9 +212,9 @@ pub fn run_compare_in<R: Source, S: Source, L: Sink>(
     requires first { CanFail (R.failed first.old) }
     requires second { CanFail (S.failed second.old) }
     requires telling { CanFail (L.failed lines.old) }
-    ensures { EndsCompare (device (R.failed first.old) (R.failed first.new) (R.bytes_left first.old) (R.bytes_left first.new))
-        (device (S.failed second.old) (S.failed second.new) (S.bytes_left second.old) (S.bytes_left second.new))
-        (device (L.failed lines.old) (L.failed lines.new) (L.bytes_taken lines.old) (L.bytes_taken lines.new))
+    ensures { EndsCompare (over R.failed R.bytes_left first.old first.new)
+        (over S.failed S.bytes_left second.old second.new)
+        (over L.failed L.bytes_taken lines.old lines.new)
         memory.old.refusals memory.new.refusals result }
 {
     tell_compared(lines, compare_in(memory, first, second))

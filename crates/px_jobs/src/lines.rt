@@ -1,9 +1,9 @@
 // Output lines and exit statuses.
 ghost use Rattle.std.specs.Prelude.{◌≡◌, ◌++◌, None};
-ghost use Rattle.px_bytes.specs.Devices.{CanFail, Counts, Writes};
-ghost use Rattle.px_bytes.specs.Waiting.{Puts};
+ghost use Rattle.px_bytes.specs.Devices.{CanFail, over, Sends};
+ghost use Rattle.px_bytes.specs.Waiting.{Adds};
 ghost use Rattle.px_engine.specs.declared.Fault.TheVariants.{Refused};
-ghost use Rattle.px_jobs.specs.Lines.{end_of, line_of, status_of, device, Tells, TellsFault, TellsWords, is_ended};
+ghost use Rattle.px_jobs.specs.Lines.{end_of, line_of, status_of, Tells, TellsFault, TellsWords, is_ended};
 ghost use Rattle.px_jobs.specs.calls.Flushing.{Flushes};
 
 use itoa::Buffer;
@@ -30,9 +30,8 @@ fn put_refusal<L: Sink>(
     file: Option<Side>,
 ) -> Result<(), Failed>
     requires { CanFail (L.failed lines.old) }
-    ensures bytes { Puts result (L.bytes_taken lines.old) (L.bytes_taken lines.new) pending.old pending.new
+    ensures { Adds result (over L.failed L.bytes_taken lines.old lines.new) pending.old pending.new
         (line_of (Refused cause place) file) }
-    ensures count { Counts result (L.failed lines.old) (L.failed lines.new) }
 {
     let mut digits = Buffer::new();
     pending.put(lines, b"refused: ")?;
@@ -50,8 +49,7 @@ fn put_ended<L: Sink>(
     file: Option<Side>,
 ) -> Result<(), Failed>
     requires { CanFail (L.failed lines.old) }
-    ensures bytes { Puts result (L.bytes_taken lines.old) (L.bytes_taken lines.new) pending.old pending.new (text.now ++ end_of file) }
-    ensures count { Counts result (L.failed lines.old) (L.failed lines.new) }
+    ensures { Adds result (over L.failed L.bytes_taken lines.old lines.new) pending.old pending.new (text.now ++ end_of file) }
 {
     pending.put(lines, text)?;
     pending.put(lines, ending(file))
@@ -65,8 +63,7 @@ fn put_line<L: Sink>(
     file: Option<Side>,
 ) -> Result<(), Failed>
     requires { CanFail (L.failed lines.old) }
-    ensures bytes { Puts result (L.bytes_taken lines.old) (L.bytes_taken lines.new) pending.old pending.new (line_of fault file) }
-    ensures count { Counts result (L.failed lines.old) (L.failed lines.new) }
+    ensures { Adds result (over L.failed L.bytes_taken lines.old lines.new) pending.old pending.new (line_of fault file) }
 {
     match fault {
         Fault::Refused { cause, place } => put_refusal(pending, lines, cause, place, file),
@@ -80,8 +77,7 @@ fn put_line<L: Sink>(
 // Writes the line of a fault, in one write if the writer takes it.
 fn write_line<L: Sink>(lines: &mut L, fault: Fault, file: Option<Side>) -> Result<(), Failed>
     requires { CanFail (L.failed lines.old) }
-    ensures bytes { Writes result (L.bytes_taken lines.old) (L.bytes_taken lines.new) (line_of fault file) }
-    ensures count { Counts result (L.failed lines.old) (L.failed lines.new) }
+    ensures { Sends result (over L.failed L.bytes_taken lines.old lines.new) (line_of fault file) }
 {
     let mut pending = Pending::new();
     put_line(&mut pending, lines, fault, file)?;
@@ -91,8 +87,7 @@ fn write_line<L: Sink>(lines: &mut L, fault: Fault, file: Option<Side>) -> Resul
 // Writes a text and the end of its line, in one write if both are short and the writer takes it.
 fn write_ended<L: Sink>(lines: &mut L, text: &[u8], file: Option<Side>) -> Result<(), Failed>
     requires { CanFail (L.failed lines.old) }
-    ensures bytes { Writes result (L.bytes_taken lines.old) (L.bytes_taken lines.new) (text.now ++ end_of file) }
-    ensures count { Counts result (L.failed lines.old) (L.failed lines.new) }
+    ensures { Sends result (over L.failed L.bytes_taken lines.old lines.new) (text.now ++ end_of file) }
 {
     let mut pending = Pending::new();
     put_ended(&mut pending, lines, text, file)?;
@@ -112,7 +107,7 @@ fn status(fault: Fault) -> u8
 // Flushes. Returns the exit status: `due`, or 4 if the flush fails.
 fn flushed<L: Sink>(lines: &mut L, due: u8) -> u8
     requires { CanFail (L.failed lines.old) }
-    ensures { Flushes due result (device (L.failed lines.old) (L.failed lines.new) (L.bytes_taken lines.old) (L.bytes_taken lines.new)) }
+    ensures { Flushes due result (over L.failed L.bytes_taken lines.old lines.new) }
 {
     match lines.flush_all() {
         Ok(()) => due,
@@ -124,8 +119,7 @@ fn flushed<L: Sink>(lines: &mut L, due: u8) -> u8
 /// fails. In a comparison, `file` is the side with the fault. It allocates nothing.
 pub fn tell<L: Sink>(lines: &mut L, fault: Fault, file: Option<Side>) -> u8
     requires { CanFail (L.failed lines.old) }
-    ensures { TellsFault fault file result (device (L.failed lines.old) (L.failed lines.new) (L.bytes_taken lines.old)
-        (L.bytes_taken lines.new)) }
+    ensures { TellsFault fault file result (over L.failed L.bytes_taken lines.old lines.new) }
 {
     match write_line(lines, fault, file) {
         Ok(()) => flushed(lines, status(fault)),
@@ -137,8 +131,7 @@ pub fn tell<L: Sink>(lines: &mut L, fault: Fault, file: Option<Side>) -> u8
 /// allocates nothing.
 pub fn say<L: Sink>(lines: &mut L, line: &[u8], due: u8) -> u8
     requires { CanFail (L.failed lines.old) }
-    ensures { Tells due line.now result (device (L.failed lines.old) (L.failed lines.new) (L.bytes_taken lines.old)
-        (L.bytes_taken lines.new)) }
+    ensures { Tells due line.now result (over L.failed L.bytes_taken lines.old lines.new) }
 {
     match write_whole(lines, line) {
         Ok(()) => flushed(lines, due),
@@ -159,8 +152,7 @@ fn is_ended(text: &[u8]) -> bool
 // Writes a text and a line feed, and flushes. Returns the exit status.
 fn say_ended<L: Sink>(lines: &mut L, text: &str, due: u8) -> u8
     requires { CanFail (L.failed lines.old) }
-    ensures { Tells due (text.now ++ end_of None) result (device (L.failed lines.old) (L.failed lines.new) (L.bytes_taken lines.old)
-        (L.bytes_taken lines.new)) }
+    ensures { Tells due (text.now ++ end_of None) result (over L.failed L.bytes_taken lines.old lines.new) }
 {
     match write_ended(lines, text.as_bytes(), None) {
         Ok(()) => flushed(lines, due),
@@ -172,8 +164,7 @@ fn say_ended<L: Sink>(lines: &mut L, text: &str, due: u8) -> u8
 /// `due`, or 4 if a write or the flush fails. It allocates nothing.
 pub fn say_text<L: Sink>(lines: &mut L, text: &str, due: u8) -> u8
     requires { CanFail (L.failed lines.old) }
-    ensures { TellsWords due text.now result (device (L.failed lines.old) (L.failed lines.new) (L.bytes_taken lines.old)
-        (L.bytes_taken lines.new)) }
+    ensures { TellsWords due text.now result (over L.failed L.bytes_taken lines.old lines.new) }
 {
     if is_ended(text.as_bytes()) {
         return say(lines, text.as_bytes(), due);

@@ -2,7 +2,7 @@
 use Rattle.std.specs.Prelude.{◌⊎◌, ℕ, List, Option}
 use Rattle.px_engine.specs.declared.Fault.{Fault}
 use Rattle.px_jobs.specs.declared.Job.TheVariants as job
-use Rattle.px_jobs.specs.Lines.{Device}
+use Rattle.px_bytes.specs.Devices.{Device}
 use Rattle.px_cli.specs.Programs.{EndsJob, EndsUnmade}
 
 -- the normal form of an open file went to OUT; or there is no such OUT

@@ -1,6 +1,7 @@
 -- A flush of standard output.
 use Rattle.std.specs.Prelude.{◌≡◌, ◌⊎◌, ℕ}
-use Rattle.px_jobs.specs.Lines.{Device, IsWell, IsFailed, TookNothing}
+use Rattle.px_bytes.specs.Devices.{Device}
+use Rattle.px_jobs.specs.Lines.{IsWell, IsFailed, TookNothing}
 
 -- only a flush: the given status, or 4 if it failed
 abbrev pub Flushes : ℕ → ℕ → Device → Type 0

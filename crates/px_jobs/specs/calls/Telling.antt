@@ -2,7 +2,8 @@
 use Rattle.std.specs.Prelude.{◌≡◌, ◌≢◌, ◌⊎◌, ℕ, None, Result, Ok, Err}
 use Rattle.px_engine.specs.declared.Fault.{Fault}
 use Rattle.px_engine.specs.declared.Fault.TheVariants.{WriteFailed}
-use Rattle.px_jobs.specs.Lines.{Device, TellsFault}
+use Rattle.px_bytes.specs.Devices.{Device}
+use Rattle.px_jobs.specs.Lines.{TellsFault}
 use Rattle.px_jobs.specs.Endings.{IsIdle}
 
 -- after a failed write of a text nothing is written; any other fault came before the text and has its status and line

@@ -1,3 +1,4 @@
+use Rattle.std.proofs.Common.{rules}
 use Rattle.std.proofs.Common.{codes, []}
 use Rattle.std.specs.Prelude.{decimal}
 use Rattle.std.proofs.lemmas.Result.{err_from_is_err_and}
@@ -6,37 +7,51 @@ use Rattle.px_jobs.specs.Lines.{end_of}
 use Rattle.px_jobs.proofs.LineLaws.{stops_first, stops_second, stops_third, stops_fourth, puts_all}
 use Rattle.px_jobs.proofs.lines.put_refusal.Goals as goal
 
-pub returns-in_err-put-clause-bytes : goal.returns-in_err-put-clause-bytes
-returns-in_err-put-clause-bytes g c =
+pub returns-in_err-put : goal.returns-in_err-put
+returns-in_err-put g c =
     let p = err_from_is_err_and c.from_residual.result c.from_residual.ensures.1 in
-    rw p.1 (stops_first (codes "refused: ") (name_of c.args.cause) (codes " at ") (decimal c.args.place) (end_of c.args.file) _ _
-    (g.L.Sink.bytes_taken c.args.lines.now) (g.L.Sink.bytes_taken c.args.lines.now) (g.L.Sink.bytes_taken c.args.lines.now)
-    c.args.pending.now [] [] [] [] c.in_err-put.ensures.bytes)
+    rw p.1 (
+      stops_first (codes "refused: ") (name_of c.args.cause) (codes " at ") (decimal c.args.place) (end_of c.args.file) _ _
+          (g.L.Sink.bytes_taken c.args.lines.now) (g.L.Sink.bytes_taken c.args.lines.now) (g.L.Sink.bytes_taken c.args.lines.now)
+          c.args.pending.now [] [] [] [] c.in_err-put.ensures.bytes,
+      search rules,
+    )
 
-pub returns-in_err-put-2-clause-bytes : goal.returns-in_err-put-2-clause-bytes
-returns-in_err-put-2-clause-bytes g c =
+pub returns-in_err-put-2 : goal.returns-in_err-put-2
+returns-in_err-put-2 g c =
     let p = err_from_is_err_and c.from_residual-in_err-put-2.result c.from_residual-in_err-put-2.ensures.1 in
-    rw p.1 (stops_second (codes "refused: ") (name_of c.args.cause) (codes " at ") (decimal c.args.place) (end_of c.args.file) _ _ _
-    (g.L.Sink.bytes_taken c.args.lines.now) (g.L.Sink.bytes_taken c.args.lines.now) c.args.pending.now _ [] [] []
-    c.in_ok-put.ensures.bytes (rw c.name.ensures at c.in_err-put-2.ensures.bytes))
+    rw p.1 (
+      stops_second (codes "refused: ") (name_of c.args.cause) (codes " at ") (decimal c.args.place) (end_of c.args.file) _ _ _
+          (g.L.Sink.bytes_taken c.args.lines.now) (g.L.Sink.bytes_taken c.args.lines.now) c.args.pending.now _ [] [] []
+          c.in_ok-put.ensures.bytes (rw c.name.ensures at c.in_err-put-2.ensures.bytes),
+      search rules,
+    )
 
-pub returns-in_err-put-3-clause-bytes : goal.returns-in_err-put-3-clause-bytes
-returns-in_err-put-3-clause-bytes g c =
+pub returns-in_err-put-3 : goal.returns-in_err-put-3
+returns-in_err-put-3 g c =
     let p = err_from_is_err_and c.from_residual-in_err-put-3.result c.from_residual-in_err-put-3.ensures.1 in
-    rw p.1 (stops_third (codes "refused: ") (name_of c.args.cause) (codes " at ") (decimal c.args.place) (end_of c.args.file) _ _ _ _
-    (g.L.Sink.bytes_taken c.args.lines.now) c.args.pending.now _ _ [] [] c.in_ok-put.ensures.bytes
-    (rw c.name.ensures at c.in_ok-put-2.ensures.bytes) c.in_err-put-3.ensures.bytes)
+    rw p.1 (
+      stops_third (codes "refused: ") (name_of c.args.cause) (codes " at ") (decimal c.args.place) (end_of c.args.file) _ _ _ _
+          (g.L.Sink.bytes_taken c.args.lines.now) c.args.pending.now _ _ [] [] c.in_ok-put.ensures.bytes
+          (rw c.name.ensures at c.in_ok-put-2.ensures.bytes) c.in_err-put-3.ensures.bytes,
+      search rules,
+    )
 
-pub returns-in_err-put-4-clause-bytes : goal.returns-in_err-put-4-clause-bytes
-returns-in_err-put-4-clause-bytes g c =
+pub returns-in_err-put-4 : goal.returns-in_err-put-4
+returns-in_err-put-4 g c =
     let p = err_from_is_err_and c.from_residual-in_err-put-4.result c.from_residual-in_err-put-4.ensures.1 in
-    rw p.1 (stops_fourth (codes "refused: ") (name_of c.args.cause) (codes " at ") (decimal c.args.place) (end_of c.args.file) _ _ _ _ _
-    c.args.pending.now _ _ _ [] c.in_ok-put.ensures.bytes (rw c.name.ensures at c.in_ok-put-2.ensures.bytes)
-    c.in_ok-put-3.ensures.bytes (rw (c.as_bytes.ensures.value, c.format.ensures.text) at c.in_err-put-4.ensures.bytes))
+    rw p.1 (
+      stops_fourth (codes "refused: ") (name_of c.args.cause) (codes " at ") (decimal c.args.place) (end_of c.args.file) _ _ _ _ _
+          c.args.pending.now _ _ _ [] c.in_ok-put.ensures.bytes (rw c.name.ensures at c.in_ok-put-2.ensures.bytes)
+          c.in_ok-put-3.ensures.bytes (rw (c.as_bytes.ensures.value, c.format.ensures.text) at c.in_err-put-4.ensures.bytes),
+      search rules,
+    )
 
-pub returns-clause-bytes : goal.returns-clause-bytes
-returns-clause-bytes g c =
-    puts_all (codes "refused: ") (name_of c.args.cause) (codes " at ") (decimal c.args.place) (end_of c.args.file) _ _ _ _ _
-    c.args.pending.now _ _ _ _ c.in_ok-put.ensures.bytes (rw c.name.ensures at c.in_ok-put-2.ensures.bytes) c.in_ok-put-3.ensures.bytes
-    _ _ _ (rw (c.as_bytes.ensures.value, c.format.ensures.text) at c.in_ok-put-4.ensures.bytes)
-    (rw c.ending.ensures at c.put-5.ensures.bytes)
+pub returns : goal.returns
+returns g c = (
+  puts_all (codes "refused: ") (name_of c.args.cause) (codes " at ") (decimal c.args.place) (end_of c.args.file) _ _ _ _ _
+      c.args.pending.now _ _ _ _ c.in_ok-put.ensures.bytes (rw c.name.ensures at c.in_ok-put-2.ensures.bytes) c.in_ok-put-3.ensures.bytes
+      _ _ _ (rw (c.as_bytes.ensures.value, c.format.ensures.text) at c.in_ok-put-4.ensures.bytes)
+      (rw c.ending.ensures at c.put-5.ensures.bytes),
+  search rules,
+)

@@ -1,3 +1,4 @@
+use Rattle.std.proofs.Common.{rules}
 use Rattle.std.proofs.Common.{◌++◌}
 use Rattle.std.proofs.lemmas.Result.{err_from_is_err_and}
 use Rattle.px_bytes.specs.Devices.{AppendsPrefix}
@@ -6,13 +7,18 @@ use Rattle.px_jobs.specs.Lines.{end_of}
 use Rattle.px_jobs.proofs.LineLaws.{sent}
 use Rattle.px_jobs.proofs.lines.write_ended.Goals as goal
 
-pub returns-in_err-put_ended-clause-bytes : goal.returns-in_err-put_ended-clause-bytes
-returns-in_err-put_ended-clause-bytes g c =
+pub returns-in_err-put_ended : goal.returns-in_err-put_ended
+returns-in_err-put_ended g c =
     let p = err_from_is_err_and c.from_residual.result c.from_residual.ensures.1 in
-    rw p.1 (from_none (AppendsPrefix (g.L.Sink.bytes_taken c.args.lines.now) _) _ (c.args.text.now
-    ++ end_of c.args.file) c.new-pending.ensures c.in_err-put_ended.ensures.bytes)
+    rw p.1 (
+      from_none (AppendsPrefix (g.L.Sink.bytes_taken c.args.lines.now) _) _ (c.args.text.now
+          ++ end_of c.args.file) c.new-pending.ensures c.in_err-put_ended.ensures.0,
+      search rules,
+    )
 
-pub returns-clause-bytes : goal.returns-clause-bytes
-returns-clause-bytes g c =
-    sent c.send.result _ _ _ c.new-pending.result _ (c.args.text.now ++ end_of c.args.file) c.new-pending.ensures
-    c.in_ok-put_ended.ensures.bytes c.send.ensures.bytes
+pub returns : goal.returns
+returns g c = (
+  sent c.send.result _ _ _ c.new-pending.result _ (c.args.text.now ++ end_of c.args.file) c.new-pending.ensures
+      c.in_ok-put_ended.ensures.0 c.send.ensures.bytes,
+  search rules,
+)
