@@ -1,7 +1,7 @@
 // Normal forms in memory: measured first, then written into a vector of exactly that size, or into the
 // caller's buffer.
 ghost use Rattle.std.specs.Prelude.{◌≡◌, ◌≤◌, length, IfOk, IfErr};
-ghost use Rattle.px_bytes.specs.Devices.{CanFail, Counts, Writes};
+ghost use Rattle.px_bytes.specs.Devices.{CanFail, over, Sends};
 ghost use Rattle.px_bytes.specs.Parts.{limit};
 ghost use Rattle.px_iim.specs.Record.{normal_iim};
 ghost use Rattle.px_layout.specs.Normal.{normal_exif};
@@ -28,8 +28,7 @@ use px_tree::Meaning;
 fn send_exif<W: Sink>(form: &NormalForm, writer: &mut W) -> Result<(), Failed>
     requires few { CanFail (W.failed writer.old) }
     requires form { IsForm form.now }
-    ensures bytes { Writes result (W.bytes_taken writer.old) (W.bytes_taken writer.new) (normal_exif (said_in form.now)) }
-    ensures count { Counts result (W.failed writer.old) (W.failed writer.new) }
+    ensures { Sends result (over W.failed W.bytes_taken writer.old writer.new) (normal_exif (said_in form.now)) }
 {
     let mut pending = Pending::new();
     put_normal(&mut pending, writer, form)?;
@@ -39,8 +38,7 @@ fn send_exif<W: Sink>(form: &NormalForm, writer: &mut W) -> Result<(), Failed>
 // Writes the normal form of a record.
 fn send_record<W: Sink>(iim: &Iim, writer: &mut W) -> Result<(), Failed>
     requires { CanFail (W.failed writer.old) }
-    ensures bytes { Writes result (W.bytes_taken writer.old) (W.bytes_taken writer.new) (normal_iim iim.now) }
-    ensures count { Counts result (W.failed writer.old) (W.failed writer.new) }
+    ensures { Sends result (over W.failed W.bytes_taken writer.old writer.new) (normal_iim iim.now) }
 {
     let mut pending = Pending::new();
     put_iim(&mut pending, writer, iim)?;

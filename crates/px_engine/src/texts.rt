@@ -1,8 +1,8 @@
 // Writes the listing and the captions of a file.
 ghost use Rattle.std.specs.Prelude.{◌≡◌, IfOk};
-ghost use Rattle.px_bytes.specs.Devices.{CanFail, Counts, Writes};
+ghost use Rattle.px_bytes.specs.Devices.{CanFail, over, Sends};
 ghost use Rattle.px_bytes.specs.Lacking.{Lacks};
-ghost use Rattle.px_bytes.specs.Waiting.{Puts};
+ghost use Rattle.px_bytes.specs.Waiting.{Adds};
 ghost use Rattle.px_engine.specs.Prints.{caption_text, listing};
 ghost use Rattle.px_engine.specs.calls.Ends.{WritesText};
 ghost use Rattle.px_engine.specs.calls.Faults.{told};
@@ -16,8 +16,7 @@ use px_text::{put_exif_captions, put_exif_listing, put_iim_captions, put_iim_lis
 // Adds the listing to the output buffer.
 fn put_listing<W: Sink>(pending: &mut Pending, writer: &mut W, said: &Said) -> Result<(), Failed>
     requires { CanFail (W.failed writer.old) }
-    ensures bytes { Puts result (W.bytes_taken writer.old) (W.bytes_taken writer.new) pending.old pending.new (listing (said_of said.now)) }
-    ensures count { Counts result (W.failed writer.old) (W.failed writer.new) }
+    ensures { Adds result (over W.failed W.bytes_taken writer.old writer.new) pending.old pending.new (listing (said_of said.now)) }
 {
     match said {
         Said::Exif(meaning) => put_exif_listing(pending, writer, meaning),
@@ -28,9 +27,8 @@ fn put_listing<W: Sink>(pending: &mut Pending, writer: &mut W, said: &Said) -> R
 // Adds the captions to the output buffer.
 fn put_captions<W: Sink>(pending: &mut Pending, writer: &mut W, said: &Said) -> Result<(), Failed>
     requires { CanFail (W.failed writer.old) }
-    ensures bytes { Puts result (W.bytes_taken writer.old) (W.bytes_taken writer.new) pending.old pending.new
+    ensures { Adds result (over W.failed W.bytes_taken writer.old writer.new) pending.old pending.new
         (caption_text (said_of said.now)) }
-    ensures count { Counts result (W.failed writer.old) (W.failed writer.new) }
 {
     match said {
         Said::Exif(meaning) => put_exif_captions(pending, writer, meaning),
@@ -41,8 +39,7 @@ fn put_captions<W: Sink>(pending: &mut Pending, writer: &mut W, said: &Said) -> 
 // Writes the output buffer and flushes once.
 fn send_and_flush<W: Sink>(pending: &mut Pending, writer: &mut W) -> Result<(), Failed>
     requires { CanFail (W.failed writer.old) }
-    ensures bytes { Writes result (W.bytes_taken writer.old) (W.bytes_taken writer.new) pending.old }
-    ensures count { Counts result (W.failed writer.old) (W.failed writer.new) }
+    ensures { Sends result (over W.failed W.bytes_taken writer.old writer.new) pending.old }
 {
     pending.send(writer)?;
     writer.flush_all()
@@ -51,8 +48,7 @@ fn send_and_flush<W: Sink>(pending: &mut Pending, writer: &mut W) -> Result<(), 
 // Writes the listing and flushes once.
 fn send_listing<W: Sink>(said: &Said, writer: &mut W) -> Result<(), Failed>
     requires { CanFail (W.failed writer.old) }
-    ensures bytes { Writes result (W.bytes_taken writer.old) (W.bytes_taken writer.new) (listing (said_of said.now)) }
-    ensures count { Counts result (W.failed writer.old) (W.failed writer.new) }
+    ensures { Sends result (over W.failed W.bytes_taken writer.old writer.new) (listing (said_of said.now)) }
 {
     let mut pending = Pending::new();
     put_listing(&mut pending, writer, said)?;
@@ -62,8 +58,7 @@ fn send_listing<W: Sink>(said: &Said, writer: &mut W) -> Result<(), Failed>
 // Writes the captions and flushes once.
 fn send_captions<W: Sink>(said: &Said, writer: &mut W) -> Result<(), Failed>
     requires { CanFail (W.failed writer.old) }
-    ensures bytes { Writes result (W.bytes_taken writer.old) (W.bytes_taken writer.new) (caption_text (said_of said.now)) }
-    ensures count { Counts result (W.failed writer.old) (W.failed writer.new) }
+    ensures { Sends result (over W.failed W.bytes_taken writer.old writer.new) (caption_text (said_of said.now)) }
 {
     let mut pending = Pending::new();
     put_captions(&mut pending, writer, said)?;

@@ -8,5 +8,5 @@ pub returns : goal.returns
 returns c =
     let all = filled c.send_exif.result c.new-writer.result c.send_exif.new.writer _ _ (normal_exif (said_in c.args.form.now))
     c.requires.room c.new-writer.ensures.same c.new-writer.ensures.room c.new-writer.ensures.none c.new-writer.ensures.refusals
-    c.send_exif.ensures.bytes c.send_exif.ensures.count in
+    c.send_exif.ensures.0 c.send_exif.ensures.1 in
     search rules

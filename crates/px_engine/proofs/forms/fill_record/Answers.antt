@@ -7,5 +7,5 @@ pub returns : goal.returns
 returns c =
     let all = filled c.send_record.result c.new-writer.result c.send_record.new.writer _ _ (normal_iim c.args.iim.now)
     c.requires c.new-writer.ensures.same c.new-writer.ensures.room c.new-writer.ensures.none c.new-writer.ensures.refusals
-    c.send_record.ensures.bytes c.send_record.ensures.count in
+    c.send_record.ensures.0 c.send_record.ensures.1 in
     search rules

@@ -1,8 +1,11 @@
+use Rattle.std.proofs.Common.{rules}
 use Rattle.px_iim.specs.Record.{normal_iim}
 use Rattle.px_engine.proofs.Printed.{sent}
 use Rattle.px_engine.proofs.forms.send_record.Goals as goal
 
-pub returns-clause-bytes : goal.returns-clause-bytes
-returns-clause-bytes g c =
-    sent c.send.result _ _ _ c.new-pending.result c.put_iim.new.pending (normal_iim c.args.iim.now)
-    c.new-pending.ensures c.in_ok-put_iim.ensures.bytes c.send.ensures.bytes
+pub returns : goal.returns
+returns g c = (
+  sent c.send.result _ _ _ c.new-pending.result c.put_iim.new.pending (normal_iim c.args.iim.now)
+      c.new-pending.ensures c.in_ok-put_iim.ensures.bytes c.send.ensures.bytes,
+  search rules,
+)

@@ -1,3 +1,4 @@
+use Rattle.std.proofs.Common.{rules}
 use Rattle.std.proofs.lemmas.Result.{err_from_is_err_and}
 use Rattle.px_bytes.specs.Devices.{AppendsPrefix}
 use Rattle.px_bytes.specs.lemmas.WaitingLaws.{from_none}
@@ -6,13 +7,18 @@ use Rattle.px_engine.specs.calls.Seen.{said_of}
 use Rattle.px_engine.proofs.Printed.{sent}
 use Rattle.px_engine.proofs.texts.send_captions.Goals as goal
 
-pub returns-in_err-put_captions-clause-bytes : goal.returns-in_err-put_captions-clause-bytes
-returns-in_err-put_captions-clause-bytes g c =
+pub returns-in_err-put_captions : goal.returns-in_err-put_captions
+returns-in_err-put_captions g c =
     let p = err_from_is_err_and c.from_residual.result c.from_residual.ensures.1 in
-    rw p.1 (from_none (AppendsPrefix (g.W.Sink.bytes_taken c.args.writer.now) (g.W.Sink.bytes_taken c.put_captions.new.writer))
-    c.new-pending.result (caption_text (said_of c.args.said.now)) c.new-pending.ensures c.in_err-put_captions.ensures.bytes)
+    rw p.1 (
+      from_none (AppendsPrefix (g.W.Sink.bytes_taken c.args.writer.now) (g.W.Sink.bytes_taken c.put_captions.new.writer))
+          c.new-pending.result (caption_text (said_of c.args.said.now)) c.new-pending.ensures c.in_err-put_captions.ensures.0,
+      search rules,
+    )
 
-pub returns-clause-bytes : goal.returns-clause-bytes
-returns-clause-bytes g c =
-    sent c.send_and_flush.result _ _ _ c.new-pending.result c.put_captions.new.pending (caption_text (said_of c.args.said.now))
-    c.new-pending.ensures c.in_ok-put_captions.ensures.bytes c.send_and_flush.ensures.bytes
+pub returns : goal.returns
+returns g c = (
+  sent c.send_and_flush.result _ _ _ c.new-pending.result c.put_captions.new.pending (caption_text (said_of c.args.said.now))
+      c.new-pending.ensures c.in_ok-put_captions.ensures.0 c.send_and_flush.ensures.0,
+  search rules,
+)
