@@ -1,7 +1,7 @@
 // The lines of captions, escaped, group by group.
 ghost use Rattle.std.specs.Prelude.{◌≡◌, [], ◌∷◌, map, filter_map};
-ghost use Rattle.px_bytes.specs.Devices.{CanFail, Counts};
-ghost use Rattle.px_bytes.specs.Waiting.{Puts};
+ghost use Rattle.px_bytes.specs.Devices.{CanFail, over};
+ghost use Rattle.px_bytes.specs.Waiting.{Adds};
 ghost use Rattle.px_iim.specs.calls.View.{item_view};
 ghost use Rattle.px_tree.specs.Roles.{at_tag};
 ghost use Rattle.px_tree.specs.calls.Seen.{meaning_of};
@@ -26,8 +26,7 @@ fn is_plain(byte: u8) -> bool
 
 fn put_byte<W: Sink>(pending: &mut Pending, writer: &mut W, byte: u8) -> Result<(), Failed>
     requires { CanFail (W.failed writer.old) }
-    ensures bytes { Puts result (W.bytes_taken writer.old) (W.bytes_taken writer.new) pending.old pending.new (escaped_byte byte) }
-    ensures count { Counts result (W.failed writer.old) (W.failed writer.new) }
+    ensures { Adds result (over W.failed W.bytes_taken writer.old writer.new) pending.old pending.new (escaped_byte byte) }
 {
     if is_plain(byte) {
         return pending.put(writer, &[byte]);
@@ -39,8 +38,7 @@ fn put_byte<W: Sink>(pending: &mut Pending, writer: &mut W, byte: u8) -> Result<
 // Adds bytes to the output buffer and escapes all that are not plain.
 fn put_escaped<W: Sink>(pending: &mut Pending, writer: &mut W, bytes: &[u8]) -> Result<(), Failed>
     requires { CanFail (W.failed writer.old) }
-    ensures bytes { Puts result (W.bytes_taken writer.old) (W.bytes_taken writer.new) pending.old pending.new (escaped bytes.now) }
-    ensures count { Counts result (W.failed writer.old) (W.failed writer.new) }
+    ensures { Adds result (over W.failed W.bytes_taken writer.old writer.new) pending.old pending.new (escaped bytes.now) }
 {
     for i in 0..bytes.len() {
         put_byte(pending, writer, bytes[i])?;
@@ -51,9 +49,8 @@ fn put_escaped<W: Sink>(pending: &mut Pending, writer: &mut W, bytes: &[u8]) -> 
 #[tactic(auto, unfolding(crate::specs::Captions::caption_line))]
 fn put_line<W: Sink>(pending: &mut Pending, writer: &mut W, caption: Caption) -> Result<(), Failed>
     requires { CanFail (W.failed writer.old) }
-    ensures bytes { Puts result (W.bytes_taken writer.old) (W.bytes_taken writer.new) pending.old pending.new
+    ensures { Adds result (over W.failed W.bytes_taken writer.old writer.new) pending.old pending.new
         (caption_line (caption_view caption.entry)) }
-    ensures count { Counts result (W.failed writer.old) (W.failed writer.new) }
 {
     pending.put(writer, label_word(caption.label))?;
     put_escaped(pending, writer, caption.text)?;
@@ -63,9 +60,8 @@ fn put_line<W: Sink>(pending: &mut Pending, writer: &mut W, caption: Caption) ->
 // Adds the line of a DataSet if it has a label.
 fn put_item<W: Sink>(pending: &mut Pending, writer: &mut W, item: &Item) -> Result<(), Failed>
     requires { CanFail (W.failed writer.old) }
-    ensures bytes { Puts result (W.bytes_taken writer.old) (W.bytes_taken writer.new) pending.old pending.new
+    ensures { Adds result (over W.failed W.bytes_taken writer.old writer.new) pending.old pending.new
         (caption_lines (filter_map labelled (item_view item.now ∷ []))) }
-    ensures count { Counts result (W.failed writer.old) (W.failed writer.new) }
 {
     match label_of(item.number) {
         Some(label) => put_line(
@@ -83,9 +79,8 @@ fn put_item<W: Sink>(pending: &mut Pending, writer: &mut W, item: &Item) -> Resu
 // Adds the lines of a group's DataSets that have a label.
 fn put_group<W: Sink>(pending: &mut Pending, writer: &mut W, items: &[Item]) -> Result<(), Failed>
     requires { CanFail (W.failed writer.old) }
-    ensures bytes { Puts result (W.bytes_taken writer.old) (W.bytes_taken writer.new) pending.old pending.new
+    ensures { Adds result (over W.failed W.bytes_taken writer.old writer.new) pending.old pending.new
         (caption_lines (filter_map labelled (map item_view items.now))) }
-    ensures count { Counts result (W.failed writer.old) (W.failed writer.new) }
 {
     for item in items {
         put_item(pending, writer, item)?;
@@ -96,9 +91,8 @@ fn put_group<W: Sink>(pending: &mut Pending, writer: &mut W, items: &[Item]) -> 
 // Adds the lines of a record's captions.
 fn put_groups<W: Sink>(pending: &mut Pending, writer: &mut W, iim: &Iim) -> Result<(), Failed>
     requires { CanFail (W.failed writer.old) }
-    ensures bytes { Puts result (W.bytes_taken writer.old) (W.bytes_taken writer.new) pending.old pending.new
+    ensures { Adds result (over W.failed W.bytes_taken writer.old writer.new) pending.old pending.new
         (caption_lines (iim_captions iim.now)) }
-    ensures count { Counts result (W.failed writer.old) (W.failed writer.new) }
 {
     for i in 0..GROUPS.len() {
         put_group(pending, writer, iim.group(2, GROUPS[i]))?;
@@ -120,8 +114,7 @@ fn charset_line(declared: bool) -> &'static [u8]
 // Adds the lines of a record.
 fn put_iim<W: Sink>(pending: &mut Pending, writer: &mut W, iim: &Iim) -> Result<(), Failed>
     requires { CanFail (W.failed writer.old) }
-    ensures bytes { Puts result (W.bytes_taken writer.old) (W.bytes_taken writer.new) pending.old pending.new (iim_lines iim.now) }
-    ensures count { Counts result (W.failed writer.old) (W.failed writer.new) }
+    ensures { Adds result (over W.failed W.bytes_taken writer.old writer.new) pending.old pending.new (iim_lines iim.now) }
 {
     pending.put(writer, charset_line(declares_utf8(iim)))?;
     put_groups(pending, writer, iim)
@@ -134,8 +127,7 @@ fn put_record<W: Sink>(
     iim: &Option<Iim>,
 ) -> Result<(), Failed>
     requires { CanFail (W.failed writer.old) }
-    ensures bytes { Puts result (W.bytes_taken writer.old) (W.bytes_taken writer.new) pending.old pending.new (record_lines iim.now) }
-    ensures count { Counts result (W.failed writer.old) (W.failed writer.new) }
+    ensures { Adds result (over W.failed W.bytes_taken writer.old writer.new) pending.old pending.new (record_lines iim.now) }
 {
     match iim {
         Some(iim) => put_iim(pending, writer, iim),
@@ -152,9 +144,8 @@ fn put_text<W: Sink>(
     label: Label,
 ) -> Result<(), Failed>
     requires { CanFail (W.failed writer.old) }
-    ensures bytes { Puts result (W.bytes_taken writer.old) (W.bytes_taken writer.new) pending.old pending.new
+    ensures { Adds result (over W.failed W.bytes_taken writer.old writer.new) pending.old pending.new
         (caption_lines (text_captions label (at_tag tag fields.now))) }
-    ensures count { Counts result (W.failed writer.old) (W.failed writer.new) }
 {
     let Some(value) = fields.get(tag) else {
         return Ok(());
@@ -168,9 +159,8 @@ fn put_text<W: Sink>(
 // Adds the lines of a main directory.
 fn put_exif<W: Sink>(pending: &mut Pending, writer: &mut W, fields: &Fields) -> Result<(), Failed>
     requires { CanFail (W.failed writer.old) }
-    ensures bytes { Puts result (W.bytes_taken writer.old) (W.bytes_taken writer.new) pending.old pending.new
+    ensures { Adds result (over W.failed W.bytes_taken writer.old writer.new) pending.old pending.new
         (caption_lines (exif_captions fields.now)) }
-    ensures count { Counts result (W.failed writer.old) (W.failed writer.new) }
 {
     put_text(pending, writer, fields, 0x010E, Label::Description)?;
     put_text(pending, writer, fields, 0x013B, Label::Artist)?;
@@ -187,9 +177,8 @@ pub fn put_exif_captions<W: Sink>(
     meaning: &Meaning,
 ) -> Result<(), Failed>
     requires { CanFail (W.failed writer.old) }
-    ensures bytes { Puts result (W.bytes_taken writer.old) (W.bytes_taken writer.new) pending.old pending.new
+    ensures { Adds result (over W.failed W.bytes_taken writer.old writer.new) pending.old pending.new
         (exif_text (meaning_of meaning.now)) }
-    ensures count { Counts result (W.failed writer.old) (W.failed writer.new) }
 {
     pending.put(writer, b"exif\n")?;
     put_exif(pending, writer, &meaning.main)?;
@@ -203,8 +192,7 @@ pub fn put_iim_captions<W: Sink>(
     iim: &Iim,
 ) -> Result<(), Failed>
     requires { CanFail (W.failed writer.old) }
-    ensures bytes { Puts result (W.bytes_taken writer.old) (W.bytes_taken writer.new) pending.old pending.new (iim_text iim.now) }
-    ensures count { Counts result (W.failed writer.old) (W.failed writer.new) }
+    ensures { Adds result (over W.failed W.bytes_taken writer.old writer.new) pending.old pending.new (iim_text iim.now) }
 {
     pending.put(writer, b"iim\n")?;
     put_iim(pending, writer, iim)

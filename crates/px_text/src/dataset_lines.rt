@@ -1,7 +1,7 @@
 // The lines of DataSets: record number, DataSet number, length and data.
 ghost use Rattle.std.specs.Prelude.{◌≡◌, map, length, flat_map};
-ghost use Rattle.px_bytes.specs.Devices.{CanFail, Counts};
-ghost use Rattle.px_bytes.specs.Waiting.{Puts};
+ghost use Rattle.px_bytes.specs.Devices.{CanFail, over};
+ghost use Rattle.px_bytes.specs.Waiting.{Adds};
 ghost use Rattle.px_iim.specs.calls.View.{item_view};
 ghost use Rattle.px_text.specs.Listing.{dataset_line, dataset_lines, dataset_count};
 
@@ -17,9 +17,8 @@ fn put_dataset<W: Sink>(
     item: &Item,
 ) -> Result<(), Failed>
     requires { CanFail (W.failed writer.old) }
-    ensures bytes { Puts result (W.bytes_taken writer.old) (W.bytes_taken writer.new) pending.old pending.new
+    ensures { Adds result (over W.failed W.bytes_taken writer.old writer.new) pending.old pending.new
         (dataset_line rec (item_view item.now)) }
-    ensures count { Counts result (W.failed writer.old) (W.failed writer.new) }
 {
     put_ended(pending, writer, rec, b":")?;
     put_decimal(pending, writer, item.number)?;
@@ -33,9 +32,8 @@ fn put_group<W: Sink>(
     items: &[Item],
 ) -> Result<(), Failed>
     requires { CanFail (W.failed writer.old) }
-    ensures bytes { Puts result (W.bytes_taken writer.old) (W.bytes_taken writer.new) pending.old pending.new
+    ensures { Adds result (over W.failed W.bytes_taken writer.old writer.new) pending.old pending.new
         (flat_map (dataset_line rec) (map item_view items.now)) }
-    ensures count { Counts result (W.failed writer.old) (W.failed writer.new) }
 {
     for item in items {
         put_dataset(pending, writer, rec, item)?;
@@ -50,8 +48,7 @@ pub(crate) fn put_datasets<W: Sink>(
     iim: &Iim,
 ) -> Result<(), Failed>
     requires { CanFail (W.failed writer.old) }
-    ensures bytes { Puts result (W.bytes_taken writer.old) (W.bytes_taken writer.new) pending.old pending.new (dataset_lines iim.now) }
-    ensures count { Counts result (W.failed writer.old) (W.failed writer.new) }
+    ensures { Adds result (over W.failed W.bytes_taken writer.old writer.new) pending.old pending.new (dataset_lines iim.now) }
 {
     for (rec, _, items) in iim.iter() {
         put_group(pending, writer, rec, items)?;

@@ -1,8 +1,8 @@
 // The lines of fields: tag, type, count and elements.
 ghost use Rattle.std.specs.Prelude.{◌≡◌, ◌++◌, codes, decimal, flat_map, length};
 ghost use Rattle.hex.specs.Hex.{encode_lower};
-ghost use Rattle.px_bytes.specs.Devices.{CanFail, Counts};
-ghost use Rattle.px_bytes.specs.Waiting.{Puts};
+ghost use Rattle.px_bytes.specs.Devices.{CanFail, over};
+ghost use Rattle.px_bytes.specs.Waiting.{Adds};
 ghost use Rattle.px_bytes.specs.declared.Order.TheVariants.{Most};
 ghost use Rattle.px_bytes.specs.Numbers.{spelling};
 ghost use Rattle.px_field.specs.declared.Kind.{Kind};
@@ -48,9 +48,8 @@ fn type_word(kind: Kind) -> &'static [u8]
 // Adds a number of two bytes in hexadecimal, most significant byte first.
 fn put_digits16<W: Sink>(pending: &mut Pending, writer: &mut W, n: u16) -> Result<(), Failed>
     requires { CanFail (W.failed writer.old) }
-    ensures bytes { Puts result (W.bytes_taken writer.old) (W.bytes_taken writer.new) pending.old pending.new
+    ensures { Adds result (over W.failed W.bytes_taken writer.old writer.new) pending.old pending.new
         (encode_lower (spelling Most 2 n)) }
-    ensures count { Counts result (W.failed writer.old) (W.failed writer.new) }
 {
     let mut bytes = [0; 2];
     Order::Most.put16(n, &mut bytes);
@@ -60,9 +59,8 @@ fn put_digits16<W: Sink>(pending: &mut Pending, writer: &mut W, n: u16) -> Resul
 // Adds a number of four bytes in the same way.
 fn put_digits32<W: Sink>(pending: &mut Pending, writer: &mut W, n: u32) -> Result<(), Failed>
     requires { CanFail (W.failed writer.old) }
-    ensures bytes { Puts result (W.bytes_taken writer.old) (W.bytes_taken writer.new) pending.old pending.new
+    ensures { Adds result (over W.failed W.bytes_taken writer.old writer.new) pending.old pending.new
         (encode_lower (spelling Most 4 n)) }
-    ensures count { Counts result (W.failed writer.old) (W.failed writer.new) }
 {
     let mut bytes = [0; 4];
     Order::Most.put32(n, &mut bytes);
@@ -72,9 +70,8 @@ fn put_digits32<W: Sink>(pending: &mut Pending, writer: &mut W, n: u32) -> Resul
 // Adds a number of eight bytes in the same way.
 fn put_digits64<W: Sink>(pending: &mut Pending, writer: &mut W, n: u64) -> Result<(), Failed>
     requires { CanFail (W.failed writer.old) }
-    ensures bytes { Puts result (W.bytes_taken writer.old) (W.bytes_taken writer.new) pending.old pending.new
+    ensures { Adds result (over W.failed W.bytes_taken writer.old writer.new) pending.old pending.new
         (encode_lower (spelling Most 8 n)) }
-    ensures count { Counts result (W.failed writer.old) (W.failed writer.new) }
 {
     let mut bytes = [0; 8];
     Order::Most.put64(n, &mut bytes);
@@ -88,9 +85,8 @@ fn put_fraction<W: Sink, I: Integer>(
     denominator: I,
 ) -> Result<(), Failed>
     requires { CanFail (W.failed writer.old) }
-    ensures bytes { Puts result (W.bytes_taken writer.old) (W.bytes_taken writer.new) pending.old pending.new
+    ensures { Adds result (over W.failed W.bytes_taken writer.old writer.new) pending.old pending.new
         (I.text numerator ++ codes "/" ++ I.text denominator) }
-    ensures count { Counts result (W.failed writer.old) (W.failed writer.new) }
 {
     put_ended(pending, writer, numerator, b"/")?;
     put_decimal(pending, writer, denominator)
@@ -102,8 +98,7 @@ fn put_element<W: Sink>(
     element: Element,
 ) -> Result<(), Failed>
     requires { CanFail (W.failed writer.old) }
-    ensures bytes { Puts result (W.bytes_taken writer.old) (W.bytes_taken writer.new) pending.old pending.new (element_text element) }
-    ensures count { Counts result (W.failed writer.old) (W.failed writer.new) }
+    ensures { Adds result (over W.failed W.bytes_taken writer.old writer.new) pending.old pending.new (element_text element) }
 {
     match element {
         Element::Byte(n) => put_hex(pending, writer, &[n]),
@@ -121,9 +116,8 @@ fn put_element<W: Sink>(
 // Adds a space and an element.
 fn put_apart<W: Sink>(pending: &mut Pending, writer: &mut W, element: Element) -> Result<(), Failed>
     requires { CanFail (W.failed writer.old) }
-    ensures bytes { Puts result (W.bytes_taken writer.old) (W.bytes_taken writer.new) pending.old pending.new
+    ensures { Adds result (over W.failed W.bytes_taken writer.old writer.new) pending.old pending.new
         (codes " " ++ element_text element) }
-    ensures count { Counts result (W.failed writer.old) (W.failed writer.new) }
 {
     pending.put(writer, b" ")?;
     put_element(pending, writer, element)
@@ -132,9 +126,8 @@ fn put_apart<W: Sink>(pending: &mut Pending, writer: &mut W, element: Element) -
 // Adds a space and the element, for each element.
 fn put_elements<W: Sink>(pending: &mut Pending, writer: &mut W, value: &Value) -> Result<(), Failed>
     requires { CanFail (W.failed writer.old) }
-    ensures bytes { Puts result (W.bytes_taken writer.old) (W.bytes_taken writer.new) pending.old pending.new
+    ensures { Adds result (over W.failed W.bytes_taken writer.old writer.new) pending.old pending.new
         (flat_map (λ e. codes " " ++ element_text e) value.now.elements) }
-    ensures count { Counts result (W.failed writer.old) (W.failed writer.new) }
 {
     for i in 0..value.count() {
         put_apart(pending, writer, value.element(i))?;
@@ -145,9 +138,8 @@ fn put_elements<W: Sink>(pending: &mut Pending, writer: &mut W, value: &Value) -
 // Adds a space and the elements, if there are any.
 fn put_value<W: Sink>(pending: &mut Pending, writer: &mut W, value: &Value) -> Result<(), Failed>
     requires { CanFail (W.failed writer.old) }
-    ensures bytes { Puts result (W.bytes_taken writer.old) (W.bytes_taken writer.new) pending.old pending.new
+    ensures { Adds result (over W.failed W.bytes_taken writer.old writer.new) pending.old pending.new
         (shown_elements value.now.kind value.now.elements) }
-    ensures count { Counts result (W.failed writer.old) (W.failed writer.new) }
 {
     match value.bytes() {
         Some(bytes) => put_shown(pending, writer, bytes),
@@ -163,10 +155,9 @@ fn put_head<W: Sink>(
     value: &Value,
 ) -> Result<(), Failed>
     requires { CanFail (W.failed writer.old) }
-    ensures bytes { Puts result (W.bytes_taken writer.old) (W.bytes_taken writer.new) pending.old pending.new
+    ensures { Adds result (over W.failed W.bytes_taken writer.old writer.new) pending.old pending.new
         (encode_lower (spelling Most 2 tag) ++ codes " " ++ type_word value.now.kind ++ codes " " ++ decimal (length value.now.elements)
         ++ codes ":") }
-    ensures count { Counts result (W.failed writer.old) (W.failed writer.new) }
 {
     put_digits16(pending, writer, tag)?;
     pending.put(writer, type_word(value.kind()))?;
@@ -181,9 +172,8 @@ fn put_field<W: Sink>(
     value: &Value,
 ) -> Result<(), Failed>
     requires { CanFail (W.failed writer.old) }
-    ensures bytes { Puts result (W.bytes_taken writer.old) (W.bytes_taken writer.new) pending.old pending.new
+    ensures { Adds result (over W.failed W.bytes_taken writer.old writer.new) pending.old pending.new
         (field_line (tag, value.now)) }
-    ensures count { Counts result (W.failed writer.old) (W.failed writer.new) }
 {
     put_head(pending, writer, tag, value)?;
     put_value(pending, writer, value)?;
@@ -197,8 +187,7 @@ pub(crate) fn put_fields<W: Sink>(
     fields: &Fields,
 ) -> Result<(), Failed>
     requires { CanFail (W.failed writer.old) }
-    ensures bytes { Puts result (W.bytes_taken writer.old) (W.bytes_taken writer.new) pending.old pending.new (field_lines fields.now) }
-    ensures count { Counts result (W.failed writer.old) (W.failed writer.new) }
+    ensures { Adds result (over W.failed W.bytes_taken writer.old writer.new) pending.old pending.new (field_lines fields.now) }
 {
     for i in 0..fields.len() {
         let (tag, value) = fields.at(i);

@@ -1,7 +1,7 @@
 // The listing of a block.
 ghost use Rattle.std.specs.Prelude.{◌++◌, Some, codes, flat_map, option_map};
-ghost use Rattle.px_bytes.specs.Devices.{CanFail, Counts};
-ghost use Rattle.px_bytes.specs.Waiting.{Puts};
+ghost use Rattle.px_bytes.specs.Devices.{CanFail, over};
+ghost use Rattle.px_bytes.specs.Waiting.{Adds};
 ghost use Rattle.px_tree.specs.calls.Seen.{exif_of, thumb_of, meaning_of};
 ghost use Rattle.px_text.specs.Listing.{field_lines, jpeg_lines, strip_line, strips_lines, record_lines, directory_lines, exif_lines};
 ghost use Rattle.px_text.specs.Listing.{thumb_lines, exif_listing, iim_listing};
@@ -21,8 +21,7 @@ fn put_record<W: Sink>(
     iim: &Option<Iim>,
 ) -> Result<(), Failed>
     requires { CanFail (W.failed writer.old) }
-    ensures bytes { Puts result (W.bytes_taken writer.old) (W.bytes_taken writer.new) pending.old pending.new (record_lines iim.now) }
-    ensures count { Counts result (W.failed writer.old) (W.failed writer.new) }
+    ensures { Adds result (over W.failed W.bytes_taken writer.old writer.new) pending.old pending.new (record_lines iim.now) }
 {
     let Some(iim) = iim else {
         return Ok(());
@@ -39,9 +38,8 @@ fn put_titled<W: Sink>(
     fields: &Fields,
 ) -> Result<(), Failed>
     requires { CanFail (W.failed writer.old) }
-    ensures bytes { Puts result (W.bytes_taken writer.old) (W.bytes_taken writer.new) pending.old pending.new
+    ensures { Adds result (over W.failed W.bytes_taken writer.old writer.new) pending.old pending.new
         (name.now ++ field_lines fields.now) }
-    ensures count { Counts result (W.failed writer.old) (W.failed writer.new) }
 {
     pending.put(writer, name)?;
     put_fields(pending, writer, fields)
@@ -55,9 +53,8 @@ fn put_directory<W: Sink>(
     fields: &Option<Fields>,
 ) -> Result<(), Failed>
     requires { CanFail (W.failed writer.old) }
-    ensures bytes { Puts result (W.bytes_taken writer.old) (W.bytes_taken writer.new) pending.old pending.new
+    ensures { Adds result (over W.failed W.bytes_taken writer.old writer.new) pending.old pending.new
         (directory_lines name.now fields.now) }
-    ensures count { Counts result (W.failed writer.old) (W.failed writer.new) }
 {
     match fields {
         Some(fields) => put_titled(pending, writer, name, fields),
@@ -71,9 +68,8 @@ fn put_exif<W: Sink>(
     exif: &Option<ExifPart>,
 ) -> Result<(), Failed>
     requires { CanFail (W.failed writer.old) }
-    ensures bytes { Puts result (W.bytes_taken writer.old) (W.bytes_taken writer.new) pending.old pending.new
+    ensures { Adds result (over W.failed W.bytes_taken writer.old writer.new) pending.old pending.new
         (exif_lines (option_map exif_of exif.now)) }
-    ensures count { Counts result (W.failed writer.old) (W.failed writer.new) }
 {
     let Some(exif) = exif else {
         return Ok(());
@@ -90,9 +86,8 @@ fn put_part<W: Sink>(
     bytes: &[u8],
 ) -> Result<(), Failed>
     requires { CanFail (W.failed writer.old) }
-    ensures bytes { Puts result (W.bytes_taken writer.old) (W.bytes_taken writer.new) pending.old pending.new
+    ensures { Adds result (over W.failed W.bytes_taken writer.old writer.new) pending.old pending.new
         (word.now ++ sized_bytes bytes.now) }
-    ensures count { Counts result (W.failed writer.old) (W.failed writer.new) }
 {
     pending.put(writer, word)?;
     put_sized(pending, writer, bytes)
@@ -104,9 +99,8 @@ fn put_jpeg<W: Sink>(
     jpeg: Option<&[u8]>,
 ) -> Result<(), Failed>
     requires { CanFail (W.failed writer.old) }
-    ensures bytes { Puts result (W.bytes_taken writer.old) (W.bytes_taken writer.new) pending.old pending.new
+    ensures { Adds result (over W.failed W.bytes_taken writer.old writer.new) pending.old pending.new
         (jpeg_lines (option_map (λ x. x.now) jpeg.entry)) }
-    ensures count { Counts result (W.failed writer.old) (W.failed writer.new) }
 {
     match jpeg {
         Some(bytes) => put_part(pending, writer, b"jpeg", bytes),
@@ -120,9 +114,8 @@ fn put_each_strip<W: Sink>(
     strips: &Strips,
 ) -> Result<(), Failed>
     requires { CanFail (W.failed writer.old) }
-    ensures bytes { Puts result (W.bytes_taken writer.old) (W.bytes_taken writer.new) pending.old pending.new
+    ensures { Adds result (over W.failed W.bytes_taken writer.old writer.new) pending.old pending.new
         (flat_map strip_line strips.now) }
-    ensures count { Counts result (W.failed writer.old) (W.failed writer.new) }
 {
     for i in 0..strips.len() {
         put_part(pending, writer, b"strip", strips.at(i))?;
@@ -137,8 +130,7 @@ fn put_strips<W: Sink>(
     strips: &Option<Strips>,
 ) -> Result<(), Failed>
     requires { CanFail (W.failed writer.old) }
-    ensures bytes { Puts result (W.bytes_taken writer.old) (W.bytes_taken writer.new) pending.old pending.new (strips_lines strips.now) }
-    ensures count { Counts result (W.failed writer.old) (W.failed writer.new) }
+    ensures { Adds result (over W.failed W.bytes_taken writer.old writer.new) pending.old pending.new (strips_lines strips.now) }
 {
     let Some(strips) = strips else {
         return Ok(());
@@ -153,9 +145,8 @@ fn put_thumb<W: Sink>(
     thumb: &Option<Thumb>,
 ) -> Result<(), Failed>
     requires { CanFail (W.failed writer.old) }
-    ensures bytes { Puts result (W.bytes_taken writer.old) (W.bytes_taken writer.new) pending.old pending.new
+    ensures { Adds result (over W.failed W.bytes_taken writer.old writer.new) pending.old pending.new
         (thumb_lines (option_map thumb_of thumb.now)) }
-    ensures count { Counts result (W.failed writer.old) (W.failed writer.new) }
 {
     let Some(thumb) = thumb else {
         return Ok(());
@@ -173,9 +164,8 @@ fn put_main<W: Sink>(
     iim: &Option<Iim>,
 ) -> Result<(), Failed>
     requires { CanFail (W.failed writer.old) }
-    ensures bytes { Puts result (W.bytes_taken writer.old) (W.bytes_taken writer.new) pending.old pending.new
+    ensures { Adds result (over W.failed W.bytes_taken writer.old writer.new) pending.old pending.new
         (codes "exif\n[main]\n" ++ field_lines fields.now ++ record_lines iim.now) }
-    ensures count { Counts result (W.failed writer.old) (W.failed writer.new) }
 {
     put_titled(pending, writer, b"exif\n[main]\n", fields)?;
     put_record(pending, writer, iim)
@@ -191,9 +181,8 @@ pub fn put_exif_listing<W: Sink>(
     meaning: &Meaning,
 ) -> Result<(), Failed>
     requires { CanFail (W.failed writer.old) }
-    ensures bytes { Puts result (W.bytes_taken writer.old) (W.bytes_taken writer.new) pending.old pending.new
+    ensures { Adds result (over W.failed W.bytes_taken writer.old writer.new) pending.old pending.new
         (exif_listing (meaning_of meaning.now)) }
-    ensures count { Counts result (W.failed writer.old) (W.failed writer.new) }
 {
     put_main(pending, writer, &meaning.main, &meaning.iptc)?;
     put_exif(pending, writer, &meaning.exif)?;
@@ -209,8 +198,7 @@ pub fn put_iim_listing<W: Sink>(
     iim: &Iim,
 ) -> Result<(), Failed>
     requires { CanFail (W.failed writer.old) }
-    ensures bytes { Puts result (W.bytes_taken writer.old) (W.bytes_taken writer.new) pending.old pending.new (iim_listing iim.now) }
-    ensures count { Counts result (W.failed writer.old) (W.failed writer.new) }
+    ensures { Adds result (over W.failed W.bytes_taken writer.old writer.new) pending.old pending.new (iim_listing iim.now) }
 {
     pending.put(writer, b"iim\n")?;
     put_datasets(pending, writer, iim)

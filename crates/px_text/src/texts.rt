@@ -1,8 +1,8 @@
 // Parts of texts. Each call adds one to the output buffer.
 ghost use Rattle.std.specs.Prelude.{◌≤◌, ◌++◌, length};
 ghost use Rattle.hex.specs.Hex.{encode_lower};
-ghost use Rattle.px_bytes.specs.Devices.{CanFail, Counts};
-ghost use Rattle.px_bytes.specs.Waiting.{Puts};
+ghost use Rattle.px_bytes.specs.Devices.{CanFail, over};
+ghost use Rattle.px_bytes.specs.Waiting.{Adds};
 ghost use Rattle.px_text.specs.Words.{shown_bytes, sized_bytes};
 
 use hex::encode_to_slice;
@@ -19,8 +19,7 @@ pub(crate) fn put_decimal<W: Sink, I: Integer>(
     n: I,
 ) -> Result<(), Failed>
     requires { CanFail (W.failed writer.old) }
-    ensures bytes { Puts result (W.bytes_taken writer.old) (W.bytes_taken writer.new) pending.old pending.new (I.text n) }
-    ensures count { Counts result (W.failed writer.old) (W.failed writer.new) }
+    ensures { Adds result (over W.failed W.bytes_taken writer.old writer.new) pending.old pending.new (I.text n) }
 {
     let mut digits = Buffer::new();
     pending.put(writer, digits.format(n).as_bytes())
@@ -34,8 +33,7 @@ pub(crate) fn put_ended<W: Sink, I: Integer>(
     after: &[u8],
 ) -> Result<(), Failed>
     requires { CanFail (W.failed writer.old) }
-    ensures bytes { Puts result (W.bytes_taken writer.old) (W.bytes_taken writer.new) pending.old pending.new (I.text n ++ after.now) }
-    ensures count { Counts result (W.failed writer.old) (W.failed writer.new) }
+    ensures { Adds result (over W.failed W.bytes_taken writer.old writer.new) pending.old pending.new (I.text n ++ after.now) }
 {
     put_decimal(pending, writer, n)?;
     pending.put(writer, after)
@@ -50,9 +48,8 @@ pub(crate) fn put_number<W: Sink, I: Integer>(
     after: &[u8],
 ) -> Result<(), Failed>
     requires { CanFail (W.failed writer.old) }
-    ensures bytes { Puts result (W.bytes_taken writer.old) (W.bytes_taken writer.new) pending.old pending.new
+    ensures { Adds result (over W.failed W.bytes_taken writer.old writer.new) pending.old pending.new
         (before.now ++ (I.text n ++ after.now)) }
-    ensures count { Counts result (W.failed writer.old) (W.failed writer.new) }
 {
     pending.put(writer, before)?;
     put_ended(pending, writer, n, after)
@@ -62,8 +59,7 @@ pub(crate) fn put_number<W: Sink, I: Integer>(
 fn put_piece<W: Sink>(pending: &mut Pending, writer: &mut W, piece: &[u8]) -> Result<(), Failed>
     requires few { CanFail (W.failed writer.old) }
     requires short { length piece.now ≤ 64 }
-    ensures bytes { Puts result (W.bytes_taken writer.old) (W.bytes_taken writer.new) pending.old pending.new (encode_lower piece.now) }
-    ensures count { Counts result (W.failed writer.old) (W.failed writer.new) }
+    ensures { Adds result (over W.failed W.bytes_taken writer.old writer.new) pending.old pending.new (encode_lower piece.now) }
 {
     let mut digits = [0; 2 * PIECE];
     let width = 2 * piece.len();
@@ -80,8 +76,7 @@ pub(crate) fn put_hex<W: Sink>(
     bytes: &[u8],
 ) -> Result<(), Failed>
     requires { CanFail (W.failed writer.old) }
-    ensures bytes { Puts result (W.bytes_taken writer.old) (W.bytes_taken writer.new) pending.old pending.new (encode_lower bytes.now) }
-    ensures count { Counts result (W.failed writer.old) (W.failed writer.new) }
+    ensures { Adds result (over W.failed W.bytes_taken writer.old writer.new) pending.old pending.new (encode_lower bytes.now) }
 {
     let mut at = 0;
     while at < bytes.len() {
@@ -99,8 +94,7 @@ pub(crate) fn put_shown<W: Sink>(
     bytes: &[u8],
 ) -> Result<(), Failed>
     requires { CanFail (W.failed writer.old) }
-    ensures bytes { Puts result (W.bytes_taken writer.old) (W.bytes_taken writer.new) pending.old pending.new (shown_bytes bytes.now) }
-    ensures count { Counts result (W.failed writer.old) (W.failed writer.new) }
+    ensures { Adds result (over W.failed W.bytes_taken writer.old writer.new) pending.old pending.new (shown_bytes bytes.now) }
 {
     if bytes.is_empty() {
         return Ok(());
@@ -117,8 +111,7 @@ pub(crate) fn put_sized<W: Sink>(
     bytes: &[u8],
 ) -> Result<(), Failed>
     requires { CanFail (W.failed writer.old) }
-    ensures bytes { Puts result (W.bytes_taken writer.old) (W.bytes_taken writer.new) pending.old pending.new (sized_bytes bytes.now) }
-    ensures count { Counts result (W.failed writer.old) (W.failed writer.new) }
+    ensures { Adds result (over W.failed W.bytes_taken writer.old writer.new) pending.old pending.new (sized_bytes bytes.now) }
 {
     put_number(pending, writer, b" ", bytes.len(), b":")?;
     put_shown(pending, writer, bytes)?;

@@ -1,4 +1,4 @@
-use Rattle.std.proofs.Common.{◌++◌}
+use Rattle.std.proofs.Common.{◌++◌, rules}
 use Rattle.std.specs.Prelude.{codes}
 use Rattle.std.proofs.lemmas.Result.{err_from_is_err_and}
 use Rattle.px_bytes.specs.lemmas.WaitingLaws.{puts_both, puts_first}
@@ -7,28 +7,36 @@ use Rattle.px_text.specs.Captions.{caption_lines, exif_captions, record_lines}
 use Rattle.px_text.proofs.Chains.{next, stop}
 use Rattle.px_text.proofs.caption_lines.put_exif_captions.Goals as goal
 
-pub returns-in_err-put-clause-bytes : goal.returns-in_err-put-clause-bytes
-returns-in_err-put-clause-bytes g c =
+pub returns-in_err-put : goal.returns-in_err-put
+returns-in_err-put g c =
     let p = err_from_is_err_and c.from_residual.result c.from_residual.ensures.1 in
     let held = c.args.pending.now in
     let second = caption_lines (exif_captions (meaning_of c.args.meaning.now).main) in
     let third = record_lines (meaning_of c.args.meaning.now).iptc in
-    rw p.1 (puts_first _ _ held (codes "exif\n" ++ second) third (puts_first _ _ held (codes "exif\n") second c.in_err-put.ensures.bytes))
+    rw p.1 (
+      puts_first _ _ held (codes "exif\n" ++ second) third (puts_first _ _ held (codes "exif\n") second c.in_err-put.ensures.bytes),
+      search rules,
+    )
 
-pub returns-in_err-put_exif-clause-bytes : goal.returns-in_err-put_exif-clause-bytes
-returns-in_err-put_exif-clause-bytes g c =
+pub returns-in_err-put_exif : goal.returns-in_err-put_exif
+returns-in_err-put_exif g c =
     let p = err_from_is_err_and c.from_residual-in_err-put_exif.result c.from_residual-in_err-put_exif.ensures.1 in
     let held = c.args.pending.now in
     let second = caption_lines (exif_captions (meaning_of c.args.meaning.now).main) in
     let third = record_lines (meaning_of c.args.meaning.now).iptc in
-    rw p.1 (puts_first _ _ held (codes "exif\n" ++ second) third (stop _ _ _ held c.put.new.self (codes "exif\n") second
-    c.in_ok-put.ensures.bytes c.in_err-put_exif.ensures.bytes))
+    rw p.1 (
+      puts_first _ _ held (codes "exif\n" ++ second) third (stop _ _ _ held c.put.new.self (codes "exif\n") second
+          c.in_ok-put.ensures.bytes c.in_err-put_exif.ensures.0),
+      search rules,
+    )
 
-pub returns-clause-bytes : goal.returns-clause-bytes
-returns-clause-bytes g c =
+pub returns : goal.returns
+returns g c =
     let held = c.args.pending.now in
     let second = caption_lines (exif_captions (meaning_of c.args.meaning.now).main) in
-    let third = record_lines (meaning_of c.args.meaning.now).iptc in
-    puts_both c.put_record.result _ _ _ held c.put_exif.new.pending c.put_record.new.pending (codes "exif\n" ++ second) third (next _ _ _
-    held c.put.new.self c.put_exif.new.pending (codes "exif\n") second c.in_ok-put.ensures.bytes c.in_ok-put_exif.ensures.bytes)
-    c.put_record.ensures.bytes
+    let third = record_lines (meaning_of c.args.meaning.now).iptc in (
+      puts_both c.put_record.result _ _ _ held c.put_exif.new.pending c.put_record.new.pending (codes "exif\n" ++ second) third (next _ _ _
+          held c.put.new.self c.put_exif.new.pending (codes "exif\n") second c.in_ok-put.ensures.bytes c.in_ok-put_exif.ensures.0)
+          c.put_record.ensures.0,
+      search rules,
+    )

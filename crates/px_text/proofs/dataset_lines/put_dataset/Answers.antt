@@ -1,4 +1,4 @@
-use Rattle.std.proofs.Common.{◌++◌}
+use Rattle.std.proofs.Common.{◌++◌, rules}
 use Rattle.std.specs.Prelude.{codes, decimal}
 use Rattle.std.proofs.lemmas.Result.{err_from_is_err_and}
 use Rattle.px_bytes.specs.lemmas.WaitingLaws.{puts_both, puts_first}
@@ -7,34 +7,39 @@ use Rattle.px_text.specs.Listing.{dataset_line}
 use Rattle.px_text.proofs.Chains.{next, stop}
 use Rattle.px_text.proofs.dataset_lines.put_dataset.Goals as goal
 
-pub returns-in_err-put_ended-clause-bytes : goal.returns-in_err-put_ended-clause-bytes
+pub returns-in_err-put_ended : goal.returns-in_err-put_ended
 unfolding dataset_line
-returns-in_err-put_ended-clause-bytes g c =
+returns-in_err-put_ended g c =
     let p = err_from_is_err_and c.from_residual.result c.from_residual.ensures.1 in
     let held = c.args.pending.now in
     let first = decimal c.args.rec ++ codes ":" in
     let second = decimal c.args.item.now.number in
     let third = sized_bytes c.args.item.now.octets.now in
-    rw p.1 (puts_first _ _ held (first ++ second) third (puts_first _ _ held first second c.in_err-put_ended.ensures.bytes))
+    rw p.1 (puts_first _ _ held (first ++ second) third (puts_first _ _ held first second c.in_err-put_ended.ensures.0), search rules)
 
-pub returns-in_err-put_decimal-clause-bytes : goal.returns-in_err-put_decimal-clause-bytes
+pub returns-in_err-put_decimal : goal.returns-in_err-put_decimal
 unfolding dataset_line
-returns-in_err-put_decimal-clause-bytes g c =
+returns-in_err-put_decimal g c =
     let p = err_from_is_err_and c.from_residual-in_err-put_decimal.result c.from_residual-in_err-put_decimal.ensures.1 in
     let held = c.args.pending.now in
     let first = decimal c.args.rec ++ codes ":" in
     let second = decimal c.args.item.now.number in
     let third = sized_bytes c.args.item.now.octets.now in
-    rw p.1 (puts_first _ _ held (first ++ second) third (stop _ _ _ held c.put_ended.new.pending first second
-    c.in_ok-put_ended.ensures.bytes c.in_err-put_decimal.ensures.bytes))
+    rw p.1 (
+      puts_first _ _ held (first ++ second) third (stop _ _ _ held c.put_ended.new.pending first second
+          c.in_ok-put_ended.ensures.0 c.in_err-put_decimal.ensures.0),
+      search rules,
+    )
 
-pub returns-clause-bytes : goal.returns-clause-bytes
+pub returns : goal.returns
 unfolding dataset_line
-returns-clause-bytes g c =
+returns g c =
     let held = c.args.pending.now in
     let first = decimal c.args.rec ++ codes ":" in
     let second = decimal c.args.item.now.number in
-    let third = sized_bytes c.args.item.now.octets.now in
-    puts_both c.put_sized.result _ _ _ held c.put_decimal.new.pending c.put_sized.new.pending (first ++ second) third
-    (next _ _ _ held c.put_ended.new.pending c.put_decimal.new.pending first second c.in_ok-put_ended.ensures.bytes
-    c.in_ok-put_decimal.ensures.bytes) c.put_sized.ensures.bytes
+    let third = sized_bytes c.args.item.now.octets.now in (
+      puts_both c.put_sized.result _ _ _ held c.put_decimal.new.pending c.put_sized.new.pending (first ++ second) third
+          (next _ _ _ held c.put_ended.new.pending c.put_decimal.new.pending first second c.in_ok-put_ended.ensures.0
+          c.in_ok-put_decimal.ensures.0) c.put_sized.ensures.0,
+      search rules,
+    )

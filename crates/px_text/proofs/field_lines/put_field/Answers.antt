@@ -1,4 +1,4 @@
-use Rattle.std.proofs.Common.{◌++◌, length}
+use Rattle.std.proofs.Common.{◌++◌, length, rules}
 use Rattle.std.specs.Prelude.{codes, decimal}
 use Rattle.std.proofs.lemmas.Result.{err_from_is_err_and}
 use Rattle.hex.specs.Hex.{encode_lower}
@@ -9,34 +9,39 @@ use Rattle.px_text.specs.Listing.{type_word, shown_elements, field_line}
 use Rattle.px_text.proofs.Chains.{next, stop}
 use Rattle.px_text.proofs.field_lines.put_field.Goals as goal
 
-pub returns-in_err-put_head-clause-bytes : goal.returns-in_err-put_head-clause-bytes
+pub returns-in_err-put_head : goal.returns-in_err-put_head
 unfolding field_line
-returns-in_err-put_head-clause-bytes g c =
+returns-in_err-put_head g c =
     let p = err_from_is_err_and c.from_residual.result c.from_residual.ensures.1 in
     let held = c.args.pending.now in
     let first = encode_lower (spelling Most 2 c.args.tag) ++ codes " " ++ type_word c.args.value.now.kind ++ codes " " ++ decimal (length
     c.args.value.now.elements) ++ codes ":" in
     let second = shown_elements c.args.value.now.kind c.args.value.now.elements in
-    rw p.1 (puts_first _ _ held (first ++ second) (codes "\n") (puts_first _ _ held first second c.in_err-put_head.ensures.bytes))
+    rw p.1 (puts_first _ _ held (first ++ second) (codes "\n") (puts_first _ _ held first second c.in_err-put_head.ensures.0), search rules)
 
-pub returns-in_err-put_value-clause-bytes : goal.returns-in_err-put_value-clause-bytes
+pub returns-in_err-put_value : goal.returns-in_err-put_value
 unfolding field_line
-returns-in_err-put_value-clause-bytes g c =
+returns-in_err-put_value g c =
     let p = err_from_is_err_and c.from_residual-in_err-put_value.result c.from_residual-in_err-put_value.ensures.1 in
     let held = c.args.pending.now in
     let first = encode_lower (spelling Most 2 c.args.tag) ++ codes " " ++ type_word c.args.value.now.kind ++ codes " " ++ decimal (length
     c.args.value.now.elements) ++ codes ":" in
     let second = shown_elements c.args.value.now.kind c.args.value.now.elements in
-    rw p.1 (puts_first _ _ held (first ++ second) (codes "\n") (stop _ _ _ held c.put_head.new.pending first second
-    c.in_ok-put_head.ensures.bytes c.in_err-put_value.ensures.bytes))
+    rw p.1 (
+      puts_first _ _ held (first ++ second) (codes "\n") (stop _ _ _ held c.put_head.new.pending first second
+          c.in_ok-put_head.ensures.0 c.in_err-put_value.ensures.0),
+      search rules,
+    )
 
-pub returns-clause-bytes : goal.returns-clause-bytes
+pub returns : goal.returns
 unfolding field_line
-returns-clause-bytes g c =
+returns g c =
     let held = c.args.pending.now in
     let first = encode_lower (spelling Most 2 c.args.tag) ++ codes " " ++ type_word c.args.value.now.kind ++ codes " " ++ decimal (length
     c.args.value.now.elements) ++ codes ":" in
-    let second = shown_elements c.args.value.now.kind c.args.value.now.elements in
-    puts_both c.put.result _ _ _ held c.put_value.new.pending c.put.new.self (first ++ second) (codes "\n") (next _ _ _ held
-    c.put_head.new.pending c.put_value.new.pending first second c.in_ok-put_head.ensures.bytes c.in_ok-put_value.ensures.bytes)
-    c.put.ensures.bytes
+    let second = shown_elements c.args.value.now.kind c.args.value.now.elements in (
+      puts_both c.put.result _ _ _ held c.put_value.new.pending c.put.new.self (first ++ second) (codes "\n") (next _ _ _ held
+          c.put_head.new.pending c.put_value.new.pending first second c.in_ok-put_head.ensures.0 c.in_ok-put_value.ensures.0)
+          c.put.ensures.bytes,
+      search rules,
+    )

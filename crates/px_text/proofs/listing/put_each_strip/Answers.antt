@@ -5,34 +5,31 @@ use Rattle.px_text.specs.Listing.{strip_line}
 use Rattle.px_text.proofs.Chains.{all_put, can_fail, fails, none_yet}
 use Rattle.px_text.proofs.listing.put_each_strip.Goals as goal
 
-pub returns-in_err-put_part-clause-bytes : goal.returns-in_err-put_part-clause-bytes
-returns-in_err-put_part-clause-bytes g c =
+pub returns-in_err-put_part : goal.returns-in_err-put_part
+returns-in_err-put_part g c =
     let p = err_from_is_err_and c.from_residual.result c.from_residual.ensures.1 in
-    rw p.1 (owed_stop strip_line c.args.strips.now c.loop-i.i c.at.result.now c.at.ensures
-    _ _ _ c.args.pending.now c.loop-i.pending c.loop-i.invariant.owes c.in_err-put_part.ensures.bytes)
+    rw p.1 (
+      owed_stop strip_line c.args.strips.now c.loop-i.i c.at.result.now c.at.ensures
+          _ _ _ c.args.pending.now c.loop-i.pending c.loop-i.invariant.owes c.in_err-put_part.ensures.0,
+      fails _ _ _ c.loop-i.invariant.count c.in_err-put_part.ensures.1,
+    )
 
 pub loop-i-preserved : goal.loop-i-preserved
 loop-i-preserved g c = record {
   owes = owed_more strip_line c.args.strips.now c.loop-i.i c.at.result.now c.at.ensures
-      _ _ _ c.args.pending.now c.loop-i.pending c.put_part.new.pending c.loop-i.invariant.owes c.in_ok-put_part.ensures.bytes;
-  count = c.in_ok-put_part.ensures.count ∙ c.loop-i.invariant.count;
+      _ _ _ c.args.pending.now c.loop-i.pending c.put_part.new.pending c.loop-i.invariant.owes c.in_ok-put_part.ensures.0;
+  count = c.in_ok-put_part.ensures.1 ∙ c.loop-i.invariant.count;
 }
 
 pub put_part-requires : goal.put_part-requires
 put_part-requires g c = can_fail _ _ c.loop-i.invariant.count c.requires
 
-pub returns-in_err-put_part-clause-count : goal.returns-in_err-put_part-clause-count
-returns-in_err-put_part-clause-count g c =
-    let p = err_from_is_err_and c.from_residual.result c.from_residual.ensures.1 in
-    rw p.1 (fails _ _ _ c.loop-i.invariant.count c.in_err-put_part.ensures.count)
-
-pub returns-clause-count : goal.returns-clause-count
-returns-clause-count g c = c.loop-i.invariant.count
+pub returns : goal.returns
+returns g c = (
+  all_put strip_line c.args.strips.now c.loop-i.i (omega arith) _ _ c.args.pending.now c.loop-i.pending
+      c.loop-i.invariant.owes,
+  c.loop-i.invariant.count,
+)
 
 pub loop-i-init : goal.loop-i-init
 loop-i-init g c = record { owes = none_yet _ c.args.pending.now [] refl; count = refl }
-
-pub returns-clause-bytes : goal.returns-clause-bytes
-returns-clause-bytes g c =
-    all_put strip_line c.args.strips.now c.loop-i.i (omega arith) _ _ c.args.pending.now c.loop-i.pending
-    c.loop-i.invariant.owes

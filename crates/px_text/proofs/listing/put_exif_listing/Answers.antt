@@ -1,4 +1,4 @@
-use Rattle.std.proofs.Common.{◌++◌}
+use Rattle.std.proofs.Common.{◌++◌, rules}
 use Rattle.std.specs.Prelude.{codes}
 use Rattle.std.proofs.lemmas.Result.{err_from_is_err_and}
 use Rattle.px_bytes.specs.lemmas.WaitingLaws.{puts_both, puts_first}
@@ -7,9 +7,9 @@ use Rattle.px_text.specs.Listing.{field_lines, record_lines, exif_lines, directo
 use Rattle.px_text.proofs.Chains.{next, stop}
 use Rattle.px_text.proofs.listing.put_exif_listing.Goals as goal
 
-pub returns-in_err-put_main-clause-bytes : goal.returns-in_err-put_main-clause-bytes
+pub returns-in_err-put_main : goal.returns-in_err-put_main
 unfolding exif_listing
-returns-in_err-put_main-clause-bytes g c =
+returns-in_err-put_main g c =
     let p = err_from_is_err_and c.from_residual.result c.from_residual.ensures.1 in
     let held = c.args.pending.now in
     let first = codes "exif\n[main]\n" ++ field_lines (meaning_of c.args.meaning.now).main ++ record_lines (meaning_of
@@ -17,12 +17,15 @@ returns-in_err-put_main-clause-bytes g c =
     let second = exif_lines (meaning_of c.args.meaning.now).exif in
     let third = directory_lines (codes "[gps]\n") (meaning_of c.args.meaning.now).gps in
     let fourth = thumb_lines (meaning_of c.args.meaning.now).thumb in
-    rw p.1 (puts_first _ _ held (first ++ second ++ third) fourth (puts_first _ _ held (first ++ second) third (puts_first _ _ held first
-    second c.in_err-put_main.ensures.bytes)))
+    rw p.1 (
+      puts_first _ _ held (first ++ second ++ third) fourth (puts_first _ _ held (first ++ second) third (puts_first _ _ held first
+          second c.in_err-put_main.ensures.0)),
+      search rules,
+    )
 
-pub returns-in_err-put_exif-clause-bytes : goal.returns-in_err-put_exif-clause-bytes
+pub returns-in_err-put_exif : goal.returns-in_err-put_exif
 unfolding exif_listing
-returns-in_err-put_exif-clause-bytes g c =
+returns-in_err-put_exif g c =
     let p = err_from_is_err_and c.from_residual-in_err-put_exif.result c.from_residual-in_err-put_exif.ensures.1 in
     let held = c.args.pending.now in
     let first = codes "exif\n[main]\n" ++ field_lines (meaning_of c.args.meaning.now).main ++ record_lines (meaning_of
@@ -30,12 +33,15 @@ returns-in_err-put_exif-clause-bytes g c =
     let second = exif_lines (meaning_of c.args.meaning.now).exif in
     let third = directory_lines (codes "[gps]\n") (meaning_of c.args.meaning.now).gps in
     let fourth = thumb_lines (meaning_of c.args.meaning.now).thumb in
-    rw p.1 (puts_first _ _ held (first ++ second ++ third) fourth (puts_first _ _ held (first ++ second) third (stop _ _ _ held
-    c.put_main.new.pending first second c.in_ok-put_main.ensures.bytes c.in_err-put_exif.ensures.bytes)))
+    rw p.1 (
+      puts_first _ _ held (first ++ second ++ third) fourth (puts_first _ _ held (first ++ second) third (stop _ _ _ held
+          c.put_main.new.pending first second c.in_ok-put_main.ensures.0 c.in_err-put_exif.ensures.0)),
+      search rules,
+    )
 
-pub returns-in_err-put_directory-clause-bytes : goal.returns-in_err-put_directory-clause-bytes
+pub returns-in_err-put_directory : goal.returns-in_err-put_directory
 unfolding exif_listing
-returns-in_err-put_directory-clause-bytes g c =
+returns-in_err-put_directory g c =
     let p = err_from_is_err_and c.from_residual-in_err-put_directory.result c.from_residual-in_err-put_directory.ensures.1 in
     let held = c.args.pending.now in
     let first = codes "exif\n[main]\n" ++ field_lines (meaning_of c.args.meaning.now).main ++ record_lines (meaning_of
@@ -43,20 +49,25 @@ returns-in_err-put_directory-clause-bytes g c =
     let second = exif_lines (meaning_of c.args.meaning.now).exif in
     let third = directory_lines (codes "[gps]\n") (meaning_of c.args.meaning.now).gps in
     let fourth = thumb_lines (meaning_of c.args.meaning.now).thumb in
-    rw p.1 (puts_first _ _ held (first ++ second ++ third) fourth (stop _ _ _ held c.put_exif.new.pending (first ++ second) third (next _
-    _ _ held c.put_main.new.pending c.put_exif.new.pending first second c.in_ok-put_main.ensures.bytes c.in_ok-put_exif.ensures.bytes)
-    c.in_err-put_directory.ensures.bytes))
+    rw p.1 (
+      puts_first _ _ held (first ++ second ++ third) fourth (stop _ _ _ held c.put_exif.new.pending (first ++ second) third (next _
+          _ _ held c.put_main.new.pending c.put_exif.new.pending first second c.in_ok-put_main.ensures.0 c.in_ok-put_exif.ensures.0)
+          c.in_err-put_directory.ensures.0),
+      search rules,
+    )
 
-pub returns-clause-bytes : goal.returns-clause-bytes
+pub returns : goal.returns
 unfolding exif_listing
-returns-clause-bytes g c =
+returns g c =
     let held = c.args.pending.now in
     let first = codes "exif\n[main]\n" ++ field_lines (meaning_of c.args.meaning.now).main ++ record_lines (meaning_of
     c.args.meaning.now).iptc in
     let second = exif_lines (meaning_of c.args.meaning.now).exif in
     let third = directory_lines (codes "[gps]\n") (meaning_of c.args.meaning.now).gps in
-    let fourth = thumb_lines (meaning_of c.args.meaning.now).thumb in
-    puts_both c.put_thumb.result _ _ _ held c.put_directory.new.pending c.put_thumb.new.pending (first ++ second ++ third) fourth (next _
-    _ _ held c.put_exif.new.pending c.put_directory.new.pending (first ++ second) third (next _ _ _ held c.put_main.new.pending
-    c.put_exif.new.pending first second c.in_ok-put_main.ensures.bytes c.in_ok-put_exif.ensures.bytes)
-    c.in_ok-put_directory.ensures.bytes) c.put_thumb.ensures.bytes
+    let fourth = thumb_lines (meaning_of c.args.meaning.now).thumb in (
+      puts_both c.put_thumb.result _ _ _ held c.put_directory.new.pending c.put_thumb.new.pending (first ++ second ++ third) fourth (next _
+          _ _ held c.put_exif.new.pending c.put_directory.new.pending (first ++ second) third (next _ _ _ held c.put_main.new.pending
+          c.put_exif.new.pending first second c.in_ok-put_main.ensures.0 c.in_ok-put_exif.ensures.0)
+          c.in_ok-put_directory.ensures.0) c.put_thumb.ensures.0,
+      search rules,
+    )

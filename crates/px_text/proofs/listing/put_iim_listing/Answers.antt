@@ -1,21 +1,24 @@
+use Rattle.std.proofs.Common.{rules}
 use Rattle.std.specs.Prelude.{codes}
 use Rattle.std.proofs.lemmas.Result.{err_from_is_err_and}
 use Rattle.px_bytes.specs.lemmas.WaitingLaws.{puts_both, puts_first}
 use Rattle.px_text.specs.Listing.{dataset_lines, iim_listing}
 use Rattle.px_text.proofs.listing.put_iim_listing.Goals as goal
 
-pub returns-in_err-put-clause-bytes : goal.returns-in_err-put-clause-bytes
+pub returns-in_err-put : goal.returns-in_err-put
 unfolding iim_listing
-returns-in_err-put-clause-bytes g c =
+returns-in_err-put g c =
     let p = err_from_is_err_and c.from_residual.result c.from_residual.ensures.1 in
     let held = c.args.pending.now in
     let second = dataset_lines c.args.iim.now in
-    rw p.1 (puts_first _ _ held (codes "iim\n") second c.in_err-put.ensures.bytes)
+    rw p.1 (puts_first _ _ held (codes "iim\n") second c.in_err-put.ensures.bytes, search rules)
 
-pub returns-clause-bytes : goal.returns-clause-bytes
+pub returns : goal.returns
 unfolding iim_listing
-returns-clause-bytes g c =
+returns g c =
     let held = c.args.pending.now in
-    let second = dataset_lines c.args.iim.now in
-    puts_both c.put_datasets.result _ _ _ held c.put.new.self c.put_datasets.new.pending (codes "iim\n") second c.in_ok-put.ensures.bytes
-    c.put_datasets.ensures.bytes
+    let second = dataset_lines c.args.iim.now in (
+      puts_both c.put_datasets.result _ _ _ held c.put.new.self c.put_datasets.new.pending (codes "iim\n") second c.in_ok-put.ensures.bytes
+          c.put_datasets.ensures.0,
+      search rules,
+    )

@@ -4,29 +4,25 @@ use Rattle.px_text.specs.Listing.{field_lines}
 use Rattle.px_text.proofs.Chains.{can_fail, counts}
 use Rattle.px_text.proofs.listing.put_titled.Goals as goal
 
-pub returns-clause-bytes : goal.returns-clause-bytes
-returns-clause-bytes g c =
+pub returns : goal.returns
+returns g c =
     let held = c.args.pending.now in
-    let second = field_lines c.args.fields.now in
-    puts_both c.put_fields.result _ _ _ held c.put.new.self c.put_fields.new.pending c.args.name.now second c.in_ok-put.ensures.bytes
-    c.put_fields.ensures.bytes
+    let second = field_lines c.args.fields.now in (
+      puts_both c.put_fields.result _ _ _ held c.put.new.self c.put_fields.new.pending c.args.name.now second c.in_ok-put.ensures.bytes
+          c.put_fields.ensures.0,
+      counts c.put_fields.result _ _ _ c.in_ok-put.ensures.count c.put_fields.ensures.1,
+    )
 
 pub put-requires : goal.put-requires
 put-requires g c = c.requires
 
-pub returns-in_err-put-clause-bytes : goal.returns-in_err-put-clause-bytes
-returns-in_err-put-clause-bytes g c =
+pub returns-in_err-put : goal.returns-in_err-put
+returns-in_err-put g c =
     let p = err_from_is_err_and c.from_residual.result c.from_residual.ensures.1 in
-    rw p.1 (puts_first _ _ c.args.pending.now c.args.name.now (field_lines c.args.fields.now) c.in_err-put.ensures.bytes)
-
-pub returns-in_err-put-clause-count : goal.returns-in_err-put-clause-count
-returns-in_err-put-clause-count g c =
-    let p = err_from_is_err_and c.from_residual.result c.from_residual.ensures.1 in
-    rw p.1 c.in_err-put.ensures.count
+    rw p.1 (
+      puts_first _ _ c.args.pending.now c.args.name.now (field_lines c.args.fields.now) c.in_err-put.ensures.bytes,
+      c.in_err-put.ensures.count,
+    )
 
 pub put_fields-requires : goal.put_fields-requires
 put_fields-requires g c = can_fail _ _ c.in_ok-put.ensures.count c.requires
-
-pub returns-clause-count : goal.returns-clause-count
-returns-clause-count g c =
-    counts c.put_fields.result _ _ _ c.in_ok-put.ensures.count c.put_fields.ensures.count

@@ -1,4 +1,4 @@
-use Rattle.std.proofs.Common.{◌≡◌, ◌+◌, ◌∙◌, [], take, refl, arith, ap}
+use Rattle.std.proofs.Common.{◌≡◌, ◌+◌, ◌∙◌, [], take, refl, arith, ap, rules}
 use Rattle.std.proofs.lemmas.List.{take_all}
 use Rattle.std.proofs.lemmas.Result.{err_from_is_err_and}
 use Rattle.hex.specs.Hex.{encode_lower}
@@ -13,18 +13,23 @@ pub loop-at-preserved : goal.loop-at-preserved
 loop-at-preserved g c = record {
   inside = omega arith;
   owes = hex_next _ _ _ c.args.pending.now c.loop-at.pending c.put_piece.new.pending c.args.bytes.now c.loop-at.at (c.loop-at.at +
-      c.min.result) (omega arith) c.loop-at.invariant.owes c.in_ok-put_piece.ensures.bytes;
-  count = c.in_ok-put_piece.ensures.count ∙ c.loop-at.invariant.count;
+      c.min.result) (omega arith) c.loop-at.invariant.owes c.in_ok-put_piece.ensures.0;
+  count = c.in_ok-put_piece.ensures.1 ∙ c.loop-at.invariant.count;
 }
 
-pub returns-in_err-put_piece-clause-bytes : goal.returns-in_err-put_piece-clause-bytes
-returns-in_err-put_piece-clause-bytes g c =
+pub returns-in_err-put_piece : goal.returns-in_err-put_piece
+returns-in_err-put_piece g c =
     let p = err_from_is_err_and c.from_residual.result c.from_residual.ensures.1 in
-    rw p.1 (hex_stop _ _ _ c.args.pending.now c.loop-at.pending c.args.bytes.now c.loop-at.at (c.loop-at.at + c.min.result) (omega arith)
-    c.loop-at.invariant.owes c.in_err-put_piece.ensures.bytes)
+    rw p.1 (
+      hex_stop _ _ _ c.args.pending.now c.loop-at.pending c.args.bytes.now c.loop-at.at (c.loop-at.at + c.min.result) (omega arith)
+          c.loop-at.invariant.owes c.in_err-put_piece.ensures.0,
+      search rules,
+    )
 
-pub returns-clause-bytes : goal.returns-clause-bytes
-returns-clause-bytes g c =
-    let all : take c.loop-at.at c.args.bytes.now ≡ c.args.bytes.now = take_all c.loop-at.at c.args.bytes.now (omega arith) in
-    owes_as _ _ c.args.pending.now c.loop-at.pending (encode_lower (take c.loop-at.at c.args.bytes.now)) (encode_lower c.args.bytes.now)
-    (ap encode_lower all) c.loop-at.invariant.owes
+pub returns : goal.returns
+returns g c =
+    let all : take c.loop-at.at c.args.bytes.now ≡ c.args.bytes.now = take_all c.loop-at.at c.args.bytes.now (omega arith) in (
+      owes_as _ _ c.args.pending.now c.loop-at.pending (encode_lower (take c.loop-at.at c.args.bytes.now)) (encode_lower c.args.bytes.now)
+          (ap encode_lower all) c.loop-at.invariant.owes,
+      search rules,
+    )

@@ -1,4 +1,4 @@
-use Rattle.std.proofs.Common.{◌++◌, length}
+use Rattle.std.proofs.Common.{◌++◌, length, rules}
 use Rattle.std.specs.Prelude.{codes, decimal}
 use Rattle.std.proofs.lemmas.Result.{err_from_is_err_and}
 use Rattle.px_bytes.specs.lemmas.WaitingLaws.{puts_both, puts_first}
@@ -6,31 +6,39 @@ use Rattle.px_text.specs.Words.{shown_bytes, sized_bytes}
 use Rattle.px_text.proofs.Chains.{next, stop}
 use Rattle.px_text.proofs.texts.put_sized.Goals as goal
 
-pub returns-in_err-put_number-clause-bytes : goal.returns-in_err-put_number-clause-bytes
+pub returns-in_err-put_number : goal.returns-in_err-put_number
 unfolding sized_bytes
-returns-in_err-put_number-clause-bytes g c =
+returns-in_err-put_number g c =
     let p = err_from_is_err_and c.from_residual.result c.from_residual.ensures.1 in
     let held = c.args.pending.now in
     let first = codes " " ++ decimal (length c.args.bytes.now) ++ codes ":" in
     let second = shown_bytes c.args.bytes.now in
-    rw p.1 (puts_first _ _ held (first ++ second) (codes "\n") (puts_first _ _ held first second c.in_err-put_number.ensures.bytes))
+    rw p.1 (
+      puts_first _ _ held (first ++ second) (codes "\n") (puts_first _ _ held first second c.in_err-put_number.ensures.0),
+      search rules,
+    )
 
-pub returns-in_err-put_shown-clause-bytes : goal.returns-in_err-put_shown-clause-bytes
+pub returns-in_err-put_shown : goal.returns-in_err-put_shown
 unfolding sized_bytes
-returns-in_err-put_shown-clause-bytes g c =
+returns-in_err-put_shown g c =
     let p = err_from_is_err_and c.from_residual-in_err-put_shown.result c.from_residual-in_err-put_shown.ensures.1 in
     let held = c.args.pending.now in
     let first = codes " " ++ decimal (length c.args.bytes.now) ++ codes ":" in
     let second = shown_bytes c.args.bytes.now in
-    rw p.1 (puts_first _ _ held (first ++ second) (codes "\n") (stop _ _ _ held c.put_number.new.pending first second
-    c.in_ok-put_number.ensures.bytes c.in_err-put_shown.ensures.bytes))
+    rw p.1 (
+      puts_first _ _ held (first ++ second) (codes "\n") (stop _ _ _ held c.put_number.new.pending first second
+          c.in_ok-put_number.ensures.0 c.in_err-put_shown.ensures.0),
+      search rules,
+    )
 
-pub returns-clause-bytes : goal.returns-clause-bytes
+pub returns : goal.returns
 unfolding sized_bytes
-returns-clause-bytes g c =
+returns g c =
     let held = c.args.pending.now in
     let first = codes " " ++ decimal (length c.args.bytes.now) ++ codes ":" in
-    let second = shown_bytes c.args.bytes.now in
-    puts_both c.put.result _ _ _ held c.put_shown.new.pending c.put.new.self (first ++ second) (codes "\n") (next _ _ _ held
-    c.put_number.new.pending c.put_shown.new.pending first second c.in_ok-put_number.ensures.bytes c.in_ok-put_shown.ensures.bytes)
-    c.put.ensures.bytes
+    let second = shown_bytes c.args.bytes.now in (
+      puts_both c.put.result _ _ _ held c.put_shown.new.pending c.put.new.self (first ++ second) (codes "\n") (next _ _ _ held
+          c.put_number.new.pending c.put_shown.new.pending first second c.in_ok-put_number.ensures.0 c.in_ok-put_shown.ensures.0)
+          c.put.ensures.bytes,
+      search rules,
+    )
