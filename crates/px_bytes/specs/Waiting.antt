@@ -29,3 +29,8 @@ Waits (Err e) old new held held_now bytes = ¬ Fits held bytes
 abbrev pub PutsTo : {A E W : Type 0} → (W → Option (List ℕ)) → Result A E → W → W → List ℕ → List ℕ → List ℕ → Type 0
 PutsTo taken result old new held held_now bytes =
     Puts result (taken old) (taken new) held held_now bytes × Waits result old new held held_now bytes
+
+-- that, and a failure is counted
+abbrev pub AddsTo : {A E W : Type 0} → (W → ℕ) → (W → Option (List ℕ)) → Result A E → W → W → List ℕ → List ℕ → List ℕ → Type 0
+AddsTo failed taken result old new held held_now bytes =
+    PutsTo taken result old new held held_now bytes × Counts result (failed old) (failed new)

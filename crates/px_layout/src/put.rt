@@ -1,8 +1,8 @@
 // Puts numbers, values and filler into the output buffer.
 ghost use Rattle.std.specs.Prelude.{◌≡◌, ◌≤◌, ◌%◌, length, replicate, flat_map};
-ghost use Rattle.px_bytes.specs.Devices.{CanFail, Counts};
+ghost use Rattle.px_bytes.specs.Devices.{CanFail};
 ghost use Rattle.px_bytes.specs.Numbers.{spelling};
-ghost use Rattle.px_bytes.specs.Waiting.{PutsTo};
+ghost use Rattle.px_bytes.specs.Waiting.{AddsTo};
 ghost use Rattle.px_field.specs.Values.{spell, spelled};
 ghost use Rattle.px_tree.specs.Fits.{Field};
 ghost use Rattle.px_layout.specs.Laid.{long_bytes};
@@ -21,8 +21,7 @@ pub fn put_short<W: Sink>(
     n: u16,
 ) -> Result<(), Failed>
     requires { CanFail (W.failed writer.old) }
-    ensures bytes { PutsTo W.bytes_taken result writer.old writer.new pending.old pending.new (spelling order 2 n) }
-    ensures count { Counts result (W.failed writer.old) (W.failed writer.new) }
+    ensures { AddsTo W.failed W.bytes_taken result writer.old writer.new pending.old pending.new (spelling order 2 n) }
 {
     let mut bytes = [0; 2];
     order.put16(n, &mut bytes);
@@ -37,8 +36,7 @@ pub fn put_long<W: Sink>(
     n: u32,
 ) -> Result<(), Failed>
     requires { CanFail (W.failed writer.old) }
-    ensures bytes { PutsTo W.bytes_taken result writer.old writer.new pending.old pending.new (long_bytes order n) }
-    ensures count { Counts result (W.failed writer.old) (W.failed writer.new) }
+    ensures { AddsTo W.failed W.bytes_taken result writer.old writer.new pending.old pending.new (long_bytes order n) }
 {
     let mut bytes = [0; 4];
     order.put32(n, &mut bytes);
@@ -55,8 +53,7 @@ pub fn put_filler<W: Sink>(
 ) -> Result<(), Failed>
     requires few { CanFail (W.failed writer.old) }
     requires most { count ≤ 4 }
-    ensures bytes { PutsTo W.bytes_taken result writer.old writer.new pending.old pending.new (replicate count filler) }
-    ensures count { Counts result (W.failed writer.old) (W.failed writer.new) }
+    ensures { AddsTo W.failed W.bytes_taken result writer.old writer.new pending.old pending.new (replicate count filler) }
 {
     if count == 0 {
         return Ok(());
@@ -71,8 +68,7 @@ pub(crate) fn put_padding<W: Sink>(
     len: u64,
 ) -> Result<(), Failed>
     requires { CanFail (W.failed writer.old) }
-    ensures bytes { PutsTo W.bytes_taken result writer.old writer.new pending.old pending.new (replicate (len % 2) 0) }
-    ensures count { Counts result (W.failed writer.old) (W.failed writer.new) }
+    ensures { AddsTo W.failed W.bytes_taken result writer.old writer.new pending.old pending.new (replicate (len % 2) 0) }
 {
     put_filler(pending, writer, 0, (len % 2) as usize)
 }
@@ -87,8 +83,8 @@ fn put_by_pieces<W: Sink>(
 ) -> Result<(), Failed>
     requires few { CanFail (W.failed writer.old) }
     requires room { 8 ≤ length piece.old }
-    ensures bytes { PutsTo W.bytes_taken result writer.old writer.new pending.old pending.new (flat_map (spell order) value.now.elements) }
-    ensures count { Counts result (W.failed writer.old) (W.failed writer.new) }
+    ensures { AddsTo W.failed W.bytes_taken result writer.old writer.new pending.old pending.new
+        (flat_map (spell order) value.now.elements) }
 {
     let width = value.width();
     let mut i = 0;
@@ -110,8 +106,7 @@ pub(crate) fn put_eight<W: Sink>(
 ) -> Result<(), Failed>
     requires few { CanFail (W.failed writer.old) }
     requires spelled { length (spelled order value.now) ≡ 8 }
-    ensures bytes { PutsTo W.bytes_taken result writer.old writer.new pending.old pending.new (spelled order value.now) }
-    ensures count { Counts result (W.failed writer.old) (W.failed writer.new) }
+    ensures { AddsTo W.failed W.bytes_taken result writer.old writer.new pending.old pending.new (spelled order value.now) }
 {
     pending.put(writer, &value.spell_eight(order))
 }
@@ -130,8 +125,8 @@ fn put_elements<W: Sink>(
     value: &Value,
 ) -> Result<(), Failed>
     requires { CanFail (W.failed writer.old) }
-    ensures bytes { PutsTo W.bytes_taken result writer.old writer.new pending.old pending.new (flat_map (spell order) value.now.elements) }
-    ensures count { Counts result (W.failed writer.old) (W.failed writer.new) }
+    ensures { AddsTo W.failed W.bytes_taken result writer.old writer.new pending.old pending.new
+        (flat_map (spell order) value.now.elements) }
 {
     if value.size() <= FEW as u64 {
         return put_by_pieces(pending, writer, order, value, &mut [0; FEW]);
@@ -148,8 +143,7 @@ pub fn put_value<W: Sink>(
     value: &Value,
 ) -> Result<(), Failed>
     requires { CanFail (W.failed writer.old) }
-    ensures bytes { PutsTo W.bytes_taken result writer.old writer.new pending.old pending.new (spelled order value.now) }
-    ensures count { Counts result (W.failed writer.old) (W.failed writer.new) }
+    ensures { AddsTo W.failed W.bytes_taken result writer.old writer.new pending.old pending.new (spelled order value.now) }
 {
     if let Some(bytes) = value.in_order(order) {
         return pending.put(writer, bytes);

@@ -1,8 +1,8 @@
 // Puts the parts of a normal form into the output buffer. Each is padded to an even number of bytes. TIFF 6.0
 // section 2, "IFD Entry".
 ghost use Rattle.std.specs.Prelude.{◌≡◌, Some, flat_map};
-ghost use Rattle.px_bytes.specs.Devices.{CanFail, Counts};
-ghost use Rattle.px_bytes.specs.Waiting.{Puts, Waits, PutsTo};
+ghost use Rattle.px_bytes.specs.Devices.{CanFail, over};
+ghost use Rattle.px_bytes.specs.Waiting.{Waits, Adds, AddsTo};
 ghost use Rattle.px_tree.specs.Roles.{role};
 ghost use Rattle.px_tree.specs.Directory.{dirs};
 ghost use Rattle.px_tree.specs.Fits.{items};
@@ -39,9 +39,8 @@ fn put_padded_item<W: Sink>(
     requires counted { IsCounted (item_of entry.now.item) }
     requires suits { Suits (role dir entry.now.tag) (item_of entry.now.item) }
     requires tells { TellsAll (said_in form.now) (item_of entry.now.item) }
-    ensures bytes { PutsTo W.bytes_taken result writer.old writer.new pending.old pending.new
+    ensures { AddsTo W.failed W.bytes_taken result writer.old writer.new pending.old pending.new
         (padded (item_bytes (plan_in form.now) Order.Most 0 (item_of entry.now.item))) }
-    ensures count { Counts result (W.failed writer.old) (W.failed writer.new) }
 {
     let item = entry.item;
     put_told_item(pending, writer, form, item)?;
@@ -55,8 +54,7 @@ fn put_padded_field<W: Sink>(
     value: &Value,
 ) -> Result<(), Failed>
     requires few { CanFail (W.failed writer.old) }
-    ensures bytes { PutsTo W.bytes_taken result writer.old writer.new pending.old pending.new (padded (spelled Order.Most value.now)) }
-    ensures count { Counts result (W.failed writer.old) (W.failed writer.new) }
+    ensures { AddsTo W.failed W.bytes_taken result writer.old writer.new pending.old pending.new (padded (spelled Order.Most value.now)) }
 {
     put_value(pending, writer, Order::Most, value)?;
     put_padding(pending, writer, value.size())
@@ -69,8 +67,7 @@ fn put_placed_field<W: Sink>(
     value: &Value,
 ) -> Result<(), Failed>
     requires few { CanFail (W.failed writer.old) }
-    ensures bytes { PutsTo W.bytes_taken result writer.old writer.new pending.old pending.new (field_bytes value.now) }
-    ensures count { Counts result (W.failed writer.old) (W.failed writer.new) }
+    ensures { AddsTo W.failed W.bytes_taken result writer.old writer.new pending.old pending.new (field_bytes value.now) }
 {
     let size = value.size();
     if size == 8 {
@@ -95,9 +92,8 @@ fn put_any_placed<W: Sink>(
     requires counted { IsCounted (item_of entry.now.item) }
     requires suits { Suits (role dir entry.now.tag) (item_of entry.now.item) }
     requires tells { TellsAll (said_in form.now) (item_of entry.now.item) }
-    ensures bytes { PutsTo W.bytes_taken result writer.old writer.new pending.old pending.new
+    ensures { AddsTo W.failed W.bytes_taken result writer.old writer.new pending.old pending.new
         (placed_bytes (plan_in form.now) (entry_of entry.now)) }
-    ensures count { Counts result (W.failed writer.old) (W.failed writer.new) }
 {
     if needs_place(entry.item.size()) {
         return put_padded_item(pending, writer, form, dir, entry);
@@ -118,9 +114,8 @@ fn put_placed<W: Sink>(
     requires counted { IsCounted (item_of entry.now.item) }
     requires suits { Suits (role dir entry.now.tag) (item_of entry.now.item) }
     requires tells { TellsAll (said_in form.now) (item_of entry.now.item) }
-    ensures bytes { PutsTo W.bytes_taken result writer.old writer.new pending.old pending.new
+    ensures { AddsTo W.failed W.bytes_taken result writer.old writer.new pending.old pending.new
         (placed_bytes (plan_in form.now) (entry_of entry.now)) }
-    ensures count { Counts result (W.failed writer.old) (W.failed writer.new) }
 {
     match entry.item {
         Item::Field(value) => put_placed_field(pending, writer, value),
@@ -140,9 +135,8 @@ fn put_values<W: Sink>(
     requires form { IsForm form.now }
     requires good { Good dir entries.now }
     requires there { items (said_in form.now) dir ≡ Some entries.now }
-    ensures bytes { PutsTo W.bytes_taken result writer.old writer.new pending.old pending.new (flat_map
+    ensures { AddsTo W.failed W.bytes_taken result writer.old writer.new pending.old pending.new (flat_map
         (placed_bytes (plan_in form.now)) entries.now) }
-    ensures count { Counts result (W.failed writer.old) (W.failed writer.new) }
 {
     for i in 0..entries.len() {
         let entry = entries.at(i);
@@ -163,10 +157,9 @@ fn put_dir<W: Sink>(
     requires form { IsForm form.now }
     requires good { Good dir entries.now }
     requires there { items (said_in form.now) dir ≡ Some entries.now }
-    ensures bytes { PutsTo W.bytes_taken result writer.old writer.new pending.old pending.new (flat_map
+    ensures { AddsTo W.failed W.bytes_taken result writer.old writer.new pending.old pending.new (flat_map
         (λ c. padded c.1) (contents_of_dir
         (plan_in form.now) Order.Most 0 (said_in form.now) dir (Some entries.now))) }
-    ensures count { Counts result (W.failed writer.old) (W.failed writer.new) }
 {
     put_running_table(pending, writer, form, dir, entries)?;
     put_values(pending, writer, form, dir, entries)
@@ -181,10 +174,9 @@ fn put_any_dir<W: Sink>(
 ) -> Result<(), Failed>
     requires few { CanFail (W.failed writer.old) }
     requires form { IsForm form.now }
-    ensures bytes { PutsTo W.bytes_taken result writer.old writer.new pending.old pending.new (flat_map
+    ensures { AddsTo W.failed W.bytes_taken result writer.old writer.new pending.old pending.new (flat_map
         (λ c. padded c.1) (contents_of_dir (plan_in form.now) Order.Most 0 (said_in form.now) dir
         (items (said_in form.now) dir))) }
-    ensures count { Counts result (W.failed writer.old) (W.failed writer.new) }
 {
     match entries_in(form.m, dir) {
         Some(entries) => put_dir(pending, writer, form, dir, &entries),
@@ -198,11 +190,10 @@ const DIRS: [Dir; 5] = [Dir::Main, Dir::Exif, Dir::Interop, Dir::Gps, Dir::Thumb
 fn put_dirs<W: Sink>(pending: &mut Pending, writer: &mut W, form: &NormalForm) -> Result<(), Failed>
     requires few { CanFail (W.failed writer.old) }
     requires form { IsForm form.now }
-    ensures bytes { PutsTo W.bytes_taken result writer.old writer.new pending.old pending.new (flat_map
+    ensures { AddsTo W.failed W.bytes_taken result writer.old writer.new pending.old pending.new (flat_map
         (λ c. padded c.1) (flat_map
         (λ d. contents_of_dir (plan_in form.now) Order.Most 0 (said_in form.now) d
         (items (said_in form.now) d)) dirs)) }
-    ensures count { Counts result (W.failed writer.old) (W.failed writer.new) }
 {
     for dir in DIRS {
         put_any_dir(pending, writer, form, dir)?;
@@ -218,9 +209,8 @@ fn put_contents<W: Sink>(
 ) -> Result<(), Failed>
     requires few { CanFail (W.failed writer.old) }
     requires form { IsForm form.now }
-    ensures bytes { PutsTo W.bytes_taken result writer.old writer.new pending.old pending.new (flat_map
+    ensures { AddsTo W.failed W.bytes_taken result writer.old writer.new pending.old pending.new (flat_map
         (λ c. padded c.1) (contents (plan_in form.now) Order.Most 0 (said_in form.now))) }
-    ensures count { Counts result (W.failed writer.old) (W.failed writer.new) }
 {
     put_dirs(pending, writer, form)?;
     put_thumb(pending, writer, &form.m.thumb)
@@ -235,8 +225,7 @@ fn put_block<W: Sink>(
 ) -> Result<(), Failed>
     requires few { CanFail (W.failed writer.old) }
     requires form { IsForm form.now }
-    ensures bytes { PutsTo W.bytes_taken result writer.old writer.new pending.old pending.new (normal_exif (said_in form.now)) }
-    ensures count { Counts result (W.failed writer.old) (W.failed writer.new) }
+    ensures { AddsTo W.failed W.bytes_taken result writer.old writer.new pending.old pending.new (normal_exif (said_in form.now)) }
 {
     put_running_header(pending, writer)?;
     put_contents(pending, writer, form)
@@ -252,9 +241,8 @@ pub fn put_normal<W: Sink>(
 ) -> Result<(), Failed>
     requires few { CanFail (W.failed writer.old) }
     requires form { IsForm form.now }
-    ensures bytes { Puts result (W.bytes_taken writer.old) (W.bytes_taken writer.new) pending.old pending.new
+    ensures bytes { Adds result (over W.failed W.bytes_taken writer.old writer.new) pending.old pending.new
         (normal_exif (said_in form.now)) }
-    ensures count { Counts result (W.failed writer.old) (W.failed writer.new) }
     ensures waits { Waits result writer.old writer.new pending.old pending.new (normal_exif (said_in form.now)) }
 {
     put_block(pending, writer, form)

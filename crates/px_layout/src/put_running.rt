@@ -3,7 +3,7 @@ ghost use Rattle.std.specs.Prelude.{◌≡◌, ◌<◌, ◌≤◌, ◌+◌, ◌-
 ghost use Rattle.std.specs.Prelude.{replicate};
 ghost use Rattle.px_bytes.specs.Devices.{CanFail, Counts};
 ghost use Rattle.px_bytes.specs.Parts.{limit};
-ghost use Rattle.px_bytes.specs.Waiting.{PutsTo};
+ghost use Rattle.px_bytes.specs.Waiting.{PutsTo, AddsTo};
 ghost use Rattle.px_tree.specs.Tree as said;
 ghost use Rattle.px_field.specs.Values.{spelled};
 ghost use Rattle.px_tree.specs.Fits.{items, item_size, Field};
@@ -98,9 +98,8 @@ fn put_strip_places<W: Sink>(
 ) -> Result<(), Failed>
     requires few { CanFail (W.failed writer.old) }
     requires most { at + strips_size strips.now ≤ limit }
-    ensures bytes { PutsTo W.bytes_taken result writer.old writer.new pending.old pending.new (flat_map
+    ensures { AddsTo W.failed W.bytes_taken result writer.old writer.new pending.old pending.new (flat_map
         (long_bytes Order.Most) (strip_places at strips.now)) }
-    ensures count { Counts result (W.failed writer.old) (W.failed writer.new) }
 {
     let mut piece = [0; 4 * AT_ONCE];
     let mut next = at;
@@ -123,9 +122,8 @@ fn put_any_places<W: Sink>(
 ) -> Result<(), Failed>
     requires few { CanFail (W.failed writer.old) }
     requires most { at + strips_size (unwrap_or strips.now []) ≤ limit }
-    ensures bytes { PutsTo W.bytes_taken result writer.old writer.new pending.old pending.new (flat_map
+    ensures { AddsTo W.failed W.bytes_taken result writer.old writer.new pending.old pending.new (flat_map
         (long_bytes Order.Most) (strip_places at (unwrap_or strips.now []))) }
-    ensures count { Counts result (W.failed writer.old) (W.failed writer.new) }
 {
     match strips {
         Some(strips) => put_strip_places(pending, writer, at, strips),
@@ -141,9 +139,8 @@ fn put_strips_told<W: Sink>(
 ) -> Result<(), Failed>
     requires few { CanFail (W.failed writer.old) }
     requires form { IsForm form.now }
-    ensures bytes { PutsTo W.bytes_taken result writer.old writer.new pending.old pending.new (flat_map
+    ensures { AddsTo W.failed W.bytes_taken result writer.old writer.new pending.old pending.new (flat_map
         (long_bytes Order.Most) (strip_places (strips_start (said_in form.now)) (strip_list (said_in form.now).thumb))) }
-    ensures count { Counts result (W.failed writer.old) (W.failed writer.new) }
 {
     match &form.m.thumb {
         Some(thumb) => put_any_places(pending, writer, form.starts.strips, &thumb.strips),
@@ -163,9 +160,8 @@ pub(crate) fn put_told_item<W: Sink>(
     requires form { IsForm form.now }
     requires counted { IsCounted (item_of item) }
     requires tells { TellsAll (said_in form.now) (item_of item) }
-    ensures bytes { PutsTo W.bytes_taken result writer.old writer.new pending.old pending.new
+    ensures { AddsTo W.failed W.bytes_taken result writer.old writer.new pending.old pending.new
         (item_bytes (plan_in form.now) Order.Most 0 (item_of item.entry)) }
-    ensures count { Counts result (W.failed writer.old) (W.failed writer.new) }
 {
     match item {
         Item::Field(value) => put_value(pending, writer, Order::Most, value),
@@ -220,8 +216,7 @@ fn put_field_entry<W: Sink>(
     value: &Value,
 ) -> Result<(), Failed>
     requires few { CanFail (W.failed writer.old) }
-    ensures bytes { PutsTo W.bytes_taken result writer.old writer.new pending.old pending.new (field_given at tag value.now) }
-    ensures count { Counts result (W.failed writer.old) (W.failed writer.new) }
+    ensures { AddsTo W.failed W.bytes_taken result writer.old writer.new pending.old pending.new (field_given at tag value.now) }
 {
     if needs_place(value.size()) {
         return pending.put(writer, &field_to(at, tag, value));
@@ -241,9 +236,8 @@ fn put_near_entry<W: Sink>(
     requires counted { IsCounted (item_of entry.now.item) }
     requires tells { TellsAll (said_in form.now) (item_of entry.now.item) }
     requires near { item_size (item_of entry.now.item) ≤ 4 }
-    ensures bytes { PutsTo W.bytes_taken result writer.old writer.new pending.old pending.new
+    ensures { AddsTo W.failed W.bytes_taken result writer.old writer.new pending.old pending.new
         (near_given (plan_in form.now) (entry_of entry.now)) }
-    ensures count { Counts result (W.failed writer.old) (W.failed writer.new) }
 {
     let size = entry.item.size();
     pending.put(writer, &entry_head(Order::Most, entry))?;
@@ -263,9 +257,8 @@ fn put_any_entry<W: Sink>(
     requires form { IsForm form.now }
     requires counted { IsCounted (item_of entry.item) }
     requires tells { TellsAll (said_in form.now) (item_of entry.item) }
-    ensures bytes { PutsTo W.bytes_taken result writer.old writer.new pending.old pending.new
+    ensures { AddsTo W.failed W.bytes_taken result writer.old writer.new pending.old pending.new
         (entry_given (plan_in form.now) at (entry_of entry.entry)) }
-    ensures count { Counts result (W.failed writer.old) (W.failed writer.new) }
 {
     if needs_place(entry.item.size()) {
         return pending.put(writer, &entry_to(at, &entry));
@@ -285,9 +278,8 @@ fn put_given_entry<W: Sink>(
     requires form { IsForm form.now }
     requires counted { IsCounted (item_of entry.now.item) }
     requires tells { TellsAll (said_in form.now) (item_of entry.now.item) }
-    ensures bytes { PutsTo W.bytes_taken result writer.old writer.new pending.old pending.new
+    ensures { AddsTo W.failed W.bytes_taken result writer.old writer.new pending.old pending.new
         (entry_given (plan_in form.now) at (entry_of entry.now)) }
-    ensures count { Counts result (W.failed writer.old) (W.failed writer.new) }
 {
     match entry.item {
         Item::Field(value) => put_field_entry(pending, writer, at, entry.tag, value),
@@ -319,9 +311,8 @@ fn put_running_entries<W: Sink>(
     requires few { CanFail (W.failed writer.old) }
     requires form { IsForm form.now }
     requires there { items (said_in form.now) dir ≡ Some entries.now }
-    ensures bytes { PutsTo W.bytes_taken result writer.old writer.new pending.old pending.new (flat_map
+    ensures { AddsTo W.failed W.bytes_taken result writer.old writer.new pending.old pending.new (flat_map
         (entry_bytes (plan_in form.now) Order.Most 0 dir) entries.now) }
-    ensures count { Counts result (W.failed writer.old) (W.failed writer.new) }
 {
     let mut at = start_of(form, dir) + table_len(entries.len()) as u32;
     for i in 0..entries.len() {
@@ -341,9 +332,8 @@ fn put_running_next<W: Sink>(
 ) -> Result<(), Failed>
     requires few { CanFail (W.failed writer.old) }
     requires form { IsForm form.now }
-    ensures bytes { PutsTo W.bytes_taken result writer.old writer.new pending.old pending.new
+    ensures { AddsTo W.failed W.bytes_taken result writer.old writer.new pending.old pending.new
         (next_bytes (plan_in form.now) Order.Most 0 (said_in form.now) dir) }
-    ensures count { Counts result (W.failed writer.old) (W.failed writer.new) }
 {
     match dir {
         Dir::Main => put_next_of_main(pending, writer, form),
@@ -360,9 +350,8 @@ fn put_next_of_main<W: Sink>(
 ) -> Result<(), Failed>
     requires few { CanFail (W.failed writer.old) }
     requires form { IsForm form.now }
-    ensures bytes { PutsTo W.bytes_taken result writer.old writer.new pending.old pending.new
+    ensures { AddsTo W.failed W.bytes_taken result writer.old writer.new pending.old pending.new
         (next_bytes (plan_in form.now) Order.Most 0 (said_in form.now) Dir.Main) }
-    ensures count { Counts result (W.failed writer.old) (W.failed writer.new) }
 {
     match &form.m.thumb {
         Some(_) => {
@@ -385,9 +374,8 @@ pub(crate) fn put_running_table<W: Sink>(
     requires form { IsForm form.now }
     requires counted { length entries.now < 2 ^ 16 }
     requires there { items (said_in form.now) dir ≡ Some entries.now }
-    ensures bytes { PutsTo W.bytes_taken result writer.old writer.new pending.old pending.new
+    ensures { AddsTo W.failed W.bytes_taken result writer.old writer.new pending.old pending.new
         (table_bytes (plan_in form.now) Order.Most 0 (said_in form.now) dir entries.now) }
-    ensures count { Counts result (W.failed writer.old) (W.failed writer.new) }
 {
     put_short(pending, writer, Order::Most, entries.len() as u16)?;
     put_running_entries(pending, writer, form, dir, entries)?;

@@ -1,9 +1,9 @@
 // Puts the lengths of strips into the output buffer. TIFF 6.0 section 8, "StripByteCounts".
 ghost use Rattle.std.specs.Prelude.{◌≡◌, ◌≤◌, ◌-◌, ◌*◌, ◌++◌, length, take, map, flat_map};
 ghost use Rattle.std.specs.List.{AllByRecursion};
-ghost use Rattle.px_bytes.specs.Devices.{CanFail, Counts};
+ghost use Rattle.px_bytes.specs.Devices.{CanFail};
 ghost use Rattle.px_bytes.specs.Parts.{limit};
-ghost use Rattle.px_bytes.specs.Waiting.{PutsTo};
+ghost use Rattle.px_bytes.specs.Waiting.{AddsTo};
 ghost use Rattle.px_layout.specs.Laid.{long_bytes};
 
 use px_bytes::{Failed, Order, Pending, Sink};
@@ -37,9 +37,8 @@ pub fn put_strip_lengths<W: Sink>(
 ) -> Result<(), Failed>
     requires few { CanFail (W.failed writer.old) }
     requires short { AllByRecursion (λ n. n ≤ limit) (map (λ x. length x) strips.now) }
-    ensures bytes { PutsTo W.bytes_taken result writer.old writer.new pending.old pending.new (flat_map
+    ensures { AddsTo W.failed W.bytes_taken result writer.old writer.new pending.old pending.new (flat_map
         (long_bytes order) (map (λ x. length x) strips.now)) }
-    ensures count { Counts result (W.failed writer.old) (W.failed writer.new) }
 {
     let mut piece = [0; 4 * AT_ONCE];
     let mut i = 0;

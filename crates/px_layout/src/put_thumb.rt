@@ -1,8 +1,8 @@
 // Puts the thumbnail's bytes, after all directories: the JPEG, then the strips, each padded to an even number
 // of bytes. CIPA DC-008 4.5.5; TIFF 6.0 section 8.
 ghost use Rattle.std.specs.Prelude.{Some, option_map, flat_map};
-ghost use Rattle.px_bytes.specs.Devices.{CanFail, Counts};
-ghost use Rattle.px_bytes.specs.Waiting.{PutsTo};
+ghost use Rattle.px_bytes.specs.Devices.{CanFail};
+ghost use Rattle.px_bytes.specs.Waiting.{AddsTo};
 ghost use Rattle.px_tree.specs.calls.Seen.{thumb_of};
 ghost use Rattle.px_layout.specs.Laid.{jpeg_contents, strip_contents, all_strip_contents, thumb_contents};
 ghost use Rattle.px_layout.specs.Normal.{padded};
@@ -13,8 +13,7 @@ use px_tree::{Strips, Thumb};
 
 fn put_padded<W: Sink>(pending: &mut Pending, writer: &mut W, bytes: &[u8]) -> Result<(), Failed>
     requires { CanFail (W.failed writer.old) }
-    ensures bytes { PutsTo W.bytes_taken result writer.old writer.new pending.old pending.new (padded bytes.now) }
-    ensures count { Counts result (W.failed writer.old) (W.failed writer.new) }
+    ensures { AddsTo W.failed W.bytes_taken result writer.old writer.new pending.old pending.new (padded bytes.now) }
 {
     pending.put(writer, bytes)?;
     put_padding(pending, writer, bytes.len() as u64)
@@ -22,9 +21,8 @@ fn put_padded<W: Sink>(pending: &mut Pending, writer: &mut W, bytes: &[u8]) -> R
 
 fn put_strips<W: Sink>(pending: &mut Pending, writer: &mut W, strips: &Strips) -> Result<(), Failed>
     requires { CanFail (W.failed writer.old) }
-    ensures bytes { PutsTo W.bytes_taken result writer.old writer.new pending.old pending.new (flat_map
+    ensures { AddsTo W.failed W.bytes_taken result writer.old writer.new pending.old pending.new (flat_map
         (λ c. padded c.1) (strip_contents 0 strips.now)) }
-    ensures count { Counts result (W.failed writer.old) (W.failed writer.new) }
 {
     let mut i = 0;
     while i < strips.len() {
@@ -41,9 +39,8 @@ fn put_all_strips<W: Sink>(
     strips: &Option<Strips>,
 ) -> Result<(), Failed>
     requires { CanFail (W.failed writer.old) }
-    ensures bytes { PutsTo W.bytes_taken result writer.old writer.new pending.old pending.new (flat_map
+    ensures { AddsTo W.failed W.bytes_taken result writer.old writer.new pending.old pending.new (flat_map
         (λ c. padded c.1) (all_strip_contents strips.now)) }
-    ensures count { Counts result (W.failed writer.old) (W.failed writer.new) }
 {
     match strips {
         Some(strips) => put_strips(pending, writer, strips),
@@ -57,9 +54,8 @@ fn put_jpeg<W: Sink>(
     jpeg: Option<&[u8]>,
 ) -> Result<(), Failed>
     requires { CanFail (W.failed writer.old) }
-    ensures bytes { PutsTo W.bytes_taken result writer.old writer.new pending.old pending.new (flat_map
+    ensures { AddsTo W.failed W.bytes_taken result writer.old writer.new pending.old pending.new (flat_map
         (λ c. padded c.1) (jpeg_contents (option_map (λ x. x.now) jpeg.entry))) }
-    ensures count { Counts result (W.failed writer.old) (W.failed writer.new) }
 {
     match jpeg {
         Some(bytes) => put_padded(pending, writer, bytes),
@@ -69,9 +65,8 @@ fn put_jpeg<W: Sink>(
 
 fn put_parts<W: Sink>(pending: &mut Pending, writer: &mut W, thumb: &Thumb) -> Result<(), Failed>
     requires { CanFail (W.failed writer.old) }
-    ensures bytes { PutsTo W.bytes_taken result writer.old writer.new pending.old pending.new (flat_map
+    ensures { AddsTo W.failed W.bytes_taken result writer.old writer.new pending.old pending.new (flat_map
         (λ c. padded c.1) (thumb_contents (Some (thumb_of thumb.now)))) }
-    ensures count { Counts result (W.failed writer.old) (W.failed writer.new) }
 {
     put_jpeg(pending, writer, thumb.jpeg)?;
     put_all_strips(pending, writer, &thumb.strips)
@@ -85,9 +80,8 @@ pub(crate) fn put_thumb<W: Sink>(
     thumb: &Option<Thumb>,
 ) -> Result<(), Failed>
     requires { CanFail (W.failed writer.old) }
-    ensures bytes { PutsTo W.bytes_taken result writer.old writer.new pending.old pending.new (flat_map
+    ensures { AddsTo W.failed W.bytes_taken result writer.old writer.new pending.old pending.new (flat_map
         (λ c. padded c.1) (thumb_contents (option_map thumb_of thumb.now))) }
-    ensures count { Counts result (W.failed writer.old) (W.failed writer.new) }
 {
     match thumb {
         Some(thumb) => put_parts(pending, writer, thumb),

@@ -1,9 +1,9 @@
 // The entries of a table, added to the output buffer. TIFF 6.0 section 2, "IFD Entry" and "Value/Offset".
 ghost use Rattle.std.specs.Prelude.{◌≡◌, ◌≤◌, ◌-◌, ◌*◌, ◌++◌, length, take, map, flat_map};
 ghost use Rattle.std.specs.List.{AllByRecursion, range_with_len};
-ghost use Rattle.px_bytes.specs.Devices.{CanFail, Counts};
+ghost use Rattle.px_bytes.specs.Devices.{CanFail};
 ghost use Rattle.px_bytes.specs.Parts.{limit};
-ghost use Rattle.px_bytes.specs.Waiting.{PutsTo};
+ghost use Rattle.px_bytes.specs.Waiting.{AddsTo};
 ghost use Rattle.px_layout.specs.calls.Items.{item_of, entry_of, IsCounted};
 ghost use Rattle.px_plans.specs.calls.Layouts.{said_plan, item_in, last_in, entry_in};
 ghost use Rattle.px_layout.specs.Laid.{long_bytes, item_bytes, last_bytes};
@@ -34,9 +34,8 @@ pub(crate) fn put_place<W: Sink>(
     chunk: Chunk,
 ) -> Result<(), Failed>
     requires { CanFail (W.failed writer.old) }
-    ensures bytes { PutsTo W.bytes_taken result writer.old writer.new pending.old pending.new
+    ensures { AddsTo W.failed W.bytes_taken result writer.old writer.new pending.old pending.new
         (long_bytes layout.now.order (place (said_plan layout.now) chunk)) }
-    ensures count { Counts result (W.failed writer.old) (W.failed writer.new) }
 {
     put_long(pending, writer, layout.order, place_of(layout.plan, chunk))
 }
@@ -49,9 +48,8 @@ fn put_strip_offsets<W: Sink>(
     count: u32,
 ) -> Result<(), Failed>
     requires { CanFail (W.failed writer.old) }
-    ensures bytes { PutsTo W.bytes_taken result writer.old writer.new pending.old pending.new (flat_map
+    ensures { AddsTo W.failed W.bytes_taken result writer.old writer.new pending.old pending.new (flat_map
         (λ i. long_bytes layout.now.order (place (said_plan layout.now) (Chunk.Strip i))) (range_with_len 0 count)) }
-    ensures count { Counts result (W.failed writer.old) (W.failed writer.new) }
 {
     for i in 0..count {
         put_place(pending, writer, layout, Chunk::Strip(i))?;
@@ -69,8 +67,7 @@ pub(crate) fn put_item<W: Sink>(
 ) -> Result<(), Failed>
     requires few { CanFail (W.failed writer.old) }
     requires counted { IsCounted (item_of item) }
-    ensures bytes { PutsTo W.bytes_taken result writer.old writer.new pending.old pending.new (item_in layout.now (item_of item.entry)) }
-    ensures count { Counts result (W.failed writer.old) (W.failed writer.new) }
+    ensures { AddsTo W.failed W.bytes_taken result writer.old writer.new pending.old pending.new (item_in layout.now (item_of item.entry)) }
 {
     match item {
         Item::Field(value) => put_value(pending, writer, layout.order, value),
@@ -96,9 +93,8 @@ fn put_last<W: Sink>(
 ) -> Result<(), Failed>
     requires few { CanFail (W.failed writer.old) }
     requires counted { IsCounted (item_of entry.now.item) }
-    ensures bytes { PutsTo W.bytes_taken result writer.old writer.new pending.old pending.new
+    ensures { AddsTo W.failed W.bytes_taken result writer.old writer.new pending.old pending.new
         (last_in layout.now dir (entry_of entry.now)) }
-    ensures count { Counts result (W.failed writer.old) (W.failed writer.new) }
 {
     let Entry { tag, item } = *entry;
     let size = item.size();
@@ -119,9 +115,8 @@ pub(crate) fn put_entry<W: Sink>(
 ) -> Result<(), Failed>
     requires few { CanFail (W.failed writer.old) }
     requires counted { IsCounted (item_of entry.now.item) }
-    ensures bytes { PutsTo W.bytes_taken result writer.old writer.new pending.old pending.new
+    ensures { AddsTo W.failed W.bytes_taken result writer.old writer.new pending.old pending.new
         (entry_in layout.now dir (entry_of entry.now)) }
-    ensures count { Counts result (W.failed writer.old) (W.failed writer.new) }
 {
     pending.put(writer, &entry_head(layout.order, entry))?;
     put_last(pending, writer, layout, dir, entry)

@@ -1,7 +1,7 @@
 // The header and the tables of directories. TIFF 6.0 section 2, "Image File Header" and "Image File Directory".
 ghost use Rattle.std.specs.Prelude.{◌<◌, ◌^◌, length, flat_map};
-ghost use Rattle.px_bytes.specs.Devices.{CanFail, Counts};
-ghost use Rattle.px_bytes.specs.Waiting.{PutsTo};
+ghost use Rattle.px_bytes.specs.Devices.{CanFail};
+ghost use Rattle.px_bytes.specs.Waiting.{AddsTo};
 ghost use Rattle.px_plans.specs.calls.Layouts.{header_in, entry_in, next_in, table_in};
 
 use crate::layout::Layout;
@@ -16,9 +16,8 @@ pub(crate) fn put_header<W: Sink>(
     layout: &Layout,
 ) -> Result<(), Failed>
     requires { CanFail (W.failed writer.old) }
-    ensures bytes { PutsTo W.bytes_taken result writer.old writer.new pending.old pending.new
+    ensures { AddsTo W.failed W.bytes_taken result writer.old writer.new pending.old pending.new
         (header_in layout.now) }
-    ensures count { Counts result (W.failed writer.old) (W.failed writer.new) }
 {
     pending.put(writer, &magic_of(layout.order))?;
     put_place(pending, writer, layout, Chunk::Table(Dir::Main))
@@ -32,9 +31,8 @@ fn put_entries<W: Sink>(
     entries: &Entries,
 ) -> Result<(), Failed>
     requires { CanFail (W.failed writer.old) }
-    ensures bytes { PutsTo W.bytes_taken result writer.old writer.new pending.old pending.new
+    ensures { AddsTo W.failed W.bytes_taken result writer.old writer.new pending.old pending.new
         (flat_map (entry_in layout.now dir) entries.now) }
-    ensures count { Counts result (W.failed writer.old) (W.failed writer.new) }
 {
     for i in 0..entries.len() {
         let entry = entries.at(i);
@@ -50,8 +48,7 @@ fn put_next_of_main<W: Sink>(
     layout: &Layout,
 ) -> Result<(), Failed>
     requires { CanFail (W.failed writer.old) }
-    ensures bytes { PutsTo W.bytes_taken result writer.old writer.new pending.old pending.new (next_in layout.now Dir.Main) }
-    ensures count { Counts result (W.failed writer.old) (W.failed writer.new) }
+    ensures { AddsTo W.failed W.bytes_taken result writer.old writer.new pending.old pending.new (next_in layout.now Dir.Main) }
 {
     match &layout.m.thumb {
         Some(_) => put_place(pending, writer, layout, Chunk::Table(Dir::Thumb)),
@@ -67,8 +64,7 @@ fn put_next<W: Sink>(
     dir: Dir,
 ) -> Result<(), Failed>
     requires { CanFail (W.failed writer.old) }
-    ensures bytes { PutsTo W.bytes_taken result writer.old writer.new pending.old pending.new (next_in layout.now dir) }
-    ensures count { Counts result (W.failed writer.old) (W.failed writer.new) }
+    ensures { AddsTo W.failed W.bytes_taken result writer.old writer.new pending.old pending.new (next_in layout.now dir) }
 {
     match dir {
         Dir::Main => put_next_of_main(pending, writer, layout),
@@ -87,8 +83,7 @@ pub(crate) fn put_table<W: Sink>(
 ) -> Result<(), Failed>
     requires few { CanFail (W.failed writer.old) }
     requires counted { length entries.now < 2 ^ 16 }
-    ensures bytes { PutsTo W.bytes_taken result writer.old writer.new pending.old pending.new (table_in layout.now dir entries.now) }
-    ensures count { Counts result (W.failed writer.old) (W.failed writer.new) }
+    ensures { AddsTo W.failed W.bytes_taken result writer.old writer.new pending.old pending.new (table_in layout.now dir entries.now) }
 {
     put_short(pending, writer, layout.order, entries.len() as u16)?;
     put_entries(pending, writer, layout, dir, entries)?;

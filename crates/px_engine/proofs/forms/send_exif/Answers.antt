@@ -7,6 +7,6 @@ use Rattle.px_engine.proofs.forms.send_exif.Goals as goal
 pub returns : goal.returns
 returns g c = (
   sent c.send.result _ _ _ c.new-pending.result c.put_normal.new.pending (normal_exif (said_in c.args.form.now))
-      c.new-pending.ensures c.in_ok-put_normal.ensures.bytes c.send.ensures.bytes,
+      c.new-pending.ensures c.in_ok-put_normal.ensures.bytes.0 c.send.ensures.bytes,
   search rules,
 )

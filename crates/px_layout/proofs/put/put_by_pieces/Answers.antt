@@ -1,4 +1,5 @@
-use Rattle.std.proofs.Common.{refl, subst, sym, ◌≡◌, ◌∙◌, ◌*◌, ℕ, List, take, ap, arith}
+use Rattle.std.proofs.Common.{refl, subst, sym, ◌≡◌, ◌∙◌, ◌*◌, ℕ, List, take, ap, arith, rules}
+use Rattle.std.proofs.lemmas.Grind.{common_steps}
 use Rattle.std.proofs.lemmas.Result.{err_from_is_err_and}
 use Rattle.px_field.specs.Values.{spell}
 use Rattle.px_bytes.specs.lemmas.WaitingLaws.{put_none}
@@ -10,12 +11,15 @@ use Rattle.px_layout.proofs.put.put_by_pieces.Goals as goal
 by_width : (n w s : ℕ) (piece ys : List ℕ) → w ≡ s → take (n * s) piece ≡ ys → take (n * w) piece ≡ ys
 by_width n w s piece ys e h = ap (λ (k : ℕ). take (n * k) piece) e ∙ h
 
-pub returns-in_err-put-clause-bytes : goal.returns-in_err-put-clause-bytes
-returns-in_err-put-clause-bytes g c =
+pub returns-in_err-put : goal.returns-in_err-put
+returns-in_err-put g c =
     let p = err_from_is_err_and c.from_residual.result c.from_residual.ensures.1 in
-    rw p.1 (stop_many g.W.Sink.bytes_taken (spell c.args.order) c.args.value.now.elements c.loop-i.i c.spell_many-count.result _
-    (by_width _ _ _ _ _ c.width-width.ensures c.spell_many-count.ensures.front)
-    _ _ _ c.args.pending.now c.loop-i.pending c.loop-i.invariant.put (c.in_err-put.ensures.bytes, c.in_err-put.ensures.waits))
+    rw p.1 (
+      stop_many g.W.Sink.bytes_taken (spell c.args.order) c.args.value.now.elements c.loop-i.i c.spell_many-count.result _
+          (by_width _ _ _ _ _ c.width-width.ensures c.spell_many-count.ensures.front)
+          _ _ _ c.args.pending.now c.loop-i.pending c.loop-i.invariant.put (c.in_err-put.ensures.bytes, c.in_err-put.ensures.waits),
+      search rules,
+    )
 
 pub loop-i-preserved : goal.loop-i-preserved
 loop-i-preserved g c = record {
@@ -37,5 +41,6 @@ loop-i-init g c = record {
 pub put-requires : goal.put-requires
 put-requires g c = subst CanFail (sym c.loop-i.invariant.count) c.requires.few
 
-pub returns-clause-count : goal.returns-clause-count
-returns-clause-count g c = c.loop-i.invariant.count
+pub returns : goal.returns
+returns g c =
+    (grind (arith, common_steps), c.loop-i.invariant.count)

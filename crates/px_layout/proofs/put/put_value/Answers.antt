@@ -1,6 +1,8 @@
+use Rattle.std.proofs.Common.{rules}
 use Rattle.px_field.specs.Values.{spelled}
 use Rattle.px_layout.proofs.put.put_value.Goals as goal
 
-pub returns-clause-bytes : goal.returns-clause-bytes
+pub returns : goal.returns
 unfolding spelled
-returns-clause-bytes g c = c.put_elements.ensures.bytes
+returns g c =
+    (c.put_elements.ensures.0, search rules)

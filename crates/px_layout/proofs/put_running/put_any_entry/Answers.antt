@@ -1,4 +1,4 @@
-use Rattle.std.proofs.Common.{◌≡◌, ◌∙◌, ◌≤◌, ℕ, refl, sym, ltb-true, ltb-false}
+use Rattle.std.proofs.Common.{◌≡◌, ◌∙◌, ◌≤◌, ℕ, refl, sym, ltb-true, ltb-false, rules}
 use Rattle.px_tree.specs.Fits.{Item, item_size}
 use Rattle.px_layout.specs.Plans.{Plan}
 use Rattle.px_layout.specs.calls.Forms.{plan_in}
@@ -13,14 +13,18 @@ near_is : (plan : Plan) (at : ℕ) (i : ℕ × Item) → item_size i.1 ≤ 4 →
 unfolding near_given
 near_is plan at i l = given_near plan at i (item_size i.1) (head_bytes Most i) refl l refl
 
-pub returns-then-needs_place-clause-bytes : goal.returns-then-needs_place-clause-bytes
-returns-then-needs_place-clause-bytes g c =
-    puts_as g.W.Sink.bytes_taken c.put.result _ _ c.args.pending.now c.put.new.self _ _
-    (given_far (plan_in c.args.form.now) c.args.at (entry_of c.args.entry) c.size.result c.entry_to.result c.size.ensures
-    (ltb-true 4 _ (sym c.needs_place.ensures ∙ c.if-needs_place.true)) c.entry_to.ensures) (c.put.ensures.bytes, c.put.ensures.waits)
+pub returns-then-needs_place : goal.returns-then-needs_place
+returns-then-needs_place g c = (
+  puts_as g.W.Sink.bytes_taken c.put.result _ _ c.args.pending.now c.put.new.self _ _
+      (given_far (plan_in c.args.form.now) c.args.at (entry_of c.args.entry) c.size.result c.entry_to.result c.size.ensures
+      (ltb-true 4 _ (sym c.needs_place.ensures ∙ c.if-needs_place.true)) c.entry_to.ensures) (c.put.ensures.bytes, c.put.ensures.waits),
+  search rules,
+)
 
-pub returns-clause-bytes : goal.returns-clause-bytes
-returns-clause-bytes g c =
-    puts_as g.W.Sink.bytes_taken c.put_near_entry.result _ _ c.args.pending.now c.put_near_entry.new.pending _ _
-    (near_is (plan_in c.args.form.now) c.args.at (entry_of c.args.entry) (rw (sym c.size.ensures)
-    (ltb-false 4 c.size.result (sym c.needs_place.ensures ∙ c.if-needs_place.false)))) c.put_near_entry.ensures.bytes
+pub returns : goal.returns
+returns g c = (
+  puts_as g.W.Sink.bytes_taken c.put_near_entry.result _ _ c.args.pending.now c.put_near_entry.new.pending _ _
+      (near_is (plan_in c.args.form.now) c.args.at (entry_of c.args.entry) (rw (sym c.size.ensures)
+      (ltb-false 4 c.size.result (sym c.needs_place.ensures ∙ c.if-needs_place.false)))) c.put_near_entry.ensures.0,
+  search rules,
+)

@@ -1,4 +1,4 @@
-use Rattle.std.proofs.Common.{◌≡◌, ◌∙◌, ◌-◌, ◌++◌, ℕ, List, replicate, ap}
+use Rattle.std.proofs.Common.{◌≡◌, ◌∙◌, ◌-◌, ◌++◌, ℕ, List, replicate, ap, rules}
 use Rattle.std.proofs.lemmas.Result.{err_from_is_err_and}
 use Rattle.px_bytes.specs.lemmas.WaitingLaws.{puts_to_both}
 use Rattle.px_bytes.specs.declared.Order.TheVariants.{Most}
@@ -19,30 +19,38 @@ near plan i n head s e =
     ap (λ (k : ℕ). head ++ (item_bytes plan Most 0 i.1 ++ replicate (4 - k) 0)) s
     ∙ ap (λ (x : List ℕ). x ++ (item_bytes plan Most 0 i.1 ++ replicate (4 - item_size i.1) 0)) e
 
-pub returns-in_err-put-clause-bytes : goal.returns-in_err-put-clause-bytes
-returns-in_err-put-clause-bytes g c =
+pub returns-in_err-put : goal.returns-in_err-put
+returns-in_err-put g c =
     let p = err_from_is_err_and c.from_residual.result c.from_residual.ensures.1 in
-    rw p.1 (first_as g.W.Sink.bytes_taken _ _ c.args.pending.now _ _ _ (near (plan_in c.args.form.now)
-    (entry_of c.args.entry.now) c.size-size.result c.entry_head.result c.size-size.ensures c.entry_head.ensures)
-    (c.in_err-put.ensures.bytes, c.in_err-put.ensures.waits))
+    rw p.1 (
+      first_as g.W.Sink.bytes_taken _ _ c.args.pending.now _ _ _ (near (plan_in c.args.form.now)
+          (entry_of c.args.entry.now) c.size-size.result c.entry_head.result c.size-size.ensures c.entry_head.ensures)
+          (c.in_err-put.ensures.bytes, c.in_err-put.ensures.waits),
+      search rules,
+    )
 
-pub returns-in_err-put_told_item-clause-bytes : goal.returns-in_err-put_told_item-clause-bytes
-returns-in_err-put_told_item-clause-bytes g c =
+pub returns-in_err-put_told_item : goal.returns-in_err-put_told_item
+returns-in_err-put_told_item g c =
     let p = err_from_is_err_and c.from_residual-in_err-put_told_item.result c.from_residual-in_err-put_told_item.ensures.1 in
     let value = item_bytes (plan_in c.args.form.now) Most 0 (item_of c.args.entry.now.item) in
     let spare = replicate (4 - c.size-size.result) 0 in
-    rw p.1 (fails_as g.W.Sink.bytes_taken _ _ c.args.pending.now _ _ (near (plan_in c.args.form.now)
-    (entry_of c.args.entry.now) c.size-size.result c.entry_head.result c.size-size.ensures c.entry_head.ensures)
-    (second_of g.W.Sink.bytes_taken _ _ _ c.args.pending.now c.put.new.self c.entry_head.result value spare
-    (c.in_ok-put.ensures.bytes, c.in_ok-put.ensures.waits) c.in_err-put_told_item.ensures.bytes))
+    rw p.1 (
+      fails_as g.W.Sink.bytes_taken _ _ c.args.pending.now _ _ (near (plan_in c.args.form.now)
+          (entry_of c.args.entry.now) c.size-size.result c.entry_head.result c.size-size.ensures c.entry_head.ensures)
+          (second_of g.W.Sink.bytes_taken _ _ _ c.args.pending.now c.put.new.self c.entry_head.result value spare
+          (c.in_ok-put.ensures.bytes, c.in_ok-put.ensures.waits) c.in_err-put_told_item.ensures.0),
+      search rules,
+    )
 
-pub returns-clause-bytes : goal.returns-clause-bytes
-returns-clause-bytes g c =
+pub returns : goal.returns
+returns g c =
     let value = item_bytes (plan_in c.args.form.now) Most 0 (item_of c.args.entry.now.item) in
-    let spare = replicate (4 - c.size-size.result) 0 in
-    both_as g.W.Sink.bytes_taken c.put_filler.result _ _ _ c.args.pending.now c.put.new.self c.put_filler.new.pending _ _ _
-    (near (plan_in c.args.form.now) (entry_of c.args.entry.now) c.size-size.result c.entry_head.result
-    c.size-size.ensures c.entry_head.ensures)
-    (c.in_ok-put.ensures.bytes, c.in_ok-put.ensures.waits)
-    (puts_to_both g.W.Sink.bytes_taken c.put_filler.result _ _ _ c.put.new.self c.put_told_item.new.pending c.put_filler.new.pending
-    value spare c.in_ok-put_told_item.ensures.bytes c.put_filler.ensures.bytes)
+    let spare = replicate (4 - c.size-size.result) 0 in (
+      both_as g.W.Sink.bytes_taken c.put_filler.result _ _ _ c.args.pending.now c.put.new.self c.put_filler.new.pending _ _ _
+          (near (plan_in c.args.form.now) (entry_of c.args.entry.now) c.size-size.result c.entry_head.result
+          c.size-size.ensures c.entry_head.ensures)
+          (c.in_ok-put.ensures.bytes, c.in_ok-put.ensures.waits)
+          (puts_to_both g.W.Sink.bytes_taken c.put_filler.result _ _ _ c.put.new.self c.put_told_item.new.pending c.put_filler.new.pending
+          value spare c.in_ok-put_told_item.ensures.0 c.put_filler.ensures.0),
+      search rules,
+    )

@@ -1,4 +1,4 @@
-use Rattle.std.proofs.Common.{◌≤◌, ℕ, List, length, flat_map, subst, sym, ◌∙◌, ap, arith}
+use Rattle.std.proofs.Common.{◌≤◌, ℕ, List, length, flat_map, subst, sym, ◌∙◌, ap, arith, rules}
 use Rattle.std.proofs.lemmas.List.{take_all}
 use Rattle.std.proofs.lemmas.Result.{err_from_is_err_and}
 use Rattle.px_bytes.specs.declared.Order.TheVariants.{Most}
@@ -43,14 +43,17 @@ pub put_given_entry-requires-clause-tells : goal.put_given_entry-requires-clause
 put_given_entry-requires-clause-tells g c =
     tells_read (said_in c.args.form.now) c.args.dir c.args.entries.now c.loop-i.i _ c.requires.there c.at-entry.ensures.entry
 
-pub returns-in_err-put_given_entry-clause-bytes : goal.returns-in_err-put_given_entry-clause-bytes
-returns-in_err-put_given_entry-clause-bytes g c =
+pub returns-in_err-put_given_entry : goal.returns-in_err-put_given_entry
+returns-in_err-put_given_entry g c =
     let p = err_from_is_err_and c.from_residual.result c.from_residual.ensures.1 in
-    rw p.1 (stop_as g.W.Sink.bytes_taken (entry_bytes (normal_plan (said_in c.args.form.now)) Most 0 c.args.dir) c.args.entries.now
-    c.loop-i.i _ c.at-entry.ensures.entry _
-    (entry_running (said_in c.args.form.now) c.args.dir c.args.entries.now c.loop-i.i c.loop-i.at _ c.requires.form.0 c.requires.there
-    c.at-entry.ensures.entry c.loop-i.invariant.left)
-    _ _ _ c.args.pending.now c.loop-i.pending c.loop-i.invariant.put c.in_err-put_given_entry.ensures.bytes)
+    rw p.1 (
+      stop_as g.W.Sink.bytes_taken (entry_bytes (normal_plan (said_in c.args.form.now)) Most 0 c.args.dir) c.args.entries.now
+          c.loop-i.i _ c.at-entry.ensures.entry _
+          (entry_running (said_in c.args.form.now) c.args.dir c.args.entries.now c.loop-i.i c.loop-i.at _ c.requires.form.0 c.requires.there
+          c.at-entry.ensures.entry c.loop-i.invariant.left)
+          _ _ _ c.args.pending.now c.loop-i.pending c.loop-i.invariant.put c.in_err-put_given_entry.ensures.0,
+      search rules,
+    )
 
 pub next_at-at-requires-clause-most : goal.next_at-at-requires-clause-most
 next_at-at-requires-clause-most g c =
@@ -66,8 +69,8 @@ loop-i-preserved g c = record {
       _ c.at-entry.ensures.entry _
       (entry_running (said_in c.args.form.now) c.args.dir c.args.entries.now c.loop-i.i c.loop-i.at _ c.requires.form.0 c.requires.there
       c.at-entry.ensures.entry c.loop-i.invariant.left)
-      _ _ _ c.args.pending.now c.loop-i.pending c.put_given_entry.new.pending c.loop-i.invariant.put c.in_ok-put_given_entry.ensures.bytes;
-  count = c.in_ok-put_given_entry.ensures.count ∙ c.loop-i.invariant.count;
+      _ _ _ c.args.pending.now c.loop-i.pending c.put_given_entry.new.pending c.loop-i.invariant.put c.in_ok-put_given_entry.ensures.0;
+  count = c.in_ok-put_given_entry.ensures.1 ∙ c.loop-i.invariant.count;
   left = (let h = values_here c.args.entries.now c.loop-i.i _ c.at-entry.ensures.entry in let l = c.loop-i.invariant.left in
       let n = c.next_at-at.ensures in omega arith);
 }
@@ -75,14 +78,13 @@ loop-i-preserved g c = record {
 pub put_given_entry-requires-clause-few : goal.put_given_entry-requires-clause-few
 put_given_entry-requires-clause-few g c = subst CanFail (sym c.loop-i.invariant.count) c.requires.few
 
-pub returns-clause-bytes : goal.returns-clause-bytes
-returns-clause-bytes g c =
+pub returns : goal.returns
+returns g c =
     let n = c.len-i-end.ensures in
     let t = c.loop-i-test.false in
-    let l : length c.args.entries.now ≤ c.loop-i.i = omega arith in
-    subst (λ (xs : List (ℕ × Item)). HasPut g.W.Sink.bytes_taken c.args.writer.now c.loop-i.writer c.args.pending.now c.loop-i.pending
-    (flat_map (entry_bytes (normal_plan (said_in c.args.form.now)) Most 0 c.args.dir) xs))
-    (take_all c.loop-i.i c.args.entries.now l) c.loop-i.invariant.put
-
-pub returns-clause-count : goal.returns-clause-count
-returns-clause-count g c = c.loop-i.invariant.count
+    let l : length c.args.entries.now ≤ c.loop-i.i = omega arith in (
+      subst (λ (xs : List (ℕ × Item)). HasPut g.W.Sink.bytes_taken c.args.writer.now c.loop-i.writer c.args.pending.now c.loop-i.pending
+          (flat_map (entry_bytes (normal_plan (said_in c.args.form.now)) Most 0 c.args.dir) xs))
+          (take_all c.loop-i.i c.args.entries.now l) c.loop-i.invariant.put,
+      c.loop-i.invariant.count,
+    )

@@ -16,7 +16,7 @@ returns-in_err-put_normal-clause-form g c =
     rw (p.1, p.2) (not_put (meaning_of c.args.m.now) (said_in c.in_ok-form.form) (g.W.Sink.bytes_taken c.args.writer.now)
     (g.W.Device.failed c.args.writer.now) c.new-pending.result c.in_ok-form.ensures.1 c.in_ok-form.ensures.2
     c.new-pending.ensures
-    (g.W.Sink.bytes_taken c.put_normal.new.writer) _ c.in_err-put_normal.ensures.bytes c.in_err-put_normal.ensures.count)
+    (g.W.Sink.bytes_taken c.put_normal.new.writer) _ c.in_err-put_normal.ensures.bytes.0 c.in_err-put_normal.ensures.bytes.1)
 
 pub returns-in_err-send-clause-form : goal.returns-in_err-send-clause-form
 returns-in_err-send-clause-form g c =
@@ -25,8 +25,8 @@ returns-in_err-send-clause-form g c =
     (g.W.Device.failed c.args.writer.now) c.new-pending.result c.in_ok-form.ensures.1 c.in_ok-form.ensures.2
     c.new-pending.ensures
     (g.W.Sink.bytes_taken c.put_normal.new.writer) (g.W.Sink.bytes_taken c.send.new.writer) c.put_normal.new.pending _
-    c.in_ok-put_normal.ensures.bytes c.in_err-send.ensures.bytes (c.in_err-send.ensures.count
-    ∙ ap (λ (n : ℕ). n + 1) c.in_ok-put_normal.ensures.count))
+    c.in_ok-put_normal.ensures.bytes.0 c.in_err-send.ensures.bytes (c.in_err-send.ensures.count
+    ∙ ap (λ (n : ℕ). n + 1) c.in_ok-put_normal.ensures.bytes.1))
 
 pub returns-in_err-flush_all-clause-form : goal.returns-in_err-flush_all-clause-form
 returns-in_err-flush_all-clause-form g c =
@@ -36,8 +36,8 @@ returns-in_err-flush_all-clause-form g c =
     c.new-pending.ensures
     (g.W.Sink.bytes_taken c.put_normal.new.writer) (g.W.Sink.bytes_taken c.send.new.writer) (g.W.Sink.bytes_taken c.flush_all.new.self)
     c.put_normal.new.pending _
-    c.in_ok-put_normal.ensures.bytes c.in_ok-send.ensures.bytes c.flush_all.ensures.bytes
-    (c.in_err-flush_all.ensures.count ∙ ap (λ (n : ℕ). n + 1) (c.in_ok-send.ensures.count ∙ c.in_ok-put_normal.ensures.count)))
+    c.in_ok-put_normal.ensures.bytes.0 c.in_ok-send.ensures.bytes c.flush_all.ensures.bytes
+    (c.in_err-flush_all.ensures.count ∙ ap (λ (n : ℕ). n + 1) (c.in_ok-send.ensures.count ∙ c.in_ok-put_normal.ensures.bytes.1)))
 
 pub returns-clause-form : goal.returns-clause-form
 returns-clause-form g c =
@@ -46,5 +46,5 @@ returns-clause-form g c =
     c.new-pending.ensures
     (g.W.Sink.bytes_taken c.put_normal.new.writer) (g.W.Sink.bytes_taken c.send.new.writer) (g.W.Sink.bytes_taken c.flush_all.new.self)
     c.put_normal.new.pending _ _
-    c.len-len.ensures c.in_ok-put_normal.ensures.bytes c.in_ok-send.ensures.bytes c.flush_all.ensures.bytes
-    (c.in_ok-flush_all.ensures.count ∙ (c.in_ok-send.ensures.count ∙ c.in_ok-put_normal.ensures.count))
+    c.len-len.ensures c.in_ok-put_normal.ensures.bytes.0 c.in_ok-send.ensures.bytes c.flush_all.ensures.bytes
+    (c.in_ok-flush_all.ensures.count ∙ (c.in_ok-send.ensures.count ∙ c.in_ok-put_normal.ensures.bytes.1))

@@ -7,29 +7,26 @@ use Rattle.px_layout.specs.lemmas.PutLaws.{both_as, first_as}
 use Rattle.px_layout.specs.lemmas.EntryBytes.{last_inside}
 use Rattle.px_plans.proofs.put_item.put_last.Goals as goal
 
-pub returns-in_err-put_item-clause-bytes : goal.returns-in_err-put_item-clause-bytes
-returns-in_err-put_item-clause-bytes g c =
+pub returns-in_err-put_item : goal.returns-in_err-put_item
+returns-in_err-put_item g c =
     let p = err_from_is_err_and c.from_residual.result c.from_residual.ensures.1 in
-    rw p.1 (first_as g.W.Sink.bytes_taken _ _ c.args.pending.now _ _ _ (last_inside (said_plan c.args.layout.now) c.args.layout.now.order
-    c.args.layout.now.filler c.args.dir (entry_of c.args.entry.now) c.size-size.result c.size-size.ensures
-    (ltb-false 4 _ (sym c.needs_place.ensures ∙ c.if-needs_place.false)))
-    c.in_err-put_item.ensures.bytes)
+    rw p.1 (
+      first_as g.W.Sink.bytes_taken _ _ c.args.pending.now _ _ _ (last_inside (said_plan c.args.layout.now) c.args.layout.now.order
+          c.args.layout.now.filler c.args.dir (entry_of c.args.entry.now) c.size-size.result c.size-size.ensures
+          (ltb-false 4 _ (sym c.needs_place.ensures ∙ c.if-needs_place.false)))
+          c.in_err-put_item.ensures.0,
+      c.in_err-put_item.ensures.1,
+    )
 
-pub returns-clause-bytes : goal.returns-clause-bytes
-returns-clause-bytes g c =
-    both_as g.W.Sink.bytes_taken c.put_filler.result _ _ _ c.args.pending.now c.put_item.new.pending c.put_filler.new.pending _ _ _
-    (last_inside (said_plan c.args.layout.now) c.args.layout.now.order c.args.layout.now.filler c.args.dir (entry_of c.args.entry.now)
-    c.size-size.result c.size-size.ensures (ltb-false 4 _ (sym c.needs_place.ensures ∙ c.if-needs_place.false)))
-    c.in_ok-put_item.ensures.bytes c.put_filler.ensures.bytes
-
-pub returns-in_err-put_item-clause-count : goal.returns-in_err-put_item-clause-count
-returns-in_err-put_item-clause-count g c =
-    let p = err_from_is_err_and c.from_residual.result c.from_residual.ensures.1 in rw p.1 c.in_err-put_item.ensures.count
+pub returns : goal.returns
+returns g c = (
+  both_as g.W.Sink.bytes_taken c.put_filler.result _ _ _ c.args.pending.now c.put_item.new.pending c.put_filler.new.pending _ _ _
+      (last_inside (said_plan c.args.layout.now) c.args.layout.now.order c.args.layout.now.filler c.args.dir (entry_of c.args.entry.now)
+      c.size-size.result c.size-size.ensures (ltb-false 4 _ (sym c.needs_place.ensures ∙ c.if-needs_place.false)))
+      c.in_ok-put_item.ensures.0 c.put_filler.ensures.0,
+  subst (λ (n : ℕ). Counts c.put_filler.result n (g.W.Device.failed c.put_filler.new.writer)) c.in_ok-put_item.ensures.1
+      c.put_filler.ensures.1,
+)
 
 pub put_filler-requires-clause-few : goal.put_filler-requires-clause-few
-put_filler-requires-clause-few g c = subst CanFail (sym c.in_ok-put_item.ensures.count) c.requires.few
-
-pub returns-clause-count : goal.returns-clause-count
-returns-clause-count g c =
-    subst (λ (n : ℕ). Counts c.put_filler.result n (g.W.Device.failed c.put_filler.new.writer)) c.in_ok-put_item.ensures.count
-    c.put_filler.ensures.count
+put_filler-requires-clause-few g c = subst CanFail (sym c.in_ok-put_item.ensures.1) c.requires.few

@@ -1,4 +1,4 @@
-use Rattle.std.proofs.Common.{◌≤◌, ℕ, List, length, flat_map, refl, subst, sym, ◌∙◌, arith}
+use Rattle.std.proofs.Common.{◌≤◌, ℕ, List, length, flat_map, refl, subst, sym, ◌∙◌, arith, rules}
 use Rattle.std.proofs.lemmas.List.{take_all}
 use Rattle.std.proofs.lemmas.Result.{err_from_is_err_and}
 use Rattle.px_bytes.specs.lemmas.WaitingLaws.{HasPut, put_none, loop_more, loop_stop}
@@ -14,29 +14,31 @@ loop-i-init g c = record { put = put_none g.W.Sink.bytes_taken c.args.writer.now
 pub put_entry-requires-clause-few : goal.put_entry-requires-clause-few
 put_entry-requires-clause-few g c = subst CanFail (sym c.loop-i.invariant.count) c.requires
 
-pub returns-in_err-put_entry-clause-bytes : goal.returns-in_err-put_entry-clause-bytes
-returns-in_err-put_entry-clause-bytes g c =
+pub returns-in_err-put_entry : goal.returns-in_err-put_entry
+returns-in_err-put_entry g c =
     let p = err_from_is_err_and c.from_residual.result c.from_residual.ensures.1 in
-    rw p.1 (loop_stop g.W.Sink.bytes_taken (entry_bytes (said_plan c.args.layout.now) c.args.layout.now.order c.args.layout.now.filler
-    c.args.dir) c.args.entries.now c.loop-i.i _ c.at-entry.ensures.entry
-    _ _ _ c.args.pending.now c.loop-i.pending c.loop-i.invariant.put c.in_err-put_entry.ensures.bytes)
+    rw p.1 (
+      loop_stop g.W.Sink.bytes_taken (entry_bytes (said_plan c.args.layout.now) c.args.layout.now.order c.args.layout.now.filler
+          c.args.dir) c.args.entries.now c.loop-i.i _ c.at-entry.ensures.entry
+          _ _ _ c.args.pending.now c.loop-i.pending c.loop-i.invariant.put c.in_err-put_entry.ensures.0,
+      search rules,
+    )
 
 pub loop-i-preserved : goal.loop-i-preserved
 loop-i-preserved g c = record {
   put = loop_more g.W.Sink.bytes_taken (entry_bytes (said_plan c.args.layout.now) c.args.layout.now.order c.args.layout.now.filler
       c.args.dir) c.args.entries.now c.loop-i.i _ c.at-entry.ensures.entry
-      _ _ _ c.args.pending.now c.loop-i.pending c.put_entry.new.pending c.loop-i.invariant.put c.in_ok-put_entry.ensures.bytes;
-  count = c.in_ok-put_entry.ensures.count ∙ c.loop-i.invariant.count;
+      _ _ _ c.args.pending.now c.loop-i.pending c.put_entry.new.pending c.loop-i.invariant.put c.in_ok-put_entry.ensures.0;
+  count = c.in_ok-put_entry.ensures.1 ∙ c.loop-i.invariant.count;
 }
 
-pub returns-clause-bytes : goal.returns-clause-bytes
-returns-clause-bytes g c =
+pub returns : goal.returns
+returns g c =
     let n = c.len-i-end.ensures in
     let t = c.loop-i-test.false in
-    let l : length c.args.entries.now ≤ c.loop-i.i = omega arith in
-    subst (λ (xs : List (ℕ × Item)). HasPut g.W.Sink.bytes_taken c.args.writer.now c.loop-i.writer c.args.pending.now c.loop-i.pending
-    (flat_map (entry_bytes (said_plan c.args.layout.now) c.args.layout.now.order c.args.layout.now.filler c.args.dir) xs))
-    (take_all c.loop-i.i c.args.entries.now l) c.loop-i.invariant.put
-
-pub returns-clause-count : goal.returns-clause-count
-returns-clause-count g c = c.loop-i.invariant.count
+    let l : length c.args.entries.now ≤ c.loop-i.i = omega arith in (
+      subst (λ (xs : List (ℕ × Item)). HasPut g.W.Sink.bytes_taken c.args.writer.now c.loop-i.writer c.args.pending.now c.loop-i.pending
+          (flat_map (entry_bytes (said_plan c.args.layout.now) c.args.layout.now.order c.args.layout.now.filler c.args.dir) xs))
+          (take_all c.loop-i.i c.args.entries.now l) c.loop-i.invariant.put,
+      c.loop-i.invariant.count,
+    )
