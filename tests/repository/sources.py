@@ -221,6 +221,29 @@ def short_lines():
     return wrong
 
 
+# A lemma that other modules see, and a type that is a record: its fields look like lemmas.
+RECORD = re.compile(r"^( *)(?:pub )?record [^\n]*\n(?:(?!\1[^ \n])[^\n]*\n)*", re.M)
+LEMMA = re.compile(r"^(?P<indent> *)pub (?P<name>[^\s:(){}]+) :(?= |$)", re.M)
+GOALS = ("Answers.antt", "Proof.antt", "Invariants.antt")
+
+
+def lemmas_name_their_subject():
+    """Reports public lemmas whose name isn't at least two words joined by `_`; rattle names the goals of a function's proof."""
+    wrong, seen = [], 0
+    for pattern in ("proofs/**/*.antt", "specs/lemmas/**/*.antt"):
+        for path in sorted(glob.glob(os.path.join(TOP, "crates", "*", pattern), recursive=True)):
+            if path.endswith(GOALS):
+                continue
+            with open(path, encoding="utf-8") as file:
+                text = RECORD.sub("", file.read())
+            for it in LEMMA.finditer(text):
+                if re.search(rf"^{it['indent']}{re.escape(it['name'])}(?= )", text[it.end() :], re.M):
+                    seen += 1
+                    if not re.fullmatch(r"\w+_\w+", it["name"]):
+                        wrong.append(f"{os.path.relpath(path, TOP)}: {it['name']}")
+    return wrong + (["hardly a lemma was found"] if seen < 500 else [])
+
+
 TESTS = (
     the_examples_are_right,
     one_line_over_their_sisters,
@@ -231,6 +254,7 @@ TESTS = (
     few_parameters,
     short_functions,
     short_lines,
+    lemmas_name_their_subject,
 )
 
 

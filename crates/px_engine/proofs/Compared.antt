@@ -13,10 +13,11 @@ use Rattle.px_engine.specs.Hand.{SaysSame, IsUnsaidAt}
 use Rattle.px_engine.specs.calls.Second.{ComparesSecond, CountsSecond, SaysSecond}
 use Rattle.px_engine.proofs.Judged.{known_said, known_stops}
 
-pub compared : (r : Result Bool CompareFault) (first second : Option (List ℕ)) (s : Said) → KnownSaid first s → ComparesSecond r s second
+pub compares_from_second : (r : Result Bool CompareFault) (first second : Option (List ℕ)) (s : Said) → KnownSaid first s
+    → ComparesSecond r s second
     → Compares r first second
-compared (Ok same) first second s k h = (s, h.0, k, h.1, h.2)
-compared (Err e) first second s k h =
+compares_from_second (Ok same) first second s k h = (s, h.0, k, h.1, h.2)
+compares_from_second (Err e) first second s k h =
     subst (λ z. OnSide z (Stops e.fault first) ((t : Said) × KnownSaid first t) (Stops e.fault second)) (sym h.0) ((s, k), h.1)
 
 -- the first file has no meaning: the second reader is not called
@@ -24,15 +25,17 @@ pub not_asked : {R : Type 0} (e : CompareFault) (second : R) → e.side ≡ Firs
 not_asked {R} e second h = subst (λ z. OnSide z (second ≡ second) ⊤ ⊤) (sym h) refl
 
 -- the second reader may have moved: the fault is not of the first file
-pub untouched : {R : Type 0} (r : Result Bool CompareFault) (old new : R) (second : Option (List ℕ)) (s : Said) → ComparesSecond r s second
+pub compares_untouched : {R : Type 0} (r : Result Bool CompareFault) (old new : R) (second : Option (List ℕ)) (s : Said)
+    → ComparesSecond r s second
     → Untouched r old new
-untouched (Ok same) old new second s h = tt
-untouched (Err e) old new second s h = subst (λ z. OnSide z (new ≡ old) ⊤ ⊤) (sym h.0) (tt, tt)
+compares_untouched (Ok same) old new second s h = tt
+compares_untouched (Err e) old new second s h = subst (λ z. OnSide z (new ≡ old) ⊤ ⊤) (sym h.0) (tt, tt)
 
-pub counted : (r : Result Bool CompareFault) (a b c d : ℕ) (second : Option (List ℕ)) (s : Said) → b ≡ a → ComparesSecond r s second
+pub compares_counts_sides : (r : Result Bool CompareFault) (a b c d : ℕ) (second : Option (List ℕ)) (s : Said) → b ≡ a
+    → ComparesSecond r s second
     → CountsSecond r c d → CountsSides r a b c d
-counted (Ok same) a b c d second s e h k = (e, k)
-counted (Err fault) a b c d second s e h k =
+compares_counts_sides (Ok same) a b c d second s e h k = (e, k)
+compares_counts_sides (Err fault) a b c d second s e h k =
     subst (λ z. OnSide z (CountsFault fault.fault a b × (d ≡ c)) (b ≡ a) (CountsFault fault.fault c d)) (sym h.0) (e, k)
 
 pub lacks_compared : (r : Result Bool CompareFault) (first mid last : ℕ) → mid ≡ first → LacksPairBy r mid last → LacksPairBy r first last

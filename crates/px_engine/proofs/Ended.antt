@@ -15,20 +15,21 @@ use Rattle.px_engine.specs.Hand.{IsKindOf, IsFormOf, IsUnwritten}
 use Rattle.px_engine.specs.calls.Ends.{IsUnformed, WritesSaid}
 use Rattle.px_engine.proofs.Judged.{known_said, known_stops}
 
-half : (file : Option (List ℕ)) (s : Said) → KnownSaid file s → limit < length (normal s)
+long_normal_of_half : (file : Option (List ℕ)) (s : Said) → KnownSaid file s → limit < length (normal s)
     → IfSome file (λ f. limit < 2 * length (block_of f))
-half None s h l = tt
-half (Some f) s h l = let b = h.bounded in omega arith
+long_normal_of_half None s h l = tt
+long_normal_of_half (Some f) s h l = let b = h.bounded in omega arith
 
-pub normalised : (r : Result ℕ Fault) (left left_now : Option (List ℕ)) (bytes : List ℕ) (s : Said) (old new : Option (List ℕ)) (a b : ℕ) →
+pub writes_said_normalises : (r : Result ℕ Fault) (left left_now : Option (List ℕ)) (bytes : List ℕ) (s : Said) (old new : Option (List ℕ))
+    (a b : ℕ) →
     ReadsUpTo left left_now 16777223 bytes → IsSaid bytes s → WritesSaid r old new a b s → Normalises r left old new
-normalised (Ok n) left left_now bytes s old new a b x h w = (s, known_said left left_now bytes s x h, w.0, w.1, w.2)
-normalised (Err NormalTooLong) left left_now bytes s old new a b x h w =
-    let k = known_said left left_now bytes s x h in (s, k, w.0, half left s k w.0, w.1)
-normalised (Err WriteFailed) left left_now bytes s old new a b x h w = (s, known_said left left_now bytes s x h, w.0, w.1)
-normalised (Err OutOfMemory) left left_now bytes s old new a b x h w = absurd w
-normalised (Err ReadFailed) left left_now bytes s old new a b x h w = absurd w
-normalised (Err (Refused cause place)) left left_now bytes s old new a b x h w = absurd w
+writes_said_normalises (Ok n) left left_now bytes s old new a b x h w = (s, known_said left left_now bytes s x h, w.0, w.1, w.2)
+writes_said_normalises (Err NormalTooLong) left left_now bytes s old new a b x h w =
+    let k = known_said left left_now bytes s x h in (s, k, w.0, long_normal_of_half left s k w.0, w.1)
+writes_said_normalises (Err WriteFailed) left left_now bytes s old new a b x h w = (s, known_said left left_now bytes s x h, w.0, w.1)
+writes_said_normalises (Err OutOfMemory) left left_now bytes s old new a b x h w = absurd w
+writes_said_normalises (Err ReadFailed) left left_now bytes s old new a b x h w = absurd w
+writes_said_normalises (Err (Refused cause place)) left left_now bytes s old new a b x h w = absurd w
 
 -- a writer allocates nothing
 pub lacks_nothing : (r : Result ℕ Fault) (old new : Option (List ℕ)) (a b : ℕ) (s : Said) (first last : ℕ) → last ≡ first
@@ -54,11 +55,11 @@ not_normalised ReadFailed left left_now bytes lacking old x h = absurd h
 not_normalised NormalTooLong left left_now bytes lacking old x h = absurd h
 not_normalised WriteFailed left left_now bytes lacking old x h = absurd h
 
-pub checked : (r : Result BlockKind Fault) (left left_now : Option (List ℕ)) (bytes : List ℕ) (lacking : ℕ)
+pub kind_of_checks : (r : Result BlockKind Fault) (left left_now : Option (List ℕ)) (bytes : List ℕ) (lacking : ℕ)
     → ReadsUpTo left left_now 16777223 bytes
     → IfOk r (IsKindOf bytes) → IfErr r (IsUnsaid bytes lacking) → Checks r left
-checked (Ok kind) left left_now bytes lacking x h k = (h.0, known_said left left_now bytes h.0 x h.1, h.2)
-checked (Err fault) left left_now bytes lacking x h k = known_stops left left_now bytes lacking fault x k
+kind_of_checks (Ok kind) left left_now bytes lacking x h k = (h.0, known_said left left_now bytes h.0 x h.1, h.2)
+kind_of_checks (Err fault) left left_now bytes lacking x h k = known_stops left left_now bytes lacking fault x k
 
 -- a form in memory
 pub form_formed : {V : Type 0} (items : V → List ℕ) (r : Result V Fault) (f : List ℕ) (s : Said) → IsSaid f s
@@ -69,7 +70,7 @@ form_formed items (Err e) f s h k = tt
 pub form_unwritten : {V : Type 0} (r : Result V Fault) (f : List ℕ) (s : Said) (lacking : ℕ) → IsSaid f s
     → IfErr r (IsUnformed s lacking) → IfErr r (IsUnwritten f lacking)
 form_unwritten (Ok v) f s lacking h k = tt
-form_unwritten (Err NormalTooLong) f s lacking h k = (s, h, k, half (Some f) s h k)
+form_unwritten (Err NormalTooLong) f s lacking h k = (s, h, k, long_normal_of_half (Some f) s h k)
 form_unwritten (Err OutOfMemory) f s lacking h k = k.0
 form_unwritten (Err (Refused cause place)) f s lacking h k = absurd k
 form_unwritten (Err ReadFailed) f s lacking h k = absurd k

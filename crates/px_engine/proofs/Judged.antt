@@ -50,10 +50,10 @@ whole_faulty f c p h =
       unsaid = λ s x. h.unsaid s ((file.taken_tells.0 f s).1 x);
     }
 
-pub unsaid : (bytes : List ℕ) (lacking : ℕ) (e : Refusal) (fault : Fault) → fault ≡ refused e → IsRefused bytes lacking e
+pub refused_is_unsaid : (bytes : List ℕ) (lacking : ℕ) (e : Refusal) (fault : Fault) → fault ≡ refused e → IsRefused bytes lacking e
     → IsUnsaid bytes lacking fault
-unsaid bytes lacking (refusal.Content cause place) fault q h = subst (IsUnsaid bytes lacking) (sym q) h
-unsaid bytes lacking refusal.OutOfMemory fault q h = subst (IsUnsaid bytes lacking) (sym q) h
+refused_is_unsaid bytes lacking (refusal.Content cause place) fault q h = subst (IsUnsaid bytes lacking) (sym q) h
+refused_is_unsaid bytes lacking refusal.OutOfMemory fault q h = subst (IsUnsaid bytes lacking) (sym q) h
 
 pub lacks_refused : (e : Refusal) (fault : Fault) (old new : ℕ) → fault ≡ refused e → LacksBlockBy {X = Unit {0}} (Err e) old new
     → LacksFault fault old new

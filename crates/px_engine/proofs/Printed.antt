@@ -14,10 +14,11 @@ use Rattle.px_engine.specs.calls.Faults.{told}
 use Rattle.px_engine.proofs.Judged.{known_said, known_stops}
 
 -- the text was added to an empty buffer, and the buffer was then written
-pub sent : {A E : Type 0} (r : Result A E) (a b c : Option (List ℕ)) (none held out : List ℕ) → none ≡ [] → Owes a b held (none ++ out)
+pub owes_written : {A E : Type 0} (r : Result A E) (a b c : Option (List ℕ)) (none held out : List ℕ) → none ≡ []
+    → Owes a b held (none ++ out)
     → Writes r b c held → Writes r a c out
-sent (Ok x) a b c none held out e p q = owed_all a b c held out (from_none (Owes a b held) none out e p) q
-sent (Err x) a b c none held out e p q = owed_prefix a b c held out (from_none (Owes a b held) none out e p) q
+owes_written (Ok x) a b c none held out e p q = owed_all a b c held out (from_none (Owes a b held) none out e p) q
+owes_written (Err x) a b c none held out e p q = owed_prefix a b c held out (from_none (Owes a b held) none out e p) q
 
 -- the result of a text's writer, as that of a run
 pub told_text : {A E : Type 0} (r : Result A E) (t : Result A Fault) (old new : Option (List ℕ)) (a b : ℕ) (out : List ℕ) → t ≡ told r
@@ -26,15 +27,16 @@ told_text (Ok x) t old new a b out e w n = subst (λ z. WritesText z old new a b
 told_text (Err x) t old new a b out e w n = subst (λ z. WritesText z old new a b out) (sym e) (w, n)
 
 -- the text of the meaning is `text s`
-pub printed : {A : Type 0} (text : Said → List ℕ) (r : Result A Fault) (left left_now : Option (List ℕ)) (bytes : List ℕ) (s : Said)
+pub writes_text_prints : {A : Type 0} (text : Said → List ℕ) (r : Result A Fault) (left left_now : Option (List ℕ)) (bytes : List ℕ)
+    (s : Said)
     (old new : Option (List ℕ)) (a b : ℕ)
     → ReadsUpTo left left_now 16777223 bytes → IsSaid bytes s → WritesText r old new a b (text s) → Prints text r left old new
-printed text (Ok x) left left_now bytes s old new a b read h w = (s, known_said left left_now bytes s read h, w.0)
-printed text (Err WriteFailed) left left_now bytes s old new a b read h w = (s, known_said left left_now bytes s read h, w.0)
-printed text (Err (Refused cause place)) left left_now bytes s old new a b read h w = absurd w
-printed text (Err OutOfMemory) left left_now bytes s old new a b read h w = absurd w
-printed text (Err ReadFailed) left left_now bytes s old new a b read h w = absurd w
-printed text (Err NormalTooLong) left left_now bytes s old new a b read h w = absurd w
+writes_text_prints text (Ok x) left left_now bytes s old new a b read h w = (s, known_said left left_now bytes s read h, w.0)
+writes_text_prints text (Err WriteFailed) left left_now bytes s old new a b read h w = (s, known_said left left_now bytes s read h, w.0)
+writes_text_prints text (Err (Refused cause place)) left left_now bytes s old new a b read h w = absurd w
+writes_text_prints text (Err OutOfMemory) left left_now bytes s old new a b read h w = absurd w
+writes_text_prints text (Err ReadFailed) left left_now bytes s old new a b read h w = absurd w
+writes_text_prints text (Err NormalTooLong) left left_now bytes s old new a b read h w = absurd w
 
 -- the bytes that were read have no meaning
 pub not_printed : (A : Type 0) (text : Said → List ℕ) (fault : Fault) (left left_now : Option (List ℕ)) (bytes : List ℕ) (lacking : ℕ)

@@ -27,16 +27,16 @@ all_of held now form t l =
 
 -- The writer began at the start of a slice of the form's length, and found it full if a call failed. So it has written the whole
 -- form.
-pub filled : {A E : Type 0} (r : Result A E) (f g : Filling) (slice : ℕ) (old form : List ℕ) → length old ≡ length form
+pub filling_now_form : {A E : Type 0} (r : Result A E) (f g : Filling) (slice : ℕ) (old form : List ℕ) → length old ≡ length form
     → f.room.ghost_name ≡ slice → f.room.now ≡ old → f.held ≡ 0 → f.refusals ≡ 0
     → Writes r (Some (told_in f)) (Some (told_in g)) form → Counts r (refused_in f) (refused_in g)
     → (g.room.ghost_name ≡ slice) × (g.room.now ≡ form)
-filled (Ok x) f g slice old form fits s o h z w c =
+filling_now_form (Ok x) f g slice old form fits s o h z w c =
     let all : told_in g ≡ slice ∷ length old ∷ form = rw (h, o, s) at w in
     let front : take g.held g.room.now ≡ form = cc in
     let size : length g.room.now ≡ length old = cc in
     (cc, all_of g.held g.room.now form front (size ∙ fits))
-filled (Err x) f g slice old form fits s o h z w c =
+filling_now_form (Err x) f g slice old form fits s o h z w c =
     let n = w.0 in
     let all : told_in g ≡ slice ∷ length old ∷ take n form = rw (h, o, s) at w.2 in
     let front : take g.held g.room.now ≡ take n form = cc in

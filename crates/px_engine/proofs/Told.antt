@@ -28,8 +28,8 @@ module _ (one : OneSaid) (says : NormalSays) where
     again = λ t x. ap normal (one n t s x (form_says s n f h)) ∙ sym h.1;
   }
 
-  pub told : (f g m n : List ℕ) (s t : Said) → IsFormOf f s m → IsFormOf g t n → Headline f g m n
-  told f g m n s t h k = record {
+  pub headline_of_forms : (f g m n : List ℕ) (s t : Said) → IsFormOf f s m → IsFormOf g t n → Headline f g m n
+  headline_of_forms f g m n s t h k = record {
     first = s;
     second = t;
     first_form = h;
@@ -50,7 +50,8 @@ module _ (one : OneSaid) (says : NormalSays) where
     normal y.0,
     x.2,
     y.2,
-    told f g (normal x.0) (normal y.0) x.0 y.0 (x.1, refl, subst (λ z. z ≤ limit) x.3 x.4) (y.1, refl, subst (λ z. z ≤ limit) y.3 y.4),
+    headline_of_forms f g (normal x.0) (normal y.0) x.0 y.0 (x.1, refl, subst (λ z. z ≤ limit) x.3 x.4)
+        (y.1, refl, subst (λ z. z ≤ limit) y.3 y.4),
   )
 
 pub comparing_tells : ComparingTells

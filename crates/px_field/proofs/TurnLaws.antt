@@ -13,7 +13,7 @@ use Rattle.std.proofs.lemmas.Slice.{take-put_mid}
 use borrow.Rule.Slice.PartMut.{put_mid}
 use Rattle.px_bytes.specs.declared.Order.{Order}
 use Rattle.px_bytes.specs.Numbers.{number, spelling, AreBytes}
-use Rattle.px_bytes.specs.lemmas.NumberLaws.{number-lt, length-spelling}
+use Rattle.px_bytes.specs.lemmas.NumberLaws.{number_lt, length_spelling}
 use Rattle.px_bytes.specs.Parts.{pieces}
 use Rattle.px_field.specs.declared.forms.Form.{Form}
 use Rattle.px_field.specs.declared.forms.Form.TheVariants as form
@@ -24,9 +24,9 @@ use Rattle.px_field.specs.Values.{Value, spell, spelled, element_of, widened, Is
 use Rattle.px_field.specs.calls.Views.{shown}
 use Rattle.px_field.specs.calls.Turning.{width_of, read_by, turned}
 use Rattle.px_field.specs.lemmas.PieceLaws.{bytes_take, bytes_drop}
-use Rattle.px_field.specs.lemmas.ElementLaws.{spell-element_of, size-pos}
-use Rattle.px_field.specs.lemmas.ValueLaws.{length-spelled}
-use Rattle.px_field.proofs.ViewLemmas.{length-shown, size-shown, IsValue-shown, spelled-one}
+use Rattle.px_field.specs.lemmas.ElementLaws.{spell_element_of, size_pos}
+use Rattle.px_field.specs.lemmas.ValueLaws.{length_spelled}
+use Rattle.px_field.proofs.ViewLemmas.{length_shown, size_shown, IsValue_shown, spelled_one}
 
 -- ---- pieces
 
@@ -69,13 +69,13 @@ turn_more f k i at a m n j from to ys e y h p l s =
     ∙ ap (λ t. flat_map f (pieces t k from)) (sym s)
 
 pub length_pair : (o : Order) (n d : ℕ) → length (spelling o 4 n ++ spelling o 4 d) ≡ 8
-length_pair o n d = length-append (spelling o 4 n) (spelling o 4 d) ∙ ap₂ (λ x y. x + y) (length-spelling o 4 n) (length-spelling o 4 d)
+length_pair o n d = length-append (spelling o 4 n) (spelling o 4 d) ∙ ap₂ (λ x y. x + y) (length_spelling o 4 n) (length_spelling o 4 d)
 
 -- bytes are their own pieces
-pub ones : (r o : Order) (n : ℕ) (x : List ℕ) → n ≤ length x → flat_map (turned width.One r o) (pieces n 1 x) ≡ take n x
-ones r o zero x h = refl
-ones r o (suc n) [] h = absurd (omega arith)
-ones r o (suc n) (b ∷ x) h = ap (λ l. b ∷ l) (ones r o n x (omega arith))
+pub turned_ones : (r o : Order) (n : ℕ) (x : List ℕ) → n ≤ length x → flat_map (turned width.One r o) (pieces n 1 x) ≡ take n x
+turned_ones r o zero x h = refl
+turned_ones r o (suc n) [] h = absurd (omega arith)
+turned_ones r o (suc n) (b ∷ x) h = ap (λ l. b ∷ l) (turned_ones r o n x (omega arith))
 
 -- ---- elements by their bytes
 
@@ -86,17 +86,17 @@ turned_piece r o form.Long p l h = refl
 turned_piece r o form.Float p l h = refl
 turned_piece r o form.Rational p l h = refl
 turned_piece r o form.Double p l h = refl
-turned_piece r o form.SShort p l h = ap (spelling o 2) (of_z-to_z w16 (number r 2 p) (let b = number-lt r 2 p h in b))
-turned_piece r o form.SLong p l h = ap (spelling o 4) (of_z-to_z w32 (number r 4 p) (let b = number-lt r 4 p h in b))
+turned_piece r o form.SShort p l h = ap (spelling o 2) (of_z-to_z w16 (number r 2 p) (let b = number_lt r 2 p h in b))
+turned_piece r o form.SLong p l h = ap (spelling o 4) (of_z-to_z w32 (number r 4 p) (let b = number_lt r 4 p h in b))
 turned_piece r o form.SRational p l h =
     ap₂ (λ a b. spelling o 4 a ++ spelling o 4 b)
-    (of_z-to_z w32 (number r 4 (take 4 p)) (let b = number-lt r 4 (take 4 p) (bytes_take 4 p h) in b))
-    (of_z-to_z w32 (number r 4 (drop 4 p)) (let b = number-lt r 4 (drop 4 p) (bytes_drop 4 p h) in b))
-turned_piece r o form.Byte p l h = spell-element_of r form.Byte p l h
-turned_piece r o form.Ascii p l h = spell-element_of r form.Ascii p l h
-turned_piece r o form.SByte p l h = spell-element_of r form.SByte p l h
-turned_piece r o form.Undefined p l h = spell-element_of r form.Undefined p l h
-turned_piece r o form.Utf8 p l h = spell-element_of r form.Utf8 p l h
+    (of_z-to_z w32 (number r 4 (take 4 p)) (let b = number_lt r 4 (take 4 p) (bytes_take 4 p h) in b))
+    (of_z-to_z w32 (number r 4 (drop 4 p)) (let b = number_lt r 4 (drop 4 p) (bytes_drop 4 p h) in b))
+turned_piece r o form.Byte p l h = spell_element_of r form.Byte p l h
+turned_piece r o form.Ascii p l h = spell_element_of r form.Ascii p l h
+turned_piece r o form.SByte p l h = spell_element_of r form.SByte p l h
+turned_piece r o form.Undefined p l h = spell_element_of r form.Undefined p l h
+turned_piece r o form.Utf8 p l h = spell_element_of r form.Utf8 p l h
 
 wide_piece : (r o : Order) (f : Form) (p : List ℕ) → IsWhole f → spell o (widened (element_of r f p)) ≡ turned (width_of true f) r o p
 wide_piece r o form.Short p h = refl
@@ -172,8 +172,8 @@ pub spelled_element : (w : Bool) (r o : Order) (f : Form) (raw : List ℕ) → (
 unfolding spelled
 spelled_element w r o f raw whole are e =
     let one : length raw ≡ 1 * size f = omega (arith, e) in
-    let count : count_in f raw ≡ 1 = ap (λ (n : ℕ). n / size f) one ∙ mul-div_cancel 1 (size-pos f) in
-    ap (flat_map (spell o)) (sym (take_all 1 (shown w r f raw).elements (omega (arith, length-shown w r f raw, count))))
+    let count : count_in f raw ≡ 1 = ap (λ (n : ℕ). n / size f) one ∙ mul-div_cancel 1 (size_pos f) in
+    ap (flat_map (spell o)) (sym (take_all 1 (shown w r f raw).elements (omega (arith, length_shown w r f raw, count))))
     ∙ part_shown w r o f raw 1 0 0 whole are (omega arith) (omega (arith, count)) (omega (arith, e))
     ∙ append-nil (turned (width_of w f) r o (take (size f) raw))
     ∙ ap (turned (width_of w f) r o) (take_all (size f) raw (omega (arith, e)))
@@ -192,7 +192,7 @@ pair_size f e = sym (read_size false f (λ h. absurd (cc))) ∙ ap read_by e
 pub pair_raw : (w : Bool) (r o : Order) (f : Form) (raw : List ℕ) → (w ≡ true → IsWhole f) → length raw % size f ≡ 0 → AreBytes raw
     → width_of false f ≡ width.Pair → length (spelled o (shown w r f raw)) ≡ 8 → length raw ≡ 8
 pair_raw w r o f raw whole rest are e long =
-    sym (size-shown w r f raw rest (pair_plain w f whole e)) ∙ sym (length-spelled o (shown w r f raw) (IsValue-shown w r f raw whole are))
+    sym (size_shown w r f raw rest (pair_plain w f whole e)) ∙ sym (length_spelled o (shown w r f raw) (IsValue_shown w r f raw whole are))
     ∙ long
 
 pub pair_spelled : (w : Bool) (r o : Order) (f : Form) (raw : List ℕ) → (w ≡ true → IsWhole f) → AreBytes raw
@@ -214,7 +214,7 @@ pub short_padded : (w : Bool) (r o : Order) (f : Form) (raw : List ℕ) → f �
     → turned width.Two r o raw ++ 0 ∷ 0 ∷ [] ≡ Padded o (shown w r f raw)
 short_padded false r o form.Short raw s plain long are =
     padded_at o (shown false r form.Short raw) (turned width.Two r o raw) 2
-    (spelled_element false r o form.Short raw (λ h. absurd (cc)) are long) (length-spelling o 2 _)
+    (spelled_element false r o form.Short raw (λ h. absurd (cc)) are long) (length_spelling o 2 _)
 short_padded true r o _ raw s plain long are = absurd (cc)
 short_padded false r o _ raw s plain long are = absurd (cc)
 
@@ -226,11 +226,11 @@ long_padded w r o f raw is long whole are = rw is (at w (subst (λ (g : Form). w
     at true h =
         sym (append-nil (turned width.Four r o raw))
         ∙ padded_at o (shown true r form.Long raw) (turned width.Four r o raw) 4 (spelled_element true r o form.Long raw h are long)
-        (length-spelling o 4 _)
+        (length_spelling o 4 _)
     at false h =
         sym (append-nil (turned width.Four r o raw))
         ∙ padded_at o (shown false r form.Long raw) (turned width.Four r o raw) 4 (spelled_element false r o form.Long raw h are long)
-        (length-spelling o 4 _)
+        (length_spelling o 4 _)
 
 -- at most four bytes, then zeros
 pub four_bytes : (x : List ℕ) → length x ≤ 4
@@ -245,7 +245,7 @@ four_bytes (a ∷ b ∷ c ∷ d ∷ e ∷ x) h = absurd (omega arith)
 
 pub bytes_padded : (w : Bool) (r o : Order) (f : Form) (raw : List ℕ) → (w ≡ true → IsWhole f) → size f ≡ 1
     → raw ++ replicate (4 - length raw) 0 ≡ Padded o (shown w r f raw)
-bytes_padded w r o f raw whole one = padded_at o (shown w r f raw) raw (length raw) (spelled-one w r o f raw whole one) refl
+bytes_padded w r o f raw whole one = padded_at o (shown w r f raw) raw (length raw) (spelled_one w r o f raw whole one) refl
 
 -- ---- how many elements fit
 

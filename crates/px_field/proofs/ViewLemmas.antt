@@ -17,8 +17,8 @@ use Rattle.px_field.specs.declared.forms.Element.TheVariants as element
 use Rattle.px_field.specs.Forms.{size}
 use Rattle.px_field.specs.Values.{elements, widened, count_in, form_in, IsValue, IsWhole, IsOf, Value, is_bytes, spell, spelled, value_in}
 use Rattle.px_field.specs.Values.{whole_in}
-use Rattle.px_field.specs.lemmas.ValueLaws.{length-elements, IsValue-value_in, IsValue-whole_in, count_in-whole, elements-bytes}
-use Rattle.px_field.specs.lemmas.ValueLaws.{spell-bytes, spelled-value_in, spelled-whole_in, value_in-spelled, whole_in-spelled}
+use Rattle.px_field.specs.lemmas.ValueLaws.{length_elements, IsValue_value_in, IsValue_whole_in, count_in_whole, elements_bytes}
+use Rattle.px_field.specs.lemmas.ValueLaws.{spell_bytes, spelled_value_in, spelled_whole_in, value_in_spelled, whole_in_spelled}
 use Rattle.px_field.specs.calls.Views.{shown}
 
 -- the bytes contain the element
@@ -29,29 +29,29 @@ element_fits i n f h =
     omega arith
 
 -- as many elements as the bytes contain
-pub length-shown : (w : Bool) (o : Order) (f : Form) (raw : List ℕ) → length (shown w o f raw).elements ≡ count_in f raw
-length-shown true o f raw = length-map (elements o f (count_in f raw) raw) widened ∙ length-elements o f (count_in f raw) raw
-length-shown false o f raw = length-elements o f (count_in f raw) raw
+pub length_shown : (w : Bool) (o : Order) (f : Form) (raw : List ℕ) → length (shown w o f raw).elements ≡ count_in f raw
+length_shown true o f raw = length-map (elements o f (count_in f raw) raw) widened ∙ length_elements o f (count_in f raw) raw
+length_shown false o f raw = length_elements o f (count_in f raw) raw
 
 -- in their ranges
-pub IsValue-shown : (w : Bool) (o : Order) (f : Form) (raw : List ℕ) → (w ≡ true → IsWhole f) → AreBytes raw → IsValue (shown w o f raw)
-IsValue-shown true o f raw whole are = IsValue-whole_in o f raw (whole refl) are
-IsValue-shown false o f raw whole are = IsValue-value_in o f raw are
+pub IsValue_shown : (w : Bool) (o : Order) (f : Form) (raw : List ℕ) → (w ≡ true → IsWhole f) → AreBytes raw → IsValue (shown w o f raw)
+IsValue_shown true o f raw whole are = IsValue_whole_in o f raw (whole refl) are
+IsValue_shown false o f raw whole are = IsValue_value_in o f raw are
 
 -- the element at i, widened or not
-pub get-whole : (o : Order) (f : Form) (raw : List ℕ) (i : ℕ) (e : Element) → slice_get (elements o f (count_in f raw) raw) i ≡ Some e
+pub get_whole : (o : Order) (f : Form) (raw : List ℕ) (i : ℕ) (e : Element) → slice_get (elements o f (count_in f raw) raw) i ≡ Some e
     → slice_get (shown true o f raw).elements i ≡ Some (widened e)
-get-whole o f raw i e h = slice_get-map widened (elements o f (count_in f raw) raw) i ∙ ap (option_map widened) h
+get_whole o f raw i e h = slice_get-map widened (elements o f (count_in f raw) raw) i ∙ ap (option_map widened) h
 
 -- the size of the value
-pub size-shown : (w : Bool) (o : Order) (f : Form) (raw : List ℕ) → length raw % size f ≡ 0 → w ≡ false
+pub size_shown : (w : Bool) (o : Order) (f : Form) (raw : List ℕ) → length raw % size f ≡ 0 → w ≡ false
     → length (shown w o f raw).elements * size (form_in (shown w o f raw).kind) ≡ length raw
-size-shown true o f raw whole e = absurd (cc)
-size-shown false o f raw whole e = ap (λ (n : ℕ). n * size f) (length-elements o f (count_in f raw) raw) ∙ count_in-whole f raw whole
+size_shown true o f raw whole e = absurd (cc)
+size_shown false o f raw whole e = ap (λ (n : ℕ). n * size f) (length_elements o f (count_in f raw) raw) ∙ count_in_whole f raw whole
 
-pub size-whole : (w : Bool) (o : Order) (f : Form) (raw : List ℕ) → w ≡ true → size (form_in (shown w o f raw).kind) ≡ 4
-size-whole true o f raw e = refl
-size-whole false o f raw e = absurd (cc)
+pub size_whole : (w : Bool) (o : Order) (f : Form) (raw : List ℕ) → w ≡ true → size (form_in (shown w o f raw).kind) ≡ 4
+size_whole true o f raw e = refl
+size_whole false o f raw e = absurd (cc)
 
 -- a byte type is not widened, and its elements are the bytes
 pub bytes_shown : (w : Bool) (o : Order) (f : Form) (raw : List ℕ) → (w ≡ true → IsWhole f) → is_bytes (kind.Of f) ≡ true
@@ -59,23 +59,23 @@ pub bytes_shown : (w : Bool) (o : Order) (f : Form) (raw : List ℕ) → (w ≡ 
 bytes_shown true o form.Short raw whole b = absurd (cc)
 bytes_shown true o form.Long raw whole b = absurd (cc)
 bytes_shown true o _ raw whole b = absurd (whole refl)
-bytes_shown false o f raw whole b = elements-bytes o f raw b
+bytes_shown false o f raw whole b = elements_bytes o f raw b
 
 -- an element of the value is of its kind
-pub IsOf-shown : (w : Bool) (o : Order) (f : Form) (raw : List ℕ) (v : Value) (i : ℕ) (e : Element) → (w ≡ true → IsWhole f) → AreBytes raw
+pub IsOf_shown : (w : Bool) (o : Order) (f : Form) (raw : List ℕ) (v : Value) (i : ℕ) (e : Element) → (w ≡ true → IsWhole f) → AreBytes raw
     → shown w o f raw ≡ v → slice_get v.elements i ≡ Some e → IsOf (form_in v.kind) e
-IsOf-shown w o f raw v i e whole are seen here =
-    let is : IsValue v = rw (← seen) (IsValue-shown w o f raw whole are) in
+IsOf_shown w o f raw v i e whole are seen here =
+    let is : IsValue v = rw (← seen) (IsValue_shown w o f raw whole are) in
     all_at (IsOf (form_in v.kind)) v.elements i e is here
 
 -- ---- encoding a decoded value returns its bytes
 
 -- in either order, if an element is one byte
-pub spelled-one : (w : Bool) (o p : Order) (f : Form) (raw : List ℕ) → (w ≡ true → IsWhole f) → size f ≡ 1
+pub spelled_one : (w : Bool) (o p : Order) (f : Form) (raw : List ℕ) → (w ≡ true → IsWhole f) → size f ≡ 1
     → spelled p (shown w o f raw) ≡ raw
 unfolding spelled
-spelled-one w o p f raw whole one =
-    ap (λ (es : List Element). flat_map (spell p) es) (bytes_shown w o f raw whole (bytes_from_size f one)) ∙ spell-bytes p raw
+spelled_one w o p f raw whole one =
+    ap (λ (es : List Element). flat_map (spell p) es) (bytes_shown w o f raw whole (bytes_from_size f one)) ∙ spell_bytes p raw
   where
     bytes_from_size : (f : Form) → size f ≡ 1 → is_bytes (kind.Of f) ≡ true
     bytes_from_size form.Byte e = refl
@@ -86,22 +86,22 @@ spelled-one w o p f raw whole one =
     bytes_from_size _ e = absurd (omega arith)
 
 -- in the order of reading, if they aren't widened
-pub spelled-plain : (w : Bool) (o p : Order) (f : Form) (raw : List ℕ) → w ≡ false → o ≡ p → length raw % size f ≡ 0 → AreBytes raw
+pub spelled_plain : (w : Bool) (o p : Order) (f : Form) (raw : List ℕ) → w ≡ false → o ≡ p → length raw % size f ≡ 0 → AreBytes raw
     → spelled p (shown w o f raw) ≡ raw
-spelled-plain true o p f raw plain same whole are = absurd (cc)
-spelled-plain false o p f raw plain same whole are = rw same (spelled-value_in p f raw whole are)
+spelled_plain true o p f raw plain same whole are = absurd (cc)
+spelled_plain false o p f raw plain same whole are = rw same (spelled_value_in p f raw whole are)
 
 -- for LONGs, widened or not
-pub spelled-long : (w : Bool) (o p : Order) (f : Form) (raw : List ℕ) → f ≡ form.Long → o ≡ p → length raw % size f ≡ 0 → AreBytes raw
+pub spelled_long : (w : Bool) (o p : Order) (f : Form) (raw : List ℕ) → f ≡ form.Long → o ≡ p → length raw % size f ≡ 0 → AreBytes raw
     → spelled p (shown w o f raw) ≡ raw
-spelled-long true o p f raw long same whole are =
-    rw (same, long) (spelled-whole_in p raw (subst (λ (g : Form). length raw % size g ≡ 0) long whole) are)
-spelled-long false o p f raw long same whole are = spelled-plain false o p f raw refl same whole are
+spelled_long true o p f raw long same whole are =
+    rw (same, long) (spelled_whole_in p raw (subst (λ (g : Form). length raw % size g ≡ 0) long whole) are)
+spelled_long false o p f raw long same whole are = spelled_plain false o p f raw refl same whole are
 
 -- values of one kind with the same encoding are the same
 pub same_spelled : (o : Order) (a b : Value) → a.kind ≡ b.kind → IsValue a → IsValue b → spelled o a ≡ spelled o b → a ≡ b
 same_spelled o a b k h j e = go a.kind refl
   where
     go : (t : Kind) → a.kind ≡ t → a ≡ b
-    go (kind.Of f) s = sym (value_in-spelled o f a s h) ∙ ap (value_in o f) e ∙ value_in-spelled o f b (sym k ∙ s) j
-    go kind.Whole s = sym (whole_in-spelled o a s h) ∙ ap (whole_in o form.Long) e ∙ whole_in-spelled o b (sym k ∙ s) j
+    go (kind.Of f) s = sym (value_in_spelled o f a s h) ∙ ap (value_in o f) e ∙ value_in_spelled o f b (sym k ∙ s) j
+    go kind.Whole s = sym (whole_in_spelled o a s h) ∙ ap (whole_in o form.Long) e ∙ whole_in_spelled o b (sym k ∙ s) j

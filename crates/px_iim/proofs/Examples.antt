@@ -26,26 +26,27 @@ abbrev ascending : Record
 ascending = keywords ((25, 97 ∷ []) ∷ (25, 98 ∷ []) ∷ [])
 
 -- order counts inside a group alone
-between : iim_of (keyword 97 ++ caption ++ keyword 98) ≡ Some ascending
+caption_between : iim_of (keyword 97 ++ caption ++ keyword 98) ≡ Some ascending
 unfolding opened keyword caption
-between = refl
+caption_between = refl
 
-behind : iim_of (keyword 97 ++ keyword 98 ++ caption) ≡ Some ascending
+caption_behind : iim_of (keyword 97 ++ keyword 98 ++ caption) ≡ Some ascending
 unfolding opened keyword caption
-behind = refl
+caption_behind = refl
 
 other_order : iim_of (keyword 98 ++ keyword 97 ++ caption) ≡ Some (keywords ((25, 98 ∷ []) ∷ (25, 97 ∷ []) ∷ []))
 unfolding opened keyword caption
 other_order = refl
 
-normal : normal_iim ascending ≡ keyword 97 ++ keyword 98 ++ caption
+ascending_normal : normal_iim ascending ≡ keyword 97 ++ keyword 98 ++ caption
 unfolding opened keyword caption
-normal = refl
+ascending_normal = refl
 
 -- repeats are kept
-repeated : iim_of (keyword 97 ++ keyword 97) ≡ Some (record { rec = 2; number = 25; items = (25, 97 ∷ []) ∷ (25, 97 ∷ []) ∷ [] } ∷ [])
+keyword_repeated : iim_of (keyword 97 ++ keyword 97) ≡ Some (record
+    { rec = 2; number = 25; items = (25, 97 ∷ []) ∷ (25, 97 ∷ []) ∷ [] } ∷ [])
 unfolding opened keyword
-repeated = refl
+keyword_repeated = refl
 
 -- a by-line's title is among the by-lines
 abbrev byline : ℕ → List ℕ
@@ -71,26 +72,26 @@ abc = record { rec = 2; number = 120; items = (120, 97 ∷ 98 ∷ 99 ∷ []) ∷
 abbrev standard : List ℕ
 standard = 0x1C ∷ 2 ∷ 0x78 ∷ 0 ∷ 3 ∷ 97 ∷ 98 ∷ 99 ∷ []
 
-extended : iim_of (0x1C ∷ 2 ∷ 0x78 ∷ 0x80 ∷ 4 ∷ 0 ∷ 0 ∷ 0 ∷ 3 ∷ 97 ∷ 98 ∷ 99 ∷ []) ≡ Some abc
+caption_extended : iim_of (0x1C ∷ 2 ∷ 0x78 ∷ 0x80 ∷ 4 ∷ 0 ∷ 0 ∷ 0 ∷ 3 ∷ 97 ∷ 98 ∷ 99 ∷ []) ≡ Some abc
 unfolding opened
-extended = refl
+caption_extended = refl
 
-plain : iim_of standard ≡ Some abc
+caption_plain : iim_of standard ≡ Some abc
 unfolding opened
-plain = refl
+caption_plain = refl
 
-padded : iim_of (standard ++ 0 ∷ 0 ∷ 0 ∷ []) ≡ Some abc
+caption_padded : iim_of (standard ++ 0 ∷ 0 ∷ 0 ∷ []) ≡ Some abc
 unfolding opened
-padded = refl
+caption_padded = refl
 
 normal_caption : normal_iim abc ≡ standard
 unfolding opened
 normal_caption = refl
 
 -- no data
-empty : iim_of (0x1C ∷ 2 ∷ 0x78 ∷ 0 ∷ 0 ∷ []) ≡ Some (record { rec = 2; number = 120; items = (120, []) ∷ [] } ∷ [])
+caption_empty : iim_of (0x1C ∷ 2 ∷ 0x78 ∷ 0 ∷ 0 ∷ []) ≡ Some (record { rec = 2; number = 120; items = (120, []) ∷ [] } ∷ [])
 unfolding opened
-empty = refl
+caption_empty = refl
 
 -- the longest standard count, and the shortest extended one of a normal form
 longest_standard : normal_count 32767 ≡ 0x7F ∷ 0xFF ∷ []
@@ -110,9 +111,9 @@ four_zeros : first (standard ++ 0 ∷ 0 ∷ 0 ∷ 0 ∷ []) ≡ Some (NoMarker, 
 unfolding opened
 four_zeros = refl
 
-nothing : first [] ≡ Some (NoMarker, 0)
+first_of_nothing : first [] ≡ Some (NoMarker, 0)
 unfolding opened
-nothing = refl
+first_of_nothing = refl
 
 one_zero : first (0 ∷ []) ≡ Some (NoMarker, 0)
 unfolding opened

@@ -12,52 +12,53 @@ use Rattle.px_jobs.specs.Endings.{TellsWritten, TellsCompared}
 use Rattle.px_jobs.specs.Laws.{FormsTell, ComparisonTells}
 
 -- the status is the given one, or 4
-told : (due : ℕ) (line : List ℕ) (status : ℕ) (lines : Device) → 1 < due → status < 2 → Tells due line status lines → ⊥
-told due line status lines p q (inl t) = let e = t.0 in absurd (omega arith)
-told due line status lines p q (inr t) = let e = t.0 in absurd (omega arith)
+status_not_told : (due : ℕ) (line : List ℕ) (status : ℕ) (lines : Device) → 1 < due → status < 2 → Tells due line status lines → ⊥
+status_not_told due line status lines p q (inl t) = let e = t.0 in absurd (omega arith)
+status_not_told due line status lines p q (inr t) = let e = t.0 in absurd (omega arith)
 
 -- no fault has status 0 or 1
 no_fault : (e : Fault) (file : Option Side) (status : ℕ) (lines : Device) → status < 2 → TellsFault e file status lines → ⊥
-no_fault (Refused cause place) file status lines q t = told _ _ status lines (omega arith) q t
-no_fault NormalTooLong file status lines q t = told _ _ status lines (omega arith) q t
-no_fault OutOfMemory file status lines q t = told _ _ status lines (omega arith) q t
-no_fault ReadFailed file status lines q t = told _ _ status lines (omega arith) q t
-no_fault WriteFailed file status lines q t = told _ _ status lines (omega arith) q t
+no_fault (Refused cause place) file status lines q t = status_not_told _ _ status lines (omega arith) q t
+no_fault NormalTooLong file status lines q t = status_not_told _ _ status lines (omega arith) q t
+no_fault OutOfMemory file status lines q t = status_not_told _ _ status lines (omega arith) q t
+no_fault ReadFailed file status lines q t = status_not_told _ _ status lines (omega arith) q t
+no_fault WriteFailed file status lines q t = status_not_told _ _ status lines (omega arith) q t
 
 -- a run with status 0 is done
-done : (r : Result ℕ Fault) (file old new : Option (List ℕ)) (lines : Device) → Normalises r file old new → TellsWritten r 0 lines
+written_normalises : (r : Result ℕ Fault) (file old new : Option (List ℕ)) (lines : Device) → Normalises r file old new
+    → TellsWritten r 0 lines
     → (n : ℕ) × Normalises (Ok n) file old new
-done (Ok n) file old new lines x t = (n, x)
-done (Err e) file old new lines x t = absurd (no_fault e _ 0 lines (omega arith) t)
+written_normalises (Ok n) file old new lines x t = (n, x)
+written_normalises (Err e) file old new lines x t = absurd (no_fault e _ 0 lines (omega arith) t)
 
 pub forms_tell : RunsTell → FormsTell
 forms_tell law f g reader out lines other_reader other_out other_lines a b c d p q x y =
-    let h = done x.0 (Some f) out.old out.new lines (subst (λ o. Normalises x.0 o out.old out.new) p x.1) x.5 in
-    let k = done y.0 (Some g) other_out.old other_out.new other_lines
+    let h = written_normalises x.0 (Some f) out.old out.new lines (subst (λ o. Normalises x.0 o out.old out.new) p x.1) x.5 in
+    let k = written_normalises y.0 (Some g) other_out.old other_out.new other_lines
     (subst (λ o. Normalises y.0 o other_out.old other_out.new) q y.1) y.5 in
     law f g h.0 k.0 out.old out.new other_out.old other_out.new h.1 k.1
 
 -- status 0 or 1 is no other
-apart : {A B : Type 0} (due status : ℕ) → 1 < due → status ≡ due → (status ≡ 0 → A) × (status ≡ 1 → B)
-apart due status p e = (λ q. absurd (omega arith), λ q. absurd (omega arith))
+status_apart : {A B : Type 0} (due status : ℕ) → 1 < due → status ≡ due → (status ≡ 0 → A) × (status ≡ 1 → B)
+status_apart due status p e = (λ q. absurd (omega arith), λ q. absurd (omega arith))
 
 -- a comparison that ends with status 0 or 1 has a result
-compared : (law : ComparingTells) (r : Result Bool CompareFault) (f g m n : List ℕ) (lines : Device) (status : ℕ) → Headline f g m n
+status_compared : (law : ComparingTells) (r : Result Bool CompareFault) (f g m n : List ℕ) (lines : Device) (status : ℕ) → Headline f g m n
     → Compares r (Some f) (Some g) → TellsCompared r status lines → (status ≡ 0 → m ≡ n) × (status ≡ 1 → m ≡ n → ⊥)
-compared law (Ok true) f g m n lines status h c (inl t) = (
+status_compared law (Ok true) f g m n lines status h c (inl t) = (
   λ _. (law f g m n true h c).0 refl,
   λ e. let d = t.0 in absurd (omega arith),
 )
-compared law (Ok false) f g m n lines status h c (inl t) = (
+status_compared law (Ok false) f g m n lines status h c (inl t) = (
   λ e. let d = t.0 in absurd (omega arith),
   λ _ e. let clash : false ≡ true = (law f g m n false h c).1 e in absurd (cc),
 )
-compared law (Ok true) f g m n lines status h c (inr t) = apart 4 status (omega arith) t.0
-compared law (Ok false) f g m n lines status h c (inr t) = apart 4 status (omega arith) t.0
-compared law (Err x) f g m n lines status h c t =
+status_compared law (Ok true) f g m n lines status h c (inr t) = status_apart 4 status (omega arith) t.0
+status_compared law (Ok false) f g m n lines status h c (inr t) = status_apart 4 status (omega arith) t.0
+status_compared law (Err x) f g m n lines status h c t =
     (λ e. absurd (no_fault x.fault _ status lines (omega arith) t), λ e. absurd (no_fault x.fault _ status lines (omega arith) t))
 
 pub comparison_tells : ComparingTells → ComparisonTells
 comparison_tells law f g m n first second lines a b status h p q x =
-    compared law x.0 f g m n lines status h
+    status_compared law x.0 f g m n lines status h
     (subst (λ o. Compares x.0 o (Some g)) p (subst (λ o. Compares x.0 first.old o) q x.1)) x.4

@@ -42,16 +42,17 @@ module _ (v w x y z : List ℕ) (a b c d e : Option (List ℕ)) (h i j k l : Lis
             (puts_both r b c f i j m w (x ++ (y ++ z)) two (puts_both r c d f j k m x (y ++ z) three (puts_both r d e f k l m y z four p)))
 
 -- the buffer was empty; the bytes were added, and the buffer was then written
-pub sent : {A E : Type 0} (r : Result A E) (a b c : Option (List ℕ)) (h k out : List ℕ) → h ≡ [] → Owes a b k (h ++ out) → Writes r b c k
+pub owes_written : {A E : Type 0} (r : Result A E) (a b c : Option (List ℕ)) (h k out : List ℕ) → h ≡ [] → Owes a b k (h ++ out)
+    → Writes r b c k
     → Writes r a c out
-sent (Ok x) a b c h k out none p w = from_none (Appends a c) h out none (owed_all a b c k (h ++ out) p w)
-sent (Err x) a b c h k out none p w = from_none (AppendsPrefix a c) h out none (owed_prefix a b c k (h ++ out) p w)
+owes_written (Ok x) a b c h k out none p w = from_none (Appends a c) h out none (owed_all a b c k (h ++ out) p w)
+owes_written (Err x) a b c h k out none p w = from_none (AppendsPrefix a c) h out none (owed_prefix a b c k (h ++ out) p w)
 
 -- a line that was written, and then a flush
-pub told : (due : ℕ) (line : List ℕ) (status failed mid now : ℕ) (old written new : Option (List ℕ)) → mid ≡ failed
+pub flushes_tells : (due : ℕ) (line : List ℕ) (status failed mid now : ℕ) (old written new : Option (List ℕ)) → mid ≡ failed
     → Appends old written line
     → Flushes due status (device mid now written new) → Tells due line status (device failed now old new)
-told due line status failed mid now old written new same h f = elim f [
+flushes_tells due line status failed mid now old written new same h f = elim f [
   | inl f ↦ inl (f.0, f.1 ∙ same, appends_kept old written new line h f.2)
   | inr f ↦ inr (f.0, f.1 ∙ ap (λ n. n + 1) same, prefix_all old new line (appends_kept old written new line h f.2))
 ]

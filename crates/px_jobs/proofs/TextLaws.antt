@@ -14,9 +14,9 @@ use Rattle.px_jobs.specs.calls.Telling.{TellsPrinted}
 use Rattle.px_jobs.proofs.LineLaws.{device}
 
 -- a fault that is reported when nothing of the text was written
-moved : (e : Fault) (status failed mid now : ℕ) (old shown new : Option (List ℕ)) → mid ≡ failed → shown ≡ old
+fault_text_moved : (e : Fault) (status failed mid now : ℕ) (old shown new : Option (List ℕ)) → mid ≡ failed → shown ≡ old
     → TellsFault e None status (device mid now shown new) → TellsFault e None status (device failed now old new)
-moved e status failed mid now old shown new count same t =
+fault_text_moved e status failed mid now old shown new count same t =
     subst (λ (x : ℕ). TellsFault e None status (device x now old new)) count
     (subst (λ (z : Option (List ℕ)). TellsFault e None status (device mid now z new)) same t)
 
@@ -32,15 +32,15 @@ text_told text (Err WriteFailed) file status failed mid now old shown new p w t 
 ]
 text_told text (Err (Refused cause place)) file status failed mid now old shown new p w t = elim t [
   | inl q ↦ let bad : Refused cause place ≡ WriteFailed = q.0 in absurd (cc)
-  | inr q ↦ (p.0, moved (Refused cause place) status failed mid now old shown new w p.1 q.1)
+  | inr q ↦ (p.0, fault_text_moved (Refused cause place) status failed mid now old shown new w p.1 q.1)
 ]
 text_told text (Err OutOfMemory) file status failed mid now old shown new p w t = elim t [
   | inl q ↦ let bad : OutOfMemory ≡ WriteFailed = q.0 in absurd (cc)
-  | inr q ↦ (tt, moved OutOfMemory status failed mid now old shown new w p.1 q.1)
+  | inr q ↦ (tt, fault_text_moved OutOfMemory status failed mid now old shown new w p.1 q.1)
 ]
 text_told text (Err ReadFailed) file status failed mid now old shown new p w t = elim t [
   | inl q ↦ let bad : ReadFailed ≡ WriteFailed = q.0 in absurd (cc)
-  | inr q ↦ (tt, moved ReadFailed status failed mid now old shown new w p.1 q.1)
+  | inr q ↦ (tt, fault_text_moved ReadFailed status failed mid now old shown new w p.1 q.1)
 ]
 text_told text (Err NormalTooLong) file status failed mid now old shown new p w t = absurd p.0
 
@@ -53,8 +53,8 @@ counts_before OutOfMemory failed mid other w = w
 counts_before ReadFailed failed mid other w = w
 
 -- so the writer can be called for a line
-pub room : (r : Result ⊤ Fault) (failed mid : ℕ) → CountsWrites r failed mid → failed + 1 < 2 ^ 64
+pub counts_writes_room : (r : Result ⊤ Fault) (failed mid : ℕ) → CountsWrites r failed mid → failed + 1 < 2 ^ 64
     → (e : Fault) → r ≡ Err e → e ≢ WriteFailed → mid + 1 < 2 ^ 64
-room r failed mid w few e is other =
+counts_writes_room r failed mid w few e is other =
     let now : CountsWrites {A = ⊤} (Err e) failed mid = subst (λ (x : Result ⊤ Fault). CountsWrites x failed mid) is w in
     subst (λ (x : ℕ). x + 1 < 2 ^ 64) (sym (counts_before e failed mid other now)) few

@@ -10,13 +10,14 @@ use Rattle.px_bytes.specs.lemmas.WriteLaws.{prefix_first}
 use Rattle.px_bytes.specs.lemmas.WaitingLaws.{owes_more, owes_stop}
 
 -- one part more
-pub next : (a b c : Option (List ℕ)) (h k m xs ys : List ℕ) → Owes a b k (h ++ xs) → Owes b c m (k ++ ys) → Owes a c m (h ++ (xs ++ ys))
-next a b c h k m xs ys p q = subst (Owes a c m) (append_assoc h xs ys) (owes_more a b c k m (h ++ xs) ys p q)
+pub owes_append : (a b c : Option (List ℕ)) (h k m xs ys : List ℕ) → Owes a b k (h ++ xs) → Owes b c m (k ++ ys)
+    → Owes a c m (h ++ (xs ++ ys))
+owes_append a b c h k m xs ys p q = subst (Owes a c m) (append_assoc h xs ys) (owes_more a b c k m (h ++ xs) ys p q)
 
 -- the last part failed
-pub stop : (a b c : Option (List ℕ)) (h k xs ys : List ℕ) → Owes a b k (h ++ xs) → AppendsPrefix b c (k ++ ys)
+pub owes_prefix : (a b c : Option (List ℕ)) (h k xs ys : List ℕ) → Owes a b k (h ++ xs) → AppendsPrefix b c (k ++ ys)
     → AppendsPrefix a c (h ++ (xs ++ ys))
-stop a b c h k xs ys p q = subst (AppendsPrefix a c) (append_assoc h xs ys) (owes_stop a b c k (h ++ xs) ys p q)
+owes_prefix a b c h k xs ys p q = subst (AppendsPrefix a c) (append_assoc h xs ys) (owes_stop a b c k (h ++ xs) ys p q)
 
 -- ---- the same bytes
 
@@ -34,11 +35,11 @@ owes_as a b h k xs ys e p = subst (λ (z : List ℕ). Owes a b k (h ++ z)) e p
 pub can_fail : (old now : ℕ) → now ≡ old → CanFail old → CanFail now
 can_fail old now e h = subst CanFail (sym e) h
 
-pub fails : (old now new : ℕ) → now ≡ old → new ≡ now + 1 → new ≡ old + 1
-fails old now new e h = h ∙ ap (λ (n : ℕ). n + 1) e
+pub failures_suc : (old now new : ℕ) → now ≡ old → new ≡ now + 1 → new ≡ old + 1
+failures_suc old now new e h = h ∙ ap (λ (n : ℕ). n + 1) e
 
-pub counts : {A E : Type 0} (r : Result A E) (old now new : ℕ) → now ≡ old → Counts r now new → Counts r old new
-counts r old now new e h = subst (λ (n : ℕ). Counts r n new) e h
+pub counts_from_eq : {A E : Type 0} (r : Result A E) (old now new : ℕ) → now ≡ old → Counts r now new → Counts r old new
+counts_from_eq r old now new e h = subst (λ (n : ℕ). Counts r n new) e h
 
 -- ---- a walk: the parts of the elements that are left make the rest
 

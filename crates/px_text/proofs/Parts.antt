@@ -14,7 +14,7 @@ use Rattle.std.proofs.lemmas.Option.{slice_get_within, get_or_from_slice_get, sl
 use Rattle.hex.specs.Hex.{encode_with, encode_lower, lower_digits}
 use Rattle.px_iim.specs.Group.{Group, Record}
 use Rattle.px_text.specs.Listing.{dataset_count}
-use Rattle.px_text.proofs.Chains.{next, stop, owes_as, prefix_as}
+use Rattle.px_text.proofs.Chains.{owes_append, owes_prefix, owes_as, prefix_as}
 use Rattle.px_text.specs.Captions.{Labelled, labelled, group_captions, caption_groups, iim_captions, caption_line, caption_lines}
 
 -- ---- bytes in hexadecimal
@@ -48,14 +48,16 @@ pub hex_next : (a b c : Option (List ℕ)) (h k m xs : List ℕ) (i e : ℕ) →
     → Owes b c m (k ++ encode_lower (take (e - i) (drop i xs)))
     → Owes a c m (h ++ encode_lower (take e xs))
 hex_next a b c h k m xs i e le p q =
-    owes_as a c h m _ _ (piece_behind xs i e le) (next a b c h k m (encode_lower (take i xs)) (encode_lower (take (e - i) (drop i xs))) p q)
+    owes_as a c h m _ _ (piece_behind xs i e le) (owes_append a b c h k m (encode_lower (take i xs))
+        (encode_lower (take (e - i) (drop i xs))) p q)
 
 pub hex_stop : (a b c : Option (List ℕ)) (h k xs : List ℕ) (i e : ℕ) → i ≤ e → Owes a b k (h ++ encode_lower (take i xs))
     → AppendsPrefix b c (k ++ encode_lower (take (e - i) (drop i xs)))
     → AppendsPrefix a c (h ++ encode_lower xs)
 hex_stop a b c h k xs i e le p q =
     prefix_as a c h _ _ (rest_behind xs e) (puts_first a c h (encode_lower (take e xs)) (encode_lower (drop e xs))
-    (prefix_as a c h _ _ (piece_behind xs i e le) (stop a b c h k (encode_lower (take i xs)) (encode_lower (take (e - i) (drop i xs))) p
+    (prefix_as a c h _ _ (piece_behind xs i e le) (owes_prefix a b c h k (encode_lower (take i xs))
+    (encode_lower (take (e - i) (drop i xs))) p
     q)))
 
 -- ---- the parts of a list's elements

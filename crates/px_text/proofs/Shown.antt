@@ -12,7 +12,7 @@ use Rattle.px_field.specs.declared.Kind.TheVariants.{Of, Whole}
 use Rattle.px_field.specs.declared.Element.{Element}
 use Rattle.px_field.specs.declared.Element.TheVariants as element
 use Rattle.px_field.specs.Values.{Value, is_bytes, spell, spelled}
-use Rattle.px_field.specs.lemmas.ValueLaws.{spell-bytes}
+use Rattle.px_field.specs.lemmas.ValueLaws.{spell_bytes}
 use Rattle.px_text.specs.Words.{shown_bytes}
 use Rattle.px_text.specs.Listing.{element_text, divider, shown_elements}
 use Rattle.px_text.specs.Captions.{is_text, is_plain, escaped_byte}
@@ -77,5 +77,5 @@ pub text_bytes : (v : Value) (r : Option (Bor (List ℕ))) → is_text v.kind �
 unfolding spelled
 text_bytes v None t which same = let some : is_some {T = Bor (List ℕ)} None ≡ true = which.1 (text_is_bytes v.kind t) in absurd (cc)
 text_bytes v (Some s) t which same =
-    let all : s.now ≡ spelled Most v = sym (ap (flat_map (spell Most)) same ∙ spell-bytes Most s.now) in
+    let all : s.now ≡ spelled Most v = sym (ap (flat_map (spell Most)) same ∙ spell_bytes Most s.now) in
     ap (λ (l : List ℕ). Some l) all ∙ sym (ap (λ u. if u then Some (spelled Most v) else None) t)

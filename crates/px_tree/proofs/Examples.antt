@@ -215,9 +215,9 @@ pointer_to_main : List ℕ
 pointer_to_main = 0x4D ∷ 0x4D ∷ 0 ∷ 0x2A ∷ 0 ∷ 0 ∷ 0 ∷ 8 ∷ 0 ∷ 1 ∷ 0x87 ∷ 0x69 ∷ 0 ∷ 4 ∷ 0 ∷ 0 ∷ 0 ∷ 1 ∷ 0 ∷ 0 ∷ 0 ∷ 8 ∷ 0 ∷ 0 ∷ 0 ∷ 0 ∷ []
 
 -- the next directory, and a pointer, lead to the main directory
-looped : (first_fault next_to_main ≡ Some (Loop, 22)) × (first_fault pointer_to_main ≡ Some (Loop, 10))
+loops_refused : (first_fault next_to_main ≡ Some (Loop, 22)) × (first_fault pointer_to_main ≡ Some (Loop, 10))
 unfolding first_fault next_to_main pointer_to_main opened
-looped = (refl, refl)
+loops_refused = (refl, refl)
 
 tag_twice : List ℕ
 tag_twice =

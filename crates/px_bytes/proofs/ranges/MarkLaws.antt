@@ -10,8 +10,8 @@ use Rattle.px_bytes.specs.calls.Marks.{Has, IsClear, HasOne, SameMarks, Puts}
 use Rattle.px_bytes.proofs.ranges.BitLaws.{mask_only, some_bit, both_bits}
 
 -- a mark's word and bit
-pub split : (n : ℕ) → (n / 64 * 64 + n % 64 ≡ n) × (n % 64 < 64)
-split n = (div-add-mod' n 64, mod_below n 64 (omega arith))
+pub word_div_mod : (n : ℕ) → (n / 64 * 64 + n % 64 ≡ n) × (n % 64 < 64)
+word_div_mod n = (div-add-mod' n 64, mod_below n 64 (omega arith))
 
 pub has_at : (words : List ℕ) (i k : ℕ) → k < 64 → bit_at (get_or words i 0) k ≡ 1 → Has words (i * 64 + k)
 has_at words i k l h =
@@ -25,7 +25,7 @@ bit_here words i n e h = ap (λ (x : ℕ). bit_at (get_or words x 0) (n % 64)) (
 
 -- an index between two of a word is in that word
 in_word : (i low high n : ℕ) → high ≤ 64 → i * 64 + low ≤ n → n < i * 64 + high → (n / 64 ≡ i) × (low ≤ n % 64) × (n % 64 < high)
-in_word i low high n bound from before = let s = split n in let a = s.0 in let b = s.1 in (omega arith, omega arith, omega arith)
+in_word i low high n bound from before = let s = word_div_mod n in let a = s.0 in let b = s.1 in (omega arith, omega arith, omega arith)
 
 -- ---- whether marks of a word are set
 
@@ -58,14 +58,14 @@ pub put_word : (words : List ℕ) (i low high word : ℕ) → i < length words �
 put_word words i low high word inside bound all kept only = record {
   here = λ n from before. let at = in_word i low high n bound from before in has_here n at.0 (all (n % 64) at.1 at.2);
   kept = λ n h. elim (cases_eq (n / 64) i) [
-    | inl e ↦ has_here n e (kept (n % 64) (split n).1 (bit_here words i n e h))
+    | inl e ↦ has_here n e (kept (n % 64) (word_div_mod n).1 (bit_here words i n e h))
     | inr ne ↦ ap (λ (x : ℕ). bit_at x (n % 64)) (get_or-set_other words i (n / 64) word 0 ne) ∙ h
   ];
   only = λ n h. elim (cases_eq (n / 64) i) [
     | inl e ↦
         let bit : bit_at word (n % 64) ≡ 1 = ap (λ (x : ℕ). bit_at x (n % 64)) (sym same) ∙ bit_here next i n e h in
-        let s = (split n).0 in
-        elim (only (n % 64) (split n).1 bit) [
+        let s = (word_div_mod n).0 in
+        elim (only (n % 64) (word_div_mod n).1 bit) [
           | inl l ↦ inl (omega (arith, l.0, e, s), omega (arith, l.1, e, s))
           | inr k ↦ inr (ap (λ (x : ℕ). bit_at (get_or words x 0) (n % 64)) e ∙ k)
         ]

@@ -42,8 +42,8 @@ not_free taken held words start size agrees m one = false_from_ne_true (is_free 
 
 -- ---- one range more
 
-is_eq-same : (s q : ℕ) → is_eq (nat_cmp s q) ≡ true → s ≡ q
-is_eq-same s q h = elim (cases_lt s q) [
+is_eq_same : (s q : ℕ) → is_eq (nat_cmp s q) ≡ true → s ≡ q
+is_eq_same s q h = elim (cases_lt s q) [
   | inl below ↦ let e : Less ≡ nat_cmp s q = nat_cmp_is s q Less below in let clash : false ≡ true = ap is_eq e ∙ h in absurd (cc)
   | inr from ↦ elim (cases_lt q s) [
     | inl above ↦ let e : Greater ≡ nat_cmp s q = nat_cmp_is s q Greater above in let clash : false ≡ true = ap is_eq e ∙ h in absurd (cc)
@@ -51,25 +51,25 @@ is_eq-same s q h = elim (cases_lt s q) [
   ]
 ]
 
-is_eq-refl : (s : ℕ) → is_eq (nat_cmp s s) ≡ true
-is_eq-refl s = sym (ap is_eq (nat_cmp_is s s Equal refl))
+is_eq_refl : (s : ℕ) → is_eq (nat_cmp s s) ≡ true
+is_eq_refl s = sym (ap is_eq (nat_cmp_is s s Equal refl))
 
 -- before the others
 takes_front : (held new : List (ℕ × ℕ)) (start end : ℕ) → AreApart held → IsFree held start end → start < end
     → new ≡ (start, end) ∷ held → Takes held new start end
 takes_front held new start end ok free some same = subst (λ (xs : List (ℕ × ℕ)). Takes held xs start end) (sym same) (record {
-  here = ap (λ (b : Bool). cond b (Some end) (lookup (is_at (nat_cmp start)) held)) (is_eq-refl start);
+  here = ap (λ (b : Bool). cond b (Some end) (lookup (is_at (nat_cmp start)) held)) (is_eq_refl start);
   kept = λ s e h.
       let clear : min e end ≤ max s start = free s e h in
       let full : s < e = ok.not_empty s e h in
       ap (λ (b : Bool). cond b (Some end) (lookup (is_at (nat_cmp s)) held))
-      (false_from_ne_true (is_eq (nat_cmp s start)) (λ e. let same = is_eq-same s start e in absurd (omega arith))) ∙ h;
+      (false_from_ne_true (is_eq (nat_cmp s start)) (λ e. let same = is_eq_same s start e in absurd (omega arith))) ∙ h;
   only = λ s e h. which s e (is_eq (nat_cmp s start)) refl h;
 })
   where
     which : (s e : ℕ) (b : Bool) → is_eq (nat_cmp s start) ≡ b → cond b (Some end) (lookup (is_at (nat_cmp s)) held) ≡ Some e
         → ((start ≡ s) × (e ≡ end)) ⊎ Holds held s e
-    which s e true at h = inl (sym (is_eq-same s start at), cc)
+    which s e true at h = inl (sym (is_eq_same s start at), cc)
     which s e false at h = inr h
 
 -- claimed ranges and one more that is free

@@ -9,14 +9,14 @@ use Rattle.px_bytes.specs.calls.Freed.{SameFree}
 -- ---- the test
 
 -- the test finds ranges that share a byte
-pub shares-true : (r s : Range) (p : ℕ) → IsIn p r → IsIn p s → shares r s ≡ true
-shares-true r s p i j =
+pub shares_true : (r s : Range) (p : ℕ) → IsIn p r → IsIn p s → shares r s ≡ true
+shares_true r s p i j =
     and_from _ _ (and_from _ _ (and_from _ _ (lt-ltb 0 r.size (omega arith)) (lt-ltb 0 s.size (omega arith)))
     (lt-ltb r.start (s.start + s.size) (omega arith))) (lt-ltb s.start (r.start + r.size) (omega arith))
 
 -- ranges that pass the test share no byte
 pub apart_from_test : (r s : Range) → not (shares r s) ≡ true → Apart r s
-apart_from_test r s e p i j = both_ways (shares r s) (not-true (shares r s) e) (shares-true r s p i j)
+apart_from_test r s e p i j = both_ways (shares r s) (not-true (shares r s) e) (shares_true r s p i j)
 
 -- ranges that fail the test share a byte
 pub byte_from_test : (r s : Range) → shares r s ≡ true → (p : ℕ) × IsIn p r × IsIn p s
@@ -53,10 +53,10 @@ test_from_apart r s a = not_from_false (shares r s) (false_from_ne_true (shares 
 -- ---- bytes that lists leave free
 
 -- a range is free of two lists if it is free of both
-pub is_free-append : (xs ys : List Range) (r : Range) → is_free (xs ++ ys) r ≡ (is_free xs r && is_free ys r)
-is_free-append [] ys r = refl
-is_free-append (x ∷ xs) ys r =
-    ap (λ (t : Bool). not (shares r x) && t) (is_free-append xs ys r) ∙ regroup (not (shares r x)) (is_free xs r) (is_free ys r)
+pub is_free_append : (xs ys : List Range) (r : Range) → is_free (xs ++ ys) r ≡ (is_free xs r && is_free ys r)
+is_free_append [] ys r = refl
+is_free_append (x ∷ xs) ys r =
+    ap (λ (t : Bool). not (shares r x) && t) (is_free_append xs ys r) ∙ regroup (not (shares r x)) (is_free xs r) (is_free ys r)
   where
     regroup : (p q t : Bool) → (p && (q && t)) ≡ ((p && q) && t)
     regroup true q t = refl
@@ -65,8 +65,8 @@ is_free-append (x ∷ xs) ys r =
 -- one range between two lists, and before them
 pub same_front : (x : Range) (xs ys : List Range) → SameFree (xs ++ (x ∷ ys)) (x ∷ (xs ++ ys))
 same_front x xs ys s n =
-    is_free-append xs (x ∷ ys) (range s n) ∙ swap (is_free xs (range s n)) (not (shares (range s n) x)) (is_free ys (range s n))
-    ∙ ap (λ (t : Bool). not (shares (range s n) x) && t) (sym (is_free-append xs ys (range s n)))
+    is_free_append xs (x ∷ ys) (range s n) ∙ swap (is_free xs (range s n)) (not (shares (range s n) x)) (is_free ys (range s n))
+    ∙ ap (λ (t : Bool). not (shares (range s n) x) && t) (sym (is_free_append xs ys (range s n)))
   where
     swap : (p q t : Bool) → (p && (q && t)) ≡ (q && (p && t))
     swap true true t = refl

@@ -28,18 +28,18 @@ bytes_right [] ys h = h
 bytes_right (x ∷ xs) ys h = bytes_right xs ys (λ j. h (suc j))
 
 -- a digit is a byte
-byte_at-lt : (k n : ℕ) → byte_at k n < 256
-byte_at-lt zero n = mod-lt n (omega arith)
-byte_at-lt (suc k) n = mod-lt (n / 256 ^ suc k) (omega arith)
+byte_at_lt : (k n : ℕ) → byte_at k n < 256
+byte_at_lt zero n = mod-lt n (omega arith)
+byte_at_lt (suc k) n = mod-lt (n / 256 ^ suc k) (omega arith)
 
 high_bytes : (width n : ℕ) → AreBytes (bytes_high_first width n)
 high_bytes zero n i = omega arith
-high_bytes (suc width) n zero = byte_at-lt width n
+high_bytes (suc width) n zero = byte_at_lt width n
 high_bytes (suc width) n (suc i) = high_bytes width n i
 
 low_bytes : (width j n : ℕ) → AreBytes (bytes_low_first j width n)
 low_bytes zero j n i = omega arith
-low_bytes (suc width) j n zero = byte_at-lt j n
+low_bytes (suc width) j n zero = byte_at_lt j n
 low_bytes (suc width) j n (suc i) = low_bytes width (suc j) n i
 
 -- an encoding is made of bytes

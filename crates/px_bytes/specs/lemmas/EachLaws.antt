@@ -43,10 +43,10 @@ module _ {X : Type 0} (P : X → Type 0) where
     each_of_map [] h = tt
     each_of_map (y ∷ ys) h = (h.0, each_of_map ys h.1)
 
-pub map-each : {X Y : Type 0} (f g : X → Y) (xs : List X) → AllByRecursion (λ x. f x ≡ g x) xs → map f xs ≡ map g xs
-map-each f g [] h = refl
-map-each f g (x ∷ xs) h = ap₂ (λ y ys. y ∷ ys) h.0 (map-each f g xs h.1)
+pub map_each : {X Y : Type 0} (f g : X → Y) (xs : List X) → AllByRecursion (λ x. f x ≡ g x) xs → map f xs ≡ map g xs
+map_each f g [] h = refl
+map_each f g (x ∷ xs) h = ap₂ (λ y ys. y ∷ ys) h.0 (map_each f g xs h.1)
 
-pub map-map : {X Y Z : Type 0} (g : Y → Z) (f : X → Y) (xs : List X) → map g (map f xs) ≡ map (λ x. g (f x)) xs
-map-map g f [] = refl
-map-map g f (x ∷ xs) = ap (λ ys. g (f x) ∷ ys) (map-map g f xs)
+pub map_map : {X Y Z : Type 0} (g : Y → Z) (f : X → Y) (xs : List X) → map g (map f xs) ≡ map (λ x. g (f x)) xs
+map_map g f [] = refl
+map_map g f (x ∷ xs) = ap (λ ys. g (f x) ∷ ys) (map_map g f xs)

@@ -12,16 +12,16 @@ use Rattle.px_bytes.specs.Numbers.{number, spelling, AreBytes}
 use Rattle.px_bytes.specs.lemmas.ByteLaws.{bytes_spelling}
 
 -- decoding an encoded number returns it
-pub number-spelling : (order : Order) (width n : ℕ) → n < 256 ^ width → number order width (spelling order width n) ≡ n
-number-spelling Least width n fits =
+pub number_spelling : (order : Order) (width n : ℕ) → n < 256 ^ width → number order width (spelling order width n) ≡ n
+number_spelling Least width n fits =
     ap (little_from 0 width) (sym (append-nil (bytes_low_first 0 width n))) ∙ little_number-reads_back width n [] fits
-number-spelling Most width n fits =
+number_spelling Most width n fits =
     ap (big_from 0 width) (sym (append-nil (bytes_high_first width n))) ∙ big_number-reads_back width n [] fits
 
 -- an encoding has its fixed length
-pub length-spelling : (order : Order) (width n : ℕ) → length (spelling order width n) ≡ width
-length-spelling Least width n = length-bytes_low_first 0 width n
-length-spelling Most width n = length-bytes_high_first width n
+pub length_spelling : (order : Order) (width n : ℕ) → length (spelling order width n) ≡ width
+length_spelling Least width n = length-bytes_low_first 0 width n
+length_spelling Most width n = length-bytes_high_first width n
 
 -- byte lists of one length with the same number are equal
 one_most : (n : ℕ) (xs ys : List ℕ) → length xs ≡ n → length ys ≡ n → AreBytes xs → AreBytes ys → big_from 0 n xs ≡ big_from 0 n ys
@@ -66,19 +66,19 @@ one_spelling Least n xs ys hx hy bx by_ e = one_least n xs ys hx hy bx by_ e
 one_spelling Most n xs ys hx hy bx by_ e = one_most n xs ys hx hy bx by_ e
 
 -- a number of n bytes is less than 256 ^ n
-pub number-lt : (order : Order) (n : ℕ) (bytes : List ℕ) → AreBytes bytes → number order n bytes < 256 ^ n
-number-lt Least n bytes h = little_from-lt 0 n bytes h
-number-lt Most n bytes h = big_from-lt 0 n bytes h
+pub number_lt : (order : Order) (n : ℕ) (bytes : List ℕ) → AreBytes bytes → number order n bytes < 256 ^ n
+number_lt Least n bytes h = little_from-lt 0 n bytes h
+number_lt Most n bytes h = big_from-lt 0 n bytes h
 
 -- encoding a decoded number returns its bytes
-pub spelling-number : (order : Order) (width : ℕ) (bytes : List ℕ) → length bytes ≡ width → AreBytes bytes
+pub spelling_number : (order : Order) (width : ℕ) (bytes : List ℕ) → length bytes ≡ width → AreBytes bytes
     → spelling order width (number order width bytes) ≡ bytes
-spelling-number order width bytes len h =
-    one_spelling order width (spelling order width (number order width bytes)) bytes (length-spelling order width _) len
+spelling_number order width bytes len h =
+    one_spelling order width (spelling order width (number order width bytes)) bytes (length_spelling order width _) len
     (bytes_spelling order width _) h
-    (number-spelling order width _ (number-lt order width bytes h))
+    (number_spelling order width _ (number_lt order width bytes h))
 
 -- a number depends on no byte after its width
-pub number-take : (order : Order) (n m : ℕ) (bytes : List ℕ) → n ≤ m → number order n (take m bytes) ≡ number order n bytes
-number-take Least n m bytes h = little_from-take 0 n m bytes (omega arith)
-number-take Most n m bytes h = big_from-take 0 n m bytes (omega arith)
+pub number_take : (order : Order) (n m : ℕ) (bytes : List ℕ) → n ≤ m → number order n (take m bytes) ≡ number order n bytes
+number_take Least n m bytes h = little_from-take 0 n m bytes (omega arith)
+number_take Most n m bytes h = big_from-take 0 n m bytes (omega arith)

@@ -28,14 +28,14 @@ test_from_gap s n t m l = not_from_false _ (false_from_ne_true (shares (range s 
     omega arith))
 
 -- a range is free of the list exactly if no claimed range has a byte of it
-pub is_free-free : (taken : List Range) (held : List (ℕ × ℕ)) (s n : ℕ) → Agrees taken held → IsFree held s (s + n)
+pub is_free_free : (taken : List Range) (held : List (ℕ × ℕ)) (s n : ℕ) → Agrees taken held → IsFree held s (s + n)
     → is_free taken (range s n) ≡ true
-is_free-free taken held s n a h = a.all_free s n h
+is_free_free taken held s n a h = a.all_free s n h
 
 -- one more range
-pub agrees-takes : (taken : List Range) (old new : List (ℕ × ℕ)) (s n : ℕ) → Agrees taken old → Takes old new s (s + n)
+pub agrees_takes : (taken : List Range) (old new : List (ℕ × ℕ)) (s n : ℕ) → Agrees taken old → Takes old new s (s + n)
     → Agrees (range s n ∷ taken) new
-agrees-takes taken old new s n a k = record {
+agrees_takes taken old new s n a k = record {
   free = λ t m h u e holds. let p = and_parts _ _ h in
       elim (k.only u e holds) [
         | inl q ↦ let g = gap_from_test t m s n p.0 in let q0 = q.0 in let q1 = q.1 in omega arith
@@ -47,15 +47,15 @@ agrees-takes taken old new s n a k = record {
 }
 
 -- lists that leave the same bytes free agree with the same claimed ranges
-pub agrees-same : (xs ys : List Range) (held : List (ℕ × ℕ)) → SameFree xs ys → Agrees xs held → Agrees ys held
-agrees-same xs ys held e a = record {
+pub agrees_same : (xs ys : List Range) (held : List (ℕ × ℕ)) → SameFree xs ys → Agrees xs held → Agrees ys held
+agrees_same xs ys held e a = record {
   free = λ s n h. a.free s n (e s n ∙ h);
   all_free = λ s n h. sym (e s n) ∙ a.all_free s n h;
 }
 
 -- nothing is claimed
-pub agrees-none : (held : List (ℕ × ℕ)) → held ≡ [] → Agrees [] held
-agrees-none held z = record {
+pub agrees_none : (held : List (ℕ × ℕ)) → held ≡ [] → Agrees [] held
+agrees_none held z = record {
   free = λ s n h t e holds. let clash : None ≡ Some e = subst (λ (xs : List (ℕ × ℕ)). Holds xs t e) z holds in absurd (cc);
   all_free = λ s n h. refl;
 }

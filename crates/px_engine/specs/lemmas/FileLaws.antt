@@ -176,9 +176,9 @@ taken_kind : (f : List ℕ) → kind_of (taken f) ≡ kind_of f
 unfolding kind_of
 taken_kind f = ap₂ (λ a b. if a then kind.Exif else if b then kind.Iim else kind.Exif) (taken_prefixed f) (taken_marked f)
 
-length-block : (f : List ℕ) → length f ≤ length (block_of f) + 6
+length_block : (f : List ℕ) → length f ≤ length (block_of f) + 6
 unfolding block_of
-length-block f = elim (cases_Bool (is_prefixed f)) [
+length_block f = elim (cases_Bool (is_prefixed f)) [
   | inl t ↦ subst (λ z. length f ≤ length z + 6) (sym (cond-true (is_prefixed f) (drop 6 f) f t)) (let l = length-drop 6 f in omega arith)
   | inr t ↦ subst (λ z. length f ≤ length z + 6) (sym (cond-false (is_prefixed f) (drop 6 f) f t)) (omega arith)
 ]
@@ -189,8 +189,8 @@ whole_or_long f = elim (cases_Bool (nat_le (length f) (limit + 7))) [
   | inl t ↦ inl (take_all (limit + 7) f (leb-true (length f) (limit + 7) t))
   | inr t ↦ inr (
       let l = leb-false (length f) (limit + 7) t in
-      let a = length-block f in
-      let b = length-block (taken f) in
+      let a = length_block f in
+      let b = length_block (taken f) in
       let n : length (taken f) ≡ limit + 7 = length-take-le (limit + 7) f (omega arith) in
       ((omega arith), (omega arith)))
 ]
@@ -212,9 +212,9 @@ first_long : (f : List ℕ) → limit < length (block_of f) → FirstFaultOf f T
 first_long f l = long_in (block_of f) (kind_of f) l
 
 -- two files that are both too long have the same first fault
-moved : (f g : List ℕ) (c : Cause) (p : ℕ) → FirstFaultOf f TooLong limit → FirstFaultOf g TooLong limit → FirstFaultOf f c p
+first_fault_too_long : (f g : List ℕ) (c : Cause) (p : ℕ) → FirstFaultOf f TooLong limit → FirstFaultOf g TooLong limit → FirstFaultOf f c p
     → FirstFaultOf g c p
-moved f g c p x y h =
+first_fault_too_long f g c p x y h =
     let e = one_first_in (block_of f) (kind_of f) TooLong c limit p x h in
     subst (λ z. FirstFaultOf g z p) e.0 (subst (λ z. FirstFaultOf g TooLong z) e.1 y)
 
@@ -224,8 +224,8 @@ taken_tells = (
   λ f c p. elim (whole_or_long f) [
     | inl e ↦ (λ h. subst (λ z. FirstFaultOf z c p) e h, λ h. subst (λ z. FirstFaultOf z c p) (sym e) h)
     | inr l ↦ (
-      λ h. moved (taken f) f c p (first_long (taken f) l.1) (first_long f l.0) h,
-      λ h. moved f (taken f) c p (first_long f l.0)
+      λ h. first_fault_too_long (taken f) f c p (first_long (taken f) l.1) (first_long f l.0) h,
+      λ h. first_fault_too_long f (taken f) c p (first_long f l.0)
           (first_long (taken f) l.1) h,
     )
   ],

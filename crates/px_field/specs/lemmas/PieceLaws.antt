@@ -11,19 +11,19 @@ use Rattle.px_bytes.specs.Numbers.{AreBytes}
 use Rattle.px_bytes.specs.Parts.{pieces}
 
 -- there are n parts
-pub length-pieces : {A : Type 0} (n k : ℕ) (x : List A) → length (pieces n k x) ≡ n
-length-pieces zero k x = refl
-length-pieces (suc n) k x = ap suc (length-pieces n k (drop k x))
+pub length_pieces : {A : Type 0} (n k : ℕ) (x : List A) → length (pieces n k x) ≡ n
+length_pieces zero k x = refl
+length_pieces (suc n) k x = ap suc (length_pieces n k (drop k x))
 
 -- the part at i
-pub get-pieces : {A : Type 0} (n k i at : ℕ) (x : List A) → i < n → at ≡ i * k → slice_get (pieces n k x) i ≡ Some (take k (drop at x))
-get-pieces zero k i at x h e = absurd (omega arith)
-get-pieces {A} (suc n) k zero at x h e =
+pub get_pieces : {A : Type 0} (n k i at : ℕ) (x : List A) → i < n → at ≡ i * k → slice_get (pieces n k x) i ≡ Some (take k (drop at x))
+get_pieces zero k i at x h e = absurd (omega arith)
+get_pieces {A} (suc n) k zero at x h e =
     let none : at ≡ 0 = omega (arith, e) in
     rw none refl
-get-pieces {A} (suc n) k (suc i) at x h e =
+get_pieces {A} (suc n) k (suc i) at x h e =
     let moved : drop (i * k) (drop k x) ≡ drop at x = grind (arith, common_steps, drop-drop {A = A}, e) in
-    get-pieces n k i (i * k) (drop k x) (omega arith) refl ∙ ap (λ (l : List A). Some (take k l)) moved
+    get_pieces n k i (i * k) (drop k x) (omega arith) refl ∙ ap (λ (l : List A). Some (take k l)) moved
 
 -- parts of one size that are joined can be cut again
 pub pieces_joined : {X A : Type 0} (k : ℕ) (f : X → List A) (xs : List X) (rest : List A) → AllByRecursion (λ x. length (f x) ≡ k) xs

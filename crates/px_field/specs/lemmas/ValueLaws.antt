@@ -19,66 +19,66 @@ use Rattle.px_field.specs.declared.forms.Element.TheVariants as element
 use Rattle.px_field.specs.Forms.{size}
 use Rattle.px_field.specs.Values.{spell, element_of, IsOf, form_in, Value, IsValue, spelled, elements, widened, count_in, value_in}
 use Rattle.px_field.specs.Values.{whole_in, IsWhole, is_bytes}
-use Rattle.px_field.specs.lemmas.PieceLaws.{length-pieces, get-pieces, pieces_joined, length_joined, each_piece, bytes_take, bytes_drop}
-use Rattle.px_field.specs.lemmas.ElementLaws.{size-pos, length-spell, element_of-spell, spell-element_of, IsOf-element_of}
+use Rattle.px_field.specs.lemmas.PieceLaws.{length_pieces, get_pieces, pieces_joined, length_joined, each_piece, bytes_take, bytes_drop}
+use Rattle.px_field.specs.lemmas.ElementLaws.{size_pos, length_spell, element_of_spell, spell_element_of, IsOf_element_of}
 
 -- ---- elements
 
 -- there are n elements
-pub length-elements : (o : Order) (f : Form) (n : ℕ) (x : List ℕ) → length (elements o f n x) ≡ n
+pub length_elements : (o : Order) (f : Form) (n : ℕ) (x : List ℕ) → length (elements o f n x) ≡ n
 unfolding elements
-length-elements o f n x = length-map (pieces n (size f) x) (element_of o f) ∙ length-pieces n (size f) x
+length_elements o f n x = length-map (pieces n (size f) x) (element_of o f) ∙ length_pieces n (size f) x
 
 -- the element at i
-pub get-elements : (o : Order) (f : Form) (n i at : ℕ) (x : List ℕ) → i < n → at ≡ i * size f
+pub get_elements : (o : Order) (f : Form) (n i at : ℕ) (x : List ℕ) → i < n → at ≡ i * size f
     → slice_get (elements o f n x) i ≡ Some (element_of o f (take (size f) (drop at x)))
 unfolding elements
-get-elements o f n i at x h e =
-    slice_get-map (element_of o f) (pieces n (size f) x) i ∙ ap (option_map (element_of o f)) (get-pieces n (size f) i at x h e)
+get_elements o f n i at x h e =
+    slice_get-map (element_of o f) (pieces n (size f) x) i ∙ ap (option_map (element_of o f)) (get_pieces n (size f) i at x h e)
 
 each_of : (o : Order) (f : Form) (xs : List (List ℕ)) → AllByRecursion AreBytes xs → AllByRecursion (IsOf f) (map (element_of o f) xs)
 each_of o f [] h = tt
-each_of o f (x ∷ xs) h = (IsOf-element_of o f x h.0, each_of o f xs h.1)
+each_of o f (x ∷ xs) h = (IsOf_element_of o f x h.0, each_of o f xs h.1)
 
 -- elements read from bytes are of their type
-pub IsOf-elements : (o : Order) (f : Form) (n : ℕ) (x : List ℕ) → AreBytes x → AllByRecursion (IsOf f) (elements o f n x)
+pub IsOf_elements : (o : Order) (f : Form) (n : ℕ) (x : List ℕ) → AreBytes x → AllByRecursion (IsOf f) (elements o f n x)
 unfolding elements
-IsOf-elements o f n x h =
+IsOf_elements o f n x h =
     each_of o f (pieces n (size f) x) (each_piece AreBytes AreBytes n (size f) x (bytes_take (size f)) (bytes_drop (size f)) h)
 
 all_stand : (o : Order) (f : Form) (n : ℕ) (x : List ℕ) → length x ≡ n * size f → AreBytes x
     → flat_map (spell o) (map (element_of o f) (pieces n (size f) x)) ≡ x
 all_stand o f zero x l h = sym (nil_from_length x (omega arith))
 all_stand o f (suc n) x l h =
-    ap₂ (λ a b. a ++ b) (spell-element_of o f (take (size f) x) (length-take-le (size f) x (omega arith)) (bytes_take (size f) x h))
+    ap₂ (λ a b. a ++ b) (spell_element_of o f (take (size f) x) (length-take-le (size f) x (omega arith)) (bytes_take (size f) x h))
     (all_stand o f n (drop (size f) x) (length-drop (size f) x ∙ omega arith) (bytes_drop (size f) x h))
     ∙ take-append-drop (size f) x
 
 -- encoding decoded elements returns their bytes
-pub spell-elements : (o : Order) (f : Form) (n : ℕ) (x : List ℕ) → length x ≡ n * size f → AreBytes x
+pub spell_elements : (o : Order) (f : Form) (n : ℕ) (x : List ℕ) → length x ≡ n * size f → AreBytes x
     → flat_map (spell o) (elements o f n x) ≡ x
 unfolding elements
-spell-elements o f n x l h = all_stand o f n x l h
+spell_elements o f n x l h = all_stand o f n x l h
 
 each_length : (o : Order) (f : Form) (es : List Element) → AllByRecursion (IsOf f) es → AllByRecursion (λ e. length (spell o e) ≡ size f) es
 each_length o f [] h = tt
-each_length o f (e ∷ es) h = (length-spell o f e h.0, each_length o f es h.1)
+each_length o f (e ∷ es) h = (length_spell o f e h.0, each_length o f es h.1)
 
 each_back : (o : Order) (f : Form) (es : List Element) → AllByRecursion (IsOf f) es → map (element_of o f) (map (spell o) es) ≡ es
 each_back o f [] h = refl
-each_back o f (e ∷ es) h = ap₂ (λ x xs. x ∷ xs) (element_of-spell o f e h.0) (each_back o f es h.1)
+each_back o f (e ∷ es) h = ap₂ (λ x xs. x ∷ xs) (element_of_spell o f e h.0) (each_back o f es h.1)
 
 -- ---- values
 
 -- a value's encoding has as many bytes as its elements take
-pub length-spelled : (o : Order) (v : Value) → IsValue v → length (spelled o v) ≡ length v.elements * size (form_in v.kind)
+pub length_spelled : (o : Order) (v : Value) → IsValue v → length (spelled o v) ≡ length v.elements * size (form_in v.kind)
 unfolding spelled
-length-spelled o v h = length_joined (size (form_in v.kind)) (spell o) v.elements (each_length o (form_in v.kind) v.elements h)
+length_spelled o v h = length_joined (size (form_in v.kind)) (spell o) v.elements (each_length o (form_in v.kind) v.elements h)
 
 -- the elements of a value, from its encoding
-pub elements-spelled : (o : Order) (v : Value) → IsValue v → elements o (form_in v.kind) (length v.elements) (spelled o v) ≡ v.elements
+pub elements_spelled : (o : Order) (v : Value) → IsValue v → elements o (form_in v.kind) (length v.elements) (spelled o v) ≡ v.elements
 unfolding elements spelled
-elements-spelled o v h =
+elements_spelled o v h =
     let f = form_in v.kind in
     let es = v.elements in
     ap (map (element_of o f)) (ap (pieces (length es) (size f)) (sym (append-nil (flat_map (spell o) es)))
@@ -86,18 +86,18 @@ elements-spelled o v h =
     ∙ each_back o f es h
 
 -- a whole number of elements
-pub count_in-whole : (f : Form) (x : List ℕ) → length x % size f ≡ 0 → count_in f x * size f ≡ length x
-count_in-whole f x h = omega (arith, div-add-mod' (length x) (size f), h)
+pub count_in_whole : (f : Form) (x : List ℕ) → length x % size f ≡ 0 → count_in f x * size f ≡ length x
+count_in_whole f x h = omega (arith, div-add-mod' (length x) (size f), h)
 
-pub count_in-times : (f : Form) (x : List ℕ) (n : ℕ) → n * size f ≡ length x → count_in f x ≡ n
-count_in-times f x n h = ap (λ (m : ℕ). m / size f) (sym h) ∙ mul-div_cancel n (size-pos f)
+pub count_in_times : (f : Form) (x : List ℕ) (n : ℕ) → n * size f ≡ length x → count_in f x ≡ n
+count_in_times f x n h = ap (λ (m : ℕ). m / size f) (sym h) ∙ mul-div_cancel n (size_pos f)
 
-pub count_in-spelled : (o : Order) (v : Value) → IsValue v → count_in (form_in v.kind) (spelled o v) ≡ length v.elements
-count_in-spelled o v h = count_in-times (form_in v.kind) (spelled o v) (length v.elements) (sym (length-spelled o v h))
+pub count_in_spelled : (o : Order) (v : Value) → IsValue v → count_in (form_in v.kind) (spelled o v) ≡ length v.elements
+count_in_spelled o v h = count_in_times (form_in v.kind) (spelled o v) (length v.elements) (sym (length_spelled o v h))
 
 -- a value that is read of a type is of that type
-pub IsValue-value_in : (o : Order) (f : Form) (x : List ℕ) → AreBytes x → IsValue (value_in o f x)
-IsValue-value_in o f x h = IsOf-elements o f (count_in f x) x h
+pub IsValue_value_in : (o : Order) (f : Form) (x : List ℕ) → AreBytes x → IsValue (value_in o f x)
+IsValue_value_in o f x h = IsOf_elements o f (count_in f x) x h
 
 each_short : (es : List Element) → AllByRecursion (IsOf form.Short) es → AllByRecursion (IsOf form.Long) (map widened es)
 each_short [] h = tt
@@ -110,42 +110,42 @@ each_long (element.Long n ∷ es) h = ap (λ l. element.Long n ∷ l) (each_long
 each_long (_ ∷ es) h = absurd h.0
 
 -- a value that is read as whole numbers is of kind Whole
-pub IsValue-whole_in : (o : Order) (f : Form) (x : List ℕ) → IsWhole f → AreBytes x → IsValue (whole_in o f x)
-IsValue-whole_in o form.Short x w h =
-    each_short (elements o form.Short (count_in form.Short x) x) (IsOf-elements o form.Short (count_in form.Short x) x h)
-IsValue-whole_in o form.Long x w h =
+pub IsValue_whole_in : (o : Order) (f : Form) (x : List ℕ) → IsWhole f → AreBytes x → IsValue (whole_in o f x)
+IsValue_whole_in o form.Short x w h =
+    each_short (elements o form.Short (count_in form.Short x) x) (IsOf_elements o form.Short (count_in form.Short x) x h)
+IsValue_whole_in o form.Long x w h =
     let es = elements o form.Long (count_in form.Long x) x in
-    let all : AllByRecursion (IsOf form.Long) es = IsOf-elements o form.Long (count_in form.Long x) x h in
+    let all : AllByRecursion (IsOf form.Long) es = IsOf_elements o form.Long (count_in form.Long x) x h in
     rw (each_long es all) all
-IsValue-whole_in o _ x w h = absurd w
+IsValue_whole_in o _ x w h = absurd w
 
 -- LONGs widened are the LONGs
-pub widened-long : (o : Order) (n : ℕ) (x : List ℕ) → AreBytes x → map widened (elements o form.Long n x) ≡ elements o form.Long n x
-widened-long o n x h = each_long (elements o form.Long n x) (IsOf-elements o form.Long n x h)
+pub widened_long : (o : Order) (n : ℕ) (x : List ℕ) → AreBytes x → map widened (elements o form.Long n x) ≡ elements o form.Long n x
+widened_long o n x h = each_long (elements o form.Long n x) (IsOf_elements o form.Long n x h)
 
 -- encoding a decoded value returns its bytes
-pub spelled-value_in : (o : Order) (f : Form) (x : List ℕ) → length x % size f ≡ 0 → AreBytes x → spelled o (value_in o f x) ≡ x
+pub spelled_value_in : (o : Order) (f : Form) (x : List ℕ) → length x % size f ≡ 0 → AreBytes x → spelled o (value_in o f x) ≡ x
 unfolding spelled
-spelled-value_in o f x whole h = spell-elements o f (count_in f x) x (sym (count_in-whole f x whole)) h
+spelled_value_in o f x whole h = spell_elements o f (count_in f x) x (sym (count_in_whole f x whole)) h
 
 -- decoding an encoded value returns it
-pub value_in-spelled : (o : Order) (f : Form) (v : Value) → v.kind ≡ kind.Of f → IsValue v → value_in o f (spelled o v) ≡ v
-value_in-spelled o f v k h =
+pub value_in_spelled : (o : Order) (f : Form) (v : Value) → v.kind ≡ kind.Of f → IsValue v → value_in o f (spelled o v) ≡ v
+value_in_spelled o f v k h =
     let g : form_in v.kind ≡ f = ap form_in k in
     let es : elements o f (count_in f (spelled o v)) (spelled o v) ≡ v.elements =
     ap (λ (t : Form). elements o t (count_in t (spelled o v)) (spelled o v)) (sym g)
-    ∙ ap (λ (n : ℕ). elements o (form_in v.kind) n (spelled o v)) (count_in-spelled o v h)
-    ∙ elements-spelled o v h in
+    ∙ ap (λ (n : ℕ). elements o (form_in v.kind) n (spelled o v)) (count_in_spelled o v h)
+    ∙ elements_spelled o v h in
     ap₂ (λ (k : Kind) (l : List Element). record { kind = k; elements = l }) (sym k) es
 
 -- decoding whole numbers as LONG returns them
-pub whole_in-spelled : (o : Order) (v : Value) → v.kind ≡ kind.Whole → IsValue v → whole_in o form.Long (spelled o v) ≡ v
-whole_in-spelled o v k h =
+pub whole_in_spelled : (o : Order) (v : Value) → v.kind ≡ kind.Whole → IsValue v → whole_in o form.Long (spelled o v) ≡ v
+whole_in_spelled o v k h =
     let g : form_in v.kind ≡ form.Long = ap form_in k in
     let es : elements o form.Long (count_in form.Long (spelled o v)) (spelled o v) ≡ v.elements =
     ap (λ (t : Form). elements o t (count_in t (spelled o v)) (spelled o v)) (sym g)
-    ∙ ap (λ (n : ℕ). elements o (form_in v.kind) n (spelled o v)) (count_in-spelled o v h)
-    ∙ elements-spelled o v h in
+    ∙ ap (λ (n : ℕ). elements o (form_in v.kind) n (spelled o v)) (count_in_spelled o v h)
+    ∙ elements_spelled o v h in
     let all : AllByRecursion (IsOf form.Long) v.elements = rw (← g) h in
     ap₂ (λ (k : Kind) (l : List Element). record { kind = k; elements = l }) (sym k) (ap (map widened) es ∙ each_long v.elements all)
 
@@ -156,56 +156,56 @@ one_each (suc n) [] l = absurd (omega arith)
 one_each (suc n) (b ∷ x) l = ap (λ (es : List Element). element.Byte b ∷ es) (one_each n x (omega arith))
 
 -- the elements of a byte type are the bytes
-pub elements-bytes : (o : Order) (f : Form) (x : List ℕ) → is_bytes (kind.Of f) ≡ true → elements o f (count_in f x) x ≡ map element.Byte x
+pub elements_bytes : (o : Order) (f : Form) (x : List ℕ) → is_bytes (kind.Of f) ≡ true → elements o f (count_in f x) x ≡ map element.Byte x
 unfolding elements
-elements-bytes o form.Byte x b = one_each (count_in form.Byte x) x (sym (count_in-times form.Byte x (length x) (omega arith)))
-elements-bytes o form.Ascii x b = one_each (count_in form.Ascii x) x (sym (count_in-times form.Ascii x (length x) (omega arith)))
-elements-bytes o form.SByte x b = one_each (count_in form.SByte x) x (sym (count_in-times form.SByte x (length x) (omega arith)))
-elements-bytes o form.Undefined x b =
-    one_each (count_in form.Undefined x) x (sym (count_in-times form.Undefined x (length x) (omega arith)))
-elements-bytes o form.Utf8 x b = one_each (count_in form.Utf8 x) x (sym (count_in-times form.Utf8 x (length x) (omega arith)))
-elements-bytes o _ x b = absurd (cc)
+elements_bytes o form.Byte x b = one_each (count_in form.Byte x) x (sym (count_in_times form.Byte x (length x) (omega arith)))
+elements_bytes o form.Ascii x b = one_each (count_in form.Ascii x) x (sym (count_in_times form.Ascii x (length x) (omega arith)))
+elements_bytes o form.SByte x b = one_each (count_in form.SByte x) x (sym (count_in_times form.SByte x (length x) (omega arith)))
+elements_bytes o form.Undefined x b =
+    one_each (count_in form.Undefined x) x (sym (count_in_times form.Undefined x (length x) (omega arith)))
+elements_bytes o form.Utf8 x b = one_each (count_in form.Utf8 x) x (sym (count_in_times form.Utf8 x (length x) (omega arith)))
+elements_bytes o _ x b = absurd (cc)
 
 -- bytes as elements encode to themselves
-pub spell-bytes : (o : Order) (x : List ℕ) → flat_map (spell o) (map element.Byte x) ≡ x
-spell-bytes o [] = refl
-spell-bytes o (b ∷ x) = ap (λ (l : List ℕ). b ∷ l) (spell-bytes o x)
+pub spell_bytes : (o : Order) (x : List ℕ) → flat_map (spell o) (map element.Byte x) ≡ x
+spell_bytes o [] = refl
+spell_bytes o (b ∷ x) = ap (λ (l : List ℕ). b ∷ l) (spell_bytes o x)
 
 -- the bytes of the first elements, and of one more
-pub spell-take : (o : Order) (es : List Element) (i j : ℕ) (e : Element) → slice_get es i ≡ Some e → j ≡ suc i
+pub spell_take : (o : Order) (es : List Element) (i j : ℕ) (e : Element) → slice_get es i ≡ Some e → j ≡ suc i
     → flat_map (spell o) (take j es) ≡ flat_map (spell o) (take i es) ++ spell o e
-spell-take o [] i j e h s = absurd (cc)
-spell-take o (x ∷ es) zero j e h s =
+spell_take o [] i j e h s = absurd (cc)
+spell_take o (x ∷ es) zero j e h s =
     let same : x ≡ e = cc in
     let one : j ≡ 1 = omega arith in
     rw (one, same) (append-nil (spell o e))
-spell-take o (x ∷ es) (suc i) j e h s =
-    rw s (ap (λ (l : List ℕ). spell o x ++ l) (spell-take o es i (suc i) e h refl)
+spell_take o (x ∷ es) (suc i) j e h s =
+    rw s (ap (λ (l : List ℕ). spell o x ++ l) (spell_take o es i (suc i) e h refl)
     ∙ sym (append_assoc (spell o x) (flat_map (spell o) (take i es)) (spell o e)))
 
 -- encoding whole numbers that were decoded from LONGs returns their bytes
-pub spelled-whole_in : (o : Order) (x : List ℕ) → length x % 4 ≡ 0 → AreBytes x → spelled o (whole_in o form.Long x) ≡ x
+pub spelled_whole_in : (o : Order) (x : List ℕ) → length x % 4 ≡ 0 → AreBytes x → spelled o (whole_in o form.Long x) ≡ x
 unfolding spelled
-spelled-whole_in o x whole h =
-    ap (λ (es : List Element). flat_map (spell o) es) (widened-long o (count_in form.Long x) x h)
-    ∙ spell-elements o form.Long (count_in form.Long x) x (sym (count_in-whole form.Long x whole)) h
+spelled_whole_in o x whole h =
+    ap (λ (es : List Element). flat_map (spell o) es) (widened_long o (count_in form.Long x) x h)
+    ∙ spell_elements o form.Long (count_in form.Long x) x (sym (count_in_whole form.Long x whole)) h
 
 -- the value of n elements of a type
-pub value_in-elements : (o : Order) (f : Form) (n : ℕ) (x : List ℕ) → n * size f ≡ length x
+pub value_in_elements : (o : Order) (f : Form) (n : ℕ) (x : List ℕ) → n * size f ≡ length x
     → value_in o f x ≡ record { kind = kind.Of f; elements = elements o f n x }
-value_in-elements o f n x h = ap (λ (m : ℕ). record { kind = kind.Of f; elements = elements o f m x }) (count_in-times f x n h)
+value_in_elements o f n x h = ap (λ (m : ℕ). record { kind = kind.Of f; elements = elements o f m x }) (count_in_times f x n h)
 
-pub whole_in-elements : (o : Order) (f : Form) (n : ℕ) (x : List ℕ) → n * size f ≡ length x
+pub whole_in_elements : (o : Order) (f : Form) (n : ℕ) (x : List ℕ) → n * size f ≡ length x
     → whole_in o f x ≡ record { kind = kind.Whole; elements = map widened (elements o f n x) }
-whole_in-elements o f n x h =
-    ap (λ (m : ℕ). record { kind = kind.Whole; elements = map widened (elements o f m x) }) (count_in-times f x n h)
+whole_in_elements o f n x h =
+    ap (λ (m : ℕ). record { kind = kind.Whole; elements = map widened (elements o f m x) }) (count_in_times f x n h)
 
 -- the bytes of n elements are a whole number of elements
-pub whole-times : (f : Form) (n : ℕ) (x : List ℕ) → n * size f ≡ length x → length x % size f ≡ 0
-whole-times f n x h = ap (λ (m : ℕ). m % size f) (sym h) ∙ mul-mod_left n (size f)
+pub whole_times : (f : Form) (n : ℕ) (x : List ℕ) → n * size f ≡ length x → length x % size f ≡ 0
+whole_times f n x h = ap (λ (m : ℕ). m % size f) (sym h) ∙ mul-mod_left n (size f)
 
 -- four bytes for each whole number are at most twice the bytes that were read
-pub count_in-bound : (f : Form) (x : List ℕ) → IsWhole f → 4 * count_in f x ≤ 2 * length x
-count_in-bound form.Short x h = omega arith
-count_in-bound form.Long x h = omega arith
-count_in-bound _ x h = absurd h
+pub count_in_bound : (f : Form) (x : List ℕ) → IsWhole f → 4 * count_in f x ≤ 2 * length x
+count_in_bound form.Short x h = omega arith
+count_in_bound form.Long x h = omega arith
+count_in_bound _ x h = absurd h

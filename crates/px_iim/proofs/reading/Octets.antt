@@ -6,7 +6,7 @@ use Rattle.px_bytes.specs.Numbers.{number, AreBytes}
 use Rattle.px_bytes.specs.Parts.{part}
 use Rattle.px_iim.specs.DataSet.{DataSet}
 use Rattle.px_iim.specs.Record.{extra, count, dataset}
-use Rattle.px_bytes.specs.lemmas.NumberLaws.{number-lt, number-take}
+use Rattle.px_bytes.specs.lemmas.NumberLaws.{number_lt, number_take}
 use Rattle.std.proofs.lemmas.Bool.Decides.{nat_tests}
 
 -- a count has at most four octets
@@ -25,7 +25,7 @@ few_octets (suc (suc (suc zero))) h = omega arith
 few_octets (suc (suc (suc (suc n)))) h = absurd (omega arith)
 
 pub number_below : (n : ℕ) (xs : List ℕ) → n < 4 → AreBytes xs → number Most n xs < 16777216
-number_below n xs h b = let l = number-lt Most n xs b in let m = few_octets n h in omega arith
+number_below n xs h b = let l = number_lt Most n xs b in let m = few_octets n h in omega arith
 
 pub not_less : (a b : ℕ) → b ≤ a → nat_lt a b ≡ false
 not_less a b h = grind (arith, nat_tests)
@@ -38,7 +38,7 @@ number_part x k e q h =
     let room : e ≤ length (drop 5 x) = omega (arith, length-drop 5 x) in
     ap (λ (n : ℕ). number Most (length (take n (drop 5 x))) (take n (drop 5 x))) same
     ∙ ap (λ (n : ℕ). number Most n (take e (drop 5 x))) (length-take-le e (drop 5 x) room)
-    ∙ number-take Most e e (drop 5 x) (omega arith)
+    ∙ number_take Most e e (drop 5 x) (omega arith)
 
 -- what is cut out is the first DataSet
 pub dataset_value : (x : List ℕ) (k n : ℕ) → k ≡ extra x → n ≡ count x → ◌≡◌ {A = DataSet}

@@ -40,18 +40,18 @@ all_above : (g : Group) (gs : Record) → g.number < 256 → AllByRecursion IsGr
 all_above g [] a b e = tt
 all_above g (h ∷ hs) a b e = (omega (arith, ranks_rise g h a (number_byte h b.0) e.0), all_above g hs a b.1 e.1)
 
-few : (b : ℕ) (gs : Record) → b ≤ 65536 → IsAscending gs → AllByRecursion IsGroup gs → AllByRecursion (λ h. b ≤ rank h) gs
+length_ascending : (b : ℕ) (gs : Record) → b ≤ 65536 → IsAscending gs → AllByRecursion IsGroup gs → AllByRecursion (λ h. b ≤ rank h) gs
     → length gs + b ≤ 65536
-few b [] l a w r = omega arith
-few b (g ∷ gs) l a w r =
+length_ascending b [] l a w r = omega arith
+length_ascending b (g ∷ gs) l a w r =
     let n = number_byte g w.0 in
     let top : g.rec < 256 = (w.0).byte in
     let above = all_above g gs n w.1 a.0 in
-    omega (arith, r.0, few (rank g + 1) gs (omega arith) a.1 w.1 above)
+    omega (arith, r.0, length_ascending (rank g + 1) gs (omega arith) a.1 w.1 above)
 
 all_zero : (gs : Record) → AllByRecursion (λ h. 0 ≤ rank h) gs
 all_zero [] = tt
 all_zero (g ∷ gs) = (omega arith, all_zero gs)
 
 pub few_groups : (gs : Record) → AreGroups gs → length gs ≤ 65536
-few_groups gs a = omega (arith, few 0 gs (omega arith) a.ascending a.groups (all_zero gs))
+few_groups gs a = omega (arith, length_ascending 0 gs (omega arith) a.ascending a.groups (all_zero gs))

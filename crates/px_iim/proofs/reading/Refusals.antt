@@ -8,28 +8,28 @@ use Rattle.px_iim.specs.DataSet.{DataSet}
 use Rattle.px_iim.specs.Group.{Record}
 use Rattle.px_iim.specs.Record.{SaysIim, iim_of}
 use Rattle.px_iim.specs.Check.{FirstFault, Fault, Behind}
-use Rattle.px_iim.specs.lemmas.RecordLaws.{computes}
+use Rattle.px_iim.specs.lemmas.RecordLaws.{iim_of_computes}
 use Rattle.px_iim.specs.lemmas.FaultLaws.{first_stands, stands_unsaid}
 use Rattle.px_iim.specs.calls.Reading.{RefusesIim}
 
-nothing : (x : List ℕ) → ((i : Record) → SaysIim x i → ⊥) → iim_of x ≡ None
-nothing x h = go (iim_of x) refl where
+unsaid_iim_of_none : (x : List ℕ) → ((i : Record) → SaysIim x i → ⊥) → iim_of x ≡ None
+unsaid_iim_of_none x h = go (iim_of x) refl where
   go : (o : Option Record) → iim_of x ≡ o → iim_of x ≡ None
   go None e = e
-  go (Some i) e = absurd (h i ((computes x i).1 e))
+  go (Some i) e = absurd (h i ((iim_of_computes x i).1 e))
 
 behind_place : (x : List ℕ) (ds : List DataSet) (rest : List ℕ) (p : ℕ) → Behind x ds rest p → length x ≤ limit → p ≤ limit
 behind_place x ds rest p b l = omega (arith, b.place, ap length b.whole, length-append b.front rest)
 
-pub place : (x : List ℕ) (c : Cause) (p : ℕ) → Fault x c p → length x ≤ limit → p ≤ limit
-place x TooLong p s l = omega (arith, s.0)
-place x NoMarker p s l = behind_place x s.0 s.1 p s.2 l
-place x LengthForm p s l = behind_place x s.0 s.1 p s.2 l
-place x DataSetCut p s l = behind_place x s.0 s.1 p s.2 l
-place x _ p s l = absurd s
+pub fault_place_le_limit : (x : List ℕ) (c : Cause) (p : ℕ) → Fault x c p → length x ≤ limit → p ≤ limit
+fault_place_le_limit x TooLong p s l = omega (arith, s.0)
+fault_place_le_limit x NoMarker p s l = behind_place x s.0 s.1 p s.2 l
+fault_place_le_limit x LengthForm p s l = behind_place x s.0 s.1 p s.2 l
+fault_place_le_limit x DataSetCut p s l = behind_place x s.0 s.1 p s.2 l
+fault_place_le_limit x _ p s l = absurd s
 
-pub refuses : (x : List ℕ) (refused : ℕ) (c : Cause) (p : ℕ) → FirstFault x c p → p ≤ limit → RefusesIim x refused (Content c p)
-refuses x refused c p f l =
+pub first_fault_refuses : (x : List ℕ) (refused : ℕ) (c : Cause) (p : ℕ) → FirstFault x c p → p ≤ limit → RefusesIim x refused (Content c p)
+first_fault_refuses x refused c p f l =
     let s = first_stands x c p f in
     let none = λ (i : Record) (t : SaysIim x i). stands_unsaid x c p i s t in
-    (s, l, nothing x none, none)
+    (s, l, unsaid_iim_of_none x none, none)

@@ -26,16 +26,16 @@ datasets x = sequence_of (length x) x
 size_at_least : (x : List ℕ) → length (drop (size x) x) ≤ length x - 5
 size_at_least x = omega (arith, length-drop (size x) x)
 
-none : (n : ℕ) → sequence_of n [] ≡ None
+sequence_of_nil : (n : ℕ) → sequence_of n [] ≡ None
 unfolding sequence_of is_dataset
-none zero = refl
-none (suc n) = refl
+sequence_of_nil zero = refl
+sequence_of_nil (suc n) = refl
 
 same_sequence : (n m : ℕ) (x : List ℕ) → length x ≤ n → length x ≤ m → sequence_of n x ≡ sequence_of m x
 unfolding sequence_of
-same_sequence zero m [] h k = sym (none m)
+same_sequence zero m [] h k = sym (sequence_of_nil m)
 same_sequence zero m (y ∷ ys) h k = absurd (omega arith)
-same_sequence (suc n) zero [] h k = none (suc n)
+same_sequence (suc n) zero [] h k = sequence_of_nil (suc n)
 same_sequence (suc n) zero (y ∷ ys) h k = absurd (omega arith)
 same_sequence (suc n) (suc m) x h k =
     let l = size_at_least x in
@@ -43,9 +43,9 @@ same_sequence (suc n) (suc m) x h k =
     (if is_end (drop (size x) x) then Some [] else o) else None)
     (same_sequence n m (drop (size x) x) (omega arith) (omega arith))
 
-long : (x : List ℕ) → is_dataset x ≡ true → 5 ≤ length x
+dataset_length_ge : (x : List ℕ) → is_dataset x ≡ true → 5 ≤ length x
 unfolding is_dataset
-long x h =
+dataset_length_ge x h =
     let a = and_parts (is_marked x && nat_le 5 (length x) && has_form x && nat_le (5 + extra x) (length x)) (nat_le (size x) (length x)) h
     in
     omega (arith, leb-true (size x) (length x) a.1)
@@ -59,14 +59,14 @@ datasets_none (y ∷ ys) e = cond-false (is_dataset (y ∷ ys)) _ _ e
 
 pub datasets_last : (x : List ℕ) → is_dataset x ≡ true → is_end (drop (size x) x) ≡ true → datasets x ≡ Some (dataset x ∷ [])
 unfolding datasets sequence_of
-datasets_last [] e f = absurd (omega (arith, long [] e))
+datasets_last [] e f = absurd (omega (arith, dataset_length_ge [] e))
 datasets_last (y ∷ ys) e f = cond-true (is_dataset (y ∷ ys)) _ _ e
     ∙ ap (option_map (λ ds. dataset (y ∷ ys) ∷ ds)) (cond-true (is_end (drop (size (y ∷ ys)) (y ∷ ys))) _ _ f)
 
 pub datasets_more : (x : List ℕ) → is_dataset x ≡ true → is_end (drop (size x) x) ≡ false
     → datasets x ≡ option_map (λ ds. dataset x ∷ ds) (datasets (drop (size x) x))
 unfolding datasets sequence_of
-datasets_more [] e f = absurd (omega (arith, long [] e))
+datasets_more [] e f = absurd (omega (arith, dataset_length_ge [] e))
 datasets_more (y ∷ ys) e f =
     let l = size_at_least (y ∷ ys) in
     cond-true (is_dataset (y ∷ ys)) _ _ e
@@ -76,17 +76,17 @@ datasets_more (y ∷ ys) e f =
 
 -- ---- after a DataSet that was read
 
-refused : (p : ℕ) (x : List ℕ) (f : Cause × ℕ) → first_false (dataset_checks p x) ≡ Some f → is_dataset x ≡ false
-refused p x f h =
+first_false_not_dataset : (p : ℕ) (x : List ℕ) (f : Cause × ℕ) → first_false (dataset_checks p x) ≡ Some f → is_dataset x ≡ false
+first_false_not_dataset p x f h =
     false_from_ne_true (is_dataset x) (λ e. let clash : ◌≡◌ {A = Option (Cause × ℕ)} None (Some f) = sym (dataset_clean p x e)
     ∙ h in absurd (cc))
 
 pub refused_says : (p : ℕ) (x : List ℕ) (f : Cause × ℕ) → first_false (dataset_checks p x) ≡ Some f → datasets x ≡ None
-refused_says p x f h = datasets_none x (refused p x f h)
+refused_says p x f h = datasets_none x (first_false_not_dataset p x f h)
 
 pub refused_fault : (p : ℕ) (x : List ℕ) (f : Cause × ℕ) → first_false (dataset_checks p x) ≡ Some f
     → first_false (checks_left p x) ≡ Some f
-refused_fault p x f h = left_fault p x (refused p x f h) ∙ h
+refused_fault p x f h = left_fault p x (first_false_not_dataset p x f h) ∙ h
 
 part_short : (x : List ℕ) → length (dataset x).octets ≤ length x
 unfolding dataset
@@ -96,14 +96,14 @@ module _ (x : List ℕ) (at : ℕ) (f : Found) (r : Reads (drop at x) f) where
   next : drop (size (drop at x)) (drop at x) ≡ drop (at + f.size) x
   next = ap (λ (n : ℕ). drop n (drop at x)) (sym r.sized) ∙ drop-drop f.size at x
 
-  pub wide : 5 ≤ f.size
-  wide = omega (arith, r.sized)
+  pub dataset_size_ge : 5 ≤ f.size
+  dataset_size_ge = omega (arith, r.sized)
 
   pub octets_within : length x ≤ limit → length f.octets.now ≤ limit
   octets_within h = omega (arith, ap (λ (d : DataSet). length d.octets) r.value, part_short (drop at x), length-drop at x)
 
-  pub inside : at ≤ length x → at + f.size ≤ length x
-  inside h = omega (arith, r.sized, (dataset_holds (drop at x) r.there).whole, length-drop at x)
+  pub dataset_inside : at ≤ length x → at + f.size ≤ length x
+  dataset_inside h = omega (arith, r.sized, (dataset_holds (drop at x) r.there).whole, length-drop at x)
 
   at_end : (b : Bool) → is_end (drop (at + f.size) x) ≡ b → is_end (drop (size (drop at x)) (drop at x)) ≡ b
   at_end b e = ap is_end next ∙ e
@@ -130,13 +130,13 @@ module _ (x : List ℕ) (at : ℕ) (f : Found) (r : Reads (drop at x) f) where
 
 -- ---- the whole
 
-pub iim_of-within : (x : List ℕ) → length x ≤ limit → iim_of x ≡ option_map (gather []) (datasets x)
+pub iim_of_within : (x : List ℕ) → length x ≤ limit → iim_of x ≡ option_map (gather []) (datasets x)
 unfolding iim_of datasets
-iim_of-within x h = cond-true (nat_le (length x) limit) _ _ (le-leb (length x) limit h)
+iim_of_within x h = cond-true (nat_le (length x) limit) _ _ (le-leb (length x) limit h)
 
-pub iim_of-past : (x : List ℕ) → limit < length x → iim_of x ≡ None
+pub iim_of_past : (x : List ℕ) → limit < length x → iim_of x ≡ None
 unfolding iim_of
-iim_of-past x h = cond-false (nat_le (length x) limit) _ _ (lt-leb (length x) limit h)
+iim_of_past x h = cond-false (nat_le (length x) limit) _ _ (lt-leb (length x) limit h)
 
 pub checks_past : (x : List ℕ) → limit < length x → first_false (iim_checks x) ≡ Some (TooLong, limit)
 unfolding iim_checks

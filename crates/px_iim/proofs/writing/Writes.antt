@@ -125,9 +125,9 @@ unfolding normal_head normal_dataset
 head_and_data rec number octets head e = ap (λ (h : List ℕ). h ++ octets) e
 
 -- a length that is counted and no more than the limit
-pub counted : (o : Option ℕ) (n l : ℕ) → o ≡ within_most n → l ≡ unwrap_or o 16777217 → l ≤ limit → (l ≡ n) × (n ≤ limit)
-counted None n l e f h = absurd (omega arith)
-counted (Some m) n l e f h = let s = some_within m n e in (omega (arith, s.0), omega (arith, s.0))
+pub within_most_number : (o : Option ℕ) (n l : ℕ) → o ≡ within_most n → l ≡ unwrap_or o 16777217 → l ≤ limit → (l ≡ n) × (n ≤ limit)
+within_most_number None n l e f h = absurd (omega arith)
+within_most_number (Some m) n l e f h = let s = some_within m n e in (omega (arith, s.0), omega (arith, s.0))
 
 pub not_counted : (o : Option ℕ) (n l : ℕ) → o ≡ within_most n → l ≡ unwrap_or o 16777217 → limit < l → limit < n
 not_counted None n l e f h = elim (cases_lt most n) [

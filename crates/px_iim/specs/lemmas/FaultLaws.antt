@@ -13,7 +13,7 @@ use Rattle.px_iim.specs.DataSet.{DataSet, top_bit, IsSpelling, Spells}
 use Rattle.px_iim.specs.Group.{Record, gather}
 use Rattle.px_iim.specs.Record.{SaysIim, form, extra, size, is_marked, has_form, is_dataset, dataset, is_end}
 use Rattle.px_iim.specs.Check.{dataset_checks, checks_from, iim_checks, FirstFault, Behind, Fault}
-use Rattle.px_iim.specs.lemmas.GatherLaws.{gathers}
+use Rattle.px_iim.specs.lemmas.GatherLaws.{gather_from_empty}
 use Rattle.px_iim.specs.lemmas.SpellingLaws.{Holds, holds_dataset, dataset_holds, spelled_begins, dataset_spelled}
 use Rattle.px_iim.specs.lemmas.SequenceLaws.{IsZero, end_true, blank_unmarked, behind_begins, marked_spelling, Parsed, parsed_end}
 use Rattle.px_iim.specs.lemmas.SequenceLaws.{parsed_more}
@@ -25,19 +25,19 @@ use Rattle.px_iim.specs.Laws.{FaultsTell}
 abbrev pub five : ℕ → Bool → Bool → Bool → Bool → Bool → List Check
 five p a b c d e = check NoMarker p a ∷ check DataSetCut p b ∷ check LengthForm p c ∷ check DataSetCut p d ∷ check DataSetCut p e ∷ []
 
-told : (P : Cause → ℕ → Type 0) (c : Cause) (p : ℕ) (f : Cause × ℕ) → Some (c, p) ≡ Some f → P c p → P f.0 f.1
-told P c p f e h = let q : (c, p) ≡ f = cc in subst (λ (z : Cause × ℕ). P z.0 z.1) q h
+fault_of_some : (P : Cause → ℕ → Type 0) (c : Cause) (p : ℕ) (f : Cause × ℕ) → Some (c, p) ≡ Some f → P c p → P f.0 f.1
+fault_of_some P c p f e h = let q : (c, p) ≡ f = cc in subst (λ (z : Cause × ℕ). P z.0 z.1) q h
 
 five_cases : (P : Cause → ℕ → Type 0) (p : ℕ) (a b c d e : Bool) (rest : List Check) (f : Cause × ℕ) →
     (a ≡ false → P NoMarker p) → (a ≡ true → b ≡ false → P DataSetCut p) → (a ≡ true → b ≡ true → c ≡ false → P LengthForm p) →
     (a ≡ true → c ≡ true → d ≡ false → P DataSetCut p) → (a ≡ true → c ≡ true → e ≡ false → P DataSetCut p) →
     (a ≡ true → b ≡ true → c ≡ true → d ≡ true → e ≡ true → first_false rest ≡ Some f → P f.0 f.1) →
     first_false (five p a b c d e ++ rest) ≡ Some f → P f.0 f.1
-five_cases P p false b c d e rest f h1 h2 h3 h4 h5 h6 q = told P NoMarker p f q (h1 refl)
-five_cases P p true false c d e rest f h1 h2 h3 h4 h5 h6 q = told P DataSetCut p f q (h2 refl refl)
-five_cases P p true true false d e rest f h1 h2 h3 h4 h5 h6 q = told P LengthForm p f q (h3 refl refl refl)
-five_cases P p true true true false e rest f h1 h2 h3 h4 h5 h6 q = told P DataSetCut p f q (h4 refl refl refl)
-five_cases P p true true true true false rest f h1 h2 h3 h4 h5 h6 q = told P DataSetCut p f q (h5 refl refl refl)
+five_cases P p false b c d e rest f h1 h2 h3 h4 h5 h6 q = fault_of_some P NoMarker p f q (h1 refl)
+five_cases P p true false c d e rest f h1 h2 h3 h4 h5 h6 q = fault_of_some P DataSetCut p f q (h2 refl refl)
+five_cases P p true true false d e rest f h1 h2 h3 h4 h5 h6 q = fault_of_some P LengthForm p f q (h3 refl refl refl)
+five_cases P p true true true false e rest f h1 h2 h3 h4 h5 h6 q = fault_of_some P DataSetCut p f q (h4 refl refl refl)
+five_cases P p true true true true false rest f h1 h2 h3 h4 h5 h6 q = fault_of_some P DataSetCut p f q (h5 refl refl refl)
 five_cases P p true true true true true rest f h1 h2 h3 h4 h5 h6 q = h6 refl refl refl refl refl q
 
 five_none : (p : ℕ) (a b c d e : Bool) (rest : List Check) → first_false (five p a b c d e ++ rest) ≡ None →
@@ -161,28 +161,28 @@ next_more d e ds all rest zeros n = record {
   ];
 }
 
-pub aligned : (ds all : List DataSet) (front rest spelled zeros : List ℕ) → front ++ rest ≡ spelled ++ zeros → Spells ds front
+pub spells_aligned : (ds all : List DataSet) (front rest spelled zeros : List ℕ) → front ++ rest ≡ spelled ++ zeros → Spells ds front
     → Spells all spelled → AllByRecursion IsZero zeros → Next ds all rest zeros
-aligned [] [] front rest spelled zeros e s t b =
+spells_aligned [] [] front rest spelled zeros e s t b =
     record { or = inl (sym (ap (λ (z : List ℕ). z ++ rest) s) ∙ e ∙ ap (λ (z : List ℕ). z ++ zeros) t, refl) }
-aligned [] (d ∷ all) front rest spelled zeros e s (a, y, q, u, v) b = record {
+spells_aligned [] (d ∷ all) front rest spelled zeros e s (a, y, q, u, v) b = record {
   or = inr (d, a, y ++ zeros, u, sym (ap (λ (z : List ℕ). z ++ rest) s) ∙ e ∙ ap (λ (z : List ℕ). z ++ zeros) q ∙ append_assoc a y zeros);
 }
-aligned (d ∷ ds) [] front rest spelled zeros e (a, y, q, u, v) t b =
+spells_aligned (d ∷ ds) [] front rest spelled zeros e (a, y, q, u, v) t b =
     let same : a ++ (y ++ rest) ≡ zeros =
     sym (append_assoc a y rest) ∙ ap (λ (z : List ℕ). z ++ rest) (sym q) ∙ e ∙ ap (λ (z : List ℕ). z ++ zeros) t in
     absurd (blank_unmarked zeros b (subst (λ (z : List ℕ). is_marked z ≡ true) same (marked_spelling d a (y ++ rest) u)))
-aligned (d ∷ ds) (f ∷ all) front rest spelled zeros e (a, y, q, u, v) (a', y', q', u', v') b =
+spells_aligned (d ∷ ds) (f ∷ all) front rest spelled zeros e (a, y, q, u, v) (a', y', q', u', v') b =
     let same : a ++ (y ++ rest) ≡ a' ++ (y' ++ zeros) =
     sym (append_assoc a y rest) ∙ ap (λ (z : List ℕ). z ++ rest) (sym q) ∙ e ∙ ap (λ (z : List ℕ). z ++ zeros) q'
     ∙ append_assoc a' y' zeros in
     let on : y ++ rest ≡ y' ++ zeros =
     sym (behind_begins d a (y ++ rest) u) ∙ ap (λ (z : List ℕ). drop (size z) z) same ∙ behind_begins f a' (y' ++ zeros) u' in
-    next_more d f ds all rest zeros (aligned ds all y rest y' zeros on v v' b)
+    next_more d f ds all rest zeros (spells_aligned ds all y rest y' zeros on v v' b)
 
 module _ (x : List ℕ) (i : Record) (s : SaysIim x i) where
   pub next_of : (ds : List DataSet) (rest : List ℕ) (p : ℕ) → Behind x ds rest p → Next ds s.sequence rest s.zeros
-  next_of ds rest p b = aligned ds s.sequence b.front rest s.spelled s.zeros (sym b.whole ∙ s.whole) b.spells s.spells s.blank
+  next_of ds rest p b = spells_aligned ds s.sequence b.front rest s.spelled s.zeros (sym b.whole ∙ s.whole) b.spells s.spells s.blank
 
   -- a marked offset has a whole DataSet
   marked_holds : (ds : List DataSet) (rest : List ℕ) (p : ℕ) → Behind x ds rest p → is_marked rest ≡ true → Holds rest
@@ -227,9 +227,9 @@ stands_unsaid x _ p i h s = absurd h
 -- ---- a record, or a first fault
 
 -- if enough checks pass, the block is a sequence of DataSets
-pub clean : (n p : ℕ) (x : List ℕ) → length x < n → first_false (checks_from n p x) ≡ None → (ds : List DataSet) × Parsed ds x
-clean zero p x l e = absurd (omega arith)
-clean (suc n) p x l e =
+pub checks_clean : (n p : ℕ) (x : List ℕ) → length x < n → first_false (checks_from n p x) ≡ None → (ds : List DataSet) × Parsed ds x
+checks_clean zero p x l e = absurd (omega arith)
+checks_clean (suc n) p x l e =
     let q = five_none p (is_marked x) (nat_le 5 (length x)) (has_form x) (nat_le (5 + extra x) (length x)) (nat_le (size x) (length x))
     (checks_behind n p x) (sym (ap first_false (checks_step n p x)) ∙ e) in
     let h = five_hold x q.0 q.1 q.2 q.3 q.4 in
@@ -239,7 +239,7 @@ clean (suc n) p x l e =
       | inr t ↦
           let d = length-drop (size x) x in
           let w = h.whole in
-          let r = clean n (p + size x) (drop (size x) x) (omega arith) (sym (ap first_false (behind_more n p x i t)) ∙ q.5) in
+          let r = checks_clean n (p + size x) (drop (size x) x) (omega arith) (sym (ap first_false (behind_more n p x i t)) ∙ q.5) in
           (dataset x ∷ r.0, parsed_more x r.0 i r.1)
     ]
 
@@ -254,14 +254,14 @@ parsed_says x ds l p = record {
   spells = p.spells;
   short = p.short;
   blank = p.blank;
-  gathered = gathers ds;
+  gathered = gather_from_empty ds;
 }
 
 pub clean_says : (x : List ℕ) → first_false (iim_checks x) ≡ None → (i : Record) × SaysIim x i
 unfolding iim_checks
 clean_says x e = elim (cases_Bool (nat_le (length x) limit)) [
   | inl t ↦
-      let r = clean (length x + 1) 0 x (omega arith) (sym (cond-true _ _ _ t) ∙ e) in
+      let r = checks_clean (length x + 1) 0 x (omega arith) (sym (cond-true _ _ _ t) ∙ e) in
       (gather [] r.0, parsed_says x r.0 (leb-true (length x) limit t) r.1)
   | inr f ↦ let clash : Some (TooLong, limit) ≡ None = sym (cond-false _ _ _ f) ∙ e in absurd (cc)
 ]

@@ -6,7 +6,7 @@ use Rattle.std.proofs.lemmas.Bool.{cases_Bool}
 use Rattle.std.proofs.lemmas.List.Elements.{filter_map-append}
 use Rattle.px_iim.specs.DataSet.{DataSet}
 use Rattle.px_iim.specs.Group.{Group, Record, is_at, IsAscending, items_at, item_in, put, gather, Gathers}
-use Rattle.px_iim.specs.lemmas.KeyLaws.{at_parts, at_true, beside}
+use Rattle.px_iim.specs.lemmas.KeyLaws.{at_parts, at_true, group_cases}
 use Rattle.px_iim.specs.lemmas.GroupLaws.{Item, After, put_all, put_ascends, put_items, each_after, items_here, items_there, items_past}
 use Rattle.px_iim.specs.Laws.{PutAppends, GatherGathers}
 
@@ -34,18 +34,18 @@ gathers_from (d ∷ ds) before i h =
     subst (λ (z : List DataSet). Gathers z (gather (put d i) ds)) (append_assoc before (d ∷ []) ds)
     (gathers_from ds (before ++ d ∷ []) (put d i) (put_gathers d before i h))
 
-pub gathers : (ds : List DataSet) → Gathers ds (gather [] ds)
-gathers ds = gathers_from ds [] [] (record { ascending = tt; some = tt; filtered = λ rec number. refl })
+pub gather_from_empty : (ds : List DataSet) → Gathers ds (gather [] ds)
+gather_from_empty ds = gathers_from ds [] [] (record { ascending = tt; some = tt; filtered = λ rec number. refl })
 
 -- ---- in one way
 
-none : (g : Group) → 1 ≤ length g.items → g.items ≡ [] → ⊥
-none g l e = let n = ap length e in omega arith
+group_not_empty : (g : Group) → 1 ≤ length g.items → g.items ≡ [] → ⊥
+group_not_empty g l e = let n = ap length e in omega arith
 
 -- an ascending list that begins before another's first group has a list that the other hasn't
-leads : (g h : Group) (gs hs : Record) → After g.rec g.number h → IsAscending (h ∷ hs) → 1 ≤ length g.items
+items_at_before : (g h : Group) (gs hs : Record) → After g.rec g.number h → IsAscending (h ∷ hs) → 1 ≤ length g.items
     → items_at g.rec g.number (g ∷ gs) ≡ items_at g.rec g.number (h ∷ hs) → ⊥
-leads g h gs hs b a l e = none g l (
+items_at_before g h gs hs b a l e = group_not_empty g l (
     sym (items_here g.rec g.number g gs (at_true g.rec g.number g refl refl)) ∙ e
     ∙ items_past g.rec g.number (h ∷ hs) (b, each_after g.rec g.number h.rec h.number b hs a.0))
 
@@ -60,10 +60,10 @@ pub same_groups : (i j : Record) → IsAscending i → IsAscending j → AllByRe
     ((rec number : ℕ) → items_at rec number i ≡ items_at rec number j) → i ≡ j
 same_groups [] [] a b k l e = refl
 same_groups [] (h ∷ hs) a b k l e =
-    absurd (none h l.0 (sym (e h.rec h.number ∙ items_here h.rec h.number h hs (at_true h.rec h.number h refl refl))))
+    absurd (group_not_empty h l.0 (sym (e h.rec h.number ∙ items_here h.rec h.number h hs (at_true h.rec h.number h refl refl))))
 same_groups (g ∷ gs) [] a b k l e =
-    absurd (none g k.0 (sym (items_here g.rec g.number g gs (at_true g.rec g.number g refl refl)) ∙ e g.rec g.number))
-same_groups (g ∷ gs) (h ∷ hs) a b k l e = elim (beside g.rec g.number h) [
+    absurd (group_not_empty g k.0 (sym (items_here g.rec g.number g gs (at_true g.rec g.number g refl refl)) ∙ e g.rec g.number))
+same_groups (g ∷ gs) (h ∷ hs) a b k l e = elim (group_cases g.rec g.number h) [
   | inl t ↦
       let items : g.items ≡ h.items = sym (items_here g.rec g.number g gs (at_true g.rec g.number g refl refl)) ∙ e g.rec g.number
       ∙ items_here g.rec g.number h hs t.0 in
@@ -76,8 +76,8 @@ same_groups (g ∷ gs) (h ∷ hs) a b k l e = elim (beside g.rec g.number h) [
       ] in
       let rest : gs ≡ hs = same_groups gs hs a.1 b.1 k.1 l.1 tails in
       λ x. first x ∷ rest x
-  | inr (inl u) ↦ absurd (leads g h gs hs u.1 b k.0 (e g.rec g.number))
-  | inr (inr o) ↦ absurd (leads h g hs gs o.2 a l.0 (sym (e h.rec h.number)))
+  | inr (inl u) ↦ absurd (items_at_before g h gs hs u.1 b k.0 (e g.rec g.number))
+  | inr (inr o) ↦ absurd (items_at_before h g hs gs o.2 a l.0 (sym (e h.rec h.number)))
 ]
 
 pub one_gathering : (ds : List DataSet) (i j : Record) → Gathers ds i → Gathers ds j → i ≡ j
@@ -85,4 +85,4 @@ one_gathering ds i j g h =
     same_groups i j g.ascending h.ascending g.some h.some (λ rec number. g.filtered rec number ∙ sym (h.filtered rec number))
 
 pub gather_gathers : GatherGathers
-gather_gathers ds i = (λ g. one_gathering ds (gather [] ds) i (gathers ds) g, λ e. subst (Gathers ds) e (gathers ds))
+gather_gathers ds i = (λ g. one_gathering ds (gather [] ds) i (gather_from_empty ds) g, λ e. subst (Gathers ds) e (gather_from_empty ds))

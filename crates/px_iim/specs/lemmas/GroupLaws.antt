@@ -5,7 +5,7 @@ use Rattle.std.specs.List.{AllByRecursion, cons_option}
 use Rattle.std.proofs.lemmas.Bool.{cond-true, cond-false, cases_Bool, and_from, true≢false}
 use Rattle.px_iim.specs.DataSet.{DataSet}
 use Rattle.px_iim.specs.Group.{Group, Record, named, is_at, is_before, IsAscending, items_at, item_in, put}
-use Rattle.px_iim.specs.lemmas.KeyLaws.{at_parts, at_true, at_false, before_trans, before_apart, At, beside}
+use Rattle.px_iim.specs.lemmas.KeyLaws.{at_parts, at_true, at_false, before_trans, before_apart, At, group_cases}
 
 -- an item
 abbrev pub Item : Type 0
@@ -43,7 +43,7 @@ pub put_all : (P : Group → Type 0) (d : DataSet) → P (new_group d)
     → ((g : Group) → At d.rec (named d.rec d.number) g → P g → P (longer d g)) →
     (i : Record) → AllByRecursion P i → AllByRecursion P (put d i)
 put_all P d n l [] h = subst (AllByRecursion P) (sym (put_nil d)) (n, tt)
-put_all P d n l (g ∷ gs) h = elim (beside d.rec (named d.rec d.number) g) [
+put_all P d n l (g ∷ gs) h = elim (group_cases d.rec (named d.rec d.number) g) [
   | inl a ↦ subst (AllByRecursion P) (sym (put_at d g gs a.0)) (l g a h.0, h.1)
   | inr (inl u) ↦ subst (AllByRecursion P) (sym (put_under d g gs u.0 u.1)) (n, h)
   | inr (inr o) ↦ subst (AllByRecursion P) (sym (put_over d g gs o.0 o.1)) (h.0, put_all P d n l gs h.1)
@@ -60,7 +60,7 @@ each_after a b c e h (g ∷ gs) k = (before_trans a b c e g.rec g.number h k.0, 
 
 pub put_ascends : (d : DataSet) (i : Record) → IsAscending i → IsAscending (put d i)
 put_ascends d [] h = subst IsAscending (sym (put_nil d)) (tt, tt)
-put_ascends d (g ∷ gs) h = elim (beside d.rec (named d.rec d.number) g) [
+put_ascends d (g ∷ gs) h = elim (group_cases d.rec (named d.rec d.number) g) [
   | inl a ↦ subst IsAscending (sym (put_at d g gs a.0)) h
   | inr (inl u) ↦ subst IsAscending (sym (put_under d g gs u.0 u.1)) (
     (
@@ -103,7 +103,7 @@ module _ (rec number : ℕ) where
 
   put_other : (d : DataSet) → is_at rec number (new_group d) ≡ false → (i : Record) → items_at rec number (put d i) ≡ items_at rec number i
   put_other d h [] = ap (items_at rec number) (put_nil d) ∙ items_there (new_group d) [] h
-  put_other d h (g ∷ gs) = elim (beside d.rec (named d.rec d.number) g) [
+  put_other d h (g ∷ gs) = elim (group_cases d.rec (named d.rec d.number) g) [
     | inl a ↦
         let other : is_at rec number g ≡ false =
         at_false rec number g (λ p q. true≢false (sym (at_true rec number (new_group d) (sym a.1 ∙ p) (sym a.2 ∙ q)) ∙ h)) in
@@ -117,7 +117,7 @@ put_same : (d : DataSet) (i : Record) → IsAscending i → items_at d.rec (name
     (named d.rec d.number) i ++ (d.number, d.octets) ∷ []
 put_same d [] h = ap (items_at d.rec (named d.rec d.number)) (put_nil d)
     ∙ items_here d.rec (named d.rec d.number) (new_group d) [] (at_true d.rec (named d.rec d.number) (new_group d) refl refl)
-put_same d (g ∷ gs) h = elim (beside d.rec (named d.rec d.number) g) [
+put_same d (g ∷ gs) h = elim (group_cases d.rec (named d.rec d.number) g) [
   | inl a ↦ ap (items_at d.rec (named d.rec d.number)) (put_at d g gs a.0) ∙ items_here d.rec (named d.rec d.number) (longer d g) gs a.0
       ∙ ap (λ (z : List Item). z ++ (d.number, d.octets) ∷ []) (sym (items_here d.rec (named d.rec d.number) g gs a.0))
   | inr (inl u) ↦ ap (items_at d.rec (named d.rec d.number)) (put_under d g gs u.0 u.1)

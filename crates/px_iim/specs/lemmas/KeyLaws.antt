@@ -56,11 +56,11 @@ abbrev pub Over : ℕ → ℕ → Group → Type 0
 Over rec number g =
     (is_at rec number g ≡ false) × (is_before rec number g.rec g.number ≡ false) × (is_before g.rec g.number rec number ≡ true)
 
-order : (a b c d : ℕ) → ((a ≡ c) × (b ≡ d)) ⊎ (Before a b c d ⊎ Before c d a b)
-order a b c d = grind arith
+name_cases : (a b c d : ℕ) → ((a ≡ c) × (b ≡ d)) ⊎ (Before a b c d ⊎ Before c d a b)
+name_cases a b c d = grind arith
 
-pub beside : (rec number : ℕ) (g : Group) → At rec number g ⊎ (Under rec number g ⊎ Over rec number g)
-beside rec number g = elim (order rec number g.rec g.number) [
+pub group_cases : (rec number : ℕ) (g : Group) → At rec number g ⊎ (Under rec number g ⊎ Over rec number g)
+group_cases rec number g = elim (name_cases rec number g.rec g.number) [
   | inl e ↦ inl (at_true rec number g (sym e.0) (sym e.1), sym e.0, sym e.1)
   | inr (inl u) ↦ inr (inl (at_false rec number g (λ p q. omega arith), before_true rec number g.rec g.number u))
   | inr (inr o) ↦ inr (inr (

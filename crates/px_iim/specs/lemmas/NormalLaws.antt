@@ -7,7 +7,7 @@ use Rattle.std.proofs.lemmas.Bool.{cond-true, cond-false, cases_Bool, true≢fal
 use Rattle.std.proofs.lemmas.List.Elements.{filter_map-append}
 use Rattle.px_bytes.specs.declared.Order.TheVariants.{Most}
 use Rattle.px_bytes.specs.Numbers.{AreBytes, number, spelling}
-use Rattle.px_bytes.specs.lemmas.NumberLaws.{number-spelling, length-spelling}
+use Rattle.px_bytes.specs.lemmas.NumberLaws.{number_spelling, length_spelling}
 use Rattle.px_bytes.specs.Parts.{limit}
 use Rattle.px_bytes.specs.lemmas.EachLaws.{each_map}
 use Rattle.px_bytes.specs.lemmas.ByteLaws.{bytes_cons, bytes_append, bytes_spelling}
@@ -17,38 +17,38 @@ use Rattle.px_iim.specs.Record.{SaysIim, normal_count, normal_dataset, normal_gr
 use Rattle.px_iim.specs.lemmas.KeyLaws.{at_parts, at_true, at_false}
 use Rattle.px_iim.specs.lemmas.GroupLaws.{Item, new_group, items_here, items_there, item_here, item_there}
 use Rattle.px_iim.specs.lemmas.GatherLaws.{IsSome, no_more}
-use Rattle.px_iim.specs.lemmas.SpellingLaws.{number-front}
+use Rattle.px_iim.specs.lemmas.SpellingLaws.{number_front}
 use Rattle.px_iim.specs.lemmas.RecordLaws.{one_record}
 use Rattle.px_iim.specs.Laws.{NormalSays, NormalTells}
 
 -- ---- the count
 
-pub normal_count-short : (n : ℕ) → n < top_bit → normal_count n ≡ spelling Most 2 n
+pub normal_count_short : (n : ℕ) → n < top_bit → normal_count n ≡ spelling Most 2 n
 unfolding normal_count
-normal_count-short n h = cond-true _ _ _ (lt-ltb n top_bit h)
+normal_count_short n h = cond-true _ _ _ (lt-ltb n top_bit h)
 
-pub normal_count-long : (n : ℕ) → nat_lt n top_bit ≡ false → normal_count n ≡ spelling Most 2 (top_bit + 4) ++ spelling Most 4 n
+pub normal_count_long : (n : ℕ) → nat_lt n top_bit ≡ false → normal_count n ≡ spelling Most 2 (top_bit + 4) ++ spelling Most 4 n
 unfolding normal_count
-normal_count-long n h = cond-false _ _ _ h
+normal_count_long n h = cond-false _ _ _ h
 
 short_count : (n : ℕ) → n < top_bit → IsStandardCount n (normal_count n)
 short_count n h =
-    let e = normal_count-short n h in
-    (ap length e ∙ length-spelling Most 2 n, ap (number Most 2) e ∙ number-spelling Most 2 n (omega arith), h)
+    let e = normal_count_short n h in
+    (ap length e ∙ length_spelling Most 2 n, ap (number Most 2) e ∙ number_spelling Most 2 n (omega arith), h)
 
 long_count : (n : ℕ) → n ≤ limit → nat_lt n top_bit ≡ false → IsExtendedCount n (normal_count n)
 long_count n l h =
-    let e = normal_count-long n h in
-    let two = length-spelling Most 2 (top_bit + 4) in
-    let four = length-spelling Most 4 n in (
+    let e = normal_count_long n h in
+    let two = length_spelling Most 2 (top_bit + 4) in
+    let four = length_spelling Most 4 n in (
       4,
       omega arith,
       omega arith,
       ap length e ∙ length-append (spelling Most 2 (top_bit + 4)) (spelling Most 4 n) ∙ ap₂ (λ (a b : ℕ). a + b) two four,
-      ap (number Most 2) e ∙ number-front 2 (spelling Most 2 (top_bit + 4)) (spelling Most 4 n) (omega arith)
-          ∙ number-spelling Most 2 (top_bit + 4) (omega arith),
+      ap (number Most 2) e ∙ number_front 2 (spelling Most 2 (top_bit + 4)) (spelling Most 4 n) (omega arith)
+          ∙ number_spelling Most 2 (top_bit + 4) (omega arith),
       ap (λ (z : List ℕ). number Most 4 (drop 2 z)) e
-          ∙ ap (number Most 4) (drop_at (spelling Most 2 (top_bit + 4)) (spelling Most 4 n) 2 two) ∙ number-spelling Most 4 n (omega arith),
+          ∙ ap (number Most 4) (drop_at (spelling Most 2 (top_bit + 4)) (spelling Most 4 n) 2 two) ∙ number_spelling Most 4 n (omega arith),
     )
 
 pub normal_counts : (n : ℕ) → n ≤ limit → IsStandardCount n (normal_count n) ⊎ IsExtendedCount n (normal_count n)
@@ -59,8 +59,8 @@ normal_counts n l = elim (cases_Bool (nat_lt n top_bit)) [
 
 count_bytes : (n : ℕ) → AreBytes (normal_count n)
 count_bytes n = elim (cases_Bool (nat_lt n top_bit)) [
-  | inl t ↦ subst AreBytes (sym (normal_count-short n (ltb-true n top_bit t))) (bytes_spelling Most 2 n)
-  | inr f ↦ subst AreBytes (sym (normal_count-long n f)) (bytes_append (spelling Most 2 (top_bit + 4)) (spelling Most 4 n)
+  | inl t ↦ subst AreBytes (sym (normal_count_short n (ltb-true n top_bit t))) (bytes_spelling Most 2 n)
+  | inr f ↦ subst AreBytes (sym (normal_count_long n f)) (bytes_append (spelling Most 2 (top_bit + 4)) (spelling Most 4 n)
       (bytes_spelling Most 2 (top_bit + 4)) (bytes_spelling Most 4 n))
 ]
 

@@ -10,7 +10,7 @@ use Rattle.px_bytes.specs.lemmas.ByteLaws.{bytes_left, bytes_right}
 use Rattle.px_iim.specs.DataSet.{DataSet, marker, IsSpelling, Spells}
 use Rattle.px_iim.specs.Group.{Group, Record, named, put, gather, IsItem, IsGroup}
 use Rattle.px_iim.specs.Record.{SaysIim, sequence_of, iim_of}
-use Rattle.px_iim.specs.lemmas.KeyLaws.{beside}
+use Rattle.px_iim.specs.lemmas.KeyLaws.{group_cases}
 use Rattle.px_iim.specs.lemmas.GroupLaws.{new_group, longer, put_nil, put_at, put_under, put_over, put_all}
 use Rattle.px_iim.specs.lemmas.GatherLaws.{gather_gathers}
 use Rattle.px_iim.specs.lemmas.SequenceLaws.{Parsed, spells_read, spells_long, read_parsed}
@@ -57,8 +57,8 @@ computed_said x i e = elim (cases_Bool (nat_le (length x) limit)) [
   | inr f ↦ let clash : None ≡ Some i = sym (cond-false _ _ _ f) ∙ e in absurd (cc)
 ]
 
-pub computes : Computes
-computes x i = (said_computed x i, computed_said x i)
+pub iim_of_computes : Computes
+iim_of_computes x i = (said_computed x i, computed_said x i)
 
 -- ---- one record
 
@@ -115,7 +115,7 @@ gather_groups (d ∷ ds) i good h = gather_groups ds (put d i) good.1 (put_group
 
 pub put_some : (d : DataSet) (i : Record) → 1 ≤ length (put d i)
 put_some d [] = let e = ap length (put_nil d) in omega arith
-put_some d (g ∷ gs) = elim (beside d.rec (named d.rec d.number) g) [
+put_some d (g ∷ gs) = elim (group_cases d.rec (named d.rec d.number) g) [
   | inl a ↦ let e = ap length (put_at d g gs a.0) in omega arith
   | inr (inl u) ↦ let e = ap length (put_under d g gs u.0 u.1) in omega arith
   | inr (inr o) ↦ let e = ap length (put_over d g gs o.0 o.1) in omega arith

@@ -3,7 +3,7 @@ use Rattle.std.proofs.Common.{◌≡◌, ◌<◌, ◌≤◌, ◌+◌, ℕ, zero,
 use Rattle.std.proofs.Common.{length, drop, length-drop, append-nil}
 use Rattle.std.proofs.lemmas.Bool.{cond-true, cond-false, cases_Bool}
 use Rattle.px_bytes.specs.Checks.{Check, first_false}
-use Rattle.px_bytes.specs.lemmas.CheckLaws.{first_false-true}
+use Rattle.px_bytes.specs.lemmas.CheckLaws.{first_false_true}
 use Rattle.px_bytes.specs.Parts.{limit}
 use Rattle.px_iim.specs.Record.{extra, size, is_dataset, is_end}
 use Rattle.px_iim.specs.Check.{dataset_checks, checks_from, iim_checks}
@@ -20,8 +20,8 @@ no_dataset : (n p : ℕ) (x : List ℕ) → is_dataset x ≡ false → checks_be
 unfolding checks_behind
 no_dataset n p x h = cond-false _ _ _ h
 
-shorter : (x : List ℕ) → is_dataset x ≡ true → length (drop (size x) x) < length x
-shorter x h = let f = dataset_holds x h in let a = f.five in let w = f.whole in let d = length-drop (size x) x in omega arith
+dataset_drop_shorter : (x : List ℕ) → is_dataset x ≡ true → length (drop (size x) x) < length x
+dataset_drop_shorter x h = let f = dataset_holds x h in let a = f.five in let w = f.whole in let d = length-drop (size x) x in omega arith
 
 -- more of them change nothing
 pub checks_enough : (n m p : ℕ) (x : List ℕ) → length x < n → length x < m → checks_from n p x ≡ checks_from m p x
@@ -32,7 +32,7 @@ checks_enough (suc n) (suc m) p x h k =
       | inl t ↦ elim (cases_Bool (is_end (drop (size x) x))) [
         | inl e ↦ behind_end n p x t e ∙ sym (behind_end m p x t e)
         | inr e ↦
-            let s = shorter x t in
+            let s = dataset_drop_shorter x t in
             behind_more n p x t e ∙ checks_enough n m (p + size x) (drop (size x) x) (omega arith) (omega arith)
             ∙ sym (behind_more m p x t e)
       ]
@@ -59,15 +59,15 @@ left_fault p x h =
 -- after the last DataSet nothing is wrong
 pub left_end : (p : ℕ) (x : List ℕ) → is_dataset x ≡ true → is_end (drop (size x) x) ≡ true → first_false (checks_left p x) ≡ None
 left_end p x h e =
-    ap first_false (left_step p x) ∙ first_false-true (dataset_checks p x) (checks_behind (length x) p x) (dataset_clean p x h)
+    ap first_false (left_step p x) ∙ first_false_true (dataset_checks p x) (checks_behind (length x) p x) (dataset_clean p x h)
     ∙ ap first_false (behind_end (length x) p x h e)
 
 -- after any other, the fault is that of the bytes left
 pub left_more : (p : ℕ) (x : List ℕ) → is_dataset x ≡ true → is_end (drop (size x) x) ≡ false
     → first_false (checks_left p x) ≡ first_false (checks_left (p + size x) (drop (size x) x))
 left_more p x h e =
-    let s = shorter x h in
-    ap first_false (left_step p x) ∙ first_false-true (dataset_checks p x) (checks_behind (length x) p x) (dataset_clean p x h)
+    let s = dataset_drop_shorter x h in
+    ap first_false (left_step p x) ∙ first_false_true (dataset_checks p x) (checks_behind (length x) p x) (dataset_clean p x h)
     ∙ ap first_false (behind_more (length x) p x h e ∙ checks_enough (length x) (length (drop (size x) x) + 1) (p + size x)
     (drop (size x) x) s (omega arith))
 

@@ -6,14 +6,14 @@ use Rattle.std.proofs.lemmas.Bool.{cond-true, cond-false, cases_Bool, and_parts,
 use Rattle.std.proofs.lemmas.List.{drop-take, drop-append-le}
 use Rattle.px_bytes.specs.declared.Order.TheVariants.{Most}
 use Rattle.px_bytes.specs.Numbers.{number}
-use Rattle.px_bytes.specs.lemmas.NumberLaws.{number-take}
+use Rattle.px_bytes.specs.lemmas.NumberLaws.{number_take}
 use Rattle.px_bytes.specs.Parts.{part}
 use Rattle.px_iim.specs.DataSet.{DataSet, marker, top_bit, IsStandardCount, IsExtendedCount, IsSpelling}
 use Rattle.px_iim.specs.Record.{form, extra, count, size, is_marked, has_form, is_dataset, dataset}
 
 -- a number depends on nothing after it
-pub number-front : (k : ℕ) (xs rest : List ℕ) → k ≤ length xs → number Most k (xs ++ rest) ≡ number Most k xs
-number-front k xs rest h = sym (number-take Most k (length xs) (xs ++ rest) h) ∙ ap (number Most k) (take_at xs rest (length xs) refl)
+pub number_front : (k : ℕ) (xs rest : List ℕ) → k ≤ length xs → number Most k (xs ++ rest) ≡ number Most k xs
+number_front k xs rest h = sym (number_take Most k (length xs) (xs ++ rest) h) ∙ ap (number Most k) (take_at xs rest (length xs) refl)
 
 -- ---- the count
 
@@ -119,15 +119,15 @@ module _ (r n : ℕ) (c o b : List ℕ) where
       }
 
   tells_one : IsStandardCount (length o) c → Tells block 0 (length o)
-  tells_one h = tells_standard block (length o) (number-front 2 c (o ++ b) (let l = h.0 in omega arith) ∙ h.1) h.2
+  tells_one h = tells_standard block (length o) (number_front 2 c (o ++ b) (let l = h.0 in omega arith) ∙ h.1) h.2
 
   tells_more : (h : IsExtendedCount (length o) c) → Tells block h.0 (length o)
   tells_more (k, least, most, long, formed, told) =
       let tail : drop 2 (c ++ (o ++ b)) ≡ drop 2 c ++ (o ++ b) = drop-append-le 2 c (o ++ b) (omega arith) in
       let size_of : length (drop 2 c) ≡ k = length-drop 2 c ∙ omega arith in
       tells_extended block k (length o) least most
-      (number-front 2 c (o ++ b) (omega arith) ∙ formed)
-      (ap (number Most k) tail ∙ number-front k (drop 2 c) (o ++ b) (omega arith) ∙ told)
+      (number_front 2 c (o ++ b) (omega arith) ∙ formed)
+      (ap (number Most k) tail ∙ number_front k (drop 2 c) (o ++ b) (omega arith) ∙ told)
 
   pub begins_block : IsStandardCount (length o) c ⊎ IsExtendedCount (length o) c →
       Begins (record { rec = r; number = n; octets = o }) (length (marker ∷ r ∷ n ∷ (c ++ o))) block
@@ -171,7 +171,7 @@ module _ (a r n : ℕ) (y : List ℕ) where
       length-take-le (count octets) (drop (5 + extra octets) octets) (omega arith)
 
   number-counted : number Most 2 counted ≡ form octets
-  number-counted = number-take Most 2 (2 + extra octets) y (omega arith)
+  number-counted = number_take Most 2 (2 + extra octets) y (omega arith)
 
   cut : take (size octets) octets ≡ a ∷ r ∷ n ∷ (counted ++ told)
   cut =
@@ -210,7 +210,7 @@ module _ (a r n : ℕ) (y : List ℕ) where
         length-counted h,
         number-counted ∙ omega arith,
         ap (number Most (extra octets)) (drop-take 2 (extra octets) y)
-            ∙ number-take Most (extra octets) (extra octets) (drop 2 y) (omega arith) ∙ sym k ∙ sym (length-told h),
+            ∙ number_take Most (extra octets) (extra octets) (drop 2 y) (omega arith) ∙ sym k ∙ sym (length-told h),
       )
 
   spelled_octets : Holds octets → IsSpelling (dataset octets) (take (size octets) octets)

@@ -175,8 +175,8 @@ pass_behind e xs (suc j) l s h =
 abbrev pub Passes : Step → Option Extra → ℕ → Type 0
 Passes p o i = (xs : List (ℕ × Item)) → Stands o xs → i < length (over o xs) → Tells p o xs i
 
-pub passes : (p : Step) (o : Option Extra) (e : Extra) (i : ℕ) → o ≡ Some e → Passes p (Some e) i → Passes p o i
-passes p o e i q f = subst (λ o. Passes p o i) (sym q) f
+pub passes_some : (p : Step) (o : Option Extra) (e : Extra) (i : ℕ) → o ≡ Some e → Passes p (Some e) i → Passes p o i
+passes_some p o e i q f = subst (λ o. Passes p o i) (sym q) f
 
 -- an entry at n or after n leaves each index before n as it is
 pub clear_passes : (o : Option Extra) (n i : ℕ) → IsClear n o → i < n → Passes (Under i) o i
@@ -184,14 +184,14 @@ clear_passes None n i c l xs s h = (refl, h)
 clear_passes (Some e) n i c l xs s h = pass_before e xs i (omega arith) s h
 
 -- after the steps over four further entries, the field is at the index that is left
-pub through : (a b c d : Option Extra) (fs : Fields) (i k j h g : ℕ) →
+pub passes_through : (a b c d : Option Extra) (fs : Fields) (i k j h g : ℕ) →
     Passes (Under k) d i → Passes (Under j) c k → Passes (Under h) b j → Passes (Under g) a h →
     Stands a (field_items fs) → Stands b (over a (field_items fs)) → Stands c (over b (over a (field_items fs)))
     → Stands d (over c (over b (over a (field_items fs)))) →
     i < length (over d (over c (over b (over a (field_items fs))))) →
     (slice_get (over d (over c (over b (over a (field_items fs))))) i ≡ option_map (λ p. (p.0, Field p.1)) (slice_get fs g)) × (g < length
     fs)
-through a b c d fs i k j h g pd pc pb pa sa sb sc sd l =
+passes_through a b c d fs i k j h g pd pc pb pa sa sb sc sd l =
     let z = pd (over c (over b (over a (field_items fs)))) sd l in
     let y = pc (over b (over a (field_items fs))) sc z.1 in
     let x = pb (over a (field_items fs)) sb y.1 in
@@ -214,8 +214,8 @@ found_under (Under k) ys zs xs i j e f = (e ∙ f.0, f.1)
 pub upper_here : (t : ℕ) (x : held.Item) (d c : Option Extra) (i : ℕ) → Passes (Here t x) d i → PassesBoth (Here t x) d c i
 upper_here t x d c i p xs sc sd l = p (over c xs) sd l
 
-pub both : (p : Step) (d c : Option Extra) (i j : ℕ) → Passes (Under j) d i → Passes p c j → PassesBoth p d c i
-both p d c i j pd pc xs sc sd l =
+pub passes_both : (p : Step) (d c : Option Extra) (i j : ℕ) → Passes (Under j) d i → Passes p c j → PassesBoth p d c i
+passes_both p d c i j pd pc xs sc sd l =
     let z = pd (over c xs) sd l in found_under p (over d (over c xs)) (over c xs) xs i j z.0 (pc xs sc z.1)
 
 -- past two and two more
@@ -243,7 +243,8 @@ pub clear_through : (a b c d : Option Extra) (fs : Fields) (n i : ℕ) →
     (slice_get (over d (over c (over b (over a (field_items fs))))) i ≡ option_map (λ p. (p.0, Field p.1)) (slice_get fs i)) × (i < length
     fs)
 clear_through a b c d fs n i ca cb cc cd sa sb sc sd u l =
-    through a b c d fs i i i i i (clear_passes d n i cd u) (clear_passes c n i cc u) (clear_passes b n i cb u) (clear_passes a n i ca u)
+    passes_through a b c d fs i i i i i (clear_passes d n i cd u) (clear_passes c n i cc u) (clear_passes b n i cb u)
+        (clear_passes a n i ca u)
     sa sb sc sd l
 
 -- an item that is there is counted
@@ -291,9 +292,9 @@ strips_counted (Some t) s q h = let k : t ≡ s = cc in
 
 -- ---- the entries of each directory
 
-pub there : {X Y : Type 0} (f : X → Y) (o : Option X) → is_some (option_map f o) ≡ is_some o
-there f None = refl
-there f (Some x) = refl
+pub option_map_is_some : {X Y : Type 0} (f : X → Y) (o : Option X) → is_some (option_map f o) ≡ is_some o
+option_map_is_some f None = refl
+option_map_is_some f (Some x) = refl
 
 pub items_are : (m : Meaning) →
     (items m Main ≡ Some (main_items m)) × (items m Exif ≡ option_map exif_items m.exif)

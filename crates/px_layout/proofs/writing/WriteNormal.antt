@@ -45,9 +45,9 @@ module _ (m s : Meaning) (a : Option (List ℕ)) (failed : ℕ) (h : List ℕ) (
       → WritesExif (Err WriteFailed) a d failed n m
   not_flushed b c d k n p t f q = (l, prefix_all a d (normal_exif m) (all b c d k p t f), q)
 
-  pub written : (b c d : Option (List ℕ)) (k : List ℕ) (n x : ℕ) → x ≡ length (normal_exif s) → Owes a b k (h ++ normal_exif s)
+  pub normal_written : (b c d : Option (List ℕ)) (k : List ℕ) (n x : ℕ) → x ≡ length (normal_exif s) → Owes a b k (h ++ normal_exif s)
       → Appends b c k
       → Keeps c d → n ≡ failed → WritesExif (Ok x) a d failed n m
-  written b c d k n x is p t f q =
+  normal_written b c d k n x is p t f q =
       let long : x ≡ length (normal_exif m) = is ∙ ap (λ (y : Meaning). length (normal_exif y)) same in
       (all b c d k p t f, long, subst (λ (y : ℕ). y ≤ limit) (sym long) l, q)

@@ -9,7 +9,7 @@ use Rattle.px_bytes.specs.declared.Order.{Order}
 use Rattle.px_bytes.specs.Numbers.{number}
 use Rattle.px_bytes.specs.Parts.{part, pieces}
 use Rattle.px_bytes.specs.Range.{Range, range}
-use Rattle.px_field.specs.lemmas.PieceLaws.{length-pieces}
+use Rattle.px_field.specs.lemmas.PieceLaws.{length_pieces}
 use Rattle.px_tree.specs.declared.Dir.{Dir}
 use Rattle.px_tree.specs.declared.Dir.TheVariants.{Main, Exif, Interop, Gps, Thumb}
 use Rattle.px_tree.specs.Tree.{Meaning}
@@ -34,17 +34,17 @@ use Rattle.px_layout.specs.lemmas.PayLaws.{main_paid, exif_paid, plain_paid, thu
 
 -- ---- sums
 
-total-append : (rs ss : List Range) → total (rs ++ ss) ≡ total rs + total ss
-total-append [] ss = omega arith
-total-append (r ∷ rs) ss = let e = total-append rs ss in omega arith
+total_append : (rs ss : List Range) → total (rs ++ ss) ≡ total rs + total ss
+total_append [] ss = omega arith
+total_append (r ∷ rs) ss = let e = total_append rs ss in omega arith
 
-padded-append : (xs ys : List (Chunk × ℕ)) → padded_size (xs ++ ys) ≡ padded_size xs + padded_size ys
-padded-append [] ys = omega arith
-padded-append (x ∷ xs) ys = let e = padded-append xs ys in omega arith
+padded_append : (xs ys : List (Chunk × ℕ)) → padded_size (xs ++ ys) ≡ padded_size xs + padded_size ys
+padded_append [] ys = omega arith
+padded_append (x ∷ xs) ys = let e = padded_append xs ys in omega arith
 
 bound_append : (xs ys : List (Chunk × ℕ)) (rs ss : List Range) → padded_size xs ≤ 2 * total rs → padded_size ys ≤ 2 * total ss
     → padded_size (xs ++ ys) ≤ 2 * total (rs ++ ss)
-bound_append xs ys rs ss h k = let p = padded-append xs ys in let t = total-append rs ss in omega arith
+bound_append xs ys rs ss h k = let p = padded_append xs ys in let t = total_append rs ss in omega arith
 
 module _ (b : List ℕ) (o : Order) where
   IsIn : Range → Type 0
@@ -72,7 +72,7 @@ module _ (b : List ℕ) (o : Order) where
     unfolding entries
     length_entries =
         let t = table b o a in
-        length-map (pieces (short o (take 2 t)) 12 (drop 2 t)) (entry o) ∙ length-pieces (short o (take 2 t)) 12 (drop 2 t) ∙ count_is
+        length-map (pieces (short o (take 2 t)) 12 (drop 2 t)) (entry o) ∙ length_pieces (short o (take 2 t)) 12 (drop 2 t) ∙ count_is
 
     placed_inside : (zs : List Entry) → AllByRecursion (IsEntry b o d) zs → AllByRecursion IsIn (filter_map (placed_range o) zs)
     unfolding placed_range has_raw IsIn

@@ -41,8 +41,8 @@ abbrev pub cost : ℕ × Item → ℕ
 cost i = 12 + (if nat_lt 4 (item_size i.1) then even (item_size i.1) else 0)
 
 -- a value of at most twice the bytes has at most twice the size
-pub widens : (i : ℕ × Item) (e : Entry) → item_size i.1 ≤ 2 * raw_size e → cost i ≤ 2 * weight e
-widens i e h =
+pub cost_widened : (i : ℕ × Item) (e : Entry) → item_size i.1 ≤ 2 * raw_size e → cost i ≤ 2 * weight e
+cost_widened i e h =
     cond_both (nat_lt 4 (item_size i.1)) (even (item_size i.1)) 0 (λ n. 12 + n ≤ 2 * weight e) (λ _. long (item_size i.1) (raw_size e) h)
     (λ _. none (apart_size (raw_size e)))
   where

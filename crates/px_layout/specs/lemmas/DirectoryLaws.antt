@@ -7,8 +7,8 @@ use Rattle.std.proofs.lemmas.Bool.{cond-true, and_from}
 use Rattle.px_bytes.specs.declared.Order.{Order}
 use Rattle.px_bytes.specs.Numbers.{number, spelling}
 use Rattle.px_bytes.specs.Parts.{part, pieces}
-use Rattle.px_bytes.specs.lemmas.NumberLaws.{length-spelling, number-spelling}
-use Rattle.px_bytes.specs.lemmas.EachLaws.{each_map, map-each, map-map}
+use Rattle.px_bytes.specs.lemmas.NumberLaws.{length_spelling, number_spelling}
+use Rattle.px_bytes.specs.lemmas.EachLaws.{each_map, map_each, map_map}
 use Rattle.px_field.specs.lemmas.PieceLaws.{pieces_joined}
 use Rattle.px_tree.specs.declared.Dir.{Dir}
 use Rattle.px_tree.specs.Tree.{Meaning}
@@ -20,14 +20,14 @@ use Rattle.px_layout.specs.declared.chunks.Chunk.TheVariants.{Table}
 use Rattle.px_layout.specs.Plans.{Plan, place}
 use Rattle.px_layout.specs.Laid.{entry_bytes, next_bytes, table_bytes}
 use Rattle.px_layout.specs.lemmas.StandLaws.{Stands}
-use Rattle.px_layout.specs.lemmas.SizeLaws.{length_table, length_entries, twelve}
+use Rattle.px_layout.specs.lemmas.SizeLaws.{length_table, length_entries, entries_twelve}
 use Rattle.px_layout.specs.lemmas.ItemLaws.{Suits, item_field, IsHere, entry_of, entry_is}
 use Rattle.px_layout.specs.lemmas.ReadLaws.{field_is, entry_in_order}
 
-pub filter_map-each : {X Y Z : Type 0} (g : Y → Option Z) (f : X → Y) (h : X → Option Z) (xs : List X)
+pub filter_map_each : {X Y Z : Type 0} (g : Y → Option Z) (f : X → Y) (h : X → Option Z) (xs : List X)
     → AllByRecursion (λ x. g (f x) ≡ h x) xs → filter_map g (map f xs) ≡ filter_map h xs
-filter_map-each g f h [] e = refl
-filter_map-each g f h (x ∷ xs) e = ap₂ cons_option e.0 (filter_map-each g f h xs e.1)
+filter_map_each g f h [] e = refl
+filter_map_each g f h (x ∷ xs) e = ap₂ cons_option e.0 (filter_map_each g f h xs e.1)
 
 pub each_along : {X Y : Type 0} (P : Y → Type 0) (f : X → Y) (xs : List X) → AllByRecursion (λ x. P (f x)) xs → AllByRecursion P (map f xs)
 each_along P f [] h = tt
@@ -53,16 +53,16 @@ module _ (plan : Plan) (o : Order) (filler : ℕ) (b : List ℕ) (m : Meaning) (
   unfolding bytes table_bytes
   first_2 =
       take_at (spelling o 2 (length xs)) (flat_map (entry_bytes plan o filler d) xs
-      ++ next_bytes plan o filler m d) 2 (length-spelling o 2 (length xs))
+      ++ next_bytes plan o filler m d) 2 (length_spelling o 2 (length xs))
 
   after_2 : drop 2 bytes ≡ flat_map (entry_bytes plan o filler d) xs ++ next_bytes plan o filler m d
   unfolding bytes table_bytes
   after_2 =
       drop_at (spelling o 2 (length xs)) (flat_map (entry_bytes plan o filler d) xs
-      ++ next_bytes plan o filler m d) 2 (length-spelling o 2 (length xs))
+      ++ next_bytes plan o filler m d) 2 (length_spelling o 2 (length xs))
 
   count_of : short o (take 2 bytes) ≡ length xs
-  count_of = ap (number o 2) first_2 ∙ number-spelling o 2 (length xs) few
+  count_of = ap (number o 2) first_2 ∙ number_spelling o 2 (length xs) few
 
   stands : part b at (length bytes) ≡ bytes
   unfolding bytes
@@ -91,9 +91,9 @@ module _ (plan : Plan) (o : Order) (filler : ℕ) (b : List ℕ) (m : Meaning) (
   unfolding entries
   entries_are = ap (λ t. map (entry o) (pieces (short o (take 2 t)) 12 (drop 2 t))) table_is
       ∙ ap (map (entry o)) (ap₂ (λ n y. pieces n 12 y) count_of after_2
-      ∙ pieces_joined 12 (entry_bytes plan o filler d) xs (next_bytes plan o filler m d) (twelve plan o filler d xs suit))
-      ∙ map-map (entry o) (entry_bytes plan o filler d) xs
-      ∙ map-each (λ i. entry o (entry_bytes plan o filler d i)) (entry_of plan o filler d) xs
+      ∙ pieces_joined 12 (entry_bytes plan o filler d) xs (next_bytes plan o filler m d) (entries_twelve plan o filler d xs suit))
+      ∙ map_map (entry o) (entry_bytes plan o filler d) xs
+      ∙ map_each (λ i. entry o (entry_bytes plan o filler d i)) (entry_of plan o filler d) xs
       (each_map (IsHere plan o filler b d) (λ i. entry o (entry_bytes plan o filler d i) ≡ entry_of plan o filler d i)
       (λ i h. entry_is plan o filler b d i h) xs here)
 
@@ -108,13 +108,13 @@ module _ (plan : Plan) (o : Order) (filler : ℕ) (b : List ℕ) (m : Meaning) (
   pub fields_are : fields b o d at ≡ filter_map item_field xs
   unfolding fields
   fields_are = ap (filter_map (field b o d)) entries_are
-      ∙ filter_map-each (field b o d) (entry_of plan o filler d) item_field xs
+      ∙ filter_map_each (field b o d) (entry_of plan o filler d) item_field xs
       (each_map (IsHere plan o filler b d) (λ i. field b o d (entry_of plan o filler d i) ≡ item_field i)
       (λ i h. field_is plan o filler b d i h) xs here)
 
   tags : map (λ (e : Entry). e.tag) (map (entry_of plan o filler d) xs) ≡ map (λ i. i.0) xs
   unfolding entry_of
-  tags = map-map (λ (e : Entry). e.tag) (entry_of plan o filler d) xs
+  tags = map_map (λ (e : Entry). e.tag) (entry_of plan o filler d) xs
 
   pub directory_stands : Rising (map (λ i. i.0) xs) → IsDirectory b o d at
   directory_stands r = record {

@@ -113,11 +113,11 @@ contents_as plan m =
     sym (flat_map-append padded_content (flat_map (λ d. contents_of_dir plan Most 0 m d (items m d)) dirs) (thumb_contents m.thumb))
 
 -- each part of a list's parts
-pub flat_map-flat_map : {X Y Z : Type 0} (g : Y → List Z) (f : X → List Y) (xs : List X)
+pub flat_map_flat_map : {X Y Z : Type 0} (g : Y → List Z) (f : X → List Y) (xs : List X)
     → flat_map (λ x. flat_map g (f x)) xs ≡ flat_map g (flat_map f xs)
-flat_map-flat_map g f [] = refl
-flat_map-flat_map g f (x ∷ xs) = ap (λ y. flat_map g (f x) ++ y) (flat_map-flat_map g f xs) ∙ sym (flat_map-append g (f x) (flat_map f xs))
+flat_map_flat_map g f [] = refl
+flat_map_flat_map g f (x ∷ xs) = ap (λ y. flat_map g (f x) ++ y) (flat_map_flat_map g f xs) ∙ sym (flat_map-append g (f x) (flat_map f xs))
 
 pub dirs_as : (plan : Plan) (m : Meaning) → flat_map (dir_bytes plan m) dirs ≡ flat_map padded_content
     (flat_map (λ d. contents_of_dir plan Most 0 m d (items m d)) dirs)
-dirs_as plan m = flat_map-flat_map padded_content (λ d. contents_of_dir plan Most 0 m d (items m d)) dirs
+dirs_as plan m = flat_map_flat_map padded_content (λ d. contents_of_dir plan Most 0 m d (items m d)) dirs

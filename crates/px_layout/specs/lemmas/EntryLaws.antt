@@ -222,13 +222,13 @@ rising_missing k f n (t ∷ ts) l m a b c r =
           omega arith
     ]
 
-forbidden : (d : Dir) → role d free_offsets_tag ≡ Forbidden
+free_offsets_forbidden : (d : Dir) → role d free_offsets_tag ≡ Forbidden
 unfolding role
-forbidden Main = refl
-forbidden Exif = refl
-forbidden Interop = refl
-forbidden Gps = refl
-forbidden Thumb = refl
+free_offsets_forbidden Main = refl
+free_offsets_forbidden Exif = refl
+free_offsets_forbidden Interop = refl
+free_offsets_forbidden Gps = refl
+free_offsets_forbidden Thumb = refl
 
 no_suit : (x : Item) → Suits Forbidden x → ⊥
 no_suit _ h = h
@@ -249,7 +249,7 @@ few_items d xs g =
     (each_tag (λ t. 0 ≤ t) (λ i. i.0 < 2 ^ 16) (λ i h. omega arith) xs g.tags)
     (each_tag (λ t. t < 2 ^ 16) (λ i. i.0 < 2 ^ 16) (λ i h. h) xs g.tags)
     (each_tag (λ t. t ≡ free_offsets_tag → ⊥) (λ i. Suits (role d i.0) i.1)
-    (λ i h q. no_suit i.1 (subst (λ r. Suits r i.1) (ap (role d) q ∙ forbidden d) h)) xs g.suit)
+    (λ i h q. no_suit i.1 (subst (λ r. Suits r i.1) (ap (role d) q ∙ free_offsets_forbidden d) h)) xs g.suit)
     g.rising in
     let l = length_tags xs in
     omega arith

@@ -9,12 +9,12 @@ use Rattle.px_bytes.specs.declared.Order.{Order}
 use Rattle.px_bytes.specs.declared.Order.TheVariants.{Least, Most}
 use Rattle.px_bytes.specs.Numbers.{number, spelling}
 use Rattle.px_bytes.specs.Parts.{limit, part}
-use Rattle.px_bytes.specs.lemmas.NumberLaws.{length-spelling, number-spelling}
+use Rattle.px_bytes.specs.lemmas.NumberLaws.{length_spelling, number_spelling}
 use Rattle.px_bytes.specs.lemmas.EachLaws.{each_all}
 use Rattle.px_field.specs.Forms.{code}
-use Rattle.px_field.specs.lemmas.FormLaws.{form_of-code, code-lt}
+use Rattle.px_field.specs.lemmas.FormLaws.{form_of_code, code_lt}
 use Rattle.px_field.specs.Values.{Value, IsValue}
-use Rattle.px_field.specs.lemmas.ValueLaws.{length-spelled}
+use Rattle.px_field.specs.lemmas.ValueLaws.{length_spelled}
 use Rattle.px_field.specs.lemmas.PieceLaws.{length_joined}
 use Rattle.px_iim.specs.lemmas.RecordLaws.{said_computed}
 use Rattle.px_iim.specs.lemmas.NormalLaws.{normal_says}
@@ -29,26 +29,26 @@ use Rattle.px_layout.specs.declared.chunks.Chunk.TheVariants.{Placed}
 use Rattle.px_layout.specs.declared.chunks.Chunk.TheVariants as chunk
 use Rattle.px_layout.specs.Plans.{Plan, place}
 use Rattle.px_layout.specs.Laid.{long_bytes, item_bytes, last_bytes, entry_bytes}
-use Rattle.px_layout.specs.lemmas.StandLaws.{Stands, length-range}
+use Rattle.px_layout.specs.lemmas.StandLaws.{Stands, length_range}
 
 -- a record's normal form reads back
-pub iim-normal : (i : Iim) → IsRecord i → length (normal_iim i) ≤ limit → iim_of (normal_iim i) ≡ Some i
-iim-normal i h l = said_computed (normal_iim i) i ((normal_says i h).2 l)
+pub iim_normal : (i : Iim) → IsRecord i → length (normal_iim i) ≤ limit → iim_of (normal_iim i) ≡ Some i
+iim_normal i h l = said_computed (normal_iim i) i ((normal_says i h).2 l)
 
 -- an encoded entry is decoded to itself
-pub entry-spelled : (o : Order) (t c n : ℕ) (last : List ℕ) → t < 2 ^ 16 → c < 2 ^ 16 → n < 2 ^ 32 → length last ≡ 4 →
+pub entry_spelled : (o : Order) (t c n : ℕ) (last : List ℕ) → t < 2 ^ 16 → c < 2 ^ 16 → n < 2 ^ 32 → length last ≡ 4 →
     entry o (spelling o 2 t ++ (spelling o 2 c ++ (spelling o 4 n ++ last))) ≡ record { tag = t; code = c; count = n; last = last }
 unfolding entry
-entry-spelled Least t c n last ht hc hn hl i = record {
-  tag = number-spelling Least 2 t ht i;
-  code = number-spelling Least 2 c hc i;
-  count = number-spelling Least 4 n hn i;
+entry_spelled Least t c n last ht hc hn hl i = record {
+  tag = number_spelling Least 2 t ht i;
+  code = number_spelling Least 2 c hc i;
+  count = number_spelling Least 4 n hn i;
   last = take_all 4 last (omega arith) i;
 }
-entry-spelled Most t c n last ht hc hn hl i = record {
-  tag = number-spelling Most 2 t ht i;
-  code = number-spelling Most 2 c hc i;
-  count = number-spelling Most 4 n hn i;
+entry_spelled Most t c n last ht hc hn hl i = record {
+  tag = number_spelling Most 2 t ht i;
+  code = number_spelling Most 2 c hc i;
+  count = number_spelling Most 4 n hn i;
   last = take_all 4 last (omega arith) i;
 }
 
@@ -74,25 +74,25 @@ abbrev pub item_field : ℕ × Item → Option (ℕ × Value)
 item_field i = option_map (λ v. (i.0, v)) (item_value i.1)
 
 module _ (plan : Plan) (o : Order) (filler : ℕ) where
-  pub length-item : (r : Role) (i : Item) → Suits r i → length (item_bytes plan o filler i) ≡ item_size i
+  pub length_item : (r : Role) (i : Item) → Suits r i → length (item_bytes plan o filler i) ≡ item_size i
   unfolding item_bytes item_size
-  length-item Plain (Field v) h = length-spelled o v h.0
-  length-item Widened (Field v) h = length-spelled o v h.0
-  length-item Record (Field v) h = length-spelled o v h.0
-  length-item Record (Iptc i) h = omega arith
-  length-item (To d) (Link e) h = length-spelling o 4 (place plan (chunk.Table e))
-  length-item JpegOffset AtJpeg h = length-spelling o 4 (place plan chunk.Jpeg)
-  length-item JpegLength (JpegSize n) h = length-spelling o 4 n
-  length-item StripOffsets (AtStrips n) h =
+  length_item Plain (Field v) h = length_spelled o v h.0
+  length_item Widened (Field v) h = length_spelled o v h.0
+  length_item Record (Field v) h = length_spelled o v h.0
+  length_item Record (Iptc i) h = omega arith
+  length_item (To d) (Link e) h = length_spelling o 4 (place plan (chunk.Table e))
+  length_item JpegOffset AtJpeg h = length_spelling o 4 (place plan chunk.Jpeg)
+  length_item JpegLength (JpegSize n) h = length_spelling o 4 n
+  length_item StripOffsets (AtStrips n) h =
       length_joined 4 (λ i. long_bytes o (place plan (chunk.Strip i))) (range_with_len 0 n)
-      (each_four (λ i. place plan (chunk.Strip i)) (range_with_len 0 n)) ∙ ap (λ k. k * 4) (length-range 0 n)
+      (each_four (λ i. place plan (chunk.Strip i)) (range_with_len 0 n)) ∙ ap (λ k. k * 4) (length_range 0 n)
     where
       each_four : (g : ℕ → ℕ) (xs : List ℕ) → AllByRecursion (λ x. length (spelling o 4 (g x)) ≡ 4) xs
       each_four g [] = tt
-      each_four g (x ∷ xs) = (length-spelling o 4 (g x), each_four g xs)
-  length-item StripLengths (StripSizes ns) h =
-      length_joined 4 (long_bytes o) ns (each_all (λ n. length (spelling o 4 n) ≡ 4) (λ n. length-spelling o 4 n) ns)
-  length-item _ _ h = absurd h
+      each_four g (x ∷ xs) = (length_spelling o 4 (g x), each_four g xs)
+  length_item StripLengths (StripSizes ns) h =
+      length_joined 4 (long_bytes o) ns (each_all (λ n. length (spelling o 4 n) ≡ 4) (λ n. length_spelling o 4 n) ns)
+  length_item _ _ h = absurd h
 
   -- the entry that an item makes
   unfoldable pub entry_of : Dir → ℕ × Item → Entry
@@ -109,13 +109,13 @@ module _ (plan : Plan) (o : Order) (filler : ℕ) where
 
   module _ (d : Dir) (i : ℕ × Item) (s : Suits (role d i.0) i.1) where
     pub length_is : length (item_bytes plan o filler i.1) ≡ item_size i.1
-    length_is = length-item (role d i.0) i.1 s
+    length_is = length_item (role d i.0) i.1 s
 
     pub length_last : length (last_bytes plan o filler d i) ≡ 4
     unfolding last_bytes
     length_last = elim (cases_Bool (nat_lt 4 (item_size i.1))) [
       | inl t ↦ ap (λ x. length x) (cond-true (nat_lt 4 (item_size i.1)) (long_bytes o (place plan (Placed d i.0)))
-          (item_bytes plan o filler i.1 ++ replicate (4 - item_size i.1) filler) t) ∙ length-spelling o 4 (place plan (Placed d i.0))
+          (item_bytes plan o filler i.1 ++ replicate (4 - item_size i.1) filler) t) ∙ length_spelling o 4 (place plan (Placed d i.0))
       | inr n ↦ ap (λ x. length x) (cond-false (nat_lt 4 (item_size i.1)) (long_bytes o (place plan (Placed d i.0)))
           (item_bytes plan o filler i.1 ++ replicate (4 - item_size i.1) filler) n)
           ∙ (let a = length-append (item_bytes plan o filler i.1) (replicate (4 - item_size i.1) filler) in
@@ -136,12 +136,12 @@ module _ (plan : Plan) (o : Order) (filler : ℕ) where
   module _ (b : List ℕ) (d : Dir) (i : ℕ × Item) (h : IsHere b d i) where
     pub size_is : raw_size (entry_of d i) ≡ item_size i.1
     unfolding raw_size entry_of item_size
-    size_is = ap (λ f. sized f (item_count i.1)) (form_of-code (item_form i.1))
+    size_is = ap (λ f. sized f (item_count i.1)) (form_of_code (item_form i.1))
 
     pub entry_is : entry o (entry_bytes plan o filler d i) ≡ entry_of d i
     unfolding entry_bytes entry_of
     entry_is =
-        entry-spelled o i.0 (code (item_form i.1)) (item_count i.1) (last_bytes plan o filler d i) h.tag (code-lt (item_form i.1)) h.count
+        entry_spelled o i.0 (code (item_form i.1)) (item_count i.1) (last_bytes plan o filler d i) h.tag (code_lt (item_form i.1)) h.count
         (length_last d i h.suits)
 
     pub placed_as : is_placed (entry_of d i) ≡ nat_lt 4 (item_size i.1)
@@ -152,7 +152,7 @@ module _ (plan : Plan) (o : Order) (filler : ℕ) where
     offset_is t =
         ap (number o 4) (cond-true (nat_lt 4 (item_size i.1)) (long_bytes o (place plan (Placed d i.0)))
         (item_bytes plan o filler i.1 ++ replicate (4 - item_size i.1) filler) t)
-        ∙ number-spelling o 4 (place plan (Placed d i.0)) (h.near t)
+        ∙ number_spelling o 4 (place plan (Placed d i.0)) (h.near t)
 
     last_is : nat_lt 4 (item_size i.1) ≡ false → (entry_of d i).last ≡ item_bytes plan o filler i.1 ++ replicate (4 - item_size i.1) filler
     unfolding entry_of last_bytes

@@ -8,11 +8,11 @@ use Rattle.std.proofs.lemmas.List.{map-append, length-map}
 use Rattle.px_bytes.specs.Parts.{limit}
 use Rattle.px_bytes.specs.declared.Order.{Order}
 use Rattle.px_bytes.specs.Range.{range, AllApart}
-use Rattle.px_bytes.specs.lemmas.NumberLaws.{number-spelling}
+use Rattle.px_bytes.specs.lemmas.NumberLaws.{number_spelling}
 use Rattle.px_bytes.specs.lemmas.EachLaws.{each_map, each_left, each_right}
 use Rattle.px_field.specs.Values.{form_in, Value}
 use Rattle.px_field.specs.Forms.{form_of}
-use Rattle.px_field.specs.lemmas.FormLaws.{form_of-code}
+use Rattle.px_field.specs.lemmas.FormLaws.{form_of_code}
 use Rattle.px_tree.specs.Iim.{Iim, IsRecord, normal_iim}
 use Rattle.px_tree.specs.declared.Dir.{Dir}
 use Rattle.px_tree.specs.declared.Dir.TheVariants.{Main, Exif, Interop, Gps, Thumb}
@@ -34,14 +34,15 @@ use Rattle.px_layout.specs.Chunks.{chunks}
 use Rattle.px_layout.specs.Plans.{Plan, place, Legal, plan_ranges}
 use Rattle.px_layout.specs.Laws.{LegalSays}
 use Rattle.px_layout.specs.Laid.{item_bytes, jpeg_contents, strip_contents, all_strip_contents, thumb_contents}
-use Rattle.px_layout.specs.lemmas.StandLaws.{Stands, length-range}
-use Rattle.px_layout.specs.lemmas.ItemLaws.{IsHere, entry_of, raw_is, iim-normal, size_is, placed_as, offset_is}
+use Rattle.px_layout.specs.lemmas.StandLaws.{Stands, length_range}
+use Rattle.px_layout.specs.lemmas.ItemLaws.{IsHere, entry_of, raw_is, iim_normal, size_is, placed_as, offset_is}
 use Rattle.px_layout.specs.lemmas.ReadLaws.{record_turned}
-use Rattle.px_layout.specs.lemmas.DirectoryLaws.{filter_map-each, directory_stands, count_is}
-use Rattle.px_layout.specs.lemmas.SizeLaws.{filter_map-map}
+use Rattle.px_layout.specs.lemmas.DirectoryLaws.{filter_map_each, directory_stands, count_is}
+use Rattle.px_layout.specs.lemmas.SizeLaws.{filter_map_map}
 use Rattle.px_layout.specs.lemmas.EntryLaws.{NotThere}
 use Rattle.px_layout.specs.lemmas.TagLaws.{at_some_same, at_some_other, at_fields, each_at, fields_back, entry_found}
-use Rattle.px_layout.specs.lemmas.PlacedLaws.{block, length_block, near, thumb_here, good_dir, table_here, items_here, some_items, few}
+use Rattle.px_layout.specs.lemmas.PlacedLaws.{block, length_block, stands_near, thumb_here, good_dir}
+use Rattle.px_layout.specs.lemmas.PlacedLaws.{table_here, items_here, some_items, entries_few}
 use Rattle.px_layout.specs.lemmas.PointerLaws.{main_items_are, main_place, entries_of, fields_of, next_of, exif_items_are}
 use Rattle.px_layout.specs.lemmas.PointerLaws.{interop_items_are, thumb_items_are, dir_at_plan, begins_is}
 use Rattle.px_layout.specs.lemmas.PartLaws.{fields_main, fields_exif, fields_thumb, numbers_at_strips, numbers_sizes, offset_jpeg}
@@ -66,7 +67,7 @@ module _ (m : Meaning) (plan : Plan) (o : Order) (filler : ℕ) (f : Fits m) (l 
   stands_dir : (d : Dir) (xs : List (ℕ × Item)) → items m d ≡ Some xs → IsDirectory b o d (at_plan d)
   stands_dir d xs is =
       directory_stands plan o filler b m d xs (items_here m plan o filler f l d xs is) (some_items m plan o filler f l d xs is)
-      (few m plan o filler f l d xs is) (table_here m plan o filler f l d xs is) (good_dir m plan o filler f l d xs is).rising
+      (entries_few m plan o filler f l d xs is) (table_here m plan o filler f l d xs is) (good_dir m plan o filler f l d xs is).rising
 
   in_order : (d : Dir) (x : Option (List (ℕ × Item))) → items m d ≡ x → IfSome (dir_at b o d) (IsDirectory b o d)
   in_order d None is = subst (λ a. IfSome a (IsDirectory b o d)) (sym (not_there d is)) tt
@@ -96,12 +97,12 @@ module _ (m : Meaning) (plan : Plan) (o : Order) (filler : ℕ) (f : Fits m) (l 
   unfolding dir_ranges
   ranges_dir d xs is = ap₂ (λ n rs. range (at_plan d) (table_size n) ∷ rs)
       (count_is plan o filler b m d xs (items_here m plan o filler f l d xs is) (some_items m plan o filler f l d xs is)
-      (few m plan o filler f l d xs is) (table_here m plan o filler f l d xs is))
+      (entries_few m plan o filler f l d xs is) (table_here m plan o filler f l d xs is))
       (ap (filter_map (placed_range o)) (entries_of m plan o filler f l d xs is)
-      ∙ filter_map-each (placed_range o) (entry_of plan o filler d) (λ i. option_map (chunk_range plan) (placed_chunk d i)) xs
+      ∙ filter_map_each (placed_range o) (entry_of plan o filler d) (λ i. option_map (chunk_range plan) (placed_chunk d i)) xs
       (each_map (IsHere plan o filler b d) (λ i. placed_range o (entry_of plan o filler d i) ≡ option_map (chunk_range plan)
       (placed_chunk d i)) (placed_one d) xs (items_here m plan o filler f l d xs is))
-      ∙ sym (filter_map-map (chunk_range plan) (placed_chunk d) (λ i. option_map (chunk_range plan) (placed_chunk d i)) xs
+      ∙ sym (filter_map_map (chunk_range plan) (placed_chunk d) (λ i. option_map (chunk_range plan) (placed_chunk d i)) xs
       (same_each (λ i. option_map (chunk_range plan) (placed_chunk d i)) xs)))
 
   ranges_opt : (d : Dir) (x : Option (List (ℕ × Item))) → items m d ≡ x
@@ -150,7 +151,7 @@ module _ (m : Meaning) (plan : Plan) (o : Order) (filler : ℕ) (f : Fits m) (l 
     strips_here = each_right Here (jpeg_contents t.jpeg) _ parts_here
 
     near_chunk : (c : Chunk × List ℕ) → Here c → place plan c.0 < 2 ^ 32
-    near_chunk c h = let n = near m plan o filler f l (place plan c.0) c.1 h in omega arith
+    near_chunk c h = let n = stands_near m plan o filler f l (place plan c.0) c.1 h in omega arith
 
     -- the JPEG
     jpeg_is : (j : Option (List ℕ)) → t.jpeg ≡ j → jpeg_range o es ≡ option_map (λ x. range (place plan Jpeg) (length x)) j
@@ -184,7 +185,7 @@ module _ (m : Meaning) (plan : Plan) (o : Order) (filler : ℕ) (f : Fits m) (l 
         (found strip_lengths_tag (Some (StripSizes (map (λ x. length x) s))) e2)
         ∙ ap₂ (λ xs ns. Some (ranges_of xs ns))
         (numbers_at_strips plan o filler b Thumb strip_offsets_tag (length s) (here strip_offsets_tag (AtStrips (length s)) e1)
-        (length-range 0 (length s)) (strips_near plan o filler Here near_chunk 0 s h))
+        (length_range 0 (length s)) (strips_near plan o filler Here near_chunk 0 s h))
         (numbers_sizes plan o filler b Thumb strip_lengths_tag (map (λ x. length x) s)
         (here strip_lengths_tag (StripSizes (map (λ x. length x) s)) e2)
         (small s (subst (λ s. IfSome s (λ s. (length s ≤ limit) × AllByRecursion IsBytes s)) q fit.strips).1))
@@ -271,7 +272,7 @@ module _ (m : Meaning) (plan : Plan) (o : Order) (filler : ℕ) (f : Fits m) (l 
           (at_strips t fit) (at_lengths t fit);
       strip_counts = counts t.strips refl;
       strips_inside = strips_in t.strips refl;
-      ends = next_of m plan o filler f l Thumb (thumb_items t) items_are ∙ number-spelling o 4 0 (omega arith);
+      ends = next_of m plan o filler f l Thumb (thumb_items t) items_are ∙ number_spelling o 4 0 (omega arith);
     }
 
   no_thumb : m.thumb ≡ None → dir_at b o Thumb ≡ None
@@ -360,7 +361,7 @@ module _ (m : Meaning) (plan : Plan) (o : Order) (filler : ℕ) (f : Fits m) (l 
       → record_in (item_form x) (item_bytes plan o filler x) ≡ i → record_entry (entry_with record_tag (entries_at b o (at_plan Main))) ≡ i
   unfolding record_entry entry_of
   record_read x i e c = ap record_entry (main_found (Some x) e)
-      ∙ ap (option_and_then (λ f. record_in f (raw b o (entry_of plan o filler Main (record_tag, x))))) (form_of-code (item_form x))
+      ∙ ap (option_and_then (λ f. record_in f (raw b o (entry_of plan o filler Main (record_tag, x))))) (form_of_code (item_form x))
       ∙ ap (record_in (item_form x)) (raw_is plan o filler b Main (record_tag, x) (main_here x e)) ∙ c
 
   record_role : role Main record_tag ≡ Record
@@ -387,7 +388,7 @@ module _ (m : Meaning) (plan : Plan) (o : Order) (filler : ℕ) (f : Fits m) (l 
       ∙ at_some_same record_tag (Some (Iptc i)) (field_items m.main) (none (subst
       (λ x. IfSome x (λ i. AllByRecursion (λ p. (p.0 ≡ record_tag) → ⊥) m.main)) q f.no_second)) in
       let l : item_size (Iptc i) ≤ limit = (main_here (Iptc i) e).bounded in
-      record_read (Iptc i) (Some i) e (iim-normal i (subst (λ x. IfSome x (λ i. IsRecord i × (length (normal_iim i) ≤ 2 * limit))) q
+      record_read (Iptc i) (Some i) e (iim_normal i (subst (λ x. IfSome x (λ i. IsRecord i × (length (normal_iim i) ≤ 2 * limit))) q
       f.iptc).0 (omega arith))
     where
       none_in : (fs : Fields) → AllByRecursion (λ p. (p.0 ≡ record_tag) → ⊥) fs → NotThere record_tag (field_items fs)

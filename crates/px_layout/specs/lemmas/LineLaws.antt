@@ -9,7 +9,7 @@ use Rattle.std.proofs.lemmas.List.{length-append, length-replicate, get_or_appen
 use Rattle.px_bytes.specs.Parts.{limit}
 use Rattle.px_bytes.specs.declared.Order.TheVariants.{Most}
 use Rattle.px_bytes.specs.Range.{Range, range, IsIn, Apart, AllApart}
-use Rattle.px_bytes.specs.lemmas.EachLaws.{map-each, map-map}
+use Rattle.px_bytes.specs.lemmas.EachLaws.{map_each, map_map}
 use Rattle.px_tree.specs.declared.Dir.{Dir}
 use Rattle.px_tree.specs.declared.Dir.TheVariants.{Main, Exif, Interop, Gps, Thumb}
 use Rattle.px_tree.specs.Tree.{Meaning}
@@ -22,7 +22,7 @@ use Rattle.px_layout.specs.Chunks.{chunks, same_chunk}
 use Rattle.px_layout.specs.Plans.{Plan, place, Legal, plan_ranges}
 use Rattle.px_layout.specs.Laid.{contents, header, laid_pieces, byte_at, laid}
 use Rattle.px_layout.specs.Normal.{even, running, padded_size, normal_plan, padded, normal_exif}
-use Rattle.px_layout.specs.lemmas.StandLaws.{piece_range, length-laid, laid_at}
+use Rattle.px_layout.specs.lemmas.StandLaws.{piece_range, length_laid, laid_at}
 use Rattle.px_layout.specs.lemmas.SizeLaws.{contents_sized, length_header}
 use Rattle.px_layout.specs.lemmas.RankLaws.{chunk_rank, rank, chunks_rise}
 
@@ -36,23 +36,23 @@ same_dir Gps Gps h = refl
 same_dir Thumb Thumb h = refl
 same_dir _ _ h = absurd (omega arith)
 
-pub same_chunk-true : (c e : Chunk) → same_chunk c e ≡ true → c ≡ e
-same_chunk-true (Table d) (Table e) h = ap (λ x. Table x) (same_dir d e (eqb-true (dir_number d) (dir_number e) h))
-same_chunk-true (Placed d t) (Placed e u) h = let p = and_parts (dir_number d == dir_number e) (t == u) h in
+pub same_chunk_true : (c e : Chunk) → same_chunk c e ≡ true → c ≡ e
+same_chunk_true (Table d) (Table e) h = ap (λ x. Table x) (same_dir d e (eqb-true (dir_number d) (dir_number e) h))
+same_chunk_true (Placed d t) (Placed e u) h = let p = and_parts (dir_number d == dir_number e) (t == u) h in
     ap₂ (λ x y. Placed x y) (same_dir d e (eqb-true (dir_number d) (dir_number e) p.0)) (eqb-true t u p.1)
-same_chunk-true Jpeg Jpeg h = refl
-same_chunk-true (Strip i) (Strip j) h = ap (λ x. Strip x) (eqb-true i j h)
-same_chunk-true _ _ h = cc
+same_chunk_true Jpeg Jpeg h = refl
+same_chunk_true (Strip i) (Strip j) h = ap (λ x. Strip x) (eqb-true i j h)
+same_chunk_true _ _ h = cc
 
-pub same_chunk-self : (c : Chunk) → same_chunk c c ≡ true
-same_chunk-self (Table d) = eq-eqb (dir_number d) (dir_number d) refl
-same_chunk-self (Placed d t) = and_from _ _ (eq-eqb (dir_number d) (dir_number d) refl) (eq-eqb t t refl)
-same_chunk-self Jpeg = refl
-same_chunk-self (Strip i) = eq-eqb i i refl
+pub same_chunk_self : (c : Chunk) → same_chunk c c ≡ true
+same_chunk_self (Table d) = eq-eqb (dir_number d) (dir_number d) refl
+same_chunk_self (Placed d t) = and_from _ _ (eq-eqb (dir_number d) (dir_number d) refl) (eq-eqb t t refl)
+same_chunk_self Jpeg = refl
+same_chunk_self (Strip i) = eq-eqb i i refl
 
 pub other_chunk : (c e : Chunk) → chunk_rank c < chunk_rank e → same_chunk c e ≡ false
 other_chunk c e l =
-    false_from_ne_true (same_chunk c e) (λ h. let q : chunk_rank c ≡ chunk_rank e = ap chunk_rank (same_chunk-true c e h) in absurd
+    false_from_ne_true (same_chunk c e) (λ h. let q : chunk_rank c ≡ chunk_rank e = ap chunk_rank (same_chunk_true c e h) in absurd
     (omega arith))
 
 -- ---- running offsets
@@ -87,8 +87,8 @@ module _ {X : Type 0} (name : X → Chunk) (size : X → ℕ) where
   found_lined x [] r = refl
   found_lined x (c ∷ cs) r = ap₂ (λ y ys. y ∷ ys)
       (ap (λ o. (unwrap_or o 0, c)) (cond-true (same_chunk (name c) (name c)) (Some x) (running (x + even (size c)) (named cs) (name c))
-      (same_chunk-self (name c))))
-      (map-each (spot x ((name c, size c) ∷ named cs)) (spot (x + even (size c)) (named cs)) cs (each_behind x c cs cs r.0)
+      (same_chunk_self (name c))))
+      (map_each (spot x ((name c, size c) ∷ named cs)) (spot (x + even (size c)) (named cs)) cs (each_behind x c cs cs r.0)
       ∙ found_lined (x + even (size c)) cs r.1)
 
 -- ---- ranges in a line
@@ -132,9 +132,9 @@ not_covered p (y ∷ ys) h = cond-false (nat_le y.0 p && nat_lt p (y.0 + length 
     (leb-true _ _ q.0, ltb-true _ _ q.1)))
     ∙ not_covered p ys h.1
 
-behind : (p x : ℕ) (cs : List (List ℕ)) → p < x → AllByRecursion (λ y. IsIn p (piece_range y) → ⊥) (lined (λ c. length c) x cs)
-behind p x [] l = tt
-behind p x (c ∷ cs) l = (λ i. let q = i.0 in omega arith, behind p (x + even (length c)) cs (omega arith))
+lined_after : (p x : ℕ) (cs : List (List ℕ)) → p < x → AllByRecursion (λ y. IsIn p (piece_range y) → ⊥) (lined (λ c. length c) x cs)
+lined_after p x [] l = tt
+lined_after p x (c ∷ cs) l = (λ i. let q = i.0 in omega arith, lined_after p (x + even (length c)) cs (omega arith))
 
 length_padded : (c : List ℕ) → length (padded c) ≡ even (length c)
 length_padded c = length-append c (replicate (length c % 2) 0) ∙ ap (λ n. length c + n) (length-replicate (length c % 2) 0)
@@ -143,16 +143,16 @@ pub length_line : (cs : List (List ℕ)) → length (flat_map padded cs) ≡ tot
 length_line [] = refl
 length_line (c ∷ cs) = length-append (padded c) (flat_map padded cs) ∙ ap₂ (λ x y. x + y) (length_padded c) (length_line cs)
 
-default : (y : List ℕ) (k d : ℕ) → k < length y → get_or y k d ≡ slice_index y k
-default [] k d l = absurd (omega arith)
-default (z ∷ zs) zero d l = refl
-default (z ∷ zs) (suc k) d l = default zs k d (omega arith)
+get_or_slice_index : (y : List ℕ) (k d : ℕ) → k < length y → get_or y k d ≡ slice_index y k
+get_or_slice_index [] k d l = absurd (omega arith)
+get_or_slice_index (z ∷ zs) zero d l = refl
+get_or_slice_index (z ∷ zs) (suc k) d l = get_or_slice_index zs k d (omega arith)
 
-past : (x k d : ℕ) (c : List ℕ) (cs : List (List ℕ)) → k < length (padded c ++ flat_map padded cs) → length c ≤ k →
+padded_past : (x k d : ℕ) (c : List ℕ) (cs : List (List ℕ)) → k < length (padded c ++ flat_map padded cs) → length c ≤ k →
     ((j e : ℕ) → j < length (flat_map padded cs) → get_or (flat_map padded cs) j e ≡ byte_at 0
     (lined (λ c. length c) (x + even (length c)) cs) (x + even (length c) + j)) →
     get_or (padded c ++ flat_map padded cs) k d ≡ byte_at 0 (lined (λ c. length c) (x + even (length c)) cs) (x + k)
-past x k d c cs l a ih =
+padded_past x k d c cs l a ih =
     let lp : length (padded c) ≡ even (length c) = length_padded c in
     let la : length (padded c ++ flat_map padded cs) ≡ length (padded c) + length (flat_map padded cs) =
     length-append (padded c) (flat_map padded cs) in
@@ -162,7 +162,7 @@ past x k d c cs l a ih =
           ∙ get_or-append_right c (replicate (length c % 2) 0) (length c) k d refl a
           ∙ get_or-replicate (length c % 2) (k - length c) 0 d (omega arith)
           ∙ sym (not_covered (x + k) (lined (λ c. length c) (x + even (length c)) cs)
-          (behind (x + k) (x + even (length c)) cs (omega arith)))
+          (lined_after (x + k) (x + even (length c)) cs (omega arith)))
       | inr b ↦
           get_or-append_right (padded c) (flat_map padded cs) (length (padded c)) k d refl b
           ∙ ih (k - length (padded c)) d (omega arith)
@@ -181,12 +181,12 @@ line_byte x k d (c ∷ cs) l =
       | inl a ↦
           get_or_append_left (padded c) (flat_map padded cs) d k (omega arith)
           ∙ get_or_append_left c (replicate (length c % 2) 0) d k a
-          ∙ default c k d a
+          ∙ get_or_slice_index c k d a
           ∙ ap (λ j. slice_index c j) (omega arith)
           ∙ sym (cond-true (nat_le x (x + k) && nat_lt (x + k) (x + length c)) (slice_index c (x + k - x))
           (byte_at 0 (lined (λ c. length c) (x + even (length c)) cs) (x + k))
           (and_from _ _ (le-leb x (x + k) (omega arith)) (lt-ltb (x + k) (x + length c) (omega arith))))
-      | inr a ↦ past x k d c cs l a (λ j e m. line_byte (x + even (length c)) j e cs m)
+      | inr a ↦ padded_past x k d c cs l a (λ j e m. line_byte (x + even (length c)) j e cs m)
           ∙ sym (cond-false (nat_le x (x + k) && nat_lt (x + k) (x + length c)) (slice_index c (x + k - x))
           (byte_at 0 (lined (λ c. length c) (x + even (length c)) cs) (x + k))
           (false_from_ne_true _ (λ e. let q = and_parts (nat_le x (x + k)) (nat_lt (x + k) (x + length c)) e in let z = ltb-true
@@ -209,7 +209,7 @@ module _ (m : Meaning) (f : Fits m) where
   names_are = contents_sized plan Most 0 m f
 
   ranks : Rising (map (λ (c : Chunk × List ℕ). chunk_rank c.0) placed)
-  ranks = subst Rising (sym (sym (map-map rank (λ (c : Chunk × List ℕ). (c.0, length c.1)) placed) ∙ ap (map rank) names_are))
+  ranks = subst Rising (sym (sym (map_map rank (λ (c : Chunk × List ℕ). (c.0, length c.1)) placed) ∙ ap (map rank) names_are))
       (chunks_rise m f)
 
   -- the pieces of the plan follow the header in a line
@@ -224,7 +224,7 @@ module _ (m : Meaning) (f : Fits m) where
   pieces_are : map (λ (c : Chunk × List ℕ). (place plan c.0, c.1)) placed ≡ lined (λ (c : List ℕ). length c) 8 bodies
   unfolding normal_plan
   pieces_are = ap (λ ns. map (λ (c : Chunk × List ℕ). (found 8 ns c.0, c.1)) placed) (sym names_are)
-      ∙ sym (map-map (λ (y : ℕ × (Chunk × List ℕ)). (y.0, y.1.1)) (spot (λ (c : Chunk × List ℕ). c.0) bytes_size 8
+      ∙ sym (map_map (λ (y : ℕ × (Chunk × List ℕ)). (y.0, y.1.1)) (spot (λ (c : Chunk × List ℕ). c.0) bytes_size 8
       (named (λ (c : Chunk × List ℕ). c.0) bytes_size placed)) placed)
       ∙ ap (map (λ (y : ℕ × (Chunk × List ℕ)). (y.0, y.1.1))) (found_lined (λ (c : Chunk × List ℕ). c.0) bytes_size 8 placed ranks)
       ∙ lined-map 8 placed
@@ -271,7 +271,7 @@ module _ (m : Meaning) (f : Fits m) where
       let lh : length head ≡ 8 = length_header plan Most 0 in
       let la : length (head ++ line) ≡ length head + length line = length-append head line in
       elim (cases_lt k 8) [
-        | inl a ↦ get_or_append_left head line d k (omega arith) ∙ default head k d (omega arith)
+        | inl a ↦ get_or_append_left head line d k (omega arith) ∙ get_or_slice_index head k d (omega arith)
             ∙ sym (cond-true (nat_le 0 k && nat_lt k (0 + length head)) (slice_index head (k - 0))
             (byte_at 0 (lined (λ (c : List ℕ). length c) 8 bodies) k) (and_from _ _ (le-leb 0 k (omega arith))
             (lt-ltb k (0 + length head) (omega arith)))
@@ -287,7 +287,7 @@ module _ (m : Meaning) (f : Fits m) where
   -- The normal form is the block that its plan lays out.
   pub laid_in_line : normal_exif m ≡ laid m plan Most 0
   laid_in_line = normal_as ∙ same_lists (head ++ line) (map (byte_at 0 pieces) (range_with_len 0 plan.length))
-      (ap (λ x. length x) (sym normal_as) ∙ length_normal ∙ sym (length-laid (byte_at 0 pieces) plan.length))
+      (ap (λ x. length x) (sym normal_as) ∙ length_normal ∙ sym (length_laid (byte_at 0 pieces) plan.length))
       (λ k d l. each_byte k d l ∙ sym (laid_at (byte_at 0 pieces) plan.length k d
       (let e = ap (λ x. length x) normal_as in let g = length_normal in omega arith)))
       ∙ sym laid_as
@@ -298,7 +298,7 @@ module _ (m : Meaning) (f : Fits m) where
       (lined (λ (c : Chunk × ℕ). c.1) 8 (chunks m))
   unfolding normal_plan
   ranges_in_line = ap (λ ns. map (λ (c : Chunk × ℕ). range (found 8 ns c.0) c.1) (chunks m)) (sym (map-same (chunks m)))
-      ∙ sym (map-map (ranged (λ (c : Chunk × ℕ). c.1)) (spot (λ (c : Chunk × ℕ). c.0) (λ c. c.1) 8
+      ∙ sym (map_map (ranged (λ (c : Chunk × ℕ). c.1)) (spot (λ (c : Chunk × ℕ). c.0) (λ c. c.1) 8
       (named (λ (c : Chunk × ℕ). c.0) (λ c. c.1) (chunks m))) (chunks m))
       ∙ ap (map (ranged (λ (c : Chunk × ℕ). c.1))) (found_lined (λ (c : Chunk × ℕ). c.0) (λ c. c.1) 8 (chunks m) (chunks_rise m f))
     where
@@ -314,7 +314,7 @@ module _ (m : Meaning) (f : Fits m) where
     forth : (x : ℕ) (cs : List (Chunk × ℕ)) → IsSome (running x cs c) → Contains (map (λ x. x.0) cs) c
     forth x [] h = cc
     forth x (y ∷ ys) h = elim (cases_Bool (same_chunk y.0 c)) [
-      | inl q ↦ (0, omega arith, same_chunk-true y.0 c q)
+      | inl q ↦ (0, omega arith, same_chunk_true y.0 c q)
       | inr q ↦ let r =
           forth (x + even y.1) ys (subst IsSome (cond-false (same_chunk y.0 c) (Some x) (running (x + even y.1) ys c) q) h) in
           (suc r.0, (let l = r.1 in omega arith), r.2)
@@ -325,7 +325,7 @@ module _ (m : Meaning) (f : Fits m) where
     back x [] k l e = absurd (omega arith)
     back x (y ∷ ys) zero l e =
         subst IsSome (sym (cond-true (same_chunk y.0 c) (Some x) (running (x + even y.1) ys c)
-        (subst (λ z. same_chunk y.0 z ≡ true) e (same_chunk-self y.0)))) refl
+        (subst (λ z. same_chunk y.0 z ≡ true) e (same_chunk_self y.0)))) refl
     back x (y ∷ ys) (suc k) l e = elim (cases_Bool (same_chunk y.0 c)) [
       | inl q ↦ subst IsSome (sym (cond-true (same_chunk y.0 c) (Some x) (running (x + even y.1) ys c) q)) refl
       | inr q ↦ subst IsSome (sym (cond-false (same_chunk y.0 c) (Some x) (running (x + even y.1) ys c) q))

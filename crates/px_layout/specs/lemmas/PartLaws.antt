@@ -7,11 +7,11 @@ use Rattle.px_bytes.specs.Parts.{pieces}
 use Rattle.px_bytes.specs.declared.Order.{Order}
 use Rattle.px_bytes.specs.Numbers.{number, spelling}
 use Rattle.px_bytes.specs.Range.{Range, range}
-use Rattle.px_bytes.specs.lemmas.NumberLaws.{number-spelling, length-spelling}
+use Rattle.px_bytes.specs.lemmas.NumberLaws.{number_spelling, length_spelling}
 use Rattle.px_field.specs.declared.Form.TheVariants.{Long}
 use Rattle.px_field.specs.Values.{element_of, elements}
 use Rattle.px_field.specs.lemmas.PieceLaws.{pieces_joined}
-use Rattle.px_field.specs.lemmas.FormLaws.{form_of-code}
+use Rattle.px_field.specs.lemmas.FormLaws.{form_of_code}
 use Rattle.px_tree.specs.declared.Dir.{Dir}
 use Rattle.px_tree.specs.declared.Dir.TheVariants.{Exif, Interop, Gps, Thumb}
 use Rattle.px_tree.specs.Tree.{ExifPart, Thumbnail, Meaning}
@@ -67,12 +67,12 @@ module _ (plan : Plan) (o : Order) (filler : ℕ) (b : List ℕ) where
 
       four : (xs : List _) → AllByRecursion (λ x. length (spelling o 4 (g x)) ≡ 4) xs
       four [] = tt
-      four (x ∷ xs) = (length-spelling o 4 (g x), four xs)
+      four (x ∷ xs) = (length_spelling o 4 (g x), four xs)
 
       back : (xs : List _) → AllByRecursion (λ x. g x < 2 ^ 32) xs
           → map whole_number (map (element_of o Long) (map (λ x. spelling o 4 (g x)) xs)) ≡ map g xs
       back [] h = refl
-      back (x ∷ xs) h = ap₂ (λ n ns. n ∷ ns) (number-spelling o 4 (g x) h.0) (back xs h.1)
+      back (x ∷ xs) h = ap₂ (λ n ns. n ∷ ns) (number_spelling o 4 (g x) h.0) (back xs h.1)
 
   module _ (d : Dir) (t : ℕ) where
     -- the numbers of the two lists of strips
@@ -80,14 +80,14 @@ module _ (plan : Plan) (o : Order) (filler : ℕ) (b : List ℕ) where
         → AllByRecursion (λ i. place plan (Strip i) < 2 ^ 32) (range_with_len 0 n)
         → numbers b o (entry_of plan o filler d (t, AtStrips n)) ≡ map (λ i. place plan (Strip i)) (range_with_len 0 n)
     unfolding numbers entry_of entry_elements item_bytes
-    numbers_at_strips n h len k = ap (numbers_in b o (entry_of plan o filler d (t, AtStrips n))) (form_of-code Long)
+    numbers_at_strips n h len k = ap (numbers_in b o (entry_of plan o filler d (t, AtStrips n))) (form_of_code Long)
         ∙ ap₂ (λ c r. map whole_number (elements o Long c r)) (sym len) (raw_is plan o filler b d (t, AtStrips n) h)
         ∙ long_elements (λ i. place plan (Strip i)) (range_with_len 0 n) k
 
     pub numbers_sizes : (ns : List ℕ) → IsHere plan o filler b d (t, StripSizes ns) → AllByRecursion (λ n. n < 2 ^ 32) ns
         → numbers b o (entry_of plan o filler d (t, StripSizes ns)) ≡ ns
     unfolding numbers entry_of entry_elements item_bytes
-    numbers_sizes ns h k = ap (numbers_in b o (entry_of plan o filler d (t, StripSizes ns))) (form_of-code Long)
+    numbers_sizes ns h k = ap (numbers_in b o (entry_of plan o filler d (t, StripSizes ns))) (form_of_code Long)
         ∙ ap (λ r. map whole_number (elements o Long (length ns) r)) (raw_is plan o filler b d (t, StripSizes ns) h)
         ∙ long_elements (λ n. n) ns k ∙ map-same ns
       where
@@ -97,11 +97,11 @@ module _ (plan : Plan) (o : Order) (filler : ℕ) (b : List ℕ) where
 
     pub offset_jpeg : place plan Jpeg < 2 ^ 32 → offset o (entry_of plan o filler d (t, AtJpeg)) ≡ place plan Jpeg
     unfolding entry_of last_bytes item_size item_bytes
-    offset_jpeg h = ap (number o 4) (append-nil (spelling o 4 (place plan Jpeg))) ∙ number-spelling o 4 (place plan Jpeg) h
+    offset_jpeg h = ap (number o 4) (append-nil (spelling o 4 (place plan Jpeg))) ∙ number_spelling o 4 (place plan Jpeg) h
 
     pub offset_size : (n : ℕ) → n < 2 ^ 32 → offset o (entry_of plan o filler d (t, JpegSize n)) ≡ n
     unfolding entry_of last_bytes item_size item_bytes
-    offset_size n h = ap (number o 4) (append-nil (spelling o 4 n)) ∙ number-spelling o 4 n h
+    offset_size n h = ap (number o 4) (append-nil (spelling o 4 n)) ∙ number_spelling o 4 n h
 
 -- ---- the indexes of the thumbnail's parts among its entries
 

@@ -15,7 +15,7 @@ use Rattle.px_field.specs.declared.Element.{Element}
 use Rattle.px_field.specs.declared.Kind.TheVariants.{Of}
 use Rattle.px_field.specs.Forms.{form_of, size}
 use Rattle.px_field.specs.Values.{Value, elements, widened}
-use Rattle.px_field.specs.lemmas.ValueLaws.{length-elements}
+use Rattle.px_field.specs.lemmas.ValueLaws.{length_elements}
 use Rattle.px_iim.specs.lemmas.RecordLaws.{computed_said}
 use Rattle.px_iim.specs.lemmas.BoundLaws.{normal_bound as record_bound}
 use Rattle.px_tree.specs.Iim.{Iim}
@@ -34,7 +34,7 @@ use Rattle.px_tree.specs.Says.{record_at, exif_part, thumbnail, meaning}
 use Rattle.px_tree.specs.Fits.{Item, Field, Iptc, Link, AtJpeg, JpegSize, AtStrips, StripSizes, item_size, put_some, link, field_items}
 use Rattle.px_tree.specs.Fits.{main_items, exif_items, thumb_items}
 use Rattle.px_layout.specs.lemmas.EntryLaws.{each_put}
-use Rattle.px_layout.specs.lemmas.CostLaws.{weight, cost, widens, Pays, PayEach, pays_found, found_is, pay_fields}
+use Rattle.px_layout.specs.lemmas.CostLaws.{weight, cost, cost_widened, Pays, PayEach, pays_found, found_is, pay_fields}
 
 least_weight : (e : Entry) → 12 ≤ weight e
 least_weight e = omega arith
@@ -75,7 +75,7 @@ module _ (b : List ℕ) (o : Order) where
 
     length_is : length (entry_elements b o e f) ≡ e.count
     unfolding entry_elements
-    length_is = length-elements o f e.count (raw b o e)
+    length_is = length_elements o f e.count (raw b o e)
 
     same_size : item_size (Field (record { kind = Of f; elements = entry_elements b o e f })) ≤ 2 * raw_size e
     unfolding item_size
@@ -112,7 +112,7 @@ module _ (b : List ℕ) (o : Order) where
   fields_paid d a = pay_fields (λ e. option_and_then (value_in b o e (role d e.tag)) (form_of e.code)) (entries_at b o a)
       (each_all (λ e. (v : Value) → option_and_then (value_in b o e (role d e.tag)) (form_of e.code) ≡ Some v → cost (e.tag, Field v) ≤ 2 *
       weight e)
-      (λ e v h. widens (e.tag, Field v) e (field_size d e v (form_of e.code) refl h)) (entries_at b o a))
+      (λ e v h. cost_widened (e.tag, Field v) e (field_size d e v (form_of e.code) refl h)) (entries_at b o a))
 
   -- ---- pointers
 
@@ -152,7 +152,7 @@ module _ (b : List ℕ) (o : Order) where
   unfolding entry_record
   record_pays es i None q h = cc
   record_pays es i (Some e) q h =
-      tag_pays record_tag (cost (record_tag, Iptc i)) es e q (widens (record_tag, Iptc i) e (record_size e i (form_of e.code) h))
+      tag_pays record_tag (cost (record_tag, Iptc i)) es e q (cost_widened (record_tag, Iptc i) e (record_size e i (form_of e.code) h))
 
   record_paid : (a : ℕ) (z : Option Iim) → record_at b o a ≡ z
       → IfSome (option_map Iptc z) (λ x. Pays record_tag (cost (record_tag, x)) (entries_at b o a))
@@ -193,7 +193,7 @@ module _ (b : List ℕ) (o : Order) where
   unfolding entry_elements
   few_in e None = omega arith
   few_in e (Some f) =
-      let m = length-map (elements o f e.count (raw b o e)) whole_number in let k = length-elements o f e.count (raw b o e) in omega arith
+      let m = length-map (elements o f e.count (raw b o e)) whole_number in let k = length_elements o f e.count (raw b o e) in omega arith
 
   few_numbers : (e : Entry) → length (numbers b o e) ≤ e.count
   unfolding numbers
@@ -238,9 +238,9 @@ module _ (b : List ℕ) (o : Order) where
       let x = raw_long p.0 (formed strip_offsets_tag es p.0 h (λ e. refl) p.2) in
       let y = raw_long p.1 (formed strip_lengths_tag es p.1 h (λ e. refl) p.3) in (
         tag_pays strip_offsets_tag (cost (strip_offsets_tag, AtStrips (length s))) es p.0 p.2
-            (widens (strip_offsets_tag, AtStrips (length s)) p.0 (omega arith)),
+            (cost_widened (strip_offsets_tag, AtStrips (length s)) p.0 (omega arith)),
         tag_pays strip_lengths_tag (cost (strip_lengths_tag, StripSizes (map (λ x. length x) s))) es p.1 p.3
-            (widens (strip_lengths_tag, StripSizes (map (λ x. length x) s)) p.1 (omega arith)),
+            (cost_widened (strip_lengths_tag, StripSizes (map (λ x. length x) s)) p.1 (omega arith)),
       )
 
   -- ---- each directory

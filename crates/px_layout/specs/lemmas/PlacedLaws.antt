@@ -21,7 +21,7 @@ use Rattle.px_layout.specs.declared.chunks.Chunk.TheVariants.{Table, Placed}
 use Rattle.px_layout.specs.Plans.{Plan, place, Legal}
 use Rattle.px_layout.specs.Laid.{item_bytes, table_bytes, placed_content, contents_of_dir, thumb_contents, contents, header, laid_pieces}
 use Rattle.px_layout.specs.Laid.{laid}
-use Rattle.px_layout.specs.lemmas.StandLaws.{Stands, length-laid}
+use Rattle.px_layout.specs.lemmas.StandLaws.{Stands, length_laid}
 use Rattle.px_layout.specs.lemmas.ItemLaws.{Suits, IsHere, length_is}
 use Rattle.px_layout.specs.lemmas.EntryLaws.{Good, good_items, few_items}
 use Rattle.px_layout.specs.lemmas.SizeLaws.{pieces_stand}
@@ -41,15 +41,15 @@ count_le Float n = omega arith
 count_le Double n = omega arith
 count_le Utf8 n = omega arith
 
-picked : {Y : Type 0} (P : Y → Type 0) (o : Option Y) (ys : List Y) → AllByRecursion P (cons_option o ys)
+all_cons_option : {Y : Type 0} (P : Y → Type 0) (o : Option Y) (ys : List Y) → AllByRecursion P (cons_option o ys)
     → ((y : Y) → o ≡ Some y → P y) × AllByRecursion P ys
-picked P None ys a = (λ y e. cc, a)
-picked P (Some z) ys a = (λ y e. let k : z ≡ y = cc in subst P k a.0, a.1)
+all_cons_option P None ys a = (λ y e. cc, a)
+all_cons_option P (Some z) ys a = (λ y e. let k : z ≡ y = cc in subst P k a.0, a.1)
 
 each_picked : {X Y : Type 0} (P : Y → Type 0) (h : X → Option Y) (xs : List X) → AllByRecursion P (filter_map h xs)
     → AllByRecursion (λ x. (y : Y) → h x ≡ Some y → P y) xs
 each_picked P h [] a = tt
-each_picked P h (x ∷ xs) a = let q = picked P (h x) (filter_map h xs) a in (q.0, each_picked P h xs q.1)
+each_picked P h (x ∷ xs) a = let q = all_cons_option P (h x) (filter_map h xs) a in (q.0, each_picked P h xs q.1)
 
 module _ (m : Meaning) (plan : Plan) (o : Order) (filler : ℕ) (f : Fits m) (l : Legal m plan) where
   abbrev pub block : List ℕ
@@ -57,7 +57,7 @@ module _ (m : Meaning) (plan : Plan) (o : Order) (filler : ℕ) (f : Fits m) (l 
 
   pub length_block : length block ≡ plan.length
   unfolding laid
-  length_block = length-laid _ plan.length
+  length_block = length_laid _ plan.length
 
   -- a chunk at its offset
   abbrev pub Here : Chunk × List ℕ → Type 0
@@ -101,8 +101,8 @@ module _ (m : Meaning) (plan : Plan) (o : Order) (filler : ℕ) (f : Fits m) (l 
   dir_here Gps = each_left Here (of_dir Gps) _ from_gps
   dir_here Thumb = each_left Here (of_dir Thumb) [] (each_right Here (of_dir Gps) _ from_gps)
 
-  pub near : (x : ℕ) (y : List ℕ) → Stands block x y → x + length y < 2 ^ 32
-  near x y s = let i = s.inside in let b = length_block in let k = l.most in omega arith
+  pub stands_near : (x : ℕ) (y : List ℕ) → Stands block x y → x + length y < 2 ^ 32
+  stands_near x y s = let i = s.inside in let b = length_block in let k = l.most in omega arith
 
   -- a directory of the meaning with its entries
   module _ (d : Dir) (xs : List (ℕ × Item)) (is : items m d ≡ Some xs) where
@@ -116,7 +116,7 @@ module _ (m : Meaning) (plan : Plan) (o : Order) (filler : ℕ) (f : Fits m) (l 
     table_here = dir_contents.0
 
     pub table_near : place plan (Table d) < 2 ^ 32
-    table_near = let n = near (place plan (Table d)) (table_bytes plan o filler m d xs) table_here in omega arith
+    table_near = let n = stands_near (place plan (Table d)) (table_bytes plan o filler m d xs) table_here in omega arith
 
     item_here : (i : ℕ × Item) → i.0 < 2 ^ 16 × Suits (role d i.0) i.1
         → ((c : Chunk × List ℕ) → placed_content plan o filler d i ≡ Some c → Here c) → IsHere plan o filler block d i
@@ -125,7 +125,7 @@ module _ (m : Meaning) (plan : Plan) (o : Order) (filler : ℕ) (f : Fits m) (l 
       tag = g.0;
       suits = g.1;
       count = elim (cases_Bool (nat_lt 4 (item_size i.1))) [
-        | inl t ↦ let n = near (place plan (Placed d i.0)) (item_bytes plan o filler i.1) (stands t) in
+        | inl t ↦ let n = stands_near (place plan (Placed d i.0)) (item_bytes plan o filler i.1) (stands t) in
             let s = length_is plan o filler d i g.1 in let c = count_le (item_form i.1) (item_count i.1) in omega arith
         | inr t ↦ let k = ltb-false 4 (item_size i.1) t in let c = count_le (item_form i.1) (item_count i.1) in omega arith
       ];
@@ -134,7 +134,7 @@ module _ (m : Meaning) (plan : Plan) (o : Order) (filler : ℕ) (f : Fits m) (l 
             (stands t).inside in let b = length_block in let k = l.most in let s = length_is plan o filler d i g.1 in omega arith
         | inr t ↦ let k = ltb-false 4 (item_size i.1) t in omega arith
       ];
-      near = λ t. let n = near (place plan (Placed d i.0)) (item_bytes plan o filler i.1) (stands t) in omega arith;
+      near = λ t. let n = stands_near (place plan (Placed d i.0)) (item_bytes plan o filler i.1) (stands t) in omega arith;
       stands = stands;
     }
       where
@@ -161,5 +161,5 @@ module _ (m : Meaning) (plan : Plan) (o : Order) (filler : ℕ) (f : Fits m) (l 
         filled Gps = f.filled.1.1.1.0
         filled Thumb = f.filled.1.1.1.1.0
 
-    pub few : length xs < 2 ^ 16
-    few = few_items d xs good_dir
+    pub entries_few : length xs < 2 ^ 16
+    entries_few = few_items d xs good_dir

@@ -10,7 +10,7 @@ use Rattle.px_bytes.specs.declared.Order.TheVariants.{Least, Most}
 use Rattle.px_bytes.specs.Numbers.{number, spelling}
 use Rattle.px_bytes.specs.Parts.{part}
 use Rattle.px_bytes.specs.Range.{Range, range, Apart}
-use Rattle.px_bytes.specs.lemmas.NumberLaws.{number-spelling}
+use Rattle.px_bytes.specs.lemmas.NumberLaws.{number_spelling}
 use Rattle.px_bytes.specs.lemmas.EachLaws.{each_in_map, each_left, each_right}
 use Rattle.px_tree.specs.declared.Dir.{Dir}
 use Rattle.px_tree.specs.declared.Dir.TheVariants.{Main, Exif, Interop, Gps, Thumb}
@@ -27,7 +27,7 @@ use Rattle.px_layout.specs.Laid.{long_bytes, next_bytes, header}
 use Rattle.px_layout.specs.lemmas.ItemLaws.{item_field, entry_of}
 use Rattle.px_layout.specs.lemmas.EntryLaws.{no_field, not_put}
 use Rattle.px_layout.specs.lemmas.TagLaws.{at_some_same, at_some_other, pointer_found}
-use Rattle.px_layout.specs.lemmas.PlacedLaws.{block, header_here, good_dir, table_here, table_near, items_here, some_items, few}
+use Rattle.px_layout.specs.lemmas.PlacedLaws.{block, header_here, good_dir, table_here, table_near, items_here, some_items, entries_few}
 use Rattle.px_layout.specs.lemmas.DirectoryLaws.{entries_are, next_is, fields_are}
 use Rattle.px_layout.specs.lemmas.SizeLaws.{length_header}
 
@@ -88,7 +88,7 @@ module _ (m : Meaning) (plan : Plan) (o : Order) (filler : ℕ) (f : Fits m) (l 
   pub main_place : long o (part b 4 4) ≡ place plan (Table Main)
   unfolding header
   main_place = ap (number o 4) (sym (drop-take 4 4 b) ∙ ap (drop 4) header_is ∙ rest o)
-      ∙ number-spelling o 4 (place plan (Table Main)) (table_near m plan o filler f l Main (main_items m) main_items_are)
+      ∙ number_spelling o 4 (place plan (Table Main)) (table_near m plan o filler f l Main (main_items m) main_items_are)
     where
       rest : (p : Order) → drop 4 (magic p ++ spelling p 4 (place plan (Table Main))) ≡ spelling p 4 (place plan (Table Main))
       rest Least = refl
@@ -100,17 +100,17 @@ module _ (m : Meaning) (plan : Plan) (o : Order) (filler : ℕ) (f : Fits m) (l 
     pub entries_of : entries_at b o (place plan (Table d)) ≡ map (entry_of plan o filler d) xs
     entries_of =
         entries_are plan o filler b m d xs (items_here m plan o filler f l d xs is) (some_items m plan o filler f l d xs is)
-        (few m plan o filler f l d xs is) (table_here m plan o filler f l d xs is)
+        (entries_few m plan o filler f l d xs is) (table_here m plan o filler f l d xs is)
 
     pub fields_of : fields b o d (place plan (Table d)) ≡ filter_map item_field xs
     fields_of =
         fields_are plan o filler b m d xs (items_here m plan o filler f l d xs is) (some_items m plan o filler f l d xs is)
-        (few m plan o filler f l d xs is) (table_here m plan o filler f l d xs is)
+        (entries_few m plan o filler f l d xs is) (table_here m plan o filler f l d xs is)
 
     pub next_of : next o (table b o (place plan (Table d))) ≡ long o (next_bytes plan o filler m d)
     next_of =
         next_is plan o filler b m d xs (items_here m plan o filler f l d xs is) (some_items m plan o filler f l d xs is)
-        (few m plan o filler f l d xs is) (table_here m plan o filler f l d xs is)
+        (entries_few m plan o filler f l d xs is) (table_here m plan o filler f l d xs is)
 
   pub main_entries : entries_at b o (long o (part b 4 4)) ≡ map (entry_of plan o filler Main) (main_items m)
   main_entries = ap (entries_at b o) main_place ∙ entries_of Main (main_items m) main_items_are
@@ -212,13 +212,13 @@ module _ (m : Meaning) (plan : Plan) (o : Order) (filler : ℕ) (f : Fits m) (l 
         | Some t ↦ long_bytes o (place plan (Table Thumb))
         | None ↦ long_bytes o 0
       ]))) q
-      ∙ ap unless_zero (number-spelling o 4 0 (omega arith)) ∙ sym (ap (option_map (λ _. place plan (Table Thumb))) (no_thumb q))
+      ∙ ap unless_zero (number_spelling o 4 0 (omega arith)) ∙ sym (ap (option_map (λ _. place plan (Table Thumb))) (no_thumb q))
   next_main (Some t) q =
       ap (λ x. unless_zero (number o 4 (elim x as (λ _. List ℕ) [
         | Some t ↦ long_bytes o (place plan (Table Thumb))
         | None ↦ long_bytes o 0
       ]))) q
-      ∙ ap unless_zero (number-spelling o 4 (place plan (Table Thumb)) (table_near m plan o filler f l Thumb (thumb_items t)
+      ∙ ap unless_zero (number_spelling o 4 (place plan (Table Thumb)) (table_near m plan o filler f l Thumb (thumb_items t)
       (thumb_items_are t q)))
       ∙ cond-false (place plan (Table Thumb) == 0) None (Some (place plan (Table Thumb)))
       (ne_eqb (place plan (Table Thumb)) 0 (past_header Thumb (thumb_items t) (thumb_items_are t q)))

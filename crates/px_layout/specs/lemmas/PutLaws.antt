@@ -10,13 +10,13 @@ use borrow.Rule.Slice.PartMut.{put_mid}
 use Rattle.px_bytes.specs.Waiting.{PutsTo}
 use Rattle.px_bytes.specs.lemmas.WaitingLaws.{HasPut, FailsPut, loop_more, loop_stop, put_both, puts_to_both, fails_first, fails_second}
 use Rattle.px_bytes.specs.lemmas.WaitingLaws.{parts_more}
-use Rattle.px_layout.specs.lemmas.StandLaws.{length-range, get_or-range}
+use Rattle.px_layout.specs.lemmas.StandLaws.{length_range, get_or_range}
 
 -- the numbers from 0 on
-pub slice_get-range : (n i : ℕ) → i < n → slice_get (range_with_len 0 n) i ≡ Some i
-slice_get-range n i h =
-    slice_get-get_or (range_with_len 0 n) i 0 (let e = length-range 0 n in omega arith)
-    ∙ ap (λ (k : ℕ). Some k) (get_or-range 0 n i 0 h ∙ omega arith)
+pub slice_get_range : (n i : ℕ) → i < n → slice_get (range_with_len 0 n) i ≡ Some i
+slice_get_range n i h =
+    slice_get-get_or (range_with_len 0 n) i 0 (let e = length_range 0 n in omega arith)
+    ∙ ap (λ (k : ℕ). Some k) (get_or_range 0 n i 0 h ∙ omega arith)
 
 -- one more element is encoded after those from `start` on
 pub spelled_more : {X : Type 0} (f : X → List ℕ) (xs : List X) (start i : ℕ) (x : X) (a m n : ℕ) (to ys : List ℕ)

@@ -13,8 +13,8 @@ use Rattle.px_field.specs.declared.Element.{Element}
 use Rattle.px_field.specs.Values.{spell, IsOf, Value, IsValue, form_in, spelled, elements, widened}
 use Rattle.px_field.specs.declared.Kind.{Kind}
 use Rattle.px_field.specs.declared.Kind.TheVariants.{Of, Whole}
-use Rattle.px_field.specs.lemmas.ValueLaws.{elements-spelled}
-use Rattle.px_field.specs.lemmas.FormLaws.{form_of-code}
+use Rattle.px_field.specs.lemmas.ValueLaws.{elements_spelled}
+use Rattle.px_field.specs.lemmas.FormLaws.{form_of_code}
 use Rattle.px_tree.specs.Iim.{iim_of}
 use Rattle.px_tree.specs.declared.Dir.{Dir}
 use Rattle.px_tree.specs.declared.Role.{Role}
@@ -26,7 +26,7 @@ use Rattle.px_tree.specs.Entry.{value_in, field}
 use Rattle.px_tree.specs.Fits.{Item, Field, Iptc, Link, AtJpeg, JpegSize, AtStrips, StripSizes, item_form, item_count, item_size}
 use Rattle.px_layout.specs.Plans.{Plan}
 use Rattle.px_layout.specs.Laid.{item_bytes}
-use Rattle.px_layout.specs.lemmas.ItemLaws.{Suits, item_value, item_field, IsHere, entry_of, raw_is, has_raw_is, iim-normal}
+use Rattle.px_layout.specs.lemmas.ItemLaws.{Suits, item_value, item_field, IsHere, entry_of, raw_is, has_raw_is, iim_normal}
 
 -- the bytes of BYTE and UNDEFINED don't turn with the order
 byte_spelled : (o : Order) (es : List Element) → AllByRecursion (IsOf Byte) es → flat_map (spell o) es ≡ flat_map (spell Least) es
@@ -61,7 +61,7 @@ module _ (plan : Plan) (o : Order) (filler : ℕ) (b : List ℕ) where
   elements_are : (v : Value) (e : Entry) → IsValue v → raw b o e ≡ item_bytes plan o filler (Field v) → e.count ≡ length v.elements
       → entry_elements b o e (form_in v.kind) ≡ v.elements
   unfolding entry_elements item_bytes
-  elements_are v e h r c = ap₂ (elements o (form_in v.kind)) c r ∙ elements-spelled o v h
+  elements_are v e h r c = ap₂ (elements o (form_in v.kind)) c r ∙ elements_spelled o v h
 
   plain_is : (k : Kind) (es : List Element) (e : Entry) → (k ≡ Whole → ⊥) → entry_elements b o e (form_in k) ≡ es
       → value_in b o e Plain (form_in k) ≡ Some (record { kind = k; elements = es })
@@ -89,7 +89,7 @@ module _ (plan : Plan) (o : Order) (filler : ℕ) (b : List ℕ) where
       ∙ h.1.1) (elements_are v e h.0 r c)
   value_is Record (Iptc i) e h s r c =
       ap (λ x. unless_record x (record { kind = Of Undefined; elements = entry_elements b o e Undefined })) (ap iim_of r
-      ∙ iim-normal i h (omega arith))
+      ∙ iim_normal i h (omega arith))
   value_is (To d) (Link e') e h s r c = refl
   value_is JpegOffset AtJpeg e h s r c = refl
   value_is JpegLength (JpegSize n) e h s r c = refl
@@ -125,14 +125,14 @@ module _ (plan : Plan) (o : Order) (filler : ℕ) (b : List ℕ) where
     unfolding field entry_of
     field_is =
         ap (λ f. option_map (λ v. (i.0, v)) (option_and_then (value_in b o (entry_of plan o filler d i) (role d i.0)) f))
-        (form_of-code (item_form i.1))
+        (form_of_code (item_form i.1))
         ∙ ap (option_map (λ v. (i.0, v))) (value_is (role d i.0) i.1 (entry_of plan o filler d i) h.suits h.bounded
         (raw_is plan o filler b d i h) refl)
 
     pub entry_in_order : IsEntry b o d (entry_of plan o filler d i)
     unfolding entry_of
     entry_in_order = record {
-      known = ap is_some (form_of-code (item_form i.1));
+      known = ap is_some (form_of_code (item_form i.1));
       allowed = allowed_is (role d i.0) i.1 h.suits;
       formed = form_is (role d i.0) i.1 (entry_of plan o filler d i) h.suits refl refl;
       inside = has_raw_is plan o filler b d i h;

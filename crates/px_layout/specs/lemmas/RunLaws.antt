@@ -18,7 +18,7 @@ use Rattle.px_layout.specs.Chunks.{same_chunk, placed_chunk, chunks_of_dir, jpeg
 use Rattle.px_layout.specs.Chunks.{chunks}
 use Rattle.px_layout.specs.Plans.{place}
 use Rattle.px_layout.specs.Normal.{even, running, padded_size, normal_plan}
-use Rattle.px_layout.specs.lemmas.LineLaws.{same_chunk-self, other_chunk}
+use Rattle.px_layout.specs.lemmas.LineLaws.{same_chunk_self, other_chunk}
 
 -- ---- lists of chunks
 
@@ -236,7 +236,7 @@ value_behind d b (y ∷ xs) zero x r e l =
     (cond-true (nat_lt 4 (item_size y.1)) (Some (Placed d y.0, item_size y.1)) None
     (lt-ltb 4 (item_size y.1) (let s = ap (λ (z : ℕ × Item). item_size z.1) q in omega arith)))
     ∙ cond-true (same_chunk (Placed d y.0) (Placed d y.0)) (Some b) (running (b + even (item_size y.1)) rest (Placed d y.0))
-    (same_chunk-self (Placed d y.0))
+    (same_chunk_self (Placed d y.0))
     ∙ ap (λ (n : ℕ). Some n) (omega arith))
 value_behind d b (y ∷ xs) (suc i) x r e l =
     let rest : List (Chunk × ℕ) = filter_map (placed_chunk d) xs in
@@ -265,7 +265,7 @@ pub strip_at : (b n i : ℕ) (s : List (List ℕ)) → i < length s
 strip_at b n i [] l = absurd (omega arith)
 strip_at b n zero (x ∷ s) l =
     cond-true (n == n + 0) (Some b) (running (b + even (length x)) (strip_chunks (n + 1) s) (Strip (n + 0)))
-    (subst (λ (k : ℕ). (n == k) ≡ true) (omega arith) (same_chunk-self (Strip n)))
+    (subst (λ (k : ℕ). (n == k) ≡ true) (omega arith) (same_chunk_self (Strip n)))
     ∙ ap (λ (k : ℕ). Some k) (omega arith)
 strip_at b n (suc i) (x ∷ s) l =
     let e : n + suc i ≡ n + 1 + i = omega arith in
@@ -310,7 +310,7 @@ table_place m d xs e =
     ap (λ o. unwrap_or o 0) (dir_found m d (Table d) (table_of d)
     ∙ ap (λ y. running (start m d) (chunks_of_dir d y) (Table d)) e
     ∙ cond-true (same_chunk (Table d) (Table d)) (Some (start m d)) (running (start m d + even (table_size (length xs)))
-    (filter_map (placed_chunk d) xs) (Table d)) (same_chunk-self (Table d)))
+    (filter_map (placed_chunk d) xs) (Table d)) (same_chunk_self (Table d)))
 
 -- the table of a missing directory has no offset
 pub no_table_place : (m : Meaning) (d : Dir) → items m d ≡ None → place (normal_plan m) (Table d) ≡ 0

@@ -9,8 +9,8 @@ use Rattle.px_bytes.specs.declared.Order.{Order}
 use Rattle.px_bytes.specs.declared.Order.TheVariants.{Least, Most}
 use Rattle.px_bytes.specs.Numbers.{spelling}
 use Rattle.px_bytes.specs.Range.{range, AllApart}
-use Rattle.px_bytes.specs.lemmas.NumberLaws.{length-spelling}
-use Rattle.px_bytes.specs.lemmas.EachLaws.{each_map, each_in_map, map-map}
+use Rattle.px_bytes.specs.lemmas.NumberLaws.{length_spelling}
+use Rattle.px_bytes.specs.lemmas.EachLaws.{each_map, each_in_map, map_map}
 use Rattle.px_field.specs.lemmas.PieceLaws.{length_joined}
 use Rattle.px_tree.specs.declared.Dir.{Dir}
 use Rattle.px_tree.specs.declared.Dir.TheVariants.{Main, Exif, Interop, Gps, Thumb}
@@ -29,19 +29,19 @@ use Rattle.px_layout.specs.lemmas.StandLaws.{Stands, piece_range, each_stands}
 use Rattle.px_layout.specs.lemmas.ItemLaws.{Suits, length_is, length_entry}
 use Rattle.px_layout.specs.lemmas.EntryLaws.{Good, good_items}
 
-pub filter_map-map : {X Y Z : Type 0} (g : Y → Z) (h : X → Option Y) (k : X → Option Z) (xs : List X)
+pub filter_map_map : {X Y Z : Type 0} (g : Y → Z) (h : X → Option Y) (k : X → Option Z) (xs : List X)
     → AllByRecursion (λ x. option_map g (h x) ≡ k x) xs → map g (filter_map h xs) ≡ filter_map k xs
-filter_map-map g h k [] e = refl
-filter_map-map g h k (x ∷ xs) e = moved (h x) (filter_map h xs) ∙ ap₂ cons_option e.0 (filter_map-map g h k xs e.1)
+filter_map_map g h k [] e = refl
+filter_map_map g h k (x ∷ xs) e = moved (h x) (filter_map h xs) ∙ ap₂ cons_option e.0 (filter_map_map g h k xs e.1)
   where
     moved : (o : Option _) (ys : List _) → map g (cons_option o ys) ≡ cons_option (option_map g o) (map g ys)
     moved None ys = refl
     moved (Some y) ys = refl
 
-map-flat_map : {X Y Z : Type 0} (g : Y → Z) (f : X → List Y) (k : X → List Z) (xs : List X) → AllByRecursion (λ x. map g (f x) ≡ k x) xs
+map_flat_map : {X Y Z : Type 0} (g : Y → Z) (f : X → List Y) (k : X → List Z) (xs : List X) → AllByRecursion (λ x. map g (f x) ≡ k x) xs
     → map g (flat_map f xs) ≡ flat_map k xs
-map-flat_map g f k [] e = refl
-map-flat_map g f k (x ∷ xs) e = map-append g (f x) (flat_map f xs) ∙ ap₂ (λ a b. a ++ b) e.0 (map-flat_map g f k xs e.1)
+map_flat_map g f k [] e = refl
+map_flat_map g f k (x ∷ xs) e = map-append g (f x) (flat_map f xs) ∙ ap₂ (λ a b. a ++ b) e.0 (map_flat_map g f k xs e.1)
 
 -- a chunk and the size of its bytes
 abbrev pub sized : Chunk × List ℕ → Chunk × ℕ
@@ -53,30 +53,30 @@ module _ (plan : Plan) (o : Order) (filler : ℕ) where
     where
       main_next : (t : Option Thumbnail) → length
           (elim t as (λ _. List ℕ) [ Some t ↦ long_bytes o (place plan (Table Thumb)) | None ↦ long_bytes o 0 ]) ≡ 4
-      main_next (Some t) = length-spelling o 4 (place plan (Table Thumb))
-      main_next None = length-spelling o 4 0
-  length_next m Thumb = length-spelling o 4 0
+      main_next (Some t) = length_spelling o 4 (place plan (Table Thumb))
+      main_next None = length_spelling o 4 0
+  length_next m Thumb = length_spelling o 4 0
   length_next m _ = length-replicate 4 filler
 
   module _ (d : Dir) (xs : List (ℕ × Item)) (suit : AllByRecursion (λ i. Suits (role d i.0) i.1) xs) where
-    pub twelve : AllByRecursion (λ i. length (entry_bytes plan o filler d i) ≡ 12) xs
-    twelve = each_map (λ i. Suits (role d i.0) i.1) (λ i. length (entry_bytes plan o filler d i) ≡ 12)
+    pub entries_twelve : AllByRecursion (λ i. length (entry_bytes plan o filler d i) ≡ 12) xs
+    entries_twelve = each_map (λ i. Suits (role d i.0) i.1) (λ i. length (entry_bytes plan o filler d i) ≡ 12)
         (λ i h. length_entry plan o filler d i h) xs suit
 
     pub length_entries : length (flat_map (entry_bytes plan o filler d) xs) ≡ length xs * 12
-    length_entries = length_joined 12 (entry_bytes plan o filler d) xs twelve
+    length_entries = length_joined 12 (entry_bytes plan o filler d) xs entries_twelve
 
     pub length_table : (m : Meaning) → length (table_bytes plan o filler m d xs) ≡ table_size (length xs)
     unfolding table_bytes
     length_table m =
         length-append (spelling o 2 (length xs)) (flat_map (entry_bytes plan o filler d) xs ++ next_bytes plan o filler m d) ∙ (
-        let a = length-spelling o 2 (length xs) in
+        let a = length_spelling o 2 (length xs) in
         let c = length-append (flat_map (entry_bytes plan o filler d) xs) (next_bytes plan o filler m d) in
         let e = length_entries in let n = length_next m d in omega arith)
 
     placed_sized : map sized (filter_map (placed_content plan o filler d) xs) ≡ filter_map (placed_chunk d) xs
     unfolding placed_content placed_chunk
-    placed_sized = filter_map-map sized (placed_content plan o filler d) (placed_chunk d) xs
+    placed_sized = filter_map_map sized (placed_content plan o filler d) (placed_chunk d) xs
         (each_map (λ i. Suits (role d i.0) i.1) (λ i. option_map sized (placed_content plan o filler d i) ≡ placed_chunk d i) (λ i h.
         elim (cases_Bool (nat_lt 4 (item_size i.1))) [
           | inl t ↦ ap (option_map sized) (cond-true (nat_lt 4 (item_size i.1)) (Some (Placed d i.0, item_bytes plan o filler i.1)) None t)
@@ -116,7 +116,7 @@ module _ (plan : Plan) (o : Order) (filler : ℕ) where
   unfolding contents chunks
   contents_sized m f = map-append sized (flat_map (λ d. contents_of_dir plan o filler m d (items m d)) dirs) (thumb_contents m.thumb)
       ∙ ap₂ (λ a b. a ++ b)
-      (map-flat_map sized (λ d. contents_of_dir plan o filler m d (items m d)) (λ d. chunks_of_dir d (items m d)) dirs
+      (map_flat_map sized (λ d. contents_of_dir plan o filler m d (items m d)) (λ d. chunks_of_dir d (items m d)) dirs
       (here Main, (here Exif, (here Interop, (here Gps, (here Thumb, tt))))))
       (thumb_sized m.thumb)
     where
@@ -134,8 +134,8 @@ module _ (plan : Plan) (o : Order) (filler : ℕ) where
   pub ranges_are : (m : Meaning) → Fits m → map piece_range (laid_pieces plan o filler m) ≡ plan_ranges m plan
   unfolding laid_pieces plan_ranges
   ranges_are m f = ap₂ (λ n rs. range 0 n ∷ rs) length_header
-      (map-map piece_range (λ c. (place plan c.0, c.1)) (contents plan o filler m)
-      ∙ sym (map-map (λ c. range (place plan c.0) c.1) sized (contents plan o filler m))
+      (map_map piece_range (λ c. (place plan c.0, c.1)) (contents plan o filler m)
+      ∙ sym (map_map (λ c. range (place plan c.0) c.1) sized (contents plan o filler m))
       ∙ ap (map (λ c. range (place plan c.0) c.1)) (contents_sized m f))
 
   -- each piece is in the block

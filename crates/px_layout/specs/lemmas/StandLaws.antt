@@ -19,13 +19,14 @@ pub record Stands (b : List ℕ) (x : ℕ) (y : List ℕ) : Type 0 where
   pub inside : x + length y ≤ length b
   pub is : part b x (length y) ≡ y
 
-covered : (f p : ℕ) (x : ℕ × List ℕ) (xs : List (ℕ × List ℕ)) → IsIn p (piece_range x) → byte_at f (x ∷ xs) p ≡ slice_index x.1 (p - x.0)
-covered f p x xs h =
+byte_at_covered : (f p : ℕ) (x : ℕ × List ℕ) (xs : List (ℕ × List ℕ)) → IsIn p (piece_range x)
+    → byte_at f (x ∷ xs) p ≡ slice_index x.1 (p - x.0)
+byte_at_covered f p x xs h =
     cond-true (nat_le x.0 p && nat_lt p (x.0 + length x.1)) (slice_index x.1 (p - x.0)) (byte_at f xs p)
     (and_from _ _ (le-leb x.0 p h.0) (lt-ltb p (x.0 + length x.1) h.1))
 
-passed : (f p : ℕ) (x : ℕ × List ℕ) (xs : List (ℕ × List ℕ)) → (IsIn p (piece_range x) → ⊥) → byte_at f (x ∷ xs) p ≡ byte_at f xs p
-passed f p x xs h = cond-false (nat_le x.0 p && nat_lt p (x.0 + length x.1)) (slice_index x.1 (p - x.0)) (byte_at f xs p)
+byte_at_passed : (f p : ℕ) (x : ℕ × List ℕ) (xs : List (ℕ × List ℕ)) → (IsIn p (piece_range x) → ⊥) → byte_at f (x ∷ xs) p ≡ byte_at f xs p
+byte_at_passed f p x xs h = cond-false (nat_le x.0 p && nat_lt p (x.0 + length x.1)) (slice_index x.1 (p - x.0)) (byte_at f xs p)
     (false_from_ne_true _ (λ e. let q = and_parts (nat_le x.0 p) (nat_lt p (x.0 + length x.1)) e in h (leb-true _ _ q.0, ltb-true _ _ q.1)))
 
 abbrev Shows : ℕ → List (ℕ × List ℕ) → ℕ × List ℕ → Type 0
@@ -34,34 +35,34 @@ Shows f xs y = (p : ℕ) → IsIn p (piece_range y) → byte_at f xs p ≡ slice
 each_shows : (f : ℕ) (xs : List (ℕ × List ℕ)) → AllApart (map piece_range xs) → AllByRecursion (Shows f xs) xs
 each_shows f [] h = tt
 each_shows f (x ∷ xs) h = (
-  λ p i. covered f p x xs i,
+  λ p i. byte_at_covered f p x xs i,
   each_map₂ (λ y. Apart (piece_range x) (piece_range y)) (Shows f xs) (Shows f (x ∷ xs))
-      (λ y a s p i. passed f p x xs (λ j. a p j i) ∙ s p i)
+      (λ y a s p i. byte_at_passed f p x xs (λ j. a p j i) ∙ s p i)
       xs (each_in_map (Apart (piece_range x)) piece_range xs h.0) (each_shows f xs h.1),
 )
 
-pub length-range : (a n : ℕ) → length (range_with_len a n) ≡ n
-length-range a zero = refl
-length-range a (suc n) = ap suc (length-range (a + 1) n)
+pub length_range : (a n : ℕ) → length (range_with_len a n) ≡ n
+length_range a zero = refl
+length_range a (suc n) = ap suc (length_range (a + 1) n)
 
-pub get_or-range : (a n i d : ℕ) → i < n → get_or (range_with_len a n) i d ≡ a + i
-get_or-range a zero i d h = absurd (omega arith)
-get_or-range a (suc n) zero d h = omega arith
-get_or-range a (suc n) (suc i) d h = let e = get_or-range (a + 1) n i d (omega arith) in omega arith
+pub get_or_range : (a n i d : ℕ) → i < n → get_or (range_with_len a n) i d ≡ a + i
+get_or_range a zero i d h = absurd (omega arith)
+get_or_range a (suc n) zero d h = omega arith
+get_or_range a (suc n) (suc i) d h = let e = get_or_range (a + 1) n i d (omega arith) in omega arith
 
-pub length-laid : (g : ℕ → ℕ) (n : ℕ) → length (map g (range_with_len 0 n)) ≡ n
-length-laid g n = length-map (range_with_len 0 n) g ∙ length-range 0 n
+pub length_laid : (g : ℕ → ℕ) (n : ℕ) → length (map g (range_with_len 0 n)) ≡ n
+length_laid g n = length-map (range_with_len 0 n) g ∙ length_range 0 n
 
 pub laid_at : (g : ℕ → ℕ) (n i d : ℕ) → i < n → get_or (map g (range_with_len 0 n)) i d ≡ g i
 laid_at g n i d h =
-    let l : i < length (range_with_len 0 n) = subst (λ k. i < k) (sym (length-range 0 n)) h in
-    get_or-map g (range_with_len 0 n) i 0 d l ∙ ap g (get_or-range 0 n i 0 h ∙ omega arith)
+    let l : i < length (range_with_len 0 n) = subst (λ k. i < k) (sym (length_range 0 n)) h in
+    get_or-map g (range_with_len 0 n) i 0 d l ∙ ap g (get_or_range 0 n i 0 h ∙ omega arith)
 
 stands_from : (g : ℕ → ℕ) (n x : ℕ) (y : List ℕ) → x + length y ≤ n → ((p : ℕ) → IsIn p (range x (length y)) → g p ≡ slice_index y (p - x))
     → Stands (map g (range_with_len 0 n)) x y
 stands_from g n x y h s =
     let b = map g (range_with_len 0 n) in
-    let lb : length b ≡ n = length-laid g n in
+    let lb : length b ≡ n = length_laid g n in
     let ld : length (drop x b) ≡ n - x = length-drop x b ∙ ap (λ k. k - x) lb in
     let lp : length (part b x (length y)) ≡ length y = length-take-le (length y) (drop x b) (omega arith) in
     record {

@@ -6,7 +6,7 @@ use Rattle.std.specs.List.{AllByRecursion, cons_option}
 use Rattle.std.proofs.lemmas.Bool.{cond-true, cond-false, cond_both, cases_Bool}
 use Rattle.px_bytes.specs.declared.Order.{Order}
 use Rattle.px_bytes.specs.Numbers.{number, spelling}
-use Rattle.px_bytes.specs.lemmas.NumberLaws.{number-spelling}
+use Rattle.px_bytes.specs.lemmas.NumberLaws.{number_spelling}
 use Rattle.px_tree.specs.declared.Dir.{Dir}
 use Rattle.px_tree.specs.Tree.{Fields}
 use Rattle.px_tree.specs.Roles.{at_tag, role}
@@ -104,7 +104,7 @@ module _ (plan : Plan) (o : Order) (filler : ℕ) (d : Dir) where
   pub offset_link : (t : ℕ) (e : Dir) → place plan (Table e) < 2 ^ 32
       → offset o (entry_of plan o filler d (t, Link e)) ≡ place plan (Table e)
   unfolding entry_of last_bytes item_size item_bytes
-  offset_link t e h = ap (number o 4) (append-nil (spelling o 4 (place plan (Table e)))) ∙ number-spelling o 4 (place plan (Table e)) h
+  offset_link t e h = ap (number o 4) (append-nil (spelling o 4 (place plan (Table e)))) ∙ number_spelling o 4 (place plan (Table e)) h
 
   link_of : (e : Dir) (x : Item) → Suits (To e) x → Link e ≡ x
   link_of e (Link f) h = ap (λ x. Link x) h

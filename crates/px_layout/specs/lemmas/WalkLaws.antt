@@ -45,11 +45,11 @@ pub few_there : (m : Meaning) (d : Dir) (xs : List (ℕ × Item)) → Fits m →
 few_there m d xs f e = few_items d xs (subst (λ (o : Option (List (ℕ × Item))). IfSome o (Good d)) e (good_items m f d))
 
 -- all of them
-pub gathered : (m : Meaning) (a b c d e f : List (Chunk × ℕ)) → b ≡ a ++ chunks_of_dir Main (items m Main)
+pub chunks_gathered : (m : Meaning) (a b c d e f : List (Chunk × ℕ)) → b ≡ a ++ chunks_of_dir Main (items m Main)
     → c ≡ b ++ chunks_of_dir Exif (items m Exif) → d ≡ c ++ chunks_of_dir Interop (items m Interop)
     → e ≡ d ++ chunks_of_dir Gps (items m Gps) → f ≡ e ++ chunks_of_dir Thumb (items m Thumb) → f ++ thumb_chunks m.thumb ≡ a ++ chunks m
 unfolding chunks
-gathered m a b c d e f eb ec ed ee ef =
+chunks_gathered m a b c d e f eb ec ed ee ef =
     ap (λ x. x ++ thumb_chunks m.thumb) (ef ∙ ap (λ x. x ++ of Thumb) (ee ∙ ap (λ x. x ++ of Gps)
     (ed ∙ ap (λ x. x ++ of Interop) (ec ∙ ap (λ x. x ++ of Exif) eb))))
     ∙ line a (of Main) (of Exif) (of Interop) (of Gps) (of Thumb) (thumb_chunks m.thumb)

@@ -9,7 +9,7 @@ use Rattle.std.proofs.lemmas.List.{drop_all, take_all, take-append-le}
 use Rattle.std.proofs.lemmas.Option.{slice_get_within, get_or_from_slice_get}
 use borrow.Rule.Slice.PartMut.{put_mid}
 use Rattle.px_layout.specs.Laid.{byte_at}
-use Rattle.px_layout.specs.lemmas.StandLaws.{length-laid, laid_at}
+use Rattle.px_layout.specs.lemmas.StandLaws.{length_laid, laid_at}
 use Rattle.px_plans.specs.calls.Building.{made, PutsOver}
 
 -- ---- one piece
@@ -40,7 +40,7 @@ module _ (f : ℕ) (x : ℕ) (b : List ℕ) (ys : List (ℕ × List ℕ)) where
     new = take x old ++ (b ++ drop (x + length b) old)
 
     length_old : length old ≡ n
-    length_old = length-laid (byte_at f ys) n
+    length_old = length_laid (byte_at f ys) n
 
     length_front : length (take x old) ≡ x
     length_front = length-take-le x old (let e = length_old in omega arith)
@@ -71,8 +71,8 @@ module _ (f : ℕ) (x : ℕ) (b : List ℕ) (ys : List (ℕ × List ℕ)) where
         ]
 
     pub one_over : made n f ((x, b) ∷ ys) ≡ take x (made n f ys) ++ (b ++ drop (x + length b) (made n f ys))
-    one_over = same_lists (made n f ((x, b) ∷ ys)) new (length-laid (byte_at f ((x, b) ∷ ys)) n ∙ sym length_new)
-        (λ k d l. each k d (let e = length-laid (byte_at f ((x, b) ∷ ys)) n in omega arith))
+    one_over = same_lists (made n f ((x, b) ∷ ys)) new (length_laid (byte_at f ((x, b) ∷ ys)) n ∙ sym length_new)
+        (λ k d l. each k d (let e = length_laid (byte_at f ((x, b) ∷ ys)) n in omega arith))
 
 -- bytes that replaced others are a piece that was written over them
 pub puts_one : (old : List ℕ) (x : ℕ) (b : List ℕ) → x + length b ≤ length old

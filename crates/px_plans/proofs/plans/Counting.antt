@@ -8,7 +8,7 @@ use Rattle.std.proofs.lemmas.Bool.{cond-true, cond-false, cases_Bool, both_ways,
 use Rattle.std.proofs.lemmas.Map.Keys.{IsDistinct-head, IsDistinct-tail, IsDistinct-cons}
 use Rattle.px_layout.specs.declared.chunks.Chunk.{Chunk}
 use Rattle.px_layout.specs.Chunks.{same_chunk}
-use Rattle.px_layout.specs.lemmas.LineLaws.{same_chunk-true, same_chunk-self}
+use Rattle.px_layout.specs.lemmas.LineLaws.{same_chunk_true, same_chunk_self}
 use Rattle.px_plans.specs.calls.Counted.{IsCount}
 
 module _ (k : Chunk) where
@@ -49,7 +49,7 @@ module _ (k : Chunk) where
   one_less [] h = omega arith
   one_less (c ∷ cs) h = elim (cases_Bool (same_chunk k c)) [
     | inl e ↦ let q = ap (λ xs. length xs) (gone c cs e) in
-        let s = all_stay cs (subst (λ z. AllByRecursion (λ y. same_chunk z y ≡ false) cs) (sym (same_chunk-true k c e))
+        let s = all_stay cs (subst (λ z. AllByRecursion (λ y. same_chunk z y ≡ false) cs) (sym (same_chunk_true k c e))
         (IsDistinct-head same_chunk c cs h)) in omega arith
     | inr e ↦ let q = ap (λ xs. length xs) (stays c cs e) in let s = one_less cs (IsDistinct-tail same_chunk c cs h) in omega arith
   ]
@@ -79,7 +79,7 @@ module _ (k : Chunk) where
   still c (d ∷ cs) n h = elim (cases_Bool (same_chunk k d)) [
     | inl e ↦ subst (λ xs. list_any (same_chunk c) xs ≡ true) (sym (gone d cs e))
         (still c cs n (elim (or_cases (same_chunk c d) (list_any (same_chunk c) cs) h) [
-          | inl t ↦ absurd (both_ways (same_chunk k c) n (subst (λ z. same_chunk k z ≡ true) (sym (same_chunk-true c d t)) e))
+          | inl t ↦ absurd (both_ways (same_chunk k c) n (subst (λ z. same_chunk k z ≡ true) (sym (same_chunk_true c d t)) e))
           | inr t ↦ t
         ]))
     | inr e ↦ subst (λ xs. list_any (same_chunk c) xs ≡ true) (sym (stays d cs e)) (elim (cases_Bool (same_chunk c d)) [
@@ -114,7 +114,7 @@ count_more n f g k x is none more = record {
       omega arith;
   most = λ cs h.
       let s = fewer k cs (h k (subst (λ (o : Option ℕ). IsSome o) (sym (more k ∙ cond-true (same_chunk k k) (Some x) (f k)
-      (same_chunk-self k))) refl)) in
+      (same_chunk_self k))) refl)) in
       let t = is.most (without k cs) (λ c p. let e : same_chunk k c ≡ false = differs c p in
       still k c cs e (h c (subst (λ (o : Option ℕ). IsSome o) (sym (more c ∙ cond-false (same_chunk k c) (Some x) (f c) e)) p))) in
       omega arith;
@@ -123,7 +123,7 @@ count_more n f g k x is none more = record {
     differs : (c : Chunk) → IsSome (f c) → same_chunk k c ≡ false
     differs c p =
         false_from_ne_true (same_chunk k c) (λ e. both_ways false refl (subst (λ (o : Option ℕ). IsSome o)
-        (ap f (sym (same_chunk-true k c e)) ∙ none) p))
+        (ap f (sym (same_chunk_true k c e)) ∙ none) p))
 
 -- one more, if the number can grow
 pub count_put : {A E : Type 0} (r : Result A E) (n m : ℕ) (f g : Chunk → Option ℕ) (k : Chunk) (x : ℕ) → IsCount n f → f k ≡ None

@@ -26,24 +26,24 @@ module _ (plan : Plan) where
     λ q. cc,
   )
 
-  pub beyond : (c : Chunk × ℕ) (x : ℕ) (taken : List Range) (new : List (ℕ × ℕ)) → plan.offset c.0 ≡ Some x → plan.length < x + c.1
+  pub chunk_beyond : (c : Chunk × ℕ) (x : ℕ) (taken : List Range) (new : List (ℕ × ℕ)) → plan.offset c.0 ≡ Some x → plan.length < x + c.1
       → Holds false c taken new
-  beyond c x taken new e l = (
+  chunk_beyond c x taken new e l = (
     ap (λ b. b && is_free taken (range x c.1)) (sym (lt-leb (x + c.1) plan.length l))
         ∙ ap (λ o. is_some o && nat_le (unwrap_or o 0 + c.1) plan.length && is_free taken (range (unwrap_or o 0) c.1)) (sym e),
     λ q. cc,
   )
 
-  pub within : {E : Type 0} (c : Chunk × ℕ) (x : ℕ) (taken : List Range) (new : List (ℕ × ℕ)) → plan.offset c.0 ≡ Some x
+  pub chunk_within : {E : Type 0} (c : Chunk × ℕ) (x : ℕ) (taken : List Range) (new : List (ℕ × ℕ)) → plan.offset c.0 ≡ Some x
       → x + c.1 ≤ plan.length → (r : Result Bool E)
       → IfOk r (λ free. (free ≡ is_free taken (range x c.1)) × (free ≡ true → Agrees (range x c.1 ∷ taken) new))
       → IfOk r (λ free. Holds free c taken new)
-  within c x taken new e l (Ok free) h = (
+  chunk_within c x taken new e l (Ok free) h = (
     h.0 ∙ ap (λ b. b && is_free taken (range x c.1)) (sym (le-leb (x + c.1) plan.length l))
         ∙ ap (λ o. is_some o && nat_le (unwrap_or o 0 + c.1) plan.length && is_free taken (range (unwrap_or o 0) c.1)) (sym e),
     λ q. subst (λ y. Agrees (range y c.1 ∷ taken) new) (ap (λ o. unwrap_or o 0) (sym e)) (h.1 q),
   )
-  within c x taken new e l (Err q) h = h
+  chunk_within c x taken new e l (Err q) h = h
 
   -- ---- chunk by chunk
 
@@ -53,10 +53,11 @@ module _ (plan : Plan) where
       drop-cons cs i d l ∙ ap₂ (λ y ys. y ∷ ys) (sym e) (ap (λ j. drop j cs) k)
 
   -- the next chunk is legal, and claimed
-  pub more : (cs : List (Chunk × ℕ)) (i : ℕ) (c d : Chunk × ℕ) (old new : List (ℕ × ℕ)) (b free : Bool) → i < length cs → c ≡ get_or cs i d
+  pub left_more : (cs : List (Chunk × ℕ)) (i : ℕ) (c d : Chunk × ℕ) (old new : List (ℕ × ℕ)) (b free : Bool) → i < length cs
+      → c ≡ get_or cs i d
       → free ≡ true → ((taken : List Range) → Agrees taken old → Holds free c taken new) → Left (drop i cs) old b
       → Left (drop (i + 1) cs) new b
-  more cs i c d old new b free l e t f w =
+  left_more cs i c d old new b free l e t f w =
       let g = f w.0 w.1 in (
         range (place plan c.0) c.1 ∷ w.0,
         g.1 t,
@@ -65,12 +66,13 @@ module _ (plan : Plan) where
       )
 
   -- the next chunk isn't legal
-  pub stop : (cs : List (Chunk × ℕ)) (i : ℕ) (c d : Chunk × ℕ) (old new : List (ℕ × ℕ)) (b free : Bool) → i < length cs → c ≡ get_or cs i d
+  pub left_stop : (cs : List (Chunk × ℕ)) (i : ℕ) (c d : Chunk × ℕ) (old new : List (ℕ × ℕ)) (b free : Bool) → i < length cs
+      → c ≡ get_or cs i d
       → free ≡ false → ((taken : List Range) → Agrees taken old → Holds free c taken new) → Left (drop i cs) old b → false ≡ b
-  stop cs i c d old new b free l e t f w =
+  left_stop cs i c d old new b free l e t f w =
       ap (λ a. a && all_stand plan (range (place plan c.0) c.1 ∷ w.0) (drop (i + 1) cs)) (sym t ∙ (f w.0 w.1).0)
       ∙ sym (ap (all_stand plan w.0) (here cs i c d l e)) ∙ w.2
 
   -- no chunk is left
-  pub done : (cs : List (Chunk × ℕ)) (i : ℕ) (held : List (ℕ × ℕ)) (b : Bool) → length cs ≤ i → Left (drop i cs) held b → true ≡ b
-  done cs i held b l w = sym (ap (all_stand plan w.0) (drop_all i cs l)) ∙ w.2
+  pub left_done : (cs : List (Chunk × ℕ)) (i : ℕ) (held : List (ℕ × ℕ)) (b : Bool) → length cs ≤ i → Left (drop i cs) held b → true ≡ b
+  left_done cs i held b l w = sym (ap (all_stand plan w.0) (drop_all i cs l)) ∙ w.2

@@ -16,7 +16,7 @@ use Rattle.px_layout.specs.declared.chunks.Chunk.{Chunk}
 use Rattle.px_layout.specs.Chunks.{same_chunk, chunks}
 use Rattle.px_layout.specs.Plans.{Plan, Legal}
 use Rattle.px_layout.specs.Normal.{even, running, padded_size, normal_plan, normal_exif}
-use Rattle.px_layout.specs.lemmas.LineLaws.{same_chunk-true, length_normal, legal_in_line}
+use Rattle.px_layout.specs.lemmas.LineLaws.{same_chunk_true, length_normal, legal_in_line}
 use Rattle.px_plans.specs.calls.Planned.{with_chunk, with_length}
 use Rattle.px_plans.specs.calls.PlanningNormal.{Placed, AnswersNext, AnswersAll, AnswersPlan}
 
@@ -51,18 +51,18 @@ running_more y (b ∷ cs) c d = elim (cases_Bool (same_chunk b.0 d)) [
 ]
 
 -- the effect of placing a chunk, whether it was placed already or not
-effect : (old new : Plan) (c : Chunk) (x : ℕ) (placed : Bool) → (placed ≡ true → old.offset c ≡ None)
+offset_effect : (old new : Plan) (c : Chunk) (x : ℕ) (placed : Bool) → (placed ≡ true → old.offset c ≡ None)
     → (placed ≡ false → IsSome (old.offset c)) → new ≡ (if placed then with_chunk old c x else old)
     → (d : Chunk) → new.offset d ≡ or_else (old.offset d) (if same_chunk c d then Some x else None)
-effect old new c x true none some e d = ap (λ (p : Plan). p.offset d) e ∙ elim (cases_Bool (same_chunk c d)) [
+offset_effect old new c x true none some e d = ap (λ (p : Plan). p.offset d) e ∙ elim (cases_Bool (same_chunk c d)) [
   | inl s ↦ cond-true (same_chunk c d) (Some x) (old.offset d) s
-      ∙ ap₂ or_else (sym (ap old.offset (sym (same_chunk-true c d s)) ∙ none refl)) (sym (cond-true (same_chunk c d) (Some x) None s))
+      ∙ ap₂ or_else (sym (ap old.offset (sym (same_chunk_true c d s)) ∙ none refl)) (sym (cond-true (same_chunk c d) (Some x) None s))
   | inr s ↦ cond-false (same_chunk c d) (Some x) (old.offset d) s
       ∙ sym (or_none (old.offset d)) ∙ ap (or_else (old.offset d)) (sym (cond-false (same_chunk c d) (Some x) None s))
 ]
-effect old new c x false none some e d = ap (λ (p : Plan). p.offset d) e ∙ elim (cases_Bool (same_chunk c d)) [
+offset_effect old new c x false none some e d = ap (λ (p : Plan). p.offset d) e ∙ elim (cases_Bool (same_chunk c d)) [
   | inl s ↦ sym (or_some (old.offset d) (if same_chunk c d then Some x else None)
-      (subst (λ z. IsSome (old.offset z)) (same_chunk-true c d s) (some refl)))
+      (subst (λ z. IsSome (old.offset z)) (same_chunk_true c d s) (some refl)))
   | inr s ↦ sym (or_none (old.offset d)) ∙ ap (or_else (old.offset d)) (sym (cond-false (same_chunk c d) (Some x) None s))
 ]
 
@@ -73,7 +73,7 @@ pub next_placed : (old new : Plan) (c : Chunk) (size x end : ℕ) (placed : Bool
 next_placed old new c size x end placed ends most none some e cs h = record {
   ends = let p = padded_more cs (c, size) in let q = h.ends in omega arith;
   most = most;
-  each = λ d. effect old new c x placed none some e d
+  each = λ d. offset_effect old new c x placed none some e d
       ∙ ap₂ (λ o n. or_else o (if same_chunk c d then Some n else None)) (h.each d) h.ends
       ∙ sym (running_more 8 cs (c, size) d);
 }
@@ -86,10 +86,10 @@ part_fits (d ∷ cs) zero c e = let q : c ≡ d = cc in let r = ap (λ (x : Chun
 part_fits (d ∷ cs) (suc i) c e = let h = part_fits cs i c e in omega arith
 
 -- all of them
-pub planned : (m : Meaning) → Fits m → (p q : Plan) (end : ℕ) → Placed p end (chunks m) → q ≡ with_length p end
+pub placed_planned : (m : Meaning) → Fits m → (p q : Plan) (end : ℕ) → Placed p end (chunks m) → q ≡ with_length p end
     → (q ≡ normal_plan m) × (length (normal_exif m) ≤ limit) × Legal m q
 unfolding normal_plan
-planned m f p q end h e =
+placed_planned m f p q end h e =
     let n : length (normal_exif m) ≡ (normal_plan m).length = length_normal m f in
     let same : q ≡ normal_plan m = e ∙ ap₂ make h.ends (fun_ext h.each) in
     let fits : length (normal_exif m) ≤ limit = let s = h.ends in let t = h.most in omega arith in
@@ -99,23 +99,23 @@ planned m f p q end h e =
     make n o = record { length = n; offset = o }
 
 -- if the chunk at i doesn't fit any more, they are too long
-pub stopped : (e : WriteRefusal) (old new : Plan) (x i : ℕ) (cs : List (Chunk × ℕ)) (c d : Chunk × ℕ) → Placed old x (take i cs)
+pub placed_stopped : (e : WriteRefusal) (old new : Plan) (x i : ℕ) (cs : List (Chunk × ℕ)) (c d : Chunk × ℕ) → Placed old x (take i cs)
     → i < length cs → c ≡ get_or cs i d → AnswersNext (Err e) old new x c → AnswersAll (Err e) new cs
-stopped NormalTooLong old new x i cs c d p l q h =
+placed_stopped NormalTooLong old new x i cs c d p l q h =
     let f = part_fits cs i (get_or cs i d) (slice_get-get_or cs i d l) in
     let s = ap (λ (z : Chunk × ℕ). even z.1) q in
     let t = p.ends in omega arith
-stopped OutOfMemory old new x i cs c d p l q h = tt
-stopped WriteFailed old new x i cs c d p l q h = h
+placed_stopped OutOfMemory old new x i cs c d p l q h = tt
+placed_stopped WriteFailed old new x i cs c d p l q h = h
 
-pub refused : (m : Meaning) → Fits m → (e : WriteRefusal) (plan : Plan) (cs : List (Chunk × ℕ)) → cs ≡ chunks m
+pub plan_refused : (m : Meaning) → Fits m → (e : WriteRefusal) (plan : Plan) (cs : List (Chunk × ℕ)) → cs ≡ chunks m
     → AnswersAll (Err e) plan cs → AnswersPlan (Err e) m
 unfolding normal_plan
-refused m f NormalTooLong plan cs s h =
+plan_refused m f NormalTooLong plan cs s h =
     let n : length (normal_exif m) ≡ (normal_plan m).length = length_normal m f in
     let t = ap padded_size s in omega arith
-refused m f OutOfMemory plan cs s h = tt
-refused m f WriteFailed plan cs s h = h
+plan_refused m f OutOfMemory plan cs s h = tt
+plan_refused m f WriteFailed plan cs s h = h
 
 -- the failed allocations of a refusal, if none failed before
 pub write_lacks : (X Y : Type 0) (e : WriteRefusal) (a b c : ℕ) → b ≡ a → LacksWriteBy {X = X} (Err e) b c

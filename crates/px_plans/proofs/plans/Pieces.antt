@@ -116,11 +116,11 @@ module _ (l : Layout) where
     dirs_cons d ds = map-append (λ c. (place P c.0, c.1)) (contents_of_dir P o f m d (items m d)) (dir_contents ds)
 
     -- the five directories, the last first
-    pub five : (a b c e g h : List ℕ) → length b ≡ length a → length c ≡ length a → length e ≡ length a → length g ≡ length a →
+    pub parts_five : (a b c e g h : List ℕ) → length b ≡ length a → length c ≡ length a → length e ≡ length a → length g ≡ length a →
         PutsOver a b (dir_pieces l m Thumb) → PutsOver b c (dir_pieces l m Gps) → PutsOver c e (dir_pieces l m Interop)
         → PutsOver e g (dir_pieces l m Exif) → PutsOver g h (dir_pieces l m Main) →
         PutsOver a h (at_places l (dir_contents dirs))
-    five a b c e g h lb lc le lg pt pg pi px pm =
+    parts_five a b c e g h lb lc le lg pt pg pi px pm =
         let last : dir_pieces l m Thumb ≡ at_places l (dir_contents (Thumb ∷ [])) =
         ap (at_places l) (sym (append-nil (contents_of_dir P o f m Thumb (items m Thumb)))) in
         let t = subst (PutsOver a b) last pt in

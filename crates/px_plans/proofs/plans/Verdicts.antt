@@ -16,7 +16,7 @@ use Rattle.px_layout.specs.declared.chunks.Chunk.{Chunk}
 use Rattle.px_layout.specs.Chunks.{same_chunk, chunks}
 use Rattle.px_layout.specs.Plans.{Plan, place, plan_ranges, Legal}
 use Rattle.px_layout.specs.lemmas.RankLaws.{rank, chunks_rise}
-use Rattle.px_layout.specs.lemmas.LineLaws.{same_chunk-true, same_chunk-self, other_chunk}
+use Rattle.px_layout.specs.lemmas.LineLaws.{same_chunk_true, same_chunk_self, other_chunk}
 use Rattle.px_plans.specs.calls.Counted.{IsCount}
 use Rattle.px_plans.specs.calls.Judging.{stands, all_stand}
 
@@ -25,31 +25,31 @@ names cs = map (λ c. c.0) cs
 
 -- ---- the chunks differ from one another
 
-others : (c : Chunk × ℕ) (cs : List (Chunk × ℕ)) → AllByRecursion (λ u. rank c < u) (map rank cs)
+ranks_apart : (c : Chunk × ℕ) (cs : List (Chunk × ℕ)) → AllByRecursion (λ u. rank c < u) (map rank cs)
     → AllByRecursion (λ y. same_chunk c.0 y ≡ false) (names cs)
-others c [] h = tt
-others c (d ∷ cs) h = (other_chunk c.0 d.0 h.0, others c cs h.1)
+ranks_apart c [] h = tt
+ranks_apart c (d ∷ cs) h = (other_chunk c.0 d.0 h.0, ranks_apart c cs h.1)
 
-distinct : (cs : List (Chunk × ℕ)) → Rising (map rank cs) → IsDistinct same_chunk (names cs)
+ranks_distinct : (cs : List (Chunk × ℕ)) → Rising (map rank cs) → IsDistinct same_chunk (names cs)
 unfolding IsDistinct
-distinct [] h = tt
-distinct (c ∷ cs) h = (others c cs h.0, distinct cs h.1)
+ranks_distinct [] h = tt
+ranks_distinct (c ∷ cs) h = (ranks_apart c cs h.0, ranks_distinct cs h.1)
 
 -- ---- being among chunks
 
-among : (c : Chunk) (ds : List Chunk) → list_any (same_chunk c) ds ≡ true → Contains ds c
-among c [] h = absurd (both_ways false refl h)
-among c (d ∷ ds) h = elim (or_cases (same_chunk c d) (list_any (same_chunk c) ds) h) [
-  | inl e ↦ (0, omega arith, sym (same_chunk-true c d e))
-  | inr e ↦ let r = among c ds e in (suc r.0, (let l = r.1 in omega arith), r.2)
+list_any_contains : (c : Chunk) (ds : List Chunk) → list_any (same_chunk c) ds ≡ true → Contains ds c
+list_any_contains c [] h = absurd (both_ways false refl h)
+list_any_contains c (d ∷ ds) h = elim (or_cases (same_chunk c d) (list_any (same_chunk c) ds) h) [
+  | inl e ↦ (0, omega arith, sym (same_chunk_true c d e))
+  | inr e ↦ let r = list_any_contains c ds e in (suc r.0, (let l = r.1 in omega arith), r.2)
 ]
 
-found : (c : Chunk) (ds : List Chunk) (k : ℕ) → k < length ds → get_or ds k c ≡ c → list_any (same_chunk c) ds ≡ true
-found c [] k l e = absurd (omega arith)
-found c (d ∷ ds) zero l e = ap (λ b. b || list_any (same_chunk c) ds) (subst (λ z. same_chunk z d ≡ true) e (same_chunk-self d))
-found c (d ∷ ds) (suc k) l e = elim (cases_Bool (same_chunk c d)) [
+list_any_at : (c : Chunk) (ds : List Chunk) (k : ℕ) → k < length ds → get_or ds k c ≡ c → list_any (same_chunk c) ds ≡ true
+list_any_at c [] k l e = absurd (omega arith)
+list_any_at c (d ∷ ds) zero l e = ap (λ b. b || list_any (same_chunk c) ds) (subst (λ z. same_chunk z d ≡ true) e (same_chunk_self d))
+list_any_at c (d ∷ ds) (suc k) l e = elim (cases_Bool (same_chunk c d)) [
   | inl s ↦ ap (λ b. b || list_any (same_chunk c) ds) s
-  | inr s ↦ ap (λ b. b || list_any (same_chunk c) ds) s ∙ found c ds k (omega arith) e
+  | inr s ↦ ap (λ b. b || list_any (same_chunk c) ds) s ∙ list_any_at c ds k (omega arith) e
 ]
 
 module _ (plan : Plan) where
@@ -67,7 +67,7 @@ module _ (plan : Plan) where
   each_there : (ds es : List Chunk) → ((c : Chunk) → list_any (same_chunk c) ds ≡ true → There c) → AllByRecursion There ds
   each_there [] es f = tt
   each_there (d ∷ ds) es f = (
-    f d (ap (λ b. b || list_any (same_chunk d) ds) (same_chunk-self d)),
+    f d (ap (λ b. b || list_any (same_chunk d) ds) (same_chunk_self d)),
     each_there ds es (λ c h. f c (elim (cases_Bool (same_chunk c d)) [
       | inl s ↦ ap (λ b. b || list_any (same_chunk c) ds) s
       | inr s ↦ ap (λ b. b || list_any (same_chunk c) ds) s ∙ h
@@ -136,18 +136,18 @@ module _ (m : Meaning) (f : Fits m) (plan : Plan) (n : ℕ) (count : IsCount n p
   length_all = length-map (chunks m) (λ (c : Chunk × ℕ). c.0)
 
   distinct_all : IsDistinct same_chunk all
-  distinct_all = distinct (chunks m) (chunks_rise m f)
+  distinct_all = ranks_distinct (chunks m) (chunks_rise m f)
 
   -- a chunk that has an offset is one of those
-  pub judged : 8 ≤ plan.length → plan.length ≤ limit → n ≡ length (chunks m) → all_stand plan (range 0 8 ∷ []) (chunks m) ≡ true
+  pub plan_judged : 8 ≤ plan.length → plan.length ≤ limit → n ≡ length (chunks m) → all_stand plan (range 0 8 ∷ []) (chunks m) ≡ true
       → Legal m plan
   unfolding plan_ranges
-  judged least most same h =
+  plan_judged least most same h =
       let s = standing plan (range 0 8 ∷ []) (chunks m) h in
       record {
         exactly = λ c. (
           λ p. elim (cases_Bool (list_any (same_chunk c) all)) [
-            | inl e ↦ among c all e
+            | inl e ↦ list_any_contains c all e
             | inr e ↦ let l = count.least (c ∷ all) (IsDistinct-cons same_chunk c all (differ c all e) distinct_all) (p, s.there) in
                 let k = length_all in absurd (omega arith)
           ],
@@ -169,26 +169,27 @@ module _ (m : Meaning) (f : Fits m) (plan : Plan) (n : ℕ) (count : IsCount n p
   -- and back
   pub as_many : Legal m plan → n ≡ length (chunks m)
   as_many l =
-      let few = count.least all distinct_all (each_there plan all all (λ c h. (l.exactly c).1 (among c all h))) in
-      let many = count.most all (λ c p. let w = (l.exactly c).0 p in found c all w.0 w.1 w.2) in
+      let few = count.least all distinct_all (each_there plan all all (λ c h. (l.exactly c).1 (list_any_contains c all h))) in
+      let many = count.most all (λ c p. let w = (l.exactly c).0 p in list_any_at c all w.0 w.1 w.2) in
       let k = length_all in omega arith
 
   pub legal_stand : Legal m plan → all_stand plan (range 0 8 ∷ []) (chunks m) ≡ true
   unfolding plan_ranges
   legal_stand l = stood plan (range 0 8 ∷ []) (chunks m) (record {
-    there = each_there plan all all (λ c h. (l.exactly c).1 (among c all h));
+    there = each_there plan all all (λ c h. (l.exactly c).1 (list_any_contains c all h));
     inside = l.inside.1;
     free = before plan [] (range 0 8) (map (at plan) (chunks m)) l.apart.0 (all_free plan (map (at plan) (chunks m)));
     apart = l.apart.1;
   })
 
   -- the verdict
-  pub verdict : (b : Bool) → 8 ≤ plan.length → plan.length ≤ limit → n ≡ length (chunks m) → b ≡ all_stand plan (range 0 8 ∷ []) (chunks m)
+  pub plan_verdict : (b : Bool) → 8 ≤ plan.length → plan.length ≤ limit → n ≡ length (chunks m)
+      → b ≡ all_stand plan (range 0 8 ∷ []) (chunks m)
       → (b ≡ true) ↔ Legal m plan
-  verdict b least most same e = ((λ h. judged least most same (sym e ∙ h)), (λ l. e ∙ legal_stand l))
+  plan_verdict b least most same e = ((λ h. plan_judged least most same (sym e ∙ h)), (λ l. e ∙ legal_stand l))
 
-  pub verdicts : {E : Type 0} (r : Result Bool E) (cs : List (Chunk × ℕ)) → 8 ≤ plan.length → plan.length ≤ limit → n ≡ length cs
+  pub plan_verdicts : {E : Type 0} (r : Result Bool E) (cs : List (Chunk × ℕ)) → 8 ≤ plan.length → plan.length ≤ limit → n ≡ length cs
       → cs ≡ chunks m → IfOk r (λ b. b ≡ all_stand plan (range 0 8 ∷ []) cs) → IfOk r (λ b. IsTrue b ↔ Legal m plan)
-  verdicts (Ok b) cs least most same is h =
-      verdict b least most (same ∙ ap (λ xs. length xs) is) (h ∙ ap (all_stand plan (range 0 8 ∷ [])) is)
-  verdicts (Err e) cs least most same is h = h
+  plan_verdicts (Ok b) cs least most same is h =
+      plan_verdict b least most (same ∙ ap (λ xs. length xs) is) (h ∙ ap (all_stand plan (range 0 8 ∷ [])) is)
+  plan_verdicts (Err e) cs least most same is h = h

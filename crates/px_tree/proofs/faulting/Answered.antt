@@ -8,7 +8,7 @@ use Rattle.px_bytes.specs.declared.Refusal.TheVariants.{Content, OutOfMemory}
 use Rattle.px_bytes.specs.Parts.{limit}
 use Rattle.px_bytes.specs.Numbers.{AreBytes}
 use Rattle.px_bytes.specs.Checks.{first_false, Refuses, Judges, LacksBlockBy, ContentOnly}
-use Rattle.px_bytes.specs.lemmas.CheckLaws.{all_true, Refuses-more, Refuses-behind}
+use Rattle.px_bytes.specs.lemmas.CheckLaws.{all_true, Refuses_more, Refuses_behind}
 use Rattle.px_iim.specs.Check.{iim_checks}
 use Rattle.px_iim.specs.lemmas.FaultLaws.{said_clean}
 use Rattle.px_iim.specs.lemmas.RecordLaws.{computed_said}
@@ -48,13 +48,13 @@ refused_only X b OutOfMemory refused l h k = absurd k
 
 pub header_refuses : (b : List ℕ) (e : Refusal) → Refuses e (header_checks b) → Refuses e (checks b)
 unfolding checks
-header_refuses b e h = Refuses-more e (header_checks b) (checks_in b (order_of b)) h
+header_refuses b e h = Refuses_more e (header_checks b) (checks_in b (order_of b)) h
 
 module _ (b : List ℕ) (o : Order) (headed : first_false (header_checks b) ≡ None) (ordered : order_of b ≡ Some o) where
   tree_refuses : (e : Refusal) → Refuses e (tree_checks b o) → Refuses e (checks b)
   unfolding checks
   tree_refuses e h =
-      Refuses-behind e (header_checks b) (checks_in b (order_of b)) headed (subst (λ (x : Option Order). Refuses e (checks_in b x))
+      Refuses_behind e (header_checks b) (checks_in b (order_of b)) headed (subst (λ (x : Option Order). Refuses e (checks_in b x))
       (sym ordered) h)
 
   tree_says : first_false (tree_checks b o) ≡ None → SaysExif b (meaning b o)

@@ -22,7 +22,7 @@ use Rattle.px_tree.specs.Footprint.{listed, placed_range}
 use Rattle.px_tree.specs.Checks.{named_at, place_of, place_with, pointer_place}
 use Rattle.px_tree.specs.Faults.{Begins, EntryAt, value_owners, dir_owners, owners_at, thumb_owners, owners, Fault}
 use Rattle.px_tree.specs.calls.Reading.{HasTable}
-use Rattle.px_tree.proofs.reading.Pointers.{length-is}
+use Rattle.px_tree.proofs.reading.Pointers.{length_is}
 
 none_entries : (o : Order) → entries o [] ≡ []
 unfolding entries
@@ -56,7 +56,7 @@ module _ (b : List ℕ) (o : Order) where
         let p = and_parts (nat_le 1 n) (nat_le (a + table_size n) (length b)) t in
         let i : a + table_size n ≤ length b = leb-true (a + table_size n) (length b) p.1 in
         let there : HasTable b o a n = record { count = refl; some = leb-true 1 n p.0; inside = i } in
-        let l = length-is b o a n there in
+        let l = length_is b o a n there in
         inr (omega arith)
     | inr t ↦
         let e : table b o a ≡ [] = cond-false (has_table b o a) (part b a (table_size (short o (part b a 2)))) [] t in

@@ -17,7 +17,7 @@ use Rattle.px_tree.specs.Checks.{same_bytes, order_of, begins_header, header_che
 use Rattle.px_tree.specs.Checks.{checks_in, checks, FirstFault}
 use Rattle.px_tree.specs.Faults.{Begins, owners_at, thumb_owners, owners, Fault}
 use Rattle.px_tree.proofs.lists.At.{From, from_all, from_head, from_tail, from_left, from_right}
-use Rattle.px_tree.proofs.saying.Judged.{dirs_facts, bytes-self, begun, order_told}
+use Rattle.px_tree.proofs.saying.Judged.{dirs_facts, bytes_self, header_begun, order_told}
 use Rattle.px_tree.proofs.faulting.Told.{Tells, tells_append, first_told, Held}
 use Rattle.px_tree.proofs.faulting.ToldDirs.{dirs_tell, dirs_kept}
 use Rattle.px_tree.proofs.faulting.ToldThumb.{thumb_tells}
@@ -37,7 +37,7 @@ kind_told b h =
     ]
   where
     differ : (x y : List ℕ) → same_bytes x y ≡ false → x ≡ y → ⊥
-    differ x y n q = both_ways (same_bytes x y) n (subst (λ y. same_bytes x y ≡ true) q (bytes-self x))
+    differ x y n q = both_ways (same_bytes x y) n (subst (λ y. same_bytes x y ≡ true) q (bytes_self x))
 
     neither : (same_bytes (take 4 b) (take (length b) (magic Least)) ≡ false) ×
         (same_bytes (take 4 b) (take (length b) (magic Most)) ≡ false) → (o : Order) → take 4 b ≡ take (length b) (magic o) → ⊥
@@ -106,7 +106,7 @@ unfolding checks
 checks_tell b = tells_append b (header_checks b) (checks_in b (order_of b)) (header_tells b)
     (λ all.
     let least : 8 ≤ length b = leb-true 8 (length b) all.1.1.0 in
-    let o = begun b least all.1.0 in
+    let o = header_begun b least all.1.0 in
     subst (λ z. Tells b (checks_in b z)) (sym (order_told b o.0 o.1)) (tree_tells b o.0 (least, o.1)))
 
 -- The first fault is a fault of the block.

@@ -22,7 +22,7 @@ use Rattle.px_tree.specs.Footprint.{listed, placed_range, table_range, dir_range
 use Rattle.px_tree.specs.Checks.{is_not_below, differs, entry_checks, entries_checks, is_earlier_at, opening_checks, dir_checks, named_at}
 use Rattle.px_tree.specs.Checks.{checks_at, dirs_checks, dirs_held}
 use Rattle.px_tree.specs.Faults.{At, Begins, Reached, EntryAt, dir_number, value_owners, dir_owners, owners_at, owners, Fault}
-use Rattle.px_tree.proofs.saying.Owned.{ranges-owners_at}
+use Rattle.px_tree.proofs.saying.Owned.{ranges_owners_at}
 use Rattle.px_tree.proofs.lists.At.{From, from_all, from_head, from_tail, from_left, from_right}
 use Rattle.px_tree.proofs.saying.Judged.{AllHold, at_facts}
 use Rattle.px_tree.proofs.faulting.Told.{Tells, tells_append, Held, held_later, held_cons, held_append, overlap_told, value_told}
@@ -202,7 +202,7 @@ module _ (b : List ℕ) (o : Order) (begins : Begins b o) where
   after_dir : (d : Dir) (held : List Range) (k : ℕ) → IfSome (dir_at b o d) (IsDirectory b o d) → From (owners b o) k (owners_at b o d)
       → Held b o k held → Held b o (k + length (owners_at b o d)) (ranges_at b o d ++ held)
   after_dir d held k i f g =
-      held_append b o k (owners_at b o d) (ranges_at b o d) held (ranges-owners_at b o d) f (dir_inside d (dir_at b o d) i) g
+      held_append b o k (owners_at b o d) (ranges_at b o d) held (ranges_owners_at b o d) f (dir_inside d (dir_at b o d) i) g
 
   pub dirs_tell : (m : ℕ) (ds : List Dir) (earlier : List ℕ) (held : List Range) (k : ℕ) → Numbered m ds → Before m earlier
       → From (owners b o) k (flat_map (owners_at b o) ds) → Held b o k held → Tells b (dirs_checks b o earlier held ds)

@@ -16,7 +16,7 @@ use Rattle.px_tree.specs.Thumbnail.{both, are_paired, numbers, jpeg_range, range
 use Rattle.px_tree.specs.Footprint.{listed}
 use Rattle.px_tree.specs.Checks.{place_with, pair_place, same_count, pair_checks, end_checks, range_checks, part_checks, thumb_checks}
 use Rattle.px_tree.specs.Faults.{At, Reached, EntryAt, thumb_owners, owners, partners, PartAt, Fault}
-use Rattle.px_tree.proofs.saying.Owned.{ranges-placed}
+use Rattle.px_tree.proofs.saying.Owned.{ranges_placed}
 use Rattle.px_tree.proofs.lists.At.{From, from_head, from_tail, from_left, from_right, each_from_at, contains_at}
 use Rattle.px_tree.proofs.saying.Judged.{ranges_facts}
 use Rattle.px_tree.proofs.faulting.Told.{Tells, tells_append, Held, held_cons, held_append, overlap_told}
@@ -208,4 +208,4 @@ module _ (b : List ℕ) (o : Order) (a : ℕ) (reached : Reached b o Thumb a) (e
         (λ _. tells_append b (range_checks b p held js) (range_checks b q (js ++ held) ss)
         (ranges_tell p held js k jpeg_parts here g)
         (λ all. ranges_tell q (js ++ held) ss (k + length xs) strip_parts (from_right (owners b o) k xs ys f)
-        (held_append b o k xs js held (ranges-placed p js) here (ranges_facts b o p held js all).0 g))))
+        (held_append b o k xs js held (ranges_placed p js) here (ranges_facts b o p held js all).0 g))))

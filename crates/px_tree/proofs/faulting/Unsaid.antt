@@ -247,8 +247,8 @@ module _ (b : List ℕ) (o : Order) (x : IsExif b o) where
       let w = part_inside h.0 f i j e n r h.2 (at_one Thumb h.0 j q n f k) s in omega arith
 
 -- the byte order of a fault is that of the meaning
-block : (b : List ℕ) (m : Meaning) (o : Order) (s : SaysExif b m) → Begins b o → IsExif b o
-block b m o s h = subst (IsExif b) (magic_tells s.order o (sym s.is_block.begins ∙ h.1)) s.is_block
+begins_is_exif : (b : List ℕ) (m : Meaning) (o : Order) (s : SaysExif b m) → Begins b o → IsExif b o
+begins_is_exif b m o s h = subst (IsExif b) (magic_tells s.order o (sym s.is_block.begins ∙ h.1)) s.is_block
 
 -- A block with a fault has no meaning.
 pub stands_unsaid : (b : List ℕ) (c : Cause) (p : ℕ) (m : Meaning) → Fault b c p → SaysExif b m → ⊥
@@ -256,23 +256,25 @@ stands_unsaid b cause.TooLong p m f s = let l = f.1 in let k = s.is_block.most i
 stands_unsaid b cause.UnknownKind p m (q, inl z) s = let l = s.is_block.least in omega arith
 stands_unsaid b cause.UnknownKind p m (q, inr n) s = n s.order (s.is_block.begins ∙ sym (all_magic b s.order s.is_block.least))
 stands_unsaid b cause.HeaderCut p m f s = let l = f.1 in let k = s.is_block.least in omega arith
-stands_unsaid b cause.Loop p m (o, d, e, a, h, k, l, q) s = loop_unsaid b o (block b m o s h.0) d e a h.1 k.1 l
-stands_unsaid b cause.DirectoryOutside p m (o, d, a, h, q, l) s = outside_unsaid b o (block b m o s h.0) d a h.1 l
-stands_unsaid b cause.EmptyDirectory p m (o, d, h, q, l) s = empty_unsaid b o (block b m o s h.0) d p h.1 l
+stands_unsaid b cause.Loop p m (o, d, e, a, h, k, l, q) s = loop_unsaid b o (begins_is_exif b m o s h.0) d e a h.1 k.1 l
+stands_unsaid b cause.DirectoryOutside p m (o, d, a, h, q, l) s = outside_unsaid b o (begins_is_exif b m o s h.0) d a h.1 l
+stands_unsaid b cause.EmptyDirectory p m (o, d, h, q, l) s = empty_unsaid b o (begins_is_exif b m o s h.0) d p h.1 l
 stands_unsaid b cause.Overlap p m (o, i, j, q, r, t, y, h, l, u, v, k, n, w, z) s =
-    overlap_unsaid b o (block b m o s h) i j p q r t y l u v w z
-stands_unsaid b cause.Unsorted p m (o, d, i, q, e, f, h, k, l) s = let n = follows b o (block b m o s h.1.0) d i q p e f h k in omega arith
-stands_unsaid b cause.Doubled p m (o, d, i, q, e, f, h, k, l) s = let n = follows b o (block b m o s h.1.0) d i q p e f h k in omega arith
+    overlap_unsaid b o (begins_is_exif b m o s h) i j p q r t y l u v w z
+stands_unsaid b cause.Unsorted p m (o, d, i, q, e, f, h, k, l) s = let n = follows b o
+    (begins_is_exif b m o s h.1.0) d i q p e f h k in omega arith
+stands_unsaid b cause.Doubled p m (o, d, i, q, e, f, h, k, l) s = let n = follows b o
+    (begins_is_exif b m o s h.1.0) d i q p e f h k in omega arith
 stands_unsaid b cause.UnknownType p m (o, d, i, e, h, n) s =
-    let x = block b m o s h.1.0 in unknown_unsaid b o x d e (in_order_at b o x d i p e h) n
+    let x = begins_is_exif b m o s h.1.0 in unknown_unsaid b o x d e (in_order_at b o x d i p e h) n
 stands_unsaid b cause.MisplacedOffset p m (o, d, i, e, h, n) s =
-    let x = block b m o s h.1.0 in misplaced_unsaid b o x d e (in_order_at b o x d i p e h) n
+    let x = begins_is_exif b m o s h.1.0 in misplaced_unsaid b o x d e (in_order_at b o x d i p e h) n
 stands_unsaid b cause.PointerForm p m (o, d, i, e, h, n) s =
-    let x = block b m o s h.1.0 in true≢false (sym (in_order_at b o x d i p e h).formed ∙ n)
+    let x = begins_is_exif b m o s h.1.0 in true≢false (sym (in_order_at b o x d i p e h).formed ∙ n)
 stands_unsaid b cause.ValueOutside p m (o, d, i, e, h, n) s =
-    let x = block b m o s h.1.0 in true≢false (sym (in_order_at b o x d i p e h).inside ∙ n)
+    let x = begins_is_exif b m o s h.1.0 in true≢false (sym (in_order_at b o x d i p e h).inside ∙ n)
 stands_unsaid b cause.ThumbnailPair p m (o, a, i, e, r, h, n) s =
-    let x = block b m o s r.0 in pair_unsaid b o x a i p e r.1 (at_one b o x Thumb a i p e r.1 h) n
-stands_unsaid b cause.ExtraDirectory p m (o, a, r, q, n) s = n (thumb_is b o (block b m o s r.0) a r.1).ends
-stands_unsaid b cause.ThumbnailOutside p m (o, r, h, l) s = part_unsaid b o (block b m o s h.5.1.0) p r h l
+    let x = begins_is_exif b m o s r.0 in pair_unsaid b o x a i p e r.1 (at_one b o x Thumb a i p e r.1 h) n
+stands_unsaid b cause.ExtraDirectory p m (o, a, r, q, n) s = n (thumb_is b o (begins_is_exif b m o s r.0) a r.1).ends
+stands_unsaid b cause.ThumbnailOutside p m (o, r, h, l) s = part_unsaid b o (begins_is_exif b m o s h.5.1.0) p r h l
 stands_unsaid b _ p m f s = f

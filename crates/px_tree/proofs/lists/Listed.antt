@@ -8,7 +8,7 @@ use Rattle.px_bytes.specs.declared.Order.{Order}
 use Rattle.px_bytes.specs.Parts.{limit}
 use Rattle.px_field.specs.declared.Form.{Form}
 use Rattle.px_field.specs.Forms.{form_of}
-use Rattle.px_field.specs.lemmas.ValueLaws.{length-elements}
+use Rattle.px_field.specs.lemmas.ValueLaws.{length_elements}
 use Rattle.px_tree.specs.declared.entries.Head.{Head}
 use Rattle.px_tree.specs.declared.links.Found.{Found}
 use Rattle.px_tree.specs.declared.roles.Dir.{Dir}
@@ -28,14 +28,14 @@ codes_from h e = elim (or_cases (h.code == 3) (h.code == 4) e) [
 ]
 
 module _ (b : List ℕ) (o : Order) (f : Found) (k : Form) (shown : Shows o f.head (entry_here b o f)) where
-  pub numbers-is : form_of f.head.code ≡ Some k → numbers b o (entry_here b o f) ≡ map whole_number
+  pub numbers_is : form_of f.head.code ≡ Some k → numbers b o (entry_here b o f) ≡ map whole_number
       (entry_elements b o (entry_here b o f) k)
   unfolding numbers
-  numbers-is known = ap (λ (x : Option Form). numbers_in b o (entry_here b o f) x) (ap form_of (sym shown.code) ∙ known)
+  numbers_is known = ap (λ (x : Option Form). numbers_in b o (entry_here b o f) x) (ap form_of (sym shown.code) ∙ known)
 
-  pub length-list : length (entry_elements b o (entry_here b o f) k) ≡ f.head.count
+  pub length_list : length (entry_elements b o (entry_here b o f) k) ≡ f.head.count
   unfolding entry_elements
-  length-list = let e = entry_here b o f in length-elements o k e.count (raw b o e) ∙ sym shown.count
+  length_list = let e = entry_here b o f in length_elements o k e.count (raw b o e) ∙ sym shown.count
 
 -- ---- what was found
 

@@ -14,12 +14,12 @@ earlier_append (x ∷ xs) ys a =
     regroup true q r = refl
     regroup false q r = refl
 
-links-next : (xs : List (Option Link)) (i : ℕ) (d : Option Link) (a : ℕ) → i < length xs
+links_next : (xs : List (Option Link)) (i : ℕ) (d : Option Link) (a : ℕ) → i < length xs
     → is_earlier_at (offsets_of (drop i xs)) a ≡ (is_earlier_at (offset_of (get_or xs i d)) a || is_earlier_at
     (offsets_of (drop (suc i) xs)) a)
-links-next [] i d a l = absurd (omega arith)
-links-next (x ∷ xs) zero d a l = earlier_append (offset_of x) (offsets_of xs) a
-links-next (x ∷ xs) (suc i) d a l = links-next xs i d a (omega arith)
+links_next [] i d a l = absurd (omega arith)
+links_next (x ∷ xs) zero d a l = earlier_append (offset_of x) (offsets_of xs) a
+links_next (x ∷ xs) (suc i) d a l = links_next xs i d a (omega arith)
 
 module _ (xs : List (Option Link)) (i : ℕ) (d : Option Link) (a : ℕ) (inside : i < length xs) (r : Bool)
     (is : r ≡ is_earlier_at (offset_of (get_or xs i d)) a) where
@@ -28,11 +28,11 @@ module _ (xs : List (Option Link)) (i : ℕ) (d : Option Link) (a : ℕ) (inside
 
   -- the link at i leads there
   pub here_earlier : r ≡ true → is_earlier_at (offsets_of (drop i xs)) a ≡ true
-  here_earlier h = links-next xs i d a inside ∙ ap (λ (t : Bool). t || rest) (sym is ∙ h)
+  here_earlier h = links_next xs i d a inside ∙ ap (λ (t : Bool). t || rest) (sym is ∙ h)
 
   -- it doesn't
   pub pass_earlier : r ≡ false → is_earlier_at (offsets_of (drop (i + 1) xs)) a ≡ is_earlier_at (offsets_of (drop i xs)) a
   pass_earlier h =
       let e : i + 1 ≡ suc i = omega arith in
       ap (λ (k : ℕ). is_earlier_at (offsets_of (drop k xs)) a) e
-      ∙ sym (links-next xs i d a inside ∙ ap (λ (t : Bool). t || rest) (sym is ∙ h))
+      ∙ sym (links_next xs i d a inside ∙ ap (λ (t : Bool). t || rest) (sym is ∙ h))

@@ -20,9 +20,9 @@ use Rattle.px_tree.specs.Footprint.{placed_range}
 use Rattle.px_bytes.specs.Checks.{Check, first_false, Refuses}
 use Rattle.px_tree.specs.Checks.{entry_checks, entries_checks}
 use Rattle.px_tree.specs.calls.Reading.{IsShape, entries_from}
-use Rattle.px_bytes.specs.lemmas.RangeLaws.{agrees-same}
+use Rattle.px_bytes.specs.lemmas.RangeLaws.{agrees_same}
 use Rattle.px_bytes.specs.lemmas.ApartLaws.{same_refl, same_trans, same_front}
-use Rattle.px_bytes.specs.lemmas.CheckLaws.{first_false-true, Refuses-more, Refuses-same}
+use Rattle.px_bytes.specs.lemmas.CheckLaws.{first_false_true, Refuses_more, Refuses_same}
 
 -- the range of an entry, claimed before or after the ranges of the entries that follow it
 pub same_moved : (x : Option Range) (es now : List Range) → SameFree (es ++ (option_to_list x ++ now)) (cons_option x es ++ now)
@@ -62,9 +62,9 @@ module _ (b : List ℕ) (o : Order) (d : Dir) where
         → Refuses r (entries_checks b o d taken start None all)
     unfolding behind
     so_far_refuses r h =
-        Refuses-same r (entries_checks b o d s.now at before (entries_from b o at (suc m))) (entries_checks b o d taken start None all)
+        Refuses_same r (entries_checks b o d s.now at before (entries_from b o at (suc m))) (entries_checks b o d taken start None all)
         (ap (λ (k : ℕ). first_false (entries_checks b o d s.now at before (entries_from b o at k))) (sym more) ∙ s.faults)
-        (Refuses-more r (entry_checks b o d s.now at before e) (behind s.now at before m) h)
+        (Refuses_more r (entry_checks b o d s.now at before e) (behind s.now at before m) h)
 
     pub so_far_step : (new : List (ℕ × ℕ)) (tag : ℕ) → tag ≡ e.tag → first_false (entry_checks b o d s.now at before e) ≡ None
         → Agrees (option_to_list (placed_range o e) ++ s.now) new → SoFar taken all start new (at + 12) (Some tag) m
@@ -75,7 +75,7 @@ module _ (b : List ℕ) (o : Order) (d : Dir) where
       faults =
           ap (λ (k : ℕ). first_false (entries_checks b o d (option_to_list (placed_range o e) ++ s.now) (at + 12) (Some k)
           (entries_from b o (at + 12) m))) t
-          ∙ sym (first_false-true (entry_checks b o d s.now at before e) (behind s.now at before m) h)
+          ∙ sym (first_false_true (entry_checks b o d s.now at before e) (behind s.now at before m) h)
           ∙ ap (λ (k : ℕ). first_false (entries_checks b o d s.now at before (entries_from b o at k))) (sym more)
           ∙ s.faults;
       free = same_trans (filter_map (placed_range o) (entries_from b o (at + 12) m)
@@ -97,9 +97,9 @@ module _ (b : List ℕ) (o : Order) (d : Dir) where
       cons_is (Some x) xs = refl
 
   -- the field of an entry by its shape
-  pub field-is : (s : Shape) (e : Entry) → IsShape o d s e → field b o d e ≡ option_map (λ v. (e.tag, v)) (value_in b o e s.role s.form)
+  pub field_is : (s : Shape) (e : Entry) → IsShape o d s e → field b o d e ≡ option_map (λ v. (e.tag, v)) (value_in b o e s.role s.form)
   unfolding field
-  field-is s e i =
+  field_is s e i =
       ap (λ (x : Option Form). option_map (λ (v : Value). (e.tag, v)) (option_and_then (value_in b o e (role d e.tag)) x)) i.form
       ∙ ap (λ (r : Role). option_map (λ (v : Value). (e.tag, v)) (value_in b o e r s.form)) (sym i.role_is)
 
@@ -109,7 +109,7 @@ module _ (b : List ℕ) (o : Order) (d : Dir) where
       → (first_false (entries_checks b o d taken start None all) ≡ None) × Agrees (filter_map (placed_range o) all ++ taken) held
   so_far_end taken all start held at before n z s = (
     sym s.faults ∙ ap (λ (k : ℕ). first_false (entries_checks b o d s.now at before (entries_from b o at k))) z,
-    agrees-same s.now (filter_map (placed_range o) all ++ taken) held (subst
+    agrees_same s.now (filter_map (placed_range o) all ++ taken) held (subst
         (λ (k : ℕ). SameFree (filter_map (placed_range o) (entries_from b o at k) ++ s.now) (filter_map (placed_range o) all ++ taken)) z
         s.free) s.agrees,
   )

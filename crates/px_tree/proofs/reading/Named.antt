@@ -5,7 +5,7 @@ use Rattle.px_bytes.specs.declared.Order.{Order}
 use Rattle.px_bytes.specs.declared.Refusal.{Refusal}
 use Rattle.px_bytes.specs.Range.{Range, Agrees}
 use Rattle.px_bytes.specs.Checks.{first_false, Refuses}
-use Rattle.px_bytes.specs.lemmas.CheckLaws.{first_false-true, Refuses-more, Refuses-same}
+use Rattle.px_bytes.specs.lemmas.CheckLaws.{first_false_true, Refuses_more, Refuses_same}
 use Rattle.px_tree.specs.declared.roles.Dir.{Dir}
 use Rattle.px_tree.specs.declared.roles.Dir.TheVariants.{Main, Exif, Interop, Gps, Thumb}
 use Rattle.px_tree.specs.declared.links.Link.{Link}
@@ -53,8 +53,8 @@ module _ (b : List ℕ) (o : Order) (taken : List Range) where
     pub dirs_refuse : (r : Refusal) → Refuses r (checks_at b o (offsets_of earlier) s.now d (dir_at b o d))
         → Refuses r (dirs_checks b o [] taken dirs)
     unfolding behind
-    dirs_refuse r h = Refuses-same r (dirs_checks b o (offsets_of earlier) s.now (d ∷ ds)) (dirs_checks b o [] taken dirs) s.faults
-        (Refuses-more r (checks_at b o (offsets_of earlier) s.now d (dir_at b o d)) (dirs_checks b o behind (ranges_at b o d ++ s.now) ds)
+    dirs_refuse r h = Refuses_same r (dirs_checks b o (offsets_of earlier) s.now (d ∷ ds)) (dirs_checks b o [] taken dirs) s.faults
+        (Refuses_more r (checks_at b o (offsets_of earlier) s.now d (dir_at b o d)) (dirs_checks b o behind (ranges_at b o d ++ s.now) ds)
         h)
 
     pub dirs_step : (link : Option Link) (new : List (ℕ × ℕ)) → Names b o d link
@@ -67,7 +67,7 @@ module _ (b : List ℕ) (o : Order) (taken : List Range) where
       faults =
           ap (λ (x : Option ℕ). first_false (dirs_checks b o (option_to_list x ++ offsets_of earlier) (ranges_at b o d ++ s.now) ds))
           n.leads
-          ∙ sym (first_false-true (checks_at b o (offsets_of earlier) s.now d (dir_at b o d))
+          ∙ sym (first_false_true (checks_at b o (offsets_of earlier) s.now d (dir_at b o d))
           (dirs_checks b o behind (ranges_at b o d ++ s.now) ds) h)
           ∙ s.faults;
       ends = s.ends;

@@ -86,16 +86,16 @@ no_use_plain d t h =
 
 -- ---- nothing is kept of them
 
-differs : (t u : ℕ) → (u ≡ t → ⊥) → (t == u) ≡ false
-differs t u h = ne_eqb t u (λ e. h (sym e))
+tag_differs : (t u : ℕ) → (u ≡ t → ⊥) → (t == u) ≡ false
+tag_differs t u h = ne_eqb t u (λ e. h (sym e))
 
 not_kept : (f : Found) (x : Option Found) (u : ℕ) → (u ≡ f.head.tag → ⊥) → x ≡ kept (has_tag u) f x
-not_kept f x u h = sym (cond-false (f.head.tag == u) (Some f) x (differs f.head.tag u h))
+not_kept f x u h = sym (cond-false (f.head.tag == u) (Some f) x (tag_differs f.head.tag u h))
 
 not_pointed : (f : Found) (x : Option Found) (u : ℕ) → (u ≡ f.head.tag → ⊥) → x ≡ kept (is_pointer u) f x
 not_pointed f x u h =
     let one = (f.head.code == 4) && (f.head.count == 1) in
-    sym (cond-false ((f.head.tag == u) && one) (Some f) x (ap (λ (b : Bool). b && one) (differs f.head.tag u h)))
+    sym (cond-false ((f.head.tag == u) && one) (Some f) x (ap (λ (b : Bool). b && one) (tag_differs f.head.tag u h)))
 
 pub keeps_none : (u : Uses) (f : Found) → HasNoUse f.head.tag → Keeps u u f
 keeps_none u f h = record {

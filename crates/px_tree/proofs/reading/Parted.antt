@@ -7,7 +7,7 @@ use Rattle.px_bytes.specs.declared.Cause.{Cause}
 use Rattle.px_bytes.specs.declared.Cause.TheVariants.{ThumbnailPair}
 use Rattle.px_bytes.specs.Range.{Range, range}
 use Rattle.px_bytes.specs.Checks.{Check, check, first_false, Refuses}
-use Rattle.px_bytes.specs.lemmas.CheckLaws.{Refuses-more, Refuses-behind, Refuses-same, all_true}
+use Rattle.px_bytes.specs.lemmas.CheckLaws.{Refuses_more, Refuses_behind, Refuses_same, all_true}
 use Rattle.px_tree.specs.declared.links.Found.{Found}
 use Rattle.px_tree.specs.declared.uses.Uses.{Uses}
 use Rattle.px_tree.specs.Roles.{jpeg_offset_tag, jpeg_length_tag, strip_offsets_tag, strip_lengths_tag}
@@ -34,9 +34,9 @@ first_append (c ∷ xs) ys =
     ]
 
 -- lists with the same first fault have it joined too
-joined : (xs ys us vs : List Check) → first_false xs ≡ first_false us → first_false ys ≡ first_false vs
+first_false_joined : (xs ys us vs : List Check) → first_false xs ≡ first_false us → first_false ys ≡ first_false vs
     → first_false (xs ++ ys) ≡ first_false (us ++ vs)
-joined xs ys us vs h k = first_append xs ys ∙ ap₂ (λ (x y : Option (Cause × ℕ)). or_else x y) h k ∙ sym (first_append us vs)
+first_false_joined xs ys us vs h k = first_append xs ys ∙ ap₂ (λ (x y : Option (Cause × ℕ)). or_else x y) h k ∙ sym (first_append us vs)
 
 module _ (b : List ℕ) (o : Order) (a : ℕ) where
   abbrev es : List Entry
@@ -80,15 +80,15 @@ module _ (b : List ℕ) (o : Order) (a : ℕ) where
       count-same t u x y h k ∙ ap₂ (λ (v w : Option Entry). first_false (count_at t v w)) (sym (entry_of t x h)) (sym (entry_of u y k))
 
   module _ (p : Uses) (found : AreUses b o es (a + 2) p) where
-    pub pairs-is : first_false (pairs_checks p) ≡ first_false (pair_checks (a + 2) es)
-    pairs-is =
-        joined (pair_check p.jpeg_offset p.jpeg_length) (pair_check p.strip_offsets p.strip_lengths
+    pub pairs_is : first_false (pairs_checks p) ≡ first_false (pair_checks (a + 2) es)
+    pairs_is =
+        first_false_joined (pair_check p.jpeg_offset p.jpeg_length) (pair_check p.strip_offsets p.strip_lengths
         ++ count_check p.strip_offsets p.strip_lengths)
         (pair_at jpeg_offset_tag jpeg_length_tag (entry_with jpeg_offset_tag es) (entry_with jpeg_length_tag es))
         (pair_at strip_offsets_tag strip_lengths_tag (entry_with strip_offsets_tag es) (entry_with strip_lengths_tag es)
         ++ count_at strip_offsets_tag (entry_with strip_offsets_tag es) (entry_with strip_lengths_tag es))
         (pair-is jpeg_offset_tag jpeg_length_tag p.jpeg_offset p.jpeg_length found.jpeg_offset found.jpeg_length)
-        (joined (pair_check p.strip_offsets p.strip_lengths) (count_check p.strip_offsets p.strip_lengths)
+        (first_false_joined (pair_check p.strip_offsets p.strip_lengths) (count_check p.strip_offsets p.strip_lengths)
         (pair_at strip_offsets_tag strip_lengths_tag (entry_with strip_offsets_tag es) (entry_with strip_lengths_tag es))
         (count_at strip_offsets_tag (entry_with strip_offsets_tag es) (entry_with strip_lengths_tag es))
         (pair-is strip_offsets_tag strip_lengths_tag p.strip_offsets p.strip_lengths found.strip_offsets found.strip_lengths)
@@ -109,9 +109,9 @@ module _ (b : List ℕ) (o : Order) (a : ℕ) where
     jpeg-same None (Some g) h k = refl
     jpeg-same None None h k = refl
 
-    pub jpeg-is : jpeg_of p.jpeg_offset p.jpeg_length ≡ jpeg_range o es
+    pub jpeg_is : jpeg_of p.jpeg_offset p.jpeg_length ≡ jpeg_range o es
     unfolding jpeg_range
-    jpeg-is = jpeg-same p.jpeg_offset p.jpeg_length found.jpeg_offset found.jpeg_length
+    jpeg_is = jpeg-same p.jpeg_offset p.jpeg_length found.jpeg_offset found.jpeg_length
         ∙ ap₂ (λ (x n : Option Entry). both (λ x n. range (offset o x) (offset o n)) x n)
         (sym (entry_of jpeg_offset_tag p.jpeg_offset found.jpeg_offset))
         (sym (entry_of jpeg_length_tag p.jpeg_length found.jpeg_length))
@@ -123,9 +123,9 @@ module _ (b : List ℕ) (o : Order) (a : ℕ) where
     strips-same None (Some g) = refl
     strips-same None None = refl
 
-    pub strips-is : strips_of b o p.strip_offsets p.strip_lengths ≡ strip_ranges b o es
+    pub strips_is : strips_of b o p.strip_offsets p.strip_lengths ≡ strip_ranges b o es
     unfolding strip_ranges
-    strips-is = strips-same p.strip_offsets p.strip_lengths
+    strips_is = strips-same p.strip_offsets p.strip_lengths
         ∙ ap₂ (λ (x n : Option Entry). both (λ x n. ranges_of (numbers b o x) (numbers b o n)) x n)
         (sym (entry_of strip_offsets_tag p.strip_offsets found.strip_offsets))
         (sym (entry_of strip_lengths_tag p.strip_lengths found.strip_lengths))
@@ -136,20 +136,20 @@ module _ (b : List ℕ) (o : Order) (a : ℕ) where
     jpeg_checks-same taken (Some f) n h = ap (λ (q : ℕ). range_checks b q taken (option_to_list (jpeg_of (Some f) n))) h.place
     jpeg_checks-same taken None n h = refl
 
-    pub jpeg_checks-is : (taken : List Range) → range_checks b (place_in p.jpeg_offset) taken
+    pub jpeg_checks_is : (taken : List Range) → range_checks b (place_in p.jpeg_offset) taken
         (option_to_list (jpeg_of p.jpeg_offset p.jpeg_length)) ≡ range_checks b at_jpeg taken (option_to_list (jpeg_range o es))
-    jpeg_checks-is taken = jpeg_checks-same taken p.jpeg_offset p.jpeg_length found.jpeg_offset
-        ∙ ap (λ (r : Option Range). range_checks b at_jpeg taken (option_to_list r)) jpeg-is
+    jpeg_checks_is taken = jpeg_checks-same taken p.jpeg_offset p.jpeg_length found.jpeg_offset
+        ∙ ap (λ (r : Option Range). range_checks b at_jpeg taken (option_to_list r)) jpeg_is
 
     strip_checks-same : (taken : List Range) (x n : Option Found) → Finds b o a strip_offsets_tag x
         → range_checks b (place_in x) taken (listed (strips_of b o x n)) ≡ range_checks b at_strips taken (listed (strips_of b o x n))
     strip_checks-same taken (Some f) n h = ap (λ (q : ℕ). range_checks b q taken (listed (strips_of b o (Some f) n))) h.place
     strip_checks-same taken None n h = refl
 
-    pub strip_checks-is : (taken : List Range) → range_checks b (place_in p.strip_offsets) taken
+    pub strip_checks_is : (taken : List Range) → range_checks b (place_in p.strip_offsets) taken
         (listed (strips_of b o p.strip_offsets p.strip_lengths)) ≡ range_checks b at_strips taken (listed (strip_ranges b o es))
-    strip_checks-is taken = strip_checks-same taken p.strip_offsets p.strip_lengths found.strip_offsets
-        ∙ ap (λ (r : Option (List Range)). range_checks b at_strips taken (listed r)) strips-is
+    strip_checks_is taken = strip_checks-same taken p.strip_offsets p.strip_lengths found.strip_offsets
+        ∙ ap (λ (r : Option (List Range)). range_checks b at_strips taken (listed r)) strips_is
 
     -- ---- all of them, one after another
     module _ (taken : List Range) where
@@ -168,30 +168,30 @@ module _ (b : List ℕ) (o : Order) (a : ℕ) where
 
       pub pairs_refuse : (r : Refusal) → Refuses r (pairs_checks p) → Refuses r (thumb_checks b o taken a)
       pairs_refuse r h =
-          subst (Refuses r) (sym thumb_checks-parts) (Refuses-more r (pair_checks (a + 2) es)
-          (end_checks b o a ++ (jpeg_part ++ strip_part)) (Refuses-same r (pairs_checks p) (pair_checks (a + 2) es) pairs-is h))
+          subst (Refuses r) (sym thumb_checks-parts) (Refuses_more r (pair_checks (a + 2) es)
+          (end_checks b o a ++ (jpeg_part ++ strip_part)) (Refuses_same r (pairs_checks p) (pair_checks (a + 2) es) pairs_is h))
 
       module _ (paired : first_false (pairs_checks p) ≡ None) where
         behind_pairs : (r : Refusal) → Refuses r (end_checks b o a ++ (jpeg_part ++ strip_part)) → Refuses r (thumb_checks b o taken a)
         behind_pairs r h =
-            subst (Refuses r) (sym thumb_checks-parts) (Refuses-behind r (pair_checks (a + 2) es)
-            (end_checks b o a ++ (jpeg_part ++ strip_part)) (sym pairs-is ∙ paired) h)
+            subst (Refuses r) (sym thumb_checks-parts) (Refuses_behind r (pair_checks (a + 2) es)
+            (end_checks b o a ++ (jpeg_part ++ strip_part)) (sym pairs_is ∙ paired) h)
 
         pub end_refuses : (r : Refusal) → Refuses r (end_checks b o a) → Refuses r (thumb_checks b o taken a)
-        end_refuses r h = behind_pairs r (Refuses-more r (end_checks b o a) (jpeg_part ++ strip_part) h)
+        end_refuses r h = behind_pairs r (Refuses_more r (end_checks b o a) (jpeg_part ++ strip_part) h)
 
         module _ (ended : first_false (end_checks b o a) ≡ None) where
           pub jpeg_refuses : (r : Refusal) → Refuses r
               (range_checks b (place_in p.jpeg_offset) taken (option_to_list (jpeg_of p.jpeg_offset p.jpeg_length)))
               → Refuses r (thumb_checks b o taken a)
           jpeg_refuses r h =
-              behind_pairs r (Refuses-behind r (end_checks b o a) (jpeg_part ++ strip_part) ended
-              (Refuses-more r jpeg_part strip_part (subst (Refuses r) (jpeg_checks-is taken) h)))
+              behind_pairs r (Refuses_behind r (end_checks b o a) (jpeg_part ++ strip_part) ended
+              (Refuses_more r jpeg_part strip_part (subst (Refuses r) (jpeg_checks_is taken) h)))
 
           module _ (jpeg_good : first_false (range_checks b (place_in p.jpeg_offset) taken
               (option_to_list (jpeg_of p.jpeg_offset p.jpeg_length))) ≡ None) where
             jpeg_true : first_false jpeg_part ≡ None
-            jpeg_true = subst (λ (cs : List Check). first_false cs ≡ None) (jpeg_checks-is taken) jpeg_good
+            jpeg_true = subst (λ (cs : List Check). first_false cs ≡ None) (jpeg_checks_is taken) jpeg_good
 
             abbrev strips_now : List Check
             strips_now =
@@ -199,17 +199,17 @@ module _ (b : List ℕ) (o : Order) (a : ℕ) where
                 ++ taken) (listed (strips_of b o p.strip_offsets p.strip_lengths))
 
             strips_now-is : strips_now ≡ strip_part
-            strips_now-is = strip_checks-is (option_to_list (jpeg_of p.jpeg_offset p.jpeg_length) ++ taken)
-                ∙ ap (λ (r : Option Range). range_checks b at_strips (option_to_list r ++ taken) (listed (strip_ranges b o es))) jpeg-is
+            strips_now-is = strip_checks_is (option_to_list (jpeg_of p.jpeg_offset p.jpeg_length) ++ taken)
+                ∙ ap (λ (r : Option Range). range_checks b at_strips (option_to_list r ++ taken) (listed (strip_ranges b o es))) jpeg_is
 
             pub strips_refuse : (r : Refusal) → Refuses r strips_now → Refuses r (thumb_checks b o taken a)
             strips_refuse r h =
-                behind_pairs r (Refuses-behind r (end_checks b o a) (jpeg_part ++ strip_part) ended
-                (Refuses-behind r jpeg_part strip_part jpeg_true (subst (Refuses r) strips_now-is h)))
+                behind_pairs r (Refuses_behind r (end_checks b o a) (jpeg_part ++ strip_part) ended
+                (Refuses_behind r jpeg_part strip_part jpeg_true (subst (Refuses r) strips_now-is h)))
 
             pub thumb_true : first_false strips_now ≡ None → first_false (thumb_checks b o taken a) ≡ None
             thumb_true h = ap first_false thumb_checks-parts
-                ∙ all_true (pair_checks (a + 2) es) (end_checks b o a ++ (jpeg_part ++ strip_part)) (sym pairs-is ∙ paired)
+                ∙ all_true (pair_checks (a + 2) es) (end_checks b o a ++ (jpeg_part ++ strip_part)) (sym pairs_is ∙ paired)
                 (all_true (end_checks b o a) (jpeg_part ++ strip_part) ended
                 (all_true jpeg_part strip_part jpeg_true (subst (λ (cs : List Check). first_false cs ≡ None) strips_now-is h)))
 

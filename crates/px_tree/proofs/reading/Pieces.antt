@@ -3,13 +3,13 @@ use Rattle.std.proofs.Common.{◌≡◌, ℕ, zero, suc, ◌+◌, ◌-◌, ◌*�
 use Rattle.std.proofs.lemmas.List.{take-take}
 use Rattle.px_bytes.specs.declared.Order.{Order}
 use Rattle.px_bytes.specs.Parts.{part, pieces}
-use Rattle.px_bytes.specs.lemmas.PartLaws.{part-part, drop-part}
+use Rattle.px_bytes.specs.lemmas.PartLaws.{part_part, drop_part}
 use Rattle.px_tree.specs.Entry.{Entry, entry}
 use Rattle.px_tree.specs.calls.Reading.{entries_from}
 
 -- a part of a part, at a given offset
 pub part_at : (b : List ℕ) (p m x n q : ℕ) → x + n ≤ m → q ≡ p + x → part (part b p m) x n ≡ part b q n
-part_at b p m x n q h e = part-part b p m x n h ∙ ap (λ (k : ℕ). part b k n) (sym e)
+part_at b p m x n q h e = part_part b p m x n h ∙ ap (λ (k : ℕ). part b k n) (sym e)
 
 -- the entries of a table, offset by offset
 pub pieces_from : (b : List ℕ) (o : Order) (p m n : ℕ) → 12 * n ≤ m → map (entry o) (pieces n 12 (part b p m)) ≡ entries_from b o p n
@@ -17,5 +17,5 @@ pieces_from b o p m zero h = refl
 pieces_from b o p m (suc n) h =
     ap₂ (λ (e : Entry) (es : List Entry). e ∷ es)
     (ap (entry o) (take-take 12 m (drop p b) (omega arith)))
-    (ap (λ (x : List ℕ). map (entry o) (pieces n 12 x)) (drop-part b p m 12 (omega arith))
+    (ap (λ (x : List ℕ). map (entry o) (pieces n 12 x)) (drop_part b p m 12 (omega arith))
     ∙ pieces_from b o (p + 12) (m - 12) n (omega arith))

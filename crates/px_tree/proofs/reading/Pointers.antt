@@ -4,13 +4,13 @@ use Rattle.std.proofs.Common.{length, refl, ap, ap₂, ◌∙◌, arith}
 use Rattle.std.specs.Prelude.{find}
 use Rattle.px_bytes.specs.declared.Order.{Order}
 use Rattle.px_bytes.specs.Parts.{part}
-use Rattle.px_bytes.specs.lemmas.PartLaws.{drop-part}
+use Rattle.px_bytes.specs.lemmas.PartLaws.{drop_part}
 use Rattle.px_tree.specs.declared.entries.Head.{Head}
 use Rattle.px_tree.specs.Entry.{Entry, entry, long, next, table, table_size}
 use Rattle.px_tree.specs.Directory.{entries_at, is_pointer}
 use Rattle.px_tree.specs.Checks.{place_of}
 use Rattle.px_tree.specs.calls.Reading.{HasTable, Shows, bare, entries_from}
-use Rattle.px_tree.proofs.reading.Standing.{entries_at-is, table-is, count-is}
+use Rattle.px_tree.proofs.reading.Standing.{entries_at_is, table_is, count_is}
 
 pub test_same : (o : Order) (t : ℕ) (h : Head) (e : Entry) → Shows o h e → is_pointer t (bare h) ≡ is_pointer t e
 test_same o t h e s = ap (λ (x : ℕ). (x == t) && ((h.code == 4) && (h.count == 1))) s.tag
@@ -46,14 +46,14 @@ module _ (b : List ℕ) (o : Order) (a n : ℕ) (s : HasTable b o a n) where
   length_from p zero = refl
   length_from p (suc k) = ap suc (length_from (p + 12) k)
 
-  pub length-is : length (entries_at b o a) ≡ n
-  length-is = ap (λ (es : List Entry). length es) (entries_at-is b o a n s) ∙ length_from (a + 2) n
+  pub length_is : length (entries_at b o a) ≡ n
+  length_is = ap (λ (es : List Entry). length es) (entries_at_is b o a n s) ∙ length_from (a + 2) n
 
-  pub next-is : next o (table b o a) ≡ long o (part b (a + 2 + 12 * n) 4)
+  pub next_is : next o (table b o a) ≡ long o (part b (a + 2 + 12 * n) 4)
   unfolding next
-  next-is =
+  next_is =
       let r : table_size n - (2 + 12 * n) ≡ 4 = omega arith in
       let q : a + (2 + 12 * n) ≡ a + 2 + 12 * n = omega arith in
-      ap₂ (λ (k : ℕ) (x : List ℕ). long o (drop (2 + 12 * k) x)) (count-is b o a n s) (table-is b o a n s)
-      ∙ ap (long o) (drop-part b a (table_size n) (2 + 12 * n) (omega arith))
+      ap₂ (λ (k : ℕ) (x : List ℕ). long o (drop (2 + 12 * k) x)) (count_is b o a n s) (table_is b o a n s)
+      ∙ ap (long o) (drop_part b a (table_size n) (2 + 12 * n) (omega arith))
       ∙ ap₂ (λ (x y : ℕ). long o (part b x y)) q r

@@ -5,24 +5,24 @@ use Rattle.std.proofs.lemmas.Bool.{and_from}
 use Rattle.px_bytes.specs.Held.{IsFree}
 use Rattle.px_bytes.specs.Range.{Range, range, shares, is_free, Agrees}
 use Rattle.px_bytes.specs.Checks.{first_false}
-use Rattle.px_bytes.specs.lemmas.CheckLaws.{first_false-true}
+use Rattle.px_bytes.specs.lemmas.CheckLaws.{first_false_true}
 use Rattle.px_bytes.specs.lemmas.RangeLaws.{test_from_gap}
 use Rattle.px_tree.specs.Thumbnail.{IsInside}
 use Rattle.px_tree.specs.Checks.{range_checks}
 use Rattle.px_tree.specs.calls.Strips.{Rise}
 use Rattle.px_tree.proofs.reading.StripRanges.{range_check}
 
-rise-order : (low high : ℕ) (rs : List Range) → Rise low high rs → low ≤ high
-rise-order low high [] h = h
-rise-order low high (r ∷ rs) h =
-    let later = rise-order (r.start + r.size) high rs h.1 in
+rise_order : (low high : ℕ) (rs : List Range) → Rise low high rs → low ≤ high
+rise_order low high [] h = h
+rise_order low high (r ∷ rs) h =
+    let later = rise_order (r.start + r.size) high rs h.1 in
     let here = h.0 in
     omega arith
 
 pub rise_inside : (b : List ℕ) (low high : ℕ) (rs : List Range) → Rise low high rs → high ≤ length b → AllByRecursion (IsInside b) rs
 rise_inside b low high [] h l = tt
 rise_inside b low high (r ∷ rs) h l =
-    let later = rise-order (r.start + r.size) high rs h.1 in
+    let later = rise_order (r.start + r.size) high rs h.1 in
     (omega arith, rise_inside b (r.start + r.size) high rs h.1 l)
 
 -- each range from `low` up to `high` is free
@@ -50,7 +50,7 @@ pub rise_true : (b : List ℕ) (p : ℕ) (now : List Range) (low high : ℕ) (rs
     → AreFree now low high → first_false (range_checks b p now rs) ≡ None
 rise_true b p now low high [] h l f = refl
 rise_true b p now low high (r ∷ rs) h l f =
-    let later = rise-order (r.start + r.size) high rs h.1 in
-    first_false-true (range_check b p now r) (range_checks b p (r ∷ now) rs)
+    let later = rise_order (r.start + r.size) high rs h.1 in
+    first_false_true (range_check b p now r) (range_checks b p (r ∷ now) rs)
     (range_passes b p now r (le-leb (r.start + r.size) (length b) (omega arith)) (f r.start r.size h.0 later))
     ∙ rise_true b p (r ∷ now) (r.start + r.size) high rs h.1 l (free_behind now low high r f h.0)

@@ -5,7 +5,7 @@ use Rattle.px_bytes.specs.declared.Cause.TheVariants.{Unsorted, Doubled, Unknown
 use Rattle.px_bytes.specs.declared.Refusal.{Refusal}
 use Rattle.px_bytes.specs.Range.{Range}
 use Rattle.px_bytes.specs.Checks.{Check, check, first_false, Refuses}
-use Rattle.px_bytes.specs.lemmas.CheckLaws.{Refuses-more, Refuses-behind, all_true}
+use Rattle.px_bytes.specs.lemmas.CheckLaws.{Refuses_more, Refuses_behind, all_true}
 use Rattle.px_field.specs.declared.Form.{Form}
 use Rattle.px_field.specs.Forms.{form_of, size}
 use Rattle.px_tree.specs.declared.entries.Head.{Head}
@@ -46,30 +46,30 @@ shape_same o d p u h e s =
     (form_any (role d e.tag) e.tag e.code e.count [] e.last)
 
 -- the checks of a value, by its offset and its size
-value_checks-is : (b : List ℕ) (o : Order) (taken : List Range) (p : ℕ) (e : Entry)
+value_checks_is : (b : List ℕ) (o : Order) (taken : List Range) (p : ℕ) (e : Entry)
     → value_checks b o taken p e ≡ span_checks b taken p (offset o e) (raw_size e)
 unfolding has_raw placed_range
-value_checks-is b o taken p e = refl
+value_checks_is b o taken p e = refl
 
-entry_checks-parts : (b : List ℕ) (o : Order) (d : Dir) (taken : List Range) (p : ℕ) (u : Option ℕ) (e : Entry)
+entry_checks_parts : (b : List ℕ) (o : Order) (d : Dir) (taken : List Range) (p : ℕ) (u : Option ℕ) (e : Entry)
     → entry_checks b o d taken p u e ≡ shape_checks d p u e ++ span_checks b taken p (offset o e) (raw_size e)
 unfolding entry_checks
-entry_checks-parts b o d taken p u e = ap (λ (cs : List Check). shape_checks d p u e ++ cs) (value_checks-is b o taken p e)
+entry_checks_parts b o d taken p u e = ap (λ (cs : List Check). shape_checks d p u e ++ cs) (value_checks_is b o taken p e)
 
-placed_range-is : (o : Order) (e : Entry) → placed_range o e ≡ span (offset o e) (raw_size e)
+placed_range_is : (o : Order) (e : Entry) → placed_range o e ≡ span (offset o e) (raw_size e)
 unfolding placed_range
-placed_range-is o e = refl
+placed_range_is o e = refl
 
 -- the bytes of a value
-pub raw_size-is : (e : Entry) (f : Form) → form_of e.code ≡ Some f → raw_size e ≡ e.count * size f
+pub raw_size_is : (e : Entry) (f : Form) → form_of e.code ≡ Some f → raw_size e ≡ e.count * size f
 unfolding raw_size
-raw_size-is e f h = ap (λ (x : Option Form). sized x e.count) h
+raw_size_is e f h = ap (λ (x : Option Form). sized x e.count) h
 
 -- ---- an entry judged in two steps
 module _ (b : List ℕ) (o : Order) (d : Dir) (taken : List Range) (p : ℕ) (u : Option ℕ) (h : Head) (e : Entry) (s : Shows o h e) where
   pub shape_refuses : (r : Refusal) → Refuses r (shape_checks d p u (bare h)) → Refuses r (entry_checks b o d taken p u e)
-  shape_refuses r k = subst (Refuses r) (sym (entry_checks-parts b o d taken p u e))
-      (Refuses-more r (shape_checks d p u e) (span_checks b taken p (offset o e) (raw_size e))
+  shape_refuses r k = subst (Refuses r) (sym (entry_checks_parts b o d taken p u e))
+      (Refuses_more r (shape_checks d p u e) (span_checks b taken p (offset o e) (raw_size e))
       (subst (Refuses r) (shape_same o d p u h e s) k))
 
   shape_true : first_false (shape_checks d p u (bare h)) ≡ None → first_false (shape_checks d p u e) ≡ None
@@ -82,7 +82,7 @@ module _ (b : List ℕ) (o : Order) (d : Dir) (taken : List Range) (p : ℕ) (u 
 
     len_is : len ≡ raw_size e
     len_is = ap (λ (x : Head). x.count * size t.form) same ∙ ap (λ (x : ℕ). x * size t.form) s.count
-        ∙ sym (raw_size-is e t.form (ap form_of (sym s.code) ∙ known))
+        ∙ sym (raw_size_is e t.form (ap form_of (sym s.code) ∙ known))
 
     start_is : t.head.offset ≡ offset o e
     start_is = ap (λ (x : Head). x.offset) same ∙ s.offset_is
@@ -91,14 +91,14 @@ module _ (b : List ℕ) (o : Order) (d : Dir) (taken : List Range) (p : ℕ) (u 
     value_same = ap₂ (λ (x y : ℕ). span_checks b taken p x y) start_is len_is
 
     pub value_refuses : (r : Refusal) → Refuses r (span_checks b taken p t.head.offset len) → Refuses r (entry_checks b o d taken p u e)
-    value_refuses r k = subst (Refuses r) (sym (entry_checks-parts b o d taken p u e))
-        (Refuses-behind r (shape_checks d p u e) (span_checks b taken p (offset o e) (raw_size e)) (shape_true good)
+    value_refuses r k = subst (Refuses r) (sym (entry_checks_parts b o d taken p u e))
+        (Refuses_behind r (shape_checks d p u e) (span_checks b taken p (offset o e) (raw_size e)) (shape_true good)
         (subst (Refuses r) value_same k))
 
     pub entry_true : first_false (span_checks b taken p t.head.offset len) ≡ None → first_false (entry_checks b o d taken p u e) ≡ None
-    entry_true k = ap first_false (entry_checks-parts b o d taken p u e)
+    entry_true k = ap first_false (entry_checks_parts b o d taken p u e)
         ∙ all_true (shape_checks d p u e) (span_checks b taken p (offset o e) (raw_size e)) (shape_true good)
         (subst (λ (cs : List Check). first_false cs ≡ None) value_same k)
 
     pub range_same : span t.head.offset len ≡ placed_range o e
-    range_same = ap₂ (λ (x y : ℕ). span x y) start_is len_is ∙ sym (placed_range-is o e)
+    range_same = ap₂ (λ (x y : ℕ). span x y) start_is len_is ∙ sym (placed_range_is o e)

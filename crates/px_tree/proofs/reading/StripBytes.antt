@@ -17,10 +17,10 @@ ranges_get (y ∷ xs) [] i x n h k = cc
 ranges_get (y ∷ xs) (m ∷ ns) zero x n h k = let p : y ≡ x = cc in let q : m ≡ n = cc in cc
 ranges_get (y ∷ xs) (m ∷ ns) (suc i) x n h k = ranges_get xs ns i x n h k
 
-ranges-length : (xs ns : List ℕ) → length xs ≡ length ns → length (ranges_of xs ns) ≡ length xs
-ranges-length [] ns h = refl
-ranges-length (x ∷ xs) [] h = cc
-ranges-length (x ∷ xs) (n ∷ ns) h = let e : length xs ≡ length ns = omega arith in ap (λ (k : ℕ). suc k) (ranges-length xs ns e)
+ranges_length : (xs ns : List ℕ) → length xs ≡ length ns → length (ranges_of xs ns) ≡ length xs
+ranges_length [] ns h = refl
+ranges_length (x ∷ xs) [] h = cc
+ranges_length (x ∷ xs) (n ∷ ns) h = let e : length xs ≡ length ns = omega arith in ap (λ (k : ℕ). suc k) (ranges_length xs ns e)
 
 pub strip_get : (b : List ℕ) (rs : List Range) (i : ℕ) (r : Range) → slice_get rs i ≡ Some r
     → slice_get (map (bytes_of b) rs) i ≡ Some (bytes_of b r)
@@ -43,25 +43,25 @@ inside_at b [] i r a h = cc
 inside_at b (s ∷ rs) zero r a h = let e : s ≡ r = cc in subst (λ (x : Range). IsInside b x) e a.0
 inside_at b (s ∷ rs) (suc i) r a h = inside_at b rs i r a.1 h
 
-named-length : (l : StripLists) → AreNamed l → length (named_strips (Some l)) ≡ length l.starts.elements
-named-length l a =
+named_length : (l : StripLists) → AreNamed l → length (named_strips (Some l)) ≡ length l.starts.elements
+named_length l a =
     let xs = map whole_number l.starts.elements in
     let ns = map whole_number l.sizes.elements in
     length-map (ranges_in l) (bytes_of l.block.now)
-    ∙ ranges-length xs ns (length-map l.starts.elements whole_number ∙ a.same ∙ sym (length-map l.sizes.elements whole_number))
+    ∙ ranges_length xs ns (length-map l.starts.elements whole_number ∙ a.same ∙ sym (length-map l.sizes.elements whole_number))
     ∙ length-map l.starts.elements whole_number
 
 -- the strips that a block names, and those that were pushed
 module _ (named : Option StripLists) (l : StripLists) (is : named ≡ Some l) (i : IfSome named AreNamed) where
-  pub named-some : AreNamed l
-  named-some = subst (λ (x : Option StripLists). IfSome x AreNamed) is i
+  pub named_some : AreNamed l
+  named_some = subst (λ (x : Option StripLists). IfSome x AreNamed) is i
 
-  pub front-length : length (named_strips named) ≡ length l.starts.elements
-  front-length = ap (λ (x : Option StripLists). length (named_strips x)) is ∙ named-length l named-some
+  pub front_length : length (named_strips named) ≡ length l.starts.elements
+  front_length = ap (λ (x : Option StripLists). length (named_strips x)) is ∙ named_length l named_some
 
-  pub strips-length : (pushed : List (List ℕ)) → length (named_strips named ++ pushed) ≡ length l.starts.elements + length pushed
-  strips-length pushed =
-      length-append (named_strips named) pushed ∙ ap (λ (k : ℕ). k + length pushed) front-length
+  pub strips_length : (pushed : List (List ℕ)) → length (named_strips named ++ pushed) ≡ length l.starts.elements + length pushed
+  strips_length pushed =
+      length-append (named_strips named) pushed ∙ ap (λ (k : ℕ). k + length pushed) front_length
 
   pub get_named : (pushed : List (List ℕ)) (k : ℕ) (s : List ℕ) → slice_get (named_strips (Some l)) k ≡ Some s
       → slice_get (named_strips named ++ pushed) k ≡ Some s
@@ -71,5 +71,5 @@ module _ (named : Option StripLists) (l : StripLists) (is : named ≡ Some l) (i
   pub get_pushed : (pushed : List (List ℕ)) (k : ℕ) → length l.starts.elements ≤ k
       → slice_get (named_strips named ++ pushed) k ≡ slice_get pushed (k - length l.starts.elements)
   get_pushed pushed k h =
-      let e = front-length in
+      let e = front_length in
       get_behind (named_strips named) pushed k (omega arith) ∙ ap (λ (n : ℕ). slice_get pushed (k - n)) e

@@ -5,14 +5,14 @@ use Rattle.px_bytes.specs.declared.Refusal.{Refusal}
 use Rattle.px_bytes.specs.declared.Cause.TheVariants.{Overlap, ThumbnailOutside}
 use Rattle.px_bytes.specs.Range.{Range, range, is_free, Agrees}
 use Rattle.px_bytes.specs.Checks.{Check, check, first_false, Refuses}
-use Rattle.px_bytes.specs.lemmas.CheckLaws.{first_false-true, Refuses-more, Refuses-same}
+use Rattle.px_bytes.specs.lemmas.CheckLaws.{first_false_true, Refuses_more, Refuses_same}
 use Rattle.px_tree.specs.Thumbnail.{ranges_of, bytes_of}
 use Rattle.px_tree.specs.Checks.{range_checks}
 
 -- what is left of the pairs has one more range
-pub ranges-next : (xs ns : List ℕ) (i x n : ℕ) → slice_get xs i ≡ Some x → slice_get ns i ≡ Some n
+pub ranges_next : (xs ns : List ℕ) (i x n : ℕ) → slice_get xs i ≡ Some x → slice_get ns i ≡ Some n
     → ranges_of (drop i xs) (drop i ns) ≡ range x n ∷ ranges_of (drop (i + 1) xs) (drop (i + 1) ns)
-ranges-next xs ns i x n h k =
+ranges_next xs ns i x n h k =
     go xs ns i h k ∙ (let e : suc i ≡ i + 1 = omega arith in ap (λ (j : ℕ). range x n ∷ ranges_of (drop j xs) (drop j ns)) e)
   where
     go : (xs ns : List ℕ) (i : ℕ) → slice_get xs i ≡ Some x → slice_get ns i ≡ Some n
@@ -33,22 +33,22 @@ module _ (b : List ℕ) (p : ℕ) (taken all : List Range) where
 
   module _ (held : List (ℕ × ℕ)) (rest : List Range) (r : Range) (rs : List Range) (is : rest ≡ r ∷ rs) (s : RangesSoFar held rest) where
     pub ranges_refuse : (e : Refusal) → Refuses e (range_check b p s.now r) → Refuses e (range_checks b p taken all)
-    ranges_refuse e h = Refuses-same e (range_checks b p s.now (r ∷ rs)) (range_checks b p taken all)
+    ranges_refuse e h = Refuses_same e (range_checks b p s.now (r ∷ rs)) (range_checks b p taken all)
         (ap (λ (xs : List Range). first_false (range_checks b p s.now xs)) (sym is) ∙ s.faults)
-        (Refuses-more e (range_check b p s.now r) (range_checks b p (r ∷ s.now) rs) h)
+        (Refuses_more e (range_check b p s.now r) (range_checks b p (r ∷ s.now) rs) h)
 
     pub ranges_step : (new : List (ℕ × ℕ)) → first_false (range_check b p s.now r) ≡ None → Agrees (r ∷ s.now) new → RangesSoFar new rs
     ranges_step new h a = record {
       now = r ∷ s.now;
       agrees = a;
-      faults = sym (first_false-true (range_check b p s.now r) (range_checks b p (r ∷ s.now) rs) h)
+      faults = sym (first_false_true (range_check b p s.now r) (range_checks b p (r ∷ s.now) rs) h)
           ∙ ap (λ (xs : List Range). first_false (range_checks b p s.now xs)) (sym is) ∙ s.faults;
     }
 
 -- one more strip
-pub pushed : (b : List ℕ) (old new : List (List ℕ)) (s : List ℕ) (r : Range) (rest rs : List Range) → new ≡ old ++ s ∷ []
+pub strips_pushed : (b : List ℕ) (old new : List (List ℕ)) (s : List ℕ) (r : Range) (rest rs : List Range) → new ≡ old ++ s ∷ []
     → s ≡ bytes_of b r → rest ≡ r ∷ rs → new ++ map (bytes_of b) rs ≡ old ++ map (bytes_of b) rest
-pushed b old new s r rest rs h e is =
+strips_pushed b old new s r rest rs h e is =
     ap (λ (l : List (List ℕ)). l ++ map (bytes_of b) rs) h
     ∙ append_assoc old (s ∷ []) (map (bytes_of b) rs)
     ∙ ap (λ (y : List ℕ). old ++ y ∷ map (bytes_of b) rs) e

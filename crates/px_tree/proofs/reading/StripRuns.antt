@@ -8,7 +8,7 @@ use Rattle.std.proofs.Math.Nat.{add-mod-mod}
 use Rattle.std.proofs.Math.Seq.{take-add}
 use Rattle.px_bytes.specs.Parts.{part}
 use Rattle.px_bytes.specs.Range.{range}
-use Rattle.px_bytes.specs.lemmas.PartLaws.{length-part}
+use Rattle.px_bytes.specs.lemmas.PartLaws.{length_part}
 use Rattle.px_bytes.specs.lemmas.WaitingLaws.{parts_more}
 use Rattle.px_tree.specs.declared.strip_lists.StripLists.{StripLists}
 use Rattle.px_tree.specs.Thumbnail.{whole_number}
@@ -92,18 +92,18 @@ module _ (l : StripLists) (a : AreNamed l) (i x n : ℕ) (h : slice_get (map who
         ap (λ (m : ℕ). part b start (end - start) ++ part b m n) place ∙ part_both b start (end - start) n
         ∙ ap (λ (m : ℕ). part b start m) longer in
         let old : length (part b start (end - start)) % 2 ≡ 0 =
-        ap (λ (m : ℕ). m % 2) (length-part b start (end - start) (omega arith)) ∙ p in
-        let new : length (part b x n) % 2 ≡ 0 = ap (λ (m : ℕ). m % 2) (length-part b x n ends_inside) ∙ q in
+        ap (λ (m : ℕ). m % 2) (length_part b start (end - start) (omega arith)) ∙ p in
+        let new : length (part b x n) % 2 ≡ 0 = ap (λ (m : ℕ). m % 2) (length_part b x n ends_inside) ∙ q in
         subst (AreJoined (named_strips (Some l)) first (i + 1)) bytes
         (joined_more (named_strips (Some l)) first i (part b start (end - start)) (part b x n) old new strip_here joined)
 
 -- its length alone
-pub sized : (l : StripLists) (a : AreNamed l) (i n : ℕ) → i < length l.starts.elements
+pub named_strip_size : (l : StripLists) (a : AreNamed l) (i n : ℕ) → i < length l.starts.elements
     → slice_get (map whole_number l.sizes.elements) i ≡ Some n → slice_get (map size (named_strips (Some l))) i ≡ Some n
-sized l a i n below k =
+named_strip_size l a i n below k =
     let xs = map whole_number l.starts.elements in
     let x = get_or xs i 0 in
     let count = length-map l.starts.elements whole_number in
     let h = slice_get-get_or xs i 0 (omega arith) in
     len_read (named_strips (Some l)) i (part l.block.now x n) (strip_here l a i x n h k)
-    ∙ ap (λ (m : ℕ). Some m) (length-part l.block.now x n (ends_inside l a i x n h k))
+    ∙ ap (λ (m : ℕ). Some m) (length_part l.block.now x n (ends_inside l a i x n h k))

@@ -6,7 +6,7 @@ use Rattle.px_bytes.specs.declared.Order.{Order}
 use Rattle.px_bytes.specs.declared.Refusal.{Refusal}
 use Rattle.px_bytes.specs.Range.{Range, range}
 use Rattle.px_bytes.specs.Checks.{Check, first_false, Refuses}
-use Rattle.px_bytes.specs.lemmas.CheckLaws.{Refuses-more, Refuses-behind, all_true}
+use Rattle.px_bytes.specs.lemmas.CheckLaws.{Refuses_more, Refuses_behind, all_true}
 use Rattle.px_tree.specs.declared.tables.Directory.{Directory}
 use Rattle.px_tree.specs.declared.roles.Dir.TheVariants.{Main, Exif, Interop, Gps, Thumb}
 use Rattle.px_tree.specs.Iim.{Iim}
@@ -25,12 +25,12 @@ use Rattle.px_tree.proofs.saying.Judged.{none_false, dirs_facts}
 abbrev made : Fields → Option (List ℕ) → Option (List (List ℕ)) → Thumbnail
 made f j s = record { fields = f; jpeg = j; strips = s }
 
-pub thumbnail-is : (b : List ℕ) (o : Order) (a : ℕ) (f : Fields) (j : Option (List ℕ)) (s : Option (List (List ℕ)))
+pub thumbnail_is : (b : List ℕ) (o : Order) (a : ℕ) (f : Fields) (j : Option (List ℕ)) (s : Option (List (List ℕ)))
     → f ≡ fields b o Thumb a → j ≡ option_map (bytes_of b) (jpeg_range o (entries_at b o a))
     → s ≡ option_map (map (bytes_of b)) (strip_ranges b o (entries_at b o a))
     → made f j s ≡ thumbnail b o a
 unfolding thumbnail
-thumbnail-is b o a f j s p q r =
+thumbnail_is b o a f j s p q r =
     ap (λ (f : Fields). made f j s) p
     ∙ ap₂ (λ (j : Option (List ℕ)) (s : Option (List (List ℕ))). made (fields b o Thumb a) j s) q r
 
@@ -65,12 +65,12 @@ module _ (b : List ℕ) (o : Order) where
   tree-parts = refl
 
   pub dirs_refuse_tree : (r : Refusal) → Refuses r of_dirs → Refuses r (tree_checks b o)
-  dirs_refuse_tree r h = subst (Refuses r) (sym tree-parts) (Refuses-more r of_dirs (of_thumb (dir_at b o Thumb)) h)
+  dirs_refuse_tree r h = subst (Refuses r) (sym tree-parts) (Refuses_more r of_dirs (of_thumb (dir_at b o Thumb)) h)
 
   module _ (a : Option ℕ) (at : a ≡ dir_at b o Thumb) (good : first_false of_dirs ≡ None) where
     pub thumb_refuses_tree : (r : Refusal) → Refuses r (of_thumb a) → Refuses r (tree_checks b o)
     thumb_refuses_tree r h =
-        subst (Refuses r) (sym tree-parts) (Refuses-behind r of_dirs (of_thumb (dir_at b o Thumb)) good
+        subst (Refuses r) (sym tree-parts) (Refuses_behind r of_dirs (of_thumb (dir_at b o Thumb)) good
         (subst (λ (x : Option ℕ). Refuses r (of_thumb x)) at h))
 
     pub tree_true : first_false (of_thumb a) ≡ None → first_false (tree_checks b o) ≡ None
@@ -96,14 +96,14 @@ module _ (b : List ℕ) (o : Order) where
   part-is None = refl
   part-is (Some a) = refl
 
-  pub meaning-is : (f : Fields) (i : Option Iim) (e : Option ExifPart) (g : Option Fields) (t : Option Thumbnail) (x y : Option Fields)
+  pub meaning_is : (f : Fields) (i : Option Iim) (e : Option ExifPart) (g : Option Fields) (t : Option Thumbnail) (x y : Option Fields)
       (a : Option ℕ)
       → f ≡ fields b o Main (main_at b o) → i ≡ record_at b o (main_at b o)
       → e ≡ option_map (with_interop y) x → x ≡ fields_at b o Exif → y ≡ fields_at b o Interop
       → g ≡ fields_at b o Gps → t ≡ option_map (thumbnail b o) a → a ≡ dir_at b o Thumb
       → whole f i e g t ≡ meaning b o
   unfolding meaning
-  meaning-is f i e g t x y a p q r rx ry s u ua =
+  meaning_is f i e g t x y a p q r rx ry s u ua =
       ap (λ (f : Fields). whole f i e g t) p
       ∙ ap₂ (λ (i : Option Iim) (e : Option ExifPart). whole (fields b o Main (main_at b o)) i e g t) q (r
       ∙ ap₂ (λ (y x : Option Fields). option_map (with_interop y) x) ry rx ∙ part-is (dir_at b o Exif))
@@ -112,7 +112,7 @@ module _ (b : List ℕ) (o : Order) where
 
 -- ---- the record
 
-pub record-is : (b : List ℕ) (o : Order) (a : ℕ) (x : Option Entry) → entry_with record_tag (entries_at b o a) ≡ x
+pub record_is : (b : List ℕ) (o : Order) (a : ℕ) (x : Option Entry) → entry_with record_tag (entries_at b o a) ≡ x
     → record_at b o a ≡ option_and_then (λ e. option_and_then (λ f. record_in f (raw b o e)) (form_of e.code)) x
 unfolding record_at
-record-is b o a x h = ap (λ (y : Option Entry). option_and_then (λ e. option_and_then (λ f. record_in f (raw b o e)) (form_of e.code)) y) h
+record_is b o a x h = ap (λ (y : Option Entry). option_and_then (λ e. option_and_then (λ f. record_in f (raw b o e)) (form_of e.code)) y) h

@@ -48,9 +48,9 @@ same_part b c x n l i a =
     ∙ a (x + k) (omega arith, omega arith)
     ∙ sym (get_or-take n (drop x b) k d q ∙ get_or-drop x b k d ∙ get_or_default_zero b (x + k) d (omega arith)))
 
-filter_map-same : {X Z : Type 0} (g h : X → Option Z) (xs : List X) → AllByRecursion (λ x. g x ≡ h x) xs → filter_map g xs ≡ filter_map h xs
-filter_map-same g h [] e = refl
-filter_map-same g h (x ∷ xs) e = ap₂ cons_option e.0 (filter_map-same g h xs e.1)
+filter_map_same : {X Z : Type 0} (g h : X → Option Z) (xs : List X) → AllByRecursion (λ x. g x ≡ h x) xs → filter_map g xs ≡ filter_map h xs
+filter_map_same g h [] e = refl
+filter_map_same g h (x ∷ xs) e = ap₂ cons_option e.0 (filter_map_same g h xs e.1)
 
 -- a property of each range is one of each value's range
 each_placed : (P : Range → Type 0) (o : Order) (es : List Entry) → AllByRecursion P (filter_map (placed_range o) es)
@@ -163,7 +163,7 @@ module _ (b c : List ℕ) (o : Order) (longer : length b ≤ length c) where
     pub same_fields : fields c o d a ≡ fields b o d a
     unfolding fields
     same_fields = ap (filter_map (field c o d)) same_entries
-        ∙ filter_map-same (field c o d) (field b o d) (entries_at b o a) (each_map (λ e. raw c o e ≡ raw b o e)
+        ∙ filter_map_same (field c o d) (field b o d) (entries_at b o a) (each_map (λ e. raw c o e ≡ raw b o e)
         (λ e. field c o d e ≡ field b o d e) field_same (entries_at b o a) raws_same)
 
     pub same_ranges : dir_ranges c o a ≡ dir_ranges b o a

@@ -15,21 +15,21 @@ pub record Fresh (held rs : List Range) : Type 0 where
   pub clear : Clear held rs
   pub apart : AllApart rs
 
-unturned : (r : Range) (held rs : List Range) → Clear (r ∷ held) rs → AllByRecursion (Apart r) rs
-unturned r held [] h = tt
-unturned r held (s ∷ rs) h = (apart_turned s r h.0.0, unturned r held rs h.1)
+clear_unturned : (r : Range) (held rs : List Range) → Clear (r ∷ held) rs → AllByRecursion (Apart r) rs
+clear_unturned r held [] h = tt
+clear_unturned r held (s ∷ rs) h = (apart_turned s r h.0.0, clear_unturned r held rs h.1)
 
 pub fresh_cons : (held : List Range) (r : Range) (rs : List Range) → AllByRecursion (Apart r) held → Fresh (r ∷ held) rs
     → Fresh held (r ∷ rs)
 fresh_cons held r rs a f = record {
   clear = (a, each_map (λ s. AllByRecursion (Apart s) (r ∷ held)) (λ s. AllByRecursion (Apart s) held) (λ s h. h.1) rs f.clear);
-  apart = (unturned r held rs f.clear, f.apart);
+  apart = (clear_unturned r held rs f.clear, f.apart);
 }
 
 apart_append : (rs ss : List Range) → AllApart rs → AllApart ss → Clear rs ss → AllApart (rs ++ ss)
 apart_append [] ss a b c = b
 apart_append (r ∷ rs) ss a b c = (
-  each_append (Apart r) rs ss a.0 (unturned r rs ss c),
+  each_append (Apart r) rs ss a.0 (clear_unturned r rs ss c),
   apart_append rs ss a.1 b
       (each_map (λ s. AllByRecursion (Apart s) (r ∷ rs)) (λ s. AllByRecursion (Apart s) rs) (λ s h. h.1) ss c),
 )
@@ -77,4 +77,4 @@ pub fresh_nil : (held : List Range) → Fresh held []
 fresh_nil held = record { clear = tt; apart = tt }
 
 pub fresh_all : (h : Range) (rs : List Range) → Fresh (h ∷ []) rs → AllApart (h ∷ rs)
-fresh_all h rs f = (unturned h [] rs f.clear, f.apart)
+fresh_all h rs f = (clear_unturned h [] rs f.clear, f.apart)

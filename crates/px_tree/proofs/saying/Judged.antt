@@ -225,16 +225,16 @@ module _ (b : List ℕ) (o : Order) where
 
 -- ---- the header
 
-bytes-true : (xs ys : List ℕ) → same_bytes xs ys ≡ true → xs ≡ ys
-bytes-true [] [] h = refl
-bytes-true (x ∷ xs) (y ∷ ys) h =
-    let p = and_parts (x == y) (same_bytes xs ys) h in ap₂ (λ z zs. z ∷ zs) (eqb-true x y p.0) (bytes-true xs ys p.1)
-bytes-true [] (y ∷ ys) h = cc
-bytes-true (x ∷ xs) [] h = cc
+bytes_true : (xs ys : List ℕ) → same_bytes xs ys ≡ true → xs ≡ ys
+bytes_true [] [] h = refl
+bytes_true (x ∷ xs) (y ∷ ys) h =
+    let p = and_parts (x == y) (same_bytes xs ys) h in ap₂ (λ z zs. z ∷ zs) (eqb-true x y p.0) (bytes_true xs ys p.1)
+bytes_true [] (y ∷ ys) h = cc
+bytes_true (x ∷ xs) [] h = cc
 
-pub bytes-self : (xs : List ℕ) → same_bytes xs xs ≡ true
-bytes-self [] = refl
-bytes-self (x ∷ xs) = and_from (x == x) (same_bytes xs xs) (eq-eqb x x refl) (bytes-self xs)
+pub bytes_self : (xs : List ℕ) → same_bytes xs xs ≡ true
+bytes_self [] = refl
+bytes_self (x ∷ xs) = and_from (x == x) (same_bytes xs xs) (eq-eqb x x refl) (bytes_self xs)
 
 pub order_told : (b : List ℕ) (o : Order) → take 4 b ≡ magic o → order_of b ≡ Some o
 order_told b Least h = ap (λ x. if same_bytes x (magic Least) then Some Least else if same_bytes x (magic Most) then Some Most else None) h
@@ -244,12 +244,13 @@ pub all_magic : (b : List ℕ) (o : Order) → 8 ≤ length b → take (length b
 all_magic b Least l = take_all (length b) (magic Least) (omega arith)
 all_magic b Most l = take_all (length b) (magic Most) (omega arith)
 
-pub begun : (b : List ℕ) → 8 ≤ length b → begins_header b ≡ true → (o : Order) × (take 4 b ≡ magic o)
-begun b l h = elim (or_cases (same_bytes (take 4 b) (take (length b) (magic Least))) (same_bytes (take 4 b) (take (length b) (magic Most)))
+pub header_begun : (b : List ℕ) → 8 ≤ length b → begins_header b ≡ true → (o : Order) × (take 4 b ≡ magic o)
+header_begun b l h = elim (or_cases (same_bytes (take 4 b) (take (length b) (magic Least)))
+    (same_bytes (take 4 b) (take (length b) (magic Most)))
     (and_parts (nat_lt 0 (length b)) (same_bytes (take 4 b) (take (length b) (magic Least)) || same_bytes (take 4 b)
     (take (length b) (magic Most))) h).1) [
-      | inl t ↦ (Least, bytes-true (take 4 b) (take (length b) (magic Least)) t ∙ all_magic b Least l)
-      | inr t ↦ (Most, bytes-true (take 4 b) (take (length b) (magic Most)) t ∙ all_magic b Most l)
+      | inl t ↦ (Least, bytes_true (take 4 b) (take (length b) (magic Least)) t ∙ all_magic b Least l)
+      | inr t ↦ (Most, bytes_true (take 4 b) (take (length b) (magic Most)) t ∙ all_magic b Most l)
     ]
 
 -- If each check passes, the block has a meaning.
@@ -258,7 +259,7 @@ unfolding checks
 judged_well b h =
     let most : length b ≤ limit = leb-true (length b) limit h.0 in
     let least : 8 ≤ length b = leb-true 8 (length b) h.1.1.0 in
-    let o = begun b least h.1.0 in
+    let o = header_begun b least h.1.0 in
     let t = tree_facts b o.0 (subst (λ x. AllHold (checks_in b x)) (order_told b o.0 o.1) h.1.1.1) in (
       meaning b o.0,
       record {

@@ -13,7 +13,7 @@ use Rattle.px_field.specs.declared.Kind.TheVariants.{Of, Whole}
 use Rattle.px_field.specs.declared.Element.{Element}
 use Rattle.px_field.specs.Forms.{form_of, size}
 use Rattle.px_field.specs.Values.{Value, elements, spelled, widened}
-use Rattle.px_field.specs.lemmas.ValueLaws.{IsOf-elements, spell-elements, length-spelled, elements-spelled, count_in-times}
+use Rattle.px_field.specs.lemmas.ValueLaws.{IsOf_elements, spell_elements, length_spelled, elements_spelled, count_in_times}
 use Rattle.px_tree.specs.Iim.{Iim}
 use Rattle.px_tree.specs.declared.roles.Dir.{Dir}
 use Rattle.px_tree.specs.declared.roles.Role.{Role}
@@ -33,9 +33,9 @@ only_elements : (o : Order) (f : Form) (n : ℕ) (x : List ℕ) (es : List Eleme
 unfolding spelled
 only_elements o f n x es l s =
     let v : Value = record { kind = Of f; elements = es } in
-    let e = elements-spelled o v s.each in
-    let k : length x ≡ length es * size f = ap (λ (y : List ℕ). length y) (sym s.spelled_is) ∙ length-spelled o v s.each in
-    let c : length es ≡ n = sym (count_in-times f x (length es) (sym k)) ∙ count_in-times f x n (sym l) in
+    let e = elements_spelled o v s.each in
+    let k : length x ≡ length es * size f = ap (λ (y : List ℕ). length y) (sym s.spelled_is) ∙ length_spelled o v s.each in
+    let c : length es ≡ n = sym (count_in_times f x (length es) (sym k)) ∙ count_in_times f x n (sym l) in
     sym e ∙ ap₂ (λ (m : ℕ) (y : List ℕ). elements o f m y) c s.spelled_is
 
 module _ (b : List ℕ) (o : Order) (bytes : AreBytes b) (e : Entry) (p : Plausible e) (inside : has_raw b o e ≡ true) (f : Form)
@@ -50,8 +50,8 @@ module _ (b : List ℕ) (o : Order) (bytes : AreBytes b) (e : Entry) (p : Plausi
   spells : Spell o f read (raw b o e)
   unfolding entry_elements
   spells = record {
-    each = IsOf-elements o f e.count (raw b o e) (bytes_raw b o bytes e p.bytes);
-    spelled_is = spell-elements o f e.count (raw b o e) size_is (bytes_raw b o bytes e p.bytes);
+    each = IsOf_elements o f e.count (raw b o e) (bytes_raw b o bytes e p.bytes);
+    spelled_is = spell_elements o f e.count (raw b o e) size_is (bytes_raw b o bytes e p.bytes);
   }
 
   only_read : (es : List Element) → Spell o f es (raw b o e) → es ≡ read

@@ -18,9 +18,9 @@ use Rattle.px_field.specs.declared.Form.TheVariants.{Double, Utf8}
 use Rattle.px_field.specs.declared.Kind.TheVariants.{Of}
 use Rattle.px_field.specs.Forms.{form_of, size}
 use Rattle.px_field.specs.Values.{Value, elements}
-use Rattle.px_field.specs.lemmas.ElementLaws.{size-pos}
-use Rattle.px_field.specs.lemmas.PieceLaws.{length-pieces}
-use Rattle.px_field.specs.lemmas.ValueLaws.{length-elements}
+use Rattle.px_field.specs.lemmas.ElementLaws.{size_pos}
+use Rattle.px_field.specs.lemmas.PieceLaws.{length_pieces}
+use Rattle.px_field.specs.lemmas.ValueLaws.{length_elements}
 use Rattle.px_iim.specs.Record.{SaysIim}
 use Rattle.px_iim.specs.lemmas.RecordLaws.{computed_said, said_is_record}
 use Rattle.px_iim.specs.lemmas.BoundLaws.{normal_bound}
@@ -43,7 +43,8 @@ use Rattle.px_tree.specs.Fits.{Item, Iptc, AtJpeg, JpegSize, AtStrips, StripSize
 use Rattle.px_tree.specs.Fits.{thumb_items, items, FitsFields, FitsExif, FitsThumb, IsBytes, Fits}
 use Rattle.px_tree.specs.lemmas.TagLaws.{each_at}
 use Rattle.px_tree.proofs.writable.InRange.{bytes_part}
-use Rattle.px_tree.proofs.writable.FitsBack.{whole, count_is, Plausible, entries_plausible, bytes_raw, length_raw, value_of, fields_fit}
+use Rattle.px_tree.proofs.writable.FitsBack.{entry_whole, count_is, Plausible, entries_plausible}
+use Rattle.px_tree.proofs.writable.FitsBack.{bytes_raw, length_raw, value_of, fields_fit}
 
 -- the facts about records that are used: bytes have a valid one, with a normal form no longer than twice the bytes
 iim_said : (x : List ℕ) (i : Iim) → AreBytes x → iim_of x ≡ Some i → IsRecord i × (length (normal_iim i) ≤ 2 * length x)
@@ -90,9 +91,9 @@ length_put t x (y ∷ ys) =
     cond_both (nat_lt t y.0) ((t, x) ∷ y ∷ ys) (y ∷ put t x ys) (λ zs. length zs ≡ suc (length ys) + 1) (λ _. omega arith)
     (λ _. let e = length_put t x ys in omega arith)
 
-grows : (t : ℕ) (o : Option Item) (ys : List (ℕ × Item)) → length ys ≤ length (put_some t o ys)
-grows t None ys = omega arith
-grows t (Some x) ys = let e = length_put t x ys in omega arith
+put_some_grows : (t : ℕ) (o : Option Item) (ys : List (ℕ × Item)) → length ys ≤ length (put_some t o ys)
+put_some_grows t None ys = omega arith
+put_some_grows t (Some x) ys = let e = length_put t x ys in omega arith
 
 has_one : (t : ℕ) (o : Option Item) (ys : List (ℕ × Item)) → is_some o ≡ true → 1 ≤ length (put_some t o ys)
 has_one t None ys h = cc
@@ -103,9 +104,10 @@ length_fields [] = refl
 length_fields (p ∷ fs) = ap suc (length_fields fs)
 
 -- the first entry of that tag
-unique : (t : ℕ) (es : List Entry) → Rising (map (λ e. e.tag) es) → AllByRecursion (λ e. e.tag ≡ t → entry_with t es ≡ Some e) es
-unique t [] r = tt
-unique t (e ∷ es) r = ((λ q. cond-true (e.tag == t) (Some e) (entry_with t es) (eq-eqb e.tag t q)), later es r.0 (unique t es r.1))
+entry_with_unique : (t : ℕ) (es : List Entry) → Rising (map (λ e. e.tag) es) → AllByRecursion (λ e. e.tag ≡ t → entry_with t es ≡ Some e) es
+entry_with_unique t [] r = tt
+entry_with_unique t (e ∷ es) r = ((λ q. cond-true (e.tag == t) (Some e) (entry_with t es) (eq-eqb e.tag t q)), later es r.0
+    (entry_with_unique t es r.1))
   where
     later : (fs : List Entry) → AllByRecursion (λ u. e.tag < u) (map (λ e. e.tag) fs)
         → AllByRecursion (λ f. f.tag ≡ t → entry_with t es ≡ Some f) fs
@@ -117,11 +119,11 @@ unique t (e ∷ es) r = ((λ q. cond-true (e.tag == t) (Some e) (entry_with t es
       later fs h.1 k.1,
     )
 
-found : (P : Entry → Type 0) (t : ℕ) (es : List Entry) → AllByRecursion P es → IfSome (entry_with t es) P
-found P t [] h = tt
-found P t (e ∷ es) h = elim (cases_Bool (e.tag == t)) [
+entry_with_found : (P : Entry → Type 0) (t : ℕ) (es : List Entry) → AllByRecursion P es → IfSome (entry_with t es) P
+entry_with_found P t [] h = tt
+entry_with_found P t (e ∷ es) h = elim (cases_Bool (e.tag == t)) [
   | inl q ↦ subst (λ z. IfSome z P) (sym (cond-true (e.tag == t) (Some e) (entry_with t es) q)) h.0
-  | inr q ↦ subst (λ z. IfSome z P) (sym (cond-false (e.tag == t) (Some e) (entry_with t es) q)) (found P t es h.1)
+  | inr q ↦ subst (λ z. IfSome z P) (sym (cond-false (e.tag == t) (Some e) (entry_with t es) q)) (entry_with_found P t es h.1)
 ]
 
 module _ (b : List ℕ) (o : Order) (bytes : AreBytes b) (x : IsExif b o) where
@@ -206,7 +208,7 @@ module _ (b : List ℕ) (o : Order) (bytes : AreBytes b) (x : IsExif b o) where
   iptc_fits : IfSome (record_at b o main) (λ i. IsRecord i × (length (normal_iim i) ≤ 2 * limit))
   unfolding record_at record_entry
   iptc_fits =
-      record_fits (entry_with record_tag (entries_at b o main)) (found Plausible record_tag (entries_at b o main)
+      record_fits (entry_with record_tag (entries_at b o main)) (entry_with_found Plausible record_tag (entries_at b o main)
       (entries_plausible b o bytes Main main (is Main main main_is)))
 
   record_role : role Main record_tag ≡ Record
@@ -248,7 +250,7 @@ module _ (b : List ℕ) (o : Order) (bytes : AreBytes b) (x : IsExif b o) where
       (each_map (λ e. e.tag ≡ record_tag → entry_with record_tag (entries_at b o main) ≡ Some e)
       (λ e. (v : Value) → value_of b o bytes Main e ≡ Some v → (e.tag ≡ record_tag) → ⊥)
       (λ e u v h t. no_field_value e i t (sym (ap (option_and_then record_entry) (u t)) ∙ q) v h)
-      (entries_at b o main) (unique record_tag (entries_at b o main) (is Main main main_is).rising))
+      (entries_at b o main) (entry_with_unique record_tag (entries_at b o main) (is Main main main_is).rising))
 
   no_second_is : (c : Option Iim) → record_at b o main ≡ c → IfSome c
       (λ i. AllByRecursion (λ p. (p.0 ≡ record_tag) → ⊥) (fields b o Main main))
@@ -290,10 +292,10 @@ module _ (b : List ℕ) (o : Order) (bytes : AreBytes b) (x : IsExif b o) where
       known None q = omega arith
       known (Some f) q =
           let m = length-map (elements o f e.count (raw b o e)) whole_number in
-          let k = length-elements o f e.count (raw b o e) in
+          let k = length_elements o f e.count (raw b o e) in
           let r : length (raw b o e) ≡ e.count * size f = length_raw b o bytes e l h ∙ ap (λ f. sized f e.count) q in
           let s = short_raw e in
-          let c = le-mul_of_pos_right e.count (size-pos f) in
+          let c = le-mul_of_pos_right e.count (size_pos f) in
           omega arith
 
   count_strips : (u w : Option Entry) → IfSome u (IsBoth Thumb)
@@ -314,7 +316,7 @@ module _ (b : List ℕ) (o : Order) (bytes : AreBytes b) (x : IsExif b o) where
     fields = fit Thumb a q;
     jpeg = jpeg_fit (jpeg_range o (entries_at b o a));
     strips = count_strips (entry_with strip_offsets_tag (entries_at b o a)) (entry_with strip_lengths_tag (entries_at b o a))
-        (found (IsBoth Thumb) strip_offsets_tag (entries_at b o a) (both_each Thumb a q));
+        (entry_with_found (IsBoth Thumb) strip_offsets_tag (entries_at b o a) (both_each Thumb a q));
   }
 
   -- ---- each directory has an entry
@@ -348,8 +350,8 @@ module _ (b : List ℕ) (o : Order) (bytes : AreBytes b) (x : IsExif b o) where
   count : (d : Dir) (a : ℕ) → dir_at b o d ≡ Some a → 1 ≤ length (entries_at b o a)
   unfolding entries
   count d a q = let l = length-map (pieces (short o (take 2 (table b o a))) 12 (drop 2 (table b o a))) (entry o) in
-      let n = length-pieces (short o (take 2 (table b o a))) 12 (drop 2 (table b o a)) in let c =
-      count_is b o bytes d a (is d a q) in let w = (whole b o bytes d a (is d a q)).0 in omega arith
+      let n = length_pieces (short o (take 2 (table b o a))) 12 (drop 2 (table b o a)) in let c =
+      count_is b o bytes d a (is d a q) in let w = (entry_whole b o bytes d a (is d a q)).0 in omega arith
 
   not_empty : (d : Dir) (a : ℕ) → dir_at b o d ≡ Some a → (e : Entry) × (es : List Entry) × First d a e es
   not_empty d a q = go (entries_at b o a) refl (is d a q).each (count d a q)
@@ -420,7 +422,7 @@ module _ (b : List ℕ) (o : Order) (bytes : AreBytes b) (x : IsExif b o) where
     (λ t r. has_one exif_tag (link Exif M.exif) with2 (some_map _ M.exif (some_map (exif_part b o) (dir_at b o Exif)
         (main_pointer exif_tag Exif e es f (sym t) r)))),
     (
-      (λ t r. let g = grows exif_tag (link Exif M.exif) with2 in
+      (λ t r. let g = put_some_grows exif_tag (link Exif M.exif) with2 in
           let h = has_one gps_tag (link Gps M.gps) with1 (some_map _ M.gps (some_map (fields b o Gps) (dir_at b o Gps)
           (main_pointer gps_tag Gps e es f (sym t) r))) in omega arith),
       (
@@ -447,15 +449,15 @@ module _ (b : List ℕ) (o : Order) (bytes : AreBytes b) (x : IsExif b o) where
       by_field : 1 ≤ length (fields b o Main main) → 1 ≤ length (main_items M)
       by_field l =
           let k = length_fields (fields b o Main main) in
-          let g1 = grows record_tag (option_map Iptc M.iptc) (field_items M.main) in
-          let g2 = grows gps_tag (link Gps M.gps) with1 in
-          let g3 = grows exif_tag (link Exif M.exif) with2 in omega arith
+          let g1 = put_some_grows record_tag (option_map Iptc M.iptc) (field_items M.main) in
+          let g2 = put_some_grows gps_tag (link Gps M.gps) with1 in
+          let g3 = put_some_grows exif_tag (link Exif M.exif) with2 in omega arith
 
       recorded : e.tag ≡ record_tag → (1 ≤ length (fields b o Main main)) ⊎ (e.tag ≡ record_tag → is_some (record_at b o main) ≡ true)
           → 1 ≤ length (main_items M)
       recorded t (inl l) = by_field l
       recorded t (inr h) = let g1 = has_one record_tag (option_map Iptc M.iptc) (field_items M.main) (some_map _ M.iptc (h t)) in
-          let g2 = grows gps_tag (link Gps M.gps) with1 in let g3 = grows exif_tag (link Exif M.exif) with2 in omega arith
+          let g2 = put_some_grows gps_tag (link Gps M.gps) with1 in let g3 = put_some_grows exif_tag (link Exif M.exif) with2 in omega arith
 
   filled_exif : (a : ℕ) → dir_at b o Exif ≡ Some a → (e : Entry) (es : List Entry) → First Exif a e es
       → 1 ≤ length (exif_items (exif_part b o a))
@@ -470,7 +472,7 @@ module _ (b : List ℕ) (o : Order) (bytes : AreBytes b) (x : IsExif b o) where
     where
       by_field : 1 ≤ length (fields b o Exif a) → 1 ≤ length (exif_items (exif_part b o a))
       by_field l = let k = length_fields (fields b o Exif a) in
-          let g = grows interop_tag (link Interop (fields_at b o Interop)) (field_items (fields b o Exif a)) in omega arith
+          let g = put_some_grows interop_tag (link Interop (fields_at b o Interop)) (field_items (fields b o Exif a)) in omega arith
 
       interop : e.tag ≡ interop_tag → role Exif e.tag ≡ To Interop → is_some (dir_at b o Interop) ≡ true
       interop t r = subst (λ z. is_some (option_and_then (λ a. pointer o interop_tag (entries_at b o a)) z) ≡ true) (sym q)
@@ -531,10 +533,11 @@ module _ (b : List ℕ) (o : Order) (bytes : AreBytes b) (x : IsExif b o) where
 
       by_field : 1 ≤ length (fields b o Thumb a) → 1 ≤ length (thumb_items (thumbnail b o a))
       by_field l = let k = length_fields (fields b o Thumb a) in
-          let g1 = grows strip_lengths_tag (option_map (λ s. StripSizes (map (λ x. length x) s)) S) (field_items (fields b o Thumb a)) in
-          let g2 = grows strip_offsets_tag (option_map (λ s. AtStrips (length s)) S) s1 in
-          let g3 = grows jpeg_length_tag (option_map (λ x. JpegSize (length x)) J) s2 in
-          let g4 = grows jpeg_offset_tag (option_map (λ _. AtJpeg) J) s3 in omega arith
+          let g1 = put_some_grows strip_lengths_tag (option_map (λ s. StripSizes (map (λ x. length x) s)) S)
+              (field_items (fields b o Thumb a)) in
+          let g2 = put_some_grows strip_offsets_tag (option_map (λ s. AtStrips (length s)) S) s1 in
+          let g3 = put_some_grows jpeg_length_tag (option_map (λ x. JpegSize (length x)) J) s2 in
+          let g4 = put_some_grows jpeg_offset_tag (option_map (λ _. AtJpeg) J) s3 in omega arith
 
       has : (u : ℕ) → e.tag ≡ u → is_some (entry_with u (entries_at b o a)) ≡ true
       has u t = subst (λ zs. is_some (entry_with u zs) ≡ true) (sym f.0) (some_entry u e es t)
@@ -549,8 +552,8 @@ module _ (b : List ℕ) (o : Order) (bytes : AreBytes b) (x : IsExif b o) where
       by_strips h =
           let g2 = has_one strip_offsets_tag (option_map (λ s. AtStrips (length s)) S) s1
           (some_map _ S (some_map (map (bytes_of b)) _ (both_there _ _ _ T.strip_pair h))) in
-          let g3 = grows jpeg_length_tag (option_map (λ x. JpegSize (length x)) J) s2 in
-          let g4 = grows jpeg_offset_tag (option_map (λ _. AtJpeg) J) s3 in omega arith
+          let g3 = put_some_grows jpeg_length_tag (option_map (λ x. JpegSize (length x)) J) s2 in
+          let g4 = put_some_grows jpeg_offset_tag (option_map (λ _. AtJpeg) J) s3 in omega arith
 
   filled_plain : (d : Dir) → special d ≡ [] → (z : Option ℕ) → dir_at b o d ≡ z
       → IfSome (option_map field_items (option_map (fields b o d) z)) (λ xs. 1 ≤ length xs)

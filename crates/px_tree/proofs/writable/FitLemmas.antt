@@ -23,9 +23,9 @@ joined_bytes o [] = refl
 joined_bytes o (x ∷ xs) = ap (λ (l : List ℕ). x ∷ l) (joined_bytes o xs)
 
 -- bytes encode to themselves
-pub spelled-bytes : (o : Order) (v : Value) (s : List ℕ) → v.elements ≡ map Byte s → spelled o v ≡ s
+pub spelled_bytes : (o : Order) (v : Value) (s : List ℕ) → v.elements ≡ map Byte s → spelled o v ≡ s
 unfolding spelled
-spelled-bytes o v s h = ap (flat_map (spell o)) h ∙ joined_bytes o s
+spelled_bytes o v s h = ap (flat_map (spell o)) h ∙ joined_bytes o s
 
 -- is present, or is not None
 pub some_not_none : {X : Type 0} (o : Option X) → is_some o ≡ true → o ≡ None → ⊥
@@ -66,7 +66,7 @@ pub says_at : (v : Value) (s : List ℕ) (r : Bool) (f : Form) → v.elements �
     → IsTrue r ↔ (record_in (form_in v.kind) (spelled Least v) ≡ None → ⊥)
 says_at v s r f elements at test =
     let same : record_in (form_in v.kind) (spelled Least v) ≡ record_in f s =
-    ap (λ (k : Kind). record_in (form_in k) (spelled Least v)) at ∙ ap (record_in f) (spelled-bytes Least v s elements) in
+    ap (λ (k : Kind). record_in (form_in k) (spelled Least v)) at ∙ ap (record_in f) (spelled_bytes Least v s elements) in
     (λ h e. some_not_none (record_in f s) (sym test ∙ h) (sym same ∙ e), λ h. test ∙ not_none_some (record_in f s) (λ e. h (same ∙ e)))
 
 -- one field more fits

@@ -19,7 +19,7 @@ use Rattle.px_field.specs.declared.Element.TheVariants as element
 use Rattle.px_field.specs.Forms.{form_of, size}
 use Rattle.px_field.specs.Values.{Value, IsOf, IsValue, spelled, widened}
 use Rattle.px_field.specs.lemmas.PieceLaws.{bytes_take, bytes_drop, each_piece}
-use Rattle.px_field.specs.lemmas.ValueLaws.{IsOf-elements}
+use Rattle.px_field.specs.lemmas.ValueLaws.{IsOf_elements}
 use Rattle.px_tree.specs.Iim.{Iim, iim_of}
 use Rattle.px_tree.specs.declared.roles.Dir.{Dir}
 use Rattle.px_tree.specs.declared.roles.Role.{Role}
@@ -31,7 +31,7 @@ use Rattle.px_tree.specs.Entry.{has_raw, IsEntry, Rising, IsDirectory, entry_ele
 use Rattle.px_tree.specs.Entry.{field, fields}
 use Rattle.px_tree.specs.Directory.{entries_at}
 use Rattle.px_tree.specs.Fits.{Allows, FitsField, FitsFields}
-use Rattle.px_tree.proofs.writable.InRange.{bytes_part, below-16, bytes_back, undefined_back}
+use Rattle.px_tree.proofs.writable.InRange.{bytes_part, below_16, bytes_back, undefined_back}
 
 -- ---- entries
 
@@ -44,10 +44,10 @@ pieces_full : (n k : ℕ) (x : List ℕ) → n * k ≤ length x → AllByRecursi
 pieces_full zero k x h = tt
 pieces_full (suc n) k x h = (length-take-le k x (omega arith), pieces_full n k (drop k x) (let e = length-drop k x in omega arith))
 
-plausible : (o : Order) (x : List ℕ) → AreBytes x → length x ≡ 12 → Plausible (entry o x)
+entry_plausible : (o : Order) (x : List ℕ) → AreBytes x → length x ≡ 12 → Plausible (entry o x)
 unfolding entry
-plausible o x h l = record {
-  tag = below-16 o (part x 0 2) (bytes_part x 0 2 h);
+entry_plausible o x h l = record {
+  tag = below_16 o (part x 0 2) (bytes_part x 0 2 h);
   bytes = bytes_part x 8 4 h;
   four = length-take-le 4 (drop 8 x) (let e = length-drop 8 x in omega arith);
 }
@@ -55,16 +55,16 @@ plausible o x h l = record {
 each_entry : (o : Order) (xs : List (List ℕ)) → AllByRecursion AreBytes xs → AllByRecursion (λ y. length y ≡ 12) xs
     → AllByRecursion Plausible (map (entry o) xs)
 each_entry o [] h l = tt
-each_entry o (x ∷ xs) h l = (plausible o x h.0 l.0, each_entry o xs h.1 l.1)
+each_entry o (x ∷ xs) h l = (entry_plausible o x h.0 l.0, each_entry o xs h.1 l.1)
 
 module _ (b : List ℕ) (o : Order) (bytes : AreBytes b) where
   module _ (d : Dir) (a : ℕ) (is : IsDirectory b o d a) where
     abbrev pub n : ℕ
     n = short o (part b a 2)
 
-    pub whole : (1 ≤ n) × (a + table_size n ≤ length b)
+    pub entry_whole : (1 ≤ n) × (a + table_size n ≤ length b)
     unfolding has_table
-    whole = let h = and_parts (nat_le 1 n) (nat_le (a + table_size n) (length b)) is.there in
+    entry_whole = let h = and_parts (nat_le 1 n) (nat_le (a + table_size n) (length b)) is.there in
         (leb-true 1 n h.0, leb-true (a + table_size n) (length b) h.1)
 
     table_is : table b o a ≡ part b a (table_size n)
@@ -76,7 +76,8 @@ module _ (b : List ℕ) (o : Order) (bytes : AreBytes b) where
 
     length_table : length (table b o a) ≡ table_size n
     length_table =
-        ap (λ t. length t) table_is ∙ length-take-le (table_size n) (drop a b) (let e = length-drop a b in let w = whole.1 in omega arith)
+        ap (λ t. length t) table_is ∙ length-take-le (table_size n) (drop a b)
+            (let e = length-drop a b in let w = entry_whole.1 in omega arith)
 
     bytes_table : AreBytes (drop 2 (table b o a))
     bytes_table = bytes_drop 2 (table b o a) (subst AreBytes (sym table_is) (bytes_part b a (table_size n) bytes))
@@ -141,7 +142,7 @@ module _ (b : List ℕ) (o : Order) (bytes : AreBytes b) where
 
     of_form : (f : Form) → AllByRecursion (IsOf f) (es f)
     unfolding entry_elements
-    of_form f = IsOf-elements o f e.count (raw b o e) (bytes_raw e p.bytes)
+    of_form f = IsOf_elements o f e.count (raw b o e) (bytes_raw e p.bytes)
 
     length_bytes : (f : Form) → size f ≡ 1 → form_of e.code ≡ Some f → length (raw b o e) ≡ e.count
     unfolding raw_size

@@ -3,7 +3,7 @@ use Rattle.std.proofs.Common.{◌≡◌, ℕ, zero, suc, ◌^◌, ◌<◌, List,
 use Rattle.px_bytes.specs.declared.Order.{Order}
 use Rattle.px_bytes.specs.declared.Order.TheVariants.{Least}
 use Rattle.px_bytes.specs.Numbers.{AreBytes, number}
-use Rattle.px_bytes.specs.lemmas.NumberLaws.{number-lt}
+use Rattle.px_bytes.specs.lemmas.NumberLaws.{number_lt}
 use Rattle.px_bytes.specs.Parts.{part}
 use Rattle.px_field.specs.declared.Form.TheVariants.{Byte, Undefined}
 use Rattle.px_field.specs.Values.{spell, elements}
@@ -12,8 +12,8 @@ use Rattle.px_field.specs.lemmas.PieceLaws.{bytes_take, bytes_drop}
 pub bytes_part : (x : List ℕ) (a n : ℕ) → AreBytes x → AreBytes (part x a n)
 bytes_part x a n h = bytes_take n (drop a x) (bytes_drop a x h)
 
-pub below-16 : (o : Order) (x : List ℕ) → AreBytes x → number o 2 x < 2 ^ 16
-below-16 o x h = number-lt o 2 x h
+pub below_16 : (o : Order) (x : List ℕ) → AreBytes x → number o 2 x < 2 ^ 16
+below_16 o x h = number_lt o 2 x h
 
 -- bytes that are read one by one
 pub bytes_back : (o : Order) (n : ℕ) (x : List ℕ) → length x ≡ n → flat_map (spell Least) (elements o Byte n x) ≡ x

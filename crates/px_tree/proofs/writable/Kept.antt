@@ -13,13 +13,13 @@ rising_more : (ts : List ℕ) (t : ℕ) → Rising ts → AllByRecursion (λ s. 
 rising_more [] t r h = (tt, tt)
 rising_more (s ∷ ts) t r h = (each_append (λ u. s < u) ts (t ∷ []) r.0 (h.0, tt), rising_more ts t r.1 h.1)
 
-pub tags-more : (fields : Fields) (t : ℕ) (v : Value) → tags (fields ++ (t, v) ∷ []) ≡ tags fields ++ t ∷ []
-tags-more [] t v = refl
-tags-more (f ∷ fields) t v = ap (λ (l : List ℕ). f.0 ∷ l) (tags-more fields t v)
+pub tags_more : (fields : Fields) (t : ℕ) (v : Value) → tags (fields ++ (t, v) ∷ []) ≡ tags fields ++ t ∷ []
+tags_more [] t v = refl
+tags_more (f ∷ fields) t v = ap (λ (l : List ℕ). f.0 ∷ l) (tags_more fields t v)
 
 pub rising_push : (fields : Fields) (t : ℕ) (v : Value) → Rising (tags fields) → AllByRecursion (λ s. s < t) (tags fields)
     → Rising (tags (fields ++ (t, v) ∷ []))
-rising_push fields t v r h = subst Rising (sym (tags-more fields t v)) (rising_more (tags fields) t r h)
+rising_push fields t v r h = subst Rising (sym (tags_more fields t v)) (rising_more (tags fields) t r h)
 
 -- with one more field, if there is one
 abbrev pub and_more : Fields → ℕ → Option Value → Fields
@@ -37,5 +37,5 @@ precede_kept fields new t None is h u l = subst (λ (l : Fields). AllByRecursion
     (subst (λ (l : Fields). AllByRecursion (λ s. s < u) (tags l)) (sym (append-nil fields))
     (each_map (λ s. s < t) (λ s. s < u) (λ s k. omega arith) (tags fields) h))
 precede_kept fields new t (Some v) is h u l = subst (λ (l : Fields). AllByRecursion (λ s. s < u) (tags l)) (sym is)
-    (subst (λ (l : List ℕ). AllByRecursion (λ s. s < u) l) (sym (tags-more fields t v))
+    (subst (λ (l : List ℕ). AllByRecursion (λ s. s < u) l) (sym (tags_more fields t v))
     (each_append (λ s. s < u) (tags fields) (t ∷ []) (each_map (λ s. s < t) (λ s. s < u) (λ s k. omega arith) (tags fields) h) (l, tt)))

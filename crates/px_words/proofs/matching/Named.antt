@@ -8,16 +8,16 @@ use Rattle.px_words.specs.declared.words.Words.TheVariants as words
 use Rattle.px_words.specs.Words.{out_is_file}
 use Rattle.px_words.specs.calls.Met.{AsksIn, IsMet, IsThere, takes_file}
 
-named : (name word : Text) → true ≡ bytes_eq name word → name ≡ word
-named name word is = (bytes_eq-Decides name word).0 (sym is)
+names_equal : (name word : Text) → true ≡ bytes_eq name word → name ≡ word
+names_equal name word is = (bytes_eq-Decides name word).0 (sym is)
 
 met_as : (name word : Text) (rows : List Row) → true ≡ bytes_eq name word → IsMet (Some (name, rows)) → IsMet (Some (word, rows))
-met_as name word rows is = subst (λ (n : Text). IsMet (Some (n, rows))) (named name word is)
+met_as name word rows is = subst (λ (n : Text). IsMet (Some (n, rows))) (names_equal name word is)
 
 -- the meaning of the arguments under the matched name
 pub asked_as : (name word : Text) (rows : List Row) (w : Words) → true ≡ bytes_eq name word → AsksIn (Some (word, rows)) w
     → AsksIn (Some (name, rows)) w
-asked_as name word rows w is = subst (λ (n : Text). AsksIn (Some (n, rows)) w) (sym (named name word is))
+asked_as name word rows w is = subst (λ (n : Text). AsksIn (Some (n, rows)) w) (sym (names_equal name word is))
 
 -- a subcommand that takes one file has it
 has_file : (name : Text) (rows : List Row) → takes_file name ≡ true → IsMet (Some (name, rows)) → IsThere (codes "FILE") rows
@@ -66,7 +66,7 @@ pub same_asked : (rows : List Row) (file out : Text) (w : Words) → first_of (c
     → AsksIn (Some (codes "normalise", rows)) w
 same_asked rows file out w at_file at_out same (inl h) = subst (AsksIn (Some (codes "normalise", rows))) (sym h) (tt, tt)
 same_asked rows file out w at_file at_out same (inr h) = subst (AsksIn (Some (codes "normalise", rows))) (sym h)
-    (tt, (file, (rows, refl, at_file, at_out ∙ ap Some (sym (named file out same))), refl))
+    (tt, (file, (rows, refl, at_file, at_out ∙ ap Some (sym (names_equal file out same))), refl))
 
 -- normalise with two names
 pub other_asked : (rows : List Row) (file out : Text) → first_of (codes "FILE") rows ≡ Some file → first_of (codes "OUT") rows ≡ Some out

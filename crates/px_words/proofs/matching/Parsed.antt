@@ -12,7 +12,7 @@ use Rattle.px_words.specs.declared.words.Words.TheVariants as words
 use Rattle.px_words.specs.Words.{AreTaken, Asks, AsksFiles, IsFor, exifnorm}
 use Rattle.px_words.specs.calls.Met.{TellsKind, IsTold, AsksIn, IsMet}
 use Rattle.px_words.proofs.WordLaws.{of_error, of_match, of_none, of_told}
-use Rattle.px_words.proofs.matching.Whole.{met}
+use Rattle.px_words.proofs.matching.Whole.{requirement_met}
 
 -- the command is one whose matches and errors are specified
 is_simple_one : is_simple exifnorm ≡ true
@@ -48,19 +48,19 @@ module _ (ws : List Text) (app : App) (is : app ≡ exifnorm) where
     same_rows = ap (λ (a : App). subcommand_of a ws) (sym is) ∙ sym (has (ap is_simple is ∙ is_simple_one)).1
 
     pub met_in : IsMet (subcommand_rows_of m)
-    met_in = subst IsMet same_rows (met ws no_fault)
+    met_in = subst IsMet same_rows (requirement_met ws no_fault)
 
-    pub matched : (w : Words) → AsksIn (subcommand_rows_of m) w
+    pub subcommand_matched : (w : Words) → AsksIn (subcommand_rows_of m) w
         → Asks (subcommand_of exifnorm ws) w × IsFor (fault_of exifnorm ws) w × AsksFiles (subcommand_of exifnorm ws) w
-    matched w asks =
+    subcommand_matched w asks =
         let files = subst (λ r. AsksFiles r w) (sym same_rows) asks.1 in
         (subst (λ r. Asks r w) (sym same_rows) asks.0, of_match (fault_of exifnorm ws) (subcommand_of exifnorm ws) w no_fault files, files)
 
   -- an error
-  pub failed : (e : Error) (w : Words) → (is_simple_and_free app ≡ true → HasKind (fault_of app ws) e) → IsTold w
+  pub parse_failed : (e : Error) (w : Words) → (is_simple_and_free app ≡ true → HasKind (fault_of app ws) e) → IsTold w
       → TellsKind (kind_of e) w → (kind_of e ≡ kind.OutOfMemory → w ≡ words.Unread)
       → Asks (subcommand_of exifnorm ws) w × IsFor (fault_of exifnorm ws) w × (AreTaken ws → AsksFiles (subcommand_of exifnorm ws) w)
-  failed e w had told tells memory =
+  parse_failed e w had told tells memory =
       let has = subst (λ (a : App). HasKind (fault_of a ws) e) is (had (ap is_simple_and_free is ∙ is_free)) in (
         of_told (subcommand_of exifnorm ws) w told,
         of_error (fault_of exifnorm ws) e w has memory told tells,

@@ -40,14 +40,14 @@ HasValue r = r.values ≢ []
 abbrev pub HaveValues : List Row → Type 0
 HaveValues = Each HasValue
 
-appended : {X : Type 0} (xs ys : List X) → (xs ≢ []) ⊎ (ys ≢ []) → (xs ++ ys) ≢ []
-appended [] ys (inl some) none = some refl
-appended [] ys (inr some) none = some none
-appended (x ∷ xs) ys h none = cc
+append_not_empty : {X : Type 0} (xs ys : List X) → (xs ≢ []) ⊎ (ys ≢ []) → (xs ++ ys) ≢ []
+append_not_empty [] ys (inl some) none = some refl
+append_not_empty [] ys (inr some) none = some none
+append_not_empty (x ∷ xs) ys h none = cc
 
 -- a list with one more element at its end
 pub pushed_some : {X : Type 0} (xs : List X) (x : X) → (xs ++ x ∷ []) ≢ []
-pushed_some xs x = appended xs (x ∷ []) (inr (λ none. cc))
+pushed_some xs x = append_not_empty xs (x ∷ []) (inr (λ none. cc))
 
 row_changed : (id : Text) (change : Row → List Row) (missing rows : List Row) → ((r : Row) → HasValue r → HaveValues (change r))
     → HaveValues missing
@@ -62,7 +62,7 @@ row_changed id change missing (r ∷ rs) changes made h = go (bytes_eq r.id id) 
 values_set : (id : Text) (how : Reading) (s : ValueSource) (values : List Text) (rows : List Row) → values ≢ [] → HaveValues rows
     → HaveValues (with_values id how s values rows)
 values_set id how s values rows some h =
-    row_changed id (more_values s values) _ rows (λ r has. (appended r.values values (inl has), tt)) (some, tt) h
+    row_changed id (more_values s values) _ rows (λ r has. (append_not_empty r.values values (inl has), tt)) (some, tt) h
 
 -- an argument of the command's subcommands: a positional one with a value, or a request for help without
 abbrev pub IsPlain : Rule → Type 0

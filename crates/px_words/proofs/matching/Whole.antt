@@ -39,9 +39,9 @@ one_met true rest none = refl
 one_met false rest none = cc
 
 -- the last checks of a subcommand are part of its fault
-checked : (s : Shape) (words : List Text) → level_fault s [] nothing_held words false [] ≡ []
+level_checked : (s : Shape) (words : List Text) → level_fault s [] nothing_held words false [] ≡ []
     → check_fault s (rows_after s.rules [] words) false ≡ []
-checked s words none =
+level_checked s words none =
     let end = (walk s.rules [] nothing_held words).held in
     let settles = settle_fault s.rules s.args_override_self end in
     let defaults = defaults_fault (settled s.rules end).rows s.rules in
@@ -55,7 +55,7 @@ module _ (s : Shape) (each : Each IsPlain s.rules) where
       → (words : List Text) → level_fault s [] nothing_held words false [] ≡ [] → IsThere id (rows_after s.rules [] words)
   there id last words none =
       let rows = rows_after s.rules [] words in
-      given_there id rows (rows_have s.rules each words) (one_given (is_given id rows) (sym (last rows) ∙ checked s words none))
+      given_there id rows (rows_have s.rules each words) (one_given (is_given id rows) (sym (last rows) ∙ level_checked s words none))
 
   -- two must
   both_there : (first second : Text)
@@ -66,7 +66,7 @@ module _ (s : Shape) (each : Each IsPlain s.rules) where
   both_there first second last words none =
       let rows = rows_after s.rules [] words in
       let have = rows_have s.rules each words in
-      let given = two_given (is_given first rows) (is_given second rows) (sym (last rows) ∙ checked s words none) in
+      let given = two_given (is_given first rows) (is_given second rows) (sym (last rows) ∙ level_checked s words none) in
       (given_there first rows have given.0, given_there second rows have given.1)
 
 -- the subcommand has its arguments if it has no error
@@ -137,8 +137,8 @@ last_checks rows true = refl
 last_checks rows false = refl
 
 -- a parse without an error matched a subcommand with its arguments
-pub met : (words : List Text) → fault_of exifnorm words ≡ [] → IsMet (subcommand_of exifnorm words)
-met words none =
+pub requirement_met : (words : List Text) → fault_of exifnorm words ≡ [] → IsMet (subcommand_of exifnorm words)
+requirement_met words none =
     let a = built exifnorm in
     let end = walk a.top.rules (names_of a) nothing_held words in
     let has = is_some (entered a end.stopped) in

@@ -1,12 +1,12 @@
 use Rattle.std.proofs.Common.{rules}
 use Rattle.px_layout.specs.Normal.{normal_exif}
 use Rattle.px_layout.specs.calls.Forms.{said_in}
-use Rattle.px_engine.proofs.Room.{filled}
+use Rattle.px_engine.proofs.Room.{filling_now_form}
 use Rattle.px_engine.proofs.forms.fill_exif.Goals as goal
 
 pub returns : goal.returns
 returns c =
-    let all = filled c.send_exif.result c.new-writer.result c.send_exif.new.writer _ _ (normal_exif (said_in c.args.form.now))
+    let all = filling_now_form c.send_exif.result c.new-writer.result c.send_exif.new.writer _ _ (normal_exif (said_in c.args.form.now))
     c.requires.room c.new-writer.ensures.same c.new-writer.ensures.room c.new-writer.ensures.none c.new-writer.ensures.refusals
     c.send_exif.ensures.0 c.send_exif.ensures.1 in
     search rules

@@ -1,11 +1,11 @@
 use Rattle.std.proofs.Common.{rules}
 use Rattle.px_iim.specs.Record.{normal_iim}
-use Rattle.px_engine.proofs.Printed.{sent}
+use Rattle.px_engine.proofs.Printed.{owes_written}
 use Rattle.px_engine.proofs.forms.send_record.Goals as goal
 
 pub returns : goal.returns
 returns g c = (
-  sent c.send.result _ _ _ c.new-pending.result c.put_iim.new.pending (normal_iim c.args.iim.now)
+  owes_written c.send.result _ _ _ c.new-pending.result c.put_iim.new.pending (normal_iim c.args.iim.now)
       c.new-pending.ensures c.in_ok-put_iim.ensures.bytes c.send.ensures.bytes,
   search rules,
 )

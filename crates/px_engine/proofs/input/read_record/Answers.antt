@@ -10,10 +10,10 @@ use Rattle.px_engine.specs.Input.{IsSaidIn}
 use Rattle.px_engine.proofs.Judged.{iim_said}
 use Rattle.px_engine.proofs.input.read_record.Goals as goal
 
-read : (b : List ℕ) (r : Result Record Refusal) → Judges r (iim_checks b) (SaysIim b) → IfOk r IsRecord
+judges_said_in : (b : List ℕ) (r : Result Record Refusal) → Judges r (iim_checks b) (SaysIim b) → IfOk r IsRecord
     → IfOk r (λ i. IsSaidIn kind.Iim b (said.Iim i))
-read b (Ok i) j w = iim_said b i j.1 w
-read b (Err e) j w = tt
+judges_said_in b (Ok i) j w = iim_said b i j.1 w
+judges_said_in b (Err e) j w = tt
 
 pub returns-clause-said : goal.returns-clause-said
-returns-clause-said c = read c.args.bytes.now c.read_iim_in.result c.read_iim_in.ensures.judged c.read_iim_in.ensures.whole
+returns-clause-said c = judges_said_in c.args.bytes.now c.read_iim_in.result c.read_iim_in.ensures.judged c.read_iim_in.ensures.whole

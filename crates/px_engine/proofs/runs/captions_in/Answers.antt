@@ -4,11 +4,12 @@ use Rattle.px_engine.specs.Prints.{caption_text}
 use Rattle.px_engine.specs.calls.Seen.{said_of}
 use Rattle.px_engine.proofs.Judged.{read_as}
 use Rattle.px_engine.proofs.Ended.{lacks_later}
-use Rattle.px_engine.proofs.Printed.{printed, not_printed, lacks_no_text}
+use Rattle.px_engine.proofs.Printed.{writes_text_prints, not_printed, lacks_no_text}
 use Rattle.px_engine.proofs.runs.captions_in.Goals as goal
 
 pub returns-clause-done : goal.returns-clause-done
-returns-clause-done g c = printed caption_text c.write_captions-done.result _ _ c.deref.result.now (said_of c.in_ok-said.said) _ _ _ _
+returns-clause-done g c = writes_text_prints caption_text c.write_captions-done.result _ _ c.deref.result.now
+    (said_of c.in_ok-said.said) _ _ _ _
     (read_as _ _ _ _ c.deref.ensures.value c.in_ok-file.ensures.found) c.in_ok-said.ensures.said c.write_captions-done.ensures
 
 pub returns-in_err-said-clause-done : goal.returns-in_err-said-clause-done

@@ -3,7 +3,7 @@ use Rattle.std.proofs.lemmas.Result.{err_from_is_err_and}
 use Rattle.px_engine.specs.calls.Seen.{said_of}
 use Rattle.px_engine.proofs.Judged.{known_said, known_stops, read_as, consumes_none}
 use Rattle.px_engine.proofs.Ended.{first_stops, lacks_later}
-use Rattle.px_engine.proofs.Compared.{compared, not_asked, untouched, counted, lacks_compared}
+use Rattle.px_engine.proofs.Compared.{compares_from_second, not_asked, compares_untouched, compares_counts_sides, lacks_compared}
 use Rattle.px_engine.proofs.runs.compare_in.Goals as goal
 
 pub returns-in_err-said-clause-lost_too : goal.returns-in_err-said-clause-lost_too
@@ -29,16 +29,16 @@ returns-in_err-said-clause-memory g c =
 
 pub returns-clause-done : goal.returns-clause-done
 returns-clause-done g c =
-    compared c.compare_second-same.result _ _ (said_of c.in_ok-said.said)
+    compares_from_second c.compare_second-same.result _ _ (said_of c.in_ok-said.said)
     (known_said _ _ c.deref.result.now _ (read_as _ _ _ _ c.deref.ensures.value c.in_ok-file.ensures.found) c.in_ok-said.ensures.said)
     c.compare_second-same.ensures.done
 
 pub returns-clause-untouched : goal.returns-clause-untouched
-returns-clause-untouched g c = untouched c.compare_second-same.result _ _ _ _ c.compare_second-same.ensures.done
+returns-clause-untouched g c = compares_untouched c.compare_second-same.result _ _ _ _ c.compare_second-same.ensures.done
 
 pub returns-clause-reads : goal.returns-clause-reads
 returns-clause-reads g c =
-    counted c.compare_second-same.result _ _ _ _ _ _ c.in_ok-file.ensures.count c.compare_second-same.ensures.done
+    compares_counts_sides c.compare_second-same.result _ _ _ _ _ _ c.in_ok-file.ensures.count c.compare_second-same.ensures.done
     c.compare_second-same.ensures.reads
 
 pub returns-clause-memory : goal.returns-clause-memory

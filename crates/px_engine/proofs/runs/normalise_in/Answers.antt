@@ -2,11 +2,11 @@ use Rattle.std.proofs.Common.{◌∙◌}
 use Rattle.std.proofs.lemmas.Result.{err_from_is_err_and}
 use Rattle.px_engine.specs.calls.Seen.{said_of}
 use Rattle.px_engine.proofs.Judged.{read_as}
-use Rattle.px_engine.proofs.Ended.{normalised, not_normalised, lacks_nothing, lacks_later}
+use Rattle.px_engine.proofs.Ended.{writes_said_normalises, not_normalised, lacks_nothing, lacks_later}
 use Rattle.px_engine.proofs.runs.normalise_in.Goals as goal
 
 pub returns-clause-done : goal.returns-clause-done
-returns-clause-done g c = normalised c.write_said-done.result _ _ c.deref.result.now (said_of c.in_ok-said.said) _ _ _ _
+returns-clause-done g c = writes_said_normalises c.write_said-done.result _ _ c.deref.result.now (said_of c.in_ok-said.said) _ _ _ _
     (read_as _ _ _ _ c.deref.ensures.value c.in_ok-file.ensures.found) c.in_ok-said.ensures.said c.write_said-done.ensures
 
 pub returns-in_err-said-clause-done : goal.returns-in_err-said-clause-done

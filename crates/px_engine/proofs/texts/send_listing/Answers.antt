@@ -4,7 +4,7 @@ use Rattle.px_bytes.specs.Devices.{AppendsPrefix}
 use Rattle.px_bytes.specs.lemmas.WaitingLaws.{from_none}
 use Rattle.px_engine.specs.Prints.{listing}
 use Rattle.px_engine.specs.calls.Seen.{said_of}
-use Rattle.px_engine.proofs.Printed.{sent}
+use Rattle.px_engine.proofs.Printed.{owes_written}
 use Rattle.px_engine.proofs.texts.send_listing.Goals as goal
 
 pub returns-in_err-put_listing : goal.returns-in_err-put_listing
@@ -18,7 +18,7 @@ returns-in_err-put_listing g c =
 
 pub returns : goal.returns
 returns g c = (
-  sent c.send_and_flush.result _ _ _ c.new-pending.result c.put_listing.new.pending (listing (said_of c.args.said.now))
+  owes_written c.send_and_flush.result _ _ _ c.new-pending.result c.put_listing.new.pending (listing (said_of c.args.said.now))
       c.new-pending.ensures c.in_ok-put_listing.ensures.0 c.send_and_flush.ensures.0,
   search rules,
 )

@@ -1,10 +1,10 @@
 use Rattle.std.proofs.Common.{sym, ap, ◌∙◌, List, ℕ}
 use Rattle.px_field.specs.Values.{Value, value_in, spelled}
-use Rattle.px_field.specs.lemmas.ValueLaws.{value_in-spelled, spelled-value_in}
+use Rattle.px_field.specs.lemmas.ValueLaws.{value_in_spelled, spelled_value_in}
 use Rattle.px_field.proofs.laws.read_spells.Goals as goal
 
 pub returns : goal.returns
 returns c o f v raw kind is are whole = (
-  λ e. sym (value_in-spelled o f v kind is) ∙ ap (λ (l : List ℕ). value_in o f l) (sym e),
-  λ e. sym (spelled-value_in o f raw whole are) ∙ ap (λ (w : Value). spelled o w) (sym e),
+  λ e. sym (value_in_spelled o f v kind is) ∙ ap (λ (l : List ℕ). value_in o f l) (sym e),
+  λ e. sym (spelled_value_in o f raw whole are) ∙ ap (λ (w : Value). spelled o w) (sym e),
 )

@@ -6,7 +6,7 @@ use Rattle.std.proofs.lemmas.Option.{slice_get-get_or}
 use Rattle.px_field.specs.declared.forms.Element.{Element}
 use Rattle.px_field.specs.declared.forms.Element.TheVariants as element
 use Rattle.px_field.specs.Values.{spell, spelled}
-use Rattle.px_field.specs.lemmas.ValueLaws.{spell-take}
+use Rattle.px_field.specs.lemmas.ValueLaws.{spell_take}
 use Rattle.px_field.proofs.spelling.append_elements.Goals as goal
 
 pub loop-i-preserved : goal.loop-i-preserved
@@ -23,7 +23,7 @@ loop-i-preserved c =
           ∙ ap (λ (l : List ℕ). l ++ piece) c.loop-i.invariant.items
           ∙ append_assoc c.args.out.now.items (flat_map (spell o) (take i es)) piece
           ∙ ap (λ (l : List ℕ). c.args.out.now.items ++ l) (ap (λ (l : List ℕ). flat_map (spell o) (take i es) ++ l)
-          (c.spell_at-width.ensures.front e here) ∙ sym (spell-take o es i (i + 1) e here (omega arith)));
+          (c.spell_at-width.ensures.front e here) ∙ sym (spell_take o es i (i + 1) e here (omega arith)));
       len = grind (
         arith,
         common_steps,

@@ -1,6 +1,6 @@
 use Rattle.std.proofs.Common.{◌≡◌, ◌+◌, ◌*◌, ◌-◌, length, take, drop, refl, ap, ◌∙◌, arith, rules}
 use Rattle.px_bytes.specs.Numbers.{number, spelling}
-use Rattle.px_bytes.specs.lemmas.NumberLaws.{length-spelling}
+use Rattle.px_bytes.specs.lemmas.NumberLaws.{length_spelling}
 use Rattle.px_field.proofs.TurnLaws.{turn_more}
 use Rattle.px_field.specs.declared.turning.Width.TheVariants.{Widened}
 use Rattle.px_field.specs.calls.Turning.{turned}
@@ -14,7 +14,7 @@ loop-i-preserved c =
     let from = c.args.from.now in
     let len : (i * 2 + 2) - i * 2 ≡ 2 = omega arith in
     let same : c.from-wide.result ≡ c.get16.result = search rules in
-    let long : length c.put32.new.bytes ≡ 4 = ap length c.put32.ensures ∙ length-spelling o 4 _ in
+    let long : length c.put32.new.bytes ≡ 4 = ap length c.put32.ensures ∙ length_spelling o 4 _ in
     turn_more (turned Widened r o) 2 i (i * 2) (i * 4) _ _ (i + 1) from c.loop-i.to c.put32.new.bytes refl
     (c.put32.ensures ∙ ap (spelling o 4) (same ∙ c.get16.ensures ∙ ap (λ n. number r 2 (take n (drop (i * 2) from))) len))
     c.loop-i.invariant (omega arith) (omega arith) (omega arith)

@@ -5,8 +5,8 @@ use Rattle.px_iim.specs.declared.group.Item.{Item}
 use Rattle.px_iim.proofs.group.put_at.Goals as goal
 
 -- put at the end
-last : (xs moved : List Item) (at : ℕ) (x : Item) → moved ≡ xs → length xs ≤ at → moved ++ x ∷ [] ≡ insert xs at x
-last xs moved at x e l =
+insert_at_end : (xs moved : List Item) (at : ℕ) (x : Item) → moved ≡ xs → length xs ≤ at → moved ++ x ∷ [] ≡ insert xs at x
+insert_at_end xs moved at x e l =
     ap (λ (ys : List Item). ys ++ x ∷ []) (e ∙ sym (take_all at xs l))
     ∙ ap (λ (ys : List Item). take at xs ++ x ∷ ys) (sym (drop_all at xs l))
 
@@ -15,4 +15,4 @@ returns-then-at-len-clause-done c =
     let here : length c.args.list.now.items ≤ c.args.at =
     omega (arith, c.if-at-len.true, c.len.ensures, c.make_room.ensures.len, c.args.list.now.ok.0) in
     c.push_reserved.ensures.items
-    ∙ last c.args.list.now.items c.make_room.new.list.items c.args.at c.args.item c.make_room.ensures.items here
+    ∙ insert_at_end c.args.list.now.items c.make_room.new.list.items c.args.at c.args.item c.make_room.ensures.items here

@@ -1,5 +1,5 @@
-use Rattle.px_iim.specs.lemmas.RecordLaws.{computes}
+use Rattle.px_iim.specs.lemmas.RecordLaws.{iim_of_computes}
 use Rattle.px_iim.proofs.laws.computes.Goals as goal
 
 pub returns : goal.returns
-returns c = computes
+returns c = iim_of_computes

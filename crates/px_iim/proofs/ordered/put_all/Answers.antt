@@ -9,7 +9,7 @@ use Rattle.px_iim.specs.calls.View.{dataset_view}
 use Rattle.px_iim.specs.Writing.{within}
 use Rattle.px_iim.specs.declared.dataset.Found.{Found}
 use Rattle.px_iim.specs.declared.group.Item.{Item}
-use Rattle.px_iim.proofs.reading.Steps.{datasets, inside, wide, octets_within, said_last, said_more}
+use Rattle.px_iim.proofs.reading.Steps.{datasets, dataset_inside, dataset_size_ge, octets_within, said_last, said_more}
 use Rattle.px_iim.proofs.reading.Walked.{behind, datasets_is, none_read, one_left, last_left, more_left, one_all, rest_is}
 use Rattle.px_iim.proofs.reading.RunSteps.{longer_form}
 use Rattle.px_iim.proofs.writing.Writes.{within_counted}
@@ -69,7 +69,7 @@ overflow_add-at c =
     let x = c.args.bytes.now in
     let f : Found = c.judged_dataset-found.result in
     let r : Reads (drop c.loop-form_len.at x) f = subst (λ (y : List ℕ). Reads y f) c.rest.ensures c.judged_dataset-found.ensures in
-    let l = inside x c.loop-form_len.at f r c.loop-form_len.invariant.inside in
+    let l = dataset_inside x c.loop-form_len.at f r c.loop-form_len.invariant.inside in
     record { fits = omega (arith, c.requires.bounded) }
 
 pub rest-requires-in-loop-form_len : goal.rest-requires-in-loop-form_len
@@ -77,7 +77,7 @@ rest-requires-in-loop-form_len c =
     let x = c.args.bytes.now in
     let f : Found = c.judged_dataset-found.result in
     let r : Reads (drop c.loop-form_len.at x) f = subst (λ (y : List ℕ). Reads y f) c.rest.ensures c.judged_dataset-found.ensures in
-    inside x c.loop-form_len.at f r c.loop-form_len.invariant.inside
+    dataset_inside x c.loop-form_len.at f r c.loop-form_len.invariant.inside
 
 -- the list with one DataSet more
 one_more : (old new : List Item) (x : Item) → new ≡ old ++ x ∷ [] → map dataset_view new ≡ map dataset_view old ++ dataset_view x ∷ []
@@ -121,7 +121,7 @@ loop-form_len-preserved c =
     let front = map dataset_view c.loop-form_len.items.items in
     let grown = one_more c.loop-form_len.items.items _ _ c.push_reserved.ensures.items in
     record {
-      inside = inside x at f r c.loop-form_len.invariant.inside;
+      inside = dataset_inside x at f r c.loop-form_len.invariant.inside;
       reading = λ all e.
           let (h, q) = c.loop-form_len.invariant.reading all e in (
             ap (λ (y : List DataSet). behind y (datasets (drop (at + f.size) x))) grown
@@ -137,6 +137,6 @@ loop-form_len-smaller c =
     let x = c.args.bytes.now in
     let f : Found = c.judged_dataset-found.result in
     let r : Reads (drop c.loop-form_len.at x) f = subst (λ (y : List ℕ). Reads y f) c.rest.ensures c.judged_dataset-found.ensures in
-    let l = inside x c.loop-form_len.at f r c.loop-form_len.invariant.inside in
-    let w = wide x c.loop-form_len.at f r in
+    let l = dataset_inside x c.loop-form_len.at f r c.loop-form_len.invariant.inside in
+    let w = dataset_size_ge x c.loop-form_len.at f r in
     omega arith

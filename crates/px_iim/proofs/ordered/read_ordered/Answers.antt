@@ -5,9 +5,9 @@ use Rattle.px_iim.specs.DataSet.{DataSet}
 use Rattle.px_iim.specs.Group.{Record, gather, AreGroups}
 use Rattle.px_iim.specs.Record.{iim_of, sequence_of, normal_iim}
 use Rattle.px_iim.specs.calls.Runs.{runs, InOrder, AreNumbers}
-use Rattle.px_iim.specs.lemmas.RecordLaws.{computes, said_is_record}
+use Rattle.px_iim.specs.lemmas.RecordLaws.{iim_of_computes, said_is_record}
 use Rattle.px_iim.specs.Writing.{within}
-use Rattle.px_iim.proofs.reading.Steps.{iim_of-within}
+use Rattle.px_iim.proofs.reading.Steps.{iim_of_within}
 use Rattle.px_iim.proofs.reading.Walked.{datasets_is}
 use Rattle.px_iim.proofs.reading.Runs.{runs_gather}
 use Rattle.px_iim.proofs.ordered.read_ordered.Goals as goal
@@ -19,10 +19,10 @@ module _ (x : List ℕ) (ds items : List DataSet) (short : length x ≤ limit) (
   gathered = runs_gather ds ds order numbers (λ rec n. refl) ∙ ap runs (sym made)
 
   says : iim_of x ≡ Some (runs items)
-  says = iim_of-within x short ∙ ap (option_map (gather [])) (datasets_is x ∙ read) ∙ ap (λ (r : Record). Some r) gathered
+  says = iim_of_within x short ∙ ap (option_map (gather [])) (datasets_is x ∙ read) ∙ ap (λ (r : Record). Some r) gathered
 
   whole : AreBytes x → AreGroups (runs items)
-  whole b = (said_is_record x (runs items) b ((computes x (runs items)).1 says)).whole
+  whole b = (said_is_record x (runs items) b ((iim_of_computes x (runs items)).1 says)).whole
 
 pub put_all-form_len-requires-clause-said : goal.put_all-form_len-requires-clause-said
 put_all-form_len-requires-clause-said c =

@@ -9,7 +9,8 @@ use Rattle.px_iim.specs.Check.{iim_checks}
 use Rattle.px_iim.specs.Record.{is_end}
 use Rattle.px_iim.specs.calls.Reading.{Reads, JudgesAt, found_view}
 use Rattle.px_iim.specs.lemmas.ScanLaws.{checks_left, iim_left}
-use Rattle.px_iim.proofs.reading.Steps.{datasets, iim_of-within, gather_last, gather_more, refused_fault, wide, inside, octets_within}
+use Rattle.px_iim.proofs.reading.Steps.{datasets, iim_of_within, gather_last, gather_more}
+use Rattle.px_iim.proofs.reading.Steps.{refused_fault, dataset_size_ge, dataset_inside, octets_within}
 use Rattle.px_iim.proofs.reading.Steps.{said_last, said_more, fault_last, fault_more}
 use Rattle.px_iim.proofs.read.read_put.Goals as goal
 
@@ -17,31 +18,32 @@ pub loop-record-init : goal.loop-record-init
 loop-record-init c = record {
   inside = omega arith;
   said = ap (λ (i : Record). option_map (gather i) (datasets c.args.bytes.now)) c.in_ok-record.ensures.none
-      ∙ sym (iim_of-within c.args.bytes.now c.requires.bounded);
+      ∙ sym (iim_of_within c.args.bytes.now c.requires.bounded);
   faults = sym (iim_left c.args.bytes.now c.requires.bounded);
   memory = refl;
 }
 
-refuses : (e : Refusal) (x : List ℕ) (at : ℕ) → JudgesAt (Err e) x at
+judges_at_refuses : (e : Refusal) (x : List ℕ) (at : ℕ) → JudgesAt (Err e) x at
     → first_false (checks_left at (drop at x)) ≡ first_false (iim_checks x) → Refuses e (iim_checks x)
-refuses (Content cause place) x at h f = sym f ∙ refused_fault at (drop at x) (cause, place) h
-refuses OutOfMemory x at h f = absurd h
+judges_at_refuses (Content cause place) x at h f = sym f ∙ refused_fault at (drop at x) (cause, place) h
+judges_at_refuses OutOfMemory x at h f = absurd h
 
 pub returns-in_err-found-clause-judged : goal.returns-in_err-found-clause-judged
 returns-in_err-found-clause-judged c =
     let p = err_from_is_err_and c.from_residual-in_err-found.result c.from_residual-in_err-found.ensures.1 in
-    rw (p.1, p.2) (refuses c.in_err-found.field-0.0 c.args.bytes.now c.loop-record.at c.in_err-found.ensures c.loop-record.invariant.faults)
+    rw (p.1, p.2) (judges_at_refuses c.in_err-found.field-0.0 c.args.bytes.now c.loop-record.at c.in_err-found.ensures
+        c.loop-record.invariant.faults)
 
 pub push_in-requires : goal.push_in-requires
 push_in-requires c = octets_within c.args.bytes.now c.loop-record.at c.in_ok-found.found c.in_ok-found.ensures c.requires.bounded
 
 pub overflow_add-at : goal.overflow_add-at
 overflow_add-at c =
-    let l = inside c.args.bytes.now c.loop-record.at c.in_ok-found.found c.in_ok-found.ensures c.loop-record.invariant.inside in
+    let l = dataset_inside c.args.bytes.now c.loop-record.at c.in_ok-found.found c.in_ok-found.ensures c.loop-record.invariant.inside in
     record { fits = omega (arith, c.requires.bounded) }
 
 pub rest-requires : goal.rest-requires
-rest-requires c = inside c.args.bytes.now c.loop-record.at c.in_ok-found.found c.in_ok-found.ensures c.loop-record.invariant.inside
+rest-requires c = dataset_inside c.args.bytes.now c.loop-record.at c.in_ok-found.found c.in_ok-found.ensures c.loop-record.invariant.inside
 
 pub returns-then-is_end-clause-judged : goal.returns-then-is_end-clause-judged
 returns-then-is_end-clause-judged c =
@@ -61,7 +63,7 @@ loop-record-preserved c =
     let r : Reads (drop c.loop-record.at x) f = c.in_ok-found.ensures in
     let e : is_end (drop (c.loop-record.at + f.size) x) ≡ false = sym (ap is_end c.rest.ensures) ∙ sym c.if-is_end.ensures in
     record {
-      inside = inside x c.loop-record.at f r c.loop-record.invariant.inside;
+      inside = dataset_inside x c.loop-record.at f r c.loop-record.invariant.inside;
       said = ap (λ (i : Record). option_map (gather i) (datasets (drop (c.loop-record.at + f.size) x))) c.in_ok-push_in.ensures.done
           ∙ sym (gather_more c.loop-record.record (found_view f) (datasets (drop (c.loop-record.at + f.size) x)))
           ∙ ap (option_map (gather c.loop-record.record)) (sym (said_more x c.loop-record.at f r e)) ∙ c.loop-record.invariant.said;
@@ -74,6 +76,6 @@ loop-record-smaller c =
     let x = c.args.bytes.now in
     let f = c.in_ok-found.found in
     let r : Reads (drop c.loop-record.at x) f = c.in_ok-found.ensures in
-    let l = inside x c.loop-record.at f r c.loop-record.invariant.inside in
-    let w = wide x c.loop-record.at f r in
+    let l = dataset_inside x c.loop-record.at f r c.loop-record.invariant.inside in
+    let w = dataset_size_ge x c.loop-record.at f r in
     omega arith

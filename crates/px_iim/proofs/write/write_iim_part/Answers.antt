@@ -4,7 +4,7 @@ use Rattle.px_bytes.specs.Devices.{AppendsPrefix}
 use Rattle.px_iim.specs.Record.{normal_iim}
 use Rattle.px_bytes.specs.Waiting.{Owes}
 use Rattle.px_bytes.specs.lemmas.WaitingLaws.{from_none, owed_prefix, owed_all}
-use Rattle.px_iim.proofs.writing.Writes.{counted, not_counted}
+use Rattle.px_iim.proofs.writing.Writes.{within_most_number, not_counted}
 use Rattle.px_iim.proofs.write.write_iim_part.Goals as goal
 
 pub returns-then-len-gt-LIMIT : goal.returns-then-len-gt-LIMIT
@@ -18,7 +18,7 @@ returns-then-len-gt-LIMIT g c = (
 pub returns-in_err-put_iim : goal.returns-in_err-put_iim
 returns-in_err-put_iim g c =
     let p = err_from_is_err_and c.from_residual.result c.from_residual.ensures.1 in
-    let l = counted c.normal_len.result (length (normal_iim c.args.iim.now)) c.unwrap_or-len.result c.normal_len.ensures
+    let l = within_most_number c.normal_len.result (length (normal_iim c.args.iim.now)) c.unwrap_or-len.result c.normal_len.ensures
     c.unwrap_or-len.ensures c.if-len-gt-LIMIT.false in
     rw (p.1, p.2) (
       l.1,
@@ -30,7 +30,7 @@ returns-in_err-put_iim g c =
 pub returns-in_err-send : goal.returns-in_err-send
 returns-in_err-send g c =
     let p = err_from_is_err_and c.from_residual-in_err-send.result c.from_residual-in_err-send.ensures.1 in
-    let l = counted c.normal_len.result (length (normal_iim c.args.iim.now)) c.unwrap_or-len.result c.normal_len.ensures
+    let l = within_most_number c.normal_len.result (length (normal_iim c.args.iim.now)) c.unwrap_or-len.result c.normal_len.ensures
     c.unwrap_or-len.ensures c.if-len-gt-LIMIT.false in
     let o : Owes (g.W.Sink.bytes_taken c.args.writer.now) (g.W.Sink.bytes_taken c.put_iim.new.writer) c.put_iim.new.pending
     (normal_iim c.args.iim.now) =
@@ -45,7 +45,7 @@ returns-in_err-send g c =
 
 pub returns : goal.returns
 returns g c =
-    let l = counted c.normal_len.result (length (normal_iim c.args.iim.now)) c.unwrap_or-len.result c.normal_len.ensures
+    let l = within_most_number c.normal_len.result (length (normal_iim c.args.iim.now)) c.unwrap_or-len.result c.normal_len.ensures
     c.unwrap_or-len.ensures c.if-len-gt-LIMIT.false in
     let o : Owes (g.W.Sink.bytes_taken c.args.writer.now) (g.W.Sink.bytes_taken c.put_iim.new.writer) c.put_iim.new.pending
     (normal_iim c.args.iim.now) =

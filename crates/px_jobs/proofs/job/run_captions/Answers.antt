@@ -1,5 +1,5 @@
 use Rattle.px_engine.specs.Prints.{caption_text}
-use Rattle.px_jobs.proofs.TextLaws.{room, text_told}
+use Rattle.px_jobs.proofs.TextLaws.{counts_writes_room, text_told}
 use Rattle.px_jobs.proofs.job.run_captions.Goals as goal
 
 pub returns : goal.returns
@@ -16,5 +16,6 @@ returns g c = (
 
 pub tell_printed-requires : goal.tell_printed-requires
 tell_printed-requires g c =
-    room c.captions_in-printed.result (g.L.Device.failed c.args.lines.now) (g.L.Device.failed c.captions_in-printed.new.writer)
+    counts_writes_room c.captions_in-printed.result (g.L.Device.failed c.args.lines.now)
+        (g.L.Device.failed c.captions_in-printed.new.writer)
     c.captions_in-printed.ensures.writes c.requires.telling

@@ -4,7 +4,7 @@ use Rattle.std.proofs.lemmas.Result.{err_from_is_err_and}
 use Rattle.px_bytes.specs.Devices.{AppendsPrefix}
 use Rattle.px_bytes.specs.lemmas.WaitingLaws.{from_none}
 use Rattle.px_jobs.specs.Lines.{end_of}
-use Rattle.px_jobs.proofs.LineLaws.{sent}
+use Rattle.px_jobs.proofs.LineLaws.{owes_written}
 use Rattle.px_jobs.proofs.lines.write_ended.Goals as goal
 
 pub returns-in_err-put_ended : goal.returns-in_err-put_ended
@@ -18,7 +18,7 @@ returns-in_err-put_ended g c =
 
 pub returns : goal.returns
 returns g c = (
-  sent c.send.result _ _ _ c.new-pending.result _ (c.args.text.now ++ end_of c.args.file) c.new-pending.ensures
+  owes_written c.send.result _ _ _ c.new-pending.result _ (c.args.text.now ++ end_of c.args.file) c.new-pending.ensures
       c.in_ok-put_ended.ensures.0 c.send.ensures.bytes,
   search rules,
 )

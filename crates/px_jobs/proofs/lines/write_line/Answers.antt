@@ -3,7 +3,7 @@ use Rattle.std.proofs.lemmas.Result.{err_from_is_err_and}
 use Rattle.px_bytes.specs.Devices.{AppendsPrefix}
 use Rattle.px_bytes.specs.lemmas.WaitingLaws.{from_none}
 use Rattle.px_jobs.specs.Lines.{line_of}
-use Rattle.px_jobs.proofs.LineLaws.{sent}
+use Rattle.px_jobs.proofs.LineLaws.{owes_written}
 use Rattle.px_jobs.proofs.lines.write_line.Goals as goal
 
 pub returns-in_err-put_line : goal.returns-in_err-put_line
@@ -17,7 +17,8 @@ returns-in_err-put_line g c =
 
 pub returns : goal.returns
 returns g c = (
-  sent c.send.result _ _ _ c.new-pending.result _ (line_of c.args.fault c.args.file) c.new-pending.ensures c.in_ok-put_line.ensures.0
+  owes_written c.send.result _ _ _ c.new-pending.result _ (line_of c.args.fault c.args.file) c.new-pending.ensures
+      c.in_ok-put_line.ensures.0
       c.send.ensures.bytes,
   search rules,
 )

@@ -12,10 +12,10 @@ use Rattle.px_layout.specs.lemmas.PutLaws.{both_as, first_as, fails_as, second_o
 use Rattle.px_layout.proofs.put_running.put_near_entry.Goals as goal
 
 -- the same, with another name for the size
-near : (plan : Plan) (i : ℕ × Item) (n : ℕ) (head : List ℕ) → n ≡ item_size i.1 → head ≡ head_bytes Most i
+near_given_head : (plan : Plan) (i : ℕ × Item) (n : ℕ) (head : List ℕ) → n ≡ item_size i.1 → head ≡ head_bytes Most i
     → head ++ (item_bytes plan Most 0 i.1 ++ replicate (4 - n) 0) ≡ near_given plan i
 unfolding near_given
-near plan i n head s e =
+near_given_head plan i n head s e =
     ap (λ (k : ℕ). head ++ (item_bytes plan Most 0 i.1 ++ replicate (4 - k) 0)) s
     ∙ ap (λ (x : List ℕ). x ++ (item_bytes plan Most 0 i.1 ++ replicate (4 - item_size i.1) 0)) e
 
@@ -23,7 +23,7 @@ pub returns-in_err-put : goal.returns-in_err-put
 returns-in_err-put g c =
     let p = err_from_is_err_and c.from_residual.result c.from_residual.ensures.1 in
     rw p.1 (
-      first_as g.W.Sink.bytes_taken _ _ c.args.pending.now _ _ _ (near (plan_in c.args.form.now)
+      first_as g.W.Sink.bytes_taken _ _ c.args.pending.now _ _ _ (near_given_head (plan_in c.args.form.now)
           (entry_of c.args.entry.now) c.size-size.result c.entry_head.result c.size-size.ensures c.entry_head.ensures)
           (c.in_err-put.ensures.bytes, c.in_err-put.ensures.waits),
       search rules,
@@ -35,7 +35,7 @@ returns-in_err-put_told_item g c =
     let value = item_bytes (plan_in c.args.form.now) Most 0 (item_of c.args.entry.now.item) in
     let spare = replicate (4 - c.size-size.result) 0 in
     rw p.1 (
-      fails_as g.W.Sink.bytes_taken _ _ c.args.pending.now _ _ (near (plan_in c.args.form.now)
+      fails_as g.W.Sink.bytes_taken _ _ c.args.pending.now _ _ (near_given_head (plan_in c.args.form.now)
           (entry_of c.args.entry.now) c.size-size.result c.entry_head.result c.size-size.ensures c.entry_head.ensures)
           (second_of g.W.Sink.bytes_taken _ _ _ c.args.pending.now c.put.new.self c.entry_head.result value spare
           (c.in_ok-put.ensures.bytes, c.in_ok-put.ensures.waits) c.in_err-put_told_item.ensures.0),
@@ -47,7 +47,7 @@ returns g c =
     let value = item_bytes (plan_in c.args.form.now) Most 0 (item_of c.args.entry.now.item) in
     let spare = replicate (4 - c.size-size.result) 0 in (
       both_as g.W.Sink.bytes_taken c.put_filler.result _ _ _ c.args.pending.now c.put.new.self c.put_filler.new.pending _ _ _
-          (near (plan_in c.args.form.now) (entry_of c.args.entry.now) c.size-size.result c.entry_head.result
+          (near_given_head (plan_in c.args.form.now) (entry_of c.args.entry.now) c.size-size.result c.entry_head.result
           c.size-size.ensures c.entry_head.ensures)
           (c.in_ok-put.ensures.bytes, c.in_ok-put.ensures.waits)
           (puts_to_both g.W.Sink.bytes_taken c.put_filler.result _ _ _ c.put.new.self c.put_told_item.new.pending c.put_filler.new.pending

@@ -1,6 +1,6 @@
 use Rattle.std.proofs.Common.{◌≡◌, ◌∙◌, length, arith, ap}
 use Rattle.px_bytes.specs.declared.Order.TheVariants.{Most}
-use Rattle.px_bytes.specs.lemmas.NumberLaws.{length-spelling}
+use Rattle.px_bytes.specs.lemmas.NumberLaws.{length_spelling}
 use Rattle.px_layout.specs.Laid.{long_bytes}
 use Rattle.px_layout.specs.calls.Given.{strip_places}
 use Rattle.px_layout.specs.lemmas.PutLaws.{spelled_more}
@@ -24,7 +24,7 @@ overflow_add-next-in-loop-i c =
 
 pub loop-i-preserved : goal.loop-i-preserved
 loop-i-preserved c =
-    let long : length c.put32.new.bytes ≡ 4 = ap length c.put32.ensures ∙ length-spelling Most 4 c.loop-i.next in
+    let long : length c.put32.new.bytes ≡ 4 = ap length c.put32.ensures ∙ length_spelling Most 4 c.loop-i.next in
     let low = c.loop-i.invariant.behind in
     let l = c.loop-i.invariant.left in
     record {

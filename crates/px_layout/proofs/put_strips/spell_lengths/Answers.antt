@@ -1,7 +1,7 @@
 use Rattle.std.proofs.Common.{◌≡◌, ◌≤◌, ◌∙◌, ℕ, List, length, map, arith, ap}
 use Rattle.px_bytes.specs.Parts.{limit}
 use Rattle.px_bytes.specs.lemmas.EachLaws.{all_at}
-use Rattle.px_bytes.specs.lemmas.NumberLaws.{length-spelling}
+use Rattle.px_bytes.specs.lemmas.NumberLaws.{length_spelling}
 use Rattle.px_layout.specs.Laid.{long_bytes}
 use Rattle.px_layout.specs.lemmas.PutLaws.{spelled_more}
 use Rattle.px_layout.proofs.put_strips.spell_lengths.Goals as goal
@@ -19,7 +19,7 @@ overflow_cast-len_at c =
 
 pub loop-i-preserved : goal.loop-i-preserved
 loop-i-preserved c =
-    let long : length c.put32.new.bytes ≡ 4 = ap length c.put32.ensures ∙ length-spelling c.args.order 4 _ in
+    let long : length c.put32.new.bytes ≡ 4 = ap length c.put32.ensures ∙ length_spelling c.args.order 4 _ in
     let low = c.loop-i.invariant.behind in
     record {
       behind = omega arith;

@@ -2,7 +2,7 @@ use Rattle.std.proofs.Common.{ℕ, ◌+◌, ◌∙◌, ap}
 use Rattle.std.proofs.lemmas.Result.{err_from_is_err_and}
 use Rattle.px_tree.specs.calls.Seen.{meaning_of}
 use Rattle.px_layout.specs.calls.Forms.{said_in}
-use Rattle.px_layout.proofs.writing.WriteNormal.{no_form, not_put, not_sent, not_flushed, written}
+use Rattle.px_layout.proofs.writing.WriteNormal.{no_form, not_put, not_sent, not_flushed, normal_written}
 use Rattle.px_layout.proofs.write.write_normal_in.Goals as goal
 
 pub returns-in_err-form-clause-form : goal.returns-in_err-form-clause-form
@@ -41,7 +41,7 @@ returns-in_err-flush_all-clause-form g c =
 
 pub returns-clause-form : goal.returns-clause-form
 returns-clause-form g c =
-    written (meaning_of c.args.m.now) (said_in c.in_ok-form.form) (g.W.Sink.bytes_taken c.args.writer.now)
+    normal_written (meaning_of c.args.m.now) (said_in c.in_ok-form.form) (g.W.Sink.bytes_taken c.args.writer.now)
     (g.W.Device.failed c.args.writer.now) c.new-pending.result c.in_ok-form.ensures.1 c.in_ok-form.ensures.2
     c.new-pending.ensures
     (g.W.Sink.bytes_taken c.put_normal.new.writer) (g.W.Sink.bytes_taken c.send.new.writer) (g.W.Sink.bytes_taken c.flush_all.new.self)

@@ -4,7 +4,7 @@ use Rattle.px_tree.specs.declared.Dir.TheVariants.{Main}
 use Rattle.px_layout.specs.declared.chunks.Chunk.TheVariants.{Table}
 use Rattle.px_plans.specs.calls.Planned.{plan_of}
 use Rattle.px_plans.specs.calls.Judging.{all_stand}
-use Rattle.px_plans.proofs.plans.Holding.{more, stop, done}
+use Rattle.px_plans.proofs.plans.Holding.{left_more, left_stop, left_done}
 use Rattle.px_plans.proofs.legal.hold_all.Goals as goal
 
 pub loop-i-init : goal.loop-i-init
@@ -16,14 +16,14 @@ returns-in_err-hold-clause-free c =
 
 pub returns-then-not-branch-clause-free : goal.returns-then-not-branch-clause-free
 returns-then-not-branch-clause-free c = λ taken a.
-    stop (plan_of c.args.plan.now) c.args.chunks.now c.loop-i.i (get_or c.args.chunks.now c.loop-i.i (Table Main, 0)) (Table Main, 0)
+    left_stop (plan_of c.args.plan.now) c.args.chunks.now c.loop-i.i (get_or c.args.chunks.now c.loop-i.i (Table Main, 0)) (Table Main, 0)
     c.loop-i.held c.hold.new.held (all_stand (plan_of c.args.plan.now) taken c.args.chunks.now) c.in_ok-hold.field-0
     c.loop-i-test.true refl c.if-not-branch.true c.in_ok-hold.ensures.free (c.loop-i.invariant.left taken a)
 
 pub loop-i-preserved : goal.loop-i-preserved
 loop-i-preserved c = record {
   left = λ taken a.
-      more (plan_of c.args.plan.now) c.args.chunks.now c.loop-i.i (get_or c.args.chunks.now c.loop-i.i (Table Main, 0)) (Table Main, 0)
+      left_more (plan_of c.args.plan.now) c.args.chunks.now c.loop-i.i (get_or c.args.chunks.now c.loop-i.i (Table Main, 0)) (Table Main, 0)
       c.loop-i.held c.hold.new.held (all_stand (plan_of c.args.plan.now) taken c.args.chunks.now) c.in_ok-hold.field-0
       c.loop-i-test.true refl c.if-not-branch.false c.in_ok-hold.ensures.free (c.loop-i.invariant.left taken a);
   memory = c.in_ok-hold.ensures.memory ∙ c.loop-i.invariant.memory;
@@ -31,5 +31,6 @@ loop-i-preserved c = record {
 
 pub returns-clause-free : goal.returns-clause-free
 returns-clause-free c = λ taken a.
-    done (plan_of c.args.plan.now) c.args.chunks.now c.loop-i.i c.loop-i.held (all_stand (plan_of c.args.plan.now) taken c.args.chunks.now)
+    left_done (plan_of c.args.plan.now) c.args.chunks.now c.loop-i.i c.loop-i.held
+        (all_stand (plan_of c.args.plan.now) taken c.args.chunks.now)
     c.loop-i-test.false (c.loop-i.invariant.left taken a)

@@ -5,7 +5,7 @@ use Rattle.px_bytes.specs.Parts.{limit}
 use Rattle.px_tree.specs.calls.Seen.{meaning_of}
 use Rattle.px_layout.specs.Chunks.{chunks}
 use Rattle.px_plans.specs.calls.Planned.{plan_of}
-use Rattle.px_plans.proofs.plans.Verdicts.{as_many, verdicts}
+use Rattle.px_plans.proofs.plans.Verdicts.{as_many, plan_verdicts}
 use Rattle.px_plans.proofs.legal.is_legal_in.Goals as goal
 
 pub returns-then-count-len-clause-legal : goal.returns-then-count-len-clause-legal
@@ -23,5 +23,5 @@ returns-clause-legal c =
     let least : 8 ≤ (plan_of c.args.plan.now).length = omega arith in
     let most : (plan_of c.args.plan.now).length ≤ limit = omega arith in
     let same : c.count.result ≡ length c.deref.result.now = omega arith in
-    verdicts (meaning_of c.args.m.now) c.requires (plan_of c.args.plan.now) c.count.result c.count.ensures c.are_apart.result
+    plan_verdicts (meaning_of c.args.m.now) c.requires (plan_of c.args.plan.now) c.count.result c.count.ensures c.are_apart.result
     c.deref.result.now least most same all c.are_apart.ensures.free

@@ -7,8 +7,8 @@ use Rattle.px_layout.specs.declared.chunks.Chunk.TheVariants.{Strip}
 use Rattle.px_layout.specs.Laid.{long_bytes}
 use Rattle.px_plans.specs.calls.Layouts.{said_plan}
 use Rattle.px_layout.specs.Plans.{place}
-use Rattle.px_layout.specs.lemmas.StandLaws.{length-range}
-use Rattle.px_layout.specs.lemmas.PutLaws.{slice_get-range}
+use Rattle.px_layout.specs.lemmas.StandLaws.{length_range}
+use Rattle.px_layout.specs.lemmas.PutLaws.{slice_get_range}
 use Rattle.px_plans.proofs.put_item.put_strip_offsets.Goals as goal
 
 pub returns-in_err-put_place : goal.returns-in_err-put_place
@@ -17,7 +17,7 @@ returns-in_err-put_place g c =
     let i = c.loop-i.i in
     rw p.1 (
       loop_stop g.W.Sink.bytes_taken (λ i. long_bytes c.args.layout.now.order (place (said_plan c.args.layout.now) (Strip i)))
-          (range_with_len 0 c.args.count) i i (slice_get-range c.args.count i (omega arith))
+          (range_with_len 0 c.args.count) i i (slice_get_range c.args.count i (omega arith))
           _ _ _ c.args.pending.now c.loop-i.pending c.loop-i.invariant.put c.in_err-put_place.ensures.0,
       search rules,
     )
@@ -27,7 +27,7 @@ loop-i-preserved g c =
     let i = c.loop-i.i in
     record {
       put = loop_more g.W.Sink.bytes_taken (λ i. long_bytes c.args.layout.now.order (place (said_plan c.args.layout.now) (Strip i)))
-          (range_with_len 0 c.args.count) i i (slice_get-range c.args.count i (omega arith))
+          (range_with_len 0 c.args.count) i i (slice_get_range c.args.count i (omega arith))
           _ _ _ c.args.pending.now c.loop-i.pending c.put_place.new.pending c.loop-i.invariant.put c.in_ok-put_place.ensures.0;
       count = c.in_ok-put_place.ensures.1 ∙ c.loop-i.invariant.count;
     }
@@ -36,7 +36,7 @@ pub returns : goal.returns
 returns g c =
     let f = λ (i : ℕ). long_bytes c.args.layout.now.order (place (said_plan c.args.layout.now) (Strip i)) in
     let all : take c.loop-i.i (range_with_len 0 c.args.count) ≡ range_with_len 0 c.args.count =
-    take_all c.loop-i.i (range_with_len 0 c.args.count) (omega (arith, length-range 0 c.args.count)) in (
+    take_all c.loop-i.i (range_with_len 0 c.args.count) (omega (arith, length_range 0 c.args.count)) in (
       subst (λ (xs : List ℕ). HasPut g.W.Sink.bytes_taken c.args.writer.now c.loop-i.writer c.args.pending.now c.loop-i.pending
           (flat_map f xs)) all c.loop-i.invariant.put,
       search rules,

@@ -3,7 +3,7 @@ use Rattle.std.proofs.lemmas.Result.{err_from_is_err_and}
 use Rattle.std.proofs.lemmas.Option.{slice_get-get_or}
 use Rattle.px_bytes.specs.lemmas.WaitingLaws.{owed_more, owed_stop}
 use Rattle.px_text.specs.Captions.{escaped_byte}
-use Rattle.px_text.proofs.Chains.{all_put, can_fail, fails, none_yet}
+use Rattle.px_text.proofs.Chains.{all_put, can_fail, failures_suc, none_yet}
 use Rattle.px_text.proofs.caption_lines.put_escaped.Goals as goal
 
 pub returns-in_err-put_byte : goal.returns-in_err-put_byte
@@ -12,7 +12,7 @@ returns-in_err-put_byte g c =
     rw p.1 (
       owed_stop escaped_byte c.args.bytes.now c.loop-i.i _ (slice_get-get_or c.args.bytes.now c.loop-i.i 0 c.loop-i-test.true)
           _ _ _ c.args.pending.now c.loop-i.pending c.loop-i.invariant.owes c.in_err-put_byte.ensures.0,
-      fails _ _ _ c.loop-i.invariant.count c.in_err-put_byte.ensures.1,
+      failures_suc _ _ _ c.loop-i.invariant.count c.in_err-put_byte.ensures.1,
     )
 
 pub loop-i-preserved : goal.loop-i-preserved

@@ -5,7 +5,7 @@ use Rattle.px_tree.specs.Roles.{at_tag}
 use Rattle.px_text.specs.declared.labels.Label.TheVariants.{Description, Artist, Copyright}
 use Rattle.px_text.specs.Captions.{text_captions, caption_lines, exif_captions}
 use Rattle.px_text.proofs.Parts.{three_lines}
-use Rattle.px_text.proofs.Chains.{next, prefix_as, puts_as, stop}
+use Rattle.px_text.proofs.Chains.{owes_append, prefix_as, puts_as, owes_prefix}
 use Rattle.px_text.proofs.caption_lines.put_exif.Goals as goal
 
 pub returns-in_err-put_text : goal.returns-in_err-put_text
@@ -34,7 +34,8 @@ returns-in_err-put_text-2 g c =
     rw p.1 (
       prefix_as _ _ held _ _ (three_lines (text_captions Description (at_tag 0x010E c.args.fields.now)) (text_captions Artist
           (at_tag 0x013B c.args.fields.now)) (text_captions Copyright (at_tag 0x8298 c.args.fields.now))) (puts_first _ _ held (first ++
-          second) third (stop _ _ _ held c.put_text.new.pending first second c.in_ok-put_text.ensures.0 c.in_err-put_text-2.ensures.0)),
+          second) third (owes_prefix _ _ _ held c.put_text.new.pending first second c.in_ok-put_text.ensures.0
+              c.in_err-put_text-2.ensures.0)),
       search rules,
     )
 
@@ -48,7 +49,7 @@ returns g c =
       puts_as c.put_text-3.result _ _ held c.put_text-3.new.pending _ _ (three_lines (text_captions Description (at_tag 0x010E
           c.args.fields.now)) (text_captions Artist (at_tag 0x013B c.args.fields.now)) (text_captions Copyright (at_tag 0x8298
           c.args.fields.now))) (puts_both c.put_text-3.result _ _ _ held c.put_text-2.new.pending c.put_text-3.new.pending (first ++ second)
-          third (next _ _ _ held c.put_text.new.pending c.put_text-2.new.pending first second c.in_ok-put_text.ensures.0
+          third (owes_append _ _ _ held c.put_text.new.pending c.put_text-2.new.pending first second c.in_ok-put_text.ensures.0
           c.in_ok-put_text-2.ensures.0) c.put_text-3.ensures.0),
       search rules,
     )

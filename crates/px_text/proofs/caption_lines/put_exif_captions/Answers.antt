@@ -4,7 +4,7 @@ use Rattle.std.proofs.lemmas.Result.{err_from_is_err_and}
 use Rattle.px_bytes.specs.lemmas.WaitingLaws.{puts_both, puts_first}
 use Rattle.px_tree.specs.calls.Seen.{meaning_of}
 use Rattle.px_text.specs.Captions.{caption_lines, exif_captions, record_lines}
-use Rattle.px_text.proofs.Chains.{next, stop}
+use Rattle.px_text.proofs.Chains.{owes_append, owes_prefix}
 use Rattle.px_text.proofs.caption_lines.put_exif_captions.Goals as goal
 
 pub returns-in_err-put : goal.returns-in_err-put
@@ -25,7 +25,7 @@ returns-in_err-put_exif g c =
     let second = caption_lines (exif_captions (meaning_of c.args.meaning.now).main) in
     let third = record_lines (meaning_of c.args.meaning.now).iptc in
     rw p.1 (
-      puts_first _ _ held (codes "exif\n" ++ second) third (stop _ _ _ held c.put.new.self (codes "exif\n") second
+      puts_first _ _ held (codes "exif\n" ++ second) third (owes_prefix _ _ _ held c.put.new.self (codes "exif\n") second
           c.in_ok-put.ensures.bytes c.in_err-put_exif.ensures.0),
       search rules,
     )
@@ -35,7 +35,8 @@ returns g c =
     let held = c.args.pending.now in
     let second = caption_lines (exif_captions (meaning_of c.args.meaning.now).main) in
     let third = record_lines (meaning_of c.args.meaning.now).iptc in (
-      puts_both c.put_record.result _ _ _ held c.put_exif.new.pending c.put_record.new.pending (codes "exif\n" ++ second) third (next _ _ _
+      puts_both c.put_record.result _ _ _ held c.put_exif.new.pending c.put_record.new.pending (codes "exif\n" ++ second) third
+          (owes_append _ _ _
           held c.put.new.self c.put_exif.new.pending (codes "exif\n") second c.in_ok-put.ensures.bytes c.in_ok-put_exif.ensures.0)
           c.put_record.ensures.0,
       search rules,

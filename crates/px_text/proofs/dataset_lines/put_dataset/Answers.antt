@@ -4,7 +4,7 @@ use Rattle.std.proofs.lemmas.Result.{err_from_is_err_and}
 use Rattle.px_bytes.specs.lemmas.WaitingLaws.{puts_both, puts_first}
 use Rattle.px_text.specs.Words.{sized_bytes}
 use Rattle.px_text.specs.Listing.{dataset_line}
-use Rattle.px_text.proofs.Chains.{next, stop}
+use Rattle.px_text.proofs.Chains.{owes_append, owes_prefix}
 use Rattle.px_text.proofs.dataset_lines.put_dataset.Goals as goal
 
 pub returns-in_err-put_ended : goal.returns-in_err-put_ended
@@ -26,7 +26,7 @@ returns-in_err-put_decimal g c =
     let second = decimal c.args.item.now.number in
     let third = sized_bytes c.args.item.now.octets.now in
     rw p.1 (
-      puts_first _ _ held (first ++ second) third (stop _ _ _ held c.put_ended.new.pending first second
+      puts_first _ _ held (first ++ second) third (owes_prefix _ _ _ held c.put_ended.new.pending first second
           c.in_ok-put_ended.ensures.0 c.in_err-put_decimal.ensures.0),
       search rules,
     )
@@ -39,7 +39,7 @@ returns g c =
     let second = decimal c.args.item.now.number in
     let third = sized_bytes c.args.item.now.octets.now in (
       puts_both c.put_sized.result _ _ _ held c.put_decimal.new.pending c.put_sized.new.pending (first ++ second) third
-          (next _ _ _ held c.put_ended.new.pending c.put_decimal.new.pending first second c.in_ok-put_ended.ensures.0
+          (owes_append _ _ _ held c.put_ended.new.pending c.put_decimal.new.pending first second c.in_ok-put_ended.ensures.0
           c.in_ok-put_decimal.ensures.0) c.put_sized.ensures.0,
       search rules,
     )

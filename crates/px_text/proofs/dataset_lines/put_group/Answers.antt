@@ -5,7 +5,7 @@ use Rattle.px_bytes.specs.lemmas.WaitingLaws.{owed_more, owed_stop}
 use Rattle.px_iim.specs.calls.View.{item_view}
 use Rattle.px_text.specs.Listing.{dataset_line}
 use Rattle.px_text.proofs.Parts.{read_at}
-use Rattle.px_text.proofs.Chains.{all_put, can_fail, fails, none_yet}
+use Rattle.px_text.proofs.Chains.{all_put, can_fail, failures_suc, none_yet}
 use Rattle.px_text.proofs.dataset_lines.put_group.Goals as goal
 
 pub returns-in_err-put_dataset : goal.returns-in_err-put_dataset
@@ -15,7 +15,7 @@ returns-in_err-put_dataset g c =
       owed_stop (dataset_line c.args.rec) (map item_view c.args.items.now) c.loop-item.item-index _ (read_at item_view
           c.args.items.now c.loop-item.item-index _ c.loop-item-test.true)
           _ _ _ c.args.pending.now c.loop-item.pending c.loop-item.invariant.owes c.in_err-put_dataset.ensures.0,
-      fails _ _ _ c.loop-item.invariant.count c.in_err-put_dataset.ensures.1,
+      failures_suc _ _ _ c.loop-item.invariant.count c.in_err-put_dataset.ensures.1,
     )
 
 pub loop-item-preserved : goal.loop-item-preserved

@@ -4,7 +4,7 @@ use Rattle.std.specs.Prelude.{codes}
 use Rattle.px_bytes.specs.lemmas.WaitingLaws.{owed_more, owed_stop}
 use Rattle.px_field.specs.declared.Element.{Element}
 use Rattle.px_text.specs.Listing.{element_text}
-use Rattle.px_text.proofs.Chains.{all_put, can_fail, fails, none_yet}
+use Rattle.px_text.proofs.Chains.{all_put, can_fail, failures_suc, none_yet}
 use Rattle.px_text.proofs.field_lines.put_elements.Goals as goal
 
 pub returns-in_err-put_apart : goal.returns-in_err-put_apart
@@ -14,7 +14,7 @@ returns-in_err-put_apart g c =
       owed_stop (λ (e : Element). codes " " ++ element_text e) c.args.value.now.elements c.loop-i.i c.element.result
           c.element.ensures.element
           _ _ _ c.args.pending.now c.loop-i.pending c.loop-i.invariant.owes c.in_err-put_apart.ensures.0,
-      fails _ _ _ c.loop-i.invariant.count c.in_err-put_apart.ensures.1,
+      failures_suc _ _ _ c.loop-i.invariant.count c.in_err-put_apart.ensures.1,
     )
 
 pub loop-i-preserved : goal.loop-i-preserved

@@ -6,7 +6,7 @@ use Rattle.px_bytes.specs.lemmas.WaitingLaws.{puts_both, puts_first}
 use Rattle.px_bytes.specs.declared.Order.TheVariants.{Most}
 use Rattle.px_bytes.specs.Numbers.{spelling}
 use Rattle.px_text.specs.Listing.{type_word, shown_elements, field_line}
-use Rattle.px_text.proofs.Chains.{next, stop}
+use Rattle.px_text.proofs.Chains.{owes_append, owes_prefix}
 use Rattle.px_text.proofs.field_lines.put_field.Goals as goal
 
 pub returns-in_err-put_head : goal.returns-in_err-put_head
@@ -28,7 +28,7 @@ returns-in_err-put_value g c =
     c.args.value.now.elements) ++ codes ":" in
     let second = shown_elements c.args.value.now.kind c.args.value.now.elements in
     rw p.1 (
-      puts_first _ _ held (first ++ second) (codes "\n") (stop _ _ _ held c.put_head.new.pending first second
+      puts_first _ _ held (first ++ second) (codes "\n") (owes_prefix _ _ _ held c.put_head.new.pending first second
           c.in_ok-put_head.ensures.0 c.in_err-put_value.ensures.0),
       search rules,
     )
@@ -40,7 +40,7 @@ returns g c =
     let first = encode_lower (spelling Most 2 c.args.tag) ++ codes " " ++ type_word c.args.value.now.kind ++ codes " " ++ decimal (length
     c.args.value.now.elements) ++ codes ":" in
     let second = shown_elements c.args.value.now.kind c.args.value.now.elements in (
-      puts_both c.put.result _ _ _ held c.put_value.new.pending c.put.new.self (first ++ second) (codes "\n") (next _ _ _ held
+      puts_both c.put.result _ _ _ held c.put_value.new.pending c.put.new.self (first ++ second) (codes "\n") (owes_append _ _ _ held
           c.put_head.new.pending c.put_value.new.pending first second c.in_ok-put_head.ensures.0 c.in_ok-put_value.ensures.0)
           c.put.ensures.bytes,
       search rules,

@@ -3,7 +3,7 @@ use Rattle.std.proofs.lemmas.Result.{err_from_is_err_and}
 use Rattle.px_bytes.specs.lemmas.WaitingLaws.{owed_more, owed_stop}
 use Rattle.px_field.specs.Values.{Value}
 use Rattle.px_text.specs.Listing.{field_line}
-use Rattle.px_text.proofs.Chains.{all_put, can_fail, fails, none_yet}
+use Rattle.px_text.proofs.Chains.{all_put, can_fail, failures_suc, none_yet}
 use Rattle.px_text.proofs.field_lines.put_fields.Goals as goal
 
 pub returns-in_err-put_field : goal.returns-in_err-put_field
@@ -12,7 +12,7 @@ returns-in_err-put_field g c =
     rw p.1 (
       owed_stop {X = ℕ × Value} field_line c.args.fields.now c.loop-i.i (c.at-tag.result.0, c.at-tag.result.1.now) c.at-tag.ensures
           _ _ _ c.args.pending.now c.loop-i.pending c.loop-i.invariant.owes c.in_err-put_field.ensures.0,
-      fails _ _ _ c.loop-i.invariant.count c.in_err-put_field.ensures.1,
+      failures_suc _ _ _ c.loop-i.invariant.count c.in_err-put_field.ensures.1,
     )
 
 pub loop-i-preserved : goal.loop-i-preserved

@@ -7,7 +7,7 @@ use Rattle.px_bytes.specs.declared.Order.TheVariants.{Most}
 use Rattle.px_bytes.specs.Numbers.{spelling}
 use Rattle.px_field.specs.declared.Kind.{Kind}
 use Rattle.px_text.specs.Listing.{type_word}
-use Rattle.px_text.proofs.Chains.{next, owes_as, prefix_as, puts_as, stop}
+use Rattle.px_text.proofs.Chains.{owes_append, owes_as, prefix_as, puts_as, owes_prefix}
 use Rattle.px_text.proofs.Parts.{head_whole}
 use Rattle.px_text.proofs.field_lines.put_head.Goals as goal
 
@@ -35,7 +35,7 @@ returns-in_err-put g c =
     let whole = head_whole first (type_word c.args.value.now.kind) (decimal (length c.args.value.now.elements)) in
     let word = c.type_word.ensures ∙ ap (λ (k : Kind). codes " " ++ type_word k ++ codes " ") c.kind.ensures.kind in
     rw p.1 (
-      prefix_as _ _ held _ _ whole (puts_first _ _ held (first ++ second) third (stop _ _ _ held
+      prefix_as _ _ held _ _ whole (puts_first _ _ held (first ++ second) third (owes_prefix _ _ _ held
           c.put_digits16.new.pending first second c.in_ok-put_digits16.ensures.0
           (prefix_as _ _ c.put_digits16.new.pending _ _ word c.in_err-put.ensures.bytes))),
       search rules,
@@ -51,7 +51,7 @@ returns g c =
     let word = c.type_word.ensures ∙ ap (λ (k : Kind). codes " " ++ type_word k ++ codes " ") c.kind.ensures.kind in
     let count = ap (λ (n : ℕ). decimal n ++ codes ":") c.count.ensures.count in (
       puts_as c.put_ended.result _ _ held c.put_ended.new.pending _ _ whole (puts_both c.put_ended.result _ _ _ held c.put.new.self
-          c.put_ended.new.pending (first ++ second) third (next _ _ _ held c.put_digits16.new.pending c.put.new.self first second
+          c.put_ended.new.pending (first ++ second) third (owes_append _ _ _ held c.put_digits16.new.pending c.put.new.self first second
           c.in_ok-put_digits16.ensures.0 (owes_as _ _ c.put_digits16.new.pending c.put.new.self _ _ word c.in_ok-put.ensures.bytes))
           (puts_as c.put_ended.result _ _ c.put.new.self c.put_ended.new.pending _ _ count c.put_ended.ensures.0)),
       search rules,

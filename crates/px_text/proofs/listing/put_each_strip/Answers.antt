@@ -2,7 +2,7 @@ use Rattle.std.proofs.Common.{◌∙◌, [], refl, arith}
 use Rattle.std.proofs.lemmas.Result.{err_from_is_err_and}
 use Rattle.px_bytes.specs.lemmas.WaitingLaws.{owed_more, owed_stop}
 use Rattle.px_text.specs.Listing.{strip_line}
-use Rattle.px_text.proofs.Chains.{all_put, can_fail, fails, none_yet}
+use Rattle.px_text.proofs.Chains.{all_put, can_fail, failures_suc, none_yet}
 use Rattle.px_text.proofs.listing.put_each_strip.Goals as goal
 
 pub returns-in_err-put_part : goal.returns-in_err-put_part
@@ -11,7 +11,7 @@ returns-in_err-put_part g c =
     rw p.1 (
       owed_stop strip_line c.args.strips.now c.loop-i.i c.at.result.now c.at.ensures
           _ _ _ c.args.pending.now c.loop-i.pending c.loop-i.invariant.owes c.in_err-put_part.ensures.0,
-      fails _ _ _ c.loop-i.invariant.count c.in_err-put_part.ensures.1,
+      failures_suc _ _ _ c.loop-i.invariant.count c.in_err-put_part.ensures.1,
     )
 
 pub loop-i-preserved : goal.loop-i-preserved

@@ -4,7 +4,7 @@ use Rattle.std.proofs.lemmas.Result.{err_from_is_err_and}
 use Rattle.px_bytes.specs.lemmas.WaitingLaws.{puts_both, puts_first}
 use Rattle.px_tree.specs.calls.Seen.{meaning_of}
 use Rattle.px_text.specs.Listing.{field_lines, record_lines, exif_lines, directory_lines, thumb_lines, exif_listing}
-use Rattle.px_text.proofs.Chains.{next, stop}
+use Rattle.px_text.proofs.Chains.{owes_append, owes_prefix}
 use Rattle.px_text.proofs.listing.put_exif_listing.Goals as goal
 
 pub returns-in_err-put_main : goal.returns-in_err-put_main
@@ -34,7 +34,7 @@ returns-in_err-put_exif g c =
     let third = directory_lines (codes "[gps]\n") (meaning_of c.args.meaning.now).gps in
     let fourth = thumb_lines (meaning_of c.args.meaning.now).thumb in
     rw p.1 (
-      puts_first _ _ held (first ++ second ++ third) fourth (puts_first _ _ held (first ++ second) third (stop _ _ _ held
+      puts_first _ _ held (first ++ second ++ third) fourth (puts_first _ _ held (first ++ second) third (owes_prefix _ _ _ held
           c.put_main.new.pending first second c.in_ok-put_main.ensures.0 c.in_err-put_exif.ensures.0)),
       search rules,
     )
@@ -50,7 +50,8 @@ returns-in_err-put_directory g c =
     let third = directory_lines (codes "[gps]\n") (meaning_of c.args.meaning.now).gps in
     let fourth = thumb_lines (meaning_of c.args.meaning.now).thumb in
     rw p.1 (
-      puts_first _ _ held (first ++ second ++ third) fourth (stop _ _ _ held c.put_exif.new.pending (first ++ second) third (next _
+      puts_first _ _ held (first ++ second ++ third) fourth (owes_prefix _ _ _ held c.put_exif.new.pending (first ++ second) third
+          (owes_append _
           _ _ held c.put_main.new.pending c.put_exif.new.pending first second c.in_ok-put_main.ensures.0 c.in_ok-put_exif.ensures.0)
           c.in_err-put_directory.ensures.0),
       search rules,
@@ -65,8 +66,9 @@ returns g c =
     let second = exif_lines (meaning_of c.args.meaning.now).exif in
     let third = directory_lines (codes "[gps]\n") (meaning_of c.args.meaning.now).gps in
     let fourth = thumb_lines (meaning_of c.args.meaning.now).thumb in (
-      puts_both c.put_thumb.result _ _ _ held c.put_directory.new.pending c.put_thumb.new.pending (first ++ second ++ third) fourth (next _
-          _ _ held c.put_exif.new.pending c.put_directory.new.pending (first ++ second) third (next _ _ _ held c.put_main.new.pending
+      puts_both c.put_thumb.result _ _ _ held c.put_directory.new.pending c.put_thumb.new.pending (first ++ second ++ third) fourth
+          (owes_append _
+          _ _ held c.put_exif.new.pending c.put_directory.new.pending (first ++ second) third (owes_append _ _ _ held c.put_main.new.pending
           c.put_exif.new.pending first second c.in_ok-put_main.ensures.0 c.in_ok-put_exif.ensures.0)
           c.in_ok-put_directory.ensures.0) c.put_thumb.ensures.0,
       search rules,

@@ -1,7 +1,7 @@
 use Rattle.std.proofs.lemmas.Result.{err_from_is_err_and}
 use Rattle.px_bytes.specs.lemmas.WaitingLaws.{puts_both, puts_first}
 use Rattle.px_text.specs.Listing.{field_lines}
-use Rattle.px_text.proofs.Chains.{can_fail, counts}
+use Rattle.px_text.proofs.Chains.{can_fail, counts_from_eq}
 use Rattle.px_text.proofs.listing.put_titled.Goals as goal
 
 pub returns : goal.returns
@@ -10,7 +10,7 @@ returns g c =
     let second = field_lines c.args.fields.now in (
       puts_both c.put_fields.result _ _ _ held c.put.new.self c.put_fields.new.pending c.args.name.now second c.in_ok-put.ensures.bytes
           c.put_fields.ensures.0,
-      counts c.put_fields.result _ _ _ c.in_ok-put.ensures.count c.put_fields.ensures.1,
+      counts_from_eq c.put_fields.result _ _ _ c.in_ok-put.ensures.count c.put_fields.ensures.1,
     )
 
 pub put-requires : goal.put-requires

@@ -3,7 +3,7 @@ use Rattle.std.specs.Prelude.{codes, decimal}
 use Rattle.std.proofs.lemmas.Result.{err_from_is_err_and}
 use Rattle.px_bytes.specs.lemmas.WaitingLaws.{puts_both, puts_first}
 use Rattle.px_text.specs.Words.{shown_bytes, sized_bytes}
-use Rattle.px_text.proofs.Chains.{next, stop}
+use Rattle.px_text.proofs.Chains.{owes_append, owes_prefix}
 use Rattle.px_text.proofs.texts.put_sized.Goals as goal
 
 pub returns-in_err-put_number : goal.returns-in_err-put_number
@@ -26,7 +26,7 @@ returns-in_err-put_shown g c =
     let first = codes " " ++ decimal (length c.args.bytes.now) ++ codes ":" in
     let second = shown_bytes c.args.bytes.now in
     rw p.1 (
-      puts_first _ _ held (first ++ second) (codes "\n") (stop _ _ _ held c.put_number.new.pending first second
+      puts_first _ _ held (first ++ second) (codes "\n") (owes_prefix _ _ _ held c.put_number.new.pending first second
           c.in_ok-put_number.ensures.0 c.in_err-put_shown.ensures.0),
       search rules,
     )
@@ -37,7 +37,7 @@ returns g c =
     let held = c.args.pending.now in
     let first = codes " " ++ decimal (length c.args.bytes.now) ++ codes ":" in
     let second = shown_bytes c.args.bytes.now in (
-      puts_both c.put.result _ _ _ held c.put_shown.new.pending c.put.new.self (first ++ second) (codes "\n") (next _ _ _ held
+      puts_both c.put.result _ _ _ held c.put_shown.new.pending c.put.new.self (first ++ second) (codes "\n") (owes_append _ _ _ held
           c.put_number.new.pending c.put_shown.new.pending first second c.in_ok-put_number.ensures.0 c.in_ok-put_shown.ensures.0)
           c.put.ensures.bytes,
       search rules,

@@ -1,13 +1,13 @@
 use Rattle.std.proofs.Common.{ap, List, ℕ, length, ◌≡◌, ◌∙◌, arith}
 use Rattle.px_bytes.specs.Parts.{part}
-use Rattle.px_bytes.specs.lemmas.PartLaws.{length-part}
+use Rattle.px_bytes.specs.lemmas.PartLaws.{length_part}
 use Rattle.px_tree.specs.Entry.{entry, short, long}
 use Rattle.px_tree.proofs.entries.head_at.Goals as goal
 
 pub number32-requires-2 : goal.number32-requires-2
 number32-requires-2 c =
     let twelve : length c.part_of-bytes.result.now ≡ 12 =
-    ap (λ (x : List ℕ). length x) c.part_of-bytes.ensures ∙ length-part c.args.block.now c.args.at 12 c.requires.inside in
+    ap (λ (x : List ℕ). length x) c.part_of-bytes.ensures ∙ length_part c.args.block.now c.args.at 12 c.requires.inside in
     omega arith
 
 pub returns : goal.returns

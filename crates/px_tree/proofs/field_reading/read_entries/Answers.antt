@@ -11,7 +11,7 @@ use Rattle.px_tree.specs.calls.Places.{tags}
 use Rattle.px_tree.specs.calls.Reading.{entries_from}
 use Rattle.px_tree.proofs.writable.Kept.{rising_kept, precede_kept}
 use Rattle.px_tree.proofs.reading.KeptUses.{UsesSoFar, uses_start, uses_step, uses_end}
-use Rattle.px_tree.proofs.reading.Loop.{SoFar, so_far_start, so_far_step, so_far_refuses, so_far_end, fields_step, field-is}
+use Rattle.px_tree.proofs.reading.Loop.{SoFar, so_far_start, so_far_step, so_far_refuses, so_far_end, fields_step, field_is}
 use Rattle.px_tree.proofs.field_reading.read_entries.Goals as goal
 
 pub loop-init : goal.loop-init
@@ -76,7 +76,7 @@ loop-preserved c =
       precede = precede_kept c.loop.fields _ s.head.tag x kept below;
       fields =
           ap (λ (l : Fields). l ++ rest) (kept ∙ ap (λ (y : Option (ℕ × Value)). c.loop.fields ++ option_to_list y)
-          (ap (λ (t : ℕ). option_map (λ (v : Value). (t, v)) x) shape.head.tag ∙ sym (field-is b o d s e shape)))
+          (ap (λ (t : ℕ). option_map (λ (v : Value). (t, v)) x) shape.head.tag ∙ sym (field_is b o d s e shape)))
           ∙ append_assoc c.loop.fields (option_to_list (field b o d e)) rest
           ∙ ap (λ (l : Fields). c.loop.fields ++ l) (sym (fields_step b o d c.loop.at _ _ step))
           ∙ c.loop.invariant.fields;

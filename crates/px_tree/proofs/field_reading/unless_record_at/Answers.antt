@@ -2,16 +2,16 @@ use Rattle.std.proofs.Common.{List, ℕ, Some, ap, ◌∙◌, sym}
 use Rattle.std.specs.Prelude.{is_some}
 use Rattle.px_field.specs.Values.{Value}
 use Rattle.px_tree.specs.Entry.{record_in}
-use Rattle.px_tree.proofs.reading.Raw.{unless-some, unless-none}
+use Rattle.px_tree.proofs.reading.Raw.{unless_some, unless_none}
 use Rattle.px_tree.proofs.field_reading.unless_record_at.Goals as goal
 
 pub returns-then-says_record : goal.returns-then-says_record
 returns-then-says_record c =
-    sym (unless-some _ _ (ap (λ (x : List ℕ). is_some (record_in c.args.form x)) (sym c.raw_of.ensures.bytes) ∙ sym c.says_record.ensures
+    sym (unless_some _ _ (ap (λ (x : List ℕ). is_some (record_in c.args.form x)) (sym c.raw_of.ensures.bytes) ∙ sym c.says_record.ensures
     ∙ c.if-says_record.true))
 
 pub returns : goal.returns
 returns c =
     ap (λ (v : Value). Some v) c.value_at.ensures
-    ∙ sym (unless-none _ _ (ap (λ (x : List ℕ). is_some (record_in c.args.form x)) (sym c.raw_of.ensures.bytes) ∙ sym c.says_record.ensures
+    ∙ sym (unless_none _ _ (ap (λ (x : List ℕ). is_some (record_in c.args.form x)) (sym c.raw_of.ensures.bytes) ∙ sym c.says_record.ensures
     ∙ c.if-says_record.false))

@@ -2,28 +2,28 @@ use Rattle.std.proofs.Common.{[], ◌∷◌, option_map, refl, ap, ◌∙◌, �
 use Rattle.std.proofs.lemmas.Result.{err_from_is_err_and}
 use Rattle.px_bytes.specs.declared.Cause.TheVariants.{Overlap}
 use Rattle.px_bytes.specs.Range.{range, is_free}
-use Rattle.px_bytes.specs.lemmas.RangeLaws.{agrees-none}
+use Rattle.px_bytes.specs.lemmas.RangeLaws.{agrees_none}
 use Rattle.px_bytes.specs.Checks.{check}
-use Rattle.px_bytes.specs.lemmas.CheckLaws.{Refuses-none}
+use Rattle.px_bytes.specs.lemmas.CheckLaws.{Refuses_none}
 use Rattle.px_tree.specs.declared.tables.Directory.{Directory}
 use Rattle.px_tree.specs.Directory.{dirs}
 use Rattle.px_tree.specs.Says.{record_at}
 use Rattle.px_tree.specs.Checks.{dirs_held}
 use Rattle.px_tree.proofs.saying.Assembled.{thumb_read, main_each, dirs_refuse_tree, thumb_refuses_tree, tree_true, all_in_order}
-use Rattle.px_tree.proofs.saying.Assembled.{meaning-is}
+use Rattle.px_tree.proofs.saying.Assembled.{meaning_is}
 use Rattle.px_tree.proofs.read.read_tree.Goals as goal
 
 pub returns-in_err-hold-clause-judged : goal.returns-in_err-hold-clause-judged
 returns-in_err-hold-clause-judged c =
     let p = err_from_is_err_and c.from_residual-in_err-hold.result c.from_residual-in_err-hold.ensures.1 in
-    let a = agrees-none _ c.in_ok-held.ensures.none in
-    rw (p.1, p.2) (Refuses-none c.in_err-hold.field-0.0 (check Overlap 0 (is_free [] (range 0 8)) ∷ []) _ refl
+    let a = agrees_none _ c.in_ok-held.ensures.none in
+    rw (p.1, p.2) (Refuses_none c.in_err-hold.field-0.0 (check Overlap 0 (is_free [] (range 0 8)) ∷ []) _ refl
     (c.in_err-hold.ensures.judged [] a))
 
 pub returns-in_err-directories-clause-judged : goal.returns-in_err-directories-clause-judged
 returns-in_err-directories-clause-judged c =
     let p = err_from_is_err_and c.from_residual-in_err-directories.result c.from_residual-in_err-directories.ensures.1 in
-    let h = (c.in_ok-hold.ensures.judged [] (agrees-none _ c.in_ok-held.ensures.none)).1 in
+    let h = (c.in_ok-hold.ensures.judged [] (agrees_none _ c.in_ok-held.ensures.none)).1 in
     rw (p.1, p.2) (dirs_refuse_tree c.args.block.now c.args.order c.in_err-directories.field-0.0
     (c.in_err-directories.ensures.judged (range 0 8 ∷ []) h))
 
@@ -31,7 +31,7 @@ pub read_thumb-requires-clause-read : goal.read_thumb-requires-clause-read
 read_thumb-requires-clause-read c =
     let b = c.args.block.now in
     let o = c.args.order in
-    let h = (c.in_ok-hold.ensures.judged [] (agrees-none _ c.in_ok-held.ensures.none)).1 in
+    let h = (c.in_ok-hold.ensures.judged [] (agrees_none _ c.in_ok-held.ensures.none)).1 in
     let d = c.in_ok-directories.ensures.judged (range 0 8 ∷ []) h in
     thumb_read b o c.in_ok-directories.directories.thumb d.1.0.thumb_read d.1.0.thumb (all_in_order b o d.0).1.1.1.1.0
 
@@ -40,7 +40,7 @@ returns-in_err-thumb-clause-judged c =
     let p = err_from_is_err_and c.from_residual-in_err-thumb.result c.from_residual-in_err-thumb.ensures.1 in
     let b = c.args.block.now in
     let o = c.args.order in
-    let h = (c.in_ok-hold.ensures.judged [] (agrees-none _ c.in_ok-held.ensures.none)).1 in
+    let h = (c.in_ok-hold.ensures.judged [] (agrees_none _ c.in_ok-held.ensures.none)).1 in
     let d = c.in_ok-directories.ensures.judged (range 0 8 ∷ []) h in
     rw (p.1, p.2) (thumb_refuses_tree b o (option_map (λ (t : Directory). t.at) c.in_ok-directories.directories.thumb)
     d.1.0.thumb_read.stands d.0 c.in_err-thumb.field-0.0
@@ -48,14 +48,14 @@ returns-in_err-thumb-clause-judged c =
 
 pub read_record-requires-clause-uses : goal.read_record-requires-clause-uses
 read_record-requires-clause-uses c =
-    let h = (c.in_ok-hold.ensures.judged [] (agrees-none _ c.in_ok-held.ensures.none)).1 in
+    let h = (c.in_ok-hold.ensures.judged [] (agrees_none _ c.in_ok-held.ensures.none)).1 in
     (c.in_ok-directories.ensures.judged (range 0 8 ∷ []) h).1.0.main_uses
 
 pub read_record-requires-clause-each : goal.read_record-requires-clause-each
 read_record-requires-clause-each c =
     let b = c.args.block.now in
     let o = c.args.order in
-    let h = (c.in_ok-hold.ensures.judged [] (agrees-none _ c.in_ok-held.ensures.none)).1 in
+    let h = (c.in_ok-hold.ensures.judged [] (agrees_none _ c.in_ok-held.ensures.none)).1 in
     let d = c.in_ok-directories.ensures.judged (range 0 8 ∷ []) h in
     main_each b o c.in_ok-directories.directories.main.at d.1.0.main_stands (all_in_order b o d.0).0
 
@@ -63,13 +63,13 @@ pub returns-clause-judged : goal.returns-clause-judged
 returns-clause-judged c =
     let b = c.args.block.now in
     let o = c.args.order in
-    let h = (c.in_ok-hold.ensures.judged [] (agrees-none _ c.in_ok-held.ensures.none)).1 in
+    let h = (c.in_ok-hold.ensures.judged [] (agrees_none _ c.in_ok-held.ensures.none)).1 in
     let d = c.in_ok-directories.ensures.judged (range 0 8 ∷ []) h in
     let seen = d.1.0 in
     let t = c.in_ok-thumb.ensures.judged (dirs_held b o (range 0 8 ∷ []) dirs) d.1.1 in
     let a = option_map (λ (t : Directory). t.at) c.in_ok-directories.directories.thumb in (
       tree_true b o a seen.thumb_read.stands d.0 t.0,
-      meaning-is b o _ _ _ _ _ c.fields_in.result c.fields_in-2.result a
+      meaning_is b o _ _ _ _ _ c.fields_in.result c.fields_in-2.result a
           seen.main
           (c.in_ok-iptc.ensures.ok ∙ ap (λ (n : ℕ). record_at b o n) seen.main_stands)
           c.exif_in.ensures

@@ -6,7 +6,7 @@ use Rattle.px_tree.specs.Roles.{record_tag}
 use Rattle.px_tree.specs.Iim.{Iim}
 use Rattle.px_tree.specs.calls.Parts.{Finds, entry_here}
 use Rattle.px_tree.proofs.lists.Listed.{has_value}
-use Rattle.px_tree.proofs.saying.Assembled.{record-is}
+use Rattle.px_tree.proofs.saying.Assembled.{record_is}
 use Rattle.px_tree.proofs.records.read_record.Goals as goal
 
 pub record_found-requires : goal.record_found-requires
@@ -24,11 +24,11 @@ returns-in-Some-clause-ok c =
     let a = c.args.directory.now.at in
     let found = subst (λ (x : Option Found). Finds b o a record_tag x) c.in-Some.is c.requires.uses.iptc in
     subst (λ (x : Option Iim). IfOk c.record_found.result (λ r. r ≡ x)) (sym
-    (record-is b o a (Some (entry_here b o c.in-Some.found)) found.is)) c.record_found.ensures.ok
+    (record_is b o a (Some (entry_here b o c.in-Some.found)) found.is)) c.record_found.ensures.ok
 
 pub returns-in-None-clause-ok : goal.returns-in-None-clause-ok
 returns-in-None-clause-ok c =
     let b = c.args.block.now in
     let o = c.args.order in
     let a = c.args.directory.now.at in
-    sym (record-is b o a None (subst (λ (x : Option Found). Finds b o a record_tag x) c.in-None.is c.requires.uses.iptc))
+    sym (record_is b o a None (subst (λ (x : Option Found). Finds b o a record_tag x) c.in-None.is c.requires.uses.iptc))

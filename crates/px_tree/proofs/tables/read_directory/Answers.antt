@@ -2,13 +2,13 @@ use Rattle.std.proofs.Common.{◌+◌, ◌∷◌, None, sym, ap, subst, ◌∙�
 use Rattle.std.proofs.lemmas.Result.{err_from_is_err_and}
 use Rattle.px_bytes.specs.Range.{range}
 use Rattle.px_bytes.specs.Checks.{first_false, Refuses}
-use Rattle.px_bytes.specs.lemmas.CheckLaws.{Refuses-more, Refuses-behind, all_true}
+use Rattle.px_bytes.specs.lemmas.CheckLaws.{Refuses_more, Refuses_behind, all_true}
 use Rattle.px_tree.specs.Entry.{table_size}
 use Rattle.px_tree.specs.Directory.{entries_at}
 use Rattle.px_tree.specs.Footprint.{table_range}
 use Rattle.px_tree.specs.Checks.{opening_checks, entries_checks}
 use Rattle.px_tree.specs.calls.Linked.{offsets_of}
-use Rattle.px_tree.proofs.reading.Standing.{entries_checks-is, fields-is, ranges-is, uses-is, dir_checks-parts}
+use Rattle.px_tree.proofs.reading.Standing.{entries_checks_is, fields_is, ranges_is, uses_is, dir_checks_parts}
 use Rattle.px_tree.proofs.tables.read_directory.Goals as goal
 
 pub returns-in_err-count-clause-judged : goal.returns-in_err-count-clause-judged
@@ -20,8 +20,8 @@ returns-in_err-count-clause-judged c = λ taken a.
     let es = offsets_of c.args.earlier.now in
     let l = c.args.link in
     let r = c.in_err-count.field-0.0 in
-    rw (p.1, p.2) (subst (Refuses r) (sym (dir_checks-parts b o d es taken l.place l.at))
-    (Refuses-more r (opening_checks b o es taken l.place l.at) _ (c.in_err-count.ensures.judged taken a)))
+    rw (p.1, p.2) (subst (Refuses r) (sym (dir_checks_parts b o d es taken l.place l.at))
+    (Refuses_more r (opening_checks b o es taken l.place l.at) _ (c.in_err-count.ensures.judged taken a)))
 
 pub returns-in_err-entries-clause-judged : goal.returns-in_err-entries-clause-judged
 returns-in_err-entries-clause-judged c = λ taken a.
@@ -35,9 +35,9 @@ returns-in_err-entries-clause-judged c = λ taken a.
     let t = c.in_ok-count.ensures.there in
     let k = c.in_ok-count.ensures.judged taken a in
     let r = c.in_err-entries.field-0.0 in
-    rw (p.1, p.2) (subst (Refuses r) (sym (dir_checks-parts b o d es taken l.place l.at))
-    (Refuses-behind r (opening_checks b o es taken l.place l.at) _ k.0
-    (subst (Refuses r) (sym (entries_checks-is b o l.at n t d taken))
+    rw (p.1, p.2) (subst (Refuses r) (sym (dir_checks_parts b o d es taken l.place l.at))
+    (Refuses_behind r (opening_checks b o es taken l.place l.at) _ k.0
+    (subst (Refuses r) (sym (entries_checks_is b o l.at n t d taken))
     (c.in_err-entries.ensures.judged (range l.at (table_size n) ∷ taken) k.1))))
 
 pub returns-clause-judged : goal.returns-clause-judged
@@ -51,17 +51,17 @@ returns-clause-judged c = λ taken a.
     let t = c.in_ok-count.ensures.there in
     let k = c.in_ok-count.ensures.judged taken a in
     let j = c.in_ok-entries.ensures.judged (range l.at (table_size n) ∷ taken) k.1 in (
-      ap first_false (dir_checks-parts b o d es taken l.place l.at)
+      ap first_false (dir_checks_parts b o d es taken l.place l.at)
           ∙ all_true (opening_checks b o es taken l.place l.at) (entries_checks b o d (table_range b o l.at ∷ taken) (l.at + 2)
-          None (entries_at b o l.at)) k.0 (ap first_false (entries_checks-is b o l.at n t d taken) ∙ j.0),
+          None (entries_at b o l.at)) k.0 (ap first_false (entries_checks_is b o l.at n t d taken) ∙ j.0),
       (
-        j.1.0 ∙ sym (fields-is b o l.at n t d),
-        ranges-is b o l.at n t taken _ j.1.1,
+        j.1.0 ∙ sym (fields_is b o l.at n t d),
+        ranges_is b o l.at n t taken _ j.1.1,
       ),
     )
 
 pub returns-clause-uses : goal.returns-clause-uses
 returns-clause-uses c =
     let l = c.args.link in
-    uses-is c.args.source.now.block.now c.args.source.now.order l.at c.in_ok-count.count c.in_ok-count.ensures.there _
+    uses_is c.args.source.now.block.now c.args.source.now.order l.at c.in_ok-count.count c.in_ok-count.ensures.there _
     c.in_ok-entries.ensures.uses

@@ -3,7 +3,7 @@ use Rattle.std.specs.List.{AllByRecursion}
 use Rattle.std.proofs.lemmas.Result.{err_from_is_err_and}
 use Rattle.px_bytes.specs.Range.{Range, range}
 use Rattle.px_tree.specs.Thumbnail.{whole_number, ranges_of, IsInside}
-use Rattle.px_tree.proofs.reading.StripRanges.{ranges-next, ranges_step, ranges_refuse}
+use Rattle.px_tree.proofs.reading.StripRanges.{ranges_next, ranges_step, ranges_refuse}
 use Rattle.px_tree.proofs.thumbnail.claim_each.Goals as goal
 
 pub returns-in_err-claim-clause-judged : goal.returns-in_err-claim-clause-judged
@@ -11,7 +11,7 @@ returns-in_err-claim-clause-judged c = λ taken a.
     let p = err_from_is_err_and c.from_residual.result c.from_residual.ensures.1 in
     let xs = map whole_number c.args.lists.now.starts.elements in
     let ns = map whole_number c.args.lists.now.sizes.elements in
-    let is = ranges-next xs ns c.loop-i.i c.number_in.result c.number_in-in-loop-i.result c.number_in.ensures c.number_in-in-loop-i.ensures
+    let is = ranges_next xs ns c.loop-i.i c.number_in.result c.number_in-in-loop-i.result c.number_in.ensures c.number_in-in-loop-i.ensures
     in
     let s = c.loop-i.invariant.judged taken a in
     rw (p.1, p.2) (ranges_refuse c.args.lists.now.block.now c.args.place taken (ranges_of xs ns) _ _
@@ -23,7 +23,7 @@ loop-i-preserved c =
     let b = c.args.lists.now.block.now in
     let xs = map whole_number c.args.lists.now.starts.elements in
     let ns = map whole_number c.args.lists.now.sizes.elements in
-    let is = ranges-next xs ns c.loop-i.i c.number_in.result c.number_in-in-loop-i.result c.number_in.ensures c.number_in-in-loop-i.ensures
+    let is = ranges_next xs ns c.loop-i.i c.number_in.result c.number_in-in-loop-i.result c.number_in.ensures c.number_in-in-loop-i.ensures
     in
     record {
       judged = λ taken a.

@@ -5,9 +5,9 @@ use Rattle.px_tree.specs.Roles.{strip_offsets_tag, strip_lengths_tag}
 use Rattle.px_tree.specs.Thumbnail.{bytes_of}
 use Rattle.px_tree.specs.calls.Parts.{jpeg_of}
 use Rattle.px_tree.proofs.lists.Listed.{have_numbers, offsets_form, lengths_form}
-use Rattle.px_tree.proofs.reading.Parted.{even_parts, pairs_refuse, end_refuses, jpeg_refuses, strips_refuse, thumb_true, jpeg-is}
-use Rattle.px_tree.proofs.reading.Parted.{strips-is}
-use Rattle.px_tree.proofs.saying.Assembled.{thumbnail-is}
+use Rattle.px_tree.proofs.reading.Parted.{even_parts, pairs_refuse, end_refuses, jpeg_refuses, strips_refuse, thumb_true, jpeg_is}
+use Rattle.px_tree.proofs.reading.Parted.{strips_is}
+use Rattle.px_tree.proofs.saying.Assembled.{thumbnail_is}
 use Rattle.px_tree.proofs.thumbnail.read_thumbnail.Goals as goal
 
 pub read_strips-requires-clause-numbers : goal.read_strips-requires-clause-numbers
@@ -61,7 +61,7 @@ returns-clause-judged c = λ taken a.
     let j = c.in_ok-jpeg.ensures.judged taken a in
     let s = c.in_ok-strips.ensures.judged (option_to_list (jpeg_of x.jpeg_offset x.jpeg_length) ++ taken) j.1 in (
       thumb_true b o c.args.directory.at x found taken c.in_ok-judge_pairs.ensures.judged.0 c.in_ok-judge_end.ensures.judged.0 j.0 s.0,
-      thumbnail-is b o c.args.directory.at _ _ _ c.requires.read.fields_are
-          (c.in_ok-jpeg.ensures.part ∙ ap (λ (r : Option Range). option_map (bytes_of b) r) (jpeg-is b o c.args.directory.at x found))
-          (s.1 ∙ ap (λ (r : Option (List Range)). option_map (map (bytes_of b)) r) (strips-is b o c.args.directory.at x found)),
+      thumbnail_is b o c.args.directory.at _ _ _ c.requires.read.fields_are
+          (c.in_ok-jpeg.ensures.part ∙ ap (λ (r : Option Range). option_map (bytes_of b) r) (jpeg_is b o c.args.directory.at x found))
+          (s.1 ∙ ap (λ (r : Option (List Range)). option_map (map (bytes_of b)) r) (strips_is b o c.args.directory.at x found)),
     )

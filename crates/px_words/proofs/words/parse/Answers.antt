@@ -1,7 +1,8 @@
 use Rattle.std.proofs.Common.{◌≡◌, ◌==◌, false, length, map}
 use Rattle.clap.specs.Words.{app_of, subcommand_rows_of}
 use Rattle.px_words.specs.declared.words.Words.TheVariants as words_of
-use Rattle.px_words.proofs.matching.Parsed.{asks_no_filter, failed, filter_not, matched, met_in, tells_no_filter, without_memory}
+use Rattle.px_words.proofs.matching.Parsed.{asks_no_filter, parse_failed, filter_not, subcommand_matched}
+use Rattle.px_words.proofs.matching.Parsed.{met_in, tells_no_filter, without_memory}
 use Rattle.px_words.proofs.WordLaws.{lacks_told}
 use Rattle.px_words.proofs.words.parse.Goals as goal
 
@@ -23,7 +24,7 @@ returns-in-Ok-try_get_matches_from g c =
     let some : false ≡ (length c.args.words.now == 0) = cc in
     let w = c.read_match.result in
     let asks = c.read_match.ensures.asked in
-    let says = matched ws (app_of c.in-Ok.command) c.in-Ok.ensures met.matches met.ensures.kinds met.ensures.matches w asks in
+    let says = subcommand_matched ws (app_of c.in-Ok.command) c.in-Ok.ensures met.matches met.ensures.kinds met.ensures.matches w asks in
     record {
       filter = filter_not g.S.AsStr.text c.args.words.now w some (asks_no_filter (subcommand_rows_of met.matches) w asks.1);
       asked = says.0;
@@ -39,7 +40,7 @@ returns-in-Err g c =
     let w = c.read_error.result in
     let tells = c.read_error.ensures in
     let had = c.in-Err.ensures.kinds in
-    let says = failed ws (app_of c.in-Ok.command) c.in-Ok.ensures c.in-Err.error w had tells.asked tells.kind tells.memory in
+    let says = parse_failed ws (app_of c.in-Ok.command) c.in-Ok.ensures c.in-Err.error w had tells.asked tells.kind tells.memory in
     record {
       filter = filter_not g.S.AsStr.text c.args.words.now w some (tells_no_filter w tells.asked);
       asked = says.0;

@@ -3,9 +3,9 @@ use Rattle.std.proofs.Math.Nat.{mul-div_cancel}
 use Rattle.std.proofs.lemmas.List.{take_all}
 use Rattle.px_field.specs.Forms.{size}
 use Rattle.px_field.specs.Values.{IsValue, form_in, spell, spelled}
-use Rattle.px_field.specs.lemmas.ElementLaws.{size-pos}
-use Rattle.px_field.specs.lemmas.ValueLaws.{length-spelled}
-use Rattle.px_field.proofs.ViewLemmas.{IsValue-shown}
+use Rattle.px_field.specs.lemmas.ElementLaws.{size_pos}
+use Rattle.px_field.specs.lemmas.ValueLaws.{length_spelled}
+use Rattle.px_field.proofs.ViewLemmas.{IsValue_shown}
 use Rattle.px_field.proofs.values.Value.spell_all.Goals as goal
 
 pub returns : goal.returns
@@ -13,12 +13,12 @@ unfolding spelled
 returns c =
     let v = c.self.inside in
     let is : IsValue c.args.self.now =
-    rw (← c.self.view_is) (IsValue-shown v.widened v.order v.form v.raw.now c.self.invariant.width c.self.invariant.bytes) in
+    rw (← c.self.view_is) (IsValue_shown v.widened v.order v.form v.raw.now c.self.invariant.width c.self.invariant.bytes) in
     let es = c.args.self.now.elements in
     let width = size (form_in c.args.self.now.kind) in
-    let long : length c.args.into.now ≡ length es * width = c.requires ∙ length-spelled c.args.order c.args.self.now is in
+    let long : length c.args.into.now ≡ length es * width = c.requires ∙ length_spelled c.args.order c.args.self.now is in
     let room : length c.args.into.now / width ≡ length es =
-    ap (λ (n : ℕ). n / width) long ∙ mul-div_cancel (length es) (size-pos (form_in c.args.self.now.kind)) in
+    ap (λ (n : ℕ). n / width) long ∙ mul-div_cancel (length es) (size_pos (form_in c.args.self.now.kind)) in
     let all : c.spell_many.result ≡ length es = omega (arith, c.spell_many.ensures.count, room) in
     let bytes : c.spell_many.result * width ≡ length c.args.into.now = ap (λ (n : ℕ). n * width) all ∙ sym long in
     sym (take_all (c.spell_many.result * width) c.spell_many.new.into (let h = c.spell_many.auto.into in omega arith))

@@ -2,12 +2,12 @@ use Rattle.std.proofs.Common.{◌≡◌, ◌∙◌, List, ℕ, take, drop, Some,
 use Rattle.std.proofs.lemmas.List.{take_at, drop_at}
 use Rattle.px_field.specs.declared.forms.Element.{Element}
 use Rattle.px_field.specs.Values.{form_in, spell}
-use Rattle.px_field.specs.lemmas.ElementLaws.{length-spell}
+use Rattle.px_field.specs.lemmas.ElementLaws.{length_spell}
 use Rattle.px_field.proofs.values.Value.spell_at.Goals as goal
 
 pub returns-clause-width : goal.returns-clause-width
 returns-clause-width c =
-    c.spell_element.ensures.width ∙ length-spell c.args.order (form_in c.args.self.now.kind) c.element.result c.element.ensures.range
+    c.spell_element.ensures.width ∙ length_spell c.args.order (form_in c.args.self.now.kind) c.element.result c.element.ensures.range
 
 pub returns-clause-front : goal.returns-clause-front
 returns-clause-front c e here =

@@ -1,7 +1,7 @@
 use Rattle.std.proofs.Common.{◌≤◌, ◌∙◌, ℕ, List, length, ap, sym, subst}
 use Rattle.px_field.specs.Values.{Value, spelled}
 use Rattle.px_field.proofs.TurnLaws.{Padded, short_padded, long_padded, bytes_padded}
-use Rattle.px_field.proofs.ViewLemmas.{spelled-one}
+use Rattle.px_field.proofs.ViewLemmas.{spelled_one}
 use Rattle.px_field.proofs.values.Value.spell_four.Goals as goal
 
 pub returns-then-is_one_short : goal.returns-then-is_one_short
@@ -25,7 +25,7 @@ padded_four-requires c =
     let v = c.self.inside in
     let same =
     sym (ap (λ (w : Value). spelled c.args.order w) c.self.view_is)
-    ∙ spelled-one v.widened v.order c.args.order v.form v.raw.now c.self.invariant.width (sym c.size.ensures ∙ c.if-size-eq1.true)
+    ∙ spelled_one v.widened v.order c.args.order v.form v.raw.now c.self.invariant.width (sym c.size.ensures ∙ c.if-size-eq1.true)
     in
     subst (λ (x : List ℕ). length x ≤ 4) same c.requires
 

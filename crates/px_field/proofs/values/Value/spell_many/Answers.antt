@@ -6,7 +6,7 @@ use Rattle.px_field.specs.Forms.{size}
 use Rattle.px_field.specs.Values.{Value, spell, form_in, count_in}
 use Rattle.px_field.specs.calls.Views.{shown}
 use Rattle.px_field.specs.calls.Turning.{width_of, read_by, turned}
-use Rattle.px_field.proofs.ViewLemmas.{length-shown}
+use Rattle.px_field.proofs.ViewLemmas.{length_shown}
 use Rattle.px_field.proofs.TurnLaws.{part_shown, read_size}
 use Rattle.px_field.proofs.values.Value.spell_many.Goals as goal
 
@@ -15,7 +15,7 @@ behind-raw-requires-clause-inside c =
     let v = c.self.inside in
     let seen : length (shown v.widened v.order v.form v.raw.now).elements ≡ length c.args.self.now.elements =
     ap (λ (w : Value). length w.elements) c.self.view_is in
-    omega (arith, length-shown v.widened v.order v.form v.raw.now, seen, c.how_many-count.ensures.count, c.count.ensures.count, c.requires)
+    omega (arith, length_shown v.widened v.order v.form v.raw.now, seen, c.how_many-count.ensures.count, c.count.ensures.count, c.requires)
 
 pub returns-clause-front : goal.returns-clause-front
 returns-clause-front c =
@@ -27,7 +27,7 @@ returns-clause-front c =
     let seen : length (shown v.widened v.order f v.raw.now).elements ≡ length c.args.self.now.elements =
     ap (λ (w : Value). length w.elements) c.self.view_is in
     let inside : i + n ≤ count_in f v.raw.now =
-    omega (arith, length-shown v.widened v.order f v.raw.now, seen, c.how_many-count.ensures.count, c.count.ensures.count, c.requires)
+    omega (arith, length_shown v.widened v.order f v.raw.now, seen, c.how_many-count.ensures.count, c.count.ensures.count, c.requires)
     in
     let long : length c.turn.new.to ≡ n * c.width-width.result = search rules in
     let fits : n * size f ≤ length (drop (i * size f) v.raw.now) =

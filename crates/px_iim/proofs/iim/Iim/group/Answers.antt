@@ -14,14 +14,14 @@ count_before-requires-2 c =
     subst (λ (ss : List Item). InOrder (map dataset_view ss)) (sym same)
     (left_parts s c.self.inside.items.items c.self.invariant.0 c.self.invariant.1).0
 
-part : (rec n key : ℕ) → n < 256 → key ≡ 256 * rec + n → (xs behind : List Item) (s m : ℕ) → behind ≡ drop s xs
+items_at_part : (rec n key : ℕ) → n < 256 → key ≡ 256 * rec + n → (xs behind : List Item) (s m : ℕ) → behind ≡ drop s xs
     → InOrder (map dataset_view xs) → AreNumbers (map dataset_view xs)
     → ((k : ℕ) (d : Item) → k < s → key_of (dataset_view (get_or xs k d)) < key)
     → ((k : ℕ) (d : Item) → s ≤ k → k < length xs → key ≤ key_of (dataset_view (get_or xs k d)))
     → ((k : ℕ) (d : Item) → k < m → key_of (dataset_view (get_or behind k d)) < key + 1)
     → ((k : ℕ) (d : Item) → m ≤ k → k < length behind → key + 1 ≤ key_of (dataset_view (get_or behind k d)))
     → map item_view (take m behind) ≡ items_at rec n (runs (map dataset_view xs))
-part rec n key b e xs behind s m q o w f g h i =
+items_at_part rec n key b e xs behind s m q o w f g h i =
     ap (λ (l : List Item). map item_view (take m l)) q
     ∙ group_part rec n b xs s m o w (λ k d l. omega (arith, f k d l, e)) (λ k d l j. omega (arith, g k d l j, e))
     (λ k d l. subst (λ (ss : List Item). key_of (dataset_view (get_or ss k d)) < 256 * rec + n + 1) q (omega (arith, h k d l, e)))
@@ -34,7 +34,7 @@ returns c =
     let n = named c.args.rec c.args.number in
     let same = c.as_slice-items.ensures.value in
     ap (map item_view) c.split_at-2.ensures.front
-    ∙ part c.args.rec n c.key_of-key.result c.key_of-key.ensures.byte c.key_of-key.ensures.value xs c.split_at.result.1.now
+    ∙ items_at_part c.args.rec n c.key_of-key.result c.key_of-key.ensures.byte c.key_of-key.ensures.value xs c.split_at.result.1.now
     c.count_before.result c.count_before-2.result c.split_at.ensures.back
     (subst (λ (ss : List Item). InOrder (map dataset_view ss)) (sym same) c.self.invariant.0)
     (subst (λ (ss : List Item). AreNumbers (map dataset_view ss)) (sym same) c.self.invariant.1)

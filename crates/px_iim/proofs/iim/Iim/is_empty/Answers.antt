@@ -4,20 +4,21 @@ use Rattle.px_iim.specs.declared.group.Item.{Item}
 use Rattle.px_iim.specs.Group.{Record}
 use Rattle.px_iim.specs.calls.Runs.{runs}
 use Rattle.px_iim.specs.calls.View.{dataset_view}
-use Rattle.px_iim.proofs.reading.Runs.{starts}
+use Rattle.px_iim.proofs.reading.Runs.{join_starts}
 use Rattle.px_iim.proofs.iim.Iim.is_empty.Goals as goal
 
-some : (n : ℕ) → 1 ≤ n → (n == 0) ≡ false
-some n l = grind (arith, nat_tests)
+positive_not_zero : (n : ℕ) → 1 ≤ n → (n == 0) ≡ false
+positive_not_zero n l = grind (arith, nat_tests)
 
-tests : (ss : List Item) → (length ss == 0) ≡ (length (runs (map dataset_view ss)) == 0)
-tests [] = refl
-tests (s ∷ ss) =
-    let (items, rest, e) = starts (dataset_view s) (runs (map dataset_view ss)) in
-    some (length (s ∷ ss)) (omega arith) ∙ sym (some (length (runs (map dataset_view (s ∷ ss)))) (omega (arith, ap length e)))
+length_runs_zero : (ss : List Item) → (length ss == 0) ≡ (length (runs (map dataset_view ss)) == 0)
+length_runs_zero [] = refl
+length_runs_zero (s ∷ ss) =
+    let (items, rest, e) = join_starts (dataset_view s) (runs (map dataset_view ss)) in
+    positive_not_zero (length (s ∷ ss)) (omega arith) ∙ sym (positive_not_zero (length (runs (map dataset_view (s ∷ ss))))
+        (omega (arith, ap length e)))
 
 pub returns : goal.returns
 returns c =
     let v = c.self.inside.items in
     let l : vec_len v ≡ length v.items = omega (arith, v.ok.0) in
-    c.is_empty.ensures ∙ ap (λ (n : ℕ). n == 0) l ∙ tests v.items ∙ ap (λ (i : Record). length i == 0) c.self.view_is
+    c.is_empty.ensures ∙ ap (λ (n : ℕ). n == 0) l ∙ length_runs_zero v.items ∙ ap (λ (i : Record). length i == 0) c.self.view_is

@@ -3,7 +3,7 @@ use Rattle.std.specs.List.{insert}
 use Rattle.px_iim.specs.declared.group.Item.{Item}
 use Rattle.px_iim.specs.Group.{Record, named, put, AreGroups}
 use Rattle.px_iim.specs.Record.{normal_dataset, normal_iim}
-use Rattle.px_iim.specs.lemmas.BoundLaws.{length-put, length-normal_dataset}
+use Rattle.px_iim.specs.lemmas.BoundLaws.{length_put, length_normal_dataset}
 use Rattle.px_iim.specs.calls.Runs.{key_of, runs, InOrder, AreNumbers}
 use Rattle.px_iim.specs.calls.View.{dataset_view}
 use Rattle.px_iim.specs.Writing.{within}
@@ -56,7 +56,7 @@ invariant_of-self-2 c =
       },
     ) i c.self.invariant.2 in
     let cost : length (normal_iim i) + length (normal_dataset 0 (d.number, d.octets)) ≡ length (normal_iim (put d i)) =
-    omega (arith, length-put d i, length-normal_dataset d.rec (d.number, d.octets), length-normal_dataset 0 (d.number, d.octets)) in (
+    omega (arith, length_put d i, length_normal_dataset d.rec (d.number, d.octets), length_normal_dataset 0 (d.number, d.octets)) in (
       order,
       numbers,
       subst AreGroups (sym e) whole,

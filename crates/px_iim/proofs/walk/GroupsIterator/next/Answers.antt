@@ -17,11 +17,11 @@ invariant_of-self c =
       subst (λ (ss : List Item). AreNumbers (map dataset_view ss)) (drop-drop end at items) p.1,
     )
 
-built : (r n m : ℕ) (xs ys : List Item) (i j : Record) → n ≡ m → xs ≡ ys → i ≡ j →
+group_built : (r n m : ℕ) (xs ys : List Item) (i j : Record) → n ≡ m → xs ≡ ys → i ≡ j →
     let f : Group = record { rec = r; number = m; items = map item_view ys } in
     let g : Group = record { rec = r; number = n; items = map item_view xs } in
     f ∷ j ≡ g ∷ i
-built r n m xs ys i j p q h =
+group_built r n m xs ys i j p q h =
     ap (λ (k : ℕ). let f : Group = record { rec = r; number = k; items = map item_view ys } in f ∷ j) (sym p)
     ∙ ap (λ (zs : List Item). let f : Group = record { rec = r; number = n; items = map item_view zs } in f ∷ j) (sym q)
     ∙ ap (λ (k : Record). let f : Group = record { rec = r; number = n; items = map item_view xs } in f ∷ k) (sym h)
@@ -40,7 +40,7 @@ returns-clause-steps c =
     sym c.self.view_is ∙ ap (λ (ss : List Item). runs (map dataset_view ss)) (sym e)
     ∙ next_run left end d c.run_len-len.ensures.some c.run_len-len.ensures.within (λ k i. c.run_len-len.ensures.same k d i)
     (λ i. c.run_len-len.ensures.next d i) o w
-    ∙ built (get_or left 0 d).rec c.named.result (named (get_or left 0 d).rec (get_or left 0 d).number) c.split_at-2.result.0.now
+    ∙ group_built (get_or left 0 d).rec c.named.result (named (get_or left 0 d).rec (get_or left 0 d).number) c.split_at-2.result.0.now
     (take end left)
     (runs (map dataset_view (drop (at + end) items))) (runs (map dataset_view (drop end left))) c.named.ensures c.split_at-2.ensures.front
     (ap (λ (ss : List Item). runs (map dataset_view ss)) tail)

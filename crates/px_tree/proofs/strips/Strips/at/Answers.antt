@@ -1,18 +1,18 @@
 use Rattle.std.proofs.Common.{◌<◌, ◌-◌, ℕ, List, option_map, length, map, slice_get, refl, sym, subst, ap, ◌∙◌, arith}
 use Rattle.std.proofs.lemmas.List.{length-map}
 use Rattle.std.proofs.lemmas.Option.{slice_get-map, slice_get_read}
-use Rattle.px_tree.proofs.reading.StripBytes.{named-some, strips-length, get_named, get_pushed}
+use Rattle.px_tree.proofs.reading.StripBytes.{named_some, strips_length, get_named, get_pushed}
 use Rattle.px_tree.proofs.strips.Strips.at.Goals as goal
 
 pub strip_at-requires-clause-named : goal.strip_at-requires-clause-named
-strip_at-requires-clause-named c = named-some c.self.inside.named c.in-Some.lists c.in-Some.is c.self.invariant
+strip_at-requires-clause-named c = named_some c.self.inside.named c.in-Some.lists c.in-Some.is c.self.invariant
 
 pub index-requires-2 : goal.index-requires-2
 index-requires-2 c =
     let list = c.self.inside.list in
     let pushed = map (λ x. x.now) list.items in
     let there = subst (λ (xs : List (List ℕ)). c.args.i < length xs) (sym c.self.view_is) c.requires in
-    let all = strips-length c.self.inside.named c.in-Some.lists c.in-Some.is c.self.invariant pushed in
+    let all = strips_length c.self.inside.named c.in-Some.lists c.in-Some.is c.self.invariant pushed in
     let mapped = length-map list.items (λ x. x.now) in
     let items = list.ok.0 in
     let count = c.count-count.ensures.count in
@@ -30,7 +30,7 @@ returns c =
     let list = c.self.inside.list in
     let pushed = map (λ x. x.now) list.items in
     let there = subst (λ (xs : List (List ℕ)). c.args.i < length xs) (sym c.self.view_is) c.requires in
-    let all = strips-length c.self.inside.named c.in-Some.lists c.in-Some.is c.self.invariant pushed in
+    let all = strips_length c.self.inside.named c.in-Some.lists c.in-Some.is c.self.invariant pushed in
     let mapped = length-map list.items (λ x. x.now) in
     let count = c.count-count.ensures.count in
     let behind = c.if-i-count.false in

@@ -1,14 +1,14 @@
 use Rattle.std.proofs.Common.{◌+◌, ℕ, Option, List, length, map, sym, ap, subst, arith}
 use Rattle.px_tree.specs.declared.strip_lists.StripLists.{StripLists}
 use Rattle.px_tree.specs.calls.Strips.{AreJoined, named_strips}
-use Rattle.px_tree.proofs.reading.StripBytes.{front-length, strips-length}
+use Rattle.px_tree.proofs.reading.StripBytes.{front_length, strips_length}
 use Rattle.px_tree.proofs.reading.StripRuns.{joined_front, one_joined}
 use Rattle.px_tree.proofs.strips.Strips.run_at.Goals as goal
 
 pub returns-then-i-count-clause-inside : goal.returns-then-i-count-clause-inside
 returns-then-i-count-clause-inside c =
     let pushed = map (λ x. x.now) c.self.inside.list.items in
-    let all = strips-length c.self.inside.named c.in-Some.lists c.in-Some.is c.self.invariant pushed in
+    let all = strips_length c.self.inside.named c.in-Some.lists c.in-Some.is c.self.invariant pushed in
     let same = ap (λ (xs : List (List ℕ)). length xs) c.self.view_is in
     let inside = c.run_in.ensures.inside in
     omega arith
@@ -18,7 +18,7 @@ returns-then-i-count-clause-bytes c =
     let named = c.self.inside.named in
     let pushed = map (λ x. x.now) c.self.inside.list.items in
     let run = c.run_in.result in
-    let front = front-length named c.in-Some.lists c.in-Some.is c.self.invariant in
+    let front = front_length named c.in-Some.lists c.in-Some.is c.self.invariant in
     let inside = c.run_in.ensures.inside in
     rw (← c.self.view_is) (
     joined_front (named_strips named) pushed c.args.i (c.args.i + run.count) run.bytes.now (omega arith) (omega arith)
