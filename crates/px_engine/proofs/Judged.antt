@@ -10,7 +10,7 @@ use Rattle.px_bytes.specs.Reading.{ReadsUpTo, ConsumesAtMost}
 use Rattle.px_iim.specs.Group.{Record, IsRecord}
 use Rattle.px_iim.specs.Record.{SaysIim}
 use Rattle.px_iim.specs.lemmas.BoundLaws as iim
-use Rattle.px_tree.specs.Laws as tree_laws
+use Rattle.px_tree.specs.FaultLaws as tree_laws
 use Rattle.px_engine.specs.declared.kinds.BlockKind.TheVariants as kind
 use Rattle.px_engine.specs.Files.{Said, Iim, FirstIn}
 use Rattle.px_engine.specs.declared.faults.Fault.{Fault}

@@ -7,9 +7,9 @@ use Rattle.px_bytes.specs.declared.Cause.{Cause}
 use Rattle.px_iim.specs.Group.{Record, IsRecord}
 use Rattle.px_iim.specs.Record.{SaysIim, normal_iim}
 use Rattle.px_iim.specs.Check.{FirstFault as IimFirstFault, Fault as IimFault}
-use Rattle.px_tree.specs.Tree.{Meaning}
-use Rattle.px_tree.specs.Says.{SaysExif}
-use Rattle.px_tree.specs.Fits.{Fits}
+use Rattle.px_meaning.specs.Tree.{Meaning}
+use Rattle.px_meaning.specs.Says.{SaysExif}
+use Rattle.px_meaning.specs.Fits.{Fits}
 use Rattle.px_tree.specs.Checks.{FirstFault}
 use Rattle.px_tree.specs.Faults.{Fault}
 use Rattle.px_layout.specs.Normal.{normal_exif}

@@ -2,7 +2,7 @@
 ghost use Rattle.std.specs.Prelude.{◌≡◌, ℕ, IfOk, IfErr};
 ghost use Rattle.px_bytes.specs.Checks.{LacksBlock, LacksBlockBy};
 ghost use Rattle.px_bytes.specs.Reading.{ReadsUpTo, ConsumesAtMost};
-ghost use Rattle.px_tree.specs.calls.Seen.{meaning_of};
+ghost use Rattle.px_meaning.specs.calls.Seen.{meaning_of};
 ghost use Rattle.px_engine.specs.declared.kinds.BlockKind.TheVariants as kind;
 ghost use Rattle.px_engine.specs.Files as said;
 ghost use Rattle.px_engine.specs.Input.{IsSaidIn, IsRefusedIn, IsSaid, IsRefused, CountsReads, IsReadFault, LacksRun, LacksPair};

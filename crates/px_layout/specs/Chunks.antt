@@ -2,12 +2,12 @@
 -- and "Value/Offset"; section 8, "StripOffsets"; CIPA DC-008 4.5.5 (the thumbnail).
 use Rattle.std.specs.Prelude.{ℕ, ◌+◌, ◌==◌, ◌&&◌, Bool, true, false, nat_lt, if◌then◌else◌, Option, Some, None, List, [], ◌∷◌, ◌++◌, length}
 use Rattle.std.specs.Prelude.{filter_map, flat_map}
-use Rattle.px_tree.specs.declared.Dir.{Dir}
-use Rattle.px_tree.specs.Tree.{Thumbnail, Meaning}
-use Rattle.px_tree.specs.Entry.{table_size}
-use Rattle.px_tree.specs.Directory.{dirs}
-use Rattle.px_tree.specs.Faults.{dir_number}
-use Rattle.px_tree.specs.Fits.{Item, item_size, items}
+use Rattle.px_meaning.specs.declared.Dir.{Dir}
+use Rattle.px_meaning.specs.Tree.{Thumbnail, Meaning}
+use Rattle.px_meaning.specs.Entry.{table_size}
+use Rattle.px_meaning.specs.Directory.{dirs}
+use Rattle.px_meaning.specs.Roles.{dir_number}
+use Rattle.px_meaning.specs.Fits.{Item, item_size, items}
 use Rattle.px_layout.specs.declared.chunks.Chunk.{Chunk}
 use Rattle.px_layout.specs.declared.chunks.Chunk.TheVariants.{Table, Placed, Jpeg, Strip}
 

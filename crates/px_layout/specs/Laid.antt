@@ -7,12 +7,12 @@ use Rattle.px_bytes.specs.declared.Order.{Order}
 use Rattle.px_bytes.specs.Numbers.{spelling}
 use Rattle.px_field.specs.Forms.{code}
 use Rattle.px_field.specs.Values.{spelled}
-use Rattle.px_tree.specs.Iim.{normal_iim}
-use Rattle.px_tree.specs.declared.Dir.{Dir}
-use Rattle.px_tree.specs.declared.Dir.TheVariants.{Main, Thumb}
-use Rattle.px_tree.specs.Tree.{Meaning, Thumbnail}
-use Rattle.px_tree.specs.Directory.{magic, dirs}
-use Rattle.px_tree.specs.Fits.{Item, Field, Iptc, Link, AtJpeg, JpegSize, AtStrips, StripSizes, item_form, item_count, item_size, items}
+use Rattle.px_meaning.specs.Iim.{normal_iim}
+use Rattle.px_meaning.specs.declared.Dir.{Dir}
+use Rattle.px_meaning.specs.declared.Dir.TheVariants.{Main, Thumb}
+use Rattle.px_meaning.specs.Tree.{Meaning, Thumbnail}
+use Rattle.px_meaning.specs.Directory.{magic, dirs}
+use Rattle.px_meaning.specs.Fits.{Item, Field, Iptc, Link, AtJpeg, JpegSize, AtStrips, StripSizes, item_form, item_count, item_size, items}
 use Rattle.px_layout.specs.declared.chunks.Chunk.{Chunk}
 use Rattle.px_layout.specs.declared.chunks.Chunk.TheVariants.{Table, Placed, Jpeg, Strip}
 use Rattle.px_layout.specs.Plans.{Plan, place}

@@ -4,9 +4,9 @@ use Rattle.px_bytes.specs.declared.Order.{Order}
 use Rattle.px_bytes.specs.declared.Order.TheVariants.{Most}
 use Rattle.px_bytes.specs.Numbers.{AreBytes}
 use Rattle.px_bytes.specs.Parts.{limit}
-use Rattle.px_tree.specs.Tree.{Meaning}
-use Rattle.px_tree.specs.Says.{SaysExif}
-use Rattle.px_tree.specs.Fits.{Fits}
+use Rattle.px_meaning.specs.Tree.{Meaning}
+use Rattle.px_meaning.specs.Says.{SaysExif}
+use Rattle.px_meaning.specs.Fits.{Fits}
 use Rattle.px_layout.specs.Plans.{Plan, Legal}
 use Rattle.px_layout.specs.Laid.{laid}
 use Rattle.px_layout.specs.Normal.{normal_plan, normal_exif}

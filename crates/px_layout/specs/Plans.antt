@@ -4,7 +4,7 @@ use Rattle.std.specs.Prelude.{ℕ, ◌+◌, ◌≤◌, ◌↔◌, Option, unwrap
 use Rattle.std.specs.List.{AllByRecursion}
 use Rattle.px_bytes.specs.Parts.{limit}
 use Rattle.px_bytes.specs.Range.{Range, range, AllApart}
-use Rattle.px_tree.specs.Tree.{Meaning}
+use Rattle.px_meaning.specs.Tree.{Meaning}
 use Rattle.px_layout.specs.declared.chunks.Chunk.{Chunk}
 use Rattle.px_layout.specs.Chunks.{chunks}
 

@@ -1,5 +1,5 @@
 // The chunks of a layout.
-use px_tree::Dir;
+use px_meaning::Dir;
 
 /// A part of a block that a plan puts at a byte offset. The header is not one: it is always at 0.
 #[derive(Clone, Copy, Debug, PartialEq, Eq)]

@@ -5,17 +5,17 @@ ghost use Rattle.std.specs.Prelude.{Option, Some, None, IfSome};
 ghost use Rattle.std.specs.List.{AllByRecursion};
 ghost use Rattle.px_layout.specs.declared.entries.Extra.{Extra as CodeExtra};
 ghost use Rattle.px_bytes.specs.Parts.{limit};
-ghost use Rattle.px_tree.specs.Iim.{normal_iim};
-ghost use Rattle.px_tree.specs.Fits as said;
-ghost use Rattle.px_tree.specs.Fits.{Fits, FitsThumb, IsBytes, AtJpeg, JpegSize, AtStrips, StripSizes, Iptc, items, link, put_some};
-ghost use Rattle.px_tree.specs.Fits.{main_items, exif_items, thumb_items, field_items};
-ghost use Rattle.px_tree.specs.calls.Seen.{exif_of, thumb_of, meaning_of};
+ghost use Rattle.px_meaning.specs.Iim.{normal_iim};
+ghost use Rattle.px_meaning.specs.Fits as said;
+ghost use Rattle.px_meaning.specs.Fits.{Fits, FitsThumb, IsBytes, AtJpeg, JpegSize, AtStrips, StripSizes, Iptc, items, link, put_some};
+ghost use Rattle.px_meaning.specs.Fits.{main_items, exif_items, thumb_items, field_items};
+ghost use Rattle.px_meaning.specs.calls.Seen.{exif_of, thumb_of, meaning_of};
 ghost use Rattle.px_layout.specs.calls.Items.{item_of, entry_of, IsCounted, rank};
 ghost use Rattle.px_layout.specs.calls.Layers.{Stands, Tells, Finds, over, IsClear};
 
 use crate::items::{Entry, Item};
 use px_iim::Iim;
-use px_tree::{Dir, ExifPart, Fields, Meaning, Strips, Thumb};
+use px_meaning::{Dir, ExifPart, Fields, Meaning, Strips, Thumb};
 use std::marker::Model;
 
 // An entry that is no field. `place` is the number of entries before it.
@@ -47,7 +47,7 @@ pub struct Entries<'m, 'a> {
 
 impl<'m, 'a> Model for Entries<'m, 'a> {
     ghost use Rattle.std.specs.Prelude.{List, ℕ};
-    ghost use Rattle.px_tree.specs.Fits as said;
+    ghost use Rattle.px_meaning.specs.Fits as said;
     ghost use Rattle.px_layout.specs.calls.Layers.{entries_of, AreLayers};
 
     ghost Value = { List (ℕ × said.Item) };

@@ -1,13 +1,13 @@
 // A normal form that is measured but not yet written.
 ghost use Rattle.std.specs.Prelude.{◌≡◌, length};
-ghost use Rattle.px_tree.specs.Fits.{Fits};
-ghost use Rattle.px_tree.specs.calls.Seen.{meaning_of};
+ghost use Rattle.px_meaning.specs.Fits.{Fits};
+ghost use Rattle.px_meaning.specs.calls.Seen.{meaning_of};
 ghost use Rattle.px_layout.specs.Normal.{normal_exif};
 ghost use Rattle.px_layout.specs.calls.Forms.{said_in, IsForm, AnswersForm};
 
 use crate::starts::{Starts, starts_of};
 use px_bytes::WriteRefusal;
-use px_tree::Meaning;
+use px_meaning::Meaning;
 
 /// A meaning whose normal form is no longer than `LIMIT`, with the byte offsets of the form's parts.
 /// `put_normal` writes it.

@@ -1,13 +1,13 @@
 // What the entries of a directory mean.
 ghost use Rattle.std.specs.Prelude.{◌≡◌};
 ghost use Rattle.px_field.specs.Values.{form_in};
-ghost use Rattle.px_tree.specs.Fits.{item_form, item_count, item_size};
+ghost use Rattle.px_meaning.specs.Fits.{item_form, item_count, item_size};
 ghost use Rattle.px_layout.specs.calls.Items.{item_of, IsCounted};
 
 use px_bytes::LIMIT;
 use px_field::{Form, Kind, Value};
 use px_iim::{Iim, normal_len};
-use px_tree::{Dir, Strips};
+use px_meaning::{Dir, Strips};
 
 /// What an entry means: a field, the record, a pointer, the JPEG's offset or length, or the offsets or
 /// lengths of the strips.

@@ -30,5 +30,5 @@ pub fn laid_is_bytes()
 pub fn normal_bound()
     ensures { NormalBound }
 {
-    px_tree::laws::said_fits();
+    px_meaning::laws::said_fits();
 }

@@ -4,7 +4,7 @@ ghost use Rattle.px_bytes.specs.Devices.{CanFail};
 ghost use Rattle.px_bytes.specs.Numbers.{spelling};
 ghost use Rattle.px_bytes.specs.Waiting.{AddsTo};
 ghost use Rattle.px_field.specs.Values.{spell, spelled};
-ghost use Rattle.px_tree.specs.Fits.{Field};
+ghost use Rattle.px_meaning.specs.Fits.{Field};
 ghost use Rattle.px_layout.specs.Laid.{long_bytes};
 ghost use Rattle.px_layout.specs.calls.Given.{head_bytes};
 ghost use Rattle.px_layout.specs.calls.Items.{item_of, entry_of, IsCounted};

@@ -3,9 +3,9 @@
 ghost use Rattle.std.specs.Prelude.{◌≡◌, Some, flat_map};
 ghost use Rattle.px_bytes.specs.Devices.{CanFail, over};
 ghost use Rattle.px_bytes.specs.Waiting.{Waits, Adds, AddsTo};
-ghost use Rattle.px_tree.specs.Roles.{role};
-ghost use Rattle.px_tree.specs.Directory.{dirs};
-ghost use Rattle.px_tree.specs.Fits.{items};
+ghost use Rattle.px_meaning.specs.Roles.{role};
+ghost use Rattle.px_meaning.specs.Directory.{dirs};
+ghost use Rattle.px_meaning.specs.Fits.{items};
 ghost use Rattle.px_layout.specs.lemmas.EntryLaws.{Good};
 ghost use Rattle.px_layout.specs.lemmas.ItemLaws.{Suits};
 ghost use Rattle.px_layout.specs.calls.Items.{item_of, entry_of, IsCounted};
@@ -24,7 +24,7 @@ use crate::put_running::{put_running_header, put_running_table, put_told_item};
 use crate::put_thumb::put_thumb;
 use px_bytes::{Failed, Order, Pending, Sink};
 use px_field::Value;
-use px_tree::{Dir, needs_place};
+use px_meaning::{Dir, needs_place};
 
 // Puts the value of an entry, padded.
 fn put_padded_item<W: Sink>(

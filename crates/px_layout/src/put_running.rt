@@ -4,9 +4,9 @@ ghost use Rattle.std.specs.Prelude.{replicate};
 ghost use Rattle.px_bytes.specs.Devices.{CanFail, Counts};
 ghost use Rattle.px_bytes.specs.Parts.{limit};
 ghost use Rattle.px_bytes.specs.Waiting.{PutsTo, AddsTo};
-ghost use Rattle.px_tree.specs.Tree as said;
+ghost use Rattle.px_meaning.specs.Tree as said;
 ghost use Rattle.px_field.specs.Values.{spelled};
-ghost use Rattle.px_tree.specs.Fits.{items, item_size, Field};
+ghost use Rattle.px_meaning.specs.Fits.{items, item_size, Field};
 ghost use Rattle.px_layout.specs.calls.Items.{item_of, entry_of, IsCounted};
 ghost use Rattle.px_layout.specs.Laid.{long_bytes, item_bytes, entry_bytes, next_bytes, table_bytes, header};
 ghost use Rattle.px_layout.specs.Normal.{normal_plan};
@@ -26,7 +26,7 @@ use crate::tables::table_len;
 use px_bytes::{Failed, Order, Pending, Sink};
 use px_field::Value;
 use px_iim::put_iim;
-use px_tree::{Dir, Strips, needs_place};
+use px_meaning::{Dir, Strips, needs_place};
 
 // The byte offset of a directory.
 fn start_of(form: &NormalForm, dir: Dir) -> u32

@@ -7,7 +7,7 @@ ghost use Rattle.px_bytes.specs.Waiting.{AddsTo};
 ghost use Rattle.px_layout.specs.Laid.{long_bytes};
 
 use px_bytes::{Failed, Order, Pending, Sink};
-use px_tree::Strips;
+use px_meaning::Strips;
 
 // How many offsets or lengths of strips are encoded before they are put.
 pub(crate) const AT_ONCE: usize = 64;

@@ -3,13 +3,13 @@
 ghost use Rattle.std.specs.Prelude.{Some, option_map, flat_map};
 ghost use Rattle.px_bytes.specs.Devices.{CanFail};
 ghost use Rattle.px_bytes.specs.Waiting.{AddsTo};
-ghost use Rattle.px_tree.specs.calls.Seen.{thumb_of};
+ghost use Rattle.px_meaning.specs.calls.Seen.{thumb_of};
 ghost use Rattle.px_layout.specs.Laid.{jpeg_contents, strip_contents, all_strip_contents, thumb_contents};
 ghost use Rattle.px_layout.specs.Normal.{padded};
 
 use crate::put::put_padding;
 use px_bytes::{Failed, Pending, Sink};
-use px_tree::{Strips, Thumb};
+use px_meaning::{Strips, Thumb};
 
 fn put_padded<W: Sink>(pending: &mut Pending, writer: &mut W, bytes: &[u8]) -> Result<(), Failed>
     requires { CanFail (W.failed writer.old) }

@@ -1,15 +1,15 @@
 // Writes a normal form to a writer.
 ghost use Rattle.std.specs.Prelude.{◌≡◌, IfErr};
 ghost use Rattle.px_bytes.specs.declared.causes.WriteRefusal.TheVariants.{NormalTooLong};
-ghost use Rattle.px_tree.specs.Fits.{Fits};
-ghost use Rattle.px_tree.specs.calls.Seen.{meaning_of};
+ghost use Rattle.px_meaning.specs.Fits.{Fits};
+ghost use Rattle.px_meaning.specs.calls.Seen.{meaning_of};
 ghost use Rattle.px_layout.specs.Writing.{WritesExif};
 ghost use Rattle.px_bytes.specs.Devices.{CanFail};
 
 use crate::form::NormalForm;
 use crate::put_form::put_normal;
 use px_bytes::{Pending, Sink, WriteRefusal};
-use px_tree::Meaning;
+use px_meaning::Meaning;
 use std::alloc::Global;
 
 /// Writes the normal form of a meaning that can be written (`fits`), and flushes the writer once at the end.

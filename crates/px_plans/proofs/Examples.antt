@@ -4,9 +4,9 @@ use Rattle.px_bytes.specs.declared.Order.TheVariants.{Least, Most}
 use Rattle.px_field.specs.declared.Form.TheVariants.{Short}
 use Rattle.px_field.specs.declared.Kind.TheVariants.{Of}
 use Rattle.px_field.specs.declared.Element.TheVariants as element
-use Rattle.px_tree.specs.declared.Dir.TheVariants.{Main, Exif, Interop, Gps}
-use Rattle.px_tree.specs.Tree.{Meaning}
-use Rattle.px_tree.specs.Says.{meaning}
+use Rattle.px_meaning.specs.declared.Dir.TheVariants.{Main, Exif, Interop, Gps}
+use Rattle.px_meaning.specs.Tree.{Meaning}
+use Rattle.px_meaning.specs.Says.{meaning}
 use Rattle.px_layout.specs.declared.chunks.Chunk.{Chunk}
 use Rattle.px_layout.specs.declared.chunks.Chunk.TheVariants.{Table, Placed}
 use Rattle.px_layout.specs.Plans.{Plan}

@@ -2,7 +2,7 @@
 use Rattle.std.specs.Prelude.{◌≡◌, ◌+◌, ℕ, Result, Ok, Err}
 use Rattle.px_bytes.specs.declared.Refusal.{Refusal}
 use Rattle.px_bytes.specs.declared.Refusal.TheVariants.{Content, OutOfMemory}
-use Rattle.px_tree.specs.Tree.{Meaning}
+use Rattle.px_meaning.specs.Tree.{Meaning}
 
 -- The meaning that was read, viewed by `seen`, is the meaning m that was laid out. The only error is out of memory, which means
 -- one failed allocation.

@@ -2,8 +2,8 @@
 ghost use Rattle.std.specs.Prelude.{◌≡◌, ◌≤◌};
 ghost use Rattle.px_bytes.specs.Parts.{limit};
 ghost use Rattle.px_bytes.specs.calls.Writing.{LacksWrite};
-ghost use Rattle.px_tree.specs.Fits.{Fits};
-ghost use Rattle.px_tree.specs.calls.Seen.{meaning_of};
+ghost use Rattle.px_meaning.specs.Fits.{Fits};
+ghost use Rattle.px_meaning.specs.calls.Seen.{meaning_of};
 ghost use Rattle.px_plans.specs.calls.Planned.{plan_of, bare};
 ghost use Rattle.px_plans.specs.calls.PlanningNormal.{AnswersNext, AnswersAll, AnswersPlan};
 

@@ -5,11 +5,11 @@ ghost use Rattle.px_bytes.specs.Checks.{LacksBlock};
 ghost use Rattle.px_layout.specs.Laid.{laid};
 ghost use Rattle.px_layout.specs.Plans.{Plan, Legal};
 ghost use Rattle.px_plans.specs.RoundTrip.{ReadsBack};
-ghost use Rattle.px_tree.specs.Fits.{Fits};
+ghost use Rattle.px_meaning.specs.Fits.{Fits};
 ghost use Rattle.px_tree.specs.Refused.{IsRefused};
-ghost use Rattle.px_tree.specs.Says.{SaysExif};
-ghost use Rattle.px_tree.specs.Tree.{Meaning as Tree};
-ghost use Rattle.px_tree.specs.calls.Seen.{meaning_of};
+ghost use Rattle.px_meaning.specs.Says.{SaysExif};
+ghost use Rattle.px_meaning.specs.Tree.{Meaning as Tree};
+ghost use Rattle.px_meaning.specs.calls.Seen.{meaning_of};
 
 use px_bytes::{Block, Memory, Refusal};
 use px_tree::{Meaning, read_block_in};

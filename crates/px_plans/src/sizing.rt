@@ -3,9 +3,9 @@ ghost use Rattle.std.specs.Prelude.{◌≡◌, ◌++◌, ◌<◌, ◌≤◌, ◌
 ghost use Rattle.std.specs.Option.{option_to_list};
 ghost use Rattle.px_bytes.specs.Lacking.{Lacks};
 ghost use Rattle.px_bytes.specs.Parts.{limit};
-ghost use Rattle.px_tree.specs.Entry.{table_size};
-ghost use Rattle.px_tree.specs.Fits.{Fits, items};
-ghost use Rattle.px_tree.specs.calls.Seen.{thumb_of, meaning_of};
+ghost use Rattle.px_meaning.specs.Entry.{table_size};
+ghost use Rattle.px_meaning.specs.Fits.{Fits, items};
+ghost use Rattle.px_meaning.specs.calls.Seen.{thumb_of, meaning_of};
 ghost use Rattle.px_layout.specs.calls.Items.{item_of, entry_of, IsCounted};
 ghost use Rattle.px_layout.specs.Chunks.{placed_chunk, dir_chunks, chunks_of_dir, jpeg_chunks, strip_chunks, all_strip_chunks};
 ghost use Rattle.px_layout.specs.Chunks.{thumb_chunks, chunks};

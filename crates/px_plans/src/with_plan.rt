@@ -1,8 +1,8 @@
 // A block by the caller's plan.
 ghost use Rattle.std.specs.Prelude.{◌≡◌, IfOk, replicate};
 ghost use Rattle.px_bytes.specs.Lacking.{Lacks, MayAsk};
-ghost use Rattle.px_tree.specs.Fits.{Fits};
-ghost use Rattle.px_tree.specs.calls.Seen.{meaning_of};
+ghost use Rattle.px_meaning.specs.Fits.{Fits};
+ghost use Rattle.px_meaning.specs.calls.Seen.{meaning_of};
 ghost use Rattle.px_layout.specs.Laid.{laid};
 ghost use Rattle.px_plans.specs.calls.Planned.{plan_of};
 ghost use Rattle.px_layout.specs.Plans.{Legal};

@@ -49,7 +49,7 @@ pub hex_next : (a b c : Option (List ℕ)) (h k m xs : List ℕ) (i e : ℕ) →
     → Owes a c m (h ++ encode_lower (take e xs))
 hex_next a b c h k m xs i e le p q =
     owes_as a c h m _ _ (piece_behind xs i e le) (owes_append a b c h k m (encode_lower (take i xs))
-        (encode_lower (take (e - i) (drop i xs))) p q)
+    (encode_lower (take (e - i) (drop i xs))) p q)
 
 pub hex_stop : (a b c : Option (List ℕ)) (h k xs : List ℕ) (i e : ℕ) → i ≤ e → Owes a b k (h ++ encode_lower (take i xs))
     → AppendsPrefix b c (k ++ encode_lower (take (e - i) (drop i xs)))

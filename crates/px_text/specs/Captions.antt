@@ -8,8 +8,8 @@ use Rattle.px_field.specs.declared.Kind.{Kind}
 use Rattle.px_field.specs.declared.Kind.TheVariants.{Of}
 use Rattle.px_field.specs.Values.{Value, spelled}
 use Rattle.px_iim.specs.Group.{Record, named, items_at}
-use Rattle.px_tree.specs.Roles.{at_tag}
-use Rattle.px_tree.specs.Tree.{Fields, Meaning}
+use Rattle.px_meaning.specs.Roles.{at_tag}
+use Rattle.px_meaning.specs.Tree.{Fields, Meaning}
 use Rattle.px_text.specs.declared.labels.Label.{Label}
 use Rattle.px_text.specs.declared.labels.Label.TheVariants.{Title, Caption, Headline, Credit, Source, Copyright, ByLine, ByLineTitle}
 use Rattle.px_text.specs.declared.labels.Label.TheVariants.{Keyword, Inventory, Description, Artist}

@@ -12,7 +12,7 @@ use Rattle.px_field.specs.declared.Element.{Element}
 use Rattle.px_field.specs.declared.Element.TheVariants as element
 use Rattle.px_field.specs.Values.{Value, is_bytes}
 use Rattle.px_iim.specs.Group.{Group, Record}
-use Rattle.px_tree.specs.Tree.{Fields, ExifPart, Thumbnail, Meaning}
+use Rattle.px_meaning.specs.Tree.{Fields, ExifPart, Thumbnail, Meaning}
 use Rattle.px_text.specs.Words.{sized_bytes}
 
 -- ---- fields

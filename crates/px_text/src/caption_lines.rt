@@ -3,8 +3,8 @@ ghost use Rattle.std.specs.Prelude.{◌≡◌, [], ◌∷◌, map, filter_map};
 ghost use Rattle.px_bytes.specs.Devices.{CanFail, over};
 ghost use Rattle.px_bytes.specs.Waiting.{Adds};
 ghost use Rattle.px_iim.specs.calls.View.{item_view};
-ghost use Rattle.px_tree.specs.Roles.{at_tag};
-ghost use Rattle.px_tree.specs.calls.Seen.{meaning_of};
+ghost use Rattle.px_meaning.specs.Roles.{at_tag};
+ghost use Rattle.px_meaning.specs.calls.Seen.{meaning_of};
 ghost use Rattle.px_text.specs.Captions.{is_plain, escaped_byte, escaped, labelled, text_captions, caption_line, caption_lines};
 ghost use Rattle.px_text.specs.Captions.{charset_line, iim_captions, iim_lines, record_lines, exif_captions, exif_text, iim_text};
 ghost use Rattle.px_text.specs.calls.CaptionView.{caption_view};
@@ -15,7 +15,7 @@ use crate::labels::{Label, label_of, label_word};
 use crate::texts::put_hex;
 use px_bytes::{Failed, Pending, Sink};
 use px_iim::{Iim, Item};
-use px_tree::{Fields, Meaning};
+use px_meaning::{Fields, Meaning};
 
 // Whether a byte is printed as it is.
 fn is_plain(byte: u8) -> bool

@@ -4,8 +4,8 @@ ghost use Rattle.px_bytes.specs.Lacking.{Lacks};
 ghost use Rattle.px_bytes.specs.declared.Order.TheVariants.{Most};
 ghost use Rattle.px_field.specs.Values.{spelled};
 ghost use Rattle.px_iim.specs.calls.View.{item_view};
-ghost use Rattle.px_tree.specs.Roles.{at_tag};
-ghost use Rattle.px_tree.specs.calls.Seen.{meaning_of};
+ghost use Rattle.px_meaning.specs.Roles.{at_tag};
+ghost use Rattle.px_meaning.specs.calls.Seen.{meaning_of};
 ghost use Rattle.px_text.specs.Captions.{labelled, iim_captions, utf8_designation, declares_utf8, is_text, text_captions, exif_captions};
 ghost use Rattle.px_text.specs.Captions.{captions_of_exif, captions_of_iim};
 ghost use Rattle.px_text.specs.calls.CaptionView.{caption_view};
@@ -15,7 +15,7 @@ use crate::labels::{Label, label_of};
 use px_bytes::{Memory, Refused};
 use px_field::{Form, Kind, Value};
 use px_iim::{Iim, Item};
-use px_tree::{Fields, Meaning};
+use px_meaning::{Fields, Meaning};
 
 // The groups of record 2 in the order of their captions.
 pub(crate) const GROUPS: [u8; 9] = [5, 120, 105, 110, 115, 116, 80, 25, 103];

@@ -12,7 +12,7 @@ use crate::texts::{put_decimal, put_ended, put_hex, put_shown};
 use itoa::Integer;
 use px_bytes::{Failed, Order, Pending, Sink};
 use px_field::{Element, Form, Kind, Value};
-use px_tree::Fields;
+use px_meaning::Fields;
 
 // The name of a type between two spaces.
 fn form_word(form: Form) -> &'static [u8]

@@ -2,7 +2,7 @@
 ghost use Rattle.std.specs.Prelude.{◌++◌, Some, codes, flat_map, option_map};
 ghost use Rattle.px_bytes.specs.Devices.{CanFail, over};
 ghost use Rattle.px_bytes.specs.Waiting.{Adds};
-ghost use Rattle.px_tree.specs.calls.Seen.{exif_of, thumb_of, meaning_of};
+ghost use Rattle.px_meaning.specs.calls.Seen.{exif_of, thumb_of, meaning_of};
 ghost use Rattle.px_text.specs.Listing.{field_lines, jpeg_lines, strip_line, strips_lines, record_lines, directory_lines, exif_lines};
 ghost use Rattle.px_text.specs.Listing.{thumb_lines, exif_listing, iim_listing};
 ghost use Rattle.px_text.specs.Words.{sized_bytes};
@@ -12,7 +12,7 @@ use crate::field_lines::put_fields;
 use crate::texts::{put_number, put_sized};
 use px_bytes::{Failed, Pending, Sink};
 use px_iim::Iim;
-use px_tree::{ExifPart, Fields, Meaning, Strips, Thumb};
+use px_meaning::{ExifPart, Fields, Meaning, Strips, Thumb};
 
 // Adds the record in the main directory: the number of its DataSets and the DataSets.
 fn put_record<W: Sink>(

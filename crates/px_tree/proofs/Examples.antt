@@ -11,9 +11,9 @@ use Rattle.px_field.specs.declared.Form.TheVariants.{Byte, Ascii, Short, Long, R
 use Rattle.px_field.specs.declared.Kind.TheVariants.{Of, Whole}
 use Rattle.px_field.specs.declared.Element.TheVariants as element
 use Rattle.px_field.specs.Values.{Value}
-use Rattle.px_tree.specs.declared.roles.Dir.TheVariants.{Main, Thumb}
-use Rattle.px_tree.specs.Tree.{Meaning}
-use Rattle.px_tree.specs.Says.{meaning, SaysExif}
+use Rattle.px_meaning.specs.declared.Dir.TheVariants.{Main, Thumb}
+use Rattle.px_meaning.specs.Tree.{Meaning}
+use Rattle.px_meaning.specs.Says.{meaning, SaysExif}
 use Rattle.px_tree.specs.Checks.{checks}
 use Rattle.px_tree.specs.Faults.{Fault}
 use Rattle.px_tree.proofs.Opened.{opened}

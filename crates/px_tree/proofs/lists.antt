@@ -1,5 +1,4 @@
 -- Lists, by their indexes and members.
-pub mod Members
 pub mod EachDir
 pub mod At
 pub mod Listed

@@ -12,5 +12,4 @@ pub mod Earlier
 pub mod Parted
 pub mod StripRanges
 pub mod Rising
-pub mod StripBytes
-pub mod StripRuns
+pub mod Kept

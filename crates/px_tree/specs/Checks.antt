@@ -13,14 +13,14 @@ use Rattle.px_bytes.specs.Parts.{limit, part}
 use Rattle.px_bytes.specs.Range.{Range, range, is_free}
 use Rattle.px_bytes.specs.Checks.{Check, check, first_false}
 use Rattle.px_field.specs.Forms.{form_of}
-use Rattle.px_tree.specs.declared.roles.Dir.{Dir}
-use Rattle.px_tree.specs.declared.roles.Dir.TheVariants.{Main, Exif, Interop, Gps, Thumb}
-use Rattle.px_tree.specs.Roles.{exif_tag, gps_tag, interop_tag, jpeg_offset_tag, jpeg_length_tag, strip_offsets_tag, strip_lengths_tag}
-use Rattle.px_tree.specs.Roles.{role}
-use Rattle.px_tree.specs.Entry.{Entry, short, table_size, next, table, has_raw, has_form, is_allowed}
-use Rattle.px_tree.specs.Directory.{magic, dirs, entries_at, entry_with, is_pointer, main_at, exif_at, dir_at}
-use Rattle.px_tree.specs.Thumbnail.{are_paired, jpeg_range, strip_ranges}
-use Rattle.px_tree.specs.Footprint.{listed, placed_range, table_range, ranges_at}
+use Rattle.px_meaning.specs.declared.Dir.{Dir}
+use Rattle.px_meaning.specs.declared.Dir.TheVariants.{Main, Exif, Interop, Gps, Thumb}
+use Rattle.px_meaning.specs.Roles.{exif_tag, gps_tag, interop_tag, jpeg_offset_tag, jpeg_length_tag, strip_offsets_tag, strip_lengths_tag}
+use Rattle.px_meaning.specs.Roles.{role}
+use Rattle.px_meaning.specs.Entry.{Entry, short, table_size, next, table, has_raw, has_form, is_allowed}
+use Rattle.px_meaning.specs.Directory.{magic, dirs, entries_at, entry_with, is_pointer, main_at, exif_at, dir_at}
+use Rattle.px_meaning.specs.Thumbnail.{are_paired, jpeg_range, strip_ranges}
+use Rattle.px_meaning.specs.Footprint.{listed, placed_range, table_range, ranges_at}
 
 -- ---- the header
 

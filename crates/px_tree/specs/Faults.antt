@@ -12,14 +12,14 @@ use Rattle.px_bytes.specs.declared.Cause.TheVariants.{ThumbnailPair, ExtraDirect
 use Rattle.px_bytes.specs.Parts.{limit, part}
 use Rattle.px_bytes.specs.Range.{Range, range, IsIn}
 use Rattle.px_field.specs.Forms.{form_of}
-use Rattle.px_tree.specs.declared.roles.Dir.{Dir}
-use Rattle.px_tree.specs.declared.roles.Dir.TheVariants.{Main, Exif, Interop, Gps, Thumb}
-use Rattle.px_tree.specs.declared.roles.Role.TheVariants.{Forbidden}
-use Rattle.px_tree.specs.Roles.{jpeg_offset_tag, jpeg_length_tag, strip_offsets_tag, strip_lengths_tag, at_tag, role}
-use Rattle.px_tree.specs.Entry.{Entry, short, table_size, next, table, offset, has_raw, has_form, IsEntry}
-use Rattle.px_tree.specs.Directory.{magic, dirs, entries_at, entry_with, dir_at}
-use Rattle.px_tree.specs.Thumbnail.{numbers, IsInside, jpeg_range, ranges_of, strip_ranges}
-use Rattle.px_tree.specs.Footprint.{listed, placed_range, table_range}
+use Rattle.px_meaning.specs.declared.Dir.{Dir}
+use Rattle.px_meaning.specs.declared.Dir.TheVariants.{Thumb}
+use Rattle.px_meaning.specs.declared.Role.TheVariants.{Forbidden}
+use Rattle.px_meaning.specs.Roles.{dir_number, jpeg_offset_tag, jpeg_length_tag, strip_offsets_tag, strip_lengths_tag, at_tag, role}
+use Rattle.px_meaning.specs.Entry.{Entry, short, table_size, next, table, offset, has_raw, has_form, IsEntry}
+use Rattle.px_meaning.specs.Directory.{magic, dirs, entries_at, entry_with, dir_at}
+use Rattle.px_meaning.specs.Thumbnail.{numbers, IsInside, jpeg_range, ranges_of, strip_ranges}
+use Rattle.px_meaning.specs.Footprint.{listed, placed_range, table_range}
 use Rattle.px_tree.specs.Checks.{named_at, place_with}
 
 -- ---- the parts that are reached
@@ -39,14 +39,6 @@ Reached b o d a = Begins b o × (dir_at b o d ≡ Some a)
 -- entry i of the directory d is e, at offset p; a directory has entries if its table is in the block
 abbrev pub EntryAt : List ℕ → Order → Dir → ℕ → ℕ → Entry → Type 0
 EntryAt b o d i p e = (a : ℕ) × Reached b o d a × At (entries_at b o a) i e × (p ≡ a + 2 + 12 * i)
-
--- the index of a directory in the order main, Exif, Interoperability, GPS, thumbnail
-abbrev pub dir_number : Dir → ℕ
-dir_number Main = 0
-dir_number Exif = 1
-dir_number Interop = 2
-dir_number Gps = 3
-dir_number Thumb = 4
 
 -- ---- the ranges, each with the offset of the entry or pointer that claims it, in the order of the checks
 

@@ -4,8 +4,8 @@ use Rattle.px_bytes.specs.declared.Cause.{Cause}
 use Rattle.px_bytes.specs.declared.Refusal.{Refusal}
 use Rattle.px_bytes.specs.declared.Refusal.TheVariants.{Content, OutOfMemory}
 use Rattle.px_bytes.specs.Parts.{limit}
-use Rattle.px_tree.specs.Tree.{Meaning}
-use Rattle.px_tree.specs.Says.{SaysExif}
+use Rattle.px_meaning.specs.Tree.{Meaning}
+use Rattle.px_meaning.specs.Says.{SaysExif}
 use Rattle.px_tree.specs.Checks.{FirstFault}
 use Rattle.px_tree.specs.Faults.{Fault}
 

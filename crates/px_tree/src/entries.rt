@@ -4,19 +4,18 @@ ghost use Rattle.px_bytes.specs.Parts.{limit, part};
 ghost use Rattle.px_bytes.specs.Range.{Range, Agrees};
 ghost use Rattle.px_bytes.specs.Checks.{ContentOnly, LacksBlock, Judges};
 ghost use Rattle.px_field.specs.Forms.{form_of, size};
-ghost use Rattle.px_tree.specs.Roles.{role};
-ghost use Rattle.px_tree.specs.Entry.{entry, has_form};
-ghost use Rattle.px_tree.specs.Footprint.{placed_range};
+ghost use Rattle.px_meaning.specs.Roles.{role};
+ghost use Rattle.px_meaning.specs.Entry.{entry, has_form};
+ghost use Rattle.px_meaning.specs.Footprint.{placed_range};
 ghost use Rattle.px_tree.specs.Checks.{shape_checks, entry_checks};
-ghost use Rattle.px_tree.specs.calls.Used.{HasNoUse};
+ghost use Rattle.px_meaning.specs.calls.Used.{HasNoUse};
 ghost use Rattle.px_tree.specs.calls.Reading.{Shows, bare, IsShape, Follows, span, span_checks};
 
 use crate::holding::hold;
-use crate::parts::{needs_place, number16, number32, part_of};
-use crate::roles::{Dir, Role, has_no_use, role_where};
 use crate::source::Source;
 use px_bytes::{Cause, Memory, Order, Ranges, Refusal};
 use px_field::Form;
+use px_meaning::{Dir, Role, has_no_use, needs_place, number16, number32, part_of, role_where};
 
 // The content of an entry's twelve bytes.
 #[derive(Clone, Copy)]

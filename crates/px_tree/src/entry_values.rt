@@ -3,13 +3,13 @@ ghost use Rattle.std.specs.Prelude.{◌≡◌, ◌≤◌, ◌*◌, length};
 ghost use Rattle.px_bytes.specs.Parts.{limit, part};
 ghost use Rattle.px_field.specs.declared.Kind.TheVariants.{Of};
 ghost use Rattle.px_field.specs.Forms.{size};
-ghost use Rattle.px_tree.specs.Entry.{entry, raw, entry_elements};
+ghost use Rattle.px_meaning.specs.Entry.{entry, raw, entry_elements};
 ghost use Rattle.px_tree.specs.calls.Reading.{IsHeld};
 
 use crate::entries::Head;
-use crate::parts::{needs_place, part_of};
 use px_bytes::Order;
 use px_field::{Form, Value, read_value};
+use px_meaning::{needs_place, part_of};
 
 // The raw bytes of an entry.
 pub fn raw_of<'a>(block: &'a [u8], order: Order, at: u32, head: Head, form: Form) -> &'a [u8]

@@ -1,5 +1,5 @@
 //! Laws of the definitions: the use of the footprint, and the meaning of a fault.
-ghost use Rattle.px_tree.specs.Laws.{OwnersOwn, FootprintCounts, FaultsTell};
+ghost use Rattle.px_tree.specs.FaultLaws.{OwnersOwn, FootprintCounts, FaultsTell};
 
 /// The owners of bytes, each with the offset that refers to it, make up the footprint.
 pub fn owners_own()

@@ -7,22 +7,20 @@ ghost use Rattle.px_bytes.specs.Parts.{limit, part};
 ghost use Rattle.px_bytes.specs.Range.{Range, Agrees};
 ghost use Rattle.px_bytes.specs.Checks.{LacksBlock, Judges};
 ghost use Rattle.px_field.specs.declared.Kind.TheVariants.{Of};
-ghost use Rattle.px_tree.specs.Entry.{entry, raw, entry_elements, widened_value, record_in, unless_record, value_in, field, Rising};
-ghost use Rattle.px_tree.specs.Footprint.{placed_range};
+ghost use Rattle.px_meaning.specs.Entry.{entry, raw, entry_elements, widened_value, record_in, unless_record, value_in, field, Rising};
+ghost use Rattle.px_meaning.specs.Footprint.{placed_range};
 ghost use Rattle.px_tree.specs.Checks.{entries_checks};
-ghost use Rattle.px_tree.specs.calls.Places.{tags};
+ghost use Rattle.px_meaning.specs.calls.Places.{tags};
 ghost use Rattle.px_tree.specs.calls.Reading.{IsHeld, is_whole, entries_from};
 ghost use Rattle.px_tree.specs.calls.Uses.{AreUses};
 
 use crate::entries::{Head, Shape, judge_entry};
 use crate::entry_values::{raw_of, value_at};
-use crate::fields::Fields;
-use crate::records::says_record;
-use crate::roles::Role;
 use crate::source::Source;
 use crate::uses::{Uses, keep_use, no_uses};
 use px_bytes::{Memory, Order, Ranges, Refusal};
 use px_field::{Form, Value, read_whole};
+use px_meaning::{Fields, Role, says_record};
 
 // Whether a type is SHORT or LONG.
 fn is_whole_form(form: Form) -> bool

@@ -3,20 +3,11 @@ ghost use Rattle.std.specs.Prelude.{◌≡◌, ◌≤◌, length, take, true, So
 ghost use Rattle.px_bytes.specs.Parts.{limit};
 ghost use Rattle.px_bytes.specs.Numbers.{AreBytes};
 ghost use Rattle.px_bytes.specs.Checks.{ContentOnly, Judges};
-ghost use Rattle.px_tree.specs.Directory.{magic};
+ghost use Rattle.px_meaning.specs.Directory.{magic};
 ghost use Rattle.px_tree.specs.Checks.{same_bytes, begins_header, order_of, header_checks};
 
 use px_bytes::{Cause, Order, Refusal};
-
-/// The first four bytes of a block in a byte order: "II" or "MM", and 42 in that order.
-pub fn magic_of(order: Order) -> [u8; 4]
-    ensures { result ≡ magic order }
-{
-    match order {
-        Order::Least => [0x49, 0x49, 0x2A, 0],
-        Order::Most => [0x4D, 0x4D, 0, 0x2A],
-    }
-}
+use px_meaning::magic_of;
 
 // Whether the first bytes, up to four, begin a header of this byte order.
 fn begins(block: &[u8], order: Order) -> bool

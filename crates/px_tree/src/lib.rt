@@ -1,7 +1,6 @@
-//! The tree of directories of an Exif block: its meaning, whatever its layout, or why it is refused. This
-//! crate reads a block into a `Meaning` and decides whether two meanings are the same and whether a meaning
-//! can be written. It writes nothing and opens no file. It knows a tag only by its role in its directory: a
-//! field, a pointer, the record, or a part of the thumbnail.
+//! The reader of Exif blocks: the meaning of a block, whatever its layout, or why it is refused. What a meaning
+//! is, and what can be asked of one, is in px_meaning; its public items can be named through this crate too. This
+//! crate writes nothing and opens no file.
 //!
 //! Functions over an allocator are for callers of this crate: nothing that ships calls them.
 //!
@@ -20,37 +19,20 @@ mod entries;
 mod entry_values;
 pub mod fault_laws;
 mod field_reading;
-mod fields;
-mod fitting;
 mod header;
 mod holding;
-pub mod laws;
 mod links;
-mod meanings;
-mod parts;
 mod read;
 mod records;
 mod rising;
-mod roles;
-mod same;
 mod source;
-mod strip_lists;
-mod strip_runs;
-mod strips;
 mod tables;
-mod tags;
 mod thumbnail;
 mod tree;
 mod uses;
 
-pub use fields::Fields;
-pub use fitting::fits;
-pub use header::magic_of;
-pub use meanings::{ExifPart, Meaning, Thumb};
-pub use parts::needs_place;
+pub use px_meaning::{
+    Dir, ExifPart, Fields, Meaning, Role, StripRun, Strips, Thumb, fits, laws, magic_of,
+    needs_place, same_meaning, table_len,
+};
 pub use read::{read_block, read_block_in};
-pub use roles::{Dir, Role};
-pub use same::same_meaning;
-pub use strip_runs::StripRun;
-pub use strips::Strips;
-pub use tables::table_len;

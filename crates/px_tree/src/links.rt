@@ -1,15 +1,15 @@
 // Pointers to directories. TIFF 6.0 section 2, "Image File Directory"; CIPA DC-008 4.6.3 (pointers).
 ghost use Rattle.std.specs.Prelude.{◌≡◌, ◌≤◌, ◌+◌, ◌*◌, length, IfSome, option_map};
 ghost use Rattle.px_bytes.specs.Parts.{limit};
-ghost use Rattle.px_tree.specs.Entry.{next, table};
-ghost use Rattle.px_tree.specs.Directory.{entries_at, unless_zero};
+ghost use Rattle.px_meaning.specs.Entry.{next, table};
+ghost use Rattle.px_meaning.specs.Directory.{entries_at, unless_zero};
 ghost use Rattle.px_tree.specs.Checks.{is_earlier_at};
 ghost use Rattle.px_tree.specs.calls.Reading.{HasTable};
 ghost use Rattle.px_tree.specs.calls.Linked.{offset_of, offsets_of};
 
 use crate::entries::Head;
-use crate::parts::number32;
 use px_bytes::Order;
+use px_meaning::number32;
 
 // The offset of a directory, and the offset of the pointer to it.
 #[derive(Clone, Copy)]

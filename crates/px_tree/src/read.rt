@@ -2,21 +2,20 @@
 ghost use Rattle.std.specs.Prelude.{◌≡◌, ◌≤◌, ℕ, length, IfOk, IfErr, option_map};
 ghost use Rattle.px_bytes.specs.Parts.{limit};
 ghost use Rattle.px_bytes.specs.Checks.{LacksBlock, Judges};
-ghost use Rattle.px_tree.specs.Fits.{Fits};
-ghost use Rattle.px_tree.specs.Says.{meaning, SaysExif};
-ghost use Rattle.px_tree.specs.calls.Seen.{exif_of, meaning_of};
+ghost use Rattle.px_meaning.specs.Fits.{Fits};
+ghost use Rattle.px_meaning.specs.Says.{meaning, SaysExif};
+ghost use Rattle.px_meaning.specs.calls.Seen.{exif_of, meaning_of};
 ghost use Rattle.px_tree.specs.Checks.{tree_checks};
 ghost use Rattle.px_tree.specs.Refused.{IsRefused};
 
-use crate::fields::Fields;
 use crate::header::{judge_header, order_in};
 use crate::holding::hold;
-use crate::meanings::{ExifPart, Meaning};
 use crate::records::read_record;
 use crate::tables::Directory;
 use crate::thumbnail::read_thumb;
 use crate::tree::{Directories, read_dirs};
 use px_bytes::{Block, Memory, Order, Ranges, Refusal};
+use px_meaning::{ExifPart, Fields, Meaning};
 use std::alloc::Global;
 
 // The fields of a directory, if the block has it.

@@ -1,34 +1,24 @@
 // The record in the main directory, at tag 0x83BB (IPTC-NAA).
-ghost use Rattle.std.specs.Prelude.{◌≡◌, ◌≤◌, length, is_some, IfOk, IfErr, option_and_then};
+ghost use Rattle.std.specs.Prelude.{◌≡◌, ◌≤◌, length, IfOk, IfErr, option_and_then};
 ghost use Rattle.std.specs.List.{AllByRecursion};
 ghost use Rattle.px_bytes.specs.Checks.{LacksBlock};
 ghost use Rattle.px_bytes.specs.declared.Refusal.TheVariants.{OutOfMemory};
 ghost use Rattle.px_bytes.specs.Parts.{limit};
 ghost use Rattle.px_field.specs.Forms.{form_of};
-ghost use Rattle.px_tree.specs.Iim.{iim_of};
-ghost use Rattle.px_tree.specs.Entry.{raw, record_in, IsEntry};
-ghost use Rattle.px_tree.specs.Directory.{entries_at};
-ghost use Rattle.px_tree.specs.Says.{record_at};
+ghost use Rattle.px_meaning.specs.Iim.{iim_of};
+ghost use Rattle.px_meaning.specs.Entry.{raw, record_in, IsEntry};
+ghost use Rattle.px_meaning.specs.Directory.{entries_at};
+ghost use Rattle.px_meaning.specs.Says.{record_at};
 ghost use Rattle.px_tree.specs.calls.Linked.{AreUsesAt};
 ghost use Rattle.px_tree.specs.calls.Parts.{HasValue, entry_here};
 
 use crate::entry_values::raw_of;
 use crate::links::Found;
-use crate::roles::Dir;
 use crate::tables::Directory;
 use px_bytes::{Memory, Order, Refusal};
 use px_field::Form;
-use px_iim::{Iim, accepts, read_iim_in};
-
-// Whether bytes of a type are a record.
-pub fn says_record(form: Form, raw: &[u8]) -> bool
-    ensures { result ≡ is_some (record_in form raw.now) }
-{
-    match form {
-        Form::Byte | Form::Undefined => accepts(raw),
-        _ => false,
-    }
-}
+use px_iim::{Iim, read_iim_in};
+use px_meaning::Dir;
 
 // The record in some bytes, if they are one.
 fn iim_in<'a>(memory: &mut Memory, raw: &'a [u8]) -> Result<Option<Iim<'a>>, Refusal>

@@ -1,9 +1,9 @@
 // Strips in the block by ascending offset, as nearly all writers write them.
 ghost use Rattle.std.specs.Prelude.{◌≡◌, ◌≤◌, length, IfSome};
 ghost use Rattle.px_bytes.specs.Parts.{limit};
-ghost use Rattle.px_tree.specs.calls.Strips.{Rise, ranges_in};
+ghost use Rattle.px_meaning.specs.calls.Strips.{Rise, ranges_in};
 
-use crate::strip_lists::{StripLists, number_in};
+use px_meaning::{StripLists, number_in};
 
 // The range from the start of the first strip up to the end of the last, as offsets from the block's first byte.
 #[derive(Clone, Copy)]

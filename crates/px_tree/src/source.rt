@@ -1,6 +1,6 @@
 // The input for reading a directory.
-use crate::roles::Dir;
 use px_bytes::Order;
+use px_meaning::Dir;
 
 // A block, its byte order, and the directory to read.
 #[derive(Clone, Copy)]

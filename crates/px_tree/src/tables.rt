@@ -3,22 +3,21 @@ ghost use Rattle.std.specs.Prelude.{◌≡◌, ◌≤◌, ◌+◌, ◌*◌, ◌+
 ghost use Rattle.px_bytes.specs.Parts.{limit};
 ghost use Rattle.px_bytes.specs.Range.{Range, range, Agrees};
 ghost use Rattle.px_bytes.specs.Checks.{LacksBlock, Judges};
-ghost use Rattle.px_tree.specs.Entry.{fields, table_size};
-ghost use Rattle.px_tree.specs.Directory.{entries_at};
-ghost use Rattle.px_tree.specs.Footprint.{dir_ranges};
+ghost use Rattle.px_meaning.specs.Entry.{fields, table_size};
+ghost use Rattle.px_meaning.specs.Directory.{entries_at};
+ghost use Rattle.px_meaning.specs.Footprint.{dir_ranges};
 ghost use Rattle.px_tree.specs.Checks.{opening_checks, dir_checks};
 ghost use Rattle.px_tree.specs.calls.Reading.{HasTable};
 ghost use Rattle.px_tree.specs.calls.Uses.{AreUses};
 ghost use Rattle.px_tree.specs.calls.Linked.{offsets_of};
 
 use crate::field_reading::{Entries, read_entries};
-use crate::fields::Fields;
 use crate::holding::hold;
 use crate::links::{Link, is_earlier};
-use crate::parts::number16;
 use crate::source::Source;
 use crate::uses::Uses;
 use px_bytes::{Cause, Memory, Ranges, Refusal};
+use px_meaning::{Fields, number16, table_len};
 
 // A directory: its fields, its entries with a special use, its offset and its number of entries.
 #[derive(Drop)]
@@ -27,13 +26,6 @@ pub struct Directory<'a> {
     pub uses: Uses,
     pub at: u32,
     pub count: u16,
-}
-
-/// The length in bytes of a table of so many entries.
-pub fn table_len(entries: u16) -> u32
-    ensures { result ≡ table_size entries }
-{
-    2 + 12 * u32::from(entries) + 4
 }
 
 // The number of entries of the table at a pointer. It claims the table.

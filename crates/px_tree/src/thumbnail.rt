@@ -8,28 +8,25 @@ ghost use Rattle.px_bytes.specs.Parts.{limit, part};
 ghost use Rattle.px_bytes.specs.Range.{Range, range, is_free, Agrees};
 ghost use Rattle.px_bytes.specs.Checks.{ContentOnly, LacksBlock, Judges, check};
 ghost use Rattle.px_field.specs.Forms.{form_of};
-ghost use Rattle.px_tree.specs.Thumbnail.{whole_number, numbers, bytes_of, IsInside};
-ghost use Rattle.px_tree.specs.Footprint.{listed};
-ghost use Rattle.px_tree.specs.Says.{thumbnail};
-ghost use Rattle.px_tree.specs.calls.Seen.{thumb_of};
+ghost use Rattle.px_meaning.specs.Thumbnail.{whole_number, numbers, bytes_of, IsInside};
+ghost use Rattle.px_meaning.specs.Footprint.{listed};
+ghost use Rattle.px_meaning.specs.Says.{thumbnail};
+ghost use Rattle.px_meaning.specs.calls.Seen.{thumb_of};
 ghost use Rattle.px_tree.specs.Checks.{end_checks, range_checks, thumb_checks, thumb_checks_at};
 ghost use Rattle.px_tree.specs.calls.Reading.{HasTable};
 ghost use Rattle.px_tree.specs.calls.Parts.{HasNumbers, HaveNumbers, AreEven, entry_here, place_in, pair_check, count_check, pairs_checks};
 ghost use Rattle.px_tree.specs.calls.Parts.{jpeg_of, strips_of, IsReadThumb};
-ghost use Rattle.px_tree.specs.calls.Strips.{ranges_in};
+ghost use Rattle.px_meaning.specs.calls.Strips.{ranges_in};
 
 use crate::entry_values::value_at;
 use crate::holding::hold;
 use crate::links::{Found, next_link};
-use crate::meanings::Thumb;
-use crate::parts::part_of;
 use crate::rising::rising_span;
-use crate::strip_lists::{StripLists, number_in};
-use crate::strips::Strips;
 use crate::tables::Directory;
 use crate::uses::Uses;
 use px_bytes::{Cause, Memory, Order, Ranges, Refusal};
 use px_field::{Form, Value};
+use px_meaning::{StripLists, Strips, Thumb, number_in, part_of};
 
 // Checks that neither or both entries of a pair are present.
 fn judge_pair(first: Option<Found>, second: Option<Found>) -> Result<(), Refusal>

@@ -4,9 +4,9 @@ ghost use Rattle.std.specs.Prelude.{◌≡◌, ◌≤◌, ◌++◌, List, [], le
 ghost use Rattle.px_bytes.specs.Parts.{limit};
 ghost use Rattle.px_bytes.specs.Range.{Range, Agrees};
 ghost use Rattle.px_bytes.specs.Checks.{LacksBlock, Judges};
-ghost use Rattle.px_tree.specs.Entry.{next, table};
-ghost use Rattle.px_tree.specs.Directory.{dirs, dir_at, fields_at, unless_zero};
-ghost use Rattle.px_tree.specs.Footprint.{ranges_at};
+ghost use Rattle.px_meaning.specs.Entry.{next, table};
+ghost use Rattle.px_meaning.specs.Directory.{dirs, dir_at, fields_at, unless_zero};
+ghost use Rattle.px_meaning.specs.Footprint.{ranges_at};
 ghost use Rattle.px_tree.specs.Checks.{checks_at, dirs_checks, dirs_held};
 ghost use Rattle.px_tree.specs.calls.Reading.{HasTable};
 ghost use Rattle.px_tree.specs.calls.Uses.{link_as};
@@ -14,12 +14,11 @@ ghost use Rattle.px_tree.specs.calls.Linked.{Names, IsRead, offsets_of, next_pla
 ghost use Rattle.px_tree.specs.calls.ReadTree.{SeenTree};
 
 use crate::links::{Link, next_link};
-use crate::parts::number32;
-use crate::roles::Dir;
 use crate::source::Source;
 use crate::tables::{Directory, read_directory};
 use crate::uses::link_of;
 use px_bytes::{Memory, Order, Ranges, Refusal};
+use px_meaning::{Dir, number32};
 
 // The directories of a block.
 #[derive(Drop)]

@@ -1,12 +1,12 @@
 // The entries of a table that have a special use, kept while the table is judged. CIPA DC-008 4.6.3
 // (pointers) and 4.5.5 (the thumbnail's bytes); TIFF 6.0 section 8, "StripOffsets" and "StripByteCounts".
 ghost use Rattle.std.specs.Prelude.{◌≡◌, ◌==◌, ◌&&◌, true, None, option_map};
-ghost use Rattle.px_tree.specs.calls.Used.{HasNoUse};
+ghost use Rattle.px_meaning.specs.calls.Used.{HasNoUse};
 ghost use Rattle.px_tree.specs.calls.Uses.{Keeps, NoUses, link_as, found_as};
 
 use crate::entries::{Head, Shape};
 use crate::links::{Found, Link};
-use crate::tags::{
+use px_meaning::tags::{
     EXIF_IFD_POINTER, GPS_INFO_IFD_POINTER, INTEROPERABILITY_IFD_POINTER, IPTC_NAA,
     JPEG_INTERCHANGE_FORMAT, JPEG_INTERCHANGE_FORMAT_LENGTH, STRIP_BYTE_COUNTS, STRIP_OFFSETS,
 };

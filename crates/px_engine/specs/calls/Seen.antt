@@ -1,5 +1,5 @@
 -- The meaning that a value of the program has.
-use Rattle.px_tree.specs.calls.Seen.{meaning_of}
+use Rattle.px_meaning.specs.calls.Seen.{meaning_of}
 use Rattle.px_engine.specs.declared.meanings.Said.{Said}
 use Rattle.px_engine.specs.declared.meanings.Said.TheVariants.{Exif, Iim}
 use Rattle.px_engine.specs.Files as said

@@ -19,9 +19,10 @@ use Rattle.px_iim.specs.lemmas.RecordLaws.{one_record, said_is_record}
 use Rattle.px_iim.specs.lemmas.NormalLaws as iim_normal
 use Rattle.px_iim.specs.lemmas.BoundLaws as iim_bound
 use Rattle.px_iim.specs.lemmas.FaultLaws as iim_faults
-use Rattle.px_tree.specs.Tree.{Meaning}
+use Rattle.px_meaning.specs.Tree.{Meaning}
 use Rattle.px_tree.specs.Checks.{checks}
-use Rattle.px_tree.specs.Laws as tree
+use Rattle.px_meaning.specs.Laws as tree
+use Rattle.px_tree.specs.FaultLaws as tree_faults
 use Rattle.px_layout.specs.Laid.{header}
 use Rattle.px_layout.specs.Normal.{normal_exif}
 use Rattle.px_layout.specs.lemmas.NormalLaws as exif_normal
@@ -68,17 +69,17 @@ module _ (b : List ℕ) where
   short_in kind.Exif (Iim i) x = absurd x
   short_in kind.Iim (Exif m) x = absurd x
 
-  stands_in : tree.FaultsTell → (k : BlockKind) (c : Cause) (p : ℕ) → FirstIn k b c p → StandsIn k b c p
+  stands_in : tree_faults.FaultsTell → (k : BlockKind) (c : Cause) (p : ℕ) → FirstIn k b c p → StandsIn k b c p
   stands_in tell kind.Exif c p h = tell.0 b c p h
   stands_in tell kind.Iim c p h = iim_faults.first_stands b c p h
 
-  unsaid_in : tree.FaultsTell → (k : BlockKind) (c : Cause) (p : ℕ) (s : Said) → StandsIn k b c p → SaysBlock k b s → ⊥
+  unsaid_in : tree_faults.FaultsTell → (k : BlockKind) (c : Cause) (p : ℕ) (s : Said) → StandsIn k b c p → SaysBlock k b s → ⊥
   unsaid_in tell kind.Exif c p (Exif m) h x = tell.1 b c p m h x
   unsaid_in tell kind.Iim c p (Iim i) h x = iim_faults.stands_unsaid b c p i h x
   unsaid_in tell kind.Exif c p (Iim i) h x = absurd x
   unsaid_in tell kind.Iim c p (Exif m) h x = absurd x
 
-  said_or_fault_in : tree.FaultsTell → (k : BlockKind) → ((s : Said) × SaysBlock k b s) ⊎ ((c : Cause) × (p : ℕ) × FirstIn k b c p)
+  said_or_fault_in : tree_faults.FaultsTell → (k : BlockKind) → ((s : Said) × SaysBlock k b s) ⊎ ((c : Cause) × (p : ℕ) × FirstIn k b c p)
   said_or_fault_in tell kind.Exif = elim (tell.2 b) [
     | inl (m, x) ↦ inl (Exif m, x)
     | inr h ↦ inr h
@@ -116,7 +117,7 @@ said_can_be_written fits f s h x = written_in (block_of f) fits (kind_of f) s (b
 pub normal_bound : tree.SaidFits → NormalBound
 normal_bound fits f s h x = bound_in (block_of f) fits (kind_of f) s (bytes_of_block f h) x
 
-pub faults_tell : tree.FaultsTell → FaultsTell
+pub faults_tell : tree_faults.FaultsTell → FaultsTell
 faults_tell tell = (
   λ f c p h. stands_in (block_of f) tell (kind_of f) c p h,
   λ f c p s h x. unsaid_in (block_of f) tell (kind_of f) c p s h x,

@@ -126,9 +126,11 @@ IsOf_element_of o form.Long x h = number_below_32 o x h
 IsOf_element_of o form.Rational x h = (number_below_32 o (take 4 x) (bytes_take 4 x h), number_below_32 o (drop 4 x) (bytes_drop 4 x h))
 IsOf_element_of o form.SShort x h = sfits_to_z (Fits-of_lt (number_below_16 o x h))
 IsOf_element_of o form.SLong x h = sfits_to_z (Fits-of_lt (number_below_32 o x h))
-IsOf_element_of o form.SRational x h =
-    (sfits_to_z (Fits-of_lt (number_below_32 o (take 4 x) (bytes_take 4 x h))), sfits_to_z
-    (Fits-of_lt (number_below_32 o (drop 4 x) (bytes_drop 4 x h))))
+IsOf_element_of o form.SRational x h = (
+  sfits_to_z (Fits-of_lt (number_below_32 o (take 4 x) (bytes_take 4 x h))),
+  sfits_to_z
+      (Fits-of_lt (number_below_32 o (drop 4 x) (bytes_drop 4 x h))),
+)
 IsOf_element_of o form.Float x h = number_below_32 o x h
 IsOf_element_of o form.Double x h = number_below_64 o x h
 IsOf_element_of o form.Byte x h = h 0

@@ -9,12 +9,13 @@ use Rattle.std.proofs.lemmas.List.{length-map}
 use Rattle.std.proofs.lemmas.Option.{slice_get-map}
 use Rattle.px_bytes.specs.Parts.{limit}
 use Rattle.px_field.specs.Values.{Value}
-use Rattle.px_tree.specs.declared.Dir.{Dir}
-use Rattle.px_tree.specs.declared.Dir.TheVariants.{Main, Exif, Interop, Gps, Thumb}
-use Rattle.px_tree.specs.Entry.{Rising}
-use Rattle.px_tree.specs.Tree.{Fields, ExifPart, Thumbnail, Meaning}
-use Rattle.px_tree.specs.Fits.{Item, Field, StripSizes, items, put, main_items, exif_items, thumb_items, field_items, FitsFields, FitsExif}
-use Rattle.px_tree.specs.Fits.{FitsThumb, IsBytes}
+use Rattle.px_meaning.specs.declared.Dir.{Dir}
+use Rattle.px_meaning.specs.declared.Dir.TheVariants.{Main, Exif, Interop, Gps, Thumb}
+use Rattle.px_meaning.specs.Entry.{Rising}
+use Rattle.px_meaning.specs.Tree.{Fields, ExifPart, Thumbnail, Meaning}
+use Rattle.px_meaning.specs.Fits.{Item, Field, StripSizes, items, put, main_items, exif_items, thumb_items, field_items, FitsFields}
+use Rattle.px_meaning.specs.Fits.{FitsExif}
+use Rattle.px_meaning.specs.Fits.{FitsThumb, IsBytes}
 use Rattle.px_layout.specs.declared.items.Item as held
 use Rattle.px_layout.specs.calls.Items.{item_of, IsCounted, rank}
 use Rattle.px_layout.specs.calls.Layers.{over, Stands, Tells, Finds, IsClear}
@@ -244,7 +245,7 @@ pub clear_through : (a b c d : Option Extra) (fs : Fields) (n i : ℕ) →
     fs)
 clear_through a b c d fs n i ca cb cc cd sa sb sc sd u l =
     passes_through a b c d fs i i i i i (clear_passes d n i cd u) (clear_passes c n i cc u) (clear_passes b n i cb u)
-        (clear_passes a n i ca u)
+    (clear_passes a n i ca u)
     sa sb sc sd l
 
 -- an item that is there is counted

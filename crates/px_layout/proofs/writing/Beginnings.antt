@@ -1,10 +1,10 @@
 -- The byte offsets of the parts of a normal form, one after the other.
 use Rattle.std.proofs.Common.{◌≡◌, ℕ, zero, suc, ◌+◌, Option, Some, List, [], ◌∷◌, length, map, drop, slice_get, get_or}
 use Rattle.std.proofs.Common.{refl, ◌∙◌, ap, subst, arith}
-use Rattle.px_tree.specs.Tree.{Meaning}
-use Rattle.px_tree.specs.Fits.{Item, items, Fits}
-use Rattle.px_tree.specs.Entry.{table_size}
-use Rattle.px_tree.specs.declared.Dir.{Dir}
+use Rattle.px_meaning.specs.Tree.{Meaning}
+use Rattle.px_meaning.specs.Fits.{Item, items, Fits}
+use Rattle.px_meaning.specs.Entry.{table_size}
+use Rattle.px_meaning.specs.declared.Dir.{Dir}
 use Rattle.px_layout.specs.calls.Starting.{Ends}
 use Rattle.px_layout.specs.Chunks.{chunks_of_dir, strip_chunks}
 use Rattle.px_layout.specs.Normal.{even, padded_size, normal_plan, normal_exif}

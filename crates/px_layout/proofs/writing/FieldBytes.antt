@@ -5,7 +5,7 @@ use Rattle.std.proofs.lemmas.Bool.{cond-true, cond-false, cases_Bool, le-ltb}
 use Rattle.px_bytes.specs.declared.Order.TheVariants.{Most}
 use Rattle.px_field.specs.Forms.{size}
 use Rattle.px_field.specs.Values.{Value, form_in, spelled}
-use Rattle.px_tree.specs.Fits.{Item, Field, item_size}
+use Rattle.px_meaning.specs.Fits.{Item, Field, item_size}
 use Rattle.px_layout.specs.Plans.{Plan}
 use Rattle.px_layout.specs.Laid.{long_bytes, item_bytes}
 use Rattle.px_layout.specs.Normal.{padded}

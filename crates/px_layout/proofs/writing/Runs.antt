@@ -9,13 +9,13 @@ use Rattle.px_bytes.specs.Parts.{limit}
 use Rattle.px_bytes.specs.Numbers.{spelling}
 use Rattle.px_bytes.specs.declared.Order.TheVariants.{Most}
 use Rattle.px_field.specs.Forms.{code}
-use Rattle.px_tree.specs.declared.Dir.{Dir}
-use Rattle.px_tree.specs.declared.Dir.TheVariants.{Main, Exif, Interop, Gps, Thumb}
-use Rattle.px_tree.specs.Tree.{Fields, ExifPart, Thumbnail, Meaning}
-use Rattle.px_tree.specs.Entry.{table_size}
-use Rattle.px_tree.specs.Iim.{Iim}
-use Rattle.px_tree.specs.Fits.{Item, Iptc, AtJpeg, JpegSize, AtStrips, StripSizes, put_some, link, field_items, main_items, exif_items}
-use Rattle.px_tree.specs.Fits.{thumb_items, items, item_form, item_count, item_size, Fits}
+use Rattle.px_meaning.specs.declared.Dir.{Dir}
+use Rattle.px_meaning.specs.declared.Dir.TheVariants.{Main, Exif, Interop, Gps, Thumb}
+use Rattle.px_meaning.specs.Tree.{Fields, ExifPart, Thumbnail, Meaning}
+use Rattle.px_meaning.specs.Entry.{table_size}
+use Rattle.px_meaning.specs.Iim.{Iim}
+use Rattle.px_meaning.specs.Fits.{Item, Iptc, AtJpeg, JpegSize, AtStrips, StripSizes, put_some, link, field_items, main_items, exif_items}
+use Rattle.px_meaning.specs.Fits.{thumb_items, items, item_form, item_count, item_size, Fits}
 use Rattle.px_layout.specs.declared.chunks.Chunk.TheVariants.{Table, Placed, Jpeg, Strip}
 use Rattle.px_layout.specs.declared.starts.Starts.{Starts}
 use Rattle.px_layout.specs.Chunks.{jpeg_chunks, strip_chunks, all_strip_chunks}
@@ -28,7 +28,7 @@ use Rattle.px_layout.specs.lemmas.RunLaws.{thumb_found, jpeg_place, run_none, wi
 use Rattle.px_layout.specs.lemmas.RunLaws.{strip_place}
 use Rattle.px_layout.specs.calls.Given.{head_bytes, last_given, entry_given, strip_list, TellsAll, strips_size, strip_places}
 use Rattle.px_layout.specs.calls.Starting.{AreStarts}
-use Rattle.px_tree.specs.Directory.{magic}
+use Rattle.px_meaning.specs.Directory.{magic}
 use Rattle.px_layout.proofs.writing.Beginnings.{dir_there, form_end, sized_read, sized_length}
 use Rattle.px_layout.specs.lemmas.WalkLaws.{drop_here}
 

@@ -8,7 +8,7 @@ use Rattle.px_bytes.specs.Parts.{limit}
 use Rattle.px_bytes.specs.Waiting.{Owes}
 use Rattle.px_bytes.specs.lemmas.WaitingLaws.{from_none, owed_prefix, owed_all}
 use Rattle.px_bytes.specs.lemmas.WriteLaws.{appends_kept, prefix_all}
-use Rattle.px_tree.specs.Tree.{Meaning}
+use Rattle.px_meaning.specs.Tree.{Meaning}
 use Rattle.px_layout.specs.Normal.{normal_exif}
 use Rattle.px_layout.specs.calls.Forms.{AnswersForm}
 use Rattle.px_layout.specs.Writing.{WritesExif}

@@ -3,9 +3,9 @@ use Rattle.std.specs.Prelude.{◌≡◌, ◌<◌, ◌≤◌, length, Result, Ok,
 use Rattle.px_bytes.specs.declared.WriteRefusal.{WriteRefusal}
 use Rattle.px_bytes.specs.declared.WriteRefusal.TheVariants.{NormalTooLong, OutOfMemory, WriteFailed}
 use Rattle.px_bytes.specs.Parts.{limit}
-use Rattle.px_tree.specs.Tree.{Meaning}
-use Rattle.px_tree.specs.Fits.{Fits}
-use Rattle.px_tree.specs.calls.Seen.{meaning_of}
+use Rattle.px_meaning.specs.Tree.{Meaning}
+use Rattle.px_meaning.specs.Fits.{Fits}
+use Rattle.px_meaning.specs.calls.Seen.{meaning_of}
 use Rattle.px_layout.specs.declared.form.NormalForm.{NormalForm}
 use Rattle.px_layout.specs.Plans.{Plan}
 use Rattle.px_layout.specs.Normal.{normal_plan, normal_exif}

@@ -2,9 +2,9 @@
 use Rattle.std.specs.Prelude.{ℕ, suc, ◌≤◌, ◌*◌, nat_lt, if◌then◌else◌, ⊤, List, [], ◌∷◌, length, map}
 use Rattle.std.specs.List.{AllByRecursion}
 use Rattle.px_bytes.specs.Parts.{limit}
-use Rattle.px_tree.specs.Iim.{normal_iim}
-use Rattle.px_tree.specs.Fits.{Item, Field, Iptc, AtJpeg, JpegSize, AtStrips, StripSizes}
-use Rattle.px_tree.specs.Fits as fits
+use Rattle.px_meaning.specs.Iim.{normal_iim}
+use Rattle.px_meaning.specs.Fits.{Item, Field, Iptc, AtJpeg, JpegSize, AtStrips, StripSizes}
+use Rattle.px_meaning.specs.Fits as fits
 use Rattle.px_layout.specs.declared.items.Item as held
 use Rattle.px_layout.specs.declared.items.Entry.{Entry}
 use Rattle.px_layout.specs.declared.items.Item.TheVariants as held_as

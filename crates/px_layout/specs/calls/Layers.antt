@@ -1,6 +1,6 @@
 -- Entries that are inserted into a list of entries, each with its index.
 use Rattle.std.specs.Prelude.{◌≡◌, ℕ, ◌<◌, ◌≤◌, ◌^◌, Option, Some, None, ⊤, List, length, slice_get}
-use Rattle.px_tree.specs.Fits.{Item, put, field_items}
+use Rattle.px_meaning.specs.Fits.{Item, put, field_items}
 use Rattle.px_layout.specs.calls.Items.{item_of, IsCounted, rank}
 use Rattle.px_layout.specs.declared.entries.Extra.{Extra}
 use Rattle.px_layout.specs.declared.entries.Step.{Step}

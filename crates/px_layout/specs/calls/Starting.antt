@@ -3,8 +3,8 @@ use Rattle.std.specs.Prelude.{◌≡◌, ℕ, ◌<◌, ◌≤◌, Option, Some, 
 use Rattle.px_bytes.specs.declared.WriteRefusal.{WriteRefusal}
 use Rattle.px_bytes.specs.declared.WriteRefusal.TheVariants.{NormalTooLong, OutOfMemory, WriteFailed}
 use Rattle.px_bytes.specs.Parts.{limit}
-use Rattle.px_tree.specs.declared.Dir.TheVariants.{Exif, Interop, Gps, Thumb}
-use Rattle.px_tree.specs.Tree.{Meaning}
+use Rattle.px_meaning.specs.declared.Dir.TheVariants.{Exif, Interop, Gps, Thumb}
+use Rattle.px_meaning.specs.Tree.{Meaning}
 use Rattle.px_layout.specs.declared.starts.Starts as held
 use Rattle.px_layout.specs.Normal.{normal_exif}
 use Rattle.px_layout.specs.lemmas.RunLaws.{start, thumb_start, strips_start}

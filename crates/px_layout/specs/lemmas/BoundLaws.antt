@@ -10,17 +10,18 @@ use Rattle.px_bytes.specs.Numbers.{number}
 use Rattle.px_bytes.specs.Parts.{part, pieces}
 use Rattle.px_bytes.specs.Range.{Range, range}
 use Rattle.px_field.specs.lemmas.PieceLaws.{length_pieces}
-use Rattle.px_tree.specs.declared.Dir.{Dir}
-use Rattle.px_tree.specs.declared.Dir.TheVariants.{Main, Exif, Interop, Gps, Thumb}
-use Rattle.px_tree.specs.Tree.{Meaning}
-use Rattle.px_tree.specs.Entry.{Entry, entry, short, table_size, has_table, table, entries, raw_size, is_placed, offset, has_raw, IsEntry}
-use Rattle.px_tree.specs.Entry.{IsDirectory, fields}
-use Rattle.px_tree.specs.Directory.{dirs, entries_at, main_at, dir_at}
-use Rattle.px_tree.specs.Thumbnail.{bytes_of, IsInside, jpeg_range, strip_ranges, IsThumbnail}
-use Rattle.px_tree.specs.Footprint.{listed, placed_range, dir_ranges, ranges_at, thumb_ranges, footprint}
-use Rattle.px_tree.specs.Says.{exif_part, thumbnail, meaning, IsExif}
-use Rattle.px_tree.specs.Fits.{Item, field_items, exif_items, thumb_items, items, Fits}
-use Rattle.px_tree.specs.Laws.{SaidFits}
+use Rattle.px_meaning.specs.declared.Dir.{Dir}
+use Rattle.px_meaning.specs.declared.Dir.TheVariants.{Main, Exif, Interop, Gps, Thumb}
+use Rattle.px_meaning.specs.Tree.{Meaning}
+use Rattle.px_meaning.specs.Entry.{Entry, entry, short, table_size, has_table, table, entries, raw_size, is_placed, offset, has_raw}
+use Rattle.px_meaning.specs.Entry.{IsEntry}
+use Rattle.px_meaning.specs.Entry.{IsDirectory, fields}
+use Rattle.px_meaning.specs.Directory.{dirs, entries_at, main_at, dir_at}
+use Rattle.px_meaning.specs.Thumbnail.{bytes_of, IsInside, jpeg_range, strip_ranges, IsThumbnail}
+use Rattle.px_meaning.specs.Footprint.{listed, placed_range, dir_ranges, ranges_at, thumb_ranges, footprint}
+use Rattle.px_meaning.specs.Says.{exif_part, thumbnail, meaning, IsExif}
+use Rattle.px_meaning.specs.Fits.{Item, field_items, exif_items, thumb_items, items, Fits}
+use Rattle.px_meaning.specs.Laws.{SaidFits}
 use Rattle.px_layout.specs.declared.chunks.Chunk.{Chunk}
 use Rattle.px_layout.specs.Chunks.{dir_chunks, chunks_of_dir, jpeg_chunks, strip_chunks, all_strip_chunks, thumb_chunks, chunks}
 use Rattle.px_layout.specs.Normal.{padded_size, normal_plan, normal_exif}

@@ -18,15 +18,15 @@ use Rattle.px_field.specs.declared.Element.TheVariants as element
 use Rattle.px_field.specs.Forms.{code}
 use Rattle.px_field.specs.Values.{spell, IsOf, Value, IsValue, form_in, spelled}
 use Rattle.px_iim.specs.lemmas.NormalLaws.{normal_says}
-use Rattle.px_tree.specs.declared.Dir.{Dir}
-use Rattle.px_tree.specs.declared.Dir.TheVariants.{Main, Thumb}
-use Rattle.px_tree.specs.declared.Role.{Role}
-use Rattle.px_tree.specs.declared.Role.TheVariants.{Plain, Widened, Record, JpegOffset, JpegLength, StripOffsets, StripLengths, To}
-use Rattle.px_tree.specs.Roles.{role}
-use Rattle.px_tree.specs.Tree.{Meaning, Thumbnail}
-use Rattle.px_tree.specs.Directory.{magic, dirs}
-use Rattle.px_tree.specs.Fits.{Item, Field, Iptc, Link, AtJpeg, JpegSize, AtStrips, StripSizes, item_form, item_count, item_size, items}
-use Rattle.px_tree.specs.Fits.{IsBytes, FitsThumb, Fits}
+use Rattle.px_meaning.specs.declared.Dir.{Dir}
+use Rattle.px_meaning.specs.declared.Dir.TheVariants.{Main, Thumb}
+use Rattle.px_meaning.specs.declared.Role.{Role}
+use Rattle.px_meaning.specs.declared.Role.TheVariants.{Plain, Widened, Record, JpegOffset, JpegLength, StripOffsets, StripLengths, To}
+use Rattle.px_meaning.specs.Roles.{role}
+use Rattle.px_meaning.specs.Tree.{Meaning, Thumbnail}
+use Rattle.px_meaning.specs.Directory.{magic, dirs}
+use Rattle.px_meaning.specs.Fits.{Item, Field, Iptc, Link, AtJpeg, JpegSize, AtStrips, StripSizes, item_form, item_count, item_size, items}
+use Rattle.px_meaning.specs.Fits.{IsBytes, FitsThumb, Fits}
 use Rattle.px_layout.specs.declared.chunks.Chunk.{Chunk}
 use Rattle.px_layout.specs.declared.chunks.Chunk.TheVariants.{Table, Placed, Jpeg, Strip}
 use Rattle.px_layout.specs.Plans.{Plan, place}

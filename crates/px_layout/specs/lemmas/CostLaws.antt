@@ -8,10 +8,10 @@ use Rattle.std.proofs.lemmas.Bool.{cond-true, cond-false, cond_both, cases_Bool}
 use Rattle.px_bytes.specs.Range.{Range, range}
 use Rattle.px_field.specs.Values.{Value}
 use Rattle.px_bytes.specs.declared.Order.{Order}
-use Rattle.px_tree.specs.declared.Dir.{Dir}
-use Rattle.px_tree.specs.Entry.{Entry, raw_size, offset, Rising}
-use Rattle.px_tree.specs.Footprint.{placed_range}
-use Rattle.px_tree.specs.Fits.{Item, Field, item_size, field_items}
+use Rattle.px_meaning.specs.declared.Dir.{Dir}
+use Rattle.px_meaning.specs.Entry.{Entry, raw_size, offset, Rising}
+use Rattle.px_meaning.specs.Footprint.{placed_range}
+use Rattle.px_meaning.specs.Fits.{Item, Field, item_size, field_items}
 use Rattle.px_layout.specs.declared.chunks.Chunk.{Chunk}
 use Rattle.px_layout.specs.declared.chunks.Chunk.TheVariants.{Placed}
 use Rattle.px_layout.specs.Chunks.{placed_chunk}

@@ -10,12 +10,13 @@ use Rattle.px_bytes.specs.Parts.{part, pieces}
 use Rattle.px_bytes.specs.lemmas.NumberLaws.{length_spelling, number_spelling}
 use Rattle.px_bytes.specs.lemmas.EachLaws.{each_map, map_each, map_map}
 use Rattle.px_field.specs.lemmas.PieceLaws.{pieces_joined}
-use Rattle.px_tree.specs.declared.Dir.{Dir}
-use Rattle.px_tree.specs.Tree.{Meaning}
-use Rattle.px_tree.specs.Entry.{Entry, entry, short, long, table_size, has_table, table, entries, next, IsEntry, Rising, IsDirectory, field}
-use Rattle.px_tree.specs.Entry.{fields}
-use Rattle.px_tree.specs.Fits.{Item}
-use Rattle.px_tree.specs.Roles.{role}
+use Rattle.px_meaning.specs.declared.Dir.{Dir}
+use Rattle.px_meaning.specs.Tree.{Meaning}
+use Rattle.px_meaning.specs.Entry.{Entry, entry, short, long, table_size, has_table, table, entries, next, IsEntry, Rising, IsDirectory}
+use Rattle.px_meaning.specs.Entry.{field}
+use Rattle.px_meaning.specs.Entry.{fields}
+use Rattle.px_meaning.specs.Fits.{Item}
+use Rattle.px_meaning.specs.Roles.{role}
 use Rattle.px_layout.specs.declared.chunks.Chunk.TheVariants.{Table}
 use Rattle.px_layout.specs.Plans.{Plan, place}
 use Rattle.px_layout.specs.Laid.{entry_bytes, next_bytes, table_bytes}

@@ -7,18 +7,19 @@ use Rattle.std.proofs.lemmas.Bool.{cond_both, cases_lt, cases_eq}
 use Rattle.px_bytes.specs.Parts.{limit}
 use Rattle.px_bytes.specs.lemmas.EachLaws.{each_map}
 use Rattle.px_field.specs.Values.{Value, IsValue}
-use Rattle.px_tree.specs.Iim.{Iim, IsRecord, normal_iim}
-use Rattle.px_tree.specs.declared.Dir.{Dir}
-use Rattle.px_tree.specs.declared.Dir.TheVariants.{Main, Exif, Interop, Gps, Thumb}
-use Rattle.px_tree.specs.Tree.{Fields, ExifPart, Thumbnail, Meaning}
-use Rattle.px_tree.specs.declared.Role.{Role}
-use Rattle.px_tree.specs.declared.Role.TheVariants.{Plain, Widened, Forbidden, Record, JpegOffset, JpegLength, StripOffsets, StripLengths}
-use Rattle.px_tree.specs.declared.Role.TheVariants.{To}
-use Rattle.px_tree.specs.Roles.{exif_tag, gps_tag, record_tag, interop_tag, jpeg_offset_tag, jpeg_length_tag, strip_offsets_tag}
-use Rattle.px_tree.specs.Roles.{strip_lengths_tag, free_offsets_tag, role}
-use Rattle.px_tree.specs.Entry.{Rising}
-use Rattle.px_tree.specs.Fits.{Item, Field, Iptc, Link, AtJpeg, JpegSize, AtStrips, StripSizes, put, put_some, link, field_items}
-use Rattle.px_tree.specs.Fits.{main_items, exif_items, thumb_items, items, Allows, FitsField, FitsFields, Fits, FitsExif, FitsThumb}
+use Rattle.px_meaning.specs.Iim.{Iim, IsRecord, normal_iim}
+use Rattle.px_meaning.specs.declared.Dir.{Dir}
+use Rattle.px_meaning.specs.declared.Dir.TheVariants.{Main, Exif, Interop, Gps, Thumb}
+use Rattle.px_meaning.specs.Tree.{Fields, ExifPart, Thumbnail, Meaning}
+use Rattle.px_meaning.specs.declared.Role.{Role}
+use Rattle.px_meaning.specs.declared.Role.TheVariants.{Plain, Widened, Forbidden, Record, JpegOffset, JpegLength, StripOffsets}
+use Rattle.px_meaning.specs.declared.Role.TheVariants.{StripLengths}
+use Rattle.px_meaning.specs.declared.Role.TheVariants.{To}
+use Rattle.px_meaning.specs.Roles.{exif_tag, gps_tag, record_tag, interop_tag, jpeg_offset_tag, jpeg_length_tag, strip_offsets_tag}
+use Rattle.px_meaning.specs.Roles.{strip_lengths_tag, free_offsets_tag, role}
+use Rattle.px_meaning.specs.Entry.{Rising}
+use Rattle.px_meaning.specs.Fits.{Item, Field, Iptc, Link, AtJpeg, JpegSize, AtStrips, StripSizes, put, put_some, link, field_items}
+use Rattle.px_meaning.specs.Fits.{main_items, exif_items, thumb_items, items, Allows, FitsField, FitsFields, Fits, FitsExif, FitsThumb}
 use Rattle.px_layout.specs.lemmas.ItemLaws.{Suits}
 
 -- a directory's entries, in order

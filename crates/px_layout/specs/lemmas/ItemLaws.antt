@@ -18,13 +18,13 @@ use Rattle.px_field.specs.lemmas.ValueLaws.{length_spelled}
 use Rattle.px_field.specs.lemmas.PieceLaws.{length_joined}
 use Rattle.px_iim.specs.lemmas.RecordLaws.{said_computed}
 use Rattle.px_iim.specs.lemmas.NormalLaws.{normal_says}
-use Rattle.px_tree.specs.Iim.{Iim, iim_of, IsRecord, normal_iim}
-use Rattle.px_tree.specs.declared.Dir.{Dir}
-use Rattle.px_tree.specs.declared.Role.{Role}
-use Rattle.px_tree.specs.declared.Role.TheVariants.{Plain, Widened, Record, JpegOffset, JpegLength, StripOffsets, StripLengths, To}
-use Rattle.px_tree.specs.Roles.{role}
-use Rattle.px_tree.specs.Entry.{Entry, entry, sized, raw_size, is_placed, offset, raw, has_raw}
-use Rattle.px_tree.specs.Fits.{Item, Field, Iptc, Link, AtJpeg, JpegSize, AtStrips, StripSizes, item_form, item_count, item_size, Allows}
+use Rattle.px_meaning.specs.Iim.{Iim, iim_of, IsRecord, normal_iim}
+use Rattle.px_meaning.specs.declared.Dir.{Dir}
+use Rattle.px_meaning.specs.declared.Role.{Role}
+use Rattle.px_meaning.specs.declared.Role.TheVariants.{Plain, Widened, Record, JpegOffset, JpegLength, StripOffsets, StripLengths, To}
+use Rattle.px_meaning.specs.Roles.{role}
+use Rattle.px_meaning.specs.Entry.{Entry, entry, sized, raw_size, is_placed, offset, raw, has_raw}
+use Rattle.px_meaning.specs.Fits.{Item, Field, Iptc, Link, AtJpeg, JpegSize, AtStrips, StripSizes, item_form, item_count, item_size, Allows}
 use Rattle.px_layout.specs.declared.chunks.Chunk.TheVariants.{Placed}
 use Rattle.px_layout.specs.declared.chunks.Chunk.TheVariants as chunk
 use Rattle.px_layout.specs.Plans.{Plan, place}

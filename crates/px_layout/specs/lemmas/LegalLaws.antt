@@ -13,20 +13,22 @@ use Rattle.px_bytes.specs.lemmas.EachLaws.{each_map, each_left, each_right}
 use Rattle.px_field.specs.Values.{form_in, Value}
 use Rattle.px_field.specs.Forms.{form_of}
 use Rattle.px_field.specs.lemmas.FormLaws.{form_of_code}
-use Rattle.px_tree.specs.Iim.{Iim, IsRecord, normal_iim}
-use Rattle.px_tree.specs.declared.Dir.{Dir}
-use Rattle.px_tree.specs.declared.Dir.TheVariants.{Main, Exif, Interop, Gps, Thumb}
-use Rattle.px_tree.specs.Tree.{Fields, ExifPart, Thumbnail, Meaning}
-use Rattle.px_tree.specs.declared.Role.TheVariants.{Record}
-use Rattle.px_tree.specs.Roles.{exif_tag, gps_tag, record_tag, jpeg_offset_tag, jpeg_length_tag, strip_offsets_tag, strip_lengths_tag, role}
-use Rattle.px_tree.specs.Roles.{at_tag}
-use Rattle.px_tree.specs.Entry.{Entry, raw, raw_size, is_placed, offset, record_in, fields, table_size, IsDirectory}
-use Rattle.px_tree.specs.Directory.{dir_at, entries_at, entry_with, fields_at, dirs}
-use Rattle.px_tree.specs.Says.{record_at, exif_part, thumbnail, meaning, IsExif}
-use Rattle.px_tree.specs.Thumbnail.{both, are_paired, numbers, jpeg_range, ranges_of, strip_ranges, bytes_of, IsInside, IsThumbnail}
-use Rattle.px_tree.specs.Footprint.{placed_range, dir_ranges, thumb_ranges, listed, footprint}
-use Rattle.px_tree.specs.Fits.{Item, Field, Iptc, AtJpeg, JpegSize, AtStrips, StripSizes, item_form, item_size, put_some, link, field_items}
-use Rattle.px_tree.specs.Fits.{main_items, exif_items, thumb_items, items, Allows, FitsField, FitsThumb, IsBytes, Fits}
+use Rattle.px_meaning.specs.Iim.{Iim, IsRecord, normal_iim}
+use Rattle.px_meaning.specs.declared.Dir.{Dir}
+use Rattle.px_meaning.specs.declared.Dir.TheVariants.{Main, Exif, Interop, Gps, Thumb}
+use Rattle.px_meaning.specs.Tree.{Fields, ExifPart, Thumbnail, Meaning}
+use Rattle.px_meaning.specs.declared.Role.TheVariants.{Record}
+use Rattle.px_meaning.specs.Roles.{exif_tag, gps_tag, record_tag, jpeg_offset_tag, jpeg_length_tag, strip_offsets_tag, strip_lengths_tag}
+use Rattle.px_meaning.specs.Roles.{role}
+use Rattle.px_meaning.specs.Roles.{at_tag}
+use Rattle.px_meaning.specs.Entry.{Entry, raw, raw_size, is_placed, offset, record_in, fields, table_size, IsDirectory}
+use Rattle.px_meaning.specs.Directory.{dir_at, entries_at, entry_with, fields_at, dirs}
+use Rattle.px_meaning.specs.Says.{record_at, exif_part, thumbnail, meaning, IsExif}
+use Rattle.px_meaning.specs.Thumbnail.{both, are_paired, numbers, jpeg_range, ranges_of, strip_ranges, bytes_of, IsInside, IsThumbnail}
+use Rattle.px_meaning.specs.Footprint.{placed_range, dir_ranges, thumb_ranges, listed, footprint}
+use Rattle.px_meaning.specs.Fits.{Item, Field, Iptc, AtJpeg, JpegSize, AtStrips, StripSizes, item_form, item_size, put_some, link}
+use Rattle.px_meaning.specs.Fits.{field_items}
+use Rattle.px_meaning.specs.Fits.{main_items, exif_items, thumb_items, items, Allows, FitsField, FitsThumb, IsBytes, Fits}
 use Rattle.px_layout.specs.declared.chunks.Chunk.{Chunk}
 use Rattle.px_layout.specs.declared.chunks.Chunk.TheVariants.{Table, Placed, Jpeg}
 use Rattle.px_layout.specs.Chunks.{placed_chunk, dir_chunks, chunks_of_dir, jpeg_chunks, strip_chunks, all_strip_chunks, thumb_chunks}

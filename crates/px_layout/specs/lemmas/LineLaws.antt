@@ -10,12 +10,12 @@ use Rattle.px_bytes.specs.Parts.{limit}
 use Rattle.px_bytes.specs.declared.Order.TheVariants.{Most}
 use Rattle.px_bytes.specs.Range.{Range, range, IsIn, Apart, AllApart}
 use Rattle.px_bytes.specs.lemmas.EachLaws.{map_each, map_map}
-use Rattle.px_tree.specs.declared.Dir.{Dir}
-use Rattle.px_tree.specs.declared.Dir.TheVariants.{Main, Exif, Interop, Gps, Thumb}
-use Rattle.px_tree.specs.Tree.{Meaning}
-use Rattle.px_tree.specs.Entry.{Rising}
-use Rattle.px_tree.specs.Fits.{Fits}
-use Rattle.px_tree.specs.Faults.{dir_number}
+use Rattle.px_meaning.specs.declared.Dir.{Dir}
+use Rattle.px_meaning.specs.declared.Dir.TheVariants.{Main, Exif, Interop, Gps, Thumb}
+use Rattle.px_meaning.specs.Tree.{Meaning}
+use Rattle.px_meaning.specs.Entry.{Rising}
+use Rattle.px_meaning.specs.Fits.{Fits}
+use Rattle.px_meaning.specs.Roles.{dir_number}
 use Rattle.px_layout.specs.declared.chunks.Chunk.{Chunk}
 use Rattle.px_layout.specs.declared.chunks.Chunk.TheVariants.{Table, Placed, Jpeg, Strip}
 use Rattle.px_layout.specs.Chunks.{chunks, same_chunk}

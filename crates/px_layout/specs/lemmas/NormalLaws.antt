@@ -3,10 +3,10 @@ use Rattle.std.proofs.Common.{◌≡◌, ℕ, ◌≤◌, List, length, refl, sym
 use Rattle.px_bytes.specs.Parts.{limit}
 use Rattle.px_bytes.specs.declared.Order.{Order}
 use Rattle.px_bytes.specs.declared.Order.TheVariants.{Least, Most}
-use Rattle.px_tree.specs.Tree.{Meaning}
-use Rattle.px_tree.specs.Directory.{magic}
-use Rattle.px_tree.specs.Says.{meaning, SaysExif}
-use Rattle.px_tree.specs.Fits.{Fits}
+use Rattle.px_meaning.specs.Tree.{Meaning}
+use Rattle.px_meaning.specs.Directory.{magic}
+use Rattle.px_meaning.specs.Says.{meaning, SaysExif}
+use Rattle.px_meaning.specs.Fits.{Fits}
 use Rattle.px_layout.specs.Normal.{normal_plan, normal_exif}
 use Rattle.px_layout.specs.Laws.{NormalIsLaid, NormalTells}
 use Rattle.px_layout.specs.lemmas.LegalLaws.{legal_says}

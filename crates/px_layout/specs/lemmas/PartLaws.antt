@@ -12,15 +12,16 @@ use Rattle.px_field.specs.declared.Form.TheVariants.{Long}
 use Rattle.px_field.specs.Values.{element_of, elements}
 use Rattle.px_field.specs.lemmas.PieceLaws.{pieces_joined}
 use Rattle.px_field.specs.lemmas.FormLaws.{form_of_code}
-use Rattle.px_tree.specs.declared.Dir.{Dir}
-use Rattle.px_tree.specs.declared.Dir.TheVariants.{Exif, Interop, Gps, Thumb}
-use Rattle.px_tree.specs.Tree.{ExifPart, Thumbnail, Meaning}
-use Rattle.px_tree.specs.Roles.{exif_tag, gps_tag, record_tag, interop_tag, jpeg_offset_tag, jpeg_length_tag, strip_offsets_tag}
-use Rattle.px_tree.specs.Roles.{strip_lengths_tag, role, at_tag}
-use Rattle.px_tree.specs.Entry.{offset, entry_elements}
-use Rattle.px_tree.specs.Thumbnail.{whole_number, numbers, numbers_in, ranges_of, bytes_of, IsInside}
-use Rattle.px_tree.specs.Fits.{Item, Iptc, Link, AtJpeg, JpegSize, AtStrips, StripSizes, item_size, put_some, link, field_items, main_items}
-use Rattle.px_tree.specs.Fits.{exif_items, thumb_items, FitsThumb}
+use Rattle.px_meaning.specs.declared.Dir.{Dir}
+use Rattle.px_meaning.specs.declared.Dir.TheVariants.{Exif, Interop, Gps, Thumb}
+use Rattle.px_meaning.specs.Tree.{ExifPart, Thumbnail, Meaning}
+use Rattle.px_meaning.specs.Roles.{exif_tag, gps_tag, record_tag, interop_tag, jpeg_offset_tag, jpeg_length_tag, strip_offsets_tag}
+use Rattle.px_meaning.specs.Roles.{strip_lengths_tag, role, at_tag}
+use Rattle.px_meaning.specs.Entry.{offset, entry_elements}
+use Rattle.px_meaning.specs.Thumbnail.{whole_number, numbers, numbers_in, ranges_of, bytes_of, IsInside}
+use Rattle.px_meaning.specs.Fits.{Item, Iptc, Link, AtJpeg, JpegSize, AtStrips, StripSizes, item_size, put_some, link, field_items}
+use Rattle.px_meaning.specs.Fits.{main_items}
+use Rattle.px_meaning.specs.Fits.{exif_items, thumb_items, FitsThumb}
 use Rattle.px_layout.specs.declared.chunks.Chunk.{Chunk}
 use Rattle.px_layout.specs.declared.chunks.Chunk.TheVariants.{Jpeg, Strip}
 use Rattle.px_layout.specs.Chunks.{strip_chunks}

@@ -18,21 +18,22 @@ use Rattle.px_field.specs.Values.{Value, elements, widened}
 use Rattle.px_field.specs.lemmas.ValueLaws.{length_elements}
 use Rattle.px_iim.specs.lemmas.RecordLaws.{computed_said}
 use Rattle.px_iim.specs.lemmas.BoundLaws.{normal_bound as record_bound}
-use Rattle.px_tree.specs.Iim.{Iim}
-use Rattle.px_tree.specs.declared.Dir.{Dir}
-use Rattle.px_tree.specs.declared.Dir.TheVariants.{Main, Exif, Interop, Gps, Thumb}
-use Rattle.px_tree.specs.declared.Role.{Role}
-use Rattle.px_tree.specs.declared.Role.TheVariants.{Plain, Widened, Forbidden, Record, JpegOffset, JpegLength, StripOffsets, StripLengths}
-use Rattle.px_tree.specs.declared.Role.TheVariants.{To}
-use Rattle.px_tree.specs.Roles.{jpeg_offset_tag, jpeg_length_tag, strip_offsets_tag, strip_lengths_tag, exif_tag, gps_tag, interop_tag}
-use Rattle.px_tree.specs.Roles.{record_tag, role}
-use Rattle.px_tree.specs.Entry.{Entry, sized, raw_size, is_placed, offset, raw, is_one_long, is_short_or_long, has_form, IsEntry}
-use Rattle.px_tree.specs.Entry.{entry_elements, widened_value, record_in, unless_record, value_in, field, fields}
-use Rattle.px_tree.specs.Directory.{entries_at, entry_with, is_pointer, pointer, main_at, dir_at}
-use Rattle.px_tree.specs.Thumbnail.{both, whole_number, numbers_in, numbers, bytes_of, jpeg_range, ranges_of, strip_ranges}
-use Rattle.px_tree.specs.Says.{record_at, exif_part, thumbnail, meaning}
-use Rattle.px_tree.specs.Fits.{Item, Field, Iptc, Link, AtJpeg, JpegSize, AtStrips, StripSizes, item_size, put_some, link, field_items}
-use Rattle.px_tree.specs.Fits.{main_items, exif_items, thumb_items}
+use Rattle.px_meaning.specs.Iim.{Iim}
+use Rattle.px_meaning.specs.declared.Dir.{Dir}
+use Rattle.px_meaning.specs.declared.Dir.TheVariants.{Main, Exif, Interop, Gps, Thumb}
+use Rattle.px_meaning.specs.declared.Role.{Role}
+use Rattle.px_meaning.specs.declared.Role.TheVariants.{Plain, Widened, Forbidden, Record, JpegOffset, JpegLength, StripOffsets}
+use Rattle.px_meaning.specs.declared.Role.TheVariants.{StripLengths}
+use Rattle.px_meaning.specs.declared.Role.TheVariants.{To}
+use Rattle.px_meaning.specs.Roles.{jpeg_offset_tag, jpeg_length_tag, strip_offsets_tag, strip_lengths_tag, exif_tag, gps_tag, interop_tag}
+use Rattle.px_meaning.specs.Roles.{record_tag, role}
+use Rattle.px_meaning.specs.Entry.{Entry, sized, raw_size, is_placed, offset, raw, is_one_long, is_short_or_long, has_form, IsEntry}
+use Rattle.px_meaning.specs.Entry.{entry_elements, widened_value, record_in, unless_record, value_in, field, fields}
+use Rattle.px_meaning.specs.Directory.{entries_at, entry_with, is_pointer, pointer, main_at, dir_at}
+use Rattle.px_meaning.specs.Thumbnail.{both, whole_number, numbers_in, numbers, bytes_of, jpeg_range, ranges_of, strip_ranges}
+use Rattle.px_meaning.specs.Says.{record_at, exif_part, thumbnail, meaning}
+use Rattle.px_meaning.specs.Fits.{Item, Field, Iptc, Link, AtJpeg, JpegSize, AtStrips, StripSizes, item_size, put_some, link, field_items}
+use Rattle.px_meaning.specs.Fits.{main_items, exif_items, thumb_items}
 use Rattle.px_layout.specs.lemmas.EntryLaws.{each_put}
 use Rattle.px_layout.specs.lemmas.CostLaws.{weight, cost, cost_widened, Pays, PayEach, pays_found, found_is, pay_fields}
 

@@ -10,12 +10,12 @@ use Rattle.px_field.specs.declared.Form.{Form}
 use Rattle.px_field.specs.declared.Form.TheVariants.{Byte, Ascii, Short, Long, Rational, SByte, Undefined, SShort, SLong, SRational, Float}
 use Rattle.px_field.specs.declared.Form.TheVariants.{Double, Utf8}
 use Rattle.px_field.specs.Forms.{size}
-use Rattle.px_tree.specs.declared.Dir.{Dir}
-use Rattle.px_tree.specs.declared.Dir.TheVariants.{Main, Exif, Interop, Gps, Thumb}
-use Rattle.px_tree.specs.Tree.{Meaning}
-use Rattle.px_tree.specs.Roles.{role}
-use Rattle.px_tree.specs.Directory.{dirs}
-use Rattle.px_tree.specs.Fits.{Item, item_form, item_count, item_size, items, Fits}
+use Rattle.px_meaning.specs.declared.Dir.{Dir}
+use Rattle.px_meaning.specs.declared.Dir.TheVariants.{Main, Exif, Interop, Gps, Thumb}
+use Rattle.px_meaning.specs.Tree.{Meaning}
+use Rattle.px_meaning.specs.Roles.{role}
+use Rattle.px_meaning.specs.Directory.{dirs}
+use Rattle.px_meaning.specs.Fits.{Item, item_form, item_count, item_size, items, Fits}
 use Rattle.px_layout.specs.declared.chunks.Chunk.{Chunk}
 use Rattle.px_layout.specs.declared.chunks.Chunk.TheVariants.{Table, Placed}
 use Rattle.px_layout.specs.Plans.{Plan, place, Legal}

@@ -12,13 +12,13 @@ use Rattle.px_bytes.specs.Parts.{part}
 use Rattle.px_bytes.specs.Range.{Range, range, Apart}
 use Rattle.px_bytes.specs.lemmas.NumberLaws.{number_spelling}
 use Rattle.px_bytes.specs.lemmas.EachLaws.{each_in_map, each_left, each_right}
-use Rattle.px_tree.specs.declared.Dir.{Dir}
-use Rattle.px_tree.specs.declared.Dir.TheVariants.{Main, Exif, Interop, Gps, Thumb}
-use Rattle.px_tree.specs.Tree.{ExifPart, Thumbnail, Meaning}
-use Rattle.px_tree.specs.Roles.{exif_tag, gps_tag, record_tag, interop_tag, role, at_tag}
-use Rattle.px_tree.specs.Entry.{long, table, next, fields}
-use Rattle.px_tree.specs.Directory.{magic, pointer, dir_at, unless_zero, entries_at, dirs}
-use Rattle.px_tree.specs.Fits.{Item, Iptc, link, field_items, main_items, exif_items, thumb_items, items, FitsField, FitsExif, Fits}
+use Rattle.px_meaning.specs.declared.Dir.{Dir}
+use Rattle.px_meaning.specs.declared.Dir.TheVariants.{Main, Exif, Interop, Gps, Thumb}
+use Rattle.px_meaning.specs.Tree.{ExifPart, Thumbnail, Meaning}
+use Rattle.px_meaning.specs.Roles.{exif_tag, gps_tag, record_tag, interop_tag, role, at_tag}
+use Rattle.px_meaning.specs.Entry.{long, table, next, fields}
+use Rattle.px_meaning.specs.Directory.{magic, pointer, dir_at, unless_zero, entries_at, dirs}
+use Rattle.px_meaning.specs.Fits.{Item, Iptc, link, field_items, main_items, exif_items, thumb_items, items, FitsField, FitsExif, Fits}
 use Rattle.px_layout.specs.Chunks.{thumb_chunks, chunks_of_dir, chunks}
 use Rattle.px_layout.specs.declared.chunks.Chunk.{Chunk}
 use Rattle.px_layout.specs.declared.chunks.Chunk.TheVariants.{Table}

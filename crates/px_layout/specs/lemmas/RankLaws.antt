@@ -6,13 +6,13 @@ use Rattle.std.specs.List.{AllByRecursion, cons_option}
 use Rattle.std.proofs.lemmas.Bool.{cond_both}
 use Rattle.std.proofs.lemmas.List.{map-append}
 use Rattle.px_bytes.specs.lemmas.EachLaws.{each_map, each_append}
-use Rattle.px_tree.specs.declared.Dir.{Dir}
-use Rattle.px_tree.specs.declared.Dir.TheVariants.{Main, Exif, Interop, Gps, Thumb}
-use Rattle.px_tree.specs.Tree.{Meaning, Thumbnail}
-use Rattle.px_tree.specs.Entry.{Rising}
-use Rattle.px_tree.specs.Directory.{dirs}
-use Rattle.px_tree.specs.Fits.{Item, item_size, items, Fits}
-use Rattle.px_tree.specs.Faults.{dir_number}
+use Rattle.px_meaning.specs.declared.Dir.{Dir}
+use Rattle.px_meaning.specs.declared.Dir.TheVariants.{Main, Exif, Interop, Gps, Thumb}
+use Rattle.px_meaning.specs.Tree.{Meaning, Thumbnail}
+use Rattle.px_meaning.specs.Entry.{Rising}
+use Rattle.px_meaning.specs.Directory.{dirs}
+use Rattle.px_meaning.specs.Fits.{Item, item_size, items, Fits}
+use Rattle.px_meaning.specs.Roles.{dir_number}
 use Rattle.px_layout.specs.declared.chunks.Chunk.{Chunk}
 use Rattle.px_layout.specs.declared.chunks.Chunk.TheVariants.{Table, Placed, Jpeg, Strip}
 use Rattle.px_layout.specs.Chunks.{placed_chunk, chunks_of_dir, jpeg_chunks, strip_chunks, all_strip_chunks, thumb_chunks, chunks}

@@ -15,15 +15,16 @@ use Rattle.px_field.specs.declared.Kind.{Kind}
 use Rattle.px_field.specs.declared.Kind.TheVariants.{Of, Whole}
 use Rattle.px_field.specs.lemmas.ValueLaws.{elements_spelled}
 use Rattle.px_field.specs.lemmas.FormLaws.{form_of_code}
-use Rattle.px_tree.specs.Iim.{iim_of}
-use Rattle.px_tree.specs.declared.Dir.{Dir}
-use Rattle.px_tree.specs.declared.Role.{Role}
-use Rattle.px_tree.specs.declared.Role.TheVariants.{Plain, Widened, Forbidden, Record, JpegOffset, JpegLength, StripOffsets, StripLengths}
-use Rattle.px_tree.specs.declared.Role.TheVariants.{To}
-use Rattle.px_tree.specs.Roles.{role}
-use Rattle.px_tree.specs.Entry.{Entry, raw, has_form, is_allowed, IsEntry, entry_elements, widened_value, record_in, unless_record}
-use Rattle.px_tree.specs.Entry.{value_in, field}
-use Rattle.px_tree.specs.Fits.{Item, Field, Iptc, Link, AtJpeg, JpegSize, AtStrips, StripSizes, item_form, item_count, item_size}
+use Rattle.px_meaning.specs.Iim.{iim_of}
+use Rattle.px_meaning.specs.declared.Dir.{Dir}
+use Rattle.px_meaning.specs.declared.Role.{Role}
+use Rattle.px_meaning.specs.declared.Role.TheVariants.{Plain, Widened, Forbidden, Record, JpegOffset, JpegLength, StripOffsets}
+use Rattle.px_meaning.specs.declared.Role.TheVariants.{StripLengths}
+use Rattle.px_meaning.specs.declared.Role.TheVariants.{To}
+use Rattle.px_meaning.specs.Roles.{role}
+use Rattle.px_meaning.specs.Entry.{Entry, raw, has_form, is_allowed, IsEntry, entry_elements, widened_value, record_in, unless_record}
+use Rattle.px_meaning.specs.Entry.{value_in, field}
+use Rattle.px_meaning.specs.Fits.{Item, Field, Iptc, Link, AtJpeg, JpegSize, AtStrips, StripSizes, item_form, item_count, item_size}
 use Rattle.px_layout.specs.Plans.{Plan}
 use Rattle.px_layout.specs.Laid.{item_bytes}
 use Rattle.px_layout.specs.lemmas.ItemLaws.{Suits, item_value, item_field, IsHere, entry_of, raw_is, has_raw_is, iim_normal}

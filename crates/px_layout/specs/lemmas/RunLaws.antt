@@ -5,13 +5,13 @@ use Rattle.std.proofs.Common.{arith, lt-ltb}
 use Rattle.std.specs.List.{AllByRecursion, cons_option}
 use Rattle.std.proofs.lemmas.Bool.{cond-true, cond-false, cond_both}
 use Rattle.px_bytes.specs.lemmas.EachLaws.{each_append}
-use Rattle.px_tree.specs.declared.Dir.{Dir}
-use Rattle.px_tree.specs.declared.Dir.TheVariants.{Main, Exif, Interop, Gps, Thumb}
-use Rattle.px_tree.specs.Tree.{Meaning, Thumbnail}
-use Rattle.px_tree.specs.Entry.{Rising, table_size}
-use Rattle.px_tree.specs.Directory.{dirs}
-use Rattle.px_tree.specs.Faults.{dir_number}
-use Rattle.px_tree.specs.Fits.{Item, item_size, items}
+use Rattle.px_meaning.specs.declared.Dir.{Dir}
+use Rattle.px_meaning.specs.declared.Dir.TheVariants.{Main, Exif, Interop, Gps, Thumb}
+use Rattle.px_meaning.specs.Tree.{Meaning, Thumbnail}
+use Rattle.px_meaning.specs.Entry.{Rising, table_size}
+use Rattle.px_meaning.specs.Directory.{dirs}
+use Rattle.px_meaning.specs.Roles.{dir_number}
+use Rattle.px_meaning.specs.Fits.{Item, item_size, items}
 use Rattle.px_layout.specs.declared.chunks.Chunk.{Chunk}
 use Rattle.px_layout.specs.declared.chunks.Chunk.TheVariants.{Table, Placed, Jpeg, Strip}
 use Rattle.px_layout.specs.Chunks.{same_chunk, placed_chunk, chunks_of_dir, jpeg_chunks, strip_chunks, all_strip_chunks, thumb_chunks}

@@ -12,13 +12,13 @@ use Rattle.px_bytes.specs.Range.{range, AllApart}
 use Rattle.px_bytes.specs.lemmas.NumberLaws.{length_spelling}
 use Rattle.px_bytes.specs.lemmas.EachLaws.{each_map, each_in_map, map_map}
 use Rattle.px_field.specs.lemmas.PieceLaws.{length_joined}
-use Rattle.px_tree.specs.declared.Dir.{Dir}
-use Rattle.px_tree.specs.declared.Dir.TheVariants.{Main, Exif, Interop, Gps, Thumb}
-use Rattle.px_tree.specs.Tree.{Meaning, Thumbnail}
-use Rattle.px_tree.specs.Roles.{role}
-use Rattle.px_tree.specs.Entry.{table_size}
-use Rattle.px_tree.specs.Directory.{dirs, magic}
-use Rattle.px_tree.specs.Fits.{Item, item_size, items, Fits}
+use Rattle.px_meaning.specs.declared.Dir.{Dir}
+use Rattle.px_meaning.specs.declared.Dir.TheVariants.{Main, Exif, Interop, Gps, Thumb}
+use Rattle.px_meaning.specs.Tree.{Meaning, Thumbnail}
+use Rattle.px_meaning.specs.Roles.{role}
+use Rattle.px_meaning.specs.Entry.{table_size}
+use Rattle.px_meaning.specs.Directory.{dirs, magic}
+use Rattle.px_meaning.specs.Fits.{Item, item_size, items, Fits}
 use Rattle.px_layout.specs.declared.chunks.Chunk.{Chunk}
 use Rattle.px_layout.specs.declared.chunks.Chunk.TheVariants.{Table, Placed, Strip}
 use Rattle.px_layout.specs.Chunks.{placed_chunk, chunks_of_dir, jpeg_chunks, strip_chunks, all_strip_chunks, thumb_chunks, chunks}

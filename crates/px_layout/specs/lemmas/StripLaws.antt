@@ -1,8 +1,8 @@
 -- The thumbnail's bytes as they are written.
 use Rattle.std.proofs.Common.{◌≡◌, ℕ, ◌+◌, Some, List, [], ◌∷◌, ◌++◌, flat_map, replicate, append-nil, refl, sym, ap, ◌∙◌}
 use Rattle.std.proofs.lemmas.List.Concat.{flat_map-append}
-use Rattle.px_tree.specs.Tree.{Thumbnail}
-use Rattle.px_tree.specs.calls.Strips.{KeepsEven}
+use Rattle.px_meaning.specs.Tree.{Thumbnail}
+use Rattle.px_meaning.specs.calls.Strips.{KeepsEven}
 use Rattle.px_layout.specs.declared.chunks.Chunk.{Chunk}
 use Rattle.px_layout.specs.Laid.{jpeg_contents, strip_contents, all_strip_contents, thumb_contents}
 use Rattle.px_layout.specs.Normal.{padded}

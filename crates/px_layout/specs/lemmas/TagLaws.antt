@@ -7,14 +7,14 @@ use Rattle.std.proofs.lemmas.Bool.{cond-true, cond-false, cond_both, cases_Bool}
 use Rattle.px_bytes.specs.declared.Order.{Order}
 use Rattle.px_bytes.specs.Numbers.{number, spelling}
 use Rattle.px_bytes.specs.lemmas.NumberLaws.{number_spelling}
-use Rattle.px_tree.specs.declared.Dir.{Dir}
-use Rattle.px_tree.specs.Tree.{Fields}
-use Rattle.px_tree.specs.Roles.{at_tag, role}
-use Rattle.px_tree.specs.declared.Role.TheVariants.{To}
-use Rattle.px_tree.specs.declared.Role.{Role}
-use Rattle.px_tree.specs.Entry.{is_one_long, offset}
-use Rattle.px_tree.specs.Directory.{pointer, entry_with}
-use Rattle.px_tree.specs.Fits.{Item, Field, Iptc, Link, AtJpeg, JpegSize, AtStrips, StripSizes, item_size, put, put_some, field_items}
+use Rattle.px_meaning.specs.declared.Dir.{Dir}
+use Rattle.px_meaning.specs.Tree.{Fields}
+use Rattle.px_meaning.specs.Roles.{at_tag, role}
+use Rattle.px_meaning.specs.declared.Role.TheVariants.{To}
+use Rattle.px_meaning.specs.declared.Role.{Role}
+use Rattle.px_meaning.specs.Entry.{is_one_long, offset}
+use Rattle.px_meaning.specs.Directory.{pointer, entry_with}
+use Rattle.px_meaning.specs.Fits.{Item, Field, Iptc, Link, AtJpeg, JpegSize, AtStrips, StripSizes, item_size, put, put_some, field_items}
 use Rattle.px_layout.specs.declared.chunks.Chunk.TheVariants.{Table}
 use Rattle.px_layout.specs.Plans.{Plan, place}
 use Rattle.px_layout.specs.Laid.{item_bytes, last_bytes}

@@ -6,10 +6,10 @@ use Rattle.std.specs.Option.{option_to_list}
 use Rattle.std.specs.Prelude.{IfSome}
 use Rattle.std.proofs.lemmas.List.{append-nil, drop_all}
 use Rattle.std.proofs.lemmas.Option.{slice_get_within, get_or_from_slice_get}
-use Rattle.px_tree.specs.declared.Dir.{Dir}
-use Rattle.px_tree.specs.declared.Dir.TheVariants.{Main, Exif, Interop, Gps, Thumb}
-use Rattle.px_tree.specs.Tree.{Meaning}
-use Rattle.px_tree.specs.Fits.{Item, items, Fits}
+use Rattle.px_meaning.specs.declared.Dir.{Dir}
+use Rattle.px_meaning.specs.declared.Dir.TheVariants.{Main, Exif, Interop, Gps, Thumb}
+use Rattle.px_meaning.specs.Tree.{Meaning}
+use Rattle.px_meaning.specs.Fits.{Item, items, Fits}
 use Rattle.px_layout.specs.declared.chunks.Chunk.{Chunk}
 use Rattle.px_layout.specs.declared.chunks.Chunk.TheVariants.{Strip}
 use Rattle.px_layout.specs.Chunks.{chunks_of_dir, strip_chunks, thumb_chunks, chunks}

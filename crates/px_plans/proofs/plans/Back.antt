@@ -8,13 +8,13 @@ use Rattle.px_layout.specs.Laid.{laid}
 use Rattle.px_layout.specs.Plans.{Plan, Legal}
 use Rattle.px_layout.specs.lemmas.LegalLaws.{legal_says}
 use Rattle.px_plans.specs.RoundTrip.{ReadsBack}
-use Rattle.px_tree.specs.Fits.{Fits}
+use Rattle.px_meaning.specs.Fits.{Fits}
 use Rattle.px_tree.specs.Refused.{IsRefused}
-use Rattle.px_tree.specs.Says.{SaysExif}
-use Rattle.px_tree.specs.Tree.{Meaning}
-use Rattle.px_tree.specs.declared.Meaning.{Meaning as Read}
-use Rattle.px_tree.specs.calls.Seen.{meaning_of}
-use Rattle.px_tree.specs.lemmas.MeaningLaws.{one_meaning}
+use Rattle.px_meaning.specs.Says.{SaysExif}
+use Rattle.px_meaning.specs.Tree.{Meaning}
+use Rattle.px_meaning.specs.declared.Meaning.{Meaning as Read}
+use Rattle.px_meaning.specs.calls.Seen.{meaning_of}
+use Rattle.px_meaning.specs.lemmas.MeaningLaws.{one_meaning}
 
 said_reads_back : (r : Result Read Refusal) (b : List ℕ) (m : Meaning) (old new : ℕ) → SaysExif b m
     → IfOk r (λ x. SaysExif b (meaning_of x))

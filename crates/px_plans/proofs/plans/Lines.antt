@@ -10,8 +10,8 @@ use Rattle.px_bytes.specs.declared.WriteRefusal.{WriteRefusal}
 use Rattle.px_bytes.specs.declared.WriteRefusal.TheVariants.{NormalTooLong, OutOfMemory, WriteFailed}
 use Rattle.px_bytes.specs.Parts.{limit}
 use Rattle.px_bytes.specs.calls.Writing.{LacksWriteBy}
-use Rattle.px_tree.specs.Tree.{Meaning}
-use Rattle.px_tree.specs.Fits.{Fits}
+use Rattle.px_meaning.specs.Tree.{Meaning}
+use Rattle.px_meaning.specs.Fits.{Fits}
 use Rattle.px_layout.specs.declared.chunks.Chunk.{Chunk}
 use Rattle.px_layout.specs.Chunks.{same_chunk, chunks}
 use Rattle.px_layout.specs.Plans.{Plan, Legal}

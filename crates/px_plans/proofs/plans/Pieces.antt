@@ -7,11 +7,11 @@ use Rattle.std.proofs.lemmas.Bool.{cond-true, cond-false, false_from_ne_true}
 use Rattle.std.proofs.lemmas.List.{map-append, length-replicate}
 use Rattle.px_bytes.specs.declared.Order.{Order}
 use Rattle.px_bytes.specs.lemmas.EachLaws.{each_in_map, each_left, each_right}
-use Rattle.px_tree.specs.declared.Dir.{Dir}
-use Rattle.px_tree.specs.declared.Dir.TheVariants.{Main, Exif, Interop, Gps, Thumb}
-use Rattle.px_tree.specs.Tree.{Thumbnail, Meaning}
-use Rattle.px_tree.specs.Directory.{dirs}
-use Rattle.px_tree.specs.Fits.{Item, item_size, items, Fits}
+use Rattle.px_meaning.specs.declared.Dir.{Dir}
+use Rattle.px_meaning.specs.declared.Dir.TheVariants.{Main, Exif, Interop, Gps, Thumb}
+use Rattle.px_meaning.specs.Tree.{Thumbnail, Meaning}
+use Rattle.px_meaning.specs.Directory.{dirs}
+use Rattle.px_meaning.specs.Fits.{Item, item_size, items, Fits}
 use Rattle.px_layout.specs.declared.chunks.Chunk.{Chunk}
 use Rattle.px_layout.specs.declared.chunks.Chunk.TheVariants.{Table, Placed, Strip}
 use Rattle.px_plans.specs.declared.layout.Layout.{Layout}

@@ -9,9 +9,9 @@ use Rattle.std.proofs.lemmas.Map.Keys.{IsDistinct-cons}
 use Rattle.px_bytes.specs.Parts.{limit}
 use Rattle.px_bytes.specs.Range.{Range, range, Apart, AllApart, shares, is_free}
 use Rattle.px_bytes.specs.lemmas.ApartLaws.{apart_from_test, test_from_apart}
-use Rattle.px_tree.specs.Tree.{Meaning}
-use Rattle.px_tree.specs.Entry.{Rising}
-use Rattle.px_tree.specs.Fits.{Fits}
+use Rattle.px_meaning.specs.Tree.{Meaning}
+use Rattle.px_meaning.specs.Entry.{Rising}
+use Rattle.px_meaning.specs.Fits.{Fits}
 use Rattle.px_layout.specs.declared.chunks.Chunk.{Chunk}
 use Rattle.px_layout.specs.Chunks.{same_chunk, chunks}
 use Rattle.px_layout.specs.Plans.{Plan, place, plan_ranges, Legal}

@@ -1,9 +1,9 @@
 -- A block that is built piece by piece: a new piece comes first in the list, so it overwrites the others.
 use Rattle.std.specs.Prelude.{◌≡◌, ℕ, ◌+◌, ◌≤◌, ◌<◌, ◌^◌, ⊤, List, ◌++◌, length, map, filter_map}
 use Rattle.std.specs.List.{AllByRecursion, range_with_len}
-use Rattle.px_tree.specs.declared.Dir.{Dir}
-use Rattle.px_tree.specs.Tree.{Meaning}
-use Rattle.px_tree.specs.Fits.{Item, items}
+use Rattle.px_meaning.specs.declared.Dir.{Dir}
+use Rattle.px_meaning.specs.Tree.{Meaning}
+use Rattle.px_meaning.specs.Fits.{Item, items}
 use Rattle.px_layout.specs.declared.chunks.Chunk.{Chunk}
 use Rattle.px_plans.specs.declared.layout.Layout.{Layout}
 use Rattle.px_plans.specs.declared.building.Piece.{Piece}

@@ -3,7 +3,7 @@ use Rattle.std.specs.Prelude.{◌≡◌, ℕ, ◌+◌, ◌<◌, ◌≤◌, List,
 use Rattle.px_bytes.specs.declared.WriteRefusal.{WriteRefusal}
 use Rattle.px_bytes.specs.declared.WriteRefusal.TheVariants.{NormalTooLong, OutOfMemory, WriteFailed}
 use Rattle.px_bytes.specs.Parts.{limit}
-use Rattle.px_tree.specs.Tree.{Meaning}
+use Rattle.px_meaning.specs.Tree.{Meaning}
 use Rattle.px_layout.specs.declared.chunks.Chunk.{Chunk}
 use Rattle.px_plans.specs.declared.plan.Plan as held
 use Rattle.px_layout.specs.Plans.{Plan, Legal}

@@ -12,13 +12,13 @@ use Rattle.px_bytes.specs.lemmas.CheckLaws.{all_true, Refuses_more, Refuses_behi
 use Rattle.px_iim.specs.Check.{iim_checks}
 use Rattle.px_iim.specs.lemmas.FaultLaws.{said_clean}
 use Rattle.px_iim.specs.lemmas.RecordLaws.{computed_said}
-use Rattle.px_tree.specs.Iim.{Iim, iim_of}
-use Rattle.px_tree.specs.Tree as said
-use Rattle.px_tree.specs.Fits.{Fits}
-use Rattle.px_tree.specs.Says.{meaning, SaysExif}
+use Rattle.px_meaning.specs.Iim.{Iim, iim_of}
+use Rattle.px_meaning.specs.Tree as said
+use Rattle.px_meaning.specs.Fits.{Fits}
+use Rattle.px_meaning.specs.Says.{meaning, SaysExif}
 use Rattle.px_tree.specs.Checks.{order_of, header_checks, tree_checks, checks_in, checks}
 use Rattle.px_tree.specs.Refused.{IsRefused}
-use Rattle.px_tree.proofs.writable.Filled.{said_fits}
+use Rattle.px_meaning.specs.lemmas.Filled.{said_fits}
 use Rattle.px_tree.proofs.saying.Judged.{none_false, judged_well, order_told}
 use Rattle.px_tree.proofs.faulting.ToldAll.{first_stands}
 use Rattle.px_tree.proofs.faulting.Unsaid.{stands_unsaid}

@@ -12,13 +12,13 @@ use Rattle.px_bytes.specs.declared.Cause.TheVariants as cause
 use Rattle.px_bytes.specs.Parts.{limit, part}
 use Rattle.px_bytes.specs.Range.{Range, range}
 use Rattle.px_bytes.specs.lemmas.EachLaws.{each_append, all_at}
-use Rattle.px_tree.specs.declared.roles.Dir.{Dir}
-use Rattle.px_tree.specs.declared.roles.Dir.TheVariants.{Main, Exif, Interop, Gps, Thumb}
-use Rattle.px_tree.specs.Roles.{exif_tag, gps_tag, interop_tag, jpeg_offset_tag, jpeg_length_tag, strip_offsets_tag, strip_lengths_tag}
-use Rattle.px_tree.specs.Entry.{Entry, short, table_size, has_table, table, entries, next, offset}
-use Rattle.px_tree.specs.Directory.{dirs, dir_at, main_at, exif_at, entries_at, entry_with, is_pointer, pointer, unless_zero}
-use Rattle.px_tree.specs.Thumbnail.{both, numbers, ranges_of, jpeg_range, strip_ranges}
-use Rattle.px_tree.specs.Footprint.{listed, placed_range}
+use Rattle.px_meaning.specs.declared.Dir.{Dir}
+use Rattle.px_meaning.specs.declared.Dir.TheVariants.{Main, Exif, Interop, Gps, Thumb}
+use Rattle.px_meaning.specs.Roles.{exif_tag, gps_tag, interop_tag, jpeg_offset_tag, jpeg_length_tag, strip_offsets_tag, strip_lengths_tag}
+use Rattle.px_meaning.specs.Entry.{Entry, short, table_size, has_table, table, entries, next, offset}
+use Rattle.px_meaning.specs.Directory.{dirs, dir_at, main_at, exif_at, entries_at, entry_with, is_pointer, pointer, unless_zero}
+use Rattle.px_meaning.specs.Thumbnail.{both, numbers, ranges_of, jpeg_range, strip_ranges}
+use Rattle.px_meaning.specs.Footprint.{listed, placed_range}
 use Rattle.px_tree.specs.Checks.{named_at, place_of, place_with, pointer_place}
 use Rattle.px_tree.specs.Faults.{Begins, EntryAt, value_owners, dir_owners, owners_at, thumb_owners, owners, Fault}
 use Rattle.px_tree.specs.calls.Reading.{HasTable}

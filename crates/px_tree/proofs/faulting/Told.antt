@@ -11,7 +11,7 @@ use Rattle.px_bytes.specs.Range.{Range, shares, is_free}
 use Rattle.px_bytes.specs.lemmas.ApartLaws.{byte_from_test}
 use Rattle.px_bytes.specs.Checks.{Check, first_false}
 use Rattle.px_bytes.specs.lemmas.EachLaws.{each_map, each_append}
-use Rattle.px_tree.specs.Thumbnail.{IsInside}
+use Rattle.px_meaning.specs.Thumbnail.{IsInside}
 use Rattle.px_tree.specs.Checks.{is_free_value}
 use Rattle.px_tree.specs.Faults.{At, Begins, owners, Fault}
 use Rattle.px_tree.proofs.saying.Owned.{ranges}

@@ -9,10 +9,10 @@ use Rattle.px_bytes.specs.declared.Cause.{Cause}
 use Rattle.px_bytes.specs.declared.Cause.TheVariants as cause
 use Rattle.px_bytes.specs.Parts.{limit}
 use Rattle.px_bytes.specs.Range.{Range, range}
-use Rattle.px_tree.specs.declared.roles.Dir.TheVariants.{Thumb}
-use Rattle.px_tree.specs.Entry.{IsDirectory}
-use Rattle.px_tree.specs.Directory.{magic, dirs, dir_at}
-use Rattle.px_tree.specs.Footprint.{listed}
+use Rattle.px_meaning.specs.declared.Dir.TheVariants.{Thumb}
+use Rattle.px_meaning.specs.Entry.{IsDirectory}
+use Rattle.px_meaning.specs.Directory.{magic, dirs, dir_at}
+use Rattle.px_meaning.specs.Footprint.{listed}
 use Rattle.px_tree.specs.Checks.{same_bytes, order_of, begins_header, header_checks, dirs_checks, dirs_held, thumb_checks_at, tree_checks}
 use Rattle.px_tree.specs.Checks.{checks_in, checks, FirstFault}
 use Rattle.px_tree.specs.Faults.{Begins, owners_at, thumb_owners, owners, Fault}

@@ -11,17 +11,19 @@ use Rattle.px_bytes.specs.Parts.{part}
 use Rattle.px_bytes.specs.Range.{Range, range}
 use Rattle.px_bytes.specs.lemmas.EachLaws.{each_map}
 use Rattle.px_field.specs.Forms.{form_of}
-use Rattle.px_tree.specs.declared.roles.Dir.{Dir}
-use Rattle.px_tree.specs.declared.roles.Role.{Role}
-use Rattle.px_tree.specs.declared.roles.Role.TheVariants.{Forbidden}
-use Rattle.px_tree.specs.Roles.{role}
-use Rattle.px_tree.specs.Entry.{Entry, short, table_size, has_table, has_raw, is_allowed, is_placed, raw_size, offset, IsEntry, IsDirectory}
-use Rattle.px_tree.specs.Directory.{dir_at, entries_at}
-use Rattle.px_tree.specs.Thumbnail.{IsInside}
-use Rattle.px_tree.specs.Footprint.{listed, placed_range, table_range, dir_ranges, ranges_at}
+use Rattle.px_meaning.specs.declared.Dir.{Dir}
+use Rattle.px_meaning.specs.declared.Role.{Role}
+use Rattle.px_meaning.specs.declared.Role.TheVariants.{Forbidden}
+use Rattle.px_meaning.specs.Roles.{role}
+use Rattle.px_meaning.specs.Entry.{Entry, short, table_size, has_table, has_raw, is_allowed, is_placed, raw_size, offset, IsEntry}
+use Rattle.px_meaning.specs.Entry.{IsDirectory}
+use Rattle.px_meaning.specs.Directory.{dir_at, entries_at}
+use Rattle.px_meaning.specs.Thumbnail.{IsInside}
+use Rattle.px_meaning.specs.Footprint.{listed, placed_range, table_range, dir_ranges, ranges_at}
 use Rattle.px_tree.specs.Checks.{is_not_below, differs, entry_checks, entries_checks, is_earlier_at, opening_checks, dir_checks, named_at}
 use Rattle.px_tree.specs.Checks.{checks_at, dirs_checks, dirs_held}
-use Rattle.px_tree.specs.Faults.{At, Begins, Reached, EntryAt, dir_number, value_owners, dir_owners, owners_at, owners, Fault}
+use Rattle.px_meaning.specs.Roles.{dir_number}
+use Rattle.px_tree.specs.Faults.{At, Begins, Reached, EntryAt, value_owners, dir_owners, owners_at, owners, Fault}
 use Rattle.px_tree.proofs.saying.Owned.{ranges_owners_at}
 use Rattle.px_tree.proofs.lists.At.{From, from_all, from_head, from_tail, from_left, from_right}
 use Rattle.px_tree.proofs.saying.Judged.{AllHold, at_facts}

@@ -8,12 +8,12 @@ use Rattle.px_bytes.specs.declared.Order.{Order}
 use Rattle.px_bytes.specs.declared.Cause.TheVariants as cause
 use Rattle.px_bytes.specs.Range.{Range, range}
 use Rattle.px_bytes.specs.lemmas.EachLaws.{all_at}
-use Rattle.px_tree.specs.declared.roles.Dir.TheVariants.{Thumb}
-use Rattle.px_tree.specs.Roles.{jpeg_offset_tag, jpeg_length_tag, strip_offsets_tag, strip_lengths_tag, at_tag}
-use Rattle.px_tree.specs.Entry.{Entry, next, table, offset, IsEntry}
-use Rattle.px_tree.specs.Directory.{entries_at, entry_with}
-use Rattle.px_tree.specs.Thumbnail.{both, are_paired, numbers, jpeg_range, ranges_of, strip_ranges, IsInside}
-use Rattle.px_tree.specs.Footprint.{listed}
+use Rattle.px_meaning.specs.declared.Dir.TheVariants.{Thumb}
+use Rattle.px_meaning.specs.Roles.{jpeg_offset_tag, jpeg_length_tag, strip_offsets_tag, strip_lengths_tag, at_tag}
+use Rattle.px_meaning.specs.Entry.{Entry, next, table, offset, IsEntry}
+use Rattle.px_meaning.specs.Directory.{entries_at, entry_with}
+use Rattle.px_meaning.specs.Thumbnail.{both, are_paired, numbers, jpeg_range, ranges_of, strip_ranges, IsInside}
+use Rattle.px_meaning.specs.Footprint.{listed}
 use Rattle.px_tree.specs.Checks.{place_with, pair_place, same_count, pair_checks, end_checks, range_checks, part_checks, thumb_checks}
 use Rattle.px_tree.specs.Faults.{At, Reached, EntryAt, thumb_owners, owners, partners, PartAt, Fault}
 use Rattle.px_tree.proofs.saying.Owned.{ranges_placed}

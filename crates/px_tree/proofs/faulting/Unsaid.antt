@@ -11,24 +11,25 @@ use Rattle.px_bytes.specs.Parts.{part}
 use Rattle.px_bytes.specs.Range.{Range, range, IsIn, Apart, AllApart}
 use Rattle.px_bytes.specs.lemmas.EachLaws.{each_left, each_right, all_at}
 use Rattle.px_field.specs.Forms.{form_of}
-use Rattle.px_tree.specs.declared.roles.Dir.{Dir}
-use Rattle.px_tree.specs.declared.roles.Dir.TheVariants.{Main, Exif, Interop, Gps, Thumb}
-use Rattle.px_tree.specs.declared.roles.Role.TheVariants.{Forbidden}
-use Rattle.px_tree.specs.Roles.{jpeg_offset_tag, jpeg_length_tag, strip_offsets_tag, strip_lengths_tag, role}
-use Rattle.px_tree.specs.Tree.{Meaning}
-use Rattle.px_tree.specs.Entry.{Entry, short, table_size, has_table, is_allowed, offset, IsEntry, IsDirectory}
-use Rattle.px_tree.specs.Directory.{dirs, dir_at, entries_at, entry_with}
-use Rattle.px_tree.specs.Thumbnail.{both, are_paired, numbers, jpeg_range, ranges_of, strip_ranges, IsInside, IsThumbnail}
-use Rattle.px_tree.specs.Footprint.{listed, dir_ranges, ranges_at, thumb_ranges, footprint}
-use Rattle.px_tree.specs.Says.{IsExif, SaysExif}
-use Rattle.px_tree.specs.Faults.{At, Begins, EntryAt, dir_number, owners, partners, IsAlone, IsUneven, Names, PartAt, Fault}
+use Rattle.px_meaning.specs.declared.Dir.{Dir}
+use Rattle.px_meaning.specs.declared.Dir.TheVariants.{Main, Exif, Interop, Gps, Thumb}
+use Rattle.px_meaning.specs.declared.Role.TheVariants.{Forbidden}
+use Rattle.px_meaning.specs.Roles.{jpeg_offset_tag, jpeg_length_tag, strip_offsets_tag, strip_lengths_tag, role}
+use Rattle.px_meaning.specs.Tree.{Meaning}
+use Rattle.px_meaning.specs.Entry.{Entry, short, table_size, has_table, is_allowed, offset, IsEntry, IsDirectory}
+use Rattle.px_meaning.specs.Directory.{dirs, dir_at, entries_at, entry_with}
+use Rattle.px_meaning.specs.Thumbnail.{both, are_paired, numbers, jpeg_range, ranges_of, strip_ranges, IsInside, IsThumbnail}
+use Rattle.px_meaning.specs.Footprint.{listed, dir_ranges, ranges_at, thumb_ranges, footprint}
+use Rattle.px_meaning.specs.Says.{IsExif, SaysExif}
+use Rattle.px_meaning.specs.Roles.{dir_number}
+use Rattle.px_tree.specs.Faults.{At, Begins, EntryAt, owners, partners, IsAlone, IsUneven, Names, PartAt, Fault}
 use Rattle.px_tree.proofs.lists.EachDir.{each_dir}
 use Rattle.px_tree.proofs.saying.Fresh.{Clear, clear_across, apart_left, apart_right}
 use Rattle.px_tree.proofs.saying.Owned.{ranges, owners_own}
-use Rattle.px_tree.specs.lemmas.MeaningLaws.{magic_tells}
-use Rattle.px_tree.specs.lemmas.TagLaws.{each_at}
+use Rattle.px_meaning.specs.lemmas.MeaningLaws.{magic_tells}
+use Rattle.px_meaning.specs.lemmas.TagLaws.{each_at}
 use Rattle.px_tree.proofs.saying.Judged.{all_magic}
-use Rattle.px_tree.proofs.lists.Members.{each_member}
+use Rattle.px_meaning.specs.lemmas.Members.{each_member}
 use Rattle.px_tree.proofs.lists.At.{at_map, at_apart, at_rising, at_found}
 
 -- ---- no directory occurs twice

@@ -7,8 +7,8 @@ use Rattle.std.proofs.lemmas.Bool.{cond-true, cond-false}
 use Rattle.std.proofs.lemmas.Option.{slice_get_within, get_or_from_slice_get}
 use Rattle.px_bytes.specs.Range.{Range, Apart, AllApart}
 use Rattle.px_bytes.specs.lemmas.EachLaws.{all_at}
-use Rattle.px_tree.specs.Entry.{Entry, Rising}
-use Rattle.px_tree.specs.Directory.{entry_with}
+use Rattle.px_meaning.specs.Entry.{Entry, Rising}
+use Rattle.px_meaning.specs.Directory.{entry_with}
 use Rattle.px_tree.specs.Faults.{At}
 
 module _ {X : Type 0} where

@@ -11,12 +11,12 @@ use Rattle.px_field.specs.Forms.{form_of}
 use Rattle.px_field.specs.lemmas.ValueLaws.{length_elements}
 use Rattle.px_tree.specs.declared.entries.Head.{Head}
 use Rattle.px_tree.specs.declared.links.Found.{Found}
-use Rattle.px_tree.specs.declared.roles.Dir.{Dir}
-use Rattle.px_tree.specs.declared.roles.Dir.TheVariants.{Thumb}
-use Rattle.px_tree.specs.Roles.{strip_offsets_tag, strip_lengths_tag, role}
-use Rattle.px_tree.specs.Entry.{Entry, raw, entry_elements, has_form, is_short_or_long, IsEntry}
-use Rattle.px_tree.specs.Directory.{entries_at}
-use Rattle.px_tree.specs.Thumbnail.{whole_number, numbers, numbers_in}
+use Rattle.px_meaning.specs.declared.Dir.{Dir}
+use Rattle.px_meaning.specs.declared.Dir.TheVariants.{Thumb}
+use Rattle.px_meaning.specs.Roles.{strip_offsets_tag, strip_lengths_tag, role}
+use Rattle.px_meaning.specs.Entry.{Entry, raw, entry_elements, has_form, is_short_or_long, IsEntry}
+use Rattle.px_meaning.specs.Directory.{entries_at}
+use Rattle.px_meaning.specs.Thumbnail.{whole_number, numbers, numbers_in}
 use Rattle.px_tree.specs.calls.Reading.{Shows, bare}
 use Rattle.px_tree.specs.calls.Linked.{IsFound}
 use Rattle.px_tree.specs.calls.Parts.{Finds, HasValue, HasNumbers, HaveNumbers, entry_here}

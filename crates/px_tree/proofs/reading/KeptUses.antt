@@ -8,10 +8,10 @@ use Rattle.px_bytes.specs.Parts.{part}
 use Rattle.px_tree.specs.declared.entries.Head.{Head}
 use Rattle.px_tree.specs.declared.links.Found.{Found}
 use Rattle.px_tree.specs.declared.uses.Uses.{Uses}
-use Rattle.px_tree.specs.Roles.{exif_tag, gps_tag, interop_tag, record_tag, jpeg_offset_tag, jpeg_length_tag, strip_offsets_tag}
-use Rattle.px_tree.specs.Roles.{strip_lengths_tag}
-use Rattle.px_tree.specs.Entry.{Entry, entry}
-use Rattle.px_tree.specs.Directory.{is_pointer}
+use Rattle.px_meaning.specs.Roles.{exif_tag, gps_tag, interop_tag, record_tag, jpeg_offset_tag, jpeg_length_tag, strip_offsets_tag}
+use Rattle.px_meaning.specs.Roles.{strip_lengths_tag}
+use Rattle.px_meaning.specs.Entry.{Entry, entry}
+use Rattle.px_meaning.specs.Directory.{is_pointer}
 use Rattle.px_tree.specs.Checks.{place_of}
 use Rattle.px_tree.specs.calls.Reading.{Shows, Follows, bare, entries_from}
 use Rattle.px_tree.specs.calls.Uses.{IsFirst, Sees, AreUses, NoUses, Keeps, kept, has_tag}

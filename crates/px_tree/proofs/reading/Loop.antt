@@ -7,16 +7,16 @@ use Rattle.px_bytes.specs.declared.Order.{Order}
 use Rattle.px_bytes.specs.declared.Refusal.{Refusal}
 use Rattle.px_tree.specs.declared.entries.Shape.{Shape}
 use Rattle.px_field.specs.declared.Form.{Form}
-use Rattle.px_tree.specs.declared.roles.Dir.{Dir}
-use Rattle.px_tree.specs.declared.roles.Role.{Role}
+use Rattle.px_meaning.specs.declared.Dir.{Dir}
+use Rattle.px_meaning.specs.declared.Role.{Role}
 use Rattle.px_bytes.specs.Parts.{part}
-use Rattle.px_tree.specs.Tree.{Fields}
-use Rattle.px_tree.specs.Roles.{role}
+use Rattle.px_meaning.specs.Tree.{Fields}
+use Rattle.px_meaning.specs.Roles.{role}
 use Rattle.px_field.specs.Values.{Value}
-use Rattle.px_tree.specs.Entry.{Entry, entry, field, value_in}
+use Rattle.px_meaning.specs.Entry.{Entry, entry, field, value_in}
 use Rattle.px_bytes.specs.Range.{Range, Agrees}
 use Rattle.px_bytes.specs.calls.Freed.{SameFree}
-use Rattle.px_tree.specs.Footprint.{placed_range}
+use Rattle.px_meaning.specs.Footprint.{placed_range}
 use Rattle.px_bytes.specs.Checks.{Check, first_false, Refuses}
 use Rattle.px_tree.specs.Checks.{entry_checks, entries_checks}
 use Rattle.px_tree.specs.calls.Reading.{IsShape, entries_from}

@@ -6,15 +6,15 @@ use Rattle.px_bytes.specs.declared.Refusal.{Refusal}
 use Rattle.px_bytes.specs.Range.{Range, Agrees}
 use Rattle.px_bytes.specs.Checks.{first_false, Refuses}
 use Rattle.px_bytes.specs.lemmas.CheckLaws.{first_false_true, Refuses_more, Refuses_same}
-use Rattle.px_tree.specs.declared.roles.Dir.{Dir}
-use Rattle.px_tree.specs.declared.roles.Dir.TheVariants.{Main, Exif, Interop, Gps, Thumb}
+use Rattle.px_meaning.specs.declared.Dir.{Dir}
+use Rattle.px_meaning.specs.declared.Dir.TheVariants.{Main, Exif, Interop, Gps, Thumb}
 use Rattle.px_tree.specs.declared.links.Link.{Link}
 use Rattle.px_tree.specs.declared.links.Found.{Found}
 use Rattle.px_tree.specs.declared.tables.Directory.{Directory}
-use Rattle.px_tree.specs.Roles.{exif_tag, gps_tag, interop_tag}
-use Rattle.px_tree.specs.Entry.{Entry, fields, next, table, offset}
-use Rattle.px_tree.specs.Directory.{dirs, dir_at, main_at, fields_at, is_pointer, pointer, entries_at, unless_zero}
-use Rattle.px_tree.specs.Footprint.{dir_ranges, listed, ranges_at}
+use Rattle.px_meaning.specs.Roles.{exif_tag, gps_tag, interop_tag}
+use Rattle.px_meaning.specs.Entry.{Entry, fields, next, table, offset}
+use Rattle.px_meaning.specs.Directory.{dirs, dir_at, main_at, fields_at, is_pointer, pointer, entries_at, unless_zero}
+use Rattle.px_meaning.specs.Footprint.{dir_ranges, listed, ranges_at}
 use Rattle.px_tree.specs.Checks.{named_at, pointer_place, dir_checks, checks_at, dirs_checks, dirs_held}
 use Rattle.px_tree.specs.calls.Uses.{Sees, link_as}
 use Rattle.px_tree.specs.calls.Linked.{AreUsesAt, IsRead, Names, offsets_of, next_place}

@@ -10,11 +10,11 @@ use Rattle.px_bytes.specs.Checks.{Check, check, first_false, Refuses}
 use Rattle.px_bytes.specs.lemmas.CheckLaws.{Refuses_more, Refuses_behind, Refuses_same, all_true}
 use Rattle.px_tree.specs.declared.links.Found.{Found}
 use Rattle.px_tree.specs.declared.uses.Uses.{Uses}
-use Rattle.px_tree.specs.Roles.{jpeg_offset_tag, jpeg_length_tag, strip_offsets_tag, strip_lengths_tag}
-use Rattle.px_tree.specs.Entry.{Entry, offset}
-use Rattle.px_tree.specs.Directory.{entries_at, entry_with}
-use Rattle.px_tree.specs.Thumbnail.{both, are_paired, numbers, ranges_of, jpeg_range, strip_ranges}
-use Rattle.px_tree.specs.Footprint.{listed}
+use Rattle.px_meaning.specs.Roles.{jpeg_offset_tag, jpeg_length_tag, strip_offsets_tag, strip_lengths_tag}
+use Rattle.px_meaning.specs.Entry.{Entry, offset}
+use Rattle.px_meaning.specs.Directory.{entries_at, entry_with}
+use Rattle.px_meaning.specs.Thumbnail.{both, are_paired, numbers, ranges_of, jpeg_range, strip_ranges}
+use Rattle.px_meaning.specs.Footprint.{listed}
 use Rattle.px_tree.specs.Checks.{place_with, same_count, pair_checks, end_checks, range_checks, thumb_checks}
 use Rattle.px_tree.specs.calls.Uses.{AreUses}
 use Rattle.px_tree.specs.calls.Parts.{Finds, AreEven, entry_here, place_in, pair_check, count_check, pairs_checks, jpeg_of, strips_of}

@@ -4,7 +4,7 @@ use Rattle.std.proofs.lemmas.List.{take-take}
 use Rattle.px_bytes.specs.declared.Order.{Order}
 use Rattle.px_bytes.specs.Parts.{part, pieces}
 use Rattle.px_bytes.specs.lemmas.PartLaws.{part_part, drop_part}
-use Rattle.px_tree.specs.Entry.{Entry, entry}
+use Rattle.px_meaning.specs.Entry.{Entry, entry}
 use Rattle.px_tree.specs.calls.Reading.{entries_from}
 
 -- a part of a part, at a given offset

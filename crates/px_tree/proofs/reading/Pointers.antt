@@ -6,8 +6,8 @@ use Rattle.px_bytes.specs.declared.Order.{Order}
 use Rattle.px_bytes.specs.Parts.{part}
 use Rattle.px_bytes.specs.lemmas.PartLaws.{drop_part}
 use Rattle.px_tree.specs.declared.entries.Head.{Head}
-use Rattle.px_tree.specs.Entry.{Entry, entry, long, next, table, table_size}
-use Rattle.px_tree.specs.Directory.{entries_at, is_pointer}
+use Rattle.px_meaning.specs.Entry.{Entry, entry, long, next, table, table_size}
+use Rattle.px_meaning.specs.Directory.{entries_at, is_pointer}
 use Rattle.px_tree.specs.Checks.{place_of}
 use Rattle.px_tree.specs.calls.Reading.{HasTable, Shows, bare, entries_from}
 use Rattle.px_tree.proofs.reading.Standing.{entries_at_is, table_is, count_is}

@@ -13,9 +13,9 @@ use Rattle.px_field.specs.declared.Form.TheVariants.{Short, Long}
 use Rattle.px_field.specs.declared.Kind.TheVariants.{Of, Whole}
 use Rattle.px_field.specs.Values.{Value, elements, value_in, whole_in, widened, IsWhole}
 use Rattle.px_field.specs.lemmas.ValueLaws.{value_in_elements, whole_in_elements}
-use Rattle.px_tree.specs.Iim.{Iim}
+use Rattle.px_meaning.specs.Iim.{Iim}
 use Rattle.px_tree.specs.declared.entries.Head.{Head}
-use Rattle.px_tree.specs.Entry.{Entry, entry, raw, raw_size, has_raw, offset, entry_elements, widened_value, unless_record}
+use Rattle.px_meaning.specs.Entry.{Entry, entry, raw, raw_size, has_raw, offset, entry_elements, widened_value, unless_record}
 use Rattle.px_tree.specs.calls.Reading.{is_whole, Shows, IsHeld}
 use Rattle.px_tree.proofs.reading.Shapes.{raw_size_is}
 

@@ -7,9 +7,9 @@ use Rattle.px_bytes.specs.Range.{Range, range, shares, is_free, Agrees}
 use Rattle.px_bytes.specs.Checks.{first_false}
 use Rattle.px_bytes.specs.lemmas.CheckLaws.{first_false_true}
 use Rattle.px_bytes.specs.lemmas.RangeLaws.{test_from_gap}
-use Rattle.px_tree.specs.Thumbnail.{IsInside}
+use Rattle.px_meaning.specs.Thumbnail.{IsInside}
 use Rattle.px_tree.specs.Checks.{range_checks}
-use Rattle.px_tree.specs.calls.Strips.{Rise}
+use Rattle.px_meaning.specs.calls.Strips.{Rise}
 use Rattle.px_tree.proofs.reading.StripRanges.{range_check}
 
 rise_order : (low high : ℕ) (rs : List Range) → Rise low high rs → low ≤ high

@@ -10,13 +10,13 @@ use Rattle.px_field.specs.declared.Form.{Form}
 use Rattle.px_field.specs.Forms.{form_of, size}
 use Rattle.px_tree.specs.declared.entries.Head.{Head}
 use Rattle.px_tree.specs.declared.entries.Shape.{Shape}
-use Rattle.px_tree.specs.declared.roles.Dir.{Dir}
-use Rattle.px_tree.specs.declared.roles.Role.{Role}
-use Rattle.px_tree.specs.declared.roles.Role.TheVariants.{Plain, Widened, Forbidden, Record, JpegOffset, JpegLength, StripOffsets}
-use Rattle.px_tree.specs.declared.roles.Role.TheVariants.{StripLengths, To}
-use Rattle.px_tree.specs.Roles.{role}
-use Rattle.px_tree.specs.Entry.{Entry, is_allowed, has_form, has_raw, raw_size, offset, sized}
-use Rattle.px_tree.specs.Footprint.{placed_range}
+use Rattle.px_meaning.specs.declared.Dir.{Dir}
+use Rattle.px_meaning.specs.declared.Role.{Role}
+use Rattle.px_meaning.specs.declared.Role.TheVariants.{Plain, Widened, Forbidden, Record, JpegOffset, JpegLength, StripOffsets}
+use Rattle.px_meaning.specs.declared.Role.TheVariants.{StripLengths, To}
+use Rattle.px_meaning.specs.Roles.{role}
+use Rattle.px_meaning.specs.Entry.{Entry, is_allowed, has_form, has_raw, raw_size, offset, sized}
+use Rattle.px_meaning.specs.Footprint.{placed_range}
 use Rattle.px_tree.specs.Checks.{is_not_below, differs, shape_checks, value_checks, entry_checks}
 use Rattle.px_tree.specs.calls.Reading.{Shows, bare, span, span_checks}
 

@@ -8,10 +8,10 @@ use Rattle.px_bytes.specs.Parts.{part, pieces}
 use Rattle.px_bytes.specs.lemmas.PartLaws.{drop_part}
 use Rattle.px_bytes.specs.Range.{Range, range, Agrees}
 use Rattle.px_bytes.specs.lemmas.RangeLaws.{agrees_same}
-use Rattle.px_tree.specs.declared.roles.Dir.{Dir}
-use Rattle.px_tree.specs.Entry.{Entry, entry, entries, short, table, table_size, has_table, field, fields}
-use Rattle.px_tree.specs.Directory.{entries_at}
-use Rattle.px_tree.specs.Footprint.{dir_ranges, placed_range, table_range}
+use Rattle.px_meaning.specs.declared.Dir.{Dir}
+use Rattle.px_meaning.specs.Entry.{Entry, entry, entries, short, table, table_size, has_table, field, fields}
+use Rattle.px_meaning.specs.Directory.{entries_at}
+use Rattle.px_meaning.specs.Footprint.{dir_ranges, placed_range, table_range}
 use Rattle.px_tree.specs.Checks.{opening_checks, entries_checks, dir_checks}
 use Rattle.px_tree.specs.calls.Reading.{HasTable, entries_from}
 use Rattle.px_tree.specs.declared.uses.Uses.{Uses}

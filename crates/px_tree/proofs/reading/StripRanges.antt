@@ -6,7 +6,7 @@ use Rattle.px_bytes.specs.declared.Cause.TheVariants.{Overlap, ThumbnailOutside}
 use Rattle.px_bytes.specs.Range.{Range, range, is_free, Agrees}
 use Rattle.px_bytes.specs.Checks.{Check, check, first_false, Refuses}
 use Rattle.px_bytes.specs.lemmas.CheckLaws.{first_false_true, Refuses_more, Refuses_same}
-use Rattle.px_tree.specs.Thumbnail.{ranges_of, bytes_of}
+use Rattle.px_meaning.specs.Thumbnail.{ranges_of, bytes_of}
 use Rattle.px_tree.specs.Checks.{range_checks}
 
 -- what is left of the pairs has one more range

@@ -8,15 +8,15 @@ use Rattle.px_bytes.specs.Range.{Range, range}
 use Rattle.px_bytes.specs.Checks.{Check, first_false, Refuses}
 use Rattle.px_bytes.specs.lemmas.CheckLaws.{Refuses_more, Refuses_behind, all_true}
 use Rattle.px_tree.specs.declared.tables.Directory.{Directory}
-use Rattle.px_tree.specs.declared.roles.Dir.TheVariants.{Main, Exif, Interop, Gps, Thumb}
-use Rattle.px_tree.specs.Iim.{Iim}
-use Rattle.px_tree.specs.Tree.{Fields, ExifPart, Thumbnail, Meaning}
+use Rattle.px_meaning.specs.declared.Dir.TheVariants.{Main, Exif, Interop, Gps, Thumb}
+use Rattle.px_meaning.specs.Iim.{Iim}
+use Rattle.px_meaning.specs.Tree.{Fields, ExifPart, Thumbnail, Meaning}
 use Rattle.px_field.specs.Forms.{form_of}
-use Rattle.px_tree.specs.Roles.{record_tag}
-use Rattle.px_tree.specs.Entry.{Entry, raw, record_in, fields, IsEntry, IsDirectory}
-use Rattle.px_tree.specs.Directory.{dirs, dir_at, main_at, fields_at, entries_at, entry_with}
-use Rattle.px_tree.specs.Thumbnail.{bytes_of, jpeg_range, strip_ranges}
-use Rattle.px_tree.specs.Says.{record_at, exif_part, thumbnail, meaning}
+use Rattle.px_meaning.specs.Roles.{record_tag}
+use Rattle.px_meaning.specs.Entry.{Entry, raw, record_in, fields, IsEntry, IsDirectory}
+use Rattle.px_meaning.specs.Directory.{dirs, dir_at, main_at, fields_at, entries_at, entry_with}
+use Rattle.px_meaning.specs.Thumbnail.{bytes_of, jpeg_range, strip_ranges}
+use Rattle.px_meaning.specs.Says.{record_at, exif_part, thumbnail, meaning}
 use Rattle.px_tree.specs.Checks.{dirs_checks, dirs_held, thumb_checks_at, tree_checks}
 use Rattle.px_tree.specs.calls.Linked.{IsRead}
 use Rattle.px_tree.specs.calls.Parts.{IsReadThumb}

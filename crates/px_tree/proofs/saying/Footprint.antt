@@ -16,22 +16,23 @@ use Rattle.px_field.specs.declared.Form.{Form}
 use Rattle.px_field.specs.declared.Kind.TheVariants.{Of}
 use Rattle.px_field.specs.Forms.{form_of}
 use Rattle.px_field.specs.Values.{elements}
-use Rattle.px_tree.specs.declared.roles.Dir.{Dir}
-use Rattle.px_tree.specs.declared.roles.Dir.TheVariants.{Main, Exif, Interop, Gps, Thumb}
-use Rattle.px_tree.specs.declared.roles.Role.{Role}
-use Rattle.px_tree.specs.declared.roles.Role.TheVariants.{Plain, Widened, Forbidden, Record, JpegOffset, JpegLength, StripOffsets}
-use Rattle.px_tree.specs.declared.roles.Role.TheVariants.{StripLengths, To}
-use Rattle.px_tree.specs.Roles.{exif_tag, gps_tag, interop_tag, record_tag, jpeg_offset_tag, jpeg_length_tag, strip_offsets_tag}
-use Rattle.px_tree.specs.Roles.{strip_lengths_tag, role}
-use Rattle.px_tree.specs.Tree.{Meaning}
-use Rattle.px_tree.specs.Entry.{Entry, short, long, table_size, has_table, table, entries, next, raw_size, is_placed, offset, raw, has_raw}
-use Rattle.px_tree.specs.Entry.{IsEntry, Rising, entry_elements, value_in, unless_record, widened_value, record_in, field, fields}
-use Rattle.px_tree.specs.Entry.{IsDirectory}
-use Rattle.px_tree.specs.Directory.{pointer, dir_at, dirs, entries_at, entry_with, unless_zero, fields_at}
-use Rattle.px_tree.specs.Thumbnail.{both, are_paired, whole_number, numbers, numbers_in, jpeg_range, ranges_of, strip_ranges, bytes_of}
-use Rattle.px_tree.specs.Thumbnail.{IsInside, IsThumbnail}
-use Rattle.px_tree.specs.Footprint.{listed, placed_range, dir_ranges, thumb_ranges, footprint}
-use Rattle.px_tree.specs.Says.{record_at, exif_part, thumbnail, meaning, IsExif, SaysExif}
+use Rattle.px_meaning.specs.declared.Dir.{Dir}
+use Rattle.px_meaning.specs.declared.Dir.TheVariants.{Main, Exif, Interop, Gps, Thumb}
+use Rattle.px_meaning.specs.declared.Role.{Role}
+use Rattle.px_meaning.specs.declared.Role.TheVariants.{Plain, Widened, Forbidden, Record, JpegOffset, JpegLength, StripOffsets}
+use Rattle.px_meaning.specs.declared.Role.TheVariants.{StripLengths, To}
+use Rattle.px_meaning.specs.Roles.{exif_tag, gps_tag, interop_tag, record_tag, jpeg_offset_tag, jpeg_length_tag, strip_offsets_tag}
+use Rattle.px_meaning.specs.Roles.{strip_lengths_tag, role}
+use Rattle.px_meaning.specs.Tree.{Meaning}
+use Rattle.px_meaning.specs.Entry.{Entry, short, long, table_size, has_table, table, entries, next, raw_size, is_placed, offset, raw}
+use Rattle.px_meaning.specs.Entry.{has_raw}
+use Rattle.px_meaning.specs.Entry.{IsEntry, Rising, entry_elements, value_in, unless_record, widened_value, record_in, field, fields}
+use Rattle.px_meaning.specs.Entry.{IsDirectory}
+use Rattle.px_meaning.specs.Directory.{pointer, dir_at, dirs, entries_at, entry_with, unless_zero, fields_at}
+use Rattle.px_meaning.specs.Thumbnail.{both, are_paired, whole_number, numbers, numbers_in, jpeg_range, ranges_of, strip_ranges, bytes_of}
+use Rattle.px_meaning.specs.Thumbnail.{IsInside, IsThumbnail}
+use Rattle.px_meaning.specs.Footprint.{listed, placed_range, dir_ranges, thumb_ranges, footprint}
+use Rattle.px_meaning.specs.Says.{record_at, exif_part, thumbnail, meaning, IsExif, SaysExif}
 use Rattle.px_tree.proofs.lists.EachDir.{each_dir}
 
 -- two blocks that agree at each byte of a range

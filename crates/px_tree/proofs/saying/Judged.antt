@@ -14,15 +14,15 @@ use Rattle.px_bytes.specs.Range.{Range, range, Apart, AllApart}
 use Rattle.px_bytes.specs.lemmas.ApartLaws.{apart_each}
 use Rattle.px_bytes.specs.Checks.{Check, first_false}
 use Rattle.px_bytes.specs.lemmas.EachLaws.{each_map, each_left, each_right}
-use Rattle.px_tree.specs.declared.roles.Dir.{Dir}
-use Rattle.px_tree.specs.declared.roles.Dir.TheVariants.{Thumb}
-use Rattle.px_tree.specs.Roles.{strip_offsets_tag, strip_lengths_tag}
-use Rattle.px_tree.specs.Tree.{Meaning}
-use Rattle.px_tree.specs.Entry.{Entry, short, table_size, next, table, has_table, IsEntry, Rising, IsDirectory}
-use Rattle.px_tree.specs.Directory.{magic, dirs, dir_at, entries_at, entry_with}
-use Rattle.px_tree.specs.Thumbnail.{are_paired, jpeg_range, strip_ranges, IsInside, IsThumbnail}
-use Rattle.px_tree.specs.Footprint.{listed, placed_range, dir_ranges, thumb_ranges, footprint}
-use Rattle.px_tree.specs.Says.{meaning, SaysExif}
+use Rattle.px_meaning.specs.declared.Dir.{Dir}
+use Rattle.px_meaning.specs.declared.Dir.TheVariants.{Thumb}
+use Rattle.px_meaning.specs.Roles.{strip_offsets_tag, strip_lengths_tag}
+use Rattle.px_meaning.specs.Tree.{Meaning}
+use Rattle.px_meaning.specs.Entry.{Entry, short, table_size, next, table, has_table, IsEntry, Rising, IsDirectory}
+use Rattle.px_meaning.specs.Directory.{magic, dirs, dir_at, entries_at, entry_with}
+use Rattle.px_meaning.specs.Thumbnail.{are_paired, jpeg_range, strip_ranges, IsInside, IsThumbnail}
+use Rattle.px_meaning.specs.Footprint.{listed, placed_range, dir_ranges, thumb_ranges, footprint}
+use Rattle.px_meaning.specs.Says.{meaning, SaysExif}
 use Rattle.px_tree.specs.Checks.{same_bytes, order_of, begins_header, is_not_below, differs, is_free_value, entry_checks, entries_checks}
 use Rattle.px_tree.specs.Checks.{dir_checks, named_at, checks_at, dirs_checks, dirs_held, same_count, range_checks, thumb_checks}
 use Rattle.px_tree.specs.Checks.{thumb_checks_at, tree_checks, checks_in, checks, FirstFault}

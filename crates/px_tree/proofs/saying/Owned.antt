@@ -6,13 +6,13 @@ use Rattle.std.specs.List.{cons_option}
 use Rattle.std.proofs.lemmas.List.{map-append}
 use Rattle.px_bytes.specs.declared.Order.{Order}
 use Rattle.px_bytes.specs.Range.{Range, range}
-use Rattle.px_tree.specs.declared.roles.Dir.{Dir}
-use Rattle.px_tree.specs.declared.roles.Dir.TheVariants.{Thumb}
-use Rattle.px_tree.specs.Roles.{jpeg_offset_tag, strip_offsets_tag}
-use Rattle.px_tree.specs.Entry.{Entry}
-use Rattle.px_tree.specs.Directory.{dirs, entries_at, dir_at}
-use Rattle.px_tree.specs.Thumbnail.{jpeg_range, strip_ranges}
-use Rattle.px_tree.specs.Footprint.{listed, placed_range, table_range, dir_ranges, ranges_at, thumb_ranges, footprint}
+use Rattle.px_meaning.specs.declared.Dir.{Dir}
+use Rattle.px_meaning.specs.declared.Dir.TheVariants.{Thumb}
+use Rattle.px_meaning.specs.Roles.{jpeg_offset_tag, strip_offsets_tag}
+use Rattle.px_meaning.specs.Entry.{Entry}
+use Rattle.px_meaning.specs.Directory.{dirs, entries_at, dir_at}
+use Rattle.px_meaning.specs.Thumbnail.{jpeg_range, strip_ranges}
+use Rattle.px_meaning.specs.Footprint.{listed, placed_range, table_range, dir_ranges, ranges_at, thumb_ranges, footprint}
 use Rattle.px_tree.specs.Checks.{place_with}
 use Rattle.px_tree.specs.Faults.{value_owners, dir_owners, owners_at, thumb_owners, owners}
 

@@ -1,11 +1,11 @@
 -- How the reader's directories and pointers correspond to the definitions.
 use Rattle.std.specs.Prelude.{◌≡◌, ℕ, ◌+◌, ◌*◌, Option, option_map, option_to_list, List, length, flat_map, IfSome}
 use Rattle.px_bytes.specs.declared.Order.{Order}
-use Rattle.px_tree.specs.declared.roles.Dir.{Dir}
+use Rattle.px_meaning.specs.declared.Dir.{Dir}
 use Rattle.px_tree.specs.declared.links.Link.{Link}
 use Rattle.px_tree.specs.declared.links.Found.{Found}
 use Rattle.px_tree.specs.declared.tables.Directory.{Directory}
-use Rattle.px_tree.specs.Directory.{entries_at, dir_at}
+use Rattle.px_meaning.specs.Directory.{entries_at, dir_at}
 use Rattle.px_tree.specs.Checks.{named_at}
 use Rattle.px_tree.specs.calls.Reading.{HasTable}
 use Rattle.px_tree.specs.calls.Uses.{IsFirst, AreUses, has_tag}

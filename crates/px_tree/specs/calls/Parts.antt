@@ -10,10 +10,10 @@ use Rattle.px_bytes.specs.Checks.{Check, check}
 use Rattle.px_tree.specs.declared.links.Found.{Found}
 use Rattle.px_tree.specs.declared.uses.Uses.{Uses}
 use Rattle.px_tree.specs.declared.tables.Directory.{Directory}
-use Rattle.px_tree.specs.declared.roles.Dir.TheVariants.{Thumb}
-use Rattle.px_tree.specs.Entry.{Entry, entry, has_raw, is_short_or_long, IsEntry, fields}
-use Rattle.px_tree.specs.Directory.{entries_at}
-use Rattle.px_tree.specs.Thumbnail.{both, numbers, ranges_of}
+use Rattle.px_meaning.specs.declared.Dir.TheVariants.{Thumb}
+use Rattle.px_meaning.specs.Entry.{Entry, entry, has_raw, is_short_or_long, IsEntry, fields}
+use Rattle.px_meaning.specs.Directory.{entries_at}
+use Rattle.px_meaning.specs.Thumbnail.{both, numbers, ranges_of}
 use Rattle.px_tree.specs.calls.Reading.{Shows, bare, HasTable}
 use Rattle.px_tree.specs.calls.Uses.{Sees, has_tag}
 use Rattle.px_tree.specs.calls.Linked.{AreUsesAt}

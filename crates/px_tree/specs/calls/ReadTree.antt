@@ -1,10 +1,10 @@
 -- The directories that were read.
 use Rattle.std.specs.Prelude.{◌≡◌, ℕ, List, option_map}
 use Rattle.px_bytes.specs.declared.Order.{Order}
-use Rattle.px_tree.specs.declared.roles.Dir.TheVariants.{Main, Exif, Interop, Gps, Thumb}
+use Rattle.px_meaning.specs.declared.Dir.TheVariants.{Main, Exif, Interop, Gps, Thumb}
 use Rattle.px_tree.specs.declared.tree.Directories.{Directories}
-use Rattle.px_tree.specs.Entry.{fields}
-use Rattle.px_tree.specs.Directory.{main_at, fields_at}
+use Rattle.px_meaning.specs.Entry.{fields}
+use Rattle.px_meaning.specs.Directory.{main_at, fields_at}
 use Rattle.px_tree.specs.calls.Reading.{HasTable}
 use Rattle.px_tree.specs.calls.Linked.{IsRead, AreUsesAt}
 

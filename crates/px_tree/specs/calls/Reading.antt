@@ -11,12 +11,12 @@ use Rattle.px_field.specs.declared.Form.TheVariants.{Short, Long}
 use Rattle.px_field.specs.Forms.{form_of, size}
 use Rattle.px_tree.specs.declared.entries.Head.{Head}
 use Rattle.px_tree.specs.declared.entries.Shape.{Shape}
-use Rattle.px_tree.specs.declared.roles.Dir.{Dir}
-use Rattle.px_tree.specs.Roles.{role}
-use Rattle.px_tree.specs.Entry.{Entry, entry, short, needs_place, offset}
+use Rattle.px_meaning.specs.declared.Dir.{Dir}
+use Rattle.px_meaning.specs.Roles.{role}
+use Rattle.px_meaning.specs.Entry.{Entry, entry, short, needs_place, offset}
 use Rattle.px_tree.specs.Checks.{is_free_value}
-use Rattle.px_tree.specs.Tree.{Fields}
-use Rattle.px_tree.specs.calls.Places.{tags}
+use Rattle.px_meaning.specs.Tree.{Fields}
+use Rattle.px_meaning.specs.calls.Places.{tags}
 use Rattle.std.specs.List.{AllByRecursion}
 
 -- the head of an entry

@@ -1,5 +1,5 @@
 use Rattle.std.proofs.Common.{refl}
-use Rattle.px_tree.specs.calls.Seen.{meaning_of}
+use Rattle.px_meaning.specs.calls.Seen.{meaning_of}
 use Rattle.px_engine.specs.Files as said
 use Rattle.px_engine.proofs.input.judge_exif.Goals as goal
 

@@ -34,7 +34,7 @@ returns-then-bytes-clause-judged c = rw c.at.ensures (checks_past c.args.bytes.n
 pub returns-then-bytes-clause-stands : goal.returns-then-bytes-clause-stands
 returns-then-bytes-clause-stands c =
     rw c.at.ensures (first_fault_refuses c.args.bytes.now c.args.memory.now.refusals TooLong limit
-        (checks_past c.args.bytes.now c.if-bytes.true)
+    (checks_past c.args.bytes.now c.if-bytes.true)
     (omega arith))
 
 pub returns-clause-judged : goal.returns-clause-judged
@@ -47,7 +47,7 @@ pub returns-clause-stands : goal.returns-clause-stands
 returns-clause-stands c =
     let x = c.args.bytes.now in
     judges_refuses_iim c.read_groups.result x (λ i. iim_of x ≡ Some i) c.args.memory.now.refusals c.read_groups.new.memory.refusals
-        c.if-bytes.false
+    c.if-bytes.false
     c.read_groups.ensures.judged c.read_groups.ensures.memory
 
 pub returns-clause-whole : goal.returns-clause-whole

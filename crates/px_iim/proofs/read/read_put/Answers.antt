@@ -32,7 +32,7 @@ pub returns-in_err-found-clause-judged : goal.returns-in_err-found-clause-judged
 returns-in_err-found-clause-judged c =
     let p = err_from_is_err_and c.from_residual-in_err-found.result c.from_residual-in_err-found.ensures.1 in
     rw (p.1, p.2) (judges_at_refuses c.in_err-found.field-0.0 c.args.bytes.now c.loop-record.at c.in_err-found.ensures
-        c.loop-record.invariant.faults)
+    c.loop-record.invariant.faults)
 
 pub push_in-requires : goal.push_in-requires
 push_in-requires c = octets_within c.args.bytes.now c.loop-record.at c.in_ok-found.found c.in_ok-found.ensures c.requires.bounded

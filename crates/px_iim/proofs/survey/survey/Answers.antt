@@ -38,7 +38,7 @@ pub returns-in_err-found-clause-judged : goal.returns-in_err-found-clause-judged
 returns-in_err-found-clause-judged c =
     let p = err_from_is_err_and c.from_residual.result c.from_residual.ensures.1 in
     rw (p.1, p.2) (judges_at_refuses c.in_err-found.field-0.0 c.args.bytes.now c.loop-found.at c.in_err-found.ensures
-        c.loop-found.invariant.faults)
+    c.loop-found.invariant.faults)
 
 pub overflow_add-at : goal.overflow_add-at
 overflow_add-at c =
@@ -53,7 +53,7 @@ keys_below : (ds : List DataSet) (d : DataSet) (n m k : ℕ) → k ≡ key_of d 
     → AllByRecursion (λ y. key_of y < m) (ds ++ d ∷ [])
 keys_below ds d n m k e l h a =
     all_append (λ y. key_of y < m) ds (d ∷ []) (all_weaker (λ y. key_of y < n) (λ y. key_of y < m) (λ y b. omega arith) ds a)
-        (omega arith, tt)
+    (omega arith, tt)
 
 -- all so far and one more are in order if this one's group isn't before the last one's
 order_rising : (ds : List DataSet) (d : DataSet) (in_order : Bool) (last key : ℕ) → key ≡ key_of d

@@ -17,5 +17,5 @@ returns g c = (
 pub tell_printed-requires : goal.tell_printed-requires
 tell_printed-requires g c =
     counts_writes_room c.captions_in-printed.result (g.L.Device.failed c.args.lines.now)
-        (g.L.Device.failed c.captions_in-printed.new.writer)
+    (g.L.Device.failed c.captions_in-printed.new.writer)
     c.captions_in-printed.ensures.writes c.requires.telling

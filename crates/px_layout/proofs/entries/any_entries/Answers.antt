@@ -1,6 +1,6 @@
 use Rattle.std.proofs.Common.{option_map}
-use Rattle.px_tree.specs.declared.Dir.TheVariants.{Main, Gps}
-use Rattle.px_tree.specs.calls.Seen.{exif_of, thumb_of}
+use Rattle.px_meaning.specs.declared.Dir.TheVariants.{Main, Gps}
+use Rattle.px_meaning.specs.calls.Seen.{exif_of, thumb_of}
 use Rattle.px_layout.proofs.plans.EntryLists.{few_fields, few_exif, few_interop, few_optional, few_thumb}
 use Rattle.px_layout.proofs.entries.any_entries.Goals as goal
 

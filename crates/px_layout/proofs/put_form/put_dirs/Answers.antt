@@ -4,7 +4,7 @@ use Rattle.std.proofs.lemmas.Grind.{common_steps}
 use Rattle.std.proofs.lemmas.Result.{err_from_is_err_and}
 use Rattle.px_bytes.specs.lemmas.WaitingLaws.{put_none, loop_more, loop_stop}
 use Rattle.px_bytes.specs.Devices.{CanFail}
-use Rattle.px_tree.specs.Directory.{dirs}
+use Rattle.px_meaning.specs.Directory.{dirs}
 use Rattle.px_layout.specs.calls.Forms.{said_in}
 use Rattle.px_layout.specs.Normal.{normal_plan}
 use Rattle.px_layout.specs.lemmas.PutLaws.{fails_as}

@@ -1,6 +1,6 @@
 use Rattle.std.proofs.Common.{◌≡◌, take, flat_map}
 use Rattle.px_bytes.specs.lemmas.WaitingLaws.{HasPut}
-use Rattle.px_tree.specs.Directory.{dirs}
+use Rattle.px_meaning.specs.Directory.{dirs}
 use Rattle.px_layout.specs.calls.Forms.{said_in}
 use Rattle.px_layout.specs.Normal.{normal_plan}
 use Rattle.px_layout.specs.lemmas.EntryBytes.{dir_bytes}

@@ -4,9 +4,9 @@ use Rattle.std.proofs.lemmas.Result.{err_from_is_err_and}
 use Rattle.px_bytes.specs.declared.Order.TheVariants.{Most}
 use Rattle.px_bytes.specs.Devices.{CanFail}
 use Rattle.px_bytes.specs.lemmas.WaitingLaws.{HasPut}
-use Rattle.px_tree.specs.Fits.{Item}
+use Rattle.px_meaning.specs.Fits.{Item}
 use Rattle.px_layout.specs.calls.Forms.{said_in}
-use Rattle.px_tree.specs.Entry.{table_size}
+use Rattle.px_meaning.specs.Entry.{table_size}
 use Rattle.px_layout.specs.Laid.{entry_bytes}
 use Rattle.px_layout.specs.Normal.{normal_plan}
 use Rattle.px_layout.specs.lemmas.PutLaws.{more_as, stop_as}

@@ -2,7 +2,7 @@ use Rattle.std.proofs.Common.{◌≡◌, ◌+◌, take, drop, flat_map, length}
 use Rattle.px_bytes.specs.lemmas.WaitingLaws.{HasPut}
 use Rattle.px_bytes.specs.declared.Order.TheVariants.{Most}
 use Rattle.px_layout.specs.calls.Forms.{said_in}
-use Rattle.px_tree.specs.Entry.{table_size}
+use Rattle.px_meaning.specs.Entry.{table_size}
 use Rattle.px_layout.specs.Laid.{entry_bytes}
 use Rattle.px_layout.specs.Normal.{even, normal_plan}
 use Rattle.px_layout.specs.lemmas.RunLaws.{start, values_size}

@@ -1,5 +1,5 @@
 use Rattle.std.proofs.Common.{rules}
-use Rattle.px_tree.specs.calls.Seen.{thumb_of}
+use Rattle.px_meaning.specs.calls.Seen.{thumb_of}
 use Rattle.px_layout.specs.lemmas.PutLaws.{both_as, first_as}
 use Rattle.px_layout.specs.lemmas.StripLaws.{parts_padded}
 use Rattle.std.proofs.lemmas.Result.{err_from_is_err_and}

@@ -1,6 +1,6 @@
 use Rattle.std.proofs.Common.{ℕ, ◌+◌, ◌∙◌, ap}
 use Rattle.std.proofs.lemmas.Result.{err_from_is_err_and}
-use Rattle.px_tree.specs.calls.Seen.{meaning_of}
+use Rattle.px_meaning.specs.calls.Seen.{meaning_of}
 use Rattle.px_layout.specs.calls.Forms.{said_in}
 use Rattle.px_layout.proofs.writing.WriteNormal.{no_form, not_put, not_sent, not_flushed, normal_written}
 use Rattle.px_layout.proofs.write.write_normal_in.Goals as goal

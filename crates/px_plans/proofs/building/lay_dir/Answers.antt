@@ -1,5 +1,5 @@
 use Rattle.std.proofs.Common.{ℕ, subst, sym, arith}
-use Rattle.px_tree.specs.calls.Seen.{meaning_of}
+use Rattle.px_meaning.specs.calls.Seen.{meaning_of}
 use Rattle.px_plans.specs.calls.Building.{AreInside, value_pieces}
 use Rattle.px_plans.proofs.plans.Pieces.{on_ok, dir_over, values_inside, table_inside, few_entries}
 use Rattle.px_plans.proofs.building.lay_dir.Goals as goal

@@ -1,5 +1,5 @@
 use Rattle.std.proofs.Common.{◌∙◌}
-use Rattle.px_tree.specs.calls.Seen.{meaning_of}
+use Rattle.px_meaning.specs.calls.Seen.{meaning_of}
 use Rattle.px_plans.proofs.plans.Pieces.{on_ok, parts_five}
 use Rattle.px_plans.proofs.building.lay_dirs.Goals as goal
 

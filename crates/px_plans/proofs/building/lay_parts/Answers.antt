@@ -1,4 +1,4 @@
-use Rattle.px_tree.specs.calls.Seen.{thumb_of}
+use Rattle.px_meaning.specs.calls.Seen.{thumb_of}
 use Rattle.px_plans.proofs.plans.Pieces.{parts_over}
 use Rattle.px_plans.proofs.building.lay_parts.Goals as goal
 

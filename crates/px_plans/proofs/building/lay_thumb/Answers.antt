@@ -1,6 +1,6 @@
 use Rattle.std.proofs.Common.{ℕ, Option, option_map, subst, sym, ap}
-use Rattle.px_tree.specs.Tree.{Thumbnail}
-use Rattle.px_tree.specs.calls.Seen.{thumb_of, meaning_of}
+use Rattle.px_meaning.specs.Tree.{Thumbnail}
+use Rattle.px_meaning.specs.calls.Seen.{thumb_of, meaning_of}
 use Rattle.px_layout.specs.Laid.{jpeg_contents, all_strip_contents, thumb_contents}
 use Rattle.px_plans.specs.calls.Building.{AreInside, PutsOver, at_places}
 use Rattle.px_plans.proofs.plans.Pieces.{jpeg_inside, strips_inside, no_thumb}

@@ -1,6 +1,6 @@
 use Rattle.std.proofs.Common.{refl, get_or, ◌∙◌}
 use Rattle.std.proofs.lemmas.Result.{err_from_is_err_and}
-use Rattle.px_tree.specs.declared.Dir.TheVariants.{Main}
+use Rattle.px_meaning.specs.declared.Dir.TheVariants.{Main}
 use Rattle.px_layout.specs.declared.chunks.Chunk.TheVariants.{Table}
 use Rattle.px_plans.specs.calls.Planned.{plan_of}
 use Rattle.px_plans.specs.calls.Judging.{all_stand}
@@ -32,5 +32,5 @@ loop-i-preserved c = record {
 pub returns-clause-free : goal.returns-clause-free
 returns-clause-free c = λ taken a.
     left_done (plan_of c.args.plan.now) c.args.chunks.now c.loop-i.i c.loop-i.held
-        (all_stand (plan_of c.args.plan.now) taken c.args.chunks.now)
+    (all_stand (plan_of c.args.plan.now) taken c.args.chunks.now)
     c.loop-i-test.false (c.loop-i.invariant.left taken a)

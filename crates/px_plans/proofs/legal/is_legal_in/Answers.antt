@@ -2,7 +2,7 @@ use Rattle.std.proofs.Common.{◌≡◌, ◌≤◌, ◌∙◌, length, ap, refl,
 use Rattle.std.proofs.lemmas.Bool.{both_ways}
 use Rattle.std.specs.Prelude.{false}
 use Rattle.px_bytes.specs.Parts.{limit}
-use Rattle.px_tree.specs.calls.Seen.{meaning_of}
+use Rattle.px_meaning.specs.calls.Seen.{meaning_of}
 use Rattle.px_layout.specs.Chunks.{chunks}
 use Rattle.px_plans.specs.calls.Planned.{plan_of}
 use Rattle.px_plans.proofs.plans.Verdicts.{as_many, plan_verdicts}

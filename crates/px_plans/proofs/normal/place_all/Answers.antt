@@ -1,7 +1,7 @@
 use Rattle.std.proofs.Common.{ℕ, take, refl, subst, sym, ap, ◌∙◌, arith}
 use Rattle.std.proofs.lemmas.List.{take_more, take_all}
 use Rattle.std.proofs.lemmas.Result.{err_from_is_err_and}
-use Rattle.px_tree.specs.declared.Dir.TheVariants.{Main}
+use Rattle.px_meaning.specs.declared.Dir.TheVariants.{Main}
 use Rattle.px_layout.specs.declared.chunks.Chunk.TheVariants.{Table}
 use Rattle.px_layout.specs.Plans.{Plan}
 use Rattle.px_plans.specs.calls.Planned.{plan_of}

@@ -1,6 +1,6 @@
 use Rattle.std.proofs.Common.{ℕ, ◌≡◌, ◌∙◌, subst}
 use Rattle.std.proofs.lemmas.Result.{err_from_is_err_and}
-use Rattle.px_tree.specs.calls.Seen.{meaning_of}
+use Rattle.px_meaning.specs.calls.Seen.{meaning_of}
 use Rattle.px_layout.specs.Chunks.{chunks}
 use Rattle.px_plans.specs.declared.plan.Plan as held
 use Rattle.px_plans.specs.calls.Planned.{plan_of}
@@ -13,7 +13,7 @@ returns-in_err-len-clause-plan c =
     let p = err_from_is_err_and c.from_residual-in_err-len.result c.from_residual-in_err-len.ensures.1 in
     let all : c.deref.result.now ≡ chunks (meaning_of c.args.m.now) = c.deref.ensures.value ∙ c.in_ok-chunks.ensures.chunks in
     rw (p.1, p.2) (plan_refused (meaning_of c.args.m.now) c.requires c.in_err-len.field-0.0
-        (plan_of c.place_all.new.plan) c.deref.result.now
+    (plan_of c.place_all.new.plan) c.deref.result.now
     all c.in_err-len.ensures.all)
 
 pub returns-clause-plan : goal.returns-clause-plan

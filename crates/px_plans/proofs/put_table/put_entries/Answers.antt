@@ -3,7 +3,7 @@ use Rattle.std.proofs.lemmas.List.{take_all}
 use Rattle.std.proofs.lemmas.Result.{err_from_is_err_and}
 use Rattle.px_bytes.specs.lemmas.WaitingLaws.{HasPut, put_none, loop_more, loop_stop}
 use Rattle.px_bytes.specs.Devices.{CanFail}
-use Rattle.px_tree.specs.Fits.{Item}
+use Rattle.px_meaning.specs.Fits.{Item}
 use Rattle.px_layout.specs.Laid.{entry_bytes}
 use Rattle.px_plans.specs.calls.Layouts.{said_plan}
 use Rattle.px_plans.proofs.put_table.put_entries.Goals as goal

@@ -1,6 +1,6 @@
 use Rattle.std.proofs.Common.{ℕ, subst, ◌∙◌}
 use Rattle.px_bytes.specs.Lacking.{LacksBy}
-use Rattle.px_tree.specs.calls.Seen.{meaning_of}
+use Rattle.px_meaning.specs.calls.Seen.{meaning_of}
 use Rattle.px_plans.proofs.plans.Pieces.{on_ok}
 use Rattle.px_layout.specs.lemmas.WalkLaws.{chunks_gathered}
 use Rattle.px_plans.proofs.sizing.push_all.Goals as goal

@@ -1,5 +1,5 @@
 use Rattle.std.proofs.Common.{sym}
-use Rattle.px_tree.specs.calls.Seen.{meaning_of}
+use Rattle.px_meaning.specs.calls.Seen.{meaning_of}
 use Rattle.px_layout.specs.lemmas.WalkLaws.{few_there}
 use Rattle.px_plans.proofs.sizing.push_dir.Goals as goal
 

@@ -1,7 +1,7 @@
 use Rattle.std.proofs.Common.{◌++◌, rules}
 use Rattle.std.proofs.lemmas.Result.{err_from_is_err_and}
 use Rattle.px_bytes.specs.lemmas.WaitingLaws.{puts_both, puts_first}
-use Rattle.px_tree.specs.Roles.{at_tag}
+use Rattle.px_meaning.specs.Roles.{at_tag}
 use Rattle.px_text.specs.declared.labels.Label.TheVariants.{Description, Artist, Copyright}
 use Rattle.px_text.specs.Captions.{text_captions, caption_lines, exif_captions}
 use Rattle.px_text.proofs.Parts.{three_lines}
@@ -35,7 +35,7 @@ returns-in_err-put_text-2 g c =
       prefix_as _ _ held _ _ (three_lines (text_captions Description (at_tag 0x010E c.args.fields.now)) (text_captions Artist
           (at_tag 0x013B c.args.fields.now)) (text_captions Copyright (at_tag 0x8298 c.args.fields.now))) (puts_first _ _ held (first ++
           second) third (owes_prefix _ _ _ held c.put_text.new.pending first second c.in_ok-put_text.ensures.0
-              c.in_err-put_text-2.ensures.0)),
+          c.in_err-put_text-2.ensures.0)),
       search rules,
     )
 

@@ -2,7 +2,7 @@ use Rattle.std.proofs.Common.{◌++◌, rules}
 use Rattle.std.specs.Prelude.{codes}
 use Rattle.std.proofs.lemmas.Result.{err_from_is_err_and}
 use Rattle.px_bytes.specs.lemmas.WaitingLaws.{puts_both, puts_first}
-use Rattle.px_tree.specs.calls.Seen.{thumb_of}
+use Rattle.px_meaning.specs.calls.Seen.{thumb_of}
 use Rattle.px_text.specs.Listing.{field_lines, jpeg_lines, strips_lines}
 use Rattle.px_text.proofs.Chains.{owes_append, owes_prefix}
 use Rattle.px_text.proofs.listing.put_thumb.Goals as goal

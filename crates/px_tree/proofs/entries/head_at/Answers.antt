@@ -1,7 +1,7 @@
 use Rattle.std.proofs.Common.{ap, List, ℕ, length, ◌≡◌, ◌∙◌, arith}
 use Rattle.px_bytes.specs.Parts.{part}
 use Rattle.px_bytes.specs.lemmas.PartLaws.{length_part}
-use Rattle.px_tree.specs.Entry.{entry, short, long}
+use Rattle.px_meaning.specs.Entry.{entry, short, long}
 use Rattle.px_tree.proofs.entries.head_at.Goals as goal
 
 pub number32-requires-2 : goal.number32-requires-2

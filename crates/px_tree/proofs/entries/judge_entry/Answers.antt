@@ -2,9 +2,9 @@ use Rattle.std.proofs.Common.{◌++◌, Option, sym, ◌∙◌, ap, subst, optio
 use Rattle.std.proofs.lemmas.Result.{err_from_is_err_and}
 use Rattle.px_bytes.specs.Parts.{part}
 use Rattle.px_field.specs.Forms.{form_of}
-use Rattle.px_tree.specs.Roles.{role}
+use Rattle.px_meaning.specs.Roles.{role}
 use Rattle.px_tree.specs.declared.entries.Head.{Head}
-use Rattle.px_tree.specs.Entry.{entry}
+use Rattle.px_meaning.specs.Entry.{entry}
 use Rattle.px_bytes.specs.Range.{Range, Agrees}
 use Rattle.px_tree.specs.calls.Reading.{Shows}
 use Rattle.px_tree.proofs.reading.Shapes.{shape_refuses, value_refuses, entry_true, range_same}

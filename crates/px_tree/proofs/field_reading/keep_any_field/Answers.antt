@@ -1,4 +1,4 @@
-use Rattle.px_tree.proofs.writable.Kept.{rising_push}
+use Rattle.px_tree.proofs.reading.Kept.{rising_push}
 use Rattle.px_tree.proofs.field_reading.keep_any_field.Goals as goal
 
 pub push-requires : goal.push-requires

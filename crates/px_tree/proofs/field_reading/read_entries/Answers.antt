@@ -5,11 +5,11 @@ use Rattle.std.specs.List.{AllByRecursion}
 use Rattle.px_bytes.specs.Parts.{part}
 use Rattle.px_field.specs.Forms.{form_of}
 use Rattle.px_field.specs.Values.{Value}
-use Rattle.px_tree.specs.Tree.{Fields}
-use Rattle.px_tree.specs.Entry.{entry, field, value_in, Rising}
-use Rattle.px_tree.specs.calls.Places.{tags}
+use Rattle.px_meaning.specs.Tree.{Fields}
+use Rattle.px_meaning.specs.Entry.{entry, field, value_in, Rising}
+use Rattle.px_meaning.specs.calls.Places.{tags}
 use Rattle.px_tree.specs.calls.Reading.{entries_from}
-use Rattle.px_tree.proofs.writable.Kept.{rising_kept, precede_kept}
+use Rattle.px_tree.proofs.reading.Kept.{rising_kept, precede_kept}
 use Rattle.px_tree.proofs.reading.KeptUses.{UsesSoFar, uses_start, uses_step, uses_end}
 use Rattle.px_tree.proofs.reading.Loop.{SoFar, so_far_start, so_far_step, so_far_refuses, so_far_end, fields_step, field_is}
 use Rattle.px_tree.proofs.field_reading.read_entries.Goals as goal

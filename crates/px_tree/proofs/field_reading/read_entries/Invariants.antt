@@ -1,7 +1,7 @@
 use Rattle.std.proofs.Common.{◌≡◌, ◌+◌, ◌-◌, ◌*◌, ◌++◌, List, filter_map}
 use Rattle.px_bytes.specs.Range.{Range, Agrees}
-use Rattle.px_tree.specs.Entry.{field, Rising}
-use Rattle.px_tree.specs.calls.Places.{tags}
+use Rattle.px_meaning.specs.Entry.{field, Rising}
+use Rattle.px_meaning.specs.calls.Places.{tags}
 use Rattle.px_tree.specs.calls.Reading.{Precede, entries_from}
 use Rattle.px_tree.proofs.reading.KeptUses.{UsesSoFar}
 use Rattle.px_tree.proofs.reading.Loop.{SoFar}

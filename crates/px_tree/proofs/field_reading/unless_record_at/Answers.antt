@@ -1,7 +1,7 @@
 use Rattle.std.proofs.Common.{List, ℕ, Some, ap, ◌∙◌, sym}
 use Rattle.std.specs.Prelude.{is_some}
 use Rattle.px_field.specs.Values.{Value}
-use Rattle.px_tree.specs.Entry.{record_in}
+use Rattle.px_meaning.specs.Entry.{record_in}
 use Rattle.px_tree.proofs.reading.Raw.{unless_some, unless_none}
 use Rattle.px_tree.proofs.field_reading.unless_record_at.Goals as goal
 

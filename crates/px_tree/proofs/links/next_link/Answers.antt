@@ -1,7 +1,7 @@
 use Rattle.std.proofs.Common.{◌≡◌, ℕ, ◌+◌, ◌*◌, Some, None, Bool, if◌then◌else◌, sym, ap, ◌∙◌, ne_eqb}
 use Rattle.px_bytes.specs.Parts.{part}
-use Rattle.px_tree.specs.Entry.{long}
-use Rattle.px_tree.specs.Directory.{unless_zero}
+use Rattle.px_meaning.specs.Entry.{long}
+use Rattle.px_meaning.specs.Directory.{unless_zero}
 use Rattle.px_tree.proofs.reading.Pointers.{next_is, length_is}
 use Rattle.px_tree.proofs.links.next_link.Goals as goal
 

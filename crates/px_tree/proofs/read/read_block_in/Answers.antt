@@ -2,8 +2,8 @@ use Rattle.std.proofs.Common.{◌≤◌, List, ℕ, length, sym, subst}
 use Rattle.std.specs.Prelude.{IfOk, IfErr}
 use Rattle.std.proofs.lemmas.Result.{err_from_is_err_and}
 use Rattle.px_bytes.specs.Parts.{limit}
-use Rattle.px_tree.specs.Says.{SaysExif}
-use Rattle.px_tree.specs.calls.Seen.{meaning_of}
+use Rattle.px_meaning.specs.Says.{SaysExif}
+use Rattle.px_meaning.specs.calls.Seen.{meaning_of}
 use Rattle.px_tree.specs.Refused.{IsRefused}
 use Rattle.px_tree.proofs.faulting.Answered.{tree_said, tree_refused, tree_fits, header_refuses, refused_only}
 use Rattle.px_tree.proofs.read.read_block_in.Goals as goal

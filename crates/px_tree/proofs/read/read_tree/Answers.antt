@@ -6,8 +6,8 @@ use Rattle.px_bytes.specs.lemmas.RangeLaws.{agrees_none}
 use Rattle.px_bytes.specs.Checks.{check}
 use Rattle.px_bytes.specs.lemmas.CheckLaws.{Refuses_none}
 use Rattle.px_tree.specs.declared.tables.Directory.{Directory}
-use Rattle.px_tree.specs.Directory.{dirs}
-use Rattle.px_tree.specs.Says.{record_at}
+use Rattle.px_meaning.specs.Directory.{dirs}
+use Rattle.px_meaning.specs.Says.{record_at}
 use Rattle.px_tree.specs.Checks.{dirs_held}
 use Rattle.px_tree.proofs.saying.Assembled.{thumb_read, main_each, dirs_refuse_tree, thumb_refuses_tree, tree_true, all_in_order}
 use Rattle.px_tree.proofs.saying.Assembled.{meaning_is}

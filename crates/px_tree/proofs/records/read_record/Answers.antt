@@ -1,9 +1,9 @@
 use Rattle.std.proofs.Common.{◌≡◌, Option, Some, None, sym, subst}
 use Rattle.std.specs.Prelude.{IfOk}
 use Rattle.px_tree.specs.declared.links.Found.{Found}
-use Rattle.px_tree.specs.declared.roles.Dir.TheVariants.{Main}
-use Rattle.px_tree.specs.Roles.{record_tag}
-use Rattle.px_tree.specs.Iim.{Iim}
+use Rattle.px_meaning.specs.declared.Dir.TheVariants.{Main}
+use Rattle.px_meaning.specs.Roles.{record_tag}
+use Rattle.px_meaning.specs.Iim.{Iim}
 use Rattle.px_tree.specs.calls.Parts.{Finds, entry_here}
 use Rattle.px_tree.proofs.lists.Listed.{has_value}
 use Rattle.px_tree.proofs.saying.Assembled.{record_is}

@@ -1,7 +1,7 @@
 use Rattle.std.proofs.Common.{ℕ, ◌+◌, List, map, drop, subst, sym, ap₂}
 use Rattle.px_bytes.specs.Range.{Range}
-use Rattle.px_tree.specs.Thumbnail.{whole_number, ranges_of}
-use Rattle.px_tree.specs.calls.Strips.{Rise}
+use Rattle.px_meaning.specs.Thumbnail.{whole_number, ranges_of}
+use Rattle.px_meaning.specs.calls.Strips.{Rise}
 use Rattle.px_tree.proofs.reading.StripRanges.{ranges_next}
 use Rattle.px_tree.proofs.rising.rising_span.Goals as goal
 

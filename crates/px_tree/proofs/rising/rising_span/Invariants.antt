@@ -1,6 +1,6 @@
 use Rattle.std.proofs.Common.{ℕ, ◌≤◌, length, map, drop}
-use Rattle.px_tree.specs.Thumbnail.{whole_number, ranges_of}
-use Rattle.px_tree.specs.calls.Strips.{Rise, ranges_in}
+use Rattle.px_meaning.specs.Thumbnail.{whole_number, ranges_of}
+use Rattle.px_meaning.specs.calls.Strips.{Rise, ranges_in}
 use Rattle.px_tree.proofs.rising.rising_span.Given as goal
 
 abbrev pub invariant-loop-i : goal.invariant-loop-i

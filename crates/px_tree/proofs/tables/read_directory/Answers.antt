@@ -3,9 +3,9 @@ use Rattle.std.proofs.lemmas.Result.{err_from_is_err_and}
 use Rattle.px_bytes.specs.Range.{range}
 use Rattle.px_bytes.specs.Checks.{first_false, Refuses}
 use Rattle.px_bytes.specs.lemmas.CheckLaws.{Refuses_more, Refuses_behind, all_true}
-use Rattle.px_tree.specs.Entry.{table_size}
-use Rattle.px_tree.specs.Directory.{entries_at}
-use Rattle.px_tree.specs.Footprint.{table_range}
+use Rattle.px_meaning.specs.Entry.{table_size}
+use Rattle.px_meaning.specs.Directory.{entries_at}
+use Rattle.px_meaning.specs.Footprint.{table_range}
 use Rattle.px_tree.specs.Checks.{opening_checks, entries_checks}
 use Rattle.px_tree.specs.calls.Linked.{offsets_of}
 use Rattle.px_tree.proofs.reading.Standing.{entries_checks_is, fields_is, ranges_is, uses_is, dir_checks_parts}

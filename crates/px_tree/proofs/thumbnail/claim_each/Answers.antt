@@ -2,7 +2,7 @@ use Rattle.std.proofs.Common.{◌∙◌, List, map, subst, sym}
 use Rattle.std.specs.List.{AllByRecursion}
 use Rattle.std.proofs.lemmas.Result.{err_from_is_err_and}
 use Rattle.px_bytes.specs.Range.{Range, range}
-use Rattle.px_tree.specs.Thumbnail.{whole_number, ranges_of, IsInside}
+use Rattle.px_meaning.specs.Thumbnail.{whole_number, ranges_of, IsInside}
 use Rattle.px_tree.proofs.reading.StripRanges.{ranges_next, ranges_step, ranges_refuse}
 use Rattle.px_tree.proofs.thumbnail.claim_each.Goals as goal
 

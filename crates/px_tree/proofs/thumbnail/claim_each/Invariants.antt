@@ -1,8 +1,8 @@
 use Rattle.std.proofs.Common.{◌≡◌, List, map, drop}
 use Rattle.std.specs.List.{AllByRecursion}
 use Rattle.px_bytes.specs.Range.{Range, Agrees}
-use Rattle.px_tree.specs.Thumbnail.{whole_number, ranges_of, IsInside}
-use Rattle.px_tree.specs.calls.Strips.{ranges_in}
+use Rattle.px_meaning.specs.Thumbnail.{whole_number, ranges_of, IsInside}
+use Rattle.px_meaning.specs.calls.Strips.{ranges_in}
 use Rattle.px_tree.proofs.reading.StripRanges.{RangesSoFar}
 use Rattle.px_tree.proofs.thumbnail.claim_each.Given as goal
 

@@ -1,6 +1,6 @@
 use Rattle.std.proofs.Common.{◌≤◌, Option, IfSome, length, subst}
 use Rattle.px_tree.specs.declared.rising.Span.{Span}
-use Rattle.px_tree.specs.calls.Strips.{Rise, ranges_in}
+use Rattle.px_meaning.specs.calls.Strips.{Rise, ranges_in}
 use Rattle.px_tree.proofs.reading.Rising.{rise_inside, rise_true, free_between}
 use Rattle.px_tree.proofs.thumbnail.judge_strips.Goals as goal
 

@@ -1,6 +1,6 @@
 use Rattle.std.proofs.Common.{map, length, sym, ap, ◌∙◌}
 use Rattle.px_field.specs.Values.{Value}
-use Rattle.px_tree.specs.Thumbnail.{whole_number}
+use Rattle.px_meaning.specs.Thumbnail.{whole_number}
 use Rattle.px_tree.proofs.lists.Listed.{codes_from, numbers_is, length_list}
 use Rattle.px_tree.proofs.reading.Raw.{whole_from}
 use Rattle.px_tree.proofs.thumbnail.numbers_at.Goals as goal

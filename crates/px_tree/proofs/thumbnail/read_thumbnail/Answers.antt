@@ -1,8 +1,8 @@
 use Rattle.std.proofs.Common.{◌++◌, List, Option, option_map, option_to_list, map, ap, ◌∙◌}
 use Rattle.std.proofs.lemmas.Result.{err_from_is_err_and}
 use Rattle.px_bytes.specs.Range.{Range}
-use Rattle.px_tree.specs.Roles.{strip_offsets_tag, strip_lengths_tag}
-use Rattle.px_tree.specs.Thumbnail.{bytes_of}
+use Rattle.px_meaning.specs.Roles.{strip_offsets_tag, strip_lengths_tag}
+use Rattle.px_meaning.specs.Thumbnail.{bytes_of}
 use Rattle.px_tree.specs.calls.Parts.{jpeg_of}
 use Rattle.px_tree.proofs.lists.Listed.{have_numbers, offsets_form, lengths_form}
 use Rattle.px_tree.proofs.reading.Parted.{even_parts, pairs_refuse, end_refuses, jpeg_refuses, strips_refuse, thumb_true, jpeg_is}

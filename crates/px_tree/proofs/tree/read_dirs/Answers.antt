@@ -2,8 +2,8 @@ use Rattle.std.proofs.Common.{ℕ, ◌++◌, ◌∷◌, [], List, Some, sym, sub
 use Rattle.std.proofs.lemmas.Result.{err_from_is_err_and}
 use Rattle.px_bytes.specs.Range.{Range, Agrees}
 use Rattle.px_bytes.specs.Checks.{first_false, Refuses}
-use Rattle.px_tree.specs.declared.roles.Dir.TheVariants.{Main, Exif, Interop, Gps, Thumb}
-use Rattle.px_tree.specs.Entry.{fields}
+use Rattle.px_meaning.specs.declared.Dir.TheVariants.{Main, Exif, Interop, Gps, Thumb}
+use Rattle.px_meaning.specs.Entry.{fields}
 use Rattle.px_tree.proofs.reading.Named.{dirs_start, dirs_step, dirs_refuse, dirs_clean, dirs_end, names_exif, names_gps, names_interop}
 use Rattle.px_tree.proofs.reading.Named.{names_thumb, main_is, some_checks, some_ranges}
 use Rattle.px_tree.proofs.tree.read_dirs.Goals as goal

@@ -2,7 +2,7 @@ use Rattle.std.proofs.Common.{◌++◌, List, Some, sym, ap, subst, ◌∙◌}
 use Rattle.std.proofs.lemmas.Result.{err_from_is_err_and}
 use Rattle.px_bytes.specs.Range.{Range, Agrees}
 use Rattle.px_bytes.specs.Checks.{first_false, Refuses}
-use Rattle.px_tree.specs.Tree.{Fields}
+use Rattle.px_meaning.specs.Tree.{Fields}
 use Rattle.px_tree.specs.calls.Linked.{Names, offsets_of}
 use Rattle.px_tree.proofs.reading.Named.{some_checks, some_ranges, some_fields}
 use Rattle.px_tree.proofs.tree.read_linked.Goals as goal

@@ -15,7 +15,7 @@ length_runs_zero [] = refl
 length_runs_zero (s ∷ ss) =
     let (items, rest, e) = join_starts (dataset_view s) (runs (map dataset_view ss)) in
     positive_not_zero (length (s ∷ ss)) (omega arith) ∙ sym (positive_not_zero (length (runs (map dataset_view (s ∷ ss))))
-        (omega (arith, ap length e)))
+    (omega (arith, ap length e)))
 
 pub returns : goal.returns
 returns c =

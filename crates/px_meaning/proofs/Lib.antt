@@ -1,0 +1,2 @@
+pub mod writable
+pub mod tables

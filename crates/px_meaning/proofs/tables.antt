@@ -1,0 +1,4 @@
+-- Tags and strips, by their tables and lists.
+pub mod NoUse
+pub mod StripBytes
+pub mod StripRuns

@@ -1,0 +1,12 @@
+pub mod Roles
+pub mod Iim
+pub mod Tree
+pub mod Entry
+pub mod Directory
+pub mod Thumbnail
+pub mod Footprint
+pub mod Says
+pub mod Fits
+pub mod Laws
+pub mod calls
+pub mod lemmas

@@ -1,0 +1,5 @@
+-- Definitions for the contracts of single calls. The definitions of the promises are in the folder above.
+pub mod Places
+pub mod Seen
+pub mod Used
+pub mod Strips

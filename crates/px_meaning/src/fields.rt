@@ -1,0 +1,166 @@
+// The fields of a directory, by their tags.
+ghost use Rattle.std.specs.Prelude.{◌≡◌, ◌<◌, [], ◌∷◌, ◌++◌, OnOk, IfOk, IfErr, OnErr, Some, None, length, slice_get, option_copied};
+ghost use Rattle.std.specs.Prelude.{is_some, true, false, IsTrue, ◌↔◌};
+ghost use Rattle.px_bytes.specs.Lacking.{Lacks};
+ghost use Rattle.px_meaning.specs.Roles.{at_tag};
+ghost use Rattle.px_meaning.specs.Fits.{put};
+ghost use Rattle.px_meaning.specs.Entry.{Rising};
+ghost use Rattle.px_meaning.specs.calls.Places.{tags, IsInOrder, IsAt, IsGapFor};
+
+use px_bytes::{Memory, Refused};
+use px_field::Value;
+use std::alloc::{AllocError, Global};
+use std::marker::Model;
+
+/// The fields of a directory: a finite map from tag to value. TIFF 6.0 section 2, "Image File Directory" and
+/// "Sort Order".
+///
+/// The fields are in a vector by ascending tag. A tag is found by binary search. A field with the greatest
+/// tag so far, as when a block is read, is appended; any other moves the fields after it.
+#[derive(Drop)]
+pub struct Fields<'a> {
+    list: Vec<(u16, Value<'a>)>,
+}
+
+impl<'a> Model for Fields<'a> {
+    ghost use Rattle.px_meaning.specs.Tree.{Fields as Pairs};
+    ghost use Rattle.px_meaning.specs.calls.Places.{IsInOrder};
+
+    ghost Value = { Pairs };
+
+    ghost view = { λ f. f.list.items };
+
+    ghost invariant = { λ f. IsInOrder f.list.items };
+}
+
+impl<'a> Fields<'a> {
+    /// No fields, with memory of its own. It allocates nothing.
+    pub fn new(alloc: Global) -> Fields<'a>
+        ensures { result ≡ [] }
+    {
+        Fields::new_in(&Memory::new(alloc))
+    }
+
+    /// No fields. Later calls use the allocator of `memory`. It allocates nothing.
+    pub fn new_in(memory: &Memory) -> Fields<'a>
+        ensures { result ≡ [] }
+    {
+        Fields {
+            list: memory.list(),
+        }
+    }
+
+    /// The number of fields: at most 65,536, one for each tag. It allocates nothing.
+    pub fn len(&self) -> usize
+        ensures value { result ≡ length self.now }
+        ensures order { Rising (tags self.now) }
+    {
+        self.list.len()
+    }
+
+    /// Whether there are none. It allocates nothing.
+    pub fn is_empty(&self) -> bool
+        ensures { IsTrue result ↔ (self.now ≡ []) }
+    {
+        self.list.is_empty()
+    }
+
+    /// The tag and value at index `i`, below `len`, by ascending tag. It allocates nothing.
+    pub fn at(&self, i: usize) -> (u16, &Value<'a>)
+        requires { i < length self.now }
+        ensures { slice_get self.now i ≡ Some (result.0, result.1.now) }
+    {
+        let (tag, value) = &self.list[i];
+        (*tag, value)
+    }
+
+    /// The value at a tag, or None. It allocates nothing.
+    pub fn get(&self, tag: u16) -> Option<&Value<'a>>
+        ensures { option_copied result ≡ at_tag tag self.now }
+    {
+        match place_of(self.list.as_slice(), tag) {
+            Ok(i) => Some(&self.list[i].1),
+            Err(_) => None,
+        }
+    }
+
+    /// Like `put_in`, with memory of its own.
+    pub fn put(&mut self, tag: u16, value: Value<'a>) -> Result<bool, AllocError>
+        ensures fresh { IfOk result (λ fresh. fresh ≡ true → (at_tag tag self.old ≡ None) × (self.new ≡ put tag value.entry self.old)) }
+        ensures there { IfOk result (λ fresh. fresh ≡ false → (is_some (at_tag tag self.old) ≡ true) × (self.new ≡ self.old)) }
+        ensures absent { OnErr result (at_tag tag self.old ≡ None) }
+        ensures err { OnErr result (self.new ≡ self.old) }
+    {
+        let mut memory = Memory::new(*self.list.allocator());
+        Ok(self.put_in(&mut memory, tag, value)?)
+    }
+
+    /// Adds a field and returns true, or returns false if the tag has a value already. On false and on an
+    /// error the new value is dropped and nothing has changed. `Err`: an allocation failed.
+    pub fn put_in(
+        &mut self,
+        memory: &mut Memory,
+        tag: u16,
+        value: Value<'a>,
+    ) -> Result<bool, Refused>
+        ensures fresh { IfOk result (λ fresh. fresh ≡ true → (at_tag tag self.old ≡ None) × (self.new ≡ put tag value.entry self.old)) }
+        ensures there { IfOk result (λ fresh. fresh ≡ false → (is_some (at_tag tag self.old) ≡ true) × (self.new ≡ self.old)) }
+        ensures absent { OnErr result (at_tag tag self.old ≡ None) }
+        ensures err { OnErr result (self.new ≡ self.old) }
+        ensures memory { Lacks result memory.old memory.new }
+    {
+        match place_of(self.list.as_slice(), tag) {
+            Ok(_) => Ok(false),
+            Err(i) => {
+                memory.insert(&mut self.list, i, (tag, value))?;
+                Ok(true)
+            }
+        }
+    }
+}
+
+impl<'a> Fields<'a> {
+    /// No fields, with capacity for so many.
+    pub fn with_room(memory: &mut Memory, count: u16) -> Result<Fields<'a>, Refused>
+        ensures none { IfOk result (λ f. f ≡ []) }
+        ensures memory { Lacks result memory.old memory.new }
+    {
+        let mut list = memory.list();
+        memory.reserve(&mut list, usize::from(count))?;
+        Ok(Fields { list })
+    }
+
+    /// Appends a field.
+    pub fn push(&mut self, memory: &mut Memory, tag: u16, value: Value<'a>) -> Result<(), Refused>
+        requires { Rising (tags (self.old ++ (tag, value) ∷ [])) }
+        ensures ok { OnOk result (self.new ≡ self.old ++ (tag, value.entry) ∷ []) }
+        ensures err { OnErr result (self.new ≡ self.old) }
+        ensures memory { Lacks result memory.old memory.new }
+    {
+        memory.push(&mut self.list, (tag, value))?;
+        Ok(())
+    }
+}
+
+// The index of the tag, or the index where it would be inserted.
+fn place_of(list: &[(u16, Value)], tag: u16) -> Result<usize, usize>
+    requires { IsInOrder list.now }
+    ensures found { IfOk result (IsAt list.now tag) }
+    ensures absent { IfErr result (IsGapFor list.now tag) }
+{
+    let mut low = 0;
+    let mut high = list.len();
+    while low < high {
+        let middle = low + (high - low) / 2;
+        let here = list[middle].0;
+        if here == tag {
+            return Ok(middle);
+        }
+        if here < tag {
+            low = middle + 1;
+        } else {
+            high = middle;
+        }
+    }
+    Err(low)
+}

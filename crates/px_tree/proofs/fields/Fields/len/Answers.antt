@@ -1,5 +1,0 @@
-use Rattle.px_tree.proofs.writable.FieldLemmas.{rising_from_order}
-use Rattle.px_tree.proofs.fields.Fields.len.Goals as goal
-
-pub returns-clause-order : goal.returns-clause-order
-returns-clause-order c = rw (← c.self.view_is) (rising_from_order _ c.self.invariant)

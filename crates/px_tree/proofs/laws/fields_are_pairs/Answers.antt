@@ -1,5 +1,0 @@
-use Rattle.px_tree.proofs.writable.FieldPairs.{fields_are_pairs as pairs}
-use Rattle.px_tree.proofs.laws.fields_are_pairs.Goals as goal
-
-pub returns : goal.returns
-returns c = pairs

@@ -1,3 +1,0 @@
--- Lemmas. Readers of the promises don't need them.
-pub mod TagLaws
-pub mod MeaningLaws
