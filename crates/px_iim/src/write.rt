@@ -1,10 +1,10 @@
 // Writes and measures the normal form.
 ghost use Rattle.std.specs.Prelude.{◌≡◌, ◌≤◌, ◌<◌, ◌++◌, length, map, OnOk, OnErr};
 ghost use Rattle.std.specs.List.{flat_map};
-ghost use Rattle.px_bytes.specs.Devices.{CanFail, Counts};
+ghost use Rattle.px_bytes.specs.Devices.{CanFail, over};
 ghost use Rattle.px_bytes.specs.Lacking.{Lacks};
 ghost use Rattle.px_bytes.specs.Parts.{limit};
-ghost use Rattle.px_bytes.specs.Waiting.{Puts, Waits, PutsTo};
+ghost use Rattle.px_bytes.specs.Waiting.{Waits, Adds, AddsTo};
 ghost use Rattle.px_iim.specs.Record.{normal_dataset, normal_iim};
 ghost use Rattle.px_iim.specs.calls.View.{item_view};
 ghost use Rattle.px_iim.specs.Writing.{WritesIim, most, within};
@@ -24,8 +24,7 @@ fn put_item<W: Sink>(
 ) -> Result<(), Failed>
     requires few { CanFail (W.failed writer.old) }
     requires short { length item.now.octets.now ≤ limit }
-    ensures bytes { PutsTo W.bytes_taken result writer.old writer.new pending.old pending.new (normal_dataset rec (item_view item.now)) }
-    ensures count { Counts result (W.failed writer.old) (W.failed writer.new) }
+    ensures { AddsTo W.failed W.bytes_taken result writer.old writer.new pending.old pending.new (normal_dataset rec (item_view item.now)) }
 {
     let (octets, len) = head(rec, item.number, item.octets.len() as u32);
     pending.put(writer, &octets[..len])?;
@@ -40,9 +39,8 @@ fn put_group<W: Sink>(
 ) -> Result<(), Failed>
     requires few { CanFail (W.failed writer.old) }
     requires short { AreShort (map item_view items.now) }
-    ensures bytes { PutsTo W.bytes_taken result writer.old writer.new pending.old pending.new
+    ensures { AddsTo W.failed W.bytes_taken result writer.old writer.new pending.old pending.new
         (flat_map (normal_dataset rec) (map item_view items.now)) }
-    ensures count { Counts result (W.failed writer.old) (W.failed writer.new) }
 {
     for item in items {
         put_item(pending, writer, rec, item)?;
@@ -56,8 +54,7 @@ fn put_group<W: Sink>(
 /// record with a DataSet has a form of at least five bytes.
 pub fn put_iim<W: Sink>(pending: &mut Pending, writer: &mut W, iim: &Iim) -> Result<(), Failed>
     requires { CanFail (W.failed writer.old) }
-    ensures bytes { Puts result (W.bytes_taken writer.old) (W.bytes_taken writer.new) pending.old pending.new (normal_iim iim.now) }
-    ensures count { Counts result (W.failed writer.old) (W.failed writer.new) }
+    ensures bytes { Adds result (over W.failed W.bytes_taken writer.old writer.new) pending.old pending.new (normal_iim iim.now) }
     ensures waits { Waits result writer.old writer.new pending.old pending.new (normal_iim iim.now) }
 {
     for (rec, _, items) in iim.iter() {

@@ -6,6 +6,6 @@ use Rattle.px_engine.proofs.forms.send_record.Goals as goal
 pub returns : goal.returns
 returns g c = (
   owes_written c.send.result _ _ _ c.new-pending.result c.put_iim.new.pending (normal_iim c.args.iim.now)
-      c.new-pending.ensures c.in_ok-put_iim.ensures.bytes c.send.ensures.bytes,
+      c.new-pending.ensures c.in_ok-put_iim.ensures.bytes.0 c.send.ensures.bytes,
   search rules,
 )

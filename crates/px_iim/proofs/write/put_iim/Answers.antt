@@ -1,4 +1,4 @@
-use Rattle.std.proofs.Common.{[], ◌∙◌, refl, sym, ap, subst}
+use Rattle.std.proofs.Common.{[], ◌∙◌, refl, sym, ap, subst, rules}
 use Rattle.std.specs.List.{AllByRecursion}
 use Rattle.std.proofs.lemmas.Result.{err_from_is_err_and}
 use Rattle.px_bytes.specs.lemmas.WaitingLaws.{HasPut, put_none}
@@ -29,8 +29,8 @@ returns-in_err-put_group-clause-bytes g c =
     let failed =
     put_failed c.loop-rec.rec-iterator c.next.new.self (part_view (c.in-Some.rec, c.in-Some.field-0-1, c.in-Some.items))
     c.in-Some.ensures.steps _
-    g.W.Sink.bytes_taken _ _ _ c.args.pending.now c.loop-rec.pending o.0 o.1 o.2 c.in_err-put_group.ensures.bytes in
-    rw p.1 failed.0
+    g.W.Sink.bytes_taken _ _ _ c.args.pending.now c.loop-rec.pending o.0 o.1 o.2 c.in_err-put_group.ensures.0 in
+    rw p.1 (failed.0, search rules)
 
 pub returns-in_err-put_group-clause-waits : goal.returns-in_err-put_group-clause-waits
 returns-in_err-put_group-clause-waits g c =
@@ -39,7 +39,7 @@ returns-in_err-put_group-clause-waits g c =
     let failed =
     put_failed c.loop-rec.rec-iterator c.next.new.self (part_view (c.in-Some.rec, c.in-Some.field-0-1, c.in-Some.items))
     c.in-Some.ensures.steps _
-    g.W.Sink.bytes_taken _ _ _ c.args.pending.now c.loop-rec.pending o.0 o.1 o.2 c.in_err-put_group.ensures.bytes in
+    g.W.Sink.bytes_taken _ _ _ c.args.pending.now c.loop-rec.pending o.0 o.1 o.2 c.in_err-put_group.ensures.0 in
     rw p.1 failed.1
 
 pub loop-rec-preserved : goal.loop-rec-preserved
@@ -50,15 +50,17 @@ loop-rec-preserved g c =
       whole = whole_next c.loop-rec.rec-iterator c.next.new.self x c.in-Some.ensures.steps [] c.loop-rec.invariant.whole;
       put = put_next c.loop-rec.rec-iterator c.next.new.self x c.in-Some.ensures.steps _
           g.W.Sink.bytes_taken _ _ _ c.args.pending.now c.loop-rec.pending c.put_group.new.pending o.0 o.1 o.2
-          c.in_ok-put_group.ensures.bytes;
-      count = c.in_ok-put_group.ensures.count ∙ c.loop-rec.invariant.count;
+          c.in_ok-put_group.ensures.0;
+      count = c.in_ok-put_group.ensures.1 ∙ c.loop-rec.invariant.count;
     }
 
 pub returns-clause-bytes : goal.returns-clause-bytes
 returns-clause-bytes g c =
-    let o = c.loop-rec.invariant.put in
-    (subst (HasPut g.W.Sink.bytes_taken c.args.writer.now c.loop-rec.writer c.args.pending.now c.loop-rec.pending)
-    (rest_none c.loop-rec.rec-iterator o.0 _ c.in-None.ensures.steps.0 o.2) o.1).0
+    let o = c.loop-rec.invariant.put in (
+      (subst (HasPut g.W.Sink.bytes_taken c.args.writer.now c.loop-rec.writer c.args.pending.now c.loop-rec.pending)
+          (rest_none c.loop-rec.rec-iterator o.0 _ c.in-None.ensures.steps.0 o.2) o.1).0,
+      search rules,
+    )
 
 pub returns-clause-waits : goal.returns-clause-waits
 returns-clause-waits g c =

@@ -23,8 +23,8 @@ returns-in_err-put_iim g c =
     rw (p.1, p.2) (
       l.1,
       from_none (AppendsPrefix (g.W.Sink.bytes_taken c.args.writer.now) (g.W.Sink.bytes_taken c.put_iim.new.writer)) c.new-pending.result
-          (normal_iim c.args.iim.now) c.new-pending.ensures c.in_err-put_iim.ensures.bytes,
-      c.in_err-put_iim.ensures.count,
+          (normal_iim c.args.iim.now) c.new-pending.ensures c.in_err-put_iim.ensures.bytes.0,
+      c.in_err-put_iim.ensures.bytes.1,
     )
 
 pub returns-in_err-send : goal.returns-in_err-send
@@ -35,12 +35,12 @@ returns-in_err-send g c =
     let o : Owes (g.W.Sink.bytes_taken c.args.writer.now) (g.W.Sink.bytes_taken c.put_iim.new.writer) c.put_iim.new.pending
     (normal_iim c.args.iim.now) =
     from_none (Owes (g.W.Sink.bytes_taken c.args.writer.now) (g.W.Sink.bytes_taken c.put_iim.new.writer) c.put_iim.new.pending)
-    c.new-pending.result (normal_iim c.args.iim.now) c.new-pending.ensures c.in_ok-put_iim.ensures.bytes in
+    c.new-pending.result (normal_iim c.args.iim.now) c.new-pending.ensures c.in_ok-put_iim.ensures.bytes.0 in
     rw (p.1, p.2) (
       l.1,
       owed_prefix _ _ _ _ _ o c.in_err-send.ensures.bytes,
       c.in_err-send.ensures.count
-          ∙ ap (λ (n : ℕ). n + 1) c.in_ok-put_iim.ensures.count,
+          ∙ ap (λ (n : ℕ). n + 1) c.in_ok-put_iim.ensures.bytes.1,
     )
 
 pub returns : goal.returns
@@ -50,10 +50,10 @@ returns g c =
     let o : Owes (g.W.Sink.bytes_taken c.args.writer.now) (g.W.Sink.bytes_taken c.put_iim.new.writer) c.put_iim.new.pending
     (normal_iim c.args.iim.now) =
     from_none (Owes (g.W.Sink.bytes_taken c.args.writer.now) (g.W.Sink.bytes_taken c.put_iim.new.writer) c.put_iim.new.pending)
-    c.new-pending.result (normal_iim c.args.iim.now) c.new-pending.ensures c.in_ok-put_iim.ensures.bytes in (
+    c.new-pending.result (normal_iim c.args.iim.now) c.new-pending.ensures c.in_ok-put_iim.ensures.bytes.0 in (
       owed_all _ _ _ _ _ o c.in_ok-send.ensures.bytes,
       c.from.ensures ∙ l.0,
       omega (arith, c.from.ensures, l),
       c.in_ok-send.ensures.count
-          ∙ c.in_ok-put_iim.ensures.count,
+          ∙ c.in_ok-put_iim.ensures.bytes.1,
     )
