@@ -120,15 +120,14 @@ def changed_(asked: argparse.Namespace) -> int:
     counts: "Counter[str]" = Counter()
     with contextlib.ExitStack() as open_:
         before, after = (open_.enter_context(_side(it, asked, open_)) for it in (asked.before, asked.after))
-        equal = None if asked.json else changes.Equal(after)
-        for it in changes.changed(before, after, only):
-            counts[it.result] += 1
+        equal = None if asked.json else open_.enter_context(contextlib.closing(changes.Equal()))
+        for it in changes.changed(before, after, counts, only, asked.all):
             if it.result in changes.UNCHANGED and not asked.all:
                 continue
             if equal is None:
                 print(json.dumps(changed_members(it)))
             else:
-                equal.add(json.dumps(_said(it)), it.name)
+                equal.add(json.dumps(_said(it)), it.name, it.moved_to is not None)
         if equal is not None:
             _print_equal(equal)
     summary = ", ".join(f"{counts[it]} {it}" for it in changes.RESULTS if counts[it]) or "no picture"

@@ -15,7 +15,7 @@ import zlib
 from typing import Callable, Dict, Iterable, Iterator, List, NamedTuple, Optional, Sequence, Tuple, TypeVar
 
 from .formats.found import NotRead
-from .kept import Block, Entry, Picture, Stamp, block_of_row, digests, not_read_of_row, picture_of_row
+from .kept import Block, Entry, Picture, Stamp, block_of_row, digests, has, not_read_of_row, picture_of_row
 from .listing import Field, unpacked
 
 APPLICATION = 0x45584E50  # 'EXNP', which distinguishes a catalogue from other SQLite files
@@ -78,12 +78,12 @@ CREATE INDEX pictures_by_content ON pictures (exif, iptc, xmp, not_read) WHERE p
 """
 
 _OCTETS = "exif_octets, iptc_octets, xmp_octets"
-_PICTURE = f"id, path, root, type, extractor, problem, detail, size, modified, inode, not_read, exif, iptc, xmp, {_OCTETS}"
-_BLOCK = "number, kind, name, source, extractor, status, digest, cause, place, length, octets"
+PICTURE_COLUMNS = f"id, path, root, type, extractor, problem, detail, size, modified, inode, not_read, exif, iptc, xmp, {_OCTETS}"
+BLOCK_COLUMNS = "number, kind, name, source, extractor, status, digest, cause, place, length, octets"
 _COLUMNS = f"path, root, size, modified, changed, inode, type, extractor, problem, detail, exif, iptc, xmp, not_read, {_OCTETS}"
 # A row that replaces another of the same path takes the other's blocks and parts with it, by ON DELETE CASCADE.
 _PUT_PICTURE = f"INSERT OR REPLACE INTO pictures (id, {_COLUMNS}, run) VALUES (?{', ?' * 18})"
-_PUT_BLOCK = f"INSERT INTO blocks (picture, {_BLOCK}, fields) VALUES (?{', ?' * 12})"
+_PUT_BLOCK = f"INSERT INTO blocks (picture, {BLOCK_COLUMNS}, fields) VALUES (?{', ?' * 12})"
 
 Run = Tuple[str, Optional[str], Optional[str], Optional[str]]  # when it began and ended, ExifTool's version, exiv2's
 Made = TypeVar("Made")
@@ -91,6 +91,10 @@ Made = TypeVar("Made")
 
 class NoCatalogue(Exception):
     """The file is missing, is no catalogue of this version, or is damaged."""
+
+
+# what a damaged catalogue leads to: errors of SQLite, and values of a wrong type
+WRONG = (sqlite3.Error, zlib.error, TypeError, ValueError, KeyError, IndexError, AttributeError, RecursionError)
 
 
 class Known(NamedTuple):
@@ -134,6 +138,15 @@ def _check_head(name: str, make: bool) -> None:
         raise NoCatalogue(f"{name} is a catalogue of a later release (version {version}, here {VERSION})")
 
 
+def address(name: str, mode: str = "ro") -> str:
+    """The file as a URI, which SQLite can't take for anything else.
+
+    >>> address("/a b?c")
+    'file:/a%20b%3Fc?mode=ro'
+    """
+    return f"file:{urllib.parse.quote(os.fsencode(os.path.abspath(name)))}?mode={mode}"
+
+
 class Catalogue:
     """A catalogue that is open. Use it in a `with`."""
 
@@ -142,9 +155,8 @@ class Catalogue:
         self.name = name
         self._made = make
         _check_head(name, make)
-        quoted = urllib.parse.quote(os.fsencode(os.path.abspath(name)))
         with self.guarded():
-            self.base = sqlite3.connect(f"file:{quoted}?mode={'rwc' if make else 'ro'}", timeout=60, isolation_level=None, uri=True)
+            self.base = sqlite3.connect(address(name, "rwc" if make else "ro"), timeout=60, isolation_level=None, uri=True)
             self.base.execute("PRAGMA foreign_keys = ON")
             if make:
                 self._prepare()
@@ -173,10 +185,12 @@ class Catalogue:
         """Raises `NoCatalogue` with the catalogue's name for errors of SQLite and for values of a wrong type."""
         try:
             yield
-        except sqlite3.OperationalError as error:
-            raise NoCatalogue(f"{self.name}: {error}") from error
-        except (sqlite3.Error, zlib.error, TypeError, ValueError, KeyError, IndexError, AttributeError, RecursionError) as error:
-            raise NoCatalogue(f"{self.name} is damaged: {error}") from error
+        except WRONG as error:
+            raise self.failure(error) from error
+
+    def failure(self, error: BaseException) -> NoCatalogue:
+        """The error of a catalogue for one of `WRONG`."""
+        return NoCatalogue(f"{self.name}{'' if isinstance(error, sqlite3.OperationalError) else ' is damaged'}: {error}")
 
     def __enter__(self) -> "Catalogue":
         return self
@@ -255,15 +269,9 @@ class Catalogue:
 
     def rows(self, query: str, values: Sequence[object] = (), made: Callable[..., Made] = tuple) -> Iterator[Made]:
         """The result of `made` for each row of a query."""
-        with self.guarded():
-            cursor = self.base.execute(query, values)
-        while True:
-            with self.guarded():
-                row = cursor.fetchone()
-                if row is None:
-                    return
-                it = made(row)
-            yield it
+        with self.guarded():  # an error of the caller isn't raised in here
+            for row in self.base.execute(query, values):
+                yield made(row)
 
     def runs(self) -> List[Run]:
         """Each run, the first one first."""
@@ -284,11 +292,11 @@ class Catalogue:
     def pictures(self, only: Optional[str] = None) -> Iterator[Picture]:
         """Each picture, by path; `only` is a table of paths, as `choose` makes it."""
         where = f"WHERE path IN {only}" if only else ""
-        yield from self.rows(f"SELECT {_PICTURE} FROM pictures {where} ORDER BY path", (), picture_of_row)
+        yield from self.rows(f"SELECT {PICTURE_COLUMNS} FROM pictures {where} ORDER BY path", (), picture_of_row)
 
     def blocks_of(self, picture: Picture) -> List[Block]:
         """A picture's blocks, in the order of the file, without their fields."""
-        return list(self.rows(f"SELECT {_BLOCK} FROM blocks WHERE picture = ? ORDER BY number", (picture.id,), block_of_row))
+        return list(self.rows(f"SELECT {BLOCK_COLUMNS} FROM blocks WHERE picture = ? ORDER BY number", (picture.id,), block_of_row))
 
     def not_read_of(self, picture: Picture) -> List[NotRead]:
         """The parts of a picture that were not read."""
@@ -309,7 +317,7 @@ class Catalogue:
 
     def roots(self) -> List[bytes]:
         """Each folder that was indexed."""
-        return [it[0] for it in self.rows("SELECT DISTINCT root FROM pictures ORDER BY root")]
+        return list(self.rows("SELECT DISTINCT root FROM pictures ORDER BY root", (), root_of_row))
 
     def copy_to(self, name: str) -> None:
         """Copies the whole catalogue to another file."""
@@ -326,6 +334,12 @@ def _row(it: Entry) -> Tuple[object, ...]:
     """A picture as a row, without its number and run."""
     stamp = it.stamp or (None, None, None, None)
     return (it.path, it.root, *stamp, it.type, it.extractor, it.problem, it.detail, *digests(it))
+
+
+def root_of_row(row: Tuple[bytes]) -> bytes:
+    """The folder of a row `root`."""
+    has(bytes, row[0])
+    return row[0]
 
 
 def _known(row: Tuple[int, Optional[int], int, int, int, Optional[str]]) -> Known:

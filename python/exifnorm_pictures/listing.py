@@ -138,9 +138,12 @@ def thumbnail(listing: str) -> Optional[bytes]:
     return bytes.fromhex(found[1]) if found else None
 
 
+_DIGEST = re.compile(r"sha256:([0-9a-f]{12})[0-9a-f]+$")
+
+
 def shortened(shown: str) -> str:
     """A shown value with the first twelve digits of its digest: short enough for a line, long enough to distinguish two."""
-    return re.sub(r"sha256:([0-9a-f]{12})[0-9a-f]+$", r"sha256:\1", shown)
+    return _DIGEST.sub(r"sha256:\1", shown) if "sha256:" in shown else shown
 
 
 def readable(found: List[Field], kind: str) -> Iterator[str]:
@@ -185,7 +188,7 @@ def unpacked(octets: bytes) -> List[Field]:
     >>> unpacked(packed(few)) == few, unpacked(packed(many)) == many
     (True, True)
     """
-    return [Field(*it) for it in json.loads(octets if octets[:1] == b"[" else zlib.decompress(octets))]
+    return [Field(*it) for it in json.loads((octets if octets[:1] == b"[" else zlib.decompress(octets)).decode("ascii"))]
 
 
 class Change(NamedTuple):
@@ -211,12 +214,8 @@ def changes(before: List[Field], after: List[Field]) -> List[Change]:
     [Change(name='main:Make', before='"abc"', after='"xyz"')]
     """
     first, second = _by_name(before), _by_name(after)
-    found = []
-    for key in sorted(set(first) | set(second), key=_order):
-        one, other = first.get(key), second.get(key)
-        if one != other:
-            found.append(Change(full_name(*key), _one_line(one), _one_line(other)))
-    return found
+    differ = [key for key in first.keys() | second.keys() if first.get(key) != second.get(key)]
+    return [Change(full_name(*key), _one_line(first.get(key)), _one_line(second.get(key))) for key in sorted(differ, key=_order)]
 
 
 def only_maker_note(before: List[Field], after: List[Field]) -> bool:

@@ -3,10 +3,9 @@
 from __future__ import annotations
 
 import os
-import urllib.parse
 from typing import List, Sequence
 
-from .catalogue import Catalogue, NoCatalogue
+from .catalogue import Catalogue, NoCatalogue, address
 
 # The numbers of pictures and runs are raised by the greatest one in the catalogue, so that no row is looked up by itself.
 _COLUMNS = (
@@ -39,9 +38,8 @@ def merge(all_: Catalogue, names: Sequence[str]) -> int:
 
 
 def _add(all_: Catalogue, name: str) -> None:
-    uri = f"file:{urllib.parse.quote(os.fsencode(os.path.abspath(name)))}?mode=ro"
     with all_.guarded():
-        all_.base.execute("ATTACH ? AS other", (uri,))
+        all_.base.execute("ATTACH ? AS other", (address(name),))
     try:
         with all_.transaction():
             offsets = {it: _greatest(all_, it) for it in ("runs", "pictures")}

@@ -164,15 +164,14 @@ def _gather_parts(found: Gathered, about: About) -> None:
 
 def _gather_changes(found: Gathered, about: About) -> None:
     assert about.old is not None
-    equal = Equal(about.catalogue)
-    for it in changed.changed(about.old, about.catalogue, about.only):
-        found.results[it.result] += 1
+    equal = Equal()
+    for it in changed.changed(about.old, about.catalogue, found.results, about.only):
         if it.result in changed.UNCHANGED:
             continue
         found.fields.update({change.name for change in it.changes})
         to = f"to {shown_path(it.moved_to)}" if it.moved_to is not None else ""
         said = [it.result, it.note or to, [(one.name, one.before, one.after) for one in it.changes]]
-        equal.add(json.dumps(said), it.name)
+        equal.add(json.dumps(said), it.name, it.moved_to is not None)
 
     def heads() -> Iterator[Tuple[int, int, int, EqualChanges]]:
         for number, (said, count, names) in enumerate(equal.all()):
@@ -182,6 +181,7 @@ def _gather_changes(found: Gathered, about: About) -> None:
             yield changed.RESULTS.index(result), -count, number, EqualChanges(result, note, lines, count, kept)
 
     found.changed = [it[3] for it in heapq.nsmallest(MOST_CHANGES, heads(), key=lambda it: it[:3])]
+    equal.close()
 
 
 def members(about: About) -> Iterator[Members]:
@@ -208,8 +208,7 @@ def _changed_members(about: About) -> Iterator[Members]:
     assert about.old is not None
     results: "Counter[str]" = Counter()
     fields: "Counter[str]" = Counter()
-    for it in changed.changed(about.old, about.catalogue, about.only):
-        results[it.result] += 1
+    for it in changed.changed(about.old, about.catalogue, results, about.only):
         if it.result in changed.UNCHANGED:
             continue
         fields.update({change.name for change in it.changes})

@@ -35,10 +35,17 @@ def copy_new(source: bytes, out: bytes, like: os.stat_result) -> None:
 def replace(out: bytes, write: Write, allowed: Callable[[bytes], bool], kept: Tuple[str, ...] = ()) -> None:
     """Writes a file that may replace an earlier one: a regular file whose first bytes are `allowed`, or an empty one.
 
-    The files of `kept` are never replaced, whatever name `out` is. Raises `NotReplaced` and `OSError`.
+    The files of `kept` are never replaced, whatever name `out` is. Raises `NotReplaced`.
     """
     there = os.path.realpath(out)
-    _check(there, allowed, kept)
+    try:
+        _check(there, allowed, kept)
+        _replace(there, write)
+    except OSError as error:  # its name may be that of the file without a name, or of none
+        raise NotReplaced((error.strerror or str(error)).lower()) from None
+
+
+def _replace(there: bytes, write: Write) -> None:
     with _written(there, write) as (file, name):
         beside = name or _free_name(there)
         if not name:

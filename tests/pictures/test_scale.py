@@ -13,10 +13,12 @@ sys.path.insert(0, os.path.join(TOP, "python"))
 from exifnorm_pictures.catalogue import Catalogue  # noqa: E402
 
 GIF = b"GIF89a\x01\0\x01\0\0\0\0;"  # has no reader here, and goes to ExifTool
-GROWTH = 8  # MB by which ten times as many pictures may need more: SQLite's caches (2 MB each) and Python's own rooms, no list of all
+GROWTH = 8  # MB by which ten times as many pictures may need more: SQLite's caches (2 MB each) and Python's own memory, no list of all
+MORE_GROWTH = 12  # where SQLite also sorts, and keeps what moved and what is equal
 
-# Runs the command and counts what it does, also in its further processes: a line of the file COUNTED for each thing. The last line
-# is the peak of this process's memory in kB, which the system counts anew for each program (that of getrusage is inherited).
+# Runs the command and counts what it does, also in its further processes: a line of the file COUNTED for each thing. The last lines
+# are the rows that this process fetched, hundreds of steps of SQLite's virtual machine in it, and the peak of its memory in kB, which
+# the system counts again for each program (that of getrusage is inherited).
 COUNTING = """
 import os, sqlite3, sys
 counted = os.open(os.environ["COUNTED"], os.O_WRONLY | os.O_CREAT | os.O_APPEND)
@@ -32,16 +34,28 @@ def heard(event, values):
 
 sys.addaudithook(heard)
 connect = sqlite3.connect
+totals = {"rows": 0, "steps": 0}
+
+def fetched(_, row):
+    totals["rows"] += 1
+    return row
+
+def stepped():
+    totals["steps"] += 1
 
 def connected(*words, **more):
     base = connect(*words, **more)
     # how many transactions there are hangs on the time, too
     base.set_trace_callback(lambda text: note("transaction" if text.startswith(("BEGIN", "COMMIT")) else "statement"))
+    base.row_factory = fetched
+    base.set_progress_handler(stepped, 100)
     return base
 
 sqlite3.connect = connected
 from exifnorm_pictures.main import main
 status = main(sys.argv[1:])
+for it in totals.items():
+    note("%s %d" % it)
 with open("/proc/self/status") as file:
     note("memory " + next(it.split()[1] for it in file if it.startswith("VmHWM")))
 sys.exit(status)
@@ -79,8 +93,9 @@ class Scale(WithPictures):
         self.said = done.stdout.decode()
         with open(where) as file:
             lines = file.read().splitlines()
-        counts = Counter(it for it in lines if not it.startswith("memory"))
-        counts["memory"] = int(lines[-1].split()[1]) / 1024
+        counts = Counter(it for it in lines[:-3])
+        counts.update({name: int(number) for name, number in map(str.split, lines[-3:])})
+        counts["memory"] /= 1024
         return counts
 
     def pictures(self, folder, count, ending=".jpg"):
@@ -92,8 +107,8 @@ class Scale(WithPictures):
 
     # Memory
 
-    def grows_little(self, few, many):
-        self.assertLess(many["memory"] - few["memory"], GROWTH, f"{few['memory']:.0f} MB and {many['memory']:.0f} MB")
+    def grows_little(self, few, many, most=GROWTH):
+        self.assertLess(many["memory"] - few["memory"], most, f"{few['memory']:.0f} MB and {many['memory']:.0f} MB")
 
     def test_memory_of_same(self):
         few = self.counted("same", "--catalogue", self.catalogue("few", 20000))
@@ -114,7 +129,7 @@ class Scale(WithPictures):
             after = self.catalogue(f"after{count}", count, "n", folder="other")
             costs.append(self.counted("changed", before, after, status=1))
             self.assertEqual(self.said.splitlines()[-1], f"{count} moved")
-        self.grows_little(*costs)
+        self.grows_little(*costs, MORE_GROWTH)
 
     def test_memory_of_changed_where_all_differ(self):
         costs = []
@@ -133,7 +148,29 @@ class Scale(WithPictures):
         self.assertLess(sizes[1][0] - sizes[0][0], 1000, "the page shows counts and the first groups alone")
         self.assertEqual(sizes[1][1]["picture"], sizes[0][1]["picture"])
 
-    # Statements
+    # Statements, rows that Python gets, and steps of SQLite
+
+    def test_changed_is_linear(self):
+        """What is the same isn't fetched; of what differs each row is; and ten times as many pictures take about ten times the steps."""
+        cases = {
+            "nothing changed": ({}, "same", 0),
+            "half changed": ({"says": "n / 20 + n % 2 * 1000000"}, "different", 3),
+            "half changed equally": ({"says": "n / 20 + n % 2 * (1000000 - n / 20)"}, "different", 3),
+            "all moved": ({"folder": "other"}, "moved", 4),
+            "all copied": ({"folder": "other", "mark": 50000}, "moved", 6),
+            "all gone": ({"folder": "other", "mark": 50000, "says": "n + 1000000"}, "missing after", 11),
+        }
+        for number, (what, (after, result, rows)) in enumerate(cases.items()):
+            with self.subTest(what):
+                few, many = (self.compared(f"{number}-{count}", count, **after) for count in (400, 4000))
+                self.assertIn(f" {result}", self.said.splitlines()[-1])
+                self.assertLessEqual(many["rows"] - few["rows"], rows * 3600)
+                self.assertLess(many["steps"], 12 * few["steps"])
+
+    def compared(self, name, count, **after):
+        """What `changed` costs over two catalogues with this many pictures."""
+        words = [self.catalogue(f"before{name}", count), self.catalogue(f"after{name}", count, **after)]
+        return self.counted("changed", *words, status=1 if after else 0)
 
     def test_statements_of_same(self):
         few = self.counted("same", "--catalogue", self.catalogue("few", 200))
@@ -170,7 +207,8 @@ class Scale(WithPictures):
         self.counted("changed", before, after, "--json", status=1)
         moves = {it["path"]: it["moved_to"]["path"] for it in map(json.loads, self.said.splitlines()[:-1])}
         self.assertEqual(len(set(moves.values())), 50)
-        self.assertEqual(moves["one/00000000.jpg"], "other/00000025.jpg")  # the first one, where no name is the same
+        self.assertEqual(moves["one/00000025.jpg"], "other/00000025.jpg")  # the one with the same name, where there is one
+        self.assertEqual(moves["one/00000000.jpg"], "other/00000050.jpg")  # the first one of the others
 
     # Files and processes
 
