@@ -41,7 +41,8 @@ def _opened(path: bytes) -> BinaryIO:
     """A regular file that is open. Nothing else is opened; a file that becomes a pipe meanwhile is not waited for."""
     if not stat.S_ISREG(os.stat(path).st_mode):
         raise OSError("it is no regular file")
-    stream = open(path, "rb", buffering=1 << 16, opener=lambda name, flags: os.open(name, flags | os.O_NONBLOCK | os.O_CLOEXEC))
+    # by its number, since Python asks the system once more about a file that an `opener` opened
+    stream = open(os.open(path, os.O_RDONLY | os.O_NONBLOCK | os.O_CLOEXEC), "rb", buffering=1 << 16)
     if not stat.S_ISREG(os.fstat(stream.fileno()).st_mode):
         stream.close()
         raise OSError("it is no regular file")

@@ -34,8 +34,7 @@ class Stamp(NamedTuple):
         return cls(it.st_size, _in_64_bits(it.st_mtime_ns), _in_64_bits(it.st_ctime_ns), _in_64_bits(it.st_ino))
 
 
-@dataclass
-class Block:
+class Block(NamedTuple):
     """A block: its name, its position in the file, its reader, and the result of judging it."""
 
     kind: str
@@ -67,6 +66,9 @@ class Block:
         return f"{self.cause} at {self.place}" if self.place is not None else str(self.cause)
 
 
+Digests = Tuple[Optional[str], ...]
+
+
 class Entry(NamedTuple):
     """The known facts about a picture after it was looked at."""
 
@@ -79,12 +81,14 @@ class Entry(NamedTuple):
     detail: str = ""
     blocks: Tuple[Block, ...] = ()
     not_read: Tuple[NotRead, ...] = ()
+    digests: "Optional[Digests]" = None  # what `digests` returns, if it was already called
 
     @classmethod
     def of(cls, path: bytes, root: bytes, stamp: Optional[Stamp], it: Blocks, judged: Sequence[Judgement] = ()) -> "Entry":
         """The result for a file."""
         blocks = tuple(Block.of(one) for one in judged)
-        return cls(path, root, stamp, it.type, it.extractor, it.problem, it.detail, blocks, tuple(it.not_read))
+        found = cls(path, root, stamp, it.type, it.extractor, it.problem, it.detail, blocks, tuple(it.not_read))
+        return found._replace(digests=digests(found))  # here, since several processes look at pictures, and one writes
 
     @property
     def state(self) -> str:
@@ -133,8 +137,10 @@ def state_of(problem: Optional[str], blocks: Iterable[Block]) -> str:
     return "no block" if not states else ACCEPTED if states == {ACCEPTED} else REFUSED
 
 
-def digests(it: Entry) -> Tuple[Optional[str], ...]:
+def digests(it: Entry) -> Digests:
     """The columns exif, iptc, xmp and not_read of a picture, and those of its blocks' octets."""
+    if it.digests is not None:
+        return it.digests
     if it.problem:
         return (None, None, None, None, "", "", "")
     sides = [side(kind, it.blocks) for kind in KINDS]

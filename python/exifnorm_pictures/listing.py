@@ -162,7 +162,7 @@ def readable(found: List[Field], kind: str) -> Iterator[str]:
         yield f"    {it.key:<6} {name:<28} {count:<14} {shortened(it.shown)}".rstrip()
 
 
-_encoded = json.JSONEncoder(separators=(",", ":"), check_circular=False).encode
+_quoted = json.encoder.encode_basestring_ascii
 
 
 def packed(found: List[Field]) -> bytes:
@@ -171,7 +171,8 @@ def packed(found: List[Field]) -> bytes:
     >>> packed([Field("main", "010f", "ASCII", 4, '"abc"')])
     b'[["main","010f","ASCII",4,"\\\\"abc\\\\""]]'
     """
-    text = _encoded(found).encode("ascii")
+    lists = [f"[{_quoted(it[0])},{_quoted(it[1])},{_quoted(it[2])},{it[3]},{_quoted(it[4])}]" for it in found]
+    text = f"[{','.join(lists)}]".encode("ascii")
     if len(text) <= _SHORTEST:
         return text
     if len(text) > _SHORT:

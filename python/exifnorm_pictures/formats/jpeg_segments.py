@@ -6,11 +6,12 @@ from dataclasses import dataclass
 from typing import BinaryIO, Iterator, NamedTuple
 
 from .found import Broken
-from .streams import Window
+from .streams import PIECE
 
 SOI, EOI, SOS = 0xD8, 0xD9, 0xDA
 APP1, APP2, APP3, APP13 = 0xE1, 0xE2, 0xE3, 0xED
-KEPT = (APP1, APP2, APP3, APP13)  # the segments that may contain metadata of the kinds that are compared
+_ALONE = frozenset((0x01, *range(0xD0, EOI + 1)))  # markers without a segment
+KEPT = frozenset((APP1, APP2, APP3, APP13))  # the segments that may contain metadata of the kinds that are compared
 
 
 @dataclass
@@ -42,10 +43,13 @@ def segments(stream: BinaryIO, start: int, budget: Budget) -> Iterator[Segment]:
 
     Raises `Broken`.
     """
-    at = start + 2
-    window = Window(stream)
+    at = base = start + 2
+    piece = b""  # of the file, from `base`; reading a segment at a time would take two calls of the system for each
     while True:
-        head = window.read(at, 4)
+        first = at - base
+        if first + 4 > len(piece):
+            base, piece, first = at, _read(stream, at, PIECE), 0
+        head = piece[first : first + 4]
         if len(head) < 2:
             return
         marker = head[1]
@@ -55,23 +59,22 @@ def segments(stream: BinaryIO, start: int, budget: Budget) -> Iterator[Segment]:
             budget.spend(0)
             at += 1
             continue
-        it = _segment(window, at, head)
-        budget.spend(len(it.data))
-        yield it
+        length = 0 if marker in _ALONE else int.from_bytes(head[2:], "big")
+        if length < 2 and marker not in _ALONE or len(head) < 4 and length:
+            raise Broken(f"no segment at {at}")
+        data = b""
+        if marker in KEPT:
+            last = first + 2 + length
+            data = piece[first + 4 : last] if last <= len(piece) else _read(stream, at + 4, length - 2)
+            if len(data) < length - 2:
+                raise Broken(f"the file ends inside the segment at {at}")
+        budget.spend(len(data))
+        yield Segment(marker, at, at + 2 + length, data)
         if marker in (SOS, EOI):
             return
-        at = it.end
+        at += 2 + length
 
 
-def _segment(window: Window, at: int, head: bytes) -> Segment:
-    """The segment whose first four bytes were read."""
-    marker = head[1]
-    if marker == 0x01 or 0xD0 <= marker <= EOI:  # a marker without a segment
-        return Segment(marker, at, at + 2, b"")
-    length = int.from_bytes(head[2:], "big")
-    if len(head) < 4 or length < 2:
-        raise Broken(f"no segment at {at}")
-    data = window.read(at + 4, length - 2) if marker in KEPT else b""
-    if marker in KEPT and len(data) < length - 2:
-        raise Broken(f"the file ends inside the segment at {at}")
-    return Segment(marker, at, at + 2 + length, data)
+def _read(stream: BinaryIO, at: int, length: int) -> bytes:
+    stream.seek(at)
+    return stream.read(length)

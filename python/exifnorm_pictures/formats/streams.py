@@ -11,7 +11,7 @@ from typing import BinaryIO, Iterator
 from .found import Broken
 
 CHUNK = 1 << 18
-PIECE = 1 << 13  # bytes of a window
+PIECE = 1 << 13  # bytes that are read at once where the parts are small
 
 
 def size_of(stream: BinaryIO) -> int:
@@ -34,31 +34,6 @@ def read_at(stream: BinaryIO, at: int, length: int) -> bytes:
     if len(data) < length:
         raise Broken(f"the file ends inside the {length} bytes at {at}")
     return data
-
-
-class Window:
-    """Small parts of a file, one after the other. The file is read in pieces, and not for each part."""
-
-    def __init__(self, stream: BinaryIO) -> None:
-        self._stream = stream
-        self._start = 0
-        self._piece = b""
-
-    def read(self, at: int, length: int) -> bytes:
-        """So many bytes at a place; fewer where the file ends before.
-
-        >>> import io
-        >>> window = Window(io.BytesIO(b"abcdef"))
-        >>> window.read(1, 2), window.read(4, 9), window.read(2, 1)
-        (b'bc', b'ef', b'c')
-        """
-        first = at - self._start
-        if first < 0 or first + length > len(self._piece):
-            self._stream.seek(at)
-            if length > PIECE:
-                return self._stream.read(length)
-            self._start, self._piece, first = at, self._stream.read(PIECE), 0
-        return self._piece[first : first + length]
 
 
 def pieces(stream: BinaryIO, start: int, end: int) -> Iterator[bytes]:
