@@ -200,6 +200,11 @@ class WebP(Pairs):
         self.same(webp((b"XMP ", T)), webp((b"XMP ", T_OTHERWISE)))
         self.not_same(webp((b"XMP ", T)), webp((b"XMP ", U)))
         self.not_same(webp((b"EXIF", A), behind=b"one"), webp((b"EXIF", A), behind=b"two"), "not wholly read")
+        self.same(webp((b"XMP\0", T)), webp((b"XMP ", T_OTHERWISE)))
+        self.not_same(webp((b"XMP\0", T)), webp((b"XMP\0", U)))
+        self.not_same(webp((b"exif", A)), webp((b"exif", B)), "not wholly read")
+        self.same(webp((b"exif", A)), webp((b"exif", A)))
+        self.same(webp((b"ICCP", b"one")), webp((b"ICCP", b"two")))
 
     @needs("PIL")
     def test_as_pillow_writes_it(self):

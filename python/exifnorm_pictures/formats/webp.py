@@ -1,4 +1,5 @@
-"""WebP: the chunks EXIF and XMP (RFC 9649, 2.7). Pillow and others put the six bytes `Exif\\0\\0` in front of the Exif block."""
+"""WebP: the chunks EXIF and XMP (RFC 9649, 2.7). Pillow and others put the six bytes `Exif\\0\\0` in front of the Exif block,
+and some end the name XMP by a zero byte."""
 
 from __future__ import annotations
 
@@ -11,6 +12,7 @@ from .streams import digest_of, is_blank, read_at, size_of
 MOST_CHUNKS = 100_000
 MOST_BYTES = 64 << 20  # of chunks that are kept
 _SIX = b"Exif\0\0"
+_WITHOUT = frozenset((b"VP8 ", b"VP8L", b"VP8X", b"ALPH", b"ANIM", b"ANMF", b"ICCP"))  # chunks without metadata (RFC 9649, 2.6 and 2.7)
 
 
 def is_webp(head: bytes) -> bool:
@@ -38,7 +40,7 @@ def read(stream: BinaryIO, whole: bool = False) -> Blocks:
         kind, length = struct.unpack("<4sI", read_at(stream, at, 8))
         if at + 8 + length > end:
             raise Broken(f"the chunk at {at} is longer than the file")
-        if kind in (b"EXIF", b"XMP "):
+        if kind not in _WITHOUT:
             left -= length
             if left < 0:
                 raise Broken(f"more than {MOST_BYTES:,} bytes of metadata chunks")
@@ -48,11 +50,12 @@ def read(stream: BinaryIO, whole: bool = False) -> Blocks:
 
 
 def _add(blocks: Blocks, kind: bytes, data: bytes, at: int) -> None:
-    where = f"{kind.decode('ascii').strip()} chunk at {at}"
-    if kind == b"XMP ":
-        blocks.add(XMP, data, where)
+    if kind in (b"XMP ", b"XMP\0"):
+        blocks.add(XMP, data, f"XMP chunk at {at}")
+    elif kind == b"EXIF":
+        blocks.add(EXIF, data[len(_SIX) :] if data.startswith(_SIX) else data, f"EXIF chunk at {at}")
     else:
-        blocks.add(EXIF, data[len(_SIX) :] if data.startswith(_SIX) else data, where)
+        blocks.leave("chunk of an unknown kind", data)
 
 
 def _rest(blocks: Blocks, stream: BinaryIO, at: int, size: int) -> None:
