@@ -14,6 +14,7 @@ from . import tools, writing
 from .engine import ACCEPTED, judge_all
 from .extraction import blocks_of
 from .formats.found import Blocks
+from .walk import reason
 
 COPY, NONE = "copy", "none"
 STEPS = ("touch", "exiv2", "rebuild")
@@ -72,7 +73,7 @@ def _put(made: bytes, picture: bytes, out: bytes) -> None:
     try:
         writing.copy_new(made, out, like=os.stat(picture))
     except OSError as error:
-        raise NotWritten("the copy is there already" if isinstance(error, FileExistsError) else error.strerror or str(error)) from error
+        raise NotWritten("the copy is there already" if isinstance(error, FileExistsError) else reason(error)) from error
 
 
 def _refusals(taken: Blocks) -> Dict[str, str]:

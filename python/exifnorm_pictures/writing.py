@@ -11,6 +11,8 @@ import shutil
 import stat
 from typing import BinaryIO, Callable, Iterator, Optional, Tuple
 
+from .walk import reason
+
 Write = Callable[[BinaryIO], None]
 
 
@@ -41,8 +43,8 @@ def replace(out: bytes, write: Write, allowed: Callable[[bytes], bool], kept: Tu
     try:
         _check(there, allowed, kept)
         _replace(there, write)
-    except OSError as error:  # its name may be that of the file without a name, or of none
-        raise NotReplaced((error.strerror or str(error)).lower()) from None
+    except OSError as error:  # the file that it names may be the one that gets its name in the end
+        raise NotReplaced(reason(error)) from None
 
 
 def _replace(there: bytes, write: Write) -> None:

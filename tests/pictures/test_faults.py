@@ -306,6 +306,28 @@ class Outputs(WithPictures):
         self.assertEqual(read(self.path("new"))[18:20], b"\1\1", "no write-ahead log is needed to read it")
         self.assertEqual(self.asked("changed", "d", "new"), ["1 same, 1 refused, the same bytes"])
 
+    def test_a_folder_that_is_missing(self):
+        """The message has the name that was given, not that of the file that is renamed in the end."""
+        for words, name in ((["index", "p", "--catalogue", "c", "--quiet", "--keep-old"], "missing/old"),
+                            (["report", "--catalogue", "c", "--html"], "missing/page"), (["mend", "p/refused.jpg"], "missing/out.jpg"),
+                            (["index", "p", "--catalogue", "c", "--quiet", "--keep-old"], "p/a.jpg/old")):  # fmt: skip
+            with self.subTest(words[0], name=name):
+                said = "\n".join([*self.asked(*words, name, status=4), self.complaint])
+                self.assertIn(f"{name} isn't written: no", said)
+                self.assertNotIn(".part", said)
+
+    def test_killed_when_the_copy_gets_its_name(self):
+        """Whenever `mend` and --keep-old are killed, the new file is there as a whole or not at all, and no other file."""
+        call = ("import os, signal, sys; from exifnorm_pictures.main import main\n"
+                "sys.addaudithook(lambda event, _: event in ('os.link', 'os.rename') and os.kill(os.getpid(), signal.SIGKILL))\n"
+                "sys.exit(main(sys.argv[1:]))")  # fmt: skip
+        there = sorted(os.listdir(self.folder))
+        for words in (["mend", "p/a.jpg", "out.jpg"], ["report", "--catalogue", "c", "--html", "page"]):
+            with self.subTest(words[0]):
+                done = run([sys.executable, "-c", call, *words], self.folder, TMPDIR=Studio.room)
+                self.assertEqual(done.returncode, -signal.SIGKILL, done)
+                self.assertEqual(sorted(os.listdir(self.folder)), there)
+
     def test_page(self):
         write(self.path("text"), b"a text\n")
         os.symlink("c", self.path("link"))
