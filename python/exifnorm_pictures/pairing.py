@@ -36,6 +36,7 @@ _SAME = """(typeof(old.path) = 'blob' AND ((old.problem IS NULL AND new.problem 
 # The new names of pictures, the surest first: the same file under the same name, the same file, the same blocks under the same name, ..
 _FILE, _CONTENT = "size, modified, inode", "content(size, not_read, exif_octets, iptc_octets, xmp_octets)"
 _ROUNDS = (f"{_FILE}, last(path)", _FILE, f"{_CONTENT}, last(path)", _CONTENT)
+_HAS_KEY = " AND ".join([*(f"typeof({it}) = 'integer'" for it in ("size", "modified", "inode")), "typeof(path) = 'blob'"])
 
 Made = TypeVar("Made")
 
@@ -133,7 +134,7 @@ class Pairs:
         """The number and key of each picture that isn't paired yet, by key and path. SQLite has sorted them before the first is fetched."""
         query = (
             f"SELECT id, {key} FROM alone_{_BASES[side]} JOIN {_BASES[side]}.pictures USING (id) WHERE problem IS NULL"
-            f" AND size IS NOT NULL AND id NOT IN (SELECT {_ALIASES[side]} FROM moved)"
+            f" AND {_HAS_KEY} AND id NOT IN (SELECT {_ALIASES[side]} FROM moved)"
         )
         if key.startswith("content"):
             query += " AND not_read IS NOT NULL AND NOT (exif_octets = '' AND iptc_octets = '' AND xmp_octets = '')"

@@ -153,6 +153,16 @@ class Archive(WithPictures):
         moves = {it["path"]: it.get("moved_to", {}).get("path") for it in found[:-1]}
         self.assertEqual(moves, {"a/2.jpg": "d/2.jpg", "b/1.jpg": "c/1.jpg", "b/9.jpg": None})
 
+    def test_a_file_with_two_new_names(self):
+        """It moved to the first one, and the other one is new."""
+        os.rename(self.path("p", "a.jpg"), self.path("p", "x.jpg"))
+        os.link(self.path("p", "x.jpg"), self.path("p", "y.jpg"))
+        self.assertEqual(self.run_again()[1], {"unchanged": 3, "accepted": 2, "Moved": 1})
+        base = sqlite3.connect(self.path("c"))
+        found = base.execute("SELECT detail FROM pictures WHERE problem = 'Moved'").fetchall()
+        base.close()
+        self.assertEqual(found, [(f"to {self.path('p', 'x.jpg')}",)])
+
     def test_a_folder_that_is_gone_and_back(self):
         os.rename(self.path("p"), self.path("away"))
         lines = self.asked("index", "p", "--catalogue", "c", "--quiet", status=4)

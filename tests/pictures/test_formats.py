@@ -6,6 +6,7 @@ import os
 import random
 import re
 import struct
+import sys
 import unittest
 import zlib
 
@@ -13,7 +14,11 @@ from made_blocks import ASCII, LONG, segment
 from made_files import (
     app1, app1_xmp, app13, chunk, exif, extension, iim, jpeg, mpf, page, png, png_xmp, profile, resource, tiff, title, webp, xmp,
 )  # fmt: skip
-from studio import SMALL_JPEG, WithPictures, interpreter_with, needs, read, tool, write
+from studio import SMALL_JPEG, TOP, WithPictures, interpreter_with, needs, read, tool, write
+
+sys.path.insert(0, os.path.join(TOP, "python"))
+
+from exifnorm_pictures.formats.found import Broken  # noqa: E402
 
 A, B, K, L, T = exif(b"Abc"), exif(b"Xyz"), iim(b"one"), iim(b"two"), title("one")
 
@@ -65,6 +70,22 @@ class Found(unittest.TestCase):
         self.assertEqual(found.of_kind("exif")[0].where, "APP1 segment at 2")
         further = found_in(mpf(app1(A), jpeg(app1(B)), jpeg(app13(resource(0x404, K)))))
         self.assertEqual([it[1] for it in named(further)], ["Exif", "Exif of MPF picture 2", "IPTC of MPF picture 3"])
+
+    def test_a_block_goes_on_only_in_the_next_segment(self):
+        between = app13(resource(0x404, K))
+        apart = found_in(jpeg(app1(A), between, app1(b"more")))
+        self.assertEqual([it for it in named(apart) if it[0] == "exif"], [("exif", "Exif", A), ("exif", "second Exif", b"more")])
+        self.assertEqual(named(found_in(jpeg(app1(A), app1(b"more"), between)))[0], ("exif", "Exif", A + b"more"))
+
+    def test_where_a_piece_of_the_file_ends(self):
+        """The file is read in pieces of 8,192 bytes: wherever one ends, the segments are the same, and so is what is too short."""
+        for before in range(8192 - 60, 8192 + 8):
+            filled = jpeg(segment(0xFE, bytes(before - 6)), app1(A), app1_xmp(T))
+            self.assertEqual(sorted(named(found_in(filled))), [("exif", "Exif", A), ("xmp", "XMP", T)], before)
+            for length in (before + 2, before + 3, before + 20):
+                with self.assertRaises(Broken, msg=(before, length)):
+                    found_in(filled[:length])
+            self.assertEqual(named(found_in(filled[:before])), [])
 
     def test_words_in_front(self):
         self.assertEqual(named(found_in(jpeg(segment(0xE1, b"\0exif\0\xff" + A)))), [("exif", "Exif", A)])

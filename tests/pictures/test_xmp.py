@@ -75,6 +75,7 @@ class Packets(unittest.TestCase):
             "<xmp:d><rdf:Description rdf:about='http://x/' xmp:a='7'/></xmp:d>", "<xmp:d><rdf:Description rdf:about='' xmp:a='7'/></xmp:d>",
             "<xmp:d rdf:parseType='Literal'>1</xmp:d>", "<xmp:d rdf:nodeID='n'/>", "<xmp:d rdf:datatype='http://t/'>1</xmp:d>", "text",
             "<xmp:d rdf:resource='relative'/>", "<xmp:d><rdf:Description/>text</xmp:d>", "<xmp:d xml:lang='!'>1</xmp:d>",
+            "<dc:format>one</dc:format>text", "<xmp:d><rdf:Bag><rdf:li>1</rdf:li>text</rdf:Bag></xmp:d>",
         ):  # fmt: skip
             with self.assertRaises(reader.Unusual, msg=inside):
                 reader.statements(rdf.rdf_of(xmp(inside)))
