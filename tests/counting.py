@@ -10,7 +10,7 @@ tests were skipped, and its status is 0 only where something ran and nothing fai
         sys.exit(run_tests([test_sums]))
 
 A script of unittest ends with `sys.exit(run_module(sys.modules[__name__]))` in place of `unittest.main()`. With TEST_ONLY=TEXT in
-the environment a script runs only the tests whose name has that text.
+the environment a script runs only the tests whose name has that text, and with TEST_ONLY='ONE|ANOTHER' those that have one of them.
 """
 
 import doctest
@@ -46,6 +46,14 @@ class Counter:
         self.passed = self.failed = self.skipped = 0
         self._lock = threading.Lock()
 
+    def asks(self, name: str) -> bool:
+        """Whether a test of this name is to run.
+
+        >>> [Counter(only="sum|product").asks(it) for it in ("a sum", "a product", "a power")]
+        [True, True, False]
+        """
+        return any(it in name for it in self.only.split("|"))
+
     @property
     def total(self) -> int:
         return self.passed + self.failed + self.skipped
@@ -77,7 +85,7 @@ class Counter:
         >>> Counter().run("a division", lambda: 1 / 0)  # doctest: +ELLIPSIS
         FAILED a division: ZeroDivisionError: division by zero (...)
         """
-        if self.only in name:
+        if self.asks(name):
             self._call(name, test) and self.check(name, True)
 
     def collect(self, name: str, test: Callable[["Counter"], Any]) -> None:
@@ -86,7 +94,7 @@ class Counter:
         >>> Counter().collect("an empty table", lambda counter: [counter.check(it, True) for it in ()])
         FAILED an empty table: it checked nothing
         """
-        if self.only not in name:
+        if not self.asks(name):
             return
         inner = Counter(only="")
         if inner._call(name, lambda: test(inner)) and inner.total == 0:
@@ -217,7 +225,7 @@ def tests_in(suite: unittest.TestSuite) -> Iterable[unittest.TestCase]:
 def run_suite(suite: unittest.TestSuite) -> int:
     """Runs a suite of unittest, prints the last line and returns the status to end with."""
     counter = Counter()
-    unittest.TestSuite(it for it in tests_in(suite) if counter.only in name_of(it)).run(Outcomes(counter))
+    unittest.TestSuite(it for it in tests_in(suite) if counter.asks(name_of(it))).run(Outcomes(counter))
     return counter.finish()
 
 

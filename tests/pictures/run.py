@@ -68,7 +68,7 @@ def main():
 
 def run_all(only):
     loader = unittest.TestLoader()
-    found = [it for it in cases(loader.discover(HERE, "test_*.py")) if only in name_of(it)]
+    found = [it for it in cases(loader.discover(HERE, "test_*.py")) if any(text in name_of(it) for text in only.split("|"))]
     told = threading.Lock()
     counts = {"passed": 0, "failed": 0}
     skipped = []

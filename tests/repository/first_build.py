@@ -242,9 +242,9 @@ TESTS = [
 ]
 
 
-def run(counter: Counter, only: str = "") -> None:
-    """Builds both repositories, and counts the tests whose names have a text."""
-    tests = [it for it in TESTS if only in it.__name__]
+def run(counter: Counter) -> None:
+    """Builds both repositories, and counts the tests that the counter asks for."""
+    tests = [it for it in TESTS if counter.asks(it.__name__)]
     for test in tests if not shutil.which("rt") else []:
         counter.skip(test.__name__, "there is no command rt on the PATH")
     if not tests or not shutil.which("rt"):

@@ -586,13 +586,12 @@ def run_in_a_room(test) -> None:
 
 
 def main() -> int:
-    """Runs the tests, four at a time; with TEST_ONLY those whose names have that text."""
-    only = os.environ.get("TEST_ONLY", "")
-    tests = [it for it in [*TESTS, *build_rules.TESTS, *interrupted.TESTS, *makefile.TESTS] if only in it.__name__]
+    """Runs the tests, four at a time."""
     counter = Counter()
+    tests = [it for it in [*TESTS, *build_rules.TESTS, *interrupted.TESTS, *makefile.TESTS] if counter.asks(it.__name__)]
     with ThreadPoolExecutor(4) as pool:
         list(pool.map(lambda it: counter.run(it.__name__, lambda: run_in_a_room(it)), tests))
-    first_build.run(counter, only)
+    first_build.run(counter)
     return counter.finish()
 
 

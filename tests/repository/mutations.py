@@ -13,12 +13,14 @@ import json
 import os
 import re
 import shutil
+import stat
 import subprocess
 import sys
 import tempfile
 from concurrent.futures import ThreadPoolExecutor
 from dataclasses import dataclass
 from pathlib import Path
+from queue import Empty, SimpleQueue
 from typing import Dict, List, Optional, Sequence, Tuple
 
 sys.dont_write_bytecode = True
@@ -30,6 +32,7 @@ from counting import Counter
 SECONDS = 600  # what a run may take at most, also on a busy machine: one that takes longer says nothing
 PROGRAM = "crates/px_cli/out/px_cli"
 NEEDED, ALLOWED = {"file", "old", "new", "part", "why"}, {"only"}
+NO_TEST = "FAILED: no test ran"
 COUNT = re.compile(r"(\d+) passed, (\d+) failed(?:, (\d+) skipped)?")
 
 # Everything but the folder is read-only for what runs in it, and what it leaves running ends with it.
@@ -122,55 +125,125 @@ def can_be_apart() -> bool:
         return os.getuid() == 0 and shutil.which("unshare") is not None and not subprocess.run([*APART, room, "true"], capture_output=True).returncode
 
 
+def state(path: Path) -> Tuple[int, ...]:
+    """What changes of a file with each write, which no program can set back, and the mode alone of a folder."""
+    it = path.lstat()
+    return (it.st_mode,) if stat.S_ISDIR(it.st_mode) else (it.st_mode, it.st_ino, it.st_size, it.st_mtime_ns, it.st_ctime_ns)
+
+
+def states(folder: Path) -> Dict[str, Tuple[int, ...]]:
+    """The state of each file and folder below a folder, each folder before what is in it."""
+    found = {}
+    for top, folders, files in os.walk(folder):
+        for it in (*folders, *files):
+            found[os.path.join(top, it)[len(str(folder)) + 1 :]] = state(Path(top, it))
+    return found
+
+
+def remove(path: Path) -> None:
+    if path.is_dir() and not path.is_symlink():
+        shutil.rmtree(path)
+    elif os.path.lexists(path):
+        path.unlink()
+
+
+class Copy:
+    """A copy of a tree, whose changes can be undone."""
+
+    def __init__(self, seed: Path, folder: Path) -> None:
+        self.seed, self.folder, self.tree = seed, folder, folder / "tree"
+        subprocess.run(["cp", "-a", seed, self.tree], check=True)
+        self.states = states(self.tree)
+
+    def undo(self) -> None:
+        """Copies again what a run changed or removed, and removes what it made."""
+        found = states(self.tree)
+        for name in found.keys() - self.states.keys():
+            remove(self.tree / name)
+        for name in [it for it in self.states if found.get(it) != self.states[it]]:
+            here, seed = self.tree / name, self.seed / name
+            remove(here)
+            if seed.is_dir() and not seed.is_symlink():
+                subprocess.run(["cp", "-a", seed, here], check=True)
+            elif not os.path.lexists(here):
+                shutil.copy2(seed, here, follow_symlinks=False)
+        self.states = states(self.tree)
+
+
 class Copies:
-    """Copies of a tree, in which a part is run, with a mistake or without one."""
+    """Copies of a tree, one for each run at a time, in which a part is run, with a mistake or without one."""
 
     def __init__(self, seed: Path, room: Path) -> None:
         self.seed, self.room = seed, room
         self.parts = parts(seed)
-        self.apart = APART if can_be_apart() else ["sh", "-c", 'cd "$0" && exec "$@"']
+        self.is_apart = can_be_apart()
+        self.free: SimpleQueue = SimpleQueue()
 
-    def fault(self, part: str, only: str, mistake: Optional[Mistake] = None) -> Tuple[str, str]:
-        """Runs a part, or those of its tests whose name has a text. Returns what ./test would find wrong, and what was printed."""
-        with tempfile.TemporaryDirectory(dir=self.room) as name:
-            folder = Path(name)
-            tree = folder / "tree"
-            subprocess.run(["cp", "-a", self.seed, tree], check=True)
+    def copy(self) -> Copy:
+        try:
+            return self.free.get_nowait()
+        except Empty:
+            return Copy(self.seed, Path(tempfile.mkdtemp(dir=self.room)))
+
+    def run(self, part: str, only: str, mistake: Optional[Mistake] = None) -> Tuple[int, str]:
+        """Runs a part, or those of its tests whose name has a text. Returns its status, and what it printed."""
+        copy = self.copy()
+        try:
             if mistake:
-                mistake.plant(tree)
-            (folder / "tmp").mkdir()
-            words = [*self.apart, name, "sh", "-c", f"cd tree && program={PROGRAM} && {self.parts[part].command}"]
-            environment = {**os.environ, "TEST_ONLY": only, "TMPDIR": f"{name}/tmp", "PYTHONDONTWRITEBYTECODE": "1"}
-            ran = subprocess.run(words, env=environment, stdin=subprocess.DEVNULL, stdout=subprocess.PIPE, stderr=subprocess.STDOUT, timeout=SECONDS)
-        printed = ran.stdout.decode("utf-8", "replace")
-        return self.judged(part, only, ran.returncode, printed), printed
+                mistake.plant(copy.tree)
+            return self.run_in(copy, part, only)
+        finally:
+            if self.is_apart:  # or else a program that was left running could still write there
+                copy.undo()
+                self.free.put(copy)
+            else:
+                shutil.rmtree(copy.folder, ignore_errors=True)
 
-    def judged(self, part: str, only: str, status: int, printed: str) -> str:
+    def run_in(self, copy: Copy, part: str, only: str) -> Tuple[int, str]:
+        with tempfile.TemporaryDirectory(dir=copy.folder, ignore_cleanup_errors=True) as own:
+            apart = APART if self.is_apart else ["sh", "-c", 'cd "$0" && exec "$@"']
+            words = [*apart, copy.folder, "sh", "-c", f"cd tree && program={PROGRAM} && {self.parts[part].command}"]
+            environment = {**os.environ, "TEST_ONLY": only, "TMPDIR": own, "PYTHONDONTWRITEBYTECODE": "1"}
+            ran = subprocess.run(words, env=environment, stdin=subprocess.DEVNULL, stdout=subprocess.PIPE, stderr=subprocess.STDOUT, timeout=SECONDS)
+        return ran.returncode, ran.stdout.decode("utf-8", "replace")
+
+    def fault(self, part: str, only: str, status: int, printed: str) -> str:
         """What ./test would find wrong with a part that ended like this."""
         count = COUNT.fullmatch(printed.rpartition("\n")[0].rpartition("\n")[2])
         if not count:
             return f"status {status} without a count"
         passed, failed, skipped = (int(it or 0) for it in count.groups())
-        least = 1 if only else self.parts[part].least
+        least = len(only.split("|")) if only else self.parts[part].least
         if status or failed or passed + skipped < least:
             return f"status {status}, {count[0]}, where {least} had to be counted"
         return ""
 
 
 def see_fail(copies: Copies, mistake: Mistake) -> None:
-    assert copies.fault(mistake.part, mistake.only, mistake)[0], f"no test of {mistake.part} fails"
+    status, printed = copies.run(mistake.part, mistake.only, mistake)
+    last = printed.rpartition("\n")[0].rpartition("\n")[2]
+    assert NO_TEST not in printed.splitlines() and not last.startswith("0 passed, 0 failed"), f"no test of {mistake.part} has {mistake.only!r} in its name"
+    assert copies.fault(mistake.part, mistake.only, status, printed), f"no test of {mistake.part} fails"
 
 
 def see_pass(copies: Copies, part: str, only: str) -> None:
-    fault, printed = copies.fault(part, only)
+    status, printed = copies.run(part, only)
+    fault = copies.fault(part, only, status, printed)
     assert not fault, f"{fault}: {printed[-1500:]}"
 
 
+def names(mistakes: Sequence[Mistake]) -> List[Tuple[str, str]]:
+    """Each part, with the names of all its tests that mistakes have; a part of which one needs all is run whole."""
+    only: Dict[str, set] = {}
+    for it in mistakes:
+        only.setdefault(it.part, set()).add(it.only)
+    return [(part, "" if "" in texts else "|".join(sorted(texts))) for part, texts in sorted(only.items())]
+
+
 def try_all(counter: Counter, copies: Copies, mistakes: Sequence[Mistake]) -> None:
-    """Runs the tests without a mistake and with each, several at once."""
-    runs = sorted({(it.part, it.only) for it in mistakes})
+    """Runs the tests without a mistake, all those of a part at once, and with each, several at a time."""
     with ThreadPoolExecutor(os.cpu_count()) as pool:
-        waits = [pool.submit(counter.run, f"{part} {only}, without a mistake", lambda it=(part, only): see_pass(copies, *it)) for part, only in runs]
+        waits = [pool.submit(counter.run, f"{part}, without a mistake", lambda it=(part, only): see_pass(copies, *it)) for part, only in names(mistakes)]
         waits += [pool.submit(counter.run, f"{it.file}: {it.why}", lambda it=it: see_fail(copies, it)) for it in mistakes]
         for it in waits:
             it.result()

@@ -1,7 +1,9 @@
 """Tests tests/repository/mutations.py over a small tree, whose one part compares two files."""
 
+import inspect
 import json
 import os
+import shutil
 import subprocess
 import sys
 import tempfile
@@ -9,7 +11,7 @@ import unittest
 from pathlib import Path
 from typing import Any, Tuple
 
-from mutations import COUNT, Copies, Part, can_be_apart
+from mutations import COUNT, Copies, Copy, Mistake, Part, can_be_apart, names, states
 from paths import TESTS
 
 NEEDED = ("repository/mutations.py", "counting.py", "paths.py")
@@ -68,8 +70,8 @@ class Planted(unittest.TestCase):
         self.assertEqual((self.top / "c").read_text(), "one\n", "the tree itself was changed")
 
     def test_each_has_a_tree_of_its_own(self):
-        others = ({**GOOD, "new": it} for it in ("2", "3", "4", "5", "6", "7"))
-        self.assertEqual(self.ran(GOOD, *others)[:2], (0, "8 passed, 0 failed"))
+        others = ({**GOOD, "new": it} for it in map(str, range(2, 20)))
+        self.assertEqual(self.ran(GOOD, *others)[:2], (0, "20 passed, 0 failed"))
 
     def test_a_mistake_that_no_test_notices(self):
         self.fails("FAILED c: unseen: no test of compared fails", "1 passed, 1 failed", {**GOOD, "file": "c", "why": "unseen"})
@@ -82,12 +84,18 @@ class Planted(unittest.TestCase):
         self.fails("the old text is there 2 times", "1 passed, 1 failed", {**GOOD, "old": "three"})
 
     def test_a_part_that_fails_without_a_mistake(self):
-        self.fails("FAILED broken , without a mistake", "1 passed, 1 failed", {**GOOD, "part": "broken"})
+        self.fails("FAILED broken, without a mistake", "1 passed, 1 failed", {**GOOD, "part": "broken"})
 
     def test_a_part_of_which_too_few_tests_run(self):
         (self.top / "tests" / "parts.txt").write_text(PARTS.replace("Least: 2", "Least: 3"))
         self.fails("2 passed, 0 failed, where 3 had to be counted", "1 passed, 1 failed", GOOD)
         self.assertEqual(self.ran({**GOOD, "only": "some"})[:2], (0, "2 passed, 0 failed"))
+        self.fails("1 passed, 0 failed, where 2 had to be counted", "2 passed, 1 failed", {**GOOD, "only": "some"}, {**GOOD, "only": "more", "new": "2"})
+
+    def test_a_name_that_no_test_has(self):
+        for last in ("FAILED: no test ran\n0 passed, 1 failed", "0 passed, 0 failed"):
+            (self.top / "tests" / "compare.sh").write_text(f'cmp -s a b && echo "1 passed, 0 failed" || printf "{last}\n"\n')
+            self.fails("no test of compared has 'some' in its name", "1 passed, 1 failed", {**GOOD, "only": "some"})
 
     def test_no_mistake(self):
         self.fails("some.json is empty", "0 passed, 1 failed")
@@ -118,6 +126,8 @@ class Judged(unittest.TestCase):
             (0, "x\n3 passed, 0 failed\n", "", True),
             (0, "2 passed, 0 failed, 1 skipped\n", "", True),
             (0, "1 passed, 0 failed\n", "some", True),
+            (0, "2 passed, 0 failed\n", "some|more", True),
+            (0, "1 passed, 0 failed\n", "some|more", False),
             (0, "2 passed, 0 failed\n", "", False),
             (0, "0 passed, 0 failed\n", "some", False),
             (1, "3 passed, 0 failed\n", "", False),
@@ -126,5 +136,48 @@ class Judged(unittest.TestCase):
             (0, "3 passed, 0 failed\nmore\n", "", False),
             (-9, "", "", False),
         ):
-            self.assertEqual(copies.judged("a", only, status, printed) == "", is_well, (status, printed, only))
+            self.assertEqual(copies.fault("a", only, status, printed) == "", is_well, (status, printed, only))
         self.assertTrue(COUNT.fullmatch("3 passed, 0 failed, 1 skipped"))
+
+    def test_the_tests_of_a_part_are_run_at_once(self):
+        listed = [Mistake("", "", "", part, "", only) for part, only in (("a", "x"), ("b", "y"), ("a", "w"), ("a", "x"), ("c", "z"), ("c", ""))]
+        self.assertEqual(names(listed), [("a", "w|x"), ("b", "y"), ("c", "")])
+
+
+class Undone(unittest.TestCase):
+    """What a run did to its copy is undone."""
+
+    def test_each_change(self):
+        old = 1_000_000_000_000_000_000
+        for change in (
+            lambda it: (it / "new").write_text("new"),
+            lambda it: (it / "new" / "deep").mkdir(parents=True),
+            lambda it: (it / "folder" / "file").write_text("else"),
+            lambda it: [(it / "folder" / "file").write_text("else"), os.utime(it / "folder" / "file", ns=(old, old))],
+            lambda it: (it / "folder" / "file").unlink(),
+            lambda it: [(it / "folder" / "file").unlink(), (it / "folder" / "file").mkdir(), (it / "folder" / "file" / "new").mkdir()],
+            lambda it: (it / "folder" / "file").chmod(0o755),
+            lambda it: (it / "folder").chmod(0o700),
+            lambda it: shutil.rmtree(it / "folder"),
+            lambda it: [shutil.rmtree(it / "folder"), (it / "folder").write_text("a file")],
+            lambda it: [(it / "link").unlink(), (it / "link").symlink_to("nowhere")],
+            lambda it: [(it / "link").unlink(), (it / "link").write_text("text")],
+        ):
+            with self.subTest(change=inspect.getsource(change).strip()), tempfile.TemporaryDirectory() as room:
+                self.see_undone(Path(room), change, old)
+
+    def see_undone(self, room: Path, change: Any, old: int) -> None:
+        (room / "seed" / "folder" / "below").mkdir(parents=True)
+        for name in ("file", "below/other"):
+            (room / "seed" / "folder" / name).write_text("text")
+            os.utime(room / "seed" / "folder" / name, ns=(old, old))
+        (room / "seed" / "link").symlink_to("folder/file")
+        (room / "own").mkdir()
+        copy = Copy(room / "seed", room / "own")
+        change(copy.tree)
+        self.assertNotEqual(states(copy.tree), copy.states)
+        copy.undo()
+        self.assertEqual(states(copy.tree), copy.states)
+        self.assertEqual(subprocess.run(["diff", "-r", "--no-dereference", room / "seed", copy.tree], capture_output=True).stdout, b"")
+        plain = [{name: it[:1] + it[2:4] for name, it in states(top).items()} for top in (room / "seed", copy.tree)]
+        self.assertEqual(*plain)
