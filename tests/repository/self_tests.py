@@ -24,6 +24,7 @@ import gate_outcomes
 import harness_outcomes
 import judges_outcomes
 import mutations_outcomes
+import products_outcomes
 import watching
 from blocks import Blocks, Misspelled
 from cases import Case, Holds, read_all
@@ -382,7 +383,8 @@ def main() -> int:
     if not unittest.TextTestRunner(stream=sys.stdout).run(loaded(harness_outcomes.Counting)).wasSuccessful():
         print("0 passed, 1 failed")
         return 1
-    return counting.run_suite(unittest.TestSuite(map(loaded, (sys.modules[__name__], gate_outcomes, harness_outcomes, judges_outcomes, mutations_outcomes))))
+    others = (gate_outcomes, harness_outcomes, judges_outcomes, mutations_outcomes, products_outcomes)
+    return counting.run_suite(unittest.TestSuite(map(loaded, (sys.modules[__name__], *others))))
 
 
 if __name__ == "__main__":

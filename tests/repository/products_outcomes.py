@@ -1,0 +1,259 @@
+"""Tests what library.py, package.py, fuzz.py and documents.py find of a library, a package and documents that are wrong, so that each of
+them is judged too.
+
+self_tests.py runs these. The library is the one in out/lib; tests/library/fuzz/wrong.c makes the wrong ones over it.
+"""
+
+import contextlib
+import importlib
+import io
+import os
+import subprocess
+import sys
+import tempfile
+import unittest
+from pathlib import Path
+from typing import Any, Callable, List
+from unittest import mock
+
+import documents
+import fuzz
+import library
+import named
+from answers import all_answers, write_jobs
+from counting import Counter, SkipTest
+from fuzz import Report
+from paths import TESTS, TOP
+
+PROGRAM = TOP / "crates" / "px_cli" / "out" / "px_cli"
+RIGHT = TOP / "out" / "lib" / "libexifnorm.so.1"
+ONE = bytes.fromhex("4D4D002A00000008 0001 0112000300000001 00010000 00000000")
+BLOCKS = [ONE, bytes.fromhex("49492A0008000000 0100 1201030001000000 01000000 00000000"), ONE[:-4] + bytes.fromhex("00000008"), ONE[:-5],
+          bytes.fromhex("4D4D002A00000008 0001 010E000200000005 0000001A 00000000 55726E730000"), bytes.fromhex("1C0278000163 1C0219000162"),
+          bytes.fromhex("1C0278000961")]  # fmt: skip
+
+
+def printed_by(test: Callable, *arguments: Any) -> List[str]:
+    """The names of the checks of a test that fail."""
+    printed = io.StringIO()
+    with contextlib.redirect_stdout(printed):
+        test(Counter(only=""), *arguments)
+    return [it.partition("FAILED ")[2] for it in printed.getvalue().splitlines() if it.startswith("FAILED ")]
+
+
+class Library(unittest.TestCase):
+    """The callers in C and in Python, over a library that is right and over those that are wrong in one way."""
+
+    @classmethod
+    def setUpClass(cls) -> None:
+        room = tempfile.TemporaryDirectory()
+        cls.addClassCleanup(room.cleanup)
+        cls.folder = Path(room.name)
+        cls.wrong = str(cls.folder / "wrong.so")  # what it doesn't change is found in the built library, which it needs
+        words = [*fuzz.CC, "-shared", "-fPIC", "-o", cls.wrong, TESTS / "library" / "fuzz" / "wrong.c", "-Wl,--no-as-needed", RIGHT, "-ldl"]
+        subprocess.run([str(it) for it in words], check=True)
+        cls.jobs = cls.folder / "jobs"
+        write_jobs(cls.jobs, *all_answers(PROGRAM, cls.folder, BLOCKS))
+        it = library.Library(str(PROGRAM), room.name)
+        it.is_compiled()
+        cls.calls = it.calls
+
+    def status(self, mistake: str, *words: Any, **more: str) -> int:
+        environment = {**os.environ, **more, "WRONG": mistake, "RIGHT": str(RIGHT), "PYTHONDONTWRITEBYTECODE": "1", "PYTHONPATH": str(TOP / "python")}
+        return subprocess.run([str(it) for it in words], env=environment, stdout=subprocess.PIPE, stderr=subprocess.STDOUT, timeout=300).returncode
+
+    def in_c(self, mistake: str, how: str = "once") -> int:
+        return self.status(mistake, self.calls, how, self.jobs, LD_PRELOAD=self.wrong)
+
+    def in_python(self, mistake: str, *words: Any) -> int:
+        return self.status(mistake, sys.executable, *words, EXIFNORM_LIBRARY=self.wrong, LD_LIBRARY_PATH=str(RIGHT.parent))
+
+    def test_a_right_library_in_c(self):
+        self.assertEqual([self.in_c("NONE", how) for how in ("once", "threads")], [0, 0])
+
+    def test_each_wrong_library_in_c(self):
+        for mistake in ("NONE_OF_THEM_ANSWERS", "OTHER_KIND", "ODD_STATUS", "NEXT_CAUSE", "PLACE_BESIDE", "WRITES_BLOCK", "FORM_IS_BLOCK", "FORM_CUT",
+                        "FORM_LESS_A_BIT", "FORM_FAULT", "ALWAYS_SAME", "NEVER_SAME", "FIRST_IS_SECOND", "SECOND_IS_FIRST", "LISTING_EMPTY",
+                        "LISTING_UNENDED", "SHOW_ACCEPTS", "CAPTIONS_ACCEPT", "CAPTIONS_UNLABELLED"):  # fmt: skip
+            with self.subTest(mistake):
+                self.assertNotEqual(self.in_c(mistake), 0)
+
+    def test_threads_with_a_wrong_library_in_c(self):
+        self.assertNotEqual(self.in_c("FORM_CUT", "threads"), 0)
+
+    def test_wrong_libraries_in_python(self):
+        script = TESTS / "library" / "python_calls.py"
+        self.assertEqual(self.in_python("NONE", script, self.jobs), 0)
+        for mistake in ("OTHER_KIND", "NEXT_CAUSE", "FORM_LESS_A_BIT", "ALWAYS_SAME", "SECOND_IS_FIRST", "LISTING_EMPTY", "CAPTIONS_UNLABELLED"):
+            with self.subTest(mistake):
+                self.assertNotEqual(self.in_python(mistake, script, self.jobs), 0)
+
+    def test_a_command_that_fails_is_a_failure(self):
+        with self.assertRaisesRegex(library.Failed, "status 3: a reason"):
+            library.run("sh", "-c", "echo a reason; exit 3")
+        with self.assertRaisesRegex(library.Failed, "why"):
+            library.due(False, "why")
+        with self.assertRaises(SkipTest):
+            library.need("no-such-tool")
+
+    def test_each_method_is_a_test(self):
+        names = [name for name, _ in library.tests_of(library.Library("", ""))]
+        self.assertEqual((len(names), names[0]), (11, "library is built once"))
+        self.assertEqual(len(library.tests_of(library.Installed("", ""))), 10)
+
+
+class Package(unittest.TestCase):
+    """package.py with a call of the package that is wrong."""
+
+    @classmethod
+    def setUpClass(cls) -> None:
+        cls.package = importlib.import_module("package")  # it makes a block of 8 MB, so nothing else imports it
+
+    def failed(self, name: str, wrong: Callable, test: Callable) -> List[str]:
+        real = getattr(self.package.exifnorm, name)
+        with mock.patch.dict(os.environ, EXIFNORM_LIBRARY=str(RIGHT)), mock.patch.object(self.package.exifnorm, name, lambda *them: wrong(real(*them))):
+            return printed_by(test)
+
+    def test_nothing_fails_of_the_package_as_it_is(self):
+        self.assertEqual(self.failed("kind", lambda it: it, self.package.blocks_of_tools), [])
+
+    def test_each_result_of_blocks_of_tools(self):
+        for name, wrong, last in (
+            ("kind", lambda it: {"exif": "iim", "iim": "exif"}[it], "kind"),
+            ("normal", lambda it: it[:-1], "normal"),
+            ("normal", bytearray, "normal"),
+            ("digest", lambda it: it[::-1], "digest"),
+            ("show", lambda it: it + "\n", "show"),
+            ("fields", lambda it: it[:-1], "fields"),
+            ("fields", lambda it: [type("Other", (type(field),), {})(*field) for field in it], "classes"),
+            ("captions", lambda it: it + it[:1] or [None], "captions"),
+            ("same", lambda it: not it, "same"),
+            ("same", lambda it: True, "same"),
+            ("same", lambda it: False, "same"),
+        ):
+            with self.subTest(name):
+                failed = self.failed(name, wrong, self.package.blocks_of_tools)
+                self.assertGreaterEqual(len(failed), len(self.package.made_by_tools.ALL))
+                self.assertTrue(all(f": {last}" in it for it in failed), failed[:3])
+
+    def test_fields_of_each_kind(self):
+        kinds = len(list(self.package.small_kinds()))
+        self.assertEqual(len(self.failed("fields", lambda it: it[1:], self.package.fields_of_each_kind)), kinds)
+        self.assertEqual(len(self.failed("normal", lambda it: it + b"\0", self.package.fields_of_each_kind)), kinds)
+
+    def test_an_exception_is_compared_with_its_values(self):
+        def fails() -> None:
+            raise ValueError("a", 3)
+
+        self.assertEqual(self.package.outcome(fails), ("ValueError", "a", 3))
+
+
+class Fuzz(unittest.TestCase):
+    """fuzz.py with reports that are spelled here."""
+
+    def report(self, **changed: Any) -> Report:
+        well = {"looked": {"a law": 500, "another": 500}, "causes": {it: 50 for it in fuzz.CAUSES}, "blocks": 10_000, "accepted": 5_000, "records": 1_000}
+        return Report(**{**well, **changed})
+
+    def judged(self, **changed: Any) -> List[str]:
+        with mock.patch.object(fuzz.os, "cpu_count", return_value=2):
+            it = mock.Mock(run=lambda seed, blocks: self.report(**changed if seed == 3 else {}))
+            return printed_by(lambda counter: fuzz.judge_blocks(it, counter, 3, 20_000))
+
+    def test_each_report_is_judged(self):
+        self.assertEqual(self.judged(), [])
+        for changed, failed in (
+            ({"status": 1}, "seed 3"),
+            ({"broken": ["BROKEN"]}, "seed 3"),
+            ({"blocks": 9_999}, "seed 3: all blocks"),
+        ):
+            found = self.judged(**changed)
+            self.assertEqual((len(found), found[0].startswith(failed)), (1, True), found)
+
+    def test_all_reports_together_are_judged(self):
+        for changed, failed in (
+            ({"looked": {"a law": 19, "another": 500}}, "a law: looked at"),
+            ({"causes": {it: 1 if it == 19 else 50 for it in fuzz.CAUSES}}, "cause 19: met"),
+            ({"accepted": 7_999}, "a fifth is accepted"),
+            ({"records": 399}, "of either kind"),
+            ({"accepted": 9_000, "records": 7_001}, "of either kind"),
+        ):
+            with mock.patch.object(fuzz.os, "cpu_count", return_value=1):
+                many = {"blocks": 40_000, "accepted": 20_000, "records": 4_000}
+                it = mock.Mock(run=lambda seed, blocks: self.report(**{**many, **changed}))
+                found = printed_by(lambda counter: fuzz.judge_blocks(it, counter, 3, 40_000))
+            self.assertEqual((len(found), found[0].startswith(failed)), (1, True), found)
+
+    def test_a_mistake_is_found_by_a_broken_law_alone(self):
+        known = fuzz.mistakes()
+        self.assertEqual(len(known), 53)
+        for status, broken, more in ((1, ["BROKEN"], 0), (1, [], 53), (0, ["BROKEN"], 53), (-11, [], 52)):
+            plain = Report(blocks=fuzz.WRONG_BLOCKS)
+            it = mock.Mock(run=lambda seed, blocks, name: plain if name == "NONE" else Report(status, broken))
+            self.assertEqual(len(printed_by(lambda counter: fuzz.find_mistakes(it, counter))), more, (status, broken))
+
+    def test_a_library_without_a_mistake_breaks_no_law(self):
+        for plain in (Report(1, blocks=8_000), Report(0, ["BROKEN"], blocks=8_000), Report(blocks=7_999)):
+            it = mock.Mock(run=lambda seed, blocks, name: plain if name == "NONE" else Report(1, ["BROKEN"]))
+            self.assertIn("no mistake", " ".join(printed_by(lambda counter: fuzz.find_mistakes(it, counter))))
+
+    def test_a_report_is_read(self):
+        text = "law 7 0 one\nBROKEN one: 4D4D\ncause 3 9\nblocks 20 accepted 10 records 5\n"
+        expected = Report(1, ["BROKEN one: 4D4D"], {"one": 7}, {3: 9}, 20, 10, 5, text)
+        self.assertEqual(fuzz.read_report(1, text), expected)
+
+
+class Documents(unittest.TestCase):
+    """documents.py with a document in which one text is another."""
+
+    def ran(self, module: Any, test: str, name: str, old: str, new: str) -> unittest.TestResult:
+        real = documents.text_of
+        self.assertIn(old, real(name))
+        changed = mock.patch.object(documents, "text_of", lambda it: real(it).replace(old, new, 1) if it == name else real(it))
+        result = unittest.TestResult()
+        with mock.patch.object(documents, "PROGRAM", str(PROGRAM)), mock.patch.object(documents, "LIBRARY", str(RIGHT.parent)), changed:
+            unittest.defaultTestLoader.loadTestsFromName(test, module).run(result)
+        self.assertEqual((result.testsRun, result.errors, result.skipped), (1, [], []))
+        return result
+
+    def test_each_list_that_is_wrong_is_found(self):
+        header, page = documents.HEADER, "docs/exifnorm.1"
+        for test, name, old, new in (
+            ("Listed.test_causes_are_listed_in_the_format", "docs/FORMAT.md", "| Loop |", "| Lop |"),
+            ("Listed.test_causes_have_a_section_on_what_to_do", "docs/REFUSALS.md", "\n## Loop", "\nLoop"),
+            ("Listed.test_causes_are_listed_in_the_header_in_their_order", header, "EXIFNORM_CAUSE_LOOP = 4", "EXIFNORM_CAUSE_LOOP = 5"),
+            ("Listed.test_causes_are_listed_in_the_header_in_their_order", header, "EXIFNORM_CAUSE_LOOP", "EXIFNORM_CAUSE_LOP"),
+            ("Listed.test_statuses_are_the_same_wherever_they_are_listed", page, "\n.B 4\n", "\n.B 5\n"),
+            ("Listed.test_the_version_is_stated_once", "python/pyproject.toml", 'version = "', 'version = "9'),
+            ("Written.test_readers_meet_the_terms_of_the_field", "README.md", "\n\n", "\n\nThis is said.\n\n"),
+            ("Written.test_the_readme_is_short", "README.md", "\n\n", "\n\n" + "more " * 700),
+            ("Written.test_links_lead_to_files", "README.md", "](docs/FORMAT.md)", "](docs/FORMATS.md)"),
+            ("Written.test_each_document_begins_with_its_title", "README.md", "# ", "#"),
+            ("Shown.test_each_python_block_of_the_readme_runs", "README.md", "```python\n", "```python\nraise KeyError\n"),
+            ("Shown.test_each_c_block_of_the_readme_runs", "README.md", "```c\n", "```c\nint unused(void) { int x; }\n"),
+        ):
+            with self.subTest(test, old=old):
+                self.assertTrue(self.ran(documents, test, name, old, old).wasSuccessful())
+                self.assertFalse(self.ran(documents, test, name, old, new).wasSuccessful())
+
+    def test_a_command_that_prints_something_else_is_found(self):
+        block = documents.fenced("README.md", "console")[0]
+        test = "Shown.test_each_command_of_a_console_block_prints_the_lines_below_it"
+        self.assertTrue(self.ran(documents, test, "README.md", block, block).wasSuccessful())
+        self.assertFalse(self.ran(documents, test, "README.md", block, block + "one line more\n").wasSuccessful())
+
+    def test_names_that_are_not_there_are_found(self):
+        room = tempfile.TemporaryDirectory()
+        self.addCleanup(room.cleanup)
+        page = Path(room.name, "PAGE.md")
+        for text, test in (
+            (f"`{'un' + 'named' * 2}`", "test_each_word_in_backticks"),
+            ("`tests/no/such/file.py`", "test_each_path_in_backticks"),
+            ("TEST_PARTS=nothing ./test", "test_each_part_of_the_gate"),
+        ):
+            for content, is_well in (("nothing", True), (text, False)):
+                page.write_text(content, encoding="utf-8")
+                result = unittest.TestResult()
+                with mock.patch.object(named, "DOCUMENTS", [*named.DOCUMENTS, page]):
+                    named.Named(test).run(result)
+                self.assertEqual(result.wasSuccessful(), is_well, text)
