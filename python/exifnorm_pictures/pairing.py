@@ -87,7 +87,7 @@ class Pairs:
 
     @contextlib.contextmanager
     def _guarded(self) -> Iterator[None]:
-        """Raises `NoCatalogue` for the errors of rows of both, which may be due to either."""
+        """Raises `NoCatalogue` for an error in rows of both, since either may be damaged."""
         try:
             yield
         except WRONG as error:
