@@ -23,7 +23,8 @@ sys.dont_write_bytecode = True
 sys.path.insert(0, str(Path(__file__).resolve().parent.parent))
 
 import paths
-from counting import run_module
+import shell_texts
+from counting import run_suite
 from installed import DEBIAN_PYTHON, EXAMPLES, FILE, TOP, VERSION, Tree, run, tree, with_folders
 
 sys.path.insert(0, str(TOP / "packaging"))
@@ -650,4 +651,5 @@ class Versions(unittest.TestCase):
 
 
 if __name__ == "__main__":
-    sys.exit(run_module(sys.modules[__name__]))
+    load = unittest.defaultTestLoader.loadTestsFromModule
+    sys.exit(run_suite(unittest.TestSuite(map(load, (sys.modules[__name__], shell_texts)))))
