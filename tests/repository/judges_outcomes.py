@@ -1,4 +1,5 @@
-"""Tests what streams.py, open_files.py and faults.py find of programs that are wrong, so that each of them is judged too.
+"""Tests what streams.py, open_files.py, faults.py and growths.py find of programs that are wrong, sources.py of sources, and installed.py
+of installed trees, so that each of them is judged too.
 
 self_tests.py runs these.
 """
@@ -11,12 +12,18 @@ import sys
 import tempfile
 import unittest
 from pathlib import Path
+from unittest import mock
 
 import faults
+import growths
+import installed
 import paths
+import sources
 import streams
+from cases import Case
 from counting import Counter
 from faults import OLD, ONE, READ, WRITE, Call, Outcome, Run
+from program import Outcome as Ended
 
 FORM = faults.form_of(faults.FILES["record"])
 NORMALISE = Run(["normalise", "record", "OUT"], out=FORM)
@@ -125,3 +132,106 @@ class Faults(unittest.TestCase):
         self.assertEqual(ways["openat"], [*(f"error={it}" for it in ("EIO", "EINTR", "ENOMEM", "ENOSPC")), "error=EIO+"])
         self.assertEqual(ways["read"], [*(f"error={it}" for it in ("EIO", "EINTR", "ENOMEM")), "error=EIO+", "error=EINTR+"])
         self.assertEqual(ways["brk"], ["retval=0", "retval=0+"])
+
+
+class Growths(unittest.TestCase):
+    """What growths.py takes for a run without memory."""
+
+    case = Case("", words=["compare", "a", "b"], files={"a": b"1", "b": b"2"})
+
+    def test_what_counts_as_out_of_memory(self):
+        line, kept = b"failed: OutOfMemory in file 1\n", {"a": b"1", "b": b"2"}
+        self.assertTrue(growths.says_out_of_memory(self.case, Ended(4, line, b"", kept)))
+        for wrong in (Ended(0, line, b"", kept), Ended(4, b"failed: OutOfMemory in file 3\n", b"", kept), Ended(4, line + b"same\n", b"", kept),
+                      Ended(4, line, b"panicked", kept), Ended(4, line, b"", {**kept, "b": b""}), Ended(4, line, b"", {"a": b"1"}),
+                      Ended(4, line, b"", {**kept, "c": b""})):  # fmt: skip
+            self.assertFalse(growths.says_out_of_memory(self.case, wrong), wrong)
+
+    def test_an_output_is_emptied_or_as_it_was(self):
+        case = Case("", words=["normalise", "a", "OUT"], files={"a": b"1", "OUT": b"old"})
+        for out, is_well in ((b"old", True), (b"", True), (b"ol", False)):
+            ended = Ended(4, b"failed: OutOfMemory\n", b"", {"a": b"1", "OUT": out})
+            self.assertEqual(growths.says_out_of_memory(case, ended), is_well, out)
+
+    def judged(self, case: Case, outcome: Ended) -> list:
+        return [] if outcome.output == b"well" else ["another result"]
+
+    def complaints(self, *runs: tuple) -> tuple:
+        """What is found of runs that end so, each with whether it had that allocation; a run whose output is `well` is right."""
+        outcomes = [(Ended(status, output, b"", dict(self.case.files)), was_met) for status, output, was_met in runs]
+        with mock.patch.object(growths, "run_refusing", side_effect=outcomes):
+            bad, refused = growths.complaints_under_refusals("", "", self.case, self.judged, range(1, len(runs) + 1))
+        return len(bad), refused
+
+    def test_each_refused_allocation_is_judged(self):
+        failed, well, wrong = (4, b"failed: OutOfMemory\n"), (0, b"well"), (0, b"wrong")
+        self.assertEqual(self.complaints((*failed, True), (*well, True), (*well, False)), (0, 2))
+        self.assertEqual(self.complaints((*wrong, True), (*failed, True), (*well, False)), (1, 2))
+        self.assertEqual(self.complaints((*failed, True), (*wrong, False)), (1, 1))
+        self.assertEqual(self.complaints((*failed, False)), (1, 0))
+        self.assertEqual(self.complaints((*failed, True), (*failed, True)), (1, 2))
+
+    def test_most_allocations_fail_in_turn(self):
+        self.assertEqual(list(growths.every())[:3], [1, 2, 3])
+        numbers = list(growths.sample())
+        self.assertEqual(numbers[:5], [1, 2, 3, 4, 6])
+        self.assertTrue(all(after <= 1 + before * 5 // 4 for before, after in zip(numbers, numbers[1:])))
+
+
+class Sources(unittest.TestCase):
+    """What sources.py finds of a crate that is written here."""
+
+    def found(self, test, **files: str) -> list:
+        with tempfile.TemporaryDirectory() as room:
+            for name, text in files.items():
+                path = Path(room, "crates", "px_one", name.replace("_in_", "/") + (".rt" if name.startswith("src") else ".antt"))
+                path.parent.mkdir(parents=True, exist_ok=True)
+                path.write_text(text, encoding="utf-8")
+            with mock.patch.object(sources, "TOP", room), mock.patch.object(sources.lowered, "functions", return_value=None):
+                return test()
+
+    def test_functions_with_many_parameters(self):
+        for count, wrong in ((5, 0), (6, 1)):
+            given = ", ".join(f"it{i}: &mut Vec<u8, A>" for i in range(count))
+            self.assertEqual(len(self.found(sources.few_parameters, src_in_lib=f"pub fn one({given}) -> u8 {{\n    1\n}}\n")), wrong, count)
+
+    def test_functions_with_many_lines(self):
+        for count, wrong in ((39, 0), (40, 1)):
+            text = "fn one() -> u8 {\n" + "    step();\n" * count + "}\n"
+            self.assertEqual(len(self.found(sources.short_functions, src_in_lib=text)), wrong, count)
+
+    def test_long_lines(self):
+        for name in ("src_in_lib", "specs_in_Words", "proofs_in_one_in_Answers"):
+            for columns, wrong in ((140, 0), (141, 1)):
+                self.assertEqual(len(self.found(sources.short_lines, **{name: "x" * columns + "\n"})), wrong, (name, columns))
+        self.assertEqual(self.found(sources.short_lines, src_in_lib=f"#[tactic({'x' * 200})]\n"), [])
+
+    def test_functions_that_make_memory(self):
+        for body, wrong in (("1", 0), ("let mut memory = Memory::new(alloc); two(&mut memory)", 1), ("one_in(&mut Memory::new(alloc))", 0)):
+            found = self.found(sources.memory_is_made_nowhere_else, src_in_lib=f"pub fn one(alloc: A) -> u8 {{ {body} }}\n")
+            self.assertEqual(sum("makes memory and is no line" in it for it in found), wrong, body)
+            self.assertEqual(sum("makes no memory" in it for it in found), len(sources.MAKERS))
+
+    def test_a_run_that_is_more_than_two_lines(self):
+        for text, wrong in ((sources.RUN, 0), (f"more(); {sources.RUN}", 1)):
+            with mock.patch.object(sources, "crates", return_value=[("px_cli", [("crates/px_cli/src/run.rt", "run_words", True, [], text)])]):
+                self.assertEqual(len(sources.the_run_is_two_lines()), wrong)
+
+
+class Trees(unittest.TestCase):
+    """What installed.py reads of a tree."""
+
+    def test_modes_and_links(self):
+        with tempfile.TemporaryDirectory() as room:
+            (Path(room) / "a" / "b").mkdir(parents=True)
+            (Path(room) / "a" / "c").write_text("")
+            (Path(room) / "a" / "link").symlink_to("c")
+            for name, mode in (("a", 0o755), ("a/b", 0o700), ("a/c", 0o640)):
+                (Path(room) / name).chmod(mode)
+            self.assertEqual(installed.tree(Path(room)), {"a/": 0o755, "a/b/": 0o700, "a/c": 0o640, "a/link": "c"})
+
+    def test_a_command_with_another_status_is_a_failure(self):
+        self.assertEqual(installed.run("sh", "-c", "echo a; exit 3", status=3), "a\n")
+        for status, expected in ((1, 0), (0, 1), (2, 3)):
+            with self.assertRaisesRegex(AssertionError, f"ended with status {status}: why"):
+                installed.run("sh", "-c", f"echo why; exit {status}", status=expected)
