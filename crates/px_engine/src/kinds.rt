@@ -2,6 +2,8 @@
 ghost use Rattle.std.specs.Prelude.{◌≡◌};
 ghost use Rattle.px_engine.specs.Files.{is_prefixed, is_marked, kind_of, block_of};
 
+use px_iim::MARKER;
+
 /// The kind of a block.
 #[derive(Clone, Copy, Debug, PartialEq, Eq)]
 pub enum BlockKind {
@@ -13,9 +15,6 @@ pub enum BlockKind {
 
 // The six bytes before an Exif block in a JPEG segment.
 const PREFIX: [u8; 6] = [0x45, 0x78, 0x69, 0x66, 0x00, 0x00];
-
-// The tag marker of a DataSet.
-const MARKER: u8 = 0x1C;
 
 fn is_prefixed(file: &[u8]) -> bool
     ensures { result ≡ is_prefixed file.now }

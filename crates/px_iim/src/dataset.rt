@@ -10,8 +10,8 @@ ghost use Rattle.px_iim.specs.calls.Reading.{Reads, JudgesAt};
 
 use px_bytes::{Cause, Order, Refusal};
 
-/// The tag marker with which each DataSet begins.
-pub(crate) const MARKER: u8 = 0x1C;
+/// The tag marker with which each DataSet begins (IIM 4.2, chapter 1).
+pub const MARKER: u8 = 0x1C;
 
 /// The top bit of the two bytes of a length. If it is set, the other bits are the number of bytes of the
 /// length that follows.

@@ -35,6 +35,7 @@ mod survey;
 mod walk;
 mod write;
 
+pub use dataset::MARKER;
 pub use group::{All, Item};
 pub use iim::Iim;
 pub use read::{accepts, judge_iim, read_iim, read_iim_in};

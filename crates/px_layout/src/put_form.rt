@@ -184,8 +184,6 @@ fn put_any_dir<W: Sink>(
     }
 }
 
-const DIRS: [Dir; 5] = [Dir::Main, Dir::Exif, Dir::Interop, Dir::Gps, Dir::Thumb];
-
 // Puts all directories of the meaning, each with its placed values.
 fn put_dirs<W: Sink>(pending: &mut Pending, writer: &mut W, form: &NormalForm) -> Result<(), Failed>
     requires few { CanFail (W.failed writer.old) }
@@ -195,7 +193,7 @@ fn put_dirs<W: Sink>(pending: &mut Pending, writer: &mut W, form: &NormalForm) -
         (λ d. contents_of_dir (plan_in form.now) Order.Most 0 (said_in form.now) d
         (items (said_in form.now) d)) dirs)) }
 {
-    for dir in DIRS {
+    for dir in Dir::ALL {
         put_any_dir(pending, writer, form, dir)?;
     }
     Ok(())
