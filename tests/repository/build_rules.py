@@ -425,7 +425,43 @@ def a_build_without_the_launcher_is_stopped_too(room: Room) -> None:
     wait_until(lambda: not runs(working), "the compiler still runs")
 
 
+def of_build(code: str) -> str:
+    """What code prints that may import the modules of build/."""
+    ran = subprocess.run([sys.executable, "-c", code], env={**os.environ, "PYTHONPATH": str(paths.TOP / "build")}, capture_output=True, text=True)
+    due(ran.returncode == 0, ran)
+    return ran.stdout
+
+
+def only_processors_that_it_may_use_are_counted(_: Room) -> None:
+    first = min(os.sched_getaffinity(0))
+    due(of_build(f"import os; os.sched_setaffinity(0, [{first}]); import machine; print(machine.processors())") == "1\n", "more than one")
+
+
+def a_second_signal_does_not_end_a_stop(_: Room) -> None:
+    code = """import os, prove, signal
+prove.listen()
+try:
+    os.kill(os.getpid(), signal.SIGTERM)
+except prove.NotBuilt as why:
+    print(why)
+for it in prove.STOPS:
+    os.kill(os.getpid(), it)
+print("it goes on")"""
+    due(of_build(code) == "the build was stopped\nit goes on\n", "a second signal is taken")
+
+
+def what_a_build_wrote_is_never_too_new_for_a_look(_: Room) -> None:
+    code = """import launch, time
+now = time.time()
+for name, changed in (("out/exifnorm", now), ("crates/a", now), ("crates/a", now - 9), ("crates/a", "")):
+    print(launch.is_fresh(f"{name} 3 4 5 {changed}"))"""
+    due(of_build(code) == "False\nTrue\nFalse\nTrue\n", "another file is too new")
+
+
 TESTS = [
+    only_processors_that_it_may_use_are_counted,
+    a_second_signal_does_not_end_a_stop,
+    what_a_build_wrote_is_never_too_new_for_a_look,
     the_examples_are_right,
     whatever_a_crate_is_made_from_is_in_the_sum,
     whatever_the_list_of_crates_says_is_in_the_sum,

@@ -19,6 +19,10 @@ from shlex import quote
 from installed import run
 from paths import TOP
 
+sys.path.insert(0, str(TOP / "packaging"))
+
+import command
+
 # A command with all that a help text may have: an apostrophe, brackets and colons, a choice, a number, a file, and fixed operands.
 HELP = {
     "": """Does what it does.
@@ -206,3 +210,11 @@ class Pages(unittest.TestCase):
                 ran = subprocess.run([TOP / "exifnorm", *words], cwd=folder, capture_output=True, text=True, check=False)
                 self.assertEqual(ran.stdout, f"{line}\n", words)
                 self.assertIn(f"\n{line}\n", page)
+
+
+class FirstLine(unittest.TestCase):
+    """The first line of exifnorm-pictures, of which every Linux reads 127 bytes."""
+
+    def test_a_python_with_a_long_name_is_called_by_a_shell(self) -> None:
+        self.assertEqual(command.first_lines("/" + 124 * "p"), f"#!/{124 * 'p'}\n")
+        self.assertEqual(command.first_lines("/" + 125 * "p").splitlines()[0], "#!/bin/sh")
