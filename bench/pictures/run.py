@@ -184,6 +184,7 @@ def great(folder: str, rows: int, compared: int) -> Iterator[ROW]:
         half = make_catalogue(os.path.join(folder, "half"), compared, lambda it: it // 2 + compared * (it % 2), plain)
         moved = make_catalogue(os.path.join(folder, "moved"), compared, lambda it: it // 2, lambda it: b"/moved" + plain(it))
         name = f"memory of `changed`, {compared:,} pictures,"
+        yield f"{name} nothing changed", megabytes(cost(pictures("changed", first, first))), "100 MB"
         yield f"{name} of which half say something else", megabytes(cost(pictures("changed", first, half), [1])), "100 MB"
         yield f"{name} all moved", megabytes(cost(pictures("changed", first, moved), [1])), "100 MB"
         page = os.path.join(folder, "page.html")

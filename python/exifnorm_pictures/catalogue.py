@@ -280,9 +280,15 @@ class Catalogue:
     def known(self, path: bytes) -> Optional[Known]:
         """The record of one picture."""
         query = "SELECT id, size, modified, changed, inode, problem FROM pictures WHERE path = ?"
-        with self.guarded():
+        try:
             row = self.base.execute(query, (path,)).fetchone()
             return None if row is None else _known(row)
+        except WRONG as error:
+            raise self.failure(error) from error
+
+    def is_empty(self) -> bool:
+        """Whether no picture is known, as in a first run."""
+        return next(self.rows("SELECT 1 FROM pictures LIMIT 1"), None) is None
 
     def below(self, folder: bytes) -> Iterator[Tuple[int, bytes, Optional[str]]]:
         """The number, path and problem of each picture below a folder, by path."""

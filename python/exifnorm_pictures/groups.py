@@ -40,7 +40,8 @@ class Group:
     def sentence(self) -> str:
         """The kinds that were compared, such as `Exif and IPTC are the same in the same bytes, no XMP`."""
         there = [NAMES[it] for it in self.kinds if it in self.digests]
-        words = f"{' and '.join([', '.join(there[:-1]), there[-1]] if len(there) > 1 else there)} {'are' if len(there) > 1 else 'is'} the same"
+        listed = " and ".join([", ".join(there[:-1]), there[-1]] if len(there) > 1 else there)
+        words = f"{listed} {'are' if len(there) > 1 else 'is'} the same"
         if self.same_bytes:
             words += " in the same bytes"
         words += "".join(f", no {NAMES[it]}" for it in self.kinds if it not in self.digests)

@@ -84,13 +84,13 @@ def _work(asked: Asked, catalogue: Catalogue) -> Work:
     """The files that have to be looked at, and how many are unchanged; each file once."""
     work = Work()
     named: Set[bytes] = set()
-    many = len(asked.names) > 1
+    many, first = len(asked.names) > 1, catalogue.is_empty()
     for it in below(asked.names, work.unlisted.append, _own_files(catalogue.name)):
         if many:
             if it.path in named:
                 continue
             named.add(it.path)
-        known = catalogue.known(it.path)
+        known = None if first else catalogue.known(it.path)
         if known is None:
             work.new.add(it.path)
         else:

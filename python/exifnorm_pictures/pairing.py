@@ -121,7 +121,8 @@ class Pairs:
         """Finds the pictures that only one side has, and which of them are one that moved."""
         for side in (BEFORE, AFTER):
             mine, other = _ALIASES[side], _ALIASES[1 - side]
-            paired = f"SELECT 1 FROM {_BASES[1 - side]}.pictures AS {other} WHERE {other}.path = {self._other_path(side)} AND {_is_there(other)}"
+            on = f"{other}.path = {self._other_path(side)} AND {_is_there(other)}"
+            paired = f"SELECT 1 FROM {_BASES[1 - side]}.pictures AS {other} WHERE {on}"
             self.base.execute(
                 f"INSERT INTO alone_{_BASES[side]} SELECT {mine}.id FROM {_BASES[side]}.pictures AS {mine}"
                 f" WHERE {_is_there(mine)} AND NOT EXISTS ({paired})"

@@ -3,8 +3,10 @@
 import hashlib
 import os
 import sys
+import tempfile
 import unittest
 from collections import Counter
+from unittest import mock
 
 from studio import TOP, WithPictures
 
@@ -191,6 +193,43 @@ class Tables(WithPictures):
         self.assertEqual((chosen.total, dict(chosen.causes)), (2, {"Overlap": 1, "DataSetCut": 1}))
 
 
+class Remedies(WithPictures):
+    """Which remedy `mend` takes, by what each one loses and adds; here each writes some lines as its printed values."""
+
+    def best(self, **made):
+        from exifnorm_pictures import mend
+
+        def remedy(step):
+            def write(name):
+                tried.append(step)
+                with open(name, "w") as file:
+                    file.write("\n".join(made[step] or ()))
+                return made[step] is not None
+
+            return write
+
+        def printed(name):
+            with open(name) as file:
+                return Counter(file.read().split("\n"))
+
+        tried = []
+        with open(self.path("picture.jpg"), "w") as file:
+            file.write("a\nb\nc")
+        blocks = mock.patch.multiple(mend, _printed=printed, _refusals=lambda _: {}, _REMEDIES={it: remedy(it) for it in mend.STEPS})
+        with blocks, mock.patch.object(mend, "blocks_of", lambda _: mend.Blocks()), tempfile.TemporaryDirectory() as room:
+            found = mend._best(os.fsencode(self.path("picture.jpg")), room)
+        return found and (found[0], found[2], found[3]), tried
+
+    def test_the_one_that_loses_least(self):
+        steps = ["touch", "exiv2", "rebuild"]
+        self.assertEqual(self.best(touch="abc", exiv2="ab", rebuild="ab"), (("touch", [], []), steps[:1]))
+        self.assertEqual(self.best(touch="a", exiv2="ab", rebuild=""), (("exiv2", ["c"], []), steps))
+        self.assertEqual(self.best(touch="abx", exiv2="ab", rebuild="abxyz"), (("exiv2", ["c"], []), steps))
+        self.assertEqual(self.best(touch="abcx", exiv2=None, rebuild="abc"), (("rebuild", [], []), steps))
+        self.assertEqual(self.best(touch="abx", exiv2="aby", rebuild="abz"), (("touch", ["c"], ["x"]), steps))
+        self.assertEqual(self.best(touch=None, exiv2=None, rebuild=None), (None, steps))
+
+
 class EqualChanges(unittest.TestCase):
     def test_equal_ones_are_together(self):
         """Also where more are known than are kept in memory, and in the order in which they came."""
@@ -208,3 +247,18 @@ class EqualChanges(unittest.TestCase):
         self.assertEqual(found[0], ("change 0", 3, [b"0000", b"1200", b"2400"]))
         self.assertEqual(found[1], ("to a place", 1, [b"moved 0000"]))
         self.assertTrue(all(count == len(names) for _, count, names in found))
+
+
+class Statuses(unittest.TestCase):
+    def test_of_changed(self):
+        """The greatest status of all results; 1 is a difference that is known, and nothing else."""
+        from exifnorm_pictures.archives import status_of
+
+        due = {"same": 0, "refused, the same bytes": 0, "unreadable, the same bytes": 0, "different": 1, "only MakerNote differs": 1,
+               "moved": 1, "missing before": 1, "missing after": 1, "refused": 2, "unreadable": 2, "not wholly read": 2, "not read": 4}  # fmt: skip
+        self.assertEqual(set(due), set(changed.RESULTS))
+        for one, status in due.items():
+            self.assertEqual(status_of(Counter([one])), status, one)
+            for other in due:
+                self.assertEqual(status_of(Counter([one, other, "same"])), max(status, due[other]), (one, other))
+        self.assertEqual(status_of(Counter()), 0)
