@@ -213,6 +213,11 @@ class Archive(WithPictures):
         self.assertEqual(one[1], {"unchanged": 4, "accepted": 200})
         self.assertEqual(self.rows(), self.rows("d"))
 
+    def test_a_picture_that_is_named_twice(self):
+        words = ["index", "p", "p/a.jpg", "p/../p", "p/sub", "--quiet", "--catalogue"]
+        self.assertEqual(self.asked(*words, "twice"), ["3 accepted, 1 no block"])
+        self.assertEqual(self.asked(*words, "twice"), ["4 unchanged"])
+
     def test_quiet_and_progress(self):
         self.asked("index", "p", "--catalogue", "d")
         self.assertRegex(self.complaint, r"^4 of 4 pictures, \d+ a second\n$")

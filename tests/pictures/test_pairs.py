@@ -3,6 +3,7 @@
 What is expected is known from how each pair was made: one block of one picture was changed, or only what means nothing.
 """
 
+import hashlib
 import json
 import os
 import shutil
@@ -95,6 +96,18 @@ class Jpeg(Pairs):
         self.not_same(jpeg(app13(resource(0x404, K, b"AgHg"))), jpeg(app13(resource(0x404, L, b"AgHg"))))
         self.same(jpeg(app13(resource(0x404, K, b"AgHg"))), jpeg(app13(resource(0x404, K))))
         self.not_same(jpeg(app1_xmp(T), app1_xmp(T)), jpeg(app1_xmp(T), app1_xmp(U)))
+
+    def test_the_block_is_the_file_s(self):
+        """Also one that ExifTool doesn't hand over because it is short, or corrects because of its MakerNote."""
+        short = [app1(it) for it in (b"MM\0*\0\0\0\x08", b"II*\0\x08\0\0\0", b"MM\0*\0\0\0\x08\0\0")]
+        self.not_same(jpeg(short[0]), jpeg(short[1]), "refused")
+        self.not_same(jpeg(short[0]), jpeg(short[2]), "refused")
+        self.not_same(jpeg(short[0]), jpeg(), "refused")
+        count = [block([entry(0x010F, ASCII, 16, 26)]) + b"GENERAL IMAGING\0", block([entry(0x010F, ASCII, 16, 26)]) + b"GENERAL IMAGINF\0"]
+        self.not_same(*(jpeg(app1(it)) for it in count))
+        for octets in (*count, b"MM\0*\0\0\0\x08"):
+            write(self.path("a.jpg"), jpeg(app1(octets)))
+            self.assertEqual(sides(self.path("a.jpg"))[0]["exif"].octets, hashlib.sha256(octets).hexdigest())
 
     def test_split_blocks(self):
         long = [block([entry(0x010E, ASCII, 70000, 26)]) + it * 69999 + b"\0" for it in (b"a", b"b")]

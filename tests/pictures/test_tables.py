@@ -193,6 +193,23 @@ class Tables(WithPictures):
         self.assertEqual((chosen.total, dict(chosen.causes)), (2, {"Overlap": 1, "DataSetCut": 1}))
 
 
+class Marks(unittest.TestCase):
+    def test_each_shows_an_edit(self):
+        from exifnorm_pictures.catalogue import Known
+        from exifnorm_pictures.index import _is_unchanged
+        from exifnorm_pictures.walk import Found
+
+        marks = Stamp(1, 2, 3, 4)
+        known = Known(1, marks, None)
+        self.assertTrue(_is_unchanged(Found(b"/a", b"/", marks), known))
+        for name in Stamp._fields:
+            self.assertFalse(_is_unchanged(Found(b"/a", b"/", marks._replace(**{name: 9})), known), name)
+        for found, before in ((None, known), (marks, None), (marks, Known(1, None, None)), (marks, Known(1, marks, "Unreadable")),
+                              (marks, Known(1, marks, "Vanished")), (None, Known(1, None, None))):  # fmt: skip
+            self.assertFalse(_is_unchanged(Found(b"/a", b"/", found), before))
+        self.assertTrue(_is_unchanged(Found(b"/a", b"/", marks), Known(1, marks, "NoPicture")))
+
+
 class Remedies(WithPictures):
     """Which remedy `mend` takes, by what each one loses and adds; here each writes some lines as its printed values."""
 
