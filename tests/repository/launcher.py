@@ -296,7 +296,7 @@ def a_compiler_is_asked_for_contracts_that_no_call_can_meet(room: Room) -> None:
 def changed_handles_are_refused(room: Room) -> None:
     room.settle()
     handles = room.top / "HANDLES"
-    for text in ("", "Handles allowed: Wait.\n", "Handles allowed: none", f"{HANDLES}Handles allowed: Wait.\n"):
+    for text in ("", "Handles allowed: Wait.\n", "Handles allowed: none", f"{HANDLES}Handles allowed: Wait.\n", f"{HANDLES}\n"):
         handles.write_text(text)
         ran = room.call("a")
         due(ran.returncode == 70 and ran.stdout == "" and "HANDLES" in ran.stderr, (text, ran))
