@@ -193,7 +193,21 @@ class Tables(WithPictures):
         self.assertEqual((chosen.total, dict(chosen.causes)), (2, {"Overlap": 1, "DataSetCut": 1}))
 
 
-class Marks(unittest.TestCase):
+class Marks(WithPictures):
+    def test_a_file_that_is_written_to_meanwhile(self):
+        """It has no marks in the catalogue, so that the next run looks at it again."""
+        from exifnorm_pictures.looking import look
+        from exifnorm_pictures.walk import Found
+
+        path = os.fsencode(self.path("a.jpg"))
+        with open(path, "wb") as file:
+            file.write(b"\xff\xd8\xff\xd9")
+        now = Stamp.of(os.stat(path))
+        self.assertEqual(look(Found(path, b"/", now), False).stamp, now)
+        for name in Stamp._fields:
+            it = look(Found(path, b"/", now._replace(**{name: 9})), False)
+            self.assertEqual((it.stamp, it.problem), (None, None), name)
+
     def test_each_shows_an_edit(self):
         from exifnorm_pictures.catalogue import Known
         from exifnorm_pictures.index import _is_unchanged
