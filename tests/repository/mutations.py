@@ -105,6 +105,12 @@ def read_all(folder: Path, known: Dict[str, Part]) -> List[Mistake]:
     return found
 
 
+def for_all_users(folder: "str | Path") -> Path:
+    """The folder, which other users may enter from now on: some tests run programs as one of them."""
+    os.chmod(folder, 0o755)
+    return Path(folder)
+
+
 def copy_tree(top: Path, program: Path, target: Path) -> None:
     """Copies the sources, and of what was built the program, the library and the notes on what they were built from."""
     shutil.copytree(top, target, symlinks=True, ignore=lambda _, names: {it for it in names if it in ("out", ".git", "__pycache__")})
@@ -183,7 +189,7 @@ class Copies:
         try:
             return self.free.get_nowait()
         except Empty:
-            return Copy(self.seed, Path(tempfile.mkdtemp(dir=self.room)))
+            return Copy(self.seed, for_all_users(tempfile.mkdtemp(dir=self.room)))
 
     def run(self, part: str, only: str, mistake: Optional[Mistake] = None) -> Tuple[int, str]:
         """Runs a part, or those of its tests whose name has a text. Returns its status, and what it printed."""
@@ -203,7 +209,7 @@ class Copies:
         with tempfile.TemporaryDirectory(dir=copy.folder, ignore_cleanup_errors=True) as own:
             apart = APART if self.is_apart else ["sh", "-c", 'cd "$0" && exec "$@"']
             words = [*apart, copy.folder, "sh", "-c", f"cd tree && program={PROGRAM} && {self.parts[part].command}"]
-            environment = {**os.environ, "TEST_ONLY": only, "TMPDIR": own, "PYTHONDONTWRITEBYTECODE": "1"}
+            environment = {**os.environ, "TEST_ONLY": only, "TMPDIR": str(for_all_users(own)), "PYTHONDONTWRITEBYTECODE": "1"}
             ran = subprocess.run(words, env=environment, stdin=subprocess.DEVNULL, stdout=subprocess.PIPE, stderr=subprocess.STDOUT, timeout=SECONDS)
         return ran.returncode, ran.stdout.decode("utf-8", "replace")
 
@@ -236,7 +242,7 @@ def names(mistakes: Sequence[Mistake]) -> List[Tuple[str, str]]:
     """Each part, with the names of all its tests that mistakes have; a part of which one needs all is run whole."""
     only: Dict[str, set] = {}
     for it in mistakes:
-        only.setdefault(it.part, set()).add(it.only)
+        only.setdefault(it.part, set()).update(it.only.split("|"))
     return [(part, "" if "" in texts else "|".join(sorted(texts))) for part, texts in sorted(only.items())]
 
 
@@ -250,7 +256,7 @@ def try_all(counter: Counter, copies: Copies, mistakes: Sequence[Mistake]) -> No
 
 
 def try_tables(counter: Counter, program: Path, only: str, room: Path) -> None:
-    copy_tree(paths.TOP, program, room / "seed")
+    copy_tree(paths.TOP, program, for_all_users(room) / "seed")
     copies = Copies(room / "seed", room)
     try_all(counter, copies, [it for it in read_all(paths.TESTS / "repository" / "mutations", copies.parts) if only in f"{it.file}: {it.why}"])
 
