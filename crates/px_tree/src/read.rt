@@ -13,7 +13,7 @@ use crate::holding::hold;
 use crate::records::read_record;
 use crate::tables::Directory;
 use crate::thumbnail::read_thumb;
-use crate::tree::{Directories, read_dirs};
+use crate::tree::{Directories, MainDirectory, read_dirs};
 use px_bytes::{Block, Memory, Order, Ranges, Refusal};
 use px_meaning::{ExifPart, Fields, Meaning};
 use std::alloc::Global;
@@ -61,7 +61,7 @@ fn read_tree<'a>(memory: &mut Memory, block: &'a [u8], order: Order) -> Result<M
     // Frees the marks of the claimed ranges first: the record's list can be the largest allocation.
     drop(held);
     let iptc = read_record(memory, block, order, &main)?;
-    let Directory { fields, .. } = main;
+    let MainDirectory { fields, .. } = main;
     Ok(Meaning {
         main: fields,
         iptc,

@@ -9,12 +9,12 @@ ghost use Rattle.px_meaning.specs.Iim.{iim_of};
 ghost use Rattle.px_meaning.specs.Entry.{raw, record_in, IsEntry};
 ghost use Rattle.px_meaning.specs.Directory.{entries_at};
 ghost use Rattle.px_meaning.specs.Says.{record_at};
-ghost use Rattle.px_tree.specs.calls.Linked.{AreUsesAt};
-ghost use Rattle.px_tree.specs.calls.Parts.{HasValue, entry_here};
+ghost use Rattle.px_meaning.specs.Roles.{record_tag};
+ghost use Rattle.px_tree.specs.calls.Parts.{HasValue, Finds, entry_here};
 
 use crate::entry_values::raw_of;
 use crate::links::Found;
-use crate::tables::Directory;
+use crate::tree::MainDirectory;
 use px_bytes::{Memory, Order, Refusal};
 use px_field::Form;
 use px_iim::{Iim, read_iim_in};
@@ -73,17 +73,17 @@ pub fn read_record<'a>(
     memory: &mut Memory,
     block: &'a [u8],
     order: Order,
-    directory: &Directory<'a>,
+    main: &MainDirectory<'a>,
 ) -> Result<Option<Iim<'a>>, Refusal>
     requires bounded { length block.now ≤ limit }
-    requires uses { AreUsesAt block.now order directory.now }
+    requires found { Finds block.now order main.now.at record_tag main.now.iptc }
     requires each { AllByRecursion (IsEntry block.now order Dir.Main)
-        (entries_at block.now order directory.now.at) }
-    ensures ok { IfOk result (λ r. r ≡ record_at block.now order directory.now.at) }
+        (entries_at block.now order main.now.at) }
+    ensures ok { IfOk result (λ r. r ≡ record_at block.now order main.now.at) }
     ensures err { IfErr result (λ e. e ≡ OutOfMemory) }
     ensures memory { LacksBlock result memory.old memory.new }
 {
-    match directory.uses.iptc {
+    match main.iptc {
         Some(found) => record_found(memory, block, order, found),
         None => Ok(None),
     }

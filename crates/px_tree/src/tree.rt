@@ -13,17 +13,26 @@ ghost use Rattle.px_tree.specs.calls.Uses.{link_as};
 ghost use Rattle.px_tree.specs.calls.Linked.{Names, IsRead, offsets_of, next_place};
 ghost use Rattle.px_tree.specs.calls.ReadTree.{SeenTree};
 
-use crate::links::{Link, next_link};
+use crate::links::{Found, Link, next_link};
 use crate::source::Source;
 use crate::tables::{Directory, read_directory};
 use crate::uses::link_of;
 use px_bytes::{Memory, Order, Ranges, Refusal};
-use px_meaning::{Dir, number32};
+use px_meaning::{Dir, Fields, number32};
+
+// What is used of the main directory after its pointers were followed: its fields, its offset and the record's
+// entry.
+#[derive(Drop)]
+pub struct MainDirectory<'a> {
+    pub fields: Fields<'a>,
+    pub at: u32,
+    pub iptc: Option<Found>,
+}
 
 // The directories of a block.
 #[derive(Drop)]
 pub struct Directories<'a> {
-    pub main: Directory<'a>,
+    pub main: MainDirectory<'a>,
     pub exif: Option<Directory<'a>>,
     pub interop: Option<Directory<'a>>,
     pub gps: Option<Directory<'a>>,
@@ -105,6 +114,25 @@ fn link_to_main(block: &[u8], order: Order) -> Link
     }
 }
 
+// The part of the main directory that is kept.
+fn main_directory_of<'a>(main: Directory<'a>) -> MainDirectory<'a>
+    ensures fields { result.fields ≡ main.entry.fields }
+    ensures at { result.at ≡ main.entry.at }
+    ensures iptc { result.iptc ≡ main.entry.uses.iptc }
+{
+    let Directory {
+        fields,
+        uses,
+        at,
+        ..
+    } = main;
+    MainDirectory {
+        fields,
+        at,
+        iptc: uses.iptc,
+    }
+}
+
 // Reads the directories of a block that has a header.
 pub fn read_dirs<'a>(
     memory: &mut Memory,
@@ -143,6 +171,7 @@ pub fn read_dirs<'a>(
     let read = [gps_link, interop_link, exif_link, Some(main_link)];
     source.dir = Dir::Thumb;
     let thumb = read_linked(memory, &source, held, &read, thumb_link)?;
+    let main = main_directory_of(main);
     Ok(Directories {
         main,
         exif,

@@ -11,12 +11,13 @@ use Rattle.px_meaning.specs.declared.Dir.TheVariants.{Main, Exif, Interop, Gps, 
 use Rattle.px_tree.specs.declared.links.Link.{Link}
 use Rattle.px_tree.specs.declared.links.Found.{Found}
 use Rattle.px_tree.specs.declared.tables.Directory.{Directory}
-use Rattle.px_meaning.specs.Roles.{exif_tag, gps_tag, interop_tag}
+use Rattle.px_tree.specs.declared.tree.MainDirectory.{MainDirectory}
+use Rattle.px_meaning.specs.Roles.{exif_tag, gps_tag, interop_tag, record_tag}
 use Rattle.px_meaning.specs.Entry.{Entry, fields, next, table, offset}
 use Rattle.px_meaning.specs.Directory.{dirs, dir_at, main_at, fields_at, is_pointer, pointer, entries_at, unless_zero}
 use Rattle.px_meaning.specs.Footprint.{dir_ranges, listed, ranges_at}
 use Rattle.px_tree.specs.Checks.{named_at, pointer_place, dir_checks, checks_at, dirs_checks, dirs_held}
-use Rattle.px_tree.specs.calls.Uses.{Sees, link_as}
+use Rattle.px_tree.specs.calls.Uses.{Sees, link_as, has_tag}
 use Rattle.px_tree.specs.calls.Linked.{AreUsesAt, IsRead, Names, offsets_of, next_place}
 
 module _ (b : List ℕ) (o : Order) (d : Dir) where
@@ -90,6 +91,13 @@ module _ (b : List ℕ) (o : Order) where
   pub main_is : (k : Link) → Names b o Main (Some k) → k.at ≡ main_at b o
   unfolding dir_at
   main_is k n = let e : Some k.at ≡ Some (main_at b o) = n.leads in cc
+
+  -- what is kept of the main directory has the record's entry
+  pub main_directory_found : (t : MainDirectory) (m : Directory) → t.at ≡ m.at → t.iptc ≡ m.uses.iptc → AreUsesAt b o m
+      → Sees b o (entries_at b o t.at) (t.at + 2) (has_tag record_tag) t.iptc
+  main_directory_found t m at is u =
+      subst (λ (a : ℕ). Sees b o (entries_at b o a) (a + 2) (has_tag record_tag) t.iptc) (sym at)
+      (subst (λ (x : Option Found). Sees b o (entries_at b o m.at) (m.at + 2) (has_tag record_tag) x) (sym is) u.iptc)
 
   -- where the pointer of tag t in the table at a leads, and its byte offset
   abbrev Follows : ℕ → Option Link → ℕ → Type 0

@@ -46,10 +46,10 @@ returns-in_err-thumb-clause-judged c =
     d.1.0.thumb_read.stands d.0 c.in_err-thumb.field-0.0
     (c.in_err-thumb.ensures.judged (dirs_held b o (range 0 8 ∷ []) dirs) d.1.1))
 
-pub read_record-requires-clause-uses : goal.read_record-requires-clause-uses
-read_record-requires-clause-uses c =
+pub read_record-requires-clause-found : goal.read_record-requires-clause-found
+read_record-requires-clause-found c =
     let h = (c.in_ok-hold.ensures.judged [] (agrees_none _ c.in_ok-held.ensures.none)).1 in
-    (c.in_ok-directories.ensures.judged (range 0 8 ∷ []) h).1.0.main_uses
+    (c.in_ok-directories.ensures.judged (range 0 8 ∷ []) h).1.0.main_found
 
 pub read_record-requires-clause-each : goal.read_record-requires-clause-each
 read_record-requires-clause-each c =

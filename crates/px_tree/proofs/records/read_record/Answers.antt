@@ -13,16 +13,16 @@ pub record_found-requires : goal.record_found-requires
 record_found-requires c =
     let b = c.args.block.now in
     let o = c.args.order in
-    let a = c.args.directory.now.at in
+    let a = c.args.main.now.at in
     has_value b o a c.requires.bounded Main record_tag c.in-Some.found c.requires.each
-    (subst (λ (x : Option Found). Finds b o a record_tag x) c.in-Some.is c.requires.uses.iptc)
+    (subst (λ (x : Option Found). Finds b o a record_tag x) c.in-Some.is c.requires.found)
 
 pub returns-in-Some-clause-ok : goal.returns-in-Some-clause-ok
 returns-in-Some-clause-ok c =
     let b = c.args.block.now in
     let o = c.args.order in
-    let a = c.args.directory.now.at in
-    let found = subst (λ (x : Option Found). Finds b o a record_tag x) c.in-Some.is c.requires.uses.iptc in
+    let a = c.args.main.now.at in
+    let found = subst (λ (x : Option Found). Finds b o a record_tag x) c.in-Some.is c.requires.found in
     subst (λ (x : Option Iim). IfOk c.record_found.result (λ r. r ≡ x)) (sym
     (record_is b o a (Some (entry_here b o c.in-Some.found)) found.is)) c.record_found.ensures.ok
 
@@ -30,5 +30,5 @@ pub returns-in-None-clause-ok : goal.returns-in-None-clause-ok
 returns-in-None-clause-ok c =
     let b = c.args.block.now in
     let o = c.args.order in
-    let a = c.args.directory.now.at in
-    sym (record_is b o a None (subst (λ (x : Option Found). Finds b o a record_tag x) c.in-None.is c.requires.uses.iptc))
+    let a = c.args.main.now.at in
+    sym (record_is b o a None (subst (λ (x : Option Found). Finds b o a record_tag x) c.in-None.is c.requires.found))

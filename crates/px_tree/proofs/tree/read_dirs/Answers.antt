@@ -5,7 +5,7 @@ use Rattle.px_bytes.specs.Checks.{first_false, Refuses}
 use Rattle.px_meaning.specs.declared.Dir.TheVariants.{Main, Exif, Interop, Gps, Thumb}
 use Rattle.px_meaning.specs.Entry.{fields}
 use Rattle.px_tree.proofs.reading.Named.{dirs_start, dirs_step, dirs_refuse, dirs_clean, dirs_end, names_exif, names_gps, names_interop}
-use Rattle.px_tree.proofs.reading.Named.{names_thumb, main_is, some_checks, some_ranges}
+use Rattle.px_tree.proofs.reading.Named.{names_thumb, main_is, main_directory_found, some_checks, some_ranges}
 use Rattle.px_tree.proofs.tree.read_dirs.Goals as goal
 
 pub read_linked-requires-clause-named : goal.read_linked-requires-clause-named
@@ -173,14 +173,14 @@ returns-clause-judged c = λ taken a.
       dirs_clean b o taken _ _ s5,
       (
         record {
-          main = j0.1.0 ∙ ap (λ (n : ℕ). fields b o Main n) (main_is b o lm nm);
+          main = c.main_directory_of-main.ensures.fields ∙ j0.1.0 ∙ ap (λ (n : ℕ). fields b o Main n) (main_is b o lm nm);
           exif = j1.1.0;
           interop = j2.1.0;
           gps = j3.1.0;
           thumb = j4.1.0;
-          main_stands = me;
-          main_table = c.in_ok-main.ensures.there.1;
-          main_uses = c.in_ok-main.ensures.uses;
+          main_stands = c.main_directory_of-main.ensures.at ∙ me;
+          main_found = main_directory_found b o c.main_directory_of-main.result c.in_ok-main.main
+              c.main_directory_of-main.ensures.at c.main_directory_of-main.ensures.iptc c.in_ok-main.ensures.uses;
           thumb_read = c.in_ok-thumb.ensures.there;
         },
         dirs_end b o taken _ _ s5,
