@@ -201,6 +201,9 @@ def a_changed_or_missing_program_is_noticed(room: Room) -> None:
     (room.top / "out/exifnorm").unlink()
     (room.top / "out/exifnorm").write_text("what another version of this left")
     due(room.call("a").stdout == "one: a\n" and room.builds() == 2, room.log())
+    (room.top / "out/exifnorm").unlink()
+    (room.top / "out/exifnorm").symlink_to(shutil.which("false"))
+    due(room.call("a").stdout == "one: a\n" and room.builds() == 2, room.log())
 
 
 def a_built_program_runs_without_the_toolchain(room: Room) -> None:
