@@ -2,3 +2,4 @@
 pub mod BitLaws
 pub mod MarkLaws
 pub mod RangesApart
+pub mod ClaimedOnce

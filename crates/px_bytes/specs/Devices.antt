@@ -35,6 +35,6 @@ pub record Device : Type 0 where
 abbrev pub over : {W : Type 0} → (W → ℕ) → (W → Option (List ℕ)) → W → W → Device
 over failed bytes old new = record { failed = failed old; failed_now = failed new; old = bytes old; new = bytes new }
 
--- as many bytes were taken as `Writes` says, and a failure is counted
+-- as many bytes were taken as `Writes` states, and a failure is counted
 abbrev pub Sends : {A E : Type 0} → Result A E → Device → List ℕ → Type 0
 Sends result d bytes = Writes result d.old d.new bytes × Counts result d.failed d.failed_now

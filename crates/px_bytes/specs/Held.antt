@@ -1,5 +1,5 @@
 -- The ranges that a block claims: a list of pairs of start and end. No two ranges share a byte.
-use Rattle.std.specs.Prelude.{◌≡◌, ◌⊎◌, ℕ, ◌<◌, ◌≤◌, min, max, List, Some}
+use Rattle.std.specs.Prelude.{◌≡◌, ◌⊎◌, ℕ, ◌<◌, ◌≤◌, ◌+◌, ◌-◌, ◌*◌, ◌/◌, min, max, List, [], ◌∷◌, Some}
 use Rattle.std.specs.Ordering.{nat_cmp}
 use Rattle.std.specs.Map.{lookup}
 use Rattle.std.specs.BTreeMap.{is_at}
@@ -31,3 +31,19 @@ pub record Takes (old new : List (ℕ × ℕ)) (start end : ℕ) : Type 0 where
   pub here : Holds new start end
   pub kept : (s e : ℕ) → Holds old s e → Holds new s e
   pub only : (s e : ℕ) → Holds new s e → ((start ≡ s) × (e ≡ end)) ⊎ Holds old s e
+
+-- ---- how much is claimed
+
+-- the greatest end of a claimed range, 0 without one
+abbrev pub reach : List (ℕ × ℕ) → ℕ
+reach [] = 0
+reach (r ∷ held) = max r.1 (reach held)
+
+-- the number of claimed bytes
+abbrev pub claimed_bytes : List (ℕ × ℕ) → ℕ
+claimed_bytes [] = 0
+claimed_bytes (r ∷ held) = (r.1 - r.0) + claimed_bytes held
+
+-- the bytes of marks for so many bytes of a block: eight for each 64, or a part of 64
+abbrev pub mark_bytes : ℕ → ℕ
+mark_bytes end = 8 * ((end + 63) / 64)

@@ -25,3 +25,7 @@ MayAsk bytes = bytes ≤ 16 * limit
 -- the bytes that count as requested for an entry of a map in addition to key and value: four machine words, for its share of nodes
 abbrev pub entry_links : ℕ
 entry_links = 32
+
+-- a call has requested no more than so many bytes, whether it succeeded or not
+abbrev pub AsksAtMost : ℕ → Taken → Taken → Type 0
+AsksAtMost bytes old new = new.asked ≤ old.asked + bytes

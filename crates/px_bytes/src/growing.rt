@@ -1,13 +1,17 @@
 // A writer into memory.
 ghost use Rattle.std.specs.Prelude.{◌≡◌, ◌<◌, ◌+◌, [], IfOk, IsErr, ◌↔◌};
-ghost use Rattle.px_bytes.specs.Lacking.{Lacks, MayAsk};
+ghost use Rattle.px_bytes.specs.Lacking.{Lacks, MayAsk, AsksAtMost};
+ghost use Rattle.px_bytes.specs.calls.Grown.{grown_bytes};
 
 use crate::devices::{Device, Failed, Sink};
 use crate::memory::{Memory, Refused};
 use std::marker::Model;
 
-/// A writer that appends to a vector. A call fails exactly if the vector's allocation failed. Contracts see
-/// the bytes written and the number of failed calls.
+// The greatest number of bytes that one call takes.
+const CHUNK: usize = 65_536;
+
+/// A writer that appends to a vector. A call takes at most 65,536 bytes, and fails exactly if the vector's
+/// allocation failed. Contracts see the bytes written and the number of failed calls.
 #[derive(Drop)]
 pub struct Growing {
     memory: Memory,
@@ -16,15 +20,17 @@ pub struct Growing {
 }
 
 impl Model for Growing {
-    ghost use Rattle.std.specs.Prelude.{◌≡◌};
-    ghost use Rattle.px_bytes.specs.calls.Grown.{Grown};
+    ghost use Rattle.std.specs.Prelude.{◌≡◌, ◌≤◌, ◌+◌, ◌*◌, length};
+    ghost use Rattle.px_bytes.specs.calls.Grown.{Grown, grown_bytes};
 
     ghost Value = { Grown };
 
     ghost view = { λ g. record { taken = g.taken.items; refusals = g.refusals } };
 
-    // One allocation of its memory has failed for each failed call.
-    ghost invariant = { λ g. g.memory.refusals ≡ g.refusals };
+    // One allocation of its memory has failed for each failed call, and no more was requested than the bytes
+    // written and those of the failed calls.
+    ghost invariant = { λ g. (g.memory.refusals ≡ g.refusals)
+        × (g.memory.asked ≤ grown_bytes (record { taken = g.taken.items; refusals = g.refusals })) };
 }
 
 impl Growing {
@@ -45,6 +51,7 @@ impl Growing {
         requires { MayAsk room }
         ensures none { IfOk result (λ g. g ≡ record { taken = []; refusals = 0 }) }
         ensures memory { Lacks result memory.old memory.new }
+        ensures asked { memory.new.asked ≡ memory.old.asked + room }
     {
         let mut taken = memory.list();
         memory.reserve(&mut taken, room)?;
@@ -60,6 +67,7 @@ impl Growing {
         ensures bytes { IfOk result (λ bytes. bytes.items ≡ self.taken) }
         ensures which { IsErr result ↔ (0 < self.refusals) }
         ensures memory { Lacks result memory.old memory.new }
+        ensures asked { AsksAtMost (grown_bytes self) memory.old memory.new }
     {
         let Growing {
             memory: own,
@@ -85,8 +93,9 @@ impl Sink for Growing {
     ghost bytes_taken = { λ g. Some g.taken };
 
     fn write_some(&mut self, buf: &[u8]) -> Result<usize, Failed> {
-        match self.memory.extend_from_slice(&mut self.taken, buf) {
-            Ok(()) => Ok(buf.len()),
+        let some = &buf[..buf.len().min(CHUNK)];
+        match self.memory.extend_from_slice(&mut self.taken, some) {
+            Ok(()) => Ok(some.len()),
             Err(_) => {
                 self.refusals += 1;
                 Err(Failed)

@@ -1,7 +1,8 @@
 // A bit for each byte of a block: testing and setting the bits of a range.
 ghost use Rattle.std.specs.Prelude.{◌≡◌, ℕ, ◌+◌, ◌*◌, ◌/◌, ◌-◌, ◌^◌, ◌<◌, ◌≤◌, true, false, [], length, get_or, max};
 ghost use Rattle.std.specs.Prelude.{vec_capacity, IfOk, OnOk, OnErr};
-ghost use Rattle.px_bytes.specs.Lacking.{Lacks, MayAsk};
+ghost use Rattle.px_bytes.specs.Lacking.{Lacks, MayAsk, AsksAtMost};
+ghost use Rattle.px_bytes.specs.Held.{mark_bytes};
 ghost use Rattle.px_bytes.specs.calls.Marks.{IsClear, HasOne, SameMarks, Puts};
 
 use crate::memory::{Memory, Refused};
@@ -79,6 +80,7 @@ pub fn with_room(memory: &mut Memory, end: usize) -> Result<Vec<u64>, Refused>
     ensures none { IfOk result (λ words. words.items ≡ []) }
     ensures room { IfOk result (λ words. end ≤ vec_capacity words * 64) }
     ensures memory { Lacks result memory.old memory.new }
+    ensures asked { memory.new.asked ≡ memory.old.asked + mark_bytes end }
 {
     let mut words = memory.list();
     memory.reserve_exact(&mut words, end.div_ceil(WIDTH))?;
@@ -93,6 +95,9 @@ fn reserve(memory: &mut Memory, words: &mut Vec<u64>, end: usize) -> Result<(), 
     ensures most { length words.new.items * 64 < max (length words.old.items * 64) end + 64 }
     ensures err { OnErr result (words.new.items ≡ words.old.items) }
     ensures memory { Lacks result memory.old memory.new }
+    ensures len { OnOk result (length words.new.items ≡ max (length words.old.items) ((end + 63) / 64)) }
+    ensures asked { OnOk result (memory.new.asked + 8 * length words.old.items ≡ memory.old.asked + 8 * length words.new.items) }
+    ensures refused { OnErr result (AsksAtMost (mark_bytes end) memory.old memory.new) }
 {
     let len = end.div_ceil(WIDTH);
     if len <= words.len() {
@@ -162,6 +167,9 @@ fn put_far(
     ensures err { OnErr result (words.new.items ≡ words.old.items) }
     ensures needed { OnErr result (IsClear words.old.items start end) }
     ensures memory { Lacks result memory.old memory.new }
+    ensures len { IfOk result (λ free. free ≡ true → length words.new.items ≡ max (length words.old.items) ((end + 63) / 64)) }
+    ensures asked { OnOk result (memory.new.asked + 8 * length words.old.items ≡ memory.old.asked + 8 * length words.new.items) }
+    ensures refused { OnErr result (AsksAtMost (mark_bytes end) memory.old memory.new) }
 {
     if !are_clear(words, start, end) {
         return Ok(false);
@@ -208,6 +216,9 @@ pub fn put(
     ensures err { OnErr result (words.new.items ≡ words.old.items) }
     ensures needed { OnErr result (IsClear words.old.items start end) }
     ensures memory { Lacks result memory.old memory.new }
+    ensures len { IfOk result (λ free. free ≡ true → length words.new.items ≡ max (length words.old.items) ((end + 63) / 64)) }
+    ensures asked { OnOk result (memory.new.asked + 8 * length words.old.items ≡ memory.old.asked + 8 * length words.new.items) }
+    ensures refused { OnErr result (AsksAtMost (mark_bytes end) memory.old memory.new) }
 {
     let at = start / WIDTH;
     let last = (end - 1) / WIDTH;

@@ -250,9 +250,10 @@ impl Memory {
         ensures len { vec_len list.new ≡ (if is_ok result then n else vec_len list.old) }
         ensures full { OnErr result (vec_capacity list.old < n) }
         ensures memory { Lacks result self.old self.new }
-        ensures asked { self.new.asked ≡ self.old.asked + n * type_size T.row }
+        ensures asked { self.new.asked ≡ self.old.asked + (n - vec_len list.old) * type_size T.row }
     {
-        self.ask(1, n * size_of::<T>());
+        let more = n.saturating_sub(list.len());
+        self.ask(1, more * size_of::<T>());
         match list.resize(n, x) {
             Ok(()) => Ok(()),
             Err(_) => Err(self.refuse()),

@@ -60,24 +60,24 @@ enum {
 /* The causes of a refusal, in the order of docs/FORMAT.md. */
 enum {
     EXIFNORM_CAUSE_TOO_LONG = 1,           /* the block is longer than EXIFNORM_LIMIT */
-    EXIFNORM_CAUSE_UNKNOWN_KIND = 2,       /* it is empty, or does not begin like a block */
-    EXIFNORM_CAUSE_HEADER_CUT = 3,         /* it ends inside the header */
-    EXIFNORM_CAUSE_LOOP = 4,               /* an offset leads to a directory that was already read */
-    EXIFNORM_CAUSE_DIRECTORY_OUTSIDE = 5,  /* a directory's table passes the end */
+    EXIFNORM_CAUSE_UNKNOWN_KIND = 2,       /* the block is empty, or its first bytes begin neither a TIFF header nor a DataSet */
+    EXIFNORM_CAUSE_HEADER_CUT = 3,         /* the header has fewer than eight bytes */
+    EXIFNORM_CAUSE_LOOP = 4,               /* a pointer leads to a directory that was read before */
+    EXIFNORM_CAUSE_DIRECTORY_OUTSIDE = 5,  /* a directory's count of entries or its table passes the block's end */
     EXIFNORM_CAUSE_EMPTY_DIRECTORY = 6,    /* a directory has no entry */
     EXIFNORM_CAUSE_OVERLAP = 7,            /* two ranges share a byte */
-    EXIFNORM_CAUSE_UNSORTED = 8,           /* a tag is below the one before it */
-    EXIFNORM_CAUSE_DOUBLED = 9,            /* a tag equals the one before it */
-    EXIFNORM_CAUSE_UNKNOWN_TYPE = 10,      /* an entry has a type that isn't known */
-    EXIFNORM_CAUSE_MISPLACED_OFFSET = 11,  /* a tag for offsets that aren't followed in this directory */
-    EXIFNORM_CAUSE_POINTER_FORM = 12,      /* a pointer or a thumbnail part has a wrong type or count */
-    EXIFNORM_CAUSE_VALUE_OUTSIDE = 13,     /* a value passes the end */
-    EXIFNORM_CAUSE_THUMBNAIL_PAIR = 14,    /* one entry of a thumbnail's pair is missing, or the counts differ */
-    EXIFNORM_CAUSE_EXTRA_DIRECTORY = 15,   /* a directory follows that of the thumbnail */
-    EXIFNORM_CAUSE_THUMBNAIL_OUTSIDE = 16, /* a thumbnail's picture or strip passes the end */
-    EXIFNORM_CAUSE_NO_MARKER = 17,         /* no 1C where a DataSet must begin */
-    EXIFNORM_CAUSE_LENGTH_FORM = 18,       /* an extended count has no octets, or more than four */
-    EXIFNORM_CAUSE_DATASET_CUT = 19        /* a DataSet passes the end */
+    EXIFNORM_CAUSE_UNSORTED = 8,           /* a tag is less than the one before it */
+    EXIFNORM_CAUSE_DOUBLED = 9,            /* a tag is equal to the one before it */
+    EXIFNORM_CAUSE_UNKNOWN_TYPE = 10,      /* the type is not a known one */
+    EXIFNORM_CAUSE_MISPLACED_OFFSET = 11,  /* a tag contains offsets that this directory doesn't follow */
+    EXIFNORM_CAUSE_POINTER_FORM = 12,      /* a pointer or an entry of the thumbnail doesn't have the expected type or count */
+    EXIFNORM_CAUSE_VALUE_OUTSIDE = 13,     /* a value passes the block's end */
+    EXIFNORM_CAUSE_THUMBNAIL_PAIR = 14,    /* one entry of a thumbnail's pair is missing, or their counts differ */
+    EXIFNORM_CAUSE_EXTRA_DIRECTORY = 15,   /* the thumbnail directory has a next directory */
+    EXIFNORM_CAUSE_THUMBNAIL_OUTSIDE = 16, /* a thumbnail's picture or strip passes the block's end */
+    EXIFNORM_CAUSE_NO_MARKER = 17,         /* a DataSet doesn't begin with the tag marker */
+    EXIFNORM_CAUSE_LENGTH_FORM = 18,       /* an extended DataSet's length has no bytes or more than four */
+    EXIFNORM_CAUSE_DATASET_CUT = 19        /* a DataSet passes the block's end */
 };
 
 /* Why a block is refused: its first fault. */

@@ -2,7 +2,7 @@
 use Rattle.std.specs.Prelude.{◌≡◌, ◌≤◌, ◌==◌, ℕ, List, [], ◌∷◌, ◌++◌, Some}
 use Rattle.px_bytes.specs.declared.Cause.{Cause}
 use Rattle.px_bytes.specs.Causes.{cause_of}
-use Rattle.px_engine.specs.declared.given.Given.{Given}
+use Rattle.px_engine.specs.declared.forms.Given.{Given}
 use Rattle.px_engine.specs.declared.kinds.BlockKind.{BlockKind}
 use Rattle.px_engine.specs.Files.{Said}
 use Rattle.px_engine.specs.Hand.{IsKindOf, SaysSame, IsPut}

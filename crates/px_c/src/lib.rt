@@ -12,7 +12,7 @@
 
 ghost use Rattle.std.specs.Prelude.{◌≡◌, ◌≢◌, ◌⊎◌};
 ghost use Rattle.px_engine.specs.declared.faults.Fault.TheVariants.{NormalTooLong};
-ghost use Rattle.px_engine.specs.declared.given.Given.TheVariants.{Whole, Needs};
+ghost use Rattle.px_engine.specs.declared.forms.Given.TheVariants.{Whole, Needs};
 ghost use Rattle.px_engine.specs.Files.{Said};
 ghost use Rattle.px_engine.specs.Hand.{PutsForm, IsUnwritten};
 ghost use Rattle.px_engine.specs.Input.{IsSaid};

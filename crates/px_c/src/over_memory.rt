@@ -1,7 +1,9 @@
 // The calls over memory. Each returns `NO_MEMORY` exactly if an allocation failed in that call.
-ghost use Rattle.std.specs.Prelude.{◌≡◌, ◌≢◌, ◌⊎◌, ◌+◌, true};
+ghost use Rattle.std.specs.Prelude.{◌≡◌, ◌≢◌, ◌⊎◌, ◌+◌, length, true};
+ghost use Rattle.px_bytes.specs.Lacking.{AsksAtMost};
+ghost use Rattle.px_engine.specs.Asking.{block_request, AsksForText};
 ghost use Rattle.px_engine.specs.declared.faults.Fault.TheVariants.{NormalTooLong};
-ghost use Rattle.px_engine.specs.declared.given.Given.TheVariants.{Whole, Needs};
+ghost use Rattle.px_engine.specs.declared.forms.Given.TheVariants.{Whole, Needs};
 ghost use Rattle.px_engine.specs.Files.{Said};
 ghost use Rattle.px_engine.specs.Hand.{PutsForm, IsUnwritten};
 ghost use Rattle.px_engine.specs.Input.{IsSaid};
@@ -28,6 +30,7 @@ pub(crate) fn check_in(
     ensures fault { result ≢ REFUSED → fault.new ≡ fault.old }
     ensures lacking { result ≡ NO_MEMORY → memory.new.refusals ≡ memory.old.refusals + 1 }
     ensures memory { result ≢ NO_MEMORY → memory.new.refusals ≡ memory.old.refusals }
+    ensures asked { AsksAtMost (block_request (length file.now)) memory.old memory.new }
 {
     match px_engine::check_of_in(memory, file) {
         Ok(BlockKind::Exif) => {
@@ -42,7 +45,10 @@ pub(crate) fn check_in(
             *fault = told(cause, place);
             REFUSED
         }
-        Err(_) => NO_MEMORY,
+        Err(Fault::OutOfMemory) => NO_MEMORY,
+        Err(Fault::NormalTooLong) => unreachable!(),
+        Err(Fault::ReadFailed) => unreachable!(),
+        Err(Fault::WriteFailed) => unreachable!(),
     }
 }
 
@@ -64,6 +70,7 @@ pub(crate) fn normalise_in(
     ensures fault { result ≢ REFUSED → fault.new ≡ fault.old }
     ensures lacking { result ≡ NO_MEMORY → memory.new.refusals ≡ memory.old.refusals + 1 }
     ensures memory { result ≢ NO_MEMORY → memory.new.refusals ≡ memory.old.refusals }
+    ensures asked { AsksAtMost (block_request (length file.now)) memory.old memory.new }
 {
     match px_engine::put_form_in(memory, file, out) {
         Ok(Given::Whole(len)) => {
@@ -101,6 +108,7 @@ pub(crate) fn compare_in(
     ensures fault { result ≢ REFUSED → result ≢ SECOND_REFUSED → fault.new ≡ fault.old }
     ensures lacking { result ≡ NO_MEMORY → memory.new.refusals ≡ memory.old.refusals + 1 }
     ensures memory { result ≢ NO_MEMORY → memory.new.refusals ≡ memory.old.refusals }
+    ensures asked { AsksAtMost (block_request (length first.now) + block_request (length second.now)) memory.old memory.new }
 {
     match px_engine::same_of_in(memory, first, second) {
         Ok(true) => {
@@ -120,7 +128,10 @@ pub(crate) fn compare_in(
                 *fault = told(cause, place);
                 SECOND_REFUSED
             }
-            _ => NO_MEMORY,
+            (_, Fault::OutOfMemory) => NO_MEMORY,
+            (_, Fault::NormalTooLong) => unreachable!(),
+            (_, Fault::ReadFailed) => unreachable!(),
+            (_, Fault::WriteFailed) => unreachable!(),
         },
     }
 }
@@ -142,6 +153,7 @@ pub(crate) fn show_in(
     ensures fault { result ≢ REFUSED → fault.new ≡ fault.old }
     ensures lacking { result ≡ NO_MEMORY → memory.new.refusals ≡ memory.old.refusals + 1 }
     ensures memory { result ≢ NO_MEMORY → memory.new.refusals ≡ memory.old.refusals }
+    ensures asked { AsksForText listing file.now memory.old memory.new }
 {
     match px_engine::show_of_in(memory, file) {
         Ok(text) => give(&text, out, written),
@@ -149,7 +161,10 @@ pub(crate) fn show_in(
             *fault = told(cause, place);
             REFUSED
         }
-        Err(_) => NO_MEMORY,
+        Err(Fault::OutOfMemory) => NO_MEMORY,
+        Err(Fault::NormalTooLong) => unreachable!(),
+        Err(Fault::ReadFailed) => unreachable!(),
+        Err(Fault::WriteFailed) => unreachable!(),
     }
 }
 
@@ -170,6 +185,7 @@ pub(crate) fn captions_in(
     ensures fault { result ≢ REFUSED → fault.new ≡ fault.old }
     ensures lacking { result ≡ NO_MEMORY → memory.new.refusals ≡ memory.old.refusals + 1 }
     ensures memory { result ≢ NO_MEMORY → memory.new.refusals ≡ memory.old.refusals }
+    ensures asked { AsksForText caption_text file.now memory.old memory.new }
 {
     match px_engine::captions_text_in(memory, file) {
         Ok(text) => give(&text, out, written),
@@ -177,6 +193,9 @@ pub(crate) fn captions_in(
             *fault = told(cause, place);
             REFUSED
         }
-        Err(_) => NO_MEMORY,
+        Err(Fault::OutOfMemory) => NO_MEMORY,
+        Err(Fault::NormalTooLong) => unreachable!(),
+        Err(Fault::ReadFailed) => unreachable!(),
+        Err(Fault::WriteFailed) => unreachable!(),
     }
 }

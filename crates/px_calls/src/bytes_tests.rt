@@ -7,14 +7,14 @@ use px_bytes::{
 use std::test::Fail;
 
 #[test]
-fn a_range_is_held(rt: HostRuntime) {
+fn a_range_is_claimed(rt: HostRuntime) {
     let mut held = Ranges::new(rt.alloc());
     assert_eq!(rt; held.add(0, 8).ok(), Some(true));
     assert_eq!(rt; held.add(7, 1).ok(), Some(false));
 }
 
 #[test]
-fn refusals_say_what_they_are(rt: HostRuntime) -> Result<(), Fail> {
+fn refusals_print_what_they_are(rt: HostRuntime) -> Result<(), Fail> {
     let content = Cause::Loop.at(22);
     let text = format!(in rt.alloc();
         "{content}, {}, {}, {}, {}",
@@ -45,7 +45,7 @@ fn a_write_of_no_byte_passes(rt: HostRuntime) {
 }
 
 #[test]
-fn a_writer_with_room_grows(rt: HostRuntime) -> Result<(), Fail> {
+fn a_writer_with_capacity_grows(rt: HostRuntime) -> Result<(), Fail> {
     let mut memory = Memory::new(rt.alloc());
     let mut writer = Growing::with_room_in(&mut memory, 2)?;
     assert_eq!(rt; writer.write_some(b"II"), Ok(2));

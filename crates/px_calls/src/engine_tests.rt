@@ -27,7 +27,7 @@ fn two_files_are_normalised(rt: HostRuntime) -> Result<(), Fail> {
 }
 
 #[test]
-fn captions_are_told_by_their_labels(rt: HostRuntime) -> Result<(), Fail> {
+fn captions_are_listed_by_their_labels(rt: HostRuntime) -> Result<(), Fail> {
     let said = read_any(rt.alloc(), LABELLED).ok().ok_or("refused")?;
     let captions = captions_of(rt.alloc(), &said)?;
     assert!(rt; captions.utf8());
@@ -47,28 +47,28 @@ fn check_flushed(rt: &impl Abort, fault: Option<Fault>, writer: Watched<KeepsBac
 }
 
 #[test]
-fn a_flush_stands_behind_the_form_of_an_exif_block(rt: HostRuntime) {
+fn a_flush_follows_the_form_of_an_exif_block(rt: HostRuntime) {
     let mut writer = Watched::new(KeepsBack::new());
     let fault = normalise(rt.alloc(), &mut Watched::new(EXIF), &mut writer).err();
     check_flushed(&rt, fault, writer, 26);
 }
 
 #[test]
-fn a_flush_stands_behind_the_form_of_a_record(rt: HostRuntime) {
+fn a_flush_follows_the_form_of_a_record(rt: HostRuntime) {
     let mut writer = Watched::new(KeepsBack::new());
     let fault = normalise(rt.alloc(), &mut Watched::new(IIM), &mut writer).err();
     check_flushed(&rt, fault, writer, 8);
 }
 
 #[test]
-fn a_flush_stands_behind_a_listing(rt: HostRuntime) {
+fn a_flush_follows_a_listing(rt: HostRuntime) {
     let mut writer = Watched::new(KeepsBack::new());
     let fault = show(rt.alloc(), &mut Watched::new(IIM), &mut writer).err();
     check_flushed(&rt, fault, writer, 20);
 }
 
 #[test]
-fn a_flush_stands_behind_captions(rt: HostRuntime) {
+fn a_flush_follows_captions(rt: HostRuntime) {
     let mut writer = Watched::new(KeepsBack::new());
     let fault = captions(rt.alloc(), &mut Watched::new(IIM), &mut writer).err();
     check_flushed(&rt, fault, writer, 39);

@@ -17,7 +17,7 @@ fn check_kept_back(rt: &impl Abort, status: u8, lines: Watched<KeepsBack>, bytes
 }
 
 #[test]
-fn a_flush_stands_behind_the_line_of_a_kind(rt: HostRuntime) {
+fn a_flush_follows_the_line_of_a_kind(rt: HostRuntime) {
     let mut memory = Memory::new(rt.alloc());
     let mut lines = Watched::new(KeepsBack::new());
     let (mut reader, mut out) = (Watched::new(CAPTION), Watched::new(io::sink()));
@@ -26,7 +26,7 @@ fn a_flush_stands_behind_the_line_of_a_kind(rt: HostRuntime) {
 }
 
 #[test]
-fn a_flush_stands_behind_the_line_of_a_fault(rt: HostRuntime) {
+fn a_flush_follows_the_line_of_a_fault(rt: HostRuntime) {
     let mut memory = Memory::new(rt.alloc());
     let mut lines = Watched::new(KeepsBack::new());
     let (mut first, mut second) = (Watched::new(CAPTION), Watched::new(b"".as_slice()));
@@ -35,7 +35,7 @@ fn a_flush_stands_behind_the_line_of_a_fault(rt: HostRuntime) {
 }
 
 #[test]
-fn a_flush_stands_behind_a_text(rt: HostRuntime) {
+fn a_flush_follows_a_text(rt: HostRuntime) {
     let mut lines = Watched::new(KeepsBack::new());
     let status = say_text(&mut lines, "OUT is FILE", 3);
     check_kept_back(&rt, status, lines, 12);

@@ -61,14 +61,14 @@ fn laid(alloc: Global, at: u32, order: Order) -> Result<Option<Vec<u8>>, AllocEr
 }
 
 #[test]
-fn a_text_may_stand_at_an_odd_place(rt: HostRuntime) -> Result<(), Fail> {
+fn a_text_may_be_at_an_odd_offset(rt: HostRuntime) -> Result<(), Fail> {
     let block = laid(rt.alloc(), 27, Order::Most)?;
     assert!(rt; block.is_some_and(|block| block.as_slice() == ONE_TEXT));
     Ok(())
 }
 
 #[test]
-fn a_text_may_stand_there_in_the_other_order(rt: HostRuntime) -> Result<(), Fail> {
+fn a_text_may_be_there_in_the_other_order(rt: HostRuntime) -> Result<(), Fail> {
     let block = laid(rt.alloc(), 27, Order::Least)?;
     assert!(rt; block.is_some_and(|block| block.as_slice() == ONE_TEXT_LEAST));
     Ok(())

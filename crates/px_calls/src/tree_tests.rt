@@ -13,7 +13,7 @@ fn a_tag_is_put_once(rt: HostRuntime) {
 }
 
 #[test]
-fn fields_stand_by_ascending_tag(rt: HostRuntime) {
+fn fields_are_in_ascending_order(rt: HostRuntime) {
     let mut fields = Fields::new(rt.alloc());
     assert!(rt; fields.put(0x0112, one()).is_ok());
     assert!(rt; fields.put(0x0100, one()).is_ok());

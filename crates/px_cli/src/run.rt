@@ -30,7 +30,7 @@ pub fn run_words<'a, S: AsStr, R: Input + Print + AllocGlobal, O: Opens, L: Sink
 ) -> u8
     requires { CanFail (L.failed lines.old) }
     ensures { Answers (O.gives files.now) (O.lacks files.now) (O.is_read files.now) (map S.text words.entry.now)
-        memory.old.refusals memory.new.refusals result (over L.failed L.bytes_taken lines.old lines.new) }
+        memory.old memory.new result (over L.failed L.bytes_taken lines.old lines.new) }
 {
     let asked = parse(memory, rt.alloc(), words, VERSION);
     run_asked(rt, files, memory, asked, lines)
@@ -46,7 +46,7 @@ fn run_asked<R: Input + Print, O: Opens, L: Sink>(
 ) -> u8
     requires { CanFail (L.failed lines.old) }
     ensures { EndsWords (O.gives files.now) (O.lacks files.now) (O.is_read files.now) asked
-        memory.old.refusals memory.new.refusals result (over L.failed L.bytes_taken lines.old lines.new) }
+        memory.old memory.new result (over L.failed L.bytes_taken lines.old lines.new) }
 {
     match asked {
         Words::Filter => run_filter(rt, memory, lines),
@@ -86,7 +86,7 @@ fn run_job<F: Source + Drop, O: Sink + Drop, L: Sink>(
     requires writing { CanFail (O.failed out) }
     requires telling { CanFail (L.failed lines.old) }
     ensures { EndsJob job (F.bytes_left reader)
-        memory.old.refusals memory.new.refusals result (over L.failed L.bytes_taken lines.old lines.new) }
+        memory.old memory.new result (over L.failed L.bytes_taken lines.old lines.new) }
 {
     run_one_in(memory, job, &mut reader, &mut out, lines)
 }
@@ -102,7 +102,7 @@ fn run_pair<F: Source + Drop, S: Source + Drop, L: Sink>(
     requires second { S.failed second ≡ 0 }
     requires telling { CanFail (L.failed lines.old) }
     ensures { EndsPair (F.bytes_left first) (S.bytes_left second)
-        memory.old.refusals memory.new.refusals result (over L.failed L.bytes_taken lines.old lines.new) }
+        memory.old memory.new result (over L.failed L.bytes_taken lines.old lines.new) }
 {
     run_compare_in(memory, &mut first, &mut second, lines)
 }
@@ -111,7 +111,7 @@ fn run_pair<F: Source + Drop, S: Source + Drop, L: Sink>(
 fn run_filter<R: Input + Print, L: Sink>(rt: &R, memory: &mut Memory, lines: &mut L) -> u8
     requires { CanFail (L.failed lines.old) }
     ensures { EndsFilter
-        memory.old.refusals memory.new.refusals result (over L.failed L.bytes_taken lines.old lines.new) }
+        memory.old memory.new result (over L.failed L.bytes_taken lines.old lines.new) }
 {
     let reader = Watched::new(rt.reader());
     let out = Watched::new(io::writer(rt));
@@ -128,7 +128,7 @@ fn run_file<O: Opens, L: Sink>(
 ) -> u8
     requires { CanFail (L.failed lines.old) }
     ensures { EndsFile (job_of what) (O.gives files.now name.now) (O.lacks files.now name.now)
-        memory.old.refusals memory.new.refusals result (over L.failed L.bytes_taken lines.old lines.new) }
+        memory.old memory.new result (over L.failed L.bytes_taken lines.old lines.new) }
 {
     match files.open(name) {
         Ok(file) => {
@@ -149,7 +149,7 @@ fn run_beside<O: Opens, L: Sink>(
 ) -> u8
     requires { CanFail (L.failed lines.old) }
     ensures { EndsBeside (O.Reader.remaining file) (O.lacks files.now out_name.now) (O.is_read files.now out_name.now)
-        memory.old.refusals memory.new.refusals result (over L.failed L.bytes_taken lines.old lines.new) }
+        memory.old memory.new result (over L.failed L.bytes_taken lines.old lines.new) }
 {
     match files.make_beside(out_name, &file) {
         Ok(Some(out)) => {
@@ -172,7 +172,7 @@ fn run_form<O: Opens, L: Sink>(
     requires { CanFail (L.failed lines.old) }
     ensures { EndsForm (O.gives files.now name.now) (O.lacks files.now name.now) (O.lacks files.now out_name.now)
         (O.is_read files.now out_name.now)
-        memory.old.refusals memory.new.refusals result (over L.failed L.bytes_taken lines.old lines.new) }
+        memory.old memory.new result (over L.failed L.bytes_taken lines.old lines.new) }
 {
     match files.open(name) {
         Ok(file) => run_beside(files, memory, file, out_name, lines),
@@ -191,7 +191,7 @@ fn run_files<O: Opens, L: Sink>(
     requires { CanFail (L.failed lines.old) }
     ensures { EndsFiles (O.gives files.now first.now) (O.lacks files.now first.now) (O.gives files.now second.now)
         (O.lacks files.now second.now)
-        memory.old.refusals memory.new.refusals result (over L.failed L.bytes_taken lines.old lines.new) }
+        memory.old memory.new result (over L.failed L.bytes_taken lines.old lines.new) }
 {
     let first = match files.open(first) {
         Ok(first) => Watched::new(first),

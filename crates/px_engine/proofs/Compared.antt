@@ -7,7 +7,7 @@ use Rattle.px_engine.specs.declared.faults.Fault.TheVariants.{Refused, NormalToo
 use Rattle.px_engine.specs.declared.faults.Side.TheVariants.{First}
 use Rattle.px_engine.specs.declared.faults.CompareFault.{CompareFault}
 use Rattle.px_engine.specs.Files.{Said}
-use Rattle.px_engine.specs.Input.{IsSaid, IsUnsaid, OnSide, LacksPairBy, CountsFault}
+use Rattle.px_engine.specs.Input.{most_read, IsSaid, IsUnsaid, OnSide, LacksPairBy, CountsFault}
 use Rattle.px_engine.specs.Runs.{KnownSaid, Stops, Compares, Untouched, CountsSides}
 use Rattle.px_engine.specs.Hand.{SaysSame, IsUnsaidAt}
 use Rattle.px_engine.specs.calls.Second.{ComparesSecond, CountsSecond, SaysSecond}
@@ -44,7 +44,7 @@ lacks_compared r first mid last e h = subst (λ z. LacksPairBy r z last) e h
 -- ---- the second file, read into memory and then judged
 
 pub second_read : (r : Result Bool CompareFault) (s : Said) (left left_now : Option (List ℕ)) (bytes : List ℕ) (lacking : ℕ)
-    → ReadsUpTo left left_now 16777223 bytes → SaysSecond r s bytes lacking → ComparesSecond r s left
+    → ReadsUpTo left left_now most_read bytes → SaysSecond r s bytes lacking → ComparesSecond r s left
 second_read (Ok same) s left left_now bytes lacking x h = (h.0, known_said left left_now bytes h.0 x h.1, h.2)
 second_read (Err e) s left left_now bytes lacking x h = (h.0, known_stops left left_now bytes lacking e.fault x h.1)
 

@@ -9,7 +9,7 @@ use Rattle.px_engine.specs.declared.faults.Side.TheVariants.{First}
 use Rattle.px_engine.specs.declared.faults.CompareFault.{CompareFault}
 use Rattle.px_engine.specs.declared.kinds.BlockKind.{BlockKind}
 use Rattle.px_engine.specs.Files.{Said, normal, block_of}
-use Rattle.px_engine.specs.Input.{LacksFault, LacksRunBy, IsSaid, IsUnsaid, OnSide}
+use Rattle.px_engine.specs.Input.{most_read, LacksFault, LacksRunBy, IsSaid, IsUnsaid, OnSide}
 use Rattle.px_engine.specs.Runs.{KnownSaid, Stops, Checks, Normalises, Compares}
 use Rattle.px_engine.specs.Hand.{IsKindOf, IsFormOf, IsUnwritten}
 use Rattle.px_engine.specs.calls.Ends.{IsUnformed, WritesSaid}
@@ -22,7 +22,7 @@ long_normal_of_half (Some f) s h l = let b = h.bounded in omega arith
 
 pub writes_said_normalises : (r : Result ℕ Fault) (left left_now : Option (List ℕ)) (bytes : List ℕ) (s : Said) (old new : Option (List ℕ))
     (a b : ℕ) →
-    ReadsUpTo left left_now 16777223 bytes → IsSaid bytes s → WritesSaid r old new a b s → Normalises r left old new
+    ReadsUpTo left left_now most_read bytes → IsSaid bytes s → WritesSaid r old new a b s → Normalises r left old new
 writes_said_normalises (Ok n) left left_now bytes s old new a b x h w = (s, known_said left left_now bytes s x h, w.0, w.1, w.2)
 writes_said_normalises (Err NormalTooLong) left left_now bytes s old new a b x h w =
     let k = known_said left left_now bytes s x h in (s, k, w.0, long_normal_of_half left s k w.0, w.1)
@@ -47,7 +47,7 @@ lacks_later fault first mid last q h = subst (λ z. LacksFault fault z last) q h
 
 -- the bytes that were read have no meaning
 pub not_normalised : (fault : Fault) (left left_now : Option (List ℕ)) (bytes : List ℕ) (lacking : ℕ) (old : Option (List ℕ)) →
-    ReadsUpTo left left_now 16777223 bytes → IsUnsaid bytes lacking fault → Normalises (Err fault) left old old
+    ReadsUpTo left left_now most_read bytes → IsUnsaid bytes lacking fault → Normalises (Err fault) left old old
 not_normalised (Refused cause place) left left_now bytes lacking old x h =
     (known_stops left left_now bytes lacking (Refused cause place) x h, refl)
 not_normalised OutOfMemory left left_now bytes lacking old x h = (tt, refl)
@@ -56,7 +56,7 @@ not_normalised NormalTooLong left left_now bytes lacking old x h = absurd h
 not_normalised WriteFailed left left_now bytes lacking old x h = absurd h
 
 pub kind_of_checks : (r : Result BlockKind Fault) (left left_now : Option (List ℕ)) (bytes : List ℕ) (lacking : ℕ)
-    → ReadsUpTo left left_now 16777223 bytes
+    → ReadsUpTo left left_now most_read bytes
     → IfOk r (IsKindOf bytes) → IfErr r (IsUnsaid bytes lacking) → Checks r left
 kind_of_checks (Ok kind) left left_now bytes lacking x h k = (h.0, known_said left left_now bytes h.0 x h.1, h.2)
 kind_of_checks (Err fault) left left_now bytes lacking x h k = known_stops left left_now bytes lacking fault x k

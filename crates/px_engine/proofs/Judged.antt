@@ -15,7 +15,7 @@ use Rattle.px_engine.specs.declared.kinds.BlockKind.TheVariants as kind
 use Rattle.px_engine.specs.Files.{Said, Iim, FirstIn}
 use Rattle.px_engine.specs.declared.faults.Fault.{Fault}
 use Rattle.px_engine.specs.declared.faults.Fault.TheVariants.{Refused, NormalTooLong, OutOfMemory, ReadFailed, WriteFailed}
-use Rattle.px_engine.specs.Input.{IsSaidIn, IsFaultyIn, IsSaid, IsFaulty, IsRefused, IsUnsaid, IsReadFault, LacksFault}
+use Rattle.px_engine.specs.Input.{most_read, IsSaidIn, IsFaultyIn, IsSaid, IsFaulty, IsRefused, IsUnsaid, IsReadFault, LacksFault}
 use Rattle.px_engine.specs.Runs.{KnownSaid, Stops}
 use Rattle.px_engine.specs.calls.Faults.{refused}
 use Rattle.px_engine.specs.lemmas.FileLaws as file
@@ -62,12 +62,12 @@ lacks_refused refusal.OutOfMemory fault old new q h = subst (λ z. LacksFault z 
 
 -- ---- the bytes of a reader
 
-pub known_said : (old new : Option (List ℕ)) (bytes : List ℕ) (s : Said) → ReadsUpTo old new 16777223 bytes → IsSaid bytes s
+pub known_said : (old new : Option (List ℕ)) (bytes : List ℕ) (s : Said) → ReadsUpTo old new most_read bytes → IsSaid bytes s
     → KnownSaid old s
 known_said None new bytes s r h = tt
 known_said (Some f) new bytes s r h = whole_said f s (subst (λ z. IsSaid z s) r.0 h)
 
-pub known_stops : (old new : Option (List ℕ)) (bytes : List ℕ) (lacking : ℕ) (fault : Fault) → ReadsUpTo old new 16777223 bytes
+pub known_stops : (old new : Option (List ℕ)) (bytes : List ℕ) (lacking : ℕ) (fault : Fault) → ReadsUpTo old new most_read bytes
     → IsUnsaid bytes lacking fault → Stops fault old
 known_stops None new bytes lacking (Refused cause place) r h = (h.bounded, tt)
 known_stops (Some f) new bytes lacking (Refused cause place) r h =
@@ -84,13 +84,13 @@ read_fails ReadFailed old h = tt
 read_fails NormalTooLong old h = absurd h
 read_fails WriteFailed old h = absurd h
 
-pub consumes_most : (old new : Option (List ℕ)) (bytes : List ℕ) → ReadsUpTo old new 16777223 bytes → ConsumesAtMost old new 16777223
+pub consumes_most : (old new : Option (List ℕ)) (bytes : List ℕ) → ReadsUpTo old new most_read bytes → ConsumesAtMost old new most_read
 consumes_most None new bytes r = tt
-consumes_most (Some f) new bytes r = (16777223, omega arith, r.1)
+consumes_most (Some f) new bytes r = (most_read, omega arith, r.1)
 
-pub consumes_none : (old : Option (List ℕ)) → ConsumesAtMost old old 16777223
+pub consumes_none : (old : Option (List ℕ)) → ConsumesAtMost old old most_read
 consumes_none None = tt
 consumes_none (Some f) = (0, omega arith, refl)
 
-pub read_as : (old new : Option (List ℕ)) (xs ys : List ℕ) → ys ≡ xs → ReadsUpTo old new 16777223 xs → ReadsUpTo old new 16777223 ys
-read_as old new xs ys e r = subst (λ z. ReadsUpTo old new 16777223 z) (sym e) r
+pub read_as : (old new : Option (List ℕ)) (xs ys : List ℕ) → ys ≡ xs → ReadsUpTo old new most_read xs → ReadsUpTo old new most_read ys
+read_as old new xs ys e r = subst (λ z. ReadsUpTo old new most_read z) (sym e) r

@@ -4,3 +4,4 @@ pub mod Compared
 pub mod Told
 pub mod Printed
 pub mod Room
+pub mod Asked

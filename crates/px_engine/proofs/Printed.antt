@@ -7,7 +7,7 @@ use Rattle.px_bytes.specs.lemmas.WaitingLaws.{from_none, owed_all, owed_prefix}
 use Rattle.px_engine.specs.declared.faults.Fault.{Fault}
 use Rattle.px_engine.specs.declared.faults.Fault.TheVariants.{Refused, NormalTooLong, OutOfMemory, ReadFailed, WriteFailed}
 use Rattle.px_engine.specs.Files.{Said}
-use Rattle.px_engine.specs.Input.{IsSaid, IsUnsaid, LacksRunBy}
+use Rattle.px_engine.specs.Input.{most_read, IsSaid, IsUnsaid, LacksRunBy}
 use Rattle.px_engine.specs.Prints.{Prints}
 use Rattle.px_engine.specs.calls.Ends.{WritesText}
 use Rattle.px_engine.specs.calls.Faults.{told}
@@ -30,7 +30,7 @@ told_text (Err x) t old new a b out e w n = subst (λ z. WritesText z old new a 
 pub writes_text_prints : {A : Type 0} (text : Said → List ℕ) (r : Result A Fault) (left left_now : Option (List ℕ)) (bytes : List ℕ)
     (s : Said)
     (old new : Option (List ℕ)) (a b : ℕ)
-    → ReadsUpTo left left_now 16777223 bytes → IsSaid bytes s → WritesText r old new a b (text s) → Prints text r left old new
+    → ReadsUpTo left left_now most_read bytes → IsSaid bytes s → WritesText r old new a b (text s) → Prints text r left old new
 writes_text_prints text (Ok x) left left_now bytes s old new a b read h w = (s, known_said left left_now bytes s read h, w.0)
 writes_text_prints text (Err WriteFailed) left left_now bytes s old new a b read h w = (s, known_said left left_now bytes s read h, w.0)
 writes_text_prints text (Err (Refused cause place)) left left_now bytes s old new a b read h w = absurd w
@@ -41,7 +41,7 @@ writes_text_prints text (Err NormalTooLong) left left_now bytes s old new a b re
 -- the bytes that were read have no meaning
 pub not_printed : (A : Type 0) (text : Said → List ℕ) (fault : Fault) (left left_now : Option (List ℕ)) (bytes : List ℕ) (lacking : ℕ)
     (old : Option (List ℕ))
-    → ReadsUpTo left left_now 16777223 bytes → IsUnsaid bytes lacking fault → Prints {A = A} text (Err fault) left old old
+    → ReadsUpTo left left_now most_read bytes → IsUnsaid bytes lacking fault → Prints {A = A} text (Err fault) left old old
 not_printed A text (Refused cause place) left left_now bytes lacking old x h =
     (known_stops left left_now bytes lacking (Refused cause place) x h, refl)
 not_printed A text OutOfMemory left left_now bytes lacking old x h = (tt, refl)

@@ -4,8 +4,8 @@ use Rattle.px_bytes.specs.Parts.{limit}
 use Rattle.px_engine.specs.declared.faults.Fault.{Fault}
 use Rattle.px_engine.specs.declared.faults.Fault.TheVariants.{NormalTooLong}
 use Rattle.px_engine.specs.declared.faults.CompareFault.{CompareFault}
-use Rattle.px_engine.specs.declared.given.Given.{Given}
-use Rattle.px_engine.specs.declared.given.Given.TheVariants.{Whole, Needs}
+use Rattle.px_engine.specs.declared.forms.Given.{Given}
+use Rattle.px_engine.specs.declared.forms.Given.TheVariants.{Whole, Needs}
 use Rattle.px_engine.specs.declared.kinds.BlockKind.{BlockKind}
 use Rattle.px_engine.specs.Files.{Said, kind_said, normal, block_of}
 use Rattle.px_engine.specs.Input.{IsSaid, IsUnsaid, OnSide}

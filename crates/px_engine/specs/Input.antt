@@ -13,6 +13,10 @@ use Rattle.px_engine.specs.declared.faults.Side.TheVariants.{First, Second}
 use Rattle.px_engine.specs.declared.kinds.BlockKind.{BlockKind}
 use Rattle.px_engine.specs.Files.{Said, SaysBlock, CanBeWritten, normal, kind_of, block_of, FirstIn, StandsIn}
 
+-- how many bytes of a file are read at most: one more than the longest block and the six bytes before it
+abbrev pub most_read : ℕ
+most_read = limit + 7
+
 -- a block, read as its kind, has this meaning; it can be written, in a normal form at most twice as long as the block
 pub record IsSaidIn (k : BlockKind) (b : List ℕ) (s : Said) : Type 0 where
   pub says : SaysBlock k b s

@@ -1,9 +1,10 @@
 -- The laws that follow from the definitions.
-use Rattle.std.specs.Prelude.{◌≡◌, ◌≤◌, ◌*◌, ◌+◌, ◌⊎◌, ◌↔◌, ℕ, List, length, take}
+use Rattle.std.specs.Prelude.{◌≡◌, ◌≤◌, ◌*◌, ◌⊎◌, ◌↔◌, ℕ, List, length, take}
 use Rattle.px_bytes.specs.declared.Cause.{Cause}
 use Rattle.px_bytes.specs.Numbers.{AreBytes}
 use Rattle.px_bytes.specs.Parts.{limit}
 use Rattle.px_engine.specs.Files.{Said, Says, CanBeWritten, normal, block_of, FirstFaultOf, FaultOf}
+use Rattle.px_engine.specs.Input.{most_read}
 
 -- A file has at most one meaning.
 abbrev pub OneSaid : Type 0
@@ -38,9 +39,9 @@ FaultsTell = ((f : List ℕ) (c : Cause) (p : ℕ) → FirstFaultOf f c p → Fa
     × ((f : List ℕ) → ((s : Said) × Says f s) ⊎ ((c : Cause) × (p : ℕ) × FirstFaultOf f c p))
     × ((f : List ℕ) (c d : Cause) (p q : ℕ) → FirstFaultOf f c p → FirstFaultOf f d q → (c ≡ d) × (p ≡ q))
 
--- the bytes that are read of a file: more than the longest block and the six bytes before it
+-- the bytes that are read of a file
 abbrev pub taken : List ℕ → List ℕ
-taken f = take (limit + 7) f
+taken f = take most_read f
 
 -- A file has the meaning of the bytes that are read of it, and their first fault.
 abbrev pub TakenTells : Type 0

@@ -1,5 +1,6 @@
 pub mod Files
 pub mod Input
+pub mod Asking
 pub mod Runs
 pub mod Hand
 pub mod Headline

@@ -1,6 +1,7 @@
-// Normal forms in memory: measured first, then written into a vector of exactly that size, or into the
-// caller's buffer.
-ghost use Rattle.std.specs.Prelude.{◌≡◌, ◌≤◌, length, IfOk, IfErr};
+// Normal forms: written to a writer, or kept in memory. In memory a form is measured first, and then written
+// into a vector of exactly its length or into the caller's buffer.
+ghost use Rattle.std.specs.Prelude.{◌≡◌, ◌≤◌, ◌+◌, ◌*◌, length, IfOk, IfErr};
+ghost use Rattle.px_bytes.specs.Lacking.{AsksAtMost};
 ghost use Rattle.px_bytes.specs.Devices.{CanFail, over, Sends};
 ghost use Rattle.px_bytes.specs.Parts.{limit};
 ghost use Rattle.px_iim.specs.Record.{normal_iim};
@@ -10,19 +11,51 @@ ghost use Rattle.px_meaning.specs.Fits.{Fits};
 ghost use Rattle.px_meaning.specs.calls.Seen.{meaning_of};
 ghost use Rattle.px_engine.specs.Files.{CanBeWritten, normal};
 ghost use Rattle.px_engine.specs.Files as said;
-ghost use Rattle.px_engine.specs.calls.Ends.{IsUnformed};
 ghost use Rattle.px_engine.specs.Input.{LacksRun};
+ghost use Rattle.px_engine.specs.calls.Ends.{IsUnformed, WritesSaid};
+ghost use Rattle.px_engine.specs.calls.Faults.{written};
 ghost use Rattle.px_engine.specs.calls.Filled.{PutsShort};
 ghost use Rattle.px_engine.specs.calls.Seen.{said_of};
 
 use crate::faults::Fault;
 use crate::filling::Filling;
-use crate::given::Given;
 use crate::meanings::Said;
-use px_bytes::{Failed, Growing, LIMIT, Memory, Pending, Sink};
-use px_iim::{Iim, normal_len, put_iim};
-use px_layout::{NormalForm, put_normal};
+use px_bytes::{Failed, Growing, LIMIT, Memory, Pending, Sink, WriteRefusal};
+use px_iim::{Iim, normal_len, put_iim, write_iim};
+use px_layout::{NormalForm, put_normal, write_normal_in};
 use px_tree::Meaning;
+
+/// Whether a normal form fits into the caller's buffer.
+#[derive(Clone, Copy, Debug, PartialEq, Eq)]
+pub enum Given {
+    /// It fits: the buffer begins with the form, of so many bytes. The rest of the buffer is unchanged.
+    Whole(usize),
+    /// It doesn't fit, and the buffer is unchanged. The form needs so many bytes.
+    Needs(usize),
+}
+
+// The result of a normal form's writer as the result of a run.
+fn written(answer: Result<u64, WriteRefusal>) -> Result<u64, Fault>
+    ensures { result ≡ written answer }
+{
+    match answer {
+        Ok(len) => Ok(len),
+        Err(refusal) => Err(Fault::from(refusal)),
+    }
+}
+
+// Writes the normal form of what a file means. It allocates nothing.
+pub(crate) fn write_said<W: Sink>(said: &Said, writer: &mut W) -> Result<u64, Fault>
+    requires few { CanFail (W.failed writer.old) }
+    requires fits { CanBeWritten (said_of said.now) }
+    ensures { WritesSaid result (W.bytes_taken writer.old) (W.bytes_taken writer.new) (W.failed writer.old) (W.failed writer.new)
+        (said_of said.now) }
+{
+    match said {
+        Said::Exif(meaning) => written(write_normal_in(meaning, writer)),
+        Said::Iim(iim) => written(write_iim(iim, writer)),
+    }
+}
 
 // Writes the normal form of an Exif block, which is measured already.
 fn send_exif<W: Sink>(form: &NormalForm, writer: &mut W) -> Result<(), Failed>
@@ -51,6 +84,7 @@ fn exif_form(memory: &mut Memory, m: &Meaning) -> Result<Vec<u8>, Fault>
     ensures formed { IfOk result (λ v. (v.items ≡ normal_exif (meaning_of m.now)) × (length v.items ≤ limit)) }
     ensures unformed { IfErr result (IsUnformed (said.Exif (meaning_of m.now)) memory.new.refusals) }
     ensures memory { LacksRun result memory.old memory.new }
+    ensures asked { AsksAtMost (2 * length (normal_exif (meaning_of m.now)) + 65536) memory.old memory.new }
 {
     let Ok(form) = NormalForm::new(m) else {
         return Err(Fault::NormalTooLong);
@@ -66,6 +100,7 @@ fn iim_form(memory: &mut Memory, iim: &Iim) -> Result<Vec<u8>, Fault>
     ensures formed { IfOk result (λ v. (v.items ≡ normal_iim iim.now) × (length v.items ≤ limit)) }
     ensures unformed { IfErr result (IsUnformed (said.Iim iim.now) memory.new.refusals) }
     ensures memory { LacksRun result memory.old memory.new }
+    ensures asked { AsksAtMost (2 * length (normal_iim iim.now) + 65536) memory.old memory.new }
 {
     let len = normal_len(iim).unwrap_or(LIMIT + 1);
     if len > LIMIT {
@@ -83,6 +118,7 @@ pub(crate) fn form_of(memory: &mut Memory, said: &Said) -> Result<Vec<u8>, Fault
     ensures formed { IfOk result (λ v. (v.items ≡ normal (said_of said.now)) × (length v.items ≤ limit)) }
     ensures unformed { IfErr result (IsUnformed (said_of said.now) memory.new.refusals) }
     ensures memory { LacksRun result memory.old memory.new }
+    ensures asked { AsksAtMost (2 * length (normal (said_of said.now)) + 65536) memory.old memory.new }
 {
     match said {
         Said::Exif(meaning) => exif_form(memory, meaning),

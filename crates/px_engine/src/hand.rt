@@ -1,13 +1,14 @@
 // Files in memory: checked, normalised, compared and printed without a copy of their bytes.
-ghost use Rattle.std.specs.Prelude.{◌≡◌, ℕ, IfOk, IfErr, OnErr};
+ghost use Rattle.std.specs.Prelude.{◌≡◌, ◌+◌, ℕ, length, IfOk, IfErr, OnErr};
+ghost use Rattle.px_bytes.specs.Lacking.{AsksAtMost};
+ghost use Rattle.px_engine.specs.Asking.{block_request, form_request, AsksForText};
 ghost use Rattle.px_engine.specs.Input.{IsUnsaid, LacksRun, LacksPair};
 ghost use Rattle.px_engine.specs.Hand.{IsKindOf, PutsForm, SaysSame, IsUnsaidAt, IsFormOf, IsUnwritten};
 ghost use Rattle.px_engine.specs.Prints.{caption_text, listing, IsTextOf};
 ghost use Rattle.px_engine.specs.Files.{Said as AnySaid};
 
 use crate::faults::{CompareFault, Fault, Side};
-use crate::forms::{form_of, put_said};
-use crate::given::Given;
+use crate::forms::{Given, form_of, put_said};
 use crate::input::judge_any_in;
 use crate::judging::{judge, judge_side, same_second};
 use crate::kinds::BlockKind;
@@ -22,6 +23,7 @@ pub fn check_of_in(memory: &mut Memory, file: &[u8]) -> Result<BlockKind, Fault>
     ensures kind { IfOk result (IsKindOf file.now) }
     ensures unsaid { IfErr result (IsUnsaid file.now memory.new.refusals) }
     ensures memory { LacksRun result memory.old memory.new }
+    ensures asked { AsksAtMost (block_request (length file.now)) memory.old memory.new }
 {
     match judge_any_in(memory, file) {
         Ok(kind) => Ok(kind),
@@ -44,6 +46,7 @@ pub fn normal_form_in(memory: &mut Memory, file: &[u8]) -> Result<Vec<u8>, Fault
     ensures formed { IfOk result (λ v. (s : AnySaid) × IsFormOf file.now s v.items) }
     ensures unwritten { IfErr result (IsUnwritten file.now memory.new.refusals) }
     ensures memory { LacksRun result memory.old memory.new }
+    ensures asked { AsksAtMost (form_request (length file.now)) memory.old memory.new }
 {
     let said = judge(memory, file)?;
     form_of(memory, &said)
@@ -65,6 +68,7 @@ pub fn put_form_in(memory: &mut Memory, file: &[u8], out: &mut [u8]) -> Result<G
     ensures unwritten { IfErr result (IsUnwritten file.now memory.new.refusals) }
     ensures kept { OnErr result (out.new ≡ out.old) }
     ensures memory { LacksRun result memory.old memory.new }
+    ensures asked { AsksAtMost (block_request (length file.now)) memory.old memory.new }
 {
     let said = judge(memory, file)?;
     match put_said(&said, out) {
@@ -89,6 +93,7 @@ pub fn show_of_in(memory: &mut Memory, file: &[u8]) -> Result<Vec<u8>, Fault>
     ensures text { IfOk result (λ text. IsTextOf listing file.now text.items) }
     ensures unsaid { IfErr result (IsUnsaid file.now memory.new.refusals) }
     ensures memory { LacksRun result memory.old memory.new }
+    ensures asked { AsksForText listing file.now memory.old memory.new }
 {
     let said = judge(memory, file)?;
     let text = listing(memory, &said);
@@ -113,6 +118,7 @@ pub fn captions_text_in(memory: &mut Memory, file: &[u8]) -> Result<Vec<u8>, Fau
     ensures text { IfOk result (λ text. IsTextOf caption_text file.now text.items) }
     ensures unsaid { IfErr result (IsUnsaid file.now memory.new.refusals) }
     ensures memory { LacksRun result memory.old memory.new }
+    ensures asked { AsksForText caption_text file.now memory.old memory.new }
 {
     let said = judge(memory, file)?;
     let text = caption_text(memory, &said);
@@ -139,6 +145,8 @@ pub fn same_of_in(memory: &mut Memory, first: &[u8], second: &[u8]) -> Result<bo
     ensures same { IfOk result (SaysSame first.now second.now) }
     ensures unsaid { IfErr result (IsUnsaidAt first.now second.now memory.new.refusals) }
     ensures memory { LacksPair result memory.old memory.new }
+    ensures asked { AsksAtMost (block_request (length first.now) + block_request (length second.now))
+        memory.old memory.new }
 {
     let said = judge_side(memory, first, Side::First)?;
     let same = same_second(memory, &said, second);

@@ -1,5 +1,7 @@
 // The main promise, for two files in memory.
-ghost use Rattle.std.specs.Prelude.{◌≡◌, ℕ, IfOk, IfErr};
+ghost use Rattle.std.specs.Prelude.{◌≡◌, ◌+◌, ℕ, length, IfOk, IfErr};
+ghost use Rattle.px_bytes.specs.Lacking.{AsksAtMost};
+ghost use Rattle.px_engine.specs.Asking.{form_request};
 ghost use Rattle.px_engine.specs.Files.{Said};
 ghost use Rattle.px_engine.specs.Input.{LacksPair};
 ghost use Rattle.px_engine.specs.Hand.{IsFormOf, IsUnwritten, IsUnwrittenAt};
@@ -26,6 +28,7 @@ fn form_side(memory: &mut Memory, file: &[u8], side: Side) -> Result<Vec<u8>, Co
     ensures side { IfErr result (λ e. e.side ≡ side) }
     ensures unwritten { IfErr result (λ e. IsUnwritten file.now memory.new.refusals e.fault) }
     ensures memory { LacksPair result memory.old memory.new }
+    ensures asked { AsksAtMost (form_request (length file.now)) memory.old memory.new }
 {
     match normal_form_in(memory, file) {
         Ok(form) => Ok(form),
@@ -48,6 +51,7 @@ pub fn normalise_both_in(
     ensures done { IfOk result (λ forms. Headline first.now second.now forms.first.items forms.second.items) }
     ensures failed { IfErr result (IsUnwrittenAt first.now second.now memory.new.refusals) }
     ensures memory { LacksPair result memory.old memory.new }
+    ensures asked { AsksAtMost (form_request (length first.now) + form_request (length second.now)) memory.old memory.new }
 {
     laws::one_said();
     laws::normal_says();

@@ -1,11 +1,13 @@
 // Reads a whole file and judges it.
-ghost use Rattle.std.specs.Prelude.{◌≡◌, ℕ, IfOk, IfErr};
+ghost use Rattle.std.specs.Prelude.{◌≡◌, ◌+◌, ◌*◌, ℕ, length, IfOk, IfErr};
 ghost use Rattle.px_bytes.specs.Checks.{LacksBlock, LacksBlockBy};
-ghost use Rattle.px_bytes.specs.Reading.{ReadsUpTo, ConsumesAtMost};
+ghost use Rattle.px_bytes.specs.Lacking.{AsksAtMost};
+ghost use Rattle.px_bytes.specs.Reading.{ReadsUpTo, ConsumesAtMost, readable};
 ghost use Rattle.px_meaning.specs.calls.Seen.{meaning_of};
 ghost use Rattle.px_engine.specs.declared.kinds.BlockKind.TheVariants as kind;
+ghost use Rattle.px_engine.specs.Asking.{block_request};
 ghost use Rattle.px_engine.specs.Files as said;
-ghost use Rattle.px_engine.specs.Input.{IsSaidIn, IsRefusedIn, IsSaid, IsRefused, CountsReads, IsReadFault, LacksRun, LacksPair};
+ghost use Rattle.px_engine.specs.Input.{most_read, IsSaidIn, IsRefusedIn, IsSaid, IsRefused, CountsReads, IsReadFault, LacksRun, LacksPair};
 ghost use Rattle.px_engine.specs.Hand.{IsKindOf};
 ghost use Rattle.px_engine.specs.calls.Kinds.{SaysKind};
 ghost use Rattle.px_engine.specs.calls.Second.{CountsSecond};
@@ -25,11 +27,12 @@ use std::alloc::Global;
 /// and one buffer. `ReadFailed`: a call of the reader failed. `OutOfMemory`: an allocation failed.
 pub fn read_all_in<R: Source>(memory: &mut Memory, reader: &mut R) -> Result<Vec<u8>, Fault>
     requires { CanFail (R.failed reader.old) }
-    ensures found { IfOk result (λ v. ReadsUpTo (R.bytes_left reader.old) (R.bytes_left reader.new) 16777223 v.items) }
-    ensures lost { ConsumesAtMost (R.bytes_left reader.old) (R.bytes_left reader.new) 16777223 }
+    ensures found { IfOk result (λ v. ReadsUpTo (R.bytes_left reader.old) (R.bytes_left reader.new) most_read v.items) }
+    ensures lost { ConsumesAtMost (R.bytes_left reader.old) (R.bytes_left reader.new) most_read }
     ensures fault { IfErr result IsReadFault }
     ensures count { CountsReads result (R.failed reader.old) (R.failed reader.new) }
     ensures memory { LacksRun result memory.old memory.new }
+    ensures asked { AsksAtMost (4 * readable (R.bytes_left reader.old) most_read + 262144) memory.old memory.new }
 {
     Ok(read_up_to_in(memory, reader, LIMIT as usize + 7)?)
 }
@@ -37,8 +40,8 @@ pub fn read_all_in<R: Source>(memory: &mut Memory, reader: &mut R) -> Result<Vec
 /// Like `read_all_in`, with memory of its own.
 pub fn read_all<R: Source>(alloc: Global, reader: &mut R) -> Result<Vec<u8>, Fault>
     requires { CanFail (R.failed reader.old) }
-    ensures found { IfOk result (λ v. ReadsUpTo (R.bytes_left reader.old) (R.bytes_left reader.new) 16777223 v.items) }
-    ensures lost { ConsumesAtMost (R.bytes_left reader.old) (R.bytes_left reader.new) 16777223 }
+    ensures found { IfOk result (λ v. ReadsUpTo (R.bytes_left reader.old) (R.bytes_left reader.new) most_read v.items) }
+    ensures lost { ConsumesAtMost (R.bytes_left reader.old) (R.bytes_left reader.new) most_read }
     ensures fault { IfErr result IsReadFault }
     ensures count { CountsReads result (R.failed reader.old) (R.failed reader.new) }
 {
@@ -52,12 +55,13 @@ pub(crate) fn read_side<R: Source>(
     side: Side,
 ) -> Result<Vec<u8>, CompareFault>
     requires { CanFail (R.failed reader.old) }
-    ensures found { IfOk result (λ v. ReadsUpTo (R.bytes_left reader.old) (R.bytes_left reader.new) 16777223 v.items) }
+    ensures found { IfOk result (λ v. ReadsUpTo (R.bytes_left reader.old) (R.bytes_left reader.new) most_read v.items) }
     ensures side { IfErr result (λ e. e.side ≡ side) }
-    ensures lost { ConsumesAtMost (R.bytes_left reader.old) (R.bytes_left reader.new) 16777223 }
+    ensures lost { ConsumesAtMost (R.bytes_left reader.old) (R.bytes_left reader.new) most_read }
     ensures fault { IfErr result (λ e. IsReadFault e.fault) }
     ensures count { CountsSecond result (R.failed reader.old) (R.failed reader.new) }
     ensures memory { LacksPair result memory.old memory.new }
+    ensures asked { AsksAtMost (4 * readable (R.bytes_left reader.old) most_read + 262144) memory.old memory.new }
 {
     match read_all_in(memory, reader) {
         Ok(file) => Ok(file),
@@ -70,6 +74,7 @@ fn read_exif<'a>(memory: &mut Memory, bytes: &'a [u8]) -> Result<Meaning<'a>, Re
     ensures said { IfOk result (λ m. IsSaidIn kind.Exif bytes.now (said.Exif (meaning_of m))) }
     ensures refused { IfErr result (IsRefusedIn kind.Exif bytes.now memory.new.refusals) }
     ensures memory { LacksBlock result memory.old memory.new }
+    ensures asked { AsksAtMost (block_request (length bytes.now)) memory.old memory.new }
 {
     px_layout::laws::normal_bound();
     px_tree::fault_laws::faults_tell();
@@ -87,6 +92,7 @@ fn read_record<'a>(memory: &mut Memory, bytes: &'a [u8]) -> Result<Iim<'a>, Refu
     ensures said { IfOk result (λ i. IsSaidIn kind.Iim bytes.now (said.Iim i)) }
     ensures refused { IfErr result (IsRefusedIn kind.Iim bytes.now memory.new.refusals) }
     ensures memory { LacksBlock result memory.old memory.new }
+    ensures asked { AsksAtMost (block_request (length bytes.now)) memory.old memory.new }
 {
     read_iim_in(memory, bytes)
 }
@@ -96,6 +102,7 @@ fn judge_exif(memory: &mut Memory, bytes: &[u8]) -> Result<(), Refusal>
     ensures said { IfOk result (λ u. SaysKind kind.Exif bytes.now) }
     ensures refused { IfErr result (IsRefusedIn kind.Exif bytes.now memory.new.refusals) }
     ensures memory { LacksBlock result memory.old memory.new }
+    ensures asked { AsksAtMost (block_request (length bytes.now)) memory.old memory.new }
 {
     let meaning = read_exif(memory, bytes)?;
     drop(meaning);
@@ -116,6 +123,7 @@ fn judge_block(memory: &mut Memory, kind: BlockKind, bytes: &[u8]) -> Result<(),
     ensures said { IfOk result (λ u. SaysKind kind bytes.now) }
     ensures refused { IfErr result (IsRefusedIn kind bytes.now memory.new.refusals) }
     ensures memory { LacksBlock result memory.old memory.new }
+    ensures asked { AsksAtMost (block_request (length bytes.now)) memory.old memory.new }
 {
     match kind {
         BlockKind::Exif => judge_exif(memory, bytes),
@@ -128,6 +136,7 @@ pub(crate) fn judge_any_in(memory: &mut Memory, file: &[u8]) -> Result<BlockKind
     ensures kind { IfOk result (IsKindOf file.now) }
     ensures refused { IfErr result (IsRefused file.now memory.new.refusals) }
     ensures memory { LacksBlock result memory.old memory.new }
+    ensures asked { AsksAtMost (block_request (length file.now)) memory.old memory.new }
 {
     let kind = kind_of(file);
     judge_block(memory, kind, block_of(file))?;
@@ -144,6 +153,7 @@ pub fn read_any_in<'a>(memory: &mut Memory, file: &'a [u8]) -> Result<Said<'a>, 
     ensures said { IfOk result (λ s. IsSaid file.now (said_of s)) }
     ensures refused { IfErr result (IsRefused file.now memory.new.refusals) }
     ensures memory { LacksBlock result memory.old memory.new }
+    ensures asked { AsksAtMost (block_request (length file.now)) memory.old memory.new }
 {
     let bytes = block_of(file);
     match kind_of(file) {

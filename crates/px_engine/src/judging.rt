@@ -1,5 +1,7 @@
 // The meaning of a file in memory, or why it has none.
-ghost use Rattle.std.specs.Prelude.{◌≡◌, IfOk, IfErr};
+ghost use Rattle.std.specs.Prelude.{◌≡◌, length, IfOk, IfErr};
+ghost use Rattle.px_bytes.specs.Lacking.{AsksAtMost};
+ghost use Rattle.px_engine.specs.Asking.{block_request};
 ghost use Rattle.px_engine.specs.Input.{IsSaid, IsUnsaid, LacksRun, LacksPair};
 ghost use Rattle.px_engine.specs.calls.Second.{SaysSecond};
 ghost use Rattle.px_engine.specs.calls.Seen.{said_of};
@@ -14,6 +16,7 @@ pub(crate) fn judge<'a>(memory: &mut Memory, file: &'a [u8]) -> Result<Said<'a>,
     ensures said { IfOk result (λ s. IsSaid file.now (said_of s)) }
     ensures unsaid { IfErr result (IsUnsaid file.now memory.new.refusals) }
     ensures memory { LacksRun result memory.old memory.new }
+    ensures asked { AsksAtMost (block_request (length file.now)) memory.old memory.new }
 {
     match read_any_in(memory, file) {
         Ok(said) => Ok(said),
@@ -31,6 +34,7 @@ pub(crate) fn judge_side<'a>(
     ensures side { IfErr result (λ e. e.side ≡ side) }
     ensures unsaid { IfErr result (λ e. IsUnsaid file.now memory.new.refusals e.fault) }
     ensures memory { LacksPair result memory.old memory.new }
+    ensures asked { AsksAtMost (block_request (length file.now)) memory.old memory.new }
 {
     match judge(memory, file) {
         Ok(said) => Ok(said),
@@ -48,6 +52,7 @@ pub(crate) fn same_second(
 ) -> Result<bool, CompareFault>
     ensures same { SaysSecond result (said_of said.now) second.now memory.new.refusals }
     ensures memory { LacksPair result memory.old memory.new }
+    ensures asked { AsksAtMost (block_request (length second.now)) memory.old memory.new }
 {
     let other = judge_side(memory, second, Side::Second)?;
     let same = same(said, &other);

@@ -1,6 +1,7 @@
 // The captions of a file, as a list.
-ghost use Rattle.std.specs.Prelude.{◌≡◌, IfOk};
-ghost use Rattle.px_bytes.specs.Lacking.{Lacks};
+ghost use Rattle.std.specs.Prelude.{◌≡◌, ◌*◌, length, IfOk};
+ghost use Rattle.px_bytes.specs.Lacking.{Lacks, AsksAtMost};
+ghost use Rattle.px_text.specs.Captions.{caption_bytes};
 ghost use Rattle.px_engine.specs.Prints.{captions_in};
 ghost use Rattle.px_engine.specs.calls.Seen.{said_of};
 
@@ -17,6 +18,7 @@ use std::alloc::{AllocError, Global};
 pub fn captions_of_in<'a>(memory: &mut Memory, said: &Said<'a>) -> Result<Captions<'a>, Refused>
     ensures captions { IfOk result (λ c. c ≡ captions_in (said_of said.now)) }
     ensures memory { Lacks result memory.old memory.new }
+    ensures asked { AsksAtMost (caption_bytes * length (captions_in (said_of said.now)).1) memory.old memory.new }
 {
     match said {
         Said::Exif(meaning) => exif_captions_in(memory, meaning),

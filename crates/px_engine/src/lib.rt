@@ -23,7 +23,6 @@
 mod faults;
 mod filling;
 mod forms;
-mod given;
 mod hand;
 mod headline;
 mod input;
@@ -35,10 +34,9 @@ mod meanings;
 mod runs;
 mod texts;
 mod version;
-mod writing;
 
 pub use faults::{CompareFault, Fault, Side};
-pub use given::Given;
+pub use forms::Given;
 pub use hand::{
     captions_text, captions_text_in, check_of, check_of_in, normal_form, normal_form_in, put_form,
     put_form_in, same_of, same_of_in, show_of, show_of_in,

@@ -1,7 +1,9 @@
 // Whole runs from readers to writers.
-ghost use Rattle.std.specs.Prelude.{◌≡◌};
+ghost use Rattle.std.specs.Prelude.{◌≡◌, ◌+◌};
+ghost use Rattle.px_bytes.specs.Lacking.{AsksAtMost};
 ghost use Rattle.px_bytes.specs.Reading.{ConsumesAtMost};
-ghost use Rattle.px_engine.specs.Input.{LacksRun, LacksPair, CountsReads};
+ghost use Rattle.px_engine.specs.Input.{most_read, LacksRun, LacksPair, CountsReads};
+ghost use Rattle.px_engine.specs.Asking.{run_request};
 ghost use Rattle.px_engine.specs.Runs.{Checks, Normalises, Compares, CountsWrites, CountsSides, Untouched};
 ghost use Rattle.px_engine.specs.Prints.{caption_text, listing, Prints};
 ghost use Rattle.px_engine.specs.calls.Second.{ComparesSecond, CountsSecond};
@@ -9,13 +11,13 @@ ghost use Rattle.px_engine.specs.calls.Seen.{said_of};
 ghost use Rattle.px_bytes.specs.Devices.{CanFail};
 
 use crate::faults::{CompareFault, Fault, Side};
+use crate::forms::write_said;
 use crate::hand::check_of_in;
 use crate::input::{read_all_in, read_side};
 use crate::judging::{judge, judge_side, same_second};
 use crate::kinds::BlockKind;
 use crate::meanings::Said;
 use crate::texts::{write_captions, write_listing};
-use crate::writing::write_said;
 use px_bytes::{Memory, Sink, Source};
 use std::alloc::Global;
 
@@ -34,10 +36,11 @@ pub fn normalise_in<R: Source, W: Sink>(
     requires reading { CanFail (R.failed reader.old) }
     requires writing { CanFail (W.failed writer.old) }
     ensures done { Normalises result (R.bytes_left reader.old) (W.bytes_taken writer.old) (W.bytes_taken writer.new) }
-    ensures lost { ConsumesAtMost (R.bytes_left reader.old) (R.bytes_left reader.new) 16777223 }
+    ensures lost { ConsumesAtMost (R.bytes_left reader.old) (R.bytes_left reader.new) most_read }
     ensures reads { CountsReads result (R.failed reader.old) (R.failed reader.new) }
     ensures writes { CountsWrites result (W.failed writer.old) (W.failed writer.new) }
     ensures memory { LacksRun result memory.old memory.new }
+    ensures asked { AsksAtMost (run_request (R.bytes_left reader.old)) memory.old memory.new }
 {
     let file = read_all_in(memory, reader)?;
     let said = judge(memory, &file)?;
@@ -55,7 +58,7 @@ pub fn normalise<R: Source, W: Sink>(
     requires reading { CanFail (R.failed reader.old) }
     requires writing { CanFail (W.failed writer.old) }
     ensures done { Normalises result (R.bytes_left reader.old) (W.bytes_taken writer.old) (W.bytes_taken writer.new) }
-    ensures lost { ConsumesAtMost (R.bytes_left reader.old) (R.bytes_left reader.new) 16777223 }
+    ensures lost { ConsumesAtMost (R.bytes_left reader.old) (R.bytes_left reader.new) most_read }
     ensures reads { CountsReads result (R.failed reader.old) (R.failed reader.new) }
     ensures writes { CountsWrites result (W.failed writer.old) (W.failed writer.new) }
 {
@@ -68,9 +71,10 @@ pub fn normalise<R: Source, W: Sink>(
 pub fn check_in<R: Source>(memory: &mut Memory, reader: &mut R) -> Result<BlockKind, Fault>
     requires { CanFail (R.failed reader.old) }
     ensures done { Checks result (R.bytes_left reader.old) }
-    ensures lost { ConsumesAtMost (R.bytes_left reader.old) (R.bytes_left reader.new) 16777223 }
+    ensures lost { ConsumesAtMost (R.bytes_left reader.old) (R.bytes_left reader.new) most_read }
     ensures reads { CountsReads result (R.failed reader.old) (R.failed reader.new) }
     ensures memory { LacksRun result memory.old memory.new }
+    ensures asked { AsksAtMost (run_request (R.bytes_left reader.old)) memory.old memory.new }
 {
     let file = read_all_in(memory, reader)?;
     check_of_in(memory, &file)
@@ -80,7 +84,7 @@ pub fn check_in<R: Source>(memory: &mut Memory, reader: &mut R) -> Result<BlockK
 pub fn check<R: Source>(alloc: Global, reader: &mut R) -> Result<BlockKind, Fault>
     requires { CanFail (R.failed reader.old) }
     ensures done { Checks result (R.bytes_left reader.old) }
-    ensures lost { ConsumesAtMost (R.bytes_left reader.old) (R.bytes_left reader.new) 16777223 }
+    ensures lost { ConsumesAtMost (R.bytes_left reader.old) (R.bytes_left reader.new) most_read }
     ensures reads { CountsReads result (R.failed reader.old) (R.failed reader.new) }
 {
     check_in(&mut Memory::new(alloc), reader)
@@ -101,10 +105,11 @@ pub fn show_in<R: Source, W: Sink>(
     requires reading { CanFail (R.failed reader.old) }
     requires writing { CanFail (W.failed writer.old) }
     ensures done { Prints listing result (R.bytes_left reader.old) (W.bytes_taken writer.old) (W.bytes_taken writer.new) }
-    ensures lost { ConsumesAtMost (R.bytes_left reader.old) (R.bytes_left reader.new) 16777223 }
+    ensures lost { ConsumesAtMost (R.bytes_left reader.old) (R.bytes_left reader.new) most_read }
     ensures reads { CountsReads result (R.failed reader.old) (R.failed reader.new) }
     ensures writes { CountsWrites result (W.failed writer.old) (W.failed writer.new) }
     ensures memory { LacksRun result memory.old memory.new }
+    ensures asked { AsksAtMost (run_request (R.bytes_left reader.old)) memory.old memory.new }
 {
     let file = read_all_in(memory, reader)?;
     let said = judge(memory, &file)?;
@@ -118,7 +123,7 @@ pub fn show<R: Source, W: Sink>(alloc: Global, reader: &mut R, writer: &mut W) -
     requires reading { CanFail (R.failed reader.old) }
     requires writing { CanFail (W.failed writer.old) }
     ensures done { Prints listing result (R.bytes_left reader.old) (W.bytes_taken writer.old) (W.bytes_taken writer.new) }
-    ensures lost { ConsumesAtMost (R.bytes_left reader.old) (R.bytes_left reader.new) 16777223 }
+    ensures lost { ConsumesAtMost (R.bytes_left reader.old) (R.bytes_left reader.new) most_read }
     ensures reads { CountsReads result (R.failed reader.old) (R.failed reader.new) }
     ensures writes { CountsWrites result (W.failed writer.old) (W.failed writer.new) }
 {
@@ -138,10 +143,11 @@ pub fn captions_in<R: Source, W: Sink>(
     requires reading { CanFail (R.failed reader.old) }
     requires writing { CanFail (W.failed writer.old) }
     ensures done { Prints caption_text result (R.bytes_left reader.old) (W.bytes_taken writer.old) (W.bytes_taken writer.new) }
-    ensures lost { ConsumesAtMost (R.bytes_left reader.old) (R.bytes_left reader.new) 16777223 }
+    ensures lost { ConsumesAtMost (R.bytes_left reader.old) (R.bytes_left reader.new) most_read }
     ensures reads { CountsReads result (R.failed reader.old) (R.failed reader.new) }
     ensures writes { CountsWrites result (W.failed writer.old) (W.failed writer.new) }
     ensures memory { LacksRun result memory.old memory.new }
+    ensures asked { AsksAtMost (run_request (R.bytes_left reader.old)) memory.old memory.new }
 {
     let file = read_all_in(memory, reader)?;
     let said = judge(memory, &file)?;
@@ -159,7 +165,7 @@ pub fn captions<R: Source, W: Sink>(
     requires reading { CanFail (R.failed reader.old) }
     requires writing { CanFail (W.failed writer.old) }
     ensures done { Prints caption_text result (R.bytes_left reader.old) (W.bytes_taken writer.old) (W.bytes_taken writer.new) }
-    ensures lost { ConsumesAtMost (R.bytes_left reader.old) (R.bytes_left reader.new) 16777223 }
+    ensures lost { ConsumesAtMost (R.bytes_left reader.old) (R.bytes_left reader.new) most_read }
     ensures reads { CountsReads result (R.failed reader.old) (R.failed reader.new) }
     ensures writes { CountsWrites result (W.failed writer.old) (W.failed writer.new) }
 {
@@ -174,9 +180,10 @@ fn compare_second<S: Source>(
 ) -> Result<bool, CompareFault>
     requires { CanFail (S.failed second.old) }
     ensures done { ComparesSecond result (said_of said.now) (S.bytes_left second.old) }
-    ensures lost { ConsumesAtMost (S.bytes_left second.old) (S.bytes_left second.new) 16777223 }
+    ensures lost { ConsumesAtMost (S.bytes_left second.old) (S.bytes_left second.new) most_read }
     ensures reads { CountsSecond result (S.failed second.old) (S.failed second.new) }
     ensures memory { LacksPair result memory.old memory.new }
+    ensures asked { AsksAtMost (run_request (S.bytes_left second.old)) memory.old memory.new }
 {
     let file = read_side(memory, second, Side::Second)?;
     same_second(memory, said, &file)
@@ -197,10 +204,12 @@ pub fn compare_in<R: Source, S: Source>(
     requires second { CanFail (S.failed second.old) }
     ensures done { Compares result (R.bytes_left first.old) (S.bytes_left second.old) }
     ensures untouched { Untouched result second.old second.new }
-    ensures lost { ConsumesAtMost (R.bytes_left first.old) (R.bytes_left first.new) 16777223 }
-    ensures lost_too { ConsumesAtMost (S.bytes_left second.old) (S.bytes_left second.new) 16777223 }
+    ensures lost { ConsumesAtMost (R.bytes_left first.old) (R.bytes_left first.new) most_read }
+    ensures lost_too { ConsumesAtMost (S.bytes_left second.old) (S.bytes_left second.new) most_read }
     ensures reads { CountsSides result (R.failed first.old) (R.failed first.new) (S.failed second.old) (S.failed second.new) }
     ensures memory { LacksPair result memory.old memory.new }
+    ensures asked { AsksAtMost (run_request (R.bytes_left first.old) + run_request (S.bytes_left second.old))
+        memory.old memory.new }
 {
     let file = read_side(memory, first, Side::First)?;
     let said = judge_side(memory, &file, Side::First)?;
@@ -219,8 +228,8 @@ pub fn compare<R: Source, S: Source>(
     requires second { CanFail (S.failed second.old) }
     ensures done { Compares result (R.bytes_left first.old) (S.bytes_left second.old) }
     ensures untouched { Untouched result second.old second.new }
-    ensures lost { ConsumesAtMost (R.bytes_left first.old) (R.bytes_left first.new) 16777223 }
-    ensures lost_too { ConsumesAtMost (S.bytes_left second.old) (S.bytes_left second.new) 16777223 }
+    ensures lost { ConsumesAtMost (R.bytes_left first.old) (R.bytes_left first.new) most_read }
+    ensures lost_too { ConsumesAtMost (S.bytes_left second.old) (S.bytes_left second.new) most_read }
     ensures reads { CountsSides result (R.failed first.old) (R.failed first.new) (S.failed second.old) (S.failed second.new) }
 {
     compare_in(&mut Memory::new(alloc), first, second)

@@ -5,6 +5,7 @@ pub mod Steps
 pub mod Runs
 pub mod Sorted
 pub mod RunSteps
+pub mod Counted
 pub mod Parts
 pub mod Walked
 pub mod Filled

@@ -4,5 +4,6 @@ pub mod Record
 pub mod Check
 pub mod Laws
 pub mod Writing
+pub mod Asking
 pub mod calls
 pub mod lemmas

@@ -1,5 +1,5 @@
 -- The effect of writing a record.
-use Rattle.std.specs.Prelude.{◌≡◌, ◌<◌, ◌≤◌, ◌+◌, ℕ, nat_le, if◌then◌else◌, List, length, Option, Some, None, Result, Ok}
+use Rattle.std.specs.Prelude.{◌≡◌, ◌<◌, ◌≤◌, ◌+◌, ◌*◌, ℕ, nat_le, if◌then◌else◌, List, length, Option, Some, None, Result, Ok}
 use Rattle.std.specs.Prelude.{Err}
 use Rattle.std.specs.Io.KnownBytes.{Appends}
 use Rattle.px_bytes.specs.declared.WriteRefusal.{WriteRefusal}
@@ -11,7 +11,7 @@ use Rattle.px_iim.specs.Record.{normal_iim}
 
 -- a normal form is counted up to this length, twice the longest block's
 abbrev pub most : ℕ
-most = 33554432
+most = 2 * limit
 
 -- the length, if it is at most that
 abbrev pub within : ℕ → Option ℕ

@@ -1,7 +1,8 @@
 // DataSets, and the groups to which they belong.
 ghost use Rattle.std.specs.Prelude.{◌≡◌, ◌+◌, ◌*◌, ◌/◌, ◌<◌, ◌≤◌, insert, max, vec_len, vec_capacity, OnOk, OnErr};
-ghost use Rattle.px_bytes.specs.Lacking.{Lacks};
+ghost use Rattle.px_bytes.specs.Lacking.{Lacks, AsksAtMost};
 ghost use Rattle.px_bytes.specs.Parts.{limit};
+ghost use Rattle.px_iim.specs.Asking.{item_bytes, put_request};
 ghost use Rattle.px_iim.specs.Group.{named};
 ghost use Rattle.px_iim.specs.calls.View.{octets_left};
 
@@ -71,6 +72,7 @@ fn make_room<'a>(memory: &mut Memory, list: &mut Vec<Item<'a>>) -> Result<(), Re
     ensures long { LONG < vec_len list.old →
         vec_capacity list.new ≤ max (vec_capacity list.old) (vec_len list.old + vec_len list.old / 32) }
     ensures memory { Lacks result memory.old memory.new }
+    ensures asked { AsksAtMost (item_bytes * max 3 (vec_len list.old / 2)) memory.old memory.new }
 {
     if list.len() < list.capacity() {
         return Ok(());
@@ -92,6 +94,7 @@ pub(crate) fn put_at<'a>(
     ensures done { OnOk result (list.new.items ≡ insert list.old.items at item.entry) }
     ensures failed { OnErr result (list.new.items ≡ list.old.items) }
     ensures memory { Lacks result memory.old memory.new }
+    ensures asked { AsksAtMost (put_request (vec_len list.old)) memory.old memory.new }
 {
     make_room(memory, list)?;
     if at == list.len() {
@@ -113,6 +116,7 @@ pub(crate) fn make_room_for<'a>(
     ensures room { OnOk result (vec_len list.new + count ≤ vec_capacity list.new) }
     ensures most { vec_capacity list.new ≤ max (vec_capacity list.old) (vec_len list.old + count) }
     ensures memory { Lacks result memory.old memory.new }
+    ensures asked { memory.new.asked ≡ memory.old.asked + item_bytes * count }
 {
     memory.reserve_exact(list, count)
 }

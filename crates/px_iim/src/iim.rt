@@ -1,7 +1,8 @@
 // A record: its DataSets in the order of their groups.
-ghost use Rattle.std.specs.Prelude.{◌≡◌, ◌==◌, ◌<◌, ◌≤◌, ◌*◌, ℕ, [], length, map, slice_get, Some, IfOk, OnOk, OnErr};
-ghost use Rattle.px_bytes.specs.Lacking.{Lacks};
+ghost use Rattle.std.specs.Prelude.{◌≡◌, ◌==◌, ◌<◌, ◌≤◌, ◌+◌, ◌*◌, ℕ, [], length, map, slice_get, Some, IfOk, OnOk, OnErr};
+ghost use Rattle.px_bytes.specs.Lacking.{Lacks, AsksAtMost};
 ghost use Rattle.px_bytes.specs.Parts.{limit};
+ghost use Rattle.px_iim.specs.Asking.{item_bytes, dataset_count, put_request};
 ghost use Rattle.px_iim.specs.Group.{named, put, items_at, AreGroups};
 ghost use Rattle.px_iim.specs.Record.{normal_iim};
 ghost use Rattle.px_iim.specs.calls.Runs.{runs, InOrder, AreNumbers};
@@ -73,6 +74,7 @@ impl<'a> Iim<'a> {
         requires { 5 * count ≤ limit }
         ensures none { IfOk result (λ i. i ≡ []) }
         ensures memory { Lacks result memory.old memory.new }
+        ensures asked { memory.new.asked ≡ memory.old.asked + item_bytes * count }
     {
         let mut record = Iim::new_in(memory);
         make_room_for(memory, &mut record.items, count)?;
@@ -118,6 +120,7 @@ impl<'a> Iim<'a> {
         ensures done { OnOk result (self.new ≡ put (record { rec = rec; number = number; octets = octets.now }) self.old) }
         ensures failed { OnErr result (self.new ≡ self.old) }
         ensures memory { Lacks result memory.old memory.new }
+        ensures asked { AsksAtMost (put_request (dataset_count self.old)) memory.old memory.new }
     {
         let at = place_behind(&self.items, key_of(rec, number));
         let item = Item {

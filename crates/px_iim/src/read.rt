@@ -1,7 +1,10 @@
 // Reads a whole block, DataSet by DataSet.
-ghost use Rattle.std.specs.Prelude.{◌≡◌, ◌≤◌, ◌*◌, ℕ, length, Some, is_some, IfOk, IfErr};
+ghost use Rattle.std.specs.Prelude.{◌≡◌, ◌≤◌, ◌+◌, ◌*◌, ℕ, length, Some, is_some, IfOk, IfErr};
 ghost use Rattle.px_bytes.specs.Checks.{Judges, LacksBlock};
+ghost use Rattle.px_bytes.specs.declared.Refusal.TheVariants.{OutOfMemory};
+ghost use Rattle.px_bytes.specs.Lacking.{AsksAtMost};
 ghost use Rattle.px_bytes.specs.Parts.{limit};
+ghost use Rattle.px_iim.specs.Asking.{item_bytes, iim_request, RefusesFirst, dataset_count, put_request};
 ghost use Rattle.px_iim.specs.Group.{Record, IsRecord};
 ghost use Rattle.px_iim.specs.Record.{SaysIim, iim_of};
 ghost use Rattle.px_iim.specs.Check.{iim_checks};
@@ -19,8 +22,11 @@ use std::alloc::Global;
 fn read_put<'a>(memory: &mut Memory, bytes: &'a [u8], count: usize) -> Result<Iim<'a>, Refusal>
     requires bounded { length bytes.now ≤ limit }
     requires few { 5 * count ≤ limit }
+    requires said { (i : Record) × (iim_of bytes.now ≡ Some i) × (dataset_count i ≤ 64) }
     ensures judged { Judges result (iim_checks bytes.now) (λ i. iim_of bytes.now ≡ Some i) }
     ensures memory { LacksBlock result memory.old memory.new }
+    ensures asked { AsksAtMost (item_bytes * count + 64 * put_request 64) memory.old memory.new }
+    ensures read { IfErr result (λ e. e ≡ OutOfMemory) }
 {
     let mut record = Iim::with_room(memory, count)?;
     let mut at = 0;
@@ -39,6 +45,8 @@ fn read_groups<'a>(memory: &mut Memory, bytes: &'a [u8]) -> Result<Iim<'a>, Refu
     requires { length bytes.now ≤ limit }
     ensures judged { Judges result (iim_checks bytes.now) (λ i. iim_of bytes.now ≡ Some i) }
     ensures memory { LacksBlock result memory.old memory.new }
+    ensures asked { AsksAtMost (iim_request (length bytes.now)) memory.old memory.new }
+    ensures refused { RefusesFirst result memory.old memory.new }
 {
     let seen = survey(bytes)?;
     if seen.in_order {
@@ -68,13 +76,16 @@ pub fn read_iim<'a>(alloc: Global, bytes: &'a [u8]) -> Result<Iim<'a>, Refusal>
 }
 
 /// Like `read_iim`, with the caller's memory: it returns `OutOfMemory` exactly if an allocation failed in this
-/// call.
+/// call. It requests at most 24 bytes for each five octets of the block, and 262,144 for the counters; for a
+/// block that is refused, it requests nothing.
 pub fn read_iim_in<'a>(memory: &mut Memory, bytes: &'a [u8]) -> Result<Iim<'a>, Refusal>
     ensures judged { Judges result (iim_checks bytes.now) (SaysIim bytes.now) }
     ensures computed { IfOk result (λ i. iim_of bytes.now ≡ Some i) }
     ensures whole { IfOk result IsRecord }
     ensures stands { IfErr result (RefusesIim bytes.now memory.new.refusals) }
     ensures memory { LacksBlock result memory.old memory.new }
+    ensures asked { AsksAtMost (iim_request (length bytes.now)) memory.old memory.new }
+    ensures refused { RefusesFirst result memory.old memory.new }
 {
     if bytes.len() > LIMIT as usize {
         return Err(Cause::TooLong.at(LIMIT));

@@ -29,7 +29,8 @@ pub(crate) struct Overview {
 impl Overview {
     // Whether the DataSets are so few that each is inserted at its position, in whatever order they come.
     pub(crate) fn is_few(&self) -> bool
-        ensures { result ≡ false → FEW < self.now.count }
+        ensures many { result ≡ false → FEW < self.now.count }
+        ensures few { result ≡ true → self.now.count ≤ FEW }
     {
         self.count <= FEW
     }
@@ -49,7 +50,7 @@ pub(crate) fn survey(bytes: &[u8]) -> Result<Overview, Refusal>
     ensures judged { Judges result (iim_checks bytes.now) (λ s. (ds : List DataSet)
         × (sequence_of (length bytes.now) bytes.now ≡ Some ds) × (s.count ≡ length ds)
         × AllByRecursion (λ d. group_key d < s.keys) ds × AreNumbers ds × (s.in_order ≡ true → InOrder ds)) }
-    ensures few { IfOk result (λ s. (5 * s.count ≤ limit) × (s.keys ≤ 65536)) }
+    ensures few { IfOk result (λ s. (5 * s.count ≤ length bytes.now) × (s.keys ≤ 65536)) }
     ensures content { ContentOnly result }
 {
     let mut at = 0;

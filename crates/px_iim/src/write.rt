@@ -2,7 +2,7 @@
 ghost use Rattle.std.specs.Prelude.{◌≡◌, ◌≤◌, ◌<◌, ◌++◌, length, map, OnOk, OnErr};
 ghost use Rattle.std.specs.List.{flat_map};
 ghost use Rattle.px_bytes.specs.Devices.{CanFail, over};
-ghost use Rattle.px_bytes.specs.Lacking.{Lacks};
+ghost use Rattle.px_bytes.specs.Lacking.{Lacks, AsksAtMost};
 ghost use Rattle.px_bytes.specs.Parts.{limit};
 ghost use Rattle.px_bytes.specs.Waiting.{Waits, Adds, AddsTo};
 ghost use Rattle.px_iim.specs.Record.{normal_dataset, normal_iim};
@@ -110,6 +110,7 @@ fn append_item(memory: &mut Memory, rec: u8, item: &Item, out: &mut Vec<u8>) -> 
     requires { length item.now.octets.now ≤ limit }
     ensures grown { Grows result out.old.items out.new.items (normal_dataset rec (item_view item.now)) }
     ensures memory { Lacks result memory.old memory.new }
+    ensures asked { AsksAtMost (length (normal_dataset rec (item_view item.now))) memory.old memory.new }
 {
     let (octets, len) = head(rec, item.number, item.octets.len() as u32);
     memory.extend_from_slice(out, &octets[..len])?;
@@ -125,6 +126,7 @@ fn append_group(
     requires { AreShort (map item_view items.now) }
     ensures grown { Grows result out.old.items out.new.items (flat_map (normal_dataset rec) (map item_view items.now)) }
     ensures memory { Lacks result memory.old memory.new }
+    ensures asked { AsksAtMost (length (flat_map (normal_dataset rec) (map item_view items.now))) memory.old memory.new }
 {
     for item in items {
         append_item(memory, rec, item, out)?;
@@ -135,6 +137,7 @@ fn append_group(
 fn append_record(memory: &mut Memory, iim: &Iim, out: &mut Vec<u8>) -> Result<(), Refused>
     ensures grown { Grows result out.old.items out.new.items (normal_iim iim.now) }
     ensures memory { Lacks result memory.old memory.new }
+    ensures asked { AsksAtMost (length (normal_iim iim.now)) memory.old memory.new }
 {
     for (rec, _, items) in iim.iter() {
         append_group(memory, rec, items, out)?;
@@ -160,6 +163,7 @@ pub fn append_iim_in(memory: &mut Memory, iim: &Iim, out: &mut Vec<u8>) -> Resul
     ensures done { OnOk result (out.new.items ≡ out.old.items ++ normal_iim iim.now) }
     ensures failed { OnErr result (out.new.items ≡ out.old.items) }
     ensures memory { Lacks result memory.old memory.new }
+    ensures asked { AsksAtMost (length (normal_iim iim.now)) memory.old memory.new }
 {
     let before = out.len();
     let result = append_record(memory, iim, out);

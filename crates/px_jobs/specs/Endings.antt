@@ -1,17 +1,19 @@
 -- How the runs of the program end.
-use Rattle.std.specs.Prelude.{◌≡◌, ℕ, Bool, true, false, List, Option, Some, None, codes, Result, Ok, Err, ⊤}
+use Rattle.std.specs.Prelude.{◌≡◌, ◌+◌, ℕ, Bool, true, false, List, Option, Some, None, codes, Result, Ok, Err, ⊤}
 use Rattle.px_engine.specs.declared.BlockKind.{BlockKind}
 use Rattle.px_engine.specs.declared.BlockKind.TheVariants as kind
 use Rattle.px_engine.specs.declared.CompareFault.{CompareFault}
 use Rattle.px_engine.specs.declared.Fault.{Fault}
 use Rattle.px_engine.specs.declared.Fault.TheVariants.{WriteFailed}
 use Rattle.px_engine.specs.Files.{Said}
-use Rattle.px_engine.specs.Input.{LacksRunBy, LacksPairBy, CountsReads}
+use Rattle.px_engine.specs.Input.{LacksRun, LacksPair, CountsReads}
+use Rattle.px_engine.specs.Asking.{run_request}
 use Rattle.px_engine.specs.Runs.{KnownSaid, Stops, Checks, Compares, Normalises, CountsWrites, CountsSides}
 use Rattle.px_engine.specs.Prints.{listing, caption_text}
 use Rattle.px_jobs.specs.declared.job.Job.{Job}
 use Rattle.px_jobs.specs.declared.job.Job.TheVariants.{Show, Check, Captions, Normalise}
 use Rattle.px_bytes.specs.Devices.{Device}
+use Rattle.px_bytes.specs.Lacking.{Taken, AsksAtMost}
 use Rattle.px_jobs.specs.Lines.{IsFailed, IsWell, Took, TookNothing, TookPrefix, Tells, TellsFault}
 
 -- ---- the status and the line of an outcome
@@ -55,31 +57,39 @@ TellsText text (Err WriteFailed) file status lines =
     (s : Said) × KnownSaid file s × (status ≡ 4) × IsFailed lines × TookPrefix lines (text s)
 TellsText text (Err fault) file status lines = Stops fault file × TellsFault fault None status lines
 
--- ---- whole runs: the engine allows the outcome for the files, and it is reported. `refused` and `refused_now` are the numbers
--- of failed allocations before and after the run: out of memory means one failed allocation, any other outcome means none
+-- ---- whole runs: the engine allows the outcome for the files, and it is reported. `taken` and `taken_now` are the numbers of the
+-- memory before and after the run: out of memory means one failed allocation, any other outcome means none; and no more bytes are
+-- requested than `run_request` allows for what the reader has left
 
-abbrev pub EndsNormalise : Device → Device → Device → ℕ → ℕ → ℕ → Type 0
-EndsNormalise reader out lines refused refused_now status = (r : Result ℕ Fault) × Normalises r reader.old out.old out.new
+abbrev pub IsRun : {A : Type 0} → Result A Fault → Option (List ℕ) → Taken → Taken → Type 0
+IsRun r left taken taken_now = LacksRun r taken taken_now × AsksAtMost (run_request left) taken taken_now
+
+abbrev pub IsPair : {A : Type 0} → Result A CompareFault → Option (List ℕ) → Option (List ℕ) → Taken → Taken → Type 0
+IsPair r left other taken taken_now =
+    LacksPair r taken taken_now × AsksAtMost (run_request left + run_request other) taken taken_now
+
+abbrev pub EndsNormalise : Device → Device → Device → Taken → Taken → ℕ → Type 0
+EndsNormalise reader out lines taken taken_now status = (r : Result ℕ Fault) × Normalises r reader.old out.old out.new
     × CountsReads r reader.failed reader.failed_now × CountsWrites r out.failed out.failed_now
-    × LacksRunBy r refused refused_now × TellsWritten r status lines
+    × IsRun r reader.old taken taken_now × TellsWritten r status lines
 
-abbrev pub EndsCheck : Device → Device → ℕ → ℕ → ℕ → Type 0
-EndsCheck reader lines refused refused_now status = (r : Result BlockKind Fault) × Checks r reader.old
-    × CountsReads r reader.failed reader.failed_now × LacksRunBy r refused refused_now × TellsChecked r status lines
+abbrev pub EndsCheck : Device → Device → Taken → Taken → ℕ → Type 0
+EndsCheck reader lines taken taken_now status = (r : Result BlockKind Fault) × Checks r reader.old
+    × CountsReads r reader.failed reader.failed_now × IsRun r reader.old taken taken_now × TellsChecked r status lines
 
 -- the text of the file
-abbrev pub EndsText : (Said → List ℕ) → Device → Device → ℕ → ℕ → ℕ → Type 0
-EndsText text reader lines refused refused_now status = (r : Result ⊤ Fault) × CountsReads r reader.failed reader.failed_now
-    × LacksRunBy r refused refused_now × TellsText text r reader.old status lines
+abbrev pub EndsText : (Said → List ℕ) → Device → Device → Taken → Taken → ℕ → Type 0
+EndsText text reader lines taken taken_now status = (r : Result ⊤ Fault) × CountsReads r reader.failed reader.failed_now
+    × IsRun r reader.old taken taken_now × TellsText text r reader.old status lines
 
 -- of the reader, the writer of normal bytes and the writer of lines
-abbrev pub Ends : Job → Device → Device → Device → ℕ → ℕ → ℕ → Type 0
-Ends Normalise reader out lines refused refused_now status = EndsNormalise reader out lines refused refused_now status
-Ends Check reader out lines refused refused_now status = IsIdle out × EndsCheck reader lines refused refused_now status
-Ends Show reader out lines refused refused_now status = IsIdle out × EndsText listing reader lines refused refused_now status
-Ends Captions reader out lines refused refused_now status = IsIdle out × EndsText caption_text reader lines refused refused_now status
+abbrev pub Ends : Job → Device → Device → Device → Taken → Taken → ℕ → Type 0
+Ends Normalise reader out lines taken taken_now status = EndsNormalise reader out lines taken taken_now status
+Ends Check reader out lines taken taken_now status = IsIdle out × EndsCheck reader lines taken taken_now status
+Ends Show reader out lines taken taken_now status = IsIdle out × EndsText listing reader lines taken taken_now status
+Ends Captions reader out lines taken taken_now status = IsIdle out × EndsText caption_text reader lines taken taken_now status
 
-abbrev pub EndsCompare : Device → Device → Device → ℕ → ℕ → ℕ → Type 0
-EndsCompare first second lines refused refused_now status = (r : Result Bool CompareFault) × Compares r first.old second.old
+abbrev pub EndsCompare : Device → Device → Device → Taken → Taken → ℕ → Type 0
+EndsCompare first second lines taken taken_now status = (r : Result Bool CompareFault) × Compares r first.old second.old
     × CountsSides r first.failed first.failed_now second.failed second.failed_now
-    × LacksPairBy r refused refused_now × TellsCompared r status lines
+    × IsPair r first.old second.old taken taken_now × TellsCompared r status lines

@@ -126,7 +126,7 @@ fn run_normalise<R: Source, O: Sink, L: Sink>(
     ensures { EndsNormalise (over R.failed R.bytes_left reader.old reader.new)
         (over O.failed O.bytes_taken out.old out.new)
         (over L.failed L.bytes_taken lines.old lines.new)
-        memory.old.refusals memory.new.refusals result }
+        memory.old memory.new result }
 {
     tell_written(lines, normalise_in(memory, reader, out))
 }
@@ -138,7 +138,7 @@ fn run_check<R: Source, L: Sink>(memory: &mut Memory, reader: &mut R, lines: &mu
     requires telling { CanFail (L.failed lines.old) }
     ensures { EndsCheck (over R.failed R.bytes_left reader.old reader.new)
         (over L.failed L.bytes_taken lines.old lines.new)
-        memory.old.refusals memory.new.refusals result }
+        memory.old memory.new result }
 {
     tell_checked(lines, check_in(memory, reader))
 }
@@ -149,7 +149,7 @@ fn run_show<R: Source, L: Sink>(memory: &mut Memory, reader: &mut R, lines: &mut
     requires telling { CanFail (L.failed lines.old) }
     ensures { EndsText listing (over R.failed R.bytes_left reader.old reader.new)
         (over L.failed L.bytes_taken lines.old lines.new)
-        memory.old.refusals memory.new.refusals result }
+        memory.old memory.new result }
 {
     let printed = show_in(memory, reader, lines);
     tell_printed(lines, printed)
@@ -161,7 +161,7 @@ fn run_captions<R: Source, L: Sink>(memory: &mut Memory, reader: &mut R, lines: 
     requires telling { CanFail (L.failed lines.old) }
     ensures { EndsText caption_text (over R.failed R.bytes_left reader.old reader.new)
         (over L.failed L.bytes_taken lines.old lines.new)
-        memory.old.refusals memory.new.refusals result }
+        memory.old memory.new result }
 {
     let printed = captions_in(memory, reader, lines);
     tell_printed(lines, printed)
@@ -188,7 +188,7 @@ pub fn run_one_in<R: Source, O: Sink, L: Sink>(
     ensures { Ends job (over R.failed R.bytes_left reader.old reader.new)
         (over O.failed O.bytes_taken out.old out.new)
         (over L.failed L.bytes_taken lines.old lines.new)
-        memory.old.refusals memory.new.refusals result }
+        memory.old memory.new result }
 {
     match job {
         Job::Show => run_show(memory, reader, lines),
@@ -215,7 +215,7 @@ pub fn run_compare_in<R: Source, S: Source, L: Sink>(
     ensures { EndsCompare (over R.failed R.bytes_left first.old first.new)
         (over S.failed S.bytes_left second.old second.new)
         (over L.failed L.bytes_taken lines.old lines.new)
-        memory.old.refusals memory.new.refusals result }
+        memory.old memory.new result }
 {
     tell_compared(lines, compare_in(memory, first, second))
 }

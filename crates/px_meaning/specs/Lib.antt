@@ -1,6 +1,7 @@
 pub mod Roles
 pub mod Iim
 pub mod Tree
+pub mod Asking
 pub mod Entry
 pub mod Directory
 pub mod Thumbnail

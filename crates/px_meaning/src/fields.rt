@@ -1,7 +1,8 @@
 // The fields of a directory, by their tags.
 ghost use Rattle.std.specs.Prelude.{◌≡◌, ◌<◌, [], ◌∷◌, ◌++◌, OnOk, IfOk, IfErr, OnErr, Some, None, length, slice_get, option_copied};
-ghost use Rattle.std.specs.Prelude.{is_some, true, false, IsTrue, ◌↔◌};
+ghost use Rattle.std.specs.Prelude.{is_some, true, false, IsTrue, ◌↔◌, ◌+◌, ◌*◌, if◌then◌else◌};
 ghost use Rattle.px_bytes.specs.Lacking.{Lacks};
+ghost use Rattle.px_meaning.specs.Asking.{field_bytes};
 ghost use Rattle.px_meaning.specs.Roles.{at_tag};
 ghost use Rattle.px_meaning.specs.Fits.{put};
 ghost use Rattle.px_meaning.specs.Entry.{Rising};
@@ -108,6 +109,7 @@ impl<'a> Fields<'a> {
         ensures absent { OnErr result (at_tag tag self.old ≡ None) }
         ensures err { OnErr result (self.new ≡ self.old) }
         ensures memory { Lacks result memory.old memory.new }
+        ensures asked { memory.new.asked ≡ memory.old.asked + (if is_some (at_tag tag self.old) then 0 else field_bytes) }
     {
         match place_of(self.list.as_slice(), tag) {
             Ok(_) => Ok(false),
@@ -124,6 +126,7 @@ impl<'a> Fields<'a> {
     pub fn with_room(memory: &mut Memory, count: u16) -> Result<Fields<'a>, Refused>
         ensures none { IfOk result (λ f. f ≡ []) }
         ensures memory { Lacks result memory.old memory.new }
+        ensures asked { memory.new.asked ≡ memory.old.asked + count * field_bytes }
     {
         let mut list = memory.list();
         memory.reserve(&mut list, usize::from(count))?;
@@ -136,6 +139,7 @@ impl<'a> Fields<'a> {
         ensures ok { OnOk result (self.new ≡ self.old ++ (tag, value.entry) ∷ []) }
         ensures err { OnErr result (self.new ≡ self.old) }
         ensures memory { Lacks result memory.old memory.new }
+        ensures asked { memory.new.asked ≡ memory.old.asked + field_bytes }
     {
         memory.push(&mut self.list, (tag, value))?;
         Ok(())

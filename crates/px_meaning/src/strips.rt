@@ -1,6 +1,7 @@
 // The strips of a thumbnail.
 ghost use Rattle.std.specs.Prelude.{◌≡◌, ◌<◌, ◌≤◌, ◌+◌, [], ◌∷◌, ◌++◌, length, map, slice_get, Some, OnOk, OnErr, IsTrue, ◌↔◌};
 ghost use Rattle.px_bytes.specs.Lacking.{Lacks};
+ghost use Rattle.px_meaning.specs.Asking.{strip_bytes};
 ghost use Rattle.px_meaning.specs.calls.Strips.{AreNamed, AreJoined, named_strips};
 
 use crate::strip_lists::{StripLists, strip_at, strip_len};
@@ -74,6 +75,7 @@ impl<'a> Strips<'a> {
         ensures ok { OnOk result (self.new ≡ self.old ++ strip.now ∷ []) }
         ensures err { OnErr result (self.new ≡ self.old) }
         ensures memory { Lacks result memory.old memory.new }
+        ensures asked { memory.new.asked ≡ memory.old.asked + strip_bytes }
     {
         memory.push(&mut self.list, strip)?;
         Ok(())

@@ -1,5 +1,5 @@
 -- Texts and lists that are made part by part.
-use Rattle.std.proofs.Common.{◌≡◌, ℕ, ◌+◌, ◌-◌, ◌<◌, ◌≤◌, ◌++◌, List, [], ◌∷◌, length, take, drop, map, slice_index, slice_get, get_or}
+use Rattle.std.proofs.Common.{◌≡◌, ℕ, ◌+◌, ◌-◌, ◌*◌, ◌<◌, ◌≤◌, ◌++◌, List, [], ◌∷◌, length, take, drop, map, slice_index, slice_get, get_or}
 use Rattle.std.proofs.Common.{Option, Some, option_map, ◌/◌, ◌%◌, refl, sym, ap, ◌∙◌, arith, append_assoc, length-append, take-append-drop}
 use Rattle.std.specs.Prelude.{codes}
 use Rattle.std.specs.List.{flat_map, filter_map}
@@ -13,9 +13,13 @@ use Rattle.std.proofs.lemmas.Grind.{flat_map-append}
 use Rattle.std.proofs.lemmas.Option.{slice_get_within, get_or_from_slice_get, slice_get-map, slice_get-get_or}
 use Rattle.hex.specs.Hex.{encode_with, encode_lower, lower_digits}
 use Rattle.px_iim.specs.Group.{Group, Record}
-use Rattle.px_text.specs.Listing.{dataset_count}
+use Rattle.px_iim.specs.Asking.{dataset_count}
 use Rattle.px_text.proofs.Chains.{owes_append, owes_prefix, owes_as, prefix_as}
+use Rattle.px_meaning.specs.Tree.{Fields}
+use Rattle.px_text.specs.declared.labels.Label.{Label}
+use Rattle.px_text.specs.Captions.{caption_bytes}
 use Rattle.px_text.specs.Captions.{Labelled, labelled, group_captions, caption_groups, iim_captions, caption_line, caption_lines}
+use Rattle.px_text.specs.Captions.{tag_captions, caption_texts, exif_captions}
 
 -- ---- bytes in hexadecimal
 
@@ -78,6 +82,14 @@ module _ {X A : Type 0} (xs : List X) (i : ℕ) (x : X) (read : slice_get xs i �
       ap (flat_map f) (one_more xs i x read) ∙ sym (flat_map_more f [] (take i xs) x) in
       h ∙ ap (λ (l : List A). l ++ f x) e ∙ append_assoc old (flat_map f (take i xs)) (f x) ∙ ap (λ (l : List A). old ++ l) (sym more)
 
+  -- so much is requested for the elements up to it
+  pub asked_more : (f : X → List A) (old now new : ℕ) → now ≤ old + caption_bytes * length (flat_map f (take i xs))
+      → new ≤ now + caption_bytes * length (f x) → new ≤ old + caption_bytes * length (flat_map f (take (i + 1) xs))
+  asked_more f old now new h k =
+      let so_far = flat_map f (take i xs) in
+      let more = ap length (parts_more f [] so_far (so_far ++ f x) refl refl) in
+      omega (arith, h, k, more, length-append so_far (f x))
+
   -- its output, if any, follows that of the elements before
   pub given_more : (f : X → Option A) (old now new : List A) → now ≡ old ++ filter_map f (take i xs) → new ≡ now ++ filter_map f (x ∷ [])
       → new ≡ old ++ filter_map f (take (i + 1) xs)
@@ -86,6 +98,24 @@ module _ {X A : Type 0} (xs : List X) (i : ℕ) (x : X) (read : slice_get xs i �
       ap (filter_map f) (one_more xs i x read) ∙ filter_map-append f (take i xs) (x ∷ []) in
       h ∙ ap (λ (l : List A). l ++ filter_map f (x ∷ [])) e ∙ append_assoc old (filter_map f (take i xs)) (filter_map f (x ∷ []))
       ∙ ap (λ (l : List A). old ++ l) (sym more)
+
+  pub asked_given : (f : X → Option A) (old now new : ℕ) → now ≤ old + caption_bytes * length (filter_map f (take i xs))
+      → new ≤ now + caption_bytes * length (filter_map f (x ∷ [])) → new ≤ old + caption_bytes * length (filter_map f (take (i + 1) xs))
+  asked_given f old now new h k =
+      let so_far = filter_map f (take i xs) in
+      let more = ap length (given_more f [] so_far (so_far ++ filter_map f (x ∷ [])) refl refl) in
+      omega (arith, h, k, more, length-append so_far (filter_map f (x ∷ [])))
+
+-- the parts of the first elements are no longer than those of all
+pub length_parts : {X A : Type 0} (f : X → List A) (xs : List X) (n : ℕ) → length (flat_map f (take n xs)) ≤ length (flat_map f xs)
+length_parts f xs n =
+    let whole = ap length (sym (flat_map-append f (take n xs) (drop n xs)) ∙ ap (flat_map f) (take-append-drop n xs)) in
+    omega (arith, whole, length-append (flat_map f (take n xs)) (flat_map f (drop n xs)))
+
+pub length_given : {X A : Type 0} (f : X → Option A) (xs : List X) (n : ℕ) → length (filter_map f (take n xs)) ≤ length (filter_map f xs)
+length_given f xs n =
+    let whole = ap length (sym (filter_map-append f (take n xs) (drop n xs)) ∙ ap (filter_map f) (take-append-drop n xs)) in
+    omega (arith, whole, length-append (filter_map f (take n xs)) (filter_map f (drop n xs)))
 
 -- the text before a field's elements: the tag, the type between two spaces, and the count
 pub head_whole : (tag word n : List ℕ) → tag ++ (codes " " ++ word ++ codes " ") ++ (n ++ codes ":") ≡ tag ++ codes " " ++ word ++ codes " "
@@ -121,17 +151,18 @@ lines_items (x ∷ xs) =
     ap (λ (l : List ℕ). item_lines x ++ l) (lines_items xs) ∙ sym (lines_append (filter_map labelled (x ∷ [])) (filter_map labelled xs))
     ∙ ap caption_lines (sym (filter_map-append labelled (x ∷ []) xs))
 
--- group by group, or all at once
-lines_each : (i : Record) (ns : List ℕ) → flat_map (λ (n : ℕ). caption_lines (group_captions i n)) ns ≡ caption_lines
-    (flat_map (group_captions i) ns)
-lines_each i [] = refl
-lines_each i (n ∷ ns) = ap (λ (l : List ℕ). caption_lines (group_captions i n) ++ l) (lines_each i ns)
-    ∙ sym (lines_append (group_captions i n) (flat_map (group_captions i) ns))
+-- part by part, or all at once
+lines_each : {X : Type 0} (f : X → List Labelled) (xs : List X) → flat_map (λ (x : X). caption_lines (f x)) xs
+    ≡ caption_lines (flat_map f xs)
+lines_each f [] = refl
+lines_each f (x ∷ xs) = ap (λ (l : List ℕ). caption_lines (f x) ++ l) (lines_each f xs) ∙ sym (lines_append (f x) (flat_map f xs))
 
 pub group_lines_whole : (i : Record) → flat_map (λ (n : ℕ). caption_lines (group_captions i n)) caption_groups ≡ caption_lines
     (iim_captions i)
 unfolding iim_captions
-group_lines_whole i = lines_each i caption_groups
+group_lines_whole i = lines_each (group_captions i) caption_groups
 
-pub three_lines : (x y z : List Labelled) → caption_lines x ++ caption_lines y ++ caption_lines z ≡ caption_lines (x ++ y ++ z)
-three_lines x y z = ap (λ (l : List ℕ). l ++ caption_lines z) (sym (lines_append x y)) ∙ sym (lines_append (x ++ y) z)
+pub text_lines_whole : (fs : Fields) → flat_map (λ (t : ℕ × Label). caption_lines (tag_captions fs t)) caption_texts ≡ caption_lines
+    (exif_captions fs)
+unfolding exif_captions
+text_lines_whole fs = lines_each (tag_captions fs) caption_texts

@@ -1,6 +1,6 @@
 -- Values as texts, and as bytes.
 use Rattle.std.proofs.Common.{◌≡◌, ℕ, Bool, ◌++◌, List, length, [], ◌∷◌, map, true, false, Option, Some, None, option_map, if◌then◌else◌}
-use Rattle.std.proofs.Common.{refl, sym, ap, ◌∙◌, append_assoc}
+use Rattle.std.proofs.Common.{refl, sym, ap, ◌∙◌}
 use Rattle.std.specs.Prelude.{◌==◌, codes, IsSome, IfSome, IsTrue, ◌↔◌, is_some}
 use Rattle.std.specs.List.{flat_map}
 use Rattle.std.specs.Borrow.{Bor}
@@ -44,14 +44,6 @@ byte_elements k (b ∷ bs) h =
 pub shown_as_bytes : (k : Kind) (es : List Element) (bs : List ℕ) → is_bytes k ≡ true → es ≡ map element.Byte bs
     → shown_elements k es ≡ shown_bytes bs
 shown_as_bytes k es bs h e = ap (shown_elements k) e ∙ byte_elements k bs h
-
--- any other value: a space before every element
-pub shown_apart : (k : Kind) (es : List Element) → is_bytes k ≡ false → shown_elements k es ≡ flat_map (λ e. codes " " ++ element_text e) es
-shown_apart k [] h = refl
-shown_apart k (e ∷ es) h =
-    let space : divider k ≡ codes " " = ap (λ t. if t then [] else codes " ") h in
-    ap (λ (d : List ℕ). codes " " ++ (element_text e ++ flat_map (λ y. d ++ element_text y) es)) space
-    ∙ sym (append_assoc (codes " ") (element_text e) (flat_map (λ y. codes " " ++ element_text y) es))
 
 -- a text is bytes
 text_is_bytes : (k : Kind) → is_text k ≡ true → is_bytes k ≡ true

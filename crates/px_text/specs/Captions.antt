@@ -76,10 +76,16 @@ abbrev pub text_captions : Label → Option Value → List Labelled
 text_captions l None = []
 text_captions l (Some v) = if is_text v.kind then (l, spelled Most v) ∷ [] else []
 
--- ImageDescription, Artist and Copyright in the main directory
+-- the texts of a main directory in the order of their captions: ImageDescription, Artist and Copyright
+abbrev pub caption_texts : List (ℕ × Label)
+caption_texts = (0x010E, Description) ∷ (0x013B, Artist) ∷ (0x8298, Copyright) ∷ []
+
+-- that of one tag
+abbrev pub tag_captions : Fields → ℕ × Label → List Labelled
+tag_captions fs t = text_captions t.1 (at_tag t.0 fs)
+
 unfoldable pub exif_captions : Fields → List Labelled
-exif_captions fs =
-    text_captions Description (at_tag 0x010E fs) ++ text_captions Artist (at_tag 0x013B fs) ++ text_captions Copyright (at_tag 0x8298 fs)
+exif_captions fs = flat_map (tag_captions fs) caption_texts
 
 -- ---- all: whether UTF-8 is declared, and the captions, of an Exif block and of a record
 
@@ -96,6 +102,10 @@ captions_of_exif m = (record_declares m.iptc, exif_captions m.main ++ record_cap
 
 abbrev pub captions_of_iim : Record → Bool × List Labelled
 captions_of_iim i = (declares_utf8 i, iim_captions i)
+
+-- the bytes of a caption in a list, besides its text
+abbrev pub caption_bytes : ℕ
+caption_bytes = 24
 
 -- ---- their text
 

@@ -11,6 +11,7 @@ use Rattle.px_field.specs.declared.Kind.TheVariants.{Of, Whole}
 use Rattle.px_field.specs.declared.Element.{Element}
 use Rattle.px_field.specs.declared.Element.TheVariants as element
 use Rattle.px_field.specs.Values.{Value, is_bytes}
+use Rattle.px_iim.specs.Asking.{dataset_count}
 use Rattle.px_iim.specs.Group.{Group, Record}
 use Rattle.px_meaning.specs.Tree.{Fields, ExifPart, Thumbnail, Meaning}
 use Rattle.px_text.specs.Words.{sized_bytes}
@@ -89,10 +90,6 @@ group_lines g = flat_map (dataset_line g.rec) g.items
 -- the groups in order, each list in its order
 abbrev pub dataset_lines : Record → List ℕ
 dataset_lines i = flat_map group_lines i
-
--- the number of DataSets
-abbrev pub dataset_count : Record → ℕ
-dataset_count i = length (flat_map (λ g. g.items) i)
 
 -- ---- directories
 

@@ -10,8 +10,8 @@ ghost use Rattle.px_text.specs.Captions.{charset_line, iim_captions, iim_lines, 
 ghost use Rattle.px_text.specs.calls.CaptionView.{caption_view};
 
 use crate::caption::Caption;
-use crate::captions_in::{GROUPS, declares_utf8, text_of};
-use crate::labels::{Label, label_of, label_word};
+use crate::captions_in::{declares_utf8, text_of};
+use crate::labels::{GROUPS, Label, TEXTS, label_of, label_word};
 use crate::texts::put_hex;
 use px_bytes::{Failed, Pending, Sink};
 use px_iim::{Iim, Item};
@@ -157,14 +157,16 @@ fn put_text<W: Sink>(
 }
 
 // Adds the lines of a main directory.
-fn put_exif<W: Sink>(pending: &mut Pending, writer: &mut W, fields: &Fields) -> Result<(), Failed>
+fn put_texts<W: Sink>(pending: &mut Pending, writer: &mut W, fields: &Fields) -> Result<(), Failed>
     requires { CanFail (W.failed writer.old) }
     ensures { Adds result (over W.failed W.bytes_taken writer.old writer.new) pending.old pending.new
         (caption_lines (exif_captions fields.now)) }
 {
-    put_text(pending, writer, fields, 0x010E, Label::Description)?;
-    put_text(pending, writer, fields, 0x013B, Label::Artist)?;
-    put_text(pending, writer, fields, 0x8298, Label::Copyright)
+    for i in 0..TEXTS.len() {
+        let (tag, label) = TEXTS[i];
+        put_text(pending, writer, fields, tag, label)?;
+    }
+    Ok(())
 }
 
 /// Adds the captions of an Exif block to the output buffer, one for each line. Bytes from 20 to 7E except the
@@ -181,7 +183,7 @@ pub fn put_exif_captions<W: Sink>(
         (exif_text (meaning_of meaning.now)) }
 {
     pending.put(writer, b"exif\n")?;
-    put_exif(pending, writer, &meaning.main)?;
+    put_texts(pending, writer, &meaning.main)?;
     put_record(pending, writer, &meaning.iptc)
 }
 

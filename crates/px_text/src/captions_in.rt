@@ -1,24 +1,22 @@
 // Which texts of a file are captions.
-ghost use Rattle.std.specs.Prelude.{◌≡◌, [], ◌∷◌, ◌++◌, map, filter_map, option_map, if◌then◌else◌, Some, None, bytes_eq, OnOk, IfOk};
-ghost use Rattle.px_bytes.specs.Lacking.{Lacks};
+ghost use Rattle.std.specs.Prelude.{◌≡◌, ◌≤◌, ◌+◌, ◌*◌, [], ◌∷◌, ◌++◌, length, map, filter_map, option_map, if◌then◌else◌};
+ghost use Rattle.std.specs.Prelude.{Some, None, bytes_eq, OnOk, IfOk};
+ghost use Rattle.px_bytes.specs.Lacking.{Lacks, AsksAtMost};
 ghost use Rattle.px_bytes.specs.declared.Order.TheVariants.{Most};
 ghost use Rattle.px_field.specs.Values.{spelled};
 ghost use Rattle.px_iim.specs.calls.View.{item_view};
 ghost use Rattle.px_meaning.specs.Roles.{at_tag};
 ghost use Rattle.px_meaning.specs.calls.Seen.{meaning_of};
 ghost use Rattle.px_text.specs.Captions.{labelled, iim_captions, utf8_designation, declares_utf8, is_text, text_captions, exif_captions};
-ghost use Rattle.px_text.specs.Captions.{captions_of_exif, captions_of_iim};
+ghost use Rattle.px_text.specs.Captions.{captions_of_exif, captions_of_iim, caption_bytes};
 ghost use Rattle.px_text.specs.calls.CaptionView.{caption_view};
 
 use crate::caption::{Caption, Captions};
-use crate::labels::{Label, label_of};
+use crate::labels::{GROUPS, Label, TEXTS, label_of};
 use px_bytes::{Memory, Refused};
 use px_field::{Form, Kind, Value};
 use px_iim::{Iim, Item};
 use px_meaning::{Fields, Meaning};
-
-// The groups of record 2 in the order of their captions.
-pub(crate) const GROUPS: [u8; 9] = [5, 120, 105, 110, 115, 116, 80, 25, 103];
 
 // ESC % G.
 const UTF8: [u8; 3] = [0x1B, 0x25, 0x47];
@@ -32,6 +30,7 @@ fn push_item<'a>(
     ensures list { OnOk result (map caption_view list.new.items ≡ map caption_view list.old.items ++ filter_map labelled
         (item_view item.entry ∷ [])) }
     ensures memory { Lacks result memory.old memory.new }
+    ensures asked { AsksAtMost (caption_bytes * length (filter_map labelled (item_view item.entry ∷ []))) memory.old memory.new }
 {
     match label_of(item.number) {
         Some(label) => {
@@ -56,6 +55,7 @@ fn push_group<'a>(
     ensures list { OnOk result (map caption_view list.new.items ≡ map caption_view list.old.items ++ filter_map labelled
         (map item_view items.now)) }
     ensures memory { Lacks result memory.old memory.new }
+    ensures asked { AsksAtMost (caption_bytes * length (filter_map labelled (map item_view items.now))) memory.old memory.new }
 {
     for item in items {
         push_item(memory, *item, list)?;
@@ -72,6 +72,7 @@ fn push_record<'a>(
 ) -> Result<(), Refused>
     ensures list { OnOk result (map caption_view list.new.items ≡ map caption_view list.old.items ++ iim_captions iim.now) }
     ensures memory { Lacks result memory.old memory.new }
+    ensures asked { AsksAtMost (caption_bytes * length (iim_captions iim.now)) memory.old memory.new }
 {
     for i in 0..GROUPS.len() {
         push_group(memory, iim.group(2, GROUPS[i]), list)?;
@@ -128,6 +129,7 @@ fn push_text<'a>(
     ensures list { OnOk result (map caption_view list.new.items ≡ map caption_view list.old.items ++ text_captions label
         (at_tag tag fields.now)) }
     ensures memory { Lacks result memory.old memory.new }
+    ensures asked { AsksAtMost (caption_bytes * length (text_captions label (at_tag tag fields.now))) memory.old memory.new }
 {
     let Some(value) = fields.get(tag) else {
         return Ok(());
@@ -140,17 +142,20 @@ fn push_text<'a>(
 
 // Appends the captions of a main directory.
 #[tactic(auto, unfolding(crate::specs::Captions::exif_captions))]
-fn push_fields<'a>(
+fn push_texts<'a>(
     memory: &mut Memory,
     fields: &Fields<'a>,
     list: &mut Vec<Caption<'a>>,
 ) -> Result<(), Refused>
     ensures list { OnOk result (map caption_view list.new.items ≡ map caption_view list.old.items ++ exif_captions fields.now) }
     ensures memory { Lacks result memory.old memory.new }
+    ensures asked { AsksAtMost (caption_bytes * length (exif_captions fields.now)) memory.old memory.new }
 {
-    push_text(memory, fields, 0x010E, Label::Description, list)?;
-    push_text(memory, fields, 0x013B, Label::Artist, list)?;
-    push_text(memory, fields, 0x8298, Label::Copyright, list)
+    for i in 0..TEXTS.len() {
+        let (tag, label) = TEXTS[i];
+        push_text(memory, fields, tag, label, list)?;
+    }
+    Ok(())
 }
 
 /// The captions of an Exif block: the fields ImageDescription, Artist and Copyright of its main directory, if
@@ -163,9 +168,10 @@ pub fn exif_captions_in<'a>(
 ) -> Result<Captions<'a>, Refused>
     ensures memory { Lacks result memory.old memory.new }
     ensures captions { IfOk result (λ c. c ≡ captions_of_exif (meaning_of meaning.now)) }
+    ensures asked { AsksAtMost (caption_bytes * length (captions_of_exif (meaning_of meaning.now)).1) memory.old memory.new }
 {
     let mut list = memory.list();
-    push_fields(memory, &meaning.main, &mut list)?;
+    push_texts(memory, &meaning.main, &mut list)?;
     match &meaning.iptc {
         Some(iim) => {
             push_record(memory, iim, &mut list)?;
@@ -183,6 +189,7 @@ pub fn exif_captions_in<'a>(
 pub fn iim_captions_in<'a>(memory: &mut Memory, iim: &Iim<'a>) -> Result<Captions<'a>, Refused>
     ensures memory { Lacks result memory.old memory.new }
     ensures captions { IfOk result (λ c. c ≡ captions_of_iim iim.now) }
+    ensures asked { AsksAtMost (caption_bytes * length (iim_captions iim.now)) memory.old memory.new }
 {
     let mut list = memory.list();
     push_record(memory, iim, &mut list)?;

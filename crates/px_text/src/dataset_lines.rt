@@ -2,8 +2,9 @@
 ghost use Rattle.std.specs.Prelude.{◌≡◌, map, length, flat_map};
 ghost use Rattle.px_bytes.specs.Devices.{CanFail, over};
 ghost use Rattle.px_bytes.specs.Waiting.{Adds};
+ghost use Rattle.px_iim.specs.Asking.{dataset_count};
 ghost use Rattle.px_iim.specs.calls.View.{item_view};
-ghost use Rattle.px_text.specs.Listing.{dataset_line, dataset_lines, dataset_count};
+ghost use Rattle.px_text.specs.Listing.{dataset_line, dataset_lines};
 
 use crate::texts::{put_decimal, put_ended, put_sized};
 use px_bytes::{Failed, Pending, Sink};

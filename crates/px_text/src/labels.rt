@@ -1,4 +1,4 @@
-// The labels of captions.
+// The labels of captions, and what has a label.
 ghost use Rattle.std.specs.Prelude.{◌≡◌, ◌++◌, codes};
 ghost use Rattle.px_text.specs.Captions.{label_of, label_word};
 
@@ -30,6 +30,16 @@ pub enum Label {
     /// Artist, 0x013B, of an Exif block.
     Artist,
 }
+
+// The groups of record 2 in the order of their captions.
+pub(crate) const GROUPS: [u8; 9] = [5, 120, 105, 110, 115, 116, 80, 25, 103];
+
+// The texts of a main directory in the order of their captions: their tags and labels.
+pub(crate) const TEXTS: [(u16, Label); 3] = [
+    (0x010E, Label::Description),
+    (0x013B, Label::Artist),
+    (0x8298, Label::Copyright),
+];
 
 // The label of a DataSet of record 2.
 #[tactic(auto, unfolding(crate::specs::Captions::label_of))]

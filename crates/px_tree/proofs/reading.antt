@@ -13,3 +13,4 @@ pub mod Parted
 pub mod StripRanges
 pub mod Rising
 pub mod Kept
+pub mod Paying

@@ -10,6 +10,7 @@ pub use Rattle.px_meaning.specs.Says
 pub use Rattle.px_meaning.specs.Fits
 pub use Rattle.px_meaning.specs.Laws
 pub use Rattle.px_meaning.specs.lemmas
+pub mod Asking
 pub mod Checks
 pub mod Faults
 pub mod Refused

@@ -10,6 +10,7 @@ ghost use Rattle.px_meaning.specs.Footprint.{placed_range};
 ghost use Rattle.px_tree.specs.Checks.{shape_checks, entry_checks};
 ghost use Rattle.px_meaning.specs.calls.Used.{HasNoUse};
 ghost use Rattle.px_tree.specs.calls.Reading.{Shows, bare, IsShape, Follows, span, span_checks};
+ghost use Rattle.px_tree.specs.calls.Paying.{Pays, StaysBelow};
 
 use crate::holding::hold;
 use crate::source::Source;
@@ -113,6 +114,8 @@ fn hold_value(
     ensures inside { let start = shape.head.offset in let len = shape.head.count * size shape.form in
         IfOk result (λ _. 4 < len → start + len ≤ length block.now) }
     ensures memory { LacksBlock result memory.old memory.new }
+    ensures asked { Pays (length block.now) 0 result memory.old memory.new held.old held.new }
+    ensures below { StaysBelow (length block.now) held.old held.new }
 {
     let start = shape.head.offset;
     let len = u64::from(shape.head.count) * u64::from(shape.form.size());
@@ -148,6 +151,8 @@ pub fn judge_entry(
     ensures follows { IfOk result (λ s. Follows before s.head.tag) }
     ensures common { IfOk result (λ s. s.is_common ≡ true → HasNoUse s.head.tag) }
     ensures memory { LacksBlock result memory.old memory.new }
+    ensures asked { Pays (length source.now.block.now) 0 result memory.old memory.new held.old held.new }
+    ensures below { StaysBelow (length source.now.block.now) held.old held.new }
 {
     let head = head_at(source.block, source.order, at);
     let shape = shape_of(source.dir, at, before, head)?;

@@ -13,6 +13,9 @@ ghost use Rattle.px_tree.specs.Checks.{entries_checks};
 ghost use Rattle.px_meaning.specs.calls.Places.{tags};
 ghost use Rattle.px_tree.specs.calls.Reading.{IsHeld, is_whole, entries_from};
 ghost use Rattle.px_tree.specs.calls.Uses.{AreUses};
+ghost use Rattle.px_bytes.specs.Lacking.{AsksAtMost};
+ghost use Rattle.px_meaning.specs.Asking.{field_bytes};
+ghost use Rattle.px_tree.specs.calls.Paying.{Pays, StaysBelow};
 
 use crate::entries::{Head, Shape, judge_entry};
 use crate::entry_values::{raw_of, value_at};
@@ -92,6 +95,7 @@ fn keep_any_field<'a>(
         (value_in b o (entry o (part b at 12)) shape.role shape.form))) }
     ensures err { IfErr result (λ e. e ≡ OutOfMemory) }
     ensures memory { LacksBlock result memory.old memory.new }
+    ensures asked { AsksAtMost field_bytes memory.old memory.new }
 {
     match field_of(source.block, source.order, at, shape) {
         Some(value) => {
@@ -119,6 +123,7 @@ fn keep_field<'a>(
         (value_in b o (entry o (part b at 12)) shape.role shape.form))) }
     ensures err { IfErr result (λ e. e ≡ OutOfMemory) }
     ensures memory { LacksBlock result memory.old memory.new }
+    ensures asked { AsksAtMost field_bytes memory.old memory.new }
 {
     match shape.role {
         Role::Plain => {
@@ -156,6 +161,8 @@ pub fn read_entries<'a>(
     ensures uses { let b = source.now.block.now in let o = source.now.order in
         IfOk result (λ v. AreUses b o (entries_from b o start count) start v.uses) }
     ensures memory { LacksBlock result memory.old memory.new }
+    ensures asked { Pays (length source.now.block.now) (2 * count * field_bytes) result memory.old memory.new held.old held.new }
+    ensures below { StaysBelow (length source.now.block.now) held.old held.new }
 {
     let mut fields = Fields::with_room(memory, count)?;
     let mut uses = no_uses();

@@ -7,6 +7,8 @@ ghost use Rattle.px_meaning.specs.Says.{meaning, SaysExif};
 ghost use Rattle.px_meaning.specs.calls.Seen.{exif_of, meaning_of};
 ghost use Rattle.px_tree.specs.Checks.{tree_checks};
 ghost use Rattle.px_tree.specs.Refused.{IsRefused};
+ghost use Rattle.px_bytes.specs.Lacking.{AsksAtMost};
+ghost use Rattle.px_tree.specs.Asking.{exif_request};
 
 use crate::header::{judge_header, order_in};
 use crate::holding::hold;
@@ -46,6 +48,7 @@ fn read_tree<'a>(memory: &mut Memory, block: &'a [u8], order: Order) -> Result<M
     ensures judged { Judges result (tree_checks block.now order)
         (λ m. meaning_of m ≡ meaning block.now order) }
     ensures memory { LacksBlock result memory.old memory.new }
+    ensures asked { AsksAtMost (exif_request (length block.now)) memory.old memory.new }
 {
     let mut held = Ranges::with_room_in(memory, block.len() as u32)?;
     hold(memory, &mut held, 0, 0, 8)?;
@@ -89,14 +92,15 @@ pub fn read_block<'a>(alloc: Global, block: Block<'a>) -> Result<Meaning<'a>, Re
 /// directory, of type BYTE or UNDEFINED, are a record if they can be read as one, and otherwise a field.
 ///
 /// The values, the JPEG and the strips borrow the block's bytes. Allocates the fields, the record, the list
-/// of strips, and the claimed ranges while it reads. The cost is linear in the block's length. `Content`: the
-/// cause and byte offset (at most `LIMIT`) of the block's first fault; it has no meaning. `OutOfMemory`: an
-/// allocation failed.
+/// of strips, and the claimed ranges while it reads. It requests at most twelve bytes for each byte of the
+/// block, and 262,160. The cost is linear in the block's length. `Content`: the cause and byte offset (at most
+/// `LIMIT`) of the block's first fault; it has no meaning. `OutOfMemory`: an allocation failed.
 pub fn read_block_in<'a>(memory: &mut Memory, block: Block<'a>) -> Result<Meaning<'a>, Refusal>
     ensures says { IfOk result (λ m. SaysExif block.entry (meaning_of m)) }
     ensures fits { IfOk result (λ m. Fits (meaning_of m)) }
     ensures refused { IfErr result (IsRefused block.entry memory.new.refusals) }
     ensures memory { LacksBlock result memory.old memory.new }
+    ensures asked { AsksAtMost (exif_request (length block.entry)) memory.old memory.new }
 {
     let bytes = block.bytes();
     judge_header(bytes)?;

@@ -11,6 +11,8 @@ ghost use Rattle.px_meaning.specs.Directory.{entries_at};
 ghost use Rattle.px_meaning.specs.Says.{record_at};
 ghost use Rattle.px_meaning.specs.Roles.{record_tag};
 ghost use Rattle.px_tree.specs.calls.Parts.{HasValue, Finds, entry_here};
+ghost use Rattle.px_bytes.specs.Lacking.{AsksAtMost};
+ghost use Rattle.px_iim.specs.Asking.{iim_request};
 
 use crate::entry_values::raw_of;
 use crate::links::Found;
@@ -25,6 +27,7 @@ fn iim_in<'a>(memory: &mut Memory, raw: &'a [u8]) -> Result<Option<Iim<'a>>, Ref
     ensures ok { IfOk result (λ r. r ≡ iim_of raw.now) }
     ensures err { IfErr result (λ e. e ≡ OutOfMemory) }
     ensures memory { LacksBlock result memory.old memory.new }
+    ensures asked { AsksAtMost (iim_request (length raw.now)) memory.old memory.new }
 {
     match read_iim_in(memory, raw) {
         Ok(iim) => Ok(Some(iim)),
@@ -38,6 +41,7 @@ fn record_of<'a>(memory: &mut Memory, form: Form, raw: &'a [u8]) -> Result<Optio
     ensures ok { IfOk result (λ r. r ≡ record_in form raw.now) }
     ensures err { IfErr result (λ e. e ≡ OutOfMemory) }
     ensures memory { LacksBlock result memory.old memory.new }
+    ensures asked { AsksAtMost (iim_request (length raw.now)) memory.old memory.new }
 {
     match form {
         Form::Byte | Form::Undefined => iim_in(memory, raw),
@@ -58,6 +62,7 @@ fn record_found<'a>(
         (λ f. record_in f (raw block.now order e)) (form_of e.code)) }
     ensures err { IfErr result (λ e. e ≡ OutOfMemory) }
     ensures memory { LacksBlock result memory.old memory.new }
+    ensures asked { AsksAtMost (iim_request (length block.now)) memory.old memory.new }
 {
     match Form::of(found.head.code) {
         Some(form) => {
@@ -82,6 +87,7 @@ pub fn read_record<'a>(
     ensures ok { IfOk result (λ r. r ≡ record_at block.now order main.now.at) }
     ensures err { IfErr result (λ e. e ≡ OutOfMemory) }
     ensures memory { LacksBlock result memory.old memory.new }
+    ensures asked { AsksAtMost (iim_request (length block.now)) memory.old memory.new }
 {
     match main.iptc {
         Some(found) => record_found(memory, block, order, found),

@@ -10,6 +10,8 @@ ghost use Rattle.px_tree.specs.Checks.{opening_checks, dir_checks};
 ghost use Rattle.px_tree.specs.calls.Reading.{HasTable};
 ghost use Rattle.px_tree.specs.calls.Uses.{AreUses};
 ghost use Rattle.px_tree.specs.calls.Linked.{offsets_of};
+ghost use Rattle.px_meaning.specs.Asking.{field_bytes};
+ghost use Rattle.px_tree.specs.calls.Paying.{paid, Pays, StaysBelow};
 
 use crate::field_reading::{Entries, read_entries};
 use crate::holding::hold;
@@ -43,6 +45,9 @@ fn open_table(
         (λ n. Agrees (range link.at (table_size n) ∷ taken) held.new) }
     ensures there { IfOk result (λ n. HasTable source.now.block.now source.now.order link.at n) }
     ensures memory { LacksBlock result memory.old memory.new }
+    ensures table { IfOk result (λ n. memory.new.asked + paid held.old + 2 * n * field_bytes ≤ memory.old.asked + paid held.new) }
+    ensures asked { Pays (length source.now.block.now) 0 result memory.old memory.new held.old held.new }
+    ensures below { StaysBelow (length source.now.block.now) held.old held.new }
 {
     let block = source.block;
     let at = link.at;
@@ -85,6 +90,8 @@ pub fn read_directory<'a>(
     ensures uses { let b = source.now.block.now in let o = source.now.order in
         IfOk result (λ t. AreUses b o (entries_at b o t.at) (t.at + 2) t.uses) }
     ensures memory { LacksBlock result memory.old memory.new }
+    ensures asked { Pays (length source.now.block.now) 0 result memory.old memory.new held.old held.new }
+    ensures below { StaysBelow (length source.now.block.now) held.old held.new }
 {
     let count = open_table(memory, source, held, earlier, link)?;
     let entries = read_entries(memory, source, held, link.at + 2, count)?;

@@ -17,6 +17,7 @@ ghost use Rattle.px_tree.specs.calls.Reading.{HasTable};
 ghost use Rattle.px_tree.specs.calls.Parts.{HasNumbers, HaveNumbers, AreEven, entry_here, place_in, pair_check, count_check, pairs_checks};
 ghost use Rattle.px_tree.specs.calls.Parts.{jpeg_of, strips_of, IsReadThumb};
 ghost use Rattle.px_meaning.specs.calls.Strips.{ranges_in};
+ghost use Rattle.px_tree.specs.calls.Paying.{Pays, StaysBelow};
 
 use crate::entry_values::value_at;
 use crate::holding::hold;
@@ -102,6 +103,8 @@ fn claim(
         (λ _. Agrees (range start len ∷ taken) held.new) }
     ensures inside { OnOk result (extent.start + extent.len ≤ length block.now) }
     ensures memory { LacksBlock result memory.old memory.new }
+    ensures asked { Pays (length block.now) 0 result memory.old memory.new held.old held.new }
+    ensures below { StaysBelow (length block.now) held.old held.new }
 {
     let Extent { start, len } = extent;
     if u64::from(start) + u64::from(len) > block.len() as u64 {
@@ -125,6 +128,8 @@ fn hold_jpeg<'a>(
     ensures part { IfOk result (λ j. option_map
         (λ s. s.now) j ≡ option_map (bytes_of block.now) (jpeg_of parts.jpeg_offset parts.jpeg_length)) }
     ensures memory { LacksBlock result memory.old memory.new }
+    ensures asked { Pays (length block.now) 0 result memory.old memory.new held.old held.new }
+    ensures below { StaysBelow (length block.now) held.old held.new }
 {
     match (parts.jpeg_offset, parts.jpeg_length) {
         (Some(offset), Some(size)) => {
@@ -178,6 +183,8 @@ fn claim_each(
         Judges result (range_checks lists.now.block.now place taken (ranges_in lists.now)) (λ _. ⊤) }
     ensures inside { OnOk result (AllByRecursion (IsInside lists.now.block.now) (ranges_in lists.now)) }
     ensures memory { LacksBlock result memory.old memory.new }
+    ensures asked { Pays (length lists.now.block.now) 0 result memory.old memory.new held.old held.new }
+    ensures below { StaysBelow (length lists.now.block.now) held.old held.new }
 {
     for i in 0..lists.starts.count() {
         let extent = Extent {
@@ -203,6 +210,8 @@ fn judge_strips(
         Judges result (range_checks lists.now.block.now place taken (ranges_in lists.now)) (λ _. ⊤) }
     ensures inside { OnOk result (AllByRecursion (IsInside lists.now.block.now) (ranges_in lists.now)) }
     ensures memory { LacksBlock result memory.old memory.new }
+    ensures asked { Pays (length lists.now.block.now) 0 result memory.old memory.new held.old held.new }
+    ensures below { StaysBelow (length lists.now.block.now) held.old held.new }
 {
     if let Some(span) = rising_span(lists) {
         if held.are_free(span.start, span.end) {
@@ -228,6 +237,8 @@ fn read_strips<'a>(
         Judges result (range_checks block.now (place_in parts.strip_offsets) taken (listed rs))
         (λ s. s ≡ option_map (map (bytes_of block.now)) rs) }
     ensures memory { LacksBlock result memory.old memory.new }
+    ensures asked { Pays (length block.now) 0 result memory.old memory.new held.old held.new }
+    ensures below { StaysBelow (length block.now) held.old held.new }
 {
     match (parts.strip_offsets, parts.strip_lengths) {
         (Some(offsets), Some(lengths)) => {
@@ -257,6 +268,8 @@ pub fn read_thumbnail<'a>(
         Judges result (thumb_checks block.now order taken directory.entry.at)
         (λ t. thumb_of t ≡ thumbnail block.now order directory.entry.at) }
     ensures memory { LacksBlock result memory.old memory.new }
+    ensures asked { Pays (length block.now) 0 result memory.old memory.new held.old held.new }
+    ensures below { StaysBelow (length block.now) held.old held.new }
 {
     let Directory {
         fields,
@@ -290,6 +303,8 @@ pub fn read_thumb<'a>(
         Judges result (thumb_checks_at block.now order taken a)
         (λ t. option_map thumb_of t ≡ option_map (thumbnail block.now order) a) }
     ensures memory { LacksBlock result memory.old memory.new }
+    ensures asked { Pays (length block.now) 0 result memory.old memory.new held.old held.new }
+    ensures below { StaysBelow (length block.now) held.old held.new }
 {
     match directory {
         None => Ok(None),

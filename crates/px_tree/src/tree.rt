@@ -12,6 +12,7 @@ ghost use Rattle.px_tree.specs.calls.Reading.{HasTable};
 ghost use Rattle.px_tree.specs.calls.Uses.{link_as};
 ghost use Rattle.px_tree.specs.calls.Linked.{Names, IsRead, offsets_of, next_place};
 ghost use Rattle.px_tree.specs.calls.ReadTree.{SeenTree};
+ghost use Rattle.px_tree.specs.calls.Paying.{Pays, StaysBelow};
 
 use crate::links::{Found, Link, next_link};
 use crate::source::Source;
@@ -58,6 +59,8 @@ fn read_linked<'a>(
     ensures there { IfOk result
         (λ t. IsRead source.now.block.now source.now.order source.now.dir t) }
     ensures memory { LacksBlock result memory.old memory.new }
+    ensures asked { Pays (length source.now.block.now) 0 result memory.old memory.new held.old held.new }
+    ensures below { StaysBelow (length source.now.block.now) held.old held.new }
 {
     match link {
         None => Ok(None),
@@ -147,6 +150,8 @@ pub fn read_dirs<'a>(
         (λ t. SeenTree block.now order t
         × Agrees (dirs_held block.now order taken dirs) held.new) }
     ensures memory { LacksBlock result memory.old memory.new }
+    ensures asked { Pays (length block.now) 0 result memory.old memory.new held.old held.new }
+    ensures below { StaysBelow (length block.now) held.old held.new }
 {
     let main_link = link_to_main(block, order);
     let mut source = Source {

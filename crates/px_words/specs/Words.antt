@@ -10,7 +10,7 @@ use Rattle.px_words.specs.declared.words.One.TheVariants as one
 use Rattle.px_words.specs.declared.words.Words.{Words}
 use Rattle.px_words.specs.declared.words.Words.TheVariants as words
 
--- ---- the command that clap is handed
+-- ---- the command that clap gets
 
 -- a required argument
 abbrev pub required : Text → Rule

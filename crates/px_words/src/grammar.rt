@@ -9,15 +9,15 @@ use std::alloc::{AllocError, Global};
 
 const NAME: &str = "exifnorm";
 
-const ABOUT: &str = "Reads a block of Exif or IPTC (IIM) metadata, and writes its normal form. \
-    Without words it normalises standard input to standard output.";
+const ABOUT: &str = "Shows, checks, compares and normalises Exif and IPTC (IIM) metadata blocks. \
+    Without arguments it normalises standard input to standard output.";
 
 const STATUSES: &str = "Statuses:
-  0  done (compare: the blocks say the same)
-  1  compare: the blocks say something different
-  2  a block is refused; the line tells the cause and the byte
-  3  the words are refused
-  4  a file, a stream or memory failed
+  0  success (compare: the blocks mean the same)
+  1  compare: the blocks mean different things
+  2  a block is refused: the line has the cause and the byte offset
+  3  the arguments are wrong
+  4  a read, a write or an allocation failed
 
 All text goes to standard output.";
 
@@ -115,7 +115,7 @@ fn telling<'a>(alloc: Global, version: &'a str) -> Result<Command<'a>, AllocErro
         alloc,
         bare,
         "show",
-        "Print what the block says, a line for each field",
+        "Print what the block means, a line for each field",
     );
     let checks = with_one(
         alloc,
@@ -147,7 +147,7 @@ fn with_compare<'a>(
     ensures { IfOk result (λ c. IsOkAnd command.entry (λ old. app_of c ≡ with_subcommand (app_of old)
         (of_two (codes "compare") (codes "FIRST") (codes "SECOND")))) }
 {
-    let about = "Print whether two blocks say the same or something different";
+    let about = "Print whether two blocks mean the same";
     joined(command, of_two(alloc, "compare", about, "FIRST", "SECOND"))
 }
 

@@ -6,7 +6,7 @@ use Rattle.std.proofs.lemmas.Bool.{cases_lt, cases_eq}
 use Rattle.std.proofs.lemmas.Nat.{div-add-mod', div-mul-add, mod-mul-add, mod_below}
 use Rattle.std.proofs.lemmas.Nat.Bits.{bit_at-zero, bit_at_and, bit_at_mask_inside}
 use Rattle.std.proofs.lemmas.List.{get_or-set_same, get_or-set_other}
-use Rattle.px_bytes.specs.calls.Marks.{Has, IsClear, HasOne, SameMarks, Puts}
+use Rattle.px_bytes.specs.calls.Marks.{Has, IsClear, HasOne, Puts}
 use Rattle.px_bytes.proofs.ranges.BitLaws.{mask_only, some_bit, both_bits}
 
 -- a mark's word and bit
@@ -82,13 +82,6 @@ put_word words i low high word inside bound all kept only = record {
     has_here : (n : ℕ) → n / 64 ≡ i → bit_at word (n % 64) ≡ 1 → Has next n
     has_here n e h = ap (λ (x : ℕ). bit_at (get_or next x 0) (n % 64)) e ∙ ap (λ (x : ℕ). bit_at x (n % 64)) same ∙ h
 
-pub put_none : (words : List ℕ) (start : ℕ) → Puts words words start start
-put_none words start = record {
-  here = λ n from before. absurd (omega arith);
-  kept = λ n h. h;
-  only = λ n h. inr h;
-}
-
 pub put_both : (one two three : List ℕ) (start mid low high end : ℕ) → start ≤ mid → mid ≡ low → low ≤ high → high ≡ end
     → Puts one two start mid → Puts two three low high → Puts one three start end
 put_both one two three start mid low high end l meets m ends a b = record {
@@ -104,15 +97,4 @@ put_both one two three start mid low high end l meets m ends a b = record {
       | inr j ↦ inr j
     ]
   ];
-}
-
--- more words have no marks
-has_same : (old new : List ℕ) (n : ℕ) → SameMarks old new → Has old n → Has new n
-has_same old new n s h = ap (λ (x : ℕ). bit_at x (n % 64)) (s (n / 64)) ∙ h
-
-pub put_grown : (old grown new : List ℕ) (start end : ℕ) → SameMarks old grown → Puts grown new start end → Puts old new start end
-put_grown old grown new start end same puts = record {
-  here = puts.here;
-  kept = λ n h. puts.kept n (has_same old grown n same h);
-  only = λ n h. elim (puts.only n h) [ inl k ↦ inl k | inr k ↦ inr (has_same grown old n (λ i. sym (same i)) k) ];
 }

@@ -9,7 +9,7 @@ use Rattle.std.proofs.lemmas.List.Concat.{flat_map-append}
 use Rattle.std.proofs.lemmas.Option.{slice_get_within, get_or_from_slice_get}
 use Rattle.px_bytes.specs.Devices.{AppendsPrefix, Writes}
 use Rattle.px_bytes.specs.lemmas.WriteLaws.{appends_both, prefix_first, prefix_second}
-use Rattle.px_bytes.specs.Waiting.{Owes, Puts, Fits, Waits, PutsTo}
+use Rattle.px_bytes.specs.Waiting.{Owes, Puts, Fits, PutsTo}
 
 -- one more part
 pub owes_more : (a b c : Option (List ℕ)) (h k out bytes : List ℕ) → Owes a b h out → Owes b c k (h ++ bytes) → Owes a c k (out ++ bytes)
@@ -101,11 +101,6 @@ fits_first h xs ys f = omega (arith, length-append xs ys, f)
 
 fits_second : (h k xs ys : List ℕ) → k ≡ h ++ xs → Fits h (xs ++ ys) → Fits k ys
 fits_second h k xs ys e f = omega (arith, ap (λ (l : List ℕ). length l) e, length-append h xs, length-append xs ys, f)
-
--- bytes that don't fit
-pub waits_past : {A E W : Type 0} (r : Result A E) (a b : W) (h k xs : List ℕ) → ¬ Fits h xs → Waits r a b h k xs
-waits_past (Ok x) a b h k xs n = λ f. absurd (n f)
-waits_past (Err e) a b h k xs n = n
 
 module _ {W : Type 0} (taken : W → Option (List ℕ)) where
   -- the bytes were added

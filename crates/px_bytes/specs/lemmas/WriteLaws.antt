@@ -1,14 +1,10 @@
 -- Parts written one after another.
-use Rattle.std.proofs.Common.{◌≡◌, ◌+◌, ◌++◌, ℕ, List, [], length, take, Option, Result, Ok, Err, OnOk, OnErr, arith, length-append}
-use Rattle.std.proofs.KnownBytes.{Appends-nil, Appends-trans, Appends-kept}
+use Rattle.std.proofs.Common.{◌≡◌, ◌+◌, ◌++◌, ℕ, List, length, take, Option, arith, length-append}
+use Rattle.std.proofs.KnownBytes.{Appends-trans, Appends-kept}
 use Rattle.std.proofs.Math.Seq.{take-append-add, take-length}
 use Rattle.std.proofs.lemmas.List.{take-append-le}
 use Rattle.std.specs.Io.KnownBytes.{Appends, Keeps}
-use Rattle.px_bytes.specs.Devices.{AppendsPrefix, Writes}
-
--- nothing was written
-pub appends_none : (a : Option (List ℕ)) → Appends a a []
-appends_none a = Appends-nil a
+use Rattle.px_bytes.specs.Devices.{AppendsPrefix}
 
 -- the first part, and all of the second
 pub appends_both : (a b c : Option (List ℕ)) (xs ys : List ℕ) → Appends a b xs → Appends b c ys → Appends a c (xs ++ ys)
@@ -22,10 +18,6 @@ appends_kept a b c xs p q = Appends-kept a b c xs p q
 pub prefix_all : (a b : Option (List ℕ)) (xs : List ℕ) → Appends a b xs → AppendsPrefix a b xs
 prefix_all a b xs p = (length xs, omega arith, rw take-length p)
 
--- nothing is a prefix
-pub prefix_none : (a b : Option (List ℕ)) (xs : List ℕ) → Keeps a b → AppendsPrefix a b xs
-prefix_none a b xs p = (0, omega arith, Appends-kept a a b [] (Appends-nil a) p)
-
 -- a prefix of the first part
 pub prefix_first : (a b : Option (List ℕ)) (xs ys : List ℕ) → AppendsPrefix a b xs → AppendsPrefix a b (xs ++ ys)
 prefix_first a b xs ys h =
@@ -37,20 +29,3 @@ pub prefix_second : (a b c : Option (List ℕ)) (xs ys : List ℕ) → Appends a
 prefix_second a b c xs ys p h =
     let same : take (length xs + h.0) (xs ++ ys) ≡ xs ++ take h.0 ys = take-append-add xs ys h.0 in
     (length xs + h.0, omega (arith, h.1, length-append xs ys), rw same (appends_both a b c xs (take h.0 ys) p h.2))
-
--- the bytes before, and a prefix of the middle ones
-pub prefix_within : (a b c : Option (List ℕ)) (before middle after : List ℕ) → Appends a b before → AppendsPrefix b c middle
-    → AppendsPrefix a c (before ++ (middle ++ after))
-prefix_within a b c before middle after p h = prefix_second a b c before (middle ++ after) p (prefix_first b c middle after h)
-
--- the result of the second part is that of both
-pub writes_both : {A E : Type 0} (r : Result A E) (a b c : Option (List ℕ)) (xs ys : List ℕ) → Appends a b xs → Writes r b c ys
-    → Writes r a c (xs ++ ys)
-writes_both (Ok x) a b c xs ys p w = appends_both a b c xs ys p w
-writes_both (Err e) a b c xs ys p w = prefix_second a b c xs ys p w
-
--- the same for a result that is known by two facts
-pub writes_second : {A E : Type 0} (r : Result A E) (a b c : Option (List ℕ)) (xs ys : List ℕ) → Appends a b xs → OnOk r (Appends b c ys)
-    → OnErr r (AppendsPrefix b c ys) → Writes r a c (xs ++ ys)
-writes_second (Ok x) a b c xs ys p all front = appends_both a b c xs ys p all
-writes_second (Err e) a b c xs ys p all front = prefix_second a b c xs ys p front

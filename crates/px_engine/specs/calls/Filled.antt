@@ -2,7 +2,7 @@
 use Rattle.std.specs.Prelude.{◌≡◌, ◌<◌, ◌≤◌, ℕ, List, ◌∷◌, length, take, nat_lt, if◌then◌else◌, Option, Some, None}
 use Rattle.px_bytes.specs.Parts.{limit}
 use Rattle.px_engine.specs.declared.filling.Filling.{Filling}
-use Rattle.px_engine.specs.declared.given.Given.{Given}
+use Rattle.px_engine.specs.declared.forms.Given.{Given}
 use Rattle.px_engine.specs.Hand.{IsPut}
 
 -- Two numbers, the slice to which the writer writes and its length, then the bytes that the writer has put. A call over any writer

@@ -31,6 +31,7 @@ use Rattle.px_engine.specs.declared.kinds.BlockKind.{BlockKind}
 use Rattle.px_engine.specs.declared.kinds.BlockKind.TheVariants as kind
 use Rattle.px_engine.specs.Files.{Said, Exif, Iim, prefix, is_prefixed, is_marked, kind_of, block_of, SaysBlock, Says, CanBeWritten, normal}
 use Rattle.px_engine.specs.Files.{FirstIn, FirstFaultOf, StandsIn, FaultOf}
+use Rattle.px_engine.specs.Input.{most_read}
 use Rattle.px_engine.specs.Laws.{OneSaid, SaidCanBeWritten, NormalSays, NormalTells, NormalIsItsOwn, NormalBound, FaultsTell, taken}
 use Rattle.px_engine.specs.Laws.{TakenTells}
 
@@ -168,10 +169,10 @@ same_front : (n : ℕ) (f needle : List ℕ) → length needle ≤ n → starts_
 same_front n f needle l = ap (pointwise nat_eq needle) (take-take (length needle) n f l)
 
 taken_prefixed : (f : List ℕ) → is_prefixed (taken f) ≡ is_prefixed f
-taken_prefixed f = same_front (limit + 7) f prefix (omega arith)
+taken_prefixed f = same_front most_read f prefix (omega arith)
 
 taken_marked : (f : List ℕ) → is_marked (taken f) ≡ is_marked f
-taken_marked f = same_front (limit + 7) f (0x1C ∷ []) (omega arith)
+taken_marked f = same_front most_read f (0x1C ∷ []) (omega arith)
 
 taken_kind : (f : List ℕ) → kind_of (taken f) ≡ kind_of f
 unfolding kind_of
@@ -186,13 +187,13 @@ length_block f = elim (cases_Bool (is_prefixed f)) [
 
 -- a file that is read whole, or one whose block is too long, as is the block of the bytes that are read
 whole_or_long : (f : List ℕ) → (taken f ≡ f) ⊎ ((limit < length (block_of f)) × (limit < length (block_of (taken f))))
-whole_or_long f = elim (cases_Bool (nat_le (length f) (limit + 7))) [
-  | inl t ↦ inl (take_all (limit + 7) f (leb-true (length f) (limit + 7) t))
+whole_or_long f = elim (cases_Bool (nat_le (length f) most_read)) [
+  | inl t ↦ inl (take_all most_read f (leb-true (length f) most_read t))
   | inr t ↦ inr (
-      let l = leb-false (length f) (limit + 7) t in
+      let l = leb-false (length f) most_read t in
       let a = length_block f in
       let b = length_block (taken f) in
-      let n : length (taken f) ≡ limit + 7 = length-take-le (limit + 7) f (omega arith) in
+      let n : length (taken f) ≡ most_read = length-take-le most_read f (omega arith) in
       ((omega arith), (omega arith)))
 ]
 

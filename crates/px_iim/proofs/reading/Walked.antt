@@ -3,7 +3,7 @@ use Rattle.std.proofs.Common.{◌≡◌, ◌+◌, ℕ, Option, Some, None, true,
 use Rattle.std.proofs.Common.{refl, sym, ap, ◌∙◌, append_assoc, get_or, replicate, subst}
 use Rattle.std.specs.List.{AllByRecursion}
 use Rattle.std.proofs.lemmas.Bool.{cases_Bool}
-use Rattle.std.proofs.lemmas.List.{get_or-replicate, length-replicate}
+use Rattle.std.proofs.lemmas.List.{get_or-replicate}
 use Rattle.px_iim.specs.declared.dataset.Found.{Found}
 use Rattle.px_iim.specs.DataSet.{DataSet}
 use Rattle.px_iim.specs.Record.{is_dataset, is_end, sequence_of}
@@ -66,9 +66,6 @@ rest_is x at f r front all h = elim (cases_Bool (is_end (drop (at + f.size) x)))
 
 pub none_counted : (n : ℕ) (counts : List ℕ) → counts ≡ replicate n 0 → Counts n [] counts
 none_counted n counts e k l = ap (λ (xs : List ℕ). get_or xs k 0) e ∙ get_or-replicate n k 0 0 l
-
-pub zeros_long : (n : ℕ) (counts : List ℕ) → counts ≡ replicate n 0 → length counts ≡ n
-zeros_long n counts e = ap length e ∙ length-replicate n 0
 
 one_of : (P : DataSet → Type 0) (front rest : List DataSet) (d : DataSet) → AllByRecursion P (front ++ d ∷ rest) → P d
 one_of P [] rest d a = a.0

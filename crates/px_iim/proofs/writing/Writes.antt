@@ -1,9 +1,10 @@
 -- Lengths of parts that are put one after another, and how they grow.
-use Rattle.std.proofs.Common.{◌≡◌, ℕ, zero, suc, ◌+◌, ◌<◌, ◌≤◌, ◌++◌, List, [], ◌∷◌, length, take, get_or, slice_get, Option, Some, None}
-use Rattle.std.proofs.Common.{IfSome, Result, Ok, Err, refl, sym, ap, ◌∙◌, subst, inl, inr, map, option_map, unwrap_or, is_ok}
+use Rattle.std.proofs.Common.{◌≡◌, ℕ, zero, suc, ◌+◌, ◌<◌, ◌≤◌, ◌++◌, List, [], ◌∷◌, length, take, drop, get_or, slice_get, Option, Some}
+use Rattle.std.proofs.Common.{None, IfSome, Result, Ok, Err, refl, sym, ap, ◌∙◌, subst, inl, inr, map, option_map, unwrap_or, is_ok}
 use Rattle.std.proofs.Common.{if◌then◌else◌, nat_le, le-leb, arith, append_assoc, append-nil, length-append}
 use Rattle.std.specs.List.{flat_map, AllByRecursion}
-use Rattle.std.proofs.lemmas.List.{take-take, take_at}
+use Rattle.std.proofs.lemmas.Grind.{flat_map-append}
+use Rattle.std.proofs.lemmas.List.{take-take, take_at, take-append-drop}
 use Rattle.std.proofs.lemmas.Option.{slice_get-map, slice_get-get_or}
 use Rattle.px_bytes.specs.Parts.{limit}
 use Rattle.px_bytes.specs.lemmas.WaitingLaws.{HasPut, FailsPut, parts_more, put_both, fails_first, fails_second}
@@ -24,12 +25,20 @@ module _ {X : Type 0} (f : X → List ℕ) (xs : List X) (i : ℕ) (x : X) (read
       h ∙ ap (λ (l : List ℕ). l ++ f x) e ∙ append_assoc old (flat_map f (take i xs)) (f x)
       ∙ ap (λ (l : List ℕ). old ++ l) (sym (parts_more f xs i x read))
 
+  pub length_more : length (flat_map f (take (i + 1) xs)) ≡ length (flat_map f (take i xs)) + length (f x)
+  length_more = ap length (parts_more f xs i x read) ∙ length-append (flat_map f (take i xs)) (f x)
+
   pub all_at : (P : X → Type 0) → AllByRecursion P xs → P x
   all_at P a = go xs i read a where
     go : (ys : List X) (j : ℕ) → slice_get ys j ≡ Some x → AllByRecursion P ys → P x
     go [] j e b = absurd (cc)
     go (y ∷ ys) zero e b = let same : y ≡ x = cc in subst P same b.0
     go (y ∷ ys) (suc j) e b = go ys j e b.1
+
+pub length_parts : {X : Type 0} (f : X → List ℕ) (xs : List X) (n : ℕ) → length (flat_map f (take n xs)) ≤ length (flat_map f xs)
+length_parts f xs n =
+    let whole = ap length (sym (flat_map-append f (take n xs) (drop n xs)) ∙ ap (flat_map f) (take-append-drop n xs)) in
+    omega (arith, whole, length-append (flat_map f (take n xs)) (flat_map f (drop n xs)))
 
 -- ---- lengths
 
@@ -79,6 +88,9 @@ module _ (i left : Record) (x : Group) (step : i ≡ x ∷ left) (all : List ℕ
   pub whole_next : AllByRecursion IsGroup i → AllByRecursion IsGroup left
   whole_next a = let both : AllByRecursion IsGroup (x ∷ left) = subst (AllByRecursion IsGroup) step a in both.1
 
+  pub length_next : length (normal_iim i) ≡ length (normal_group x) + length (normal_iim left)
+  length_next = ap (λ (k : Record). length (normal_iim k)) step ∙ length-append (normal_group x) (normal_iim left)
+
   rest_next : (out : List ℕ) → out ++ normal_iim i ≡ all → out ++ normal_group x ++ normal_iim left ≡ all
   rest_next out e = append_assoc out (normal_group x) (normal_iim left) ∙ ap (λ (k : Record). out ++ normal_iim k) (sym step) ∙ e
 
@@ -125,11 +137,11 @@ unfolding normal_head normal_dataset
 head_and_data rec number octets head e = ap (λ (h : List ℕ). h ++ octets) e
 
 -- a length that is counted and no more than the limit
-pub within_most_number : (o : Option ℕ) (n l : ℕ) → o ≡ within_most n → l ≡ unwrap_or o 16777217 → l ≤ limit → (l ≡ n) × (n ≤ limit)
+pub within_most_number : (o : Option ℕ) (n l : ℕ) → o ≡ within_most n → l ≡ unwrap_or o (limit + 1) → l ≤ limit → (l ≡ n) × (n ≤ limit)
 within_most_number None n l e f h = absurd (omega arith)
 within_most_number (Some m) n l e f h = let s = some_within m n e in (omega (arith, s.0), omega (arith, s.0))
 
-pub not_counted : (o : Option ℕ) (n l : ℕ) → o ≡ within_most n → l ≡ unwrap_or o 16777217 → limit < l → limit < n
+pub not_counted : (o : Option ℕ) (n l : ℕ) → o ≡ within_most n → l ≡ unwrap_or o (limit + 1) → limit < l → limit < n
 not_counted None n l e f h = elim (cases_lt most n) [
   | inl k ↦ omega arith
   | inr k ↦ let clash : ◌≡◌ {A = Option ℕ} None (Some n) = e ∙ sym (within_some n n refl k) in absurd (cc)

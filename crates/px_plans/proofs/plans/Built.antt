@@ -5,7 +5,7 @@ use Rattle.std.proofs.Common.{lt-ltb, le-leb, length-drop, get_or-take, get_or-d
 use Rattle.std.specs.List.{range_with_len}
 use Rattle.std.proofs.lemmas.Bool.{and_from, and_parts, cond-true, cond-false, cases_lt, leb-true, false_from_ne_true}
 use Rattle.std.proofs.lemmas.List.{same_lists, length-append, length-take-le, get_or_append_left, get_or-append_right, drop-drop, drop_more}
-use Rattle.std.proofs.lemmas.List.{drop_all, take_all, take-append-le}
+use Rattle.std.proofs.lemmas.List.{take_all, take-append-le}
 use Rattle.std.proofs.lemmas.Option.{slice_get_within, get_or_from_slice_get}
 use borrow.Rule.Slice.PartMut.{put_mid}
 use Rattle.px_layout.specs.Laid.{byte_at}
@@ -110,9 +110,6 @@ none_made n filler = same n 0
 
 pub drop_get : {X : Type 0} (xs : List X) (j k : ℕ) (x : X) → k ≡ j + 1 → slice_get xs j ≡ Some x → drop j xs ≡ x ∷ drop k xs
 drop_get xs j k x e q = drop_more xs j x (slice_get_within xs j x q) ∙ ap₂ (λ y n. y ∷ drop n xs) (get_or_from_slice_get xs j x x q) (sym e)
-
-pub drop_end : {X : Type 0} (xs : List X) (n : ℕ) → n ≡ length xs → drop n xs ≡ []
-drop_end xs n e = ap (λ k. drop k xs) e ∙ drop_all (length xs) xs (omega arith)
 
 -- the bytes that replace a whole list
 pub put_whole : (n : ℕ) (xs ys zs : List ℕ) → n ≡ length xs → xs ≡ zs → take n (xs ++ ys) ≡ zs

@@ -1,15 +1,11 @@
 -- Entries as parts of a block.
-use Rattle.std.proofs.Common.{◌≡◌, ℕ, zero, suc, ◌+◌, ◌-◌, ◌*◌, ◌≤◌, List, ◌∷◌, drop, map, refl, sym, ap, ap₂, ◌∙◌, arith}
+use Rattle.std.proofs.Common.{◌≡◌, ℕ, zero, suc, ◌+◌, ◌-◌, ◌*◌, ◌≤◌, List, ◌∷◌, drop, map, refl, ap, ap₂, ◌∙◌, arith}
 use Rattle.std.proofs.lemmas.List.{take-take}
 use Rattle.px_bytes.specs.declared.Order.{Order}
 use Rattle.px_bytes.specs.Parts.{part, pieces}
-use Rattle.px_bytes.specs.lemmas.PartLaws.{part_part, drop_part}
+use Rattle.px_bytes.specs.lemmas.PartLaws.{drop_part}
 use Rattle.px_meaning.specs.Entry.{Entry, entry}
 use Rattle.px_tree.specs.calls.Reading.{entries_from}
-
--- a part of a part, at a given offset
-pub part_at : (b : List ℕ) (p m x n q : ℕ) → x + n ≤ m → q ≡ p + x → part (part b p m) x n ≡ part b q n
-part_at b p m x n q h e = part_part b p m x n h ∙ ap (λ (k : ℕ). part b k n) (sym e)
 
 -- the entries of a table, offset by offset
 pub pieces_from : (b : List ℕ) (o : Order) (p m n : ℕ) → 12 * n ≤ m → map (entry o) (pieces n 12 (part b p m)) ≡ entries_from b o p n

@@ -1,12 +1,12 @@
 -- Ranges judged one by one.
-use Rattle.std.proofs.Common.{◌≡◌, ℕ, zero, suc, ◌+◌, List, [], ◌∷◌, ◌++◌, None, Some, map, drop, length, sym, ap, ◌∙◌, arith, nat_le}
-use Rattle.std.proofs.Common.{append_assoc, slice_get}
+use Rattle.std.proofs.Common.{◌≡◌, ℕ, zero, suc, ◌+◌, List, [], ◌∷◌, None, Some, drop, length, sym, ap, ◌∙◌, arith, nat_le}
+use Rattle.std.proofs.Common.{slice_get}
 use Rattle.px_bytes.specs.declared.Refusal.{Refusal}
 use Rattle.px_bytes.specs.declared.Cause.TheVariants.{Overlap, ThumbnailOutside}
 use Rattle.px_bytes.specs.Range.{Range, range, is_free, Agrees}
 use Rattle.px_bytes.specs.Checks.{Check, check, first_false, Refuses}
 use Rattle.px_bytes.specs.lemmas.CheckLaws.{first_false_true, Refuses_more, Refuses_same}
-use Rattle.px_meaning.specs.Thumbnail.{ranges_of, bytes_of}
+use Rattle.px_meaning.specs.Thumbnail.{ranges_of}
 use Rattle.px_tree.specs.Checks.{range_checks}
 
 -- what is left of the pairs has one more range
@@ -44,12 +44,3 @@ module _ (b : List ℕ) (p : ℕ) (taken all : List Range) where
       faults = sym (first_false_true (range_check b p s.now r) (range_checks b p (r ∷ s.now) rs) h)
           ∙ ap (λ (xs : List Range). first_false (range_checks b p s.now xs)) (sym is) ∙ s.faults;
     }
-
--- one more strip
-pub strips_pushed : (b : List ℕ) (old new : List (List ℕ)) (s : List ℕ) (r : Range) (rest rs : List Range) → new ≡ old ++ s ∷ []
-    → s ≡ bytes_of b r → rest ≡ r ∷ rs → new ++ map (bytes_of b) rs ≡ old ++ map (bytes_of b) rest
-strips_pushed b old new s r rest rs h e is =
-    ap (λ (l : List (List ℕ)). l ++ map (bytes_of b) rs) h
-    ∙ append_assoc old (s ∷ []) (map (bytes_of b) rs)
-    ∙ ap (λ (y : List ℕ). old ++ y ∷ map (bytes_of b) rs) e
-    ∙ ap (λ (l : List Range). old ++ map (bytes_of b) l) (sym is)

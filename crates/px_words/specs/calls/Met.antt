@@ -29,7 +29,7 @@ IsMet (Some (name, rows)) = ((takes_file name ≡ true) × IsThere (codes "FILE"
 abbrev pub AsksIn : Option (Text × List Row) → Words → Type 0
 AsksIn met w = Asks met w × AsksFiles met w
 
--- a text, or that clap wanted memory
+-- a text, or that clap ran out of memory
 abbrev pub IsTold : Words → Type 0
 IsTold (words.Help text) = ⊤
 IsTold (words.Refused text) = ⊤

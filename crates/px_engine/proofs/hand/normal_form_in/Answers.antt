@@ -1,5 +1,7 @@
+use Rattle.std.proofs.Common.{arith}
 use Rattle.px_engine.specs.calls.Seen.{said_of}
 use Rattle.px_engine.proofs.Ended.{form_formed, form_unwritten}
+use Rattle.px_engine.proofs.Asked.{block_within}
 use Rattle.px_engine.proofs.hand.normal_form_in.Goals as goal
 
 pub returns-clause-formed : goal.returns-clause-formed
@@ -9,3 +11,8 @@ returns-clause-formed c =
 pub returns-clause-unwritten : goal.returns-clause-unwritten
 returns-clause-unwritten c =
     form_unwritten c.form_of.result c.args.file.now (said_of c.in_ok-said.said) _ c.in_ok-said.ensures.said c.form_of.ensures.unformed
+
+pub returns-clause-asked : goal.returns-clause-asked
+returns-clause-asked c =
+    let form = c.in_ok-said.ensures.said.bounded in
+    omega (arith, form, block_within c.args.file.now, c.in_ok-said.ensures.asked, c.form_of.ensures.asked)

@@ -1,9 +1,11 @@
-use Rattle.std.proofs.Common.{◌∙◌}
+use Rattle.std.proofs.Common.{◌∙◌, ℕ, List, length, ◌+◌, ap, arith}
 use Rattle.std.proofs.lemmas.Result.{err_from_is_err_and}
 use Rattle.px_engine.specs.calls.Seen.{said_of}
 use Rattle.px_engine.proofs.Judged.{known_said, known_stops, read_as, consumes_none}
 use Rattle.px_engine.proofs.Ended.{first_stops, lacks_later}
 use Rattle.px_engine.proofs.Compared.{compares_from_second, not_asked, compares_untouched, compares_counts_sides, lacks_compared}
+use Rattle.px_engine.specs.Asking.{block_request}
+use Rattle.px_engine.proofs.Asked.{run_within}
 use Rattle.px_engine.proofs.runs.compare_in.Goals as goal
 
 pub returns-in_err-said-clause-lost_too : goal.returns-in_err-said-clause-lost_too
@@ -45,3 +47,19 @@ pub returns-clause-memory : goal.returns-clause-memory
 returns-clause-memory g c =
     lacks_compared c.compare_second-same.result _ _ _ (c.in_ok-said.ensures.memory ∙ c.in_ok-file.ensures.memory)
     c.compare_second-same.ensures.memory
+
+pub returns-in_err-said-clause-asked : goal.returns-in_err-said-clause-asked
+returns-in_err-said-clause-asked g c =
+    let same = ap (λ (f : List ℕ). block_request (length f)) c.deref.ensures.value in
+    let first =
+    run_within _ _ _ _ _ c.judge_side.new.memory.asked c.in_ok-file.ensures.found c.in_ok-file.ensures.asked
+    (omega (arith, same, c.in_err-said.ensures.asked)) in
+    omega (arith, first)
+
+pub returns-clause-asked : goal.returns-clause-asked
+returns-clause-asked g c =
+    let same = ap (λ (f : List ℕ). block_request (length f)) c.deref.ensures.value in
+    let first =
+    run_within _ _ _ _ _ c.judge_side.new.memory.asked c.in_ok-file.ensures.found c.in_ok-file.ensures.asked
+    (omega (arith, same, c.in_ok-said.ensures.asked)) in
+    omega (arith, first, c.compare_second-same.ensures.asked)

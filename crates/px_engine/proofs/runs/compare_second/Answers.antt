@@ -1,7 +1,10 @@
+use Rattle.std.proofs.Common.{ℕ, List, length, ◌+◌, ap, arith}
 use Rattle.std.proofs.lemmas.Result.{err_from_is_err_and}
 use Rattle.px_engine.specs.calls.Seen.{said_of}
 use Rattle.px_engine.proofs.Judged.{read_fails, read_as}
 use Rattle.px_engine.proofs.Compared.{second_read, second_counted, lacks_compared}
+use Rattle.px_engine.specs.Asking.{block_request}
+use Rattle.px_engine.proofs.Asked.{run_within}
 use Rattle.px_engine.proofs.runs.compare_second.Goals as goal
 
 pub returns-in_err-file-clause-done : goal.returns-in_err-file-clause-done
@@ -22,3 +25,8 @@ returns-clause-reads g c =
 
 pub returns-clause-memory : goal.returns-clause-memory
 returns-clause-memory g c = lacks_compared c.same_second.result _ _ _ c.in_ok-file.ensures.memory c.same_second.ensures.memory
+
+pub returns-clause-asked : goal.returns-clause-asked
+returns-clause-asked g c =
+    let same = ap (λ (f : List ℕ). block_request (length f)) c.deref.ensures.value in
+    run_within _ _ _ _ _ _ c.in_ok-file.ensures.found c.in_ok-file.ensures.asked (omega (arith, same, c.same_second.ensures.asked))

@@ -1,3 +1,12 @@
+use Rattle.std.proofs.Common.{◌≡◌, [], ap, ◌∙◌, option_map, arith, Result, Ok, Err, IfErr}
+use Rattle.px_bytes.specs.declared.Refusal.{Refusal}
+use Rattle.px_bytes.specs.declared.Refusal.TheVariants.{Content, OutOfMemory}
+use Rattle.px_bytes.specs.Lacking.{Taken}
+use Rattle.px_iim.specs.Asking.{RefusesFirst}
+use Rattle.px_iim.specs.Group.{gather}
+use Rattle.px_iim.proofs.reading.Counted.{count_gather}
+use Rattle.px_iim.proofs.reading.Steps.{iim_of_within}
+use Rattle.px_iim.proofs.reading.Walked.{datasets_is}
 use Rattle.px_iim.proofs.read.read_groups.Goals as goal
 
 pub read_ordered-requires-clause-said : goal.read_ordered-requires-clause-said
@@ -6,8 +15,27 @@ read_ordered-requires-clause-said c =
     let (ds, s, n, a, w, o) = read in
     (ds, s, n, o c.if-seen.true, w)
 
+pub read_put-requires-clause-said : goal.read_put-requires-clause-said
+read_put-requires-clause-said c =
+    let x = c.args.bytes.now in
+    let (none, read) = c.in_ok-seen.ensures.judged in
+    let (ds, s, n, a, w, o) = read in (
+      gather [] ds,
+      iim_of_within x c.requires ∙ ap (option_map (gather [])) (datasets_is x ∙ s),
+      omega (arith, count_gather ds [], n, c.is_few.ensures.few c.if-is_few.true),
+    )
+
 pub read_sorted-requires-clause-said : goal.read_sorted-requires-clause-said
 read_sorted-requires-clause-said c =
     let (none, read) = c.in_ok-seen.ensures.judged in
     let (ds, s, n, a, w, o) = read in
     (ds, s, n, a, w)
+
+-- out of memory isn't a refusal of the block
+not_refused : {A : Type 0} (r : Result A Refusal) (old new : Taken) → IfErr r (λ e. e ≡ OutOfMemory) → RefusesFirst r old new
+not_refused (Ok x) old new h = tt
+not_refused (Err (Content cause place)) old new h = absurd (cc)
+not_refused (Err OutOfMemory) old new h = tt
+
+pub returns-then-is_few-clause-refused : goal.returns-then-is_few-clause-refused
+returns-then-is_few-clause-refused c = not_refused c.read_put.result _ _ c.read_put.ensures.read

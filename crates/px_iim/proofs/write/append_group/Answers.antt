@@ -1,9 +1,9 @@
-use Rattle.std.proofs.Common.{◌≤◌, ◌∙◌, length, map}
+use Rattle.std.proofs.Common.{◌≤◌, ◌+◌, ◌∙◌, length, map, get_or, arith}
 use Rattle.std.proofs.lemmas.Result.{err_from_is_err_and}
 use Rattle.px_bytes.specs.Parts.{limit}
 use Rattle.px_iim.specs.Record.{normal_dataset}
 use Rattle.px_iim.specs.calls.View.{item_view}
-use Rattle.px_iim.proofs.writing.Writes.{item_read, all_at, grows_more, grows_stop}
+use Rattle.px_iim.proofs.writing.Writes.{item_read, all_at, grows_more, grows_stop, length_more, length_parts, no_item}
 use Rattle.px_iim.proofs.write.append_group.Goals as goal
 
 pub append_item-requires : goal.append_item-requires
@@ -17,10 +17,39 @@ returns-in_err-append_item-clause-grown c =
     rw p.1 (grows_stop c.args.out.now.items c.loop-item.out.items c.append_item.new.out.items _ c.loop-item.invariant.grown
     c.in_err-append_item.ensures.grown)
 
+pub returns-in_err-append_item-clause-asked : goal.returns-in_err-append_item-clause-asked
+returns-in_err-append_item-clause-asked c =
+    let f = normal_dataset c.args.rec in
+    let xs = map item_view c.args.items.now in
+    let i = c.loop-item.item-index in
+    omega (
+      arith,
+      c.loop-item.invariant.asked,
+      c.in_err-append_item.ensures.asked,
+      length_more f xs i (item_view (get_or c.args.items.now i no_item)) (item_read c.args.items.now i no_item c.loop-item-test.true),
+      length_parts f xs (i + 1),
+    )
+
+pub returns-clause-asked : goal.returns-clause-asked
+returns-clause-asked c =
+    omega (
+      arith,
+      c.loop-item.invariant.asked,
+      length_parts (normal_dataset c.args.rec) (map item_view c.args.items.now) c.loop-item.item-index,
+    )
+
 pub loop-item-preserved : goal.loop-item-preserved
 loop-item-preserved c = record {
   grown = grows_more (normal_dataset c.args.rec) (map item_view c.args.items.now) c.loop-item.item-index _
       (item_read c.args.items.now c.loop-item.item-index _ c.loop-item-test.true)
       c.args.out.now.items c.loop-item.out.items c.append_item.new.out.items c.loop-item.invariant.grown c.in_ok-append_item.ensures.grown;
   memory = c.in_ok-append_item.ensures.memory ∙ c.loop-item.invariant.memory;
+  asked = omega (
+    arith,
+    c.loop-item.invariant.asked,
+    c.in_ok-append_item.ensures.asked,
+    length_more (normal_dataset c.args.rec) (map item_view c.args.items.now) c.loop-item.item-index
+        (item_view (get_or c.args.items.now c.loop-item.item-index no_item))
+        (item_read c.args.items.now c.loop-item.item-index no_item c.loop-item-test.true),
+  );
 }

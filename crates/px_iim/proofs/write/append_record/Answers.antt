@@ -1,10 +1,10 @@
-use Rattle.std.proofs.Common.{◌++◌, [], List, ℕ, ◌∙◌, refl, sym, ap, subst, append-nil}
+use Rattle.std.proofs.Common.{◌++◌, [], List, ℕ, ◌∙◌, arith, length, refl, sym, ap, subst, append-nil}
 use Rattle.std.specs.List.{AllByRecursion}
 use Rattle.std.proofs.lemmas.Result.{err_from_is_err_and}
-use Rattle.px_iim.specs.Group.{IsGroup}
+use Rattle.px_iim.specs.Group.{Record, IsGroup}
 use Rattle.px_iim.specs.Record.{normal_iim}
 use Rattle.px_iim.specs.calls.View.{part_view}
-use Rattle.px_iim.proofs.writing.Writes.{short_next, whole_next, grows_next, grows_stop, rest_none}
+use Rattle.px_iim.proofs.writing.Writes.{short_next, whole_next, grows_next, length_next, grows_stop, rest_none}
 use Rattle.px_iim.proofs.write.append_record.Goals as goal
 
 pub loop-rec-init : goal.loop-rec-init
@@ -14,6 +14,7 @@ loop-rec-init c =
       whole = subst (AllByRecursion IsGroup) (sym all) c.iter-rec-items.ensures.whole.groups;
       grown = ([], sym (append-nil c.args.out.now.items), ap normal_iim all);
       memory = refl;
+      asked = omega (arith, ap (λ (i : Record). length (normal_iim i)) all);
     }
 
 pub append_group-requires : goal.append_group-requires
@@ -27,6 +28,16 @@ returns-in_err-append_group-clause-grown c =
     let o = c.loop-rec.invariant.grown in
     rw p.1 (grows_stop c.args.out.now.items c.loop-rec.out.items c.append_group.new.out.items o.0 o.1 c.in_err-append_group.ensures.grown)
 
+pub returns-in_err-append_group-clause-asked : goal.returns-in_err-append_group-clause-asked
+returns-in_err-append_group-clause-asked c =
+    let x = part_view (c.in-Some.rec, c.in-Some.field-0-1, c.in-Some.items) in
+    omega (
+      arith,
+      c.loop-rec.invariant.asked,
+      c.in_err-append_group.ensures.asked,
+      length_next c.loop-rec.rec-iterator c.next.new.self x c.in-Some.ensures.steps [],
+    )
+
 pub loop-rec-preserved : goal.loop-rec-preserved
 loop-rec-preserved c =
     let x = part_view (c.in-Some.rec, c.in-Some.field-0-1, c.in-Some.items) in
@@ -36,9 +47,18 @@ loop-rec-preserved c =
       grown = grows_next c.loop-rec.rec-iterator c.next.new.self x c.in-Some.ensures.steps _ c.args.out.now.items c.loop-rec.out.items
           c.append_group.new.out.items o.0 o.1 o.2 c.in_ok-append_group.ensures.grown;
       memory = c.in_ok-append_group.ensures.memory ∙ c.loop-rec.invariant.memory;
+      asked = omega (
+        arith,
+        c.loop-rec.invariant.asked,
+        c.in_ok-append_group.ensures.asked,
+        length_next c.loop-rec.rec-iterator c.next.new.self x c.in-Some.ensures.steps [],
+      );
     }
 
 pub returns-clause-grown : goal.returns-clause-grown
 returns-clause-grown c =
     let o = c.loop-rec.invariant.grown in
     o.1 ∙ ap (λ (l : List ℕ). c.args.out.now.items ++ l) (rest_none c.loop-rec.rec-iterator o.0 _ c.in-None.ensures.steps.0 o.2)
+
+pub returns-clause-asked : goal.returns-clause-asked
+returns-clause-asked c = omega (arith, c.loop-rec.invariant.asked)

@@ -1,4 +1,4 @@
-use Rattle.std.proofs.Common.{◌≡◌, ◌++◌, ℕ, List}
+use Rattle.std.proofs.Common.{◌≡◌, ◌≤◌, ◌+◌, ◌++◌, ℕ, List, length}
 use Rattle.std.specs.List.{AllByRecursion}
 use Rattle.px_iim.specs.Group.{IsGroup}
 use Rattle.px_iim.specs.Record.{normal_iim}
@@ -10,4 +10,5 @@ invariant-loop-rec l = record {
   whole : AllByRecursion IsGroup l.rec-iterator;
   grown : (parts : List ℕ) × (l.out.items ≡ l.initial.out.items ++ parts) × (parts ++ normal_iim l.rec-iterator ≡ normal_iim l.iim);
   memory : l.memory.refusals ≡ l.initial.memory.refusals;
+  asked : l.memory.asked + length (normal_iim l.rec-iterator) ≤ l.initial.memory.asked + length (normal_iim l.iim);
 }

@@ -18,15 +18,15 @@ returns-in_err-put g c =
       search rules,
     )
 
-pub returns-in_err-put_exif : goal.returns-in_err-put_exif
-returns-in_err-put_exif g c =
-    let p = err_from_is_err_and c.from_residual-in_err-put_exif.result c.from_residual-in_err-put_exif.ensures.1 in
+pub returns-in_err-put_texts : goal.returns-in_err-put_texts
+returns-in_err-put_texts g c =
+    let p = err_from_is_err_and c.from_residual-in_err-put_texts.result c.from_residual-in_err-put_texts.ensures.1 in
     let held = c.args.pending.now in
     let second = caption_lines (exif_captions (meaning_of c.args.meaning.now).main) in
     let third = record_lines (meaning_of c.args.meaning.now).iptc in
     rw p.1 (
       puts_first _ _ held (codes "exif\n" ++ second) third (owes_prefix _ _ _ held c.put.new.self (codes "exif\n") second
-          c.in_ok-put.ensures.bytes c.in_err-put_exif.ensures.0),
+          c.in_ok-put.ensures.bytes c.in_err-put_texts.ensures.0),
       search rules,
     )
 
@@ -35,9 +35,9 @@ returns g c =
     let held = c.args.pending.now in
     let second = caption_lines (exif_captions (meaning_of c.args.meaning.now).main) in
     let third = record_lines (meaning_of c.args.meaning.now).iptc in (
-      puts_both c.put_record.result _ _ _ held c.put_exif.new.pending c.put_record.new.pending (codes "exif\n" ++ second) third
+      puts_both c.put_record.result _ _ _ held c.put_texts.new.pending c.put_record.new.pending (codes "exif\n" ++ second) third
           (owes_append _ _ _
-          held c.put.new.self c.put_exif.new.pending (codes "exif\n") second c.in_ok-put.ensures.bytes c.in_ok-put_exif.ensures.0)
+          held c.put.new.self c.put_texts.new.pending (codes "exif\n") second c.in_ok-put.ensures.bytes c.in_ok-put_texts.ensures.0)
           c.put_record.ensures.0,
       search rules,
     )

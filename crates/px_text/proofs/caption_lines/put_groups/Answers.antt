@@ -1,12 +1,10 @@
-use Rattle.std.proofs.Common.{◌≡◌, ◌∙◌, ◌++◌, ℕ, List, take, arith, ap, subst, rules}
-use Rattle.std.specs.List.{flat_map}
+use Rattle.std.proofs.Common.{◌∙◌, ℕ, List, arith, ap, rules}
 use Rattle.std.proofs.lemmas.Result.{err_from_is_err_and}
 use Rattle.std.specs.Prelude.{filter_map}
 use Rattle.std.proofs.lemmas.Option.{slice_get-get_or}
-use Rattle.px_bytes.specs.Waiting.{Owes}
 use Rattle.px_bytes.specs.lemmas.WaitingLaws.{owed_more, owed_stop}
 use Rattle.px_text.specs.Captions.{labelled, group_captions, caption_groups, caption_lines}
-use Rattle.px_text.proofs.Chains.{owes_as, prefix_as}
+use Rattle.px_text.proofs.Chains.{all_put, owes_as, prefix_as}
 use Rattle.px_text.proofs.Parts.{group_lines_whole}
 use Rattle.px_text.proofs.caption_lines.put_groups.Goals as goal
 
@@ -33,11 +31,9 @@ loop-i-preserved g c = record {
 }
 
 pub returns : goal.returns
-returns g c =
-    let all : c.loop-i.i ≡ 9 = omega (arith, c.loop-i-test.false, c.loop-i.auto.i-end) in (
-      owes_as _ _ c.args.pending.now c.loop-i.pending _ _ (group_lines_whole c.args.iim.now)
-          (subst (λ k. Owes (g.W.Sink.bytes_taken c.args.writer.now) (g.W.Sink.bytes_taken c.loop-i.writer) c.loop-i.pending
-          (c.args.pending.now ++ flat_map (λ n. caption_lines (group_captions c.args.iim.now n)) (take k caption_groups))) all
-          c.loop-i.invariant.owes),
-      search rules,
-    )
+returns g c = (
+  owes_as _ _ c.args.pending.now c.loop-i.pending _ _ (group_lines_whole c.args.iim.now)
+      (all_put (λ (n : ℕ). caption_lines (group_captions c.args.iim.now n)) caption_groups c.loop-i.i (omega (arith, c.loop-i-test.false))
+      _ _ c.args.pending.now c.loop-i.pending c.loop-i.invariant.owes),
+  search rules,
+)

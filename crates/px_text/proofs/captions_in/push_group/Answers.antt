@@ -1,10 +1,10 @@
-use Rattle.std.proofs.Common.{ℕ, List, map, ◌++◌, ◌∙◌, refl, sym, ap, arith, append-nil}
+use Rattle.std.proofs.Common.{ℕ, List, map, ◌+◌, ◌++◌, ◌∙◌, refl, sym, ap, arith, append-nil}
 use Rattle.std.specs.Prelude.{filter_map}
 use Rattle.std.proofs.lemmas.List.{length-map, take_all}
 use Rattle.px_iim.specs.calls.View.{item_view}
 use Rattle.px_text.specs.Captions.{labelled}
 use Rattle.px_text.specs.calls.CaptionView.{caption_view}
-use Rattle.px_text.proofs.Parts.{read_at, given_more}
+use Rattle.px_text.proofs.Parts.{read_at, given_more, asked_given, length_given}
 use Rattle.px_text.proofs.captions_in.push_group.Goals as goal
 
 pub loop-item-preserved : goal.loop-item-preserved
@@ -15,10 +15,19 @@ loop-item-preserved c = record {
       (map caption_view c.args.list.now.items) (map caption_view c.loop-item.list.items) (map caption_view c.push_item.new.list.items)
       c.loop-item.invariant.list c.in_ok-push_item.ensures.list;
   memory = c.in_ok-push_item.ensures.memory ∙ c.loop-item.invariant.memory;
+  asked =
+      asked_given (map item_view c.args.items.now) c.loop-item.item-index _ (read_at item_view c.args.items.now c.loop-item.item-index _
+      c.loop-item-test.true) labelled
+      c.args.memory.now.asked c.loop-item.memory.asked c.push_item.new.memory.asked
+      c.loop-item.invariant.asked c.in_ok-push_item.ensures.asked;
 }
 
 pub loop-item-init : goal.loop-item-init
-loop-item-init c = record { list = sym (append-nil (map caption_view c.args.list.now.items)); memory = refl }
+loop-item-init c = record {
+  list = sym (append-nil (map caption_view c.args.list.now.items));
+  memory = refl;
+  asked = omega arith;
+}
 
 pub returns-clause-list : goal.returns-clause-list
 returns-clause-list c =
@@ -30,3 +39,16 @@ returns-clause-list c =
           c.args.items.now item_view,
     )) in
     c.loop-item.invariant.list ∙ ap (λ (xs : List (ℕ × List ℕ)). map caption_view c.args.list.now.items ++ some xs) all
+
+pub returns-in_err-push_item-clause-asked : goal.returns-in_err-push_item-clause-asked
+returns-in_err-push_item-clause-asked c =
+    let more =
+    asked_given (map item_view c.args.items.now) c.loop-item.item-index _ (read_at item_view c.args.items.now c.loop-item.item-index _
+    c.loop-item-test.true) labelled
+    c.args.memory.now.asked c.loop-item.memory.asked c.push_item.new.memory.asked
+    c.loop-item.invariant.asked c.in_err-push_item.ensures.asked in
+    omega (arith, more, length_given labelled (map item_view c.args.items.now) (c.loop-item.item-index + 1))
+
+pub returns-clause-asked : goal.returns-clause-asked
+returns-clause-asked c =
+    omega (arith, c.loop-item.invariant.asked, length_given labelled (map item_view c.args.items.now) c.loop-item.item-index)

@@ -1,7 +1,7 @@
-use Rattle.std.proofs.Common.{◌≡◌, ◌++◌, take, map}
+use Rattle.std.proofs.Common.{◌≡◌, ◌≤◌, ◌+◌, ◌*◌, ◌++◌, length, take, map}
 use Rattle.std.specs.Prelude.{filter_map}
 use Rattle.px_iim.specs.calls.View.{item_view}
-use Rattle.px_text.specs.Captions.{labelled}
+use Rattle.px_text.specs.Captions.{labelled, caption_bytes}
 use Rattle.px_text.specs.calls.CaptionView.{caption_view}
 use Rattle.px_text.proofs.captions_in.push_group.Given as goal
 
@@ -10,4 +10,6 @@ invariant-loop-item l = record {
   list : map caption_view l.list.items ≡ map caption_view l.initial.list.items ++ filter_map labelled
       (take l.item-index (map item_view l.items));
   memory : l.memory.refusals ≡ l.initial.memory.refusals;
+  asked : l.memory.asked ≤ l.initial.memory.asked
+      + caption_bytes * length (filter_map labelled (take l.item-index (map item_view l.items)));
 }

@@ -2,7 +2,7 @@ use Rattle.std.proofs.Common.{◌∙◌, length, arith, sym, ap}
 use Rattle.std.proofs.lemmas.List.{length-map}
 use Rattle.px_iim.specs.Group.{Record}
 use Rattle.px_iim.specs.calls.View.{item_view, part_view}
-use Rattle.px_text.specs.Listing.{dataset_count}
+use Rattle.px_iim.specs.Asking.{dataset_count}
 use Rattle.px_text.proofs.Parts.{count_next}
 use Rattle.px_text.proofs.dataset_lines.count_datasets.Goals as goal
 

@@ -1,5 +1,5 @@
 use Rattle.std.proofs.Common.{◌≡◌, ◌≤◌, ◌+◌, ◌*◌, ◌^◌, length}
-use Rattle.px_text.specs.Listing.{dataset_count}
+use Rattle.px_iim.specs.Asking.{dataset_count}
 use Rattle.px_text.proofs.dataset_lines.count_datasets.Given as goal
 
 -- the DataSets of the groups that are left make the rest of the count

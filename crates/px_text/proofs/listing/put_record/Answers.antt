@@ -2,7 +2,8 @@ use Rattle.std.proofs.Common.{◌++◌, ℕ, ap, rules}
 use Rattle.std.specs.Prelude.{codes, decimal}
 use Rattle.std.proofs.lemmas.Result.{err_from_is_err_and}
 use Rattle.px_bytes.specs.lemmas.WaitingLaws.{puts_both, puts_first}
-use Rattle.px_text.specs.Listing.{dataset_count, dataset_lines}
+use Rattle.px_iim.specs.Asking.{dataset_count}
+use Rattle.px_text.specs.Listing.{dataset_lines}
 use Rattle.px_text.proofs.Chains.{owes_as, prefix_as}
 use Rattle.px_text.proofs.listing.put_record.Goals as goal
 

@@ -32,6 +32,8 @@ loop-init c =
       uses = subst (λ (k : ℕ). UsesSoFar b o c.args.start c.args.count c.no_uses-uses.result c.args.start None k) (sym n)
           (uses_start b o c.args.start c.args.count c.no_uses-uses.result c.no_uses-uses.ensures);
       memory = refl;
+      asked = omega arith;
+      below = omega arith;
     }
 
 pub returns-in_err-shape-clause-judged : goal.returns-in_err-shape-clause-judged
@@ -69,6 +71,11 @@ loop-preserved c =
     let e = entry o (part b c.loop.at 12) in
     let x = value_in b o e s.role s.form in
     let kept = c.in_ok-keep_field.ensures.kept in
+    let asked_before = c.loop.invariant.asked in
+    let asked_shape = c.in_ok-shape.ensures.asked in
+    let asked_kept = c.in_ok-keep_field.ensures.asked in
+    let below_before = c.loop.invariant.below in
+    let below_shape = c.in_ok-shape.ensures.below in
     let below = c.loop.invariant.precede s.head.tag c.in_ok-shape.ensures.follows in
     record {
       place = omega arith;
@@ -87,6 +94,8 @@ loop-preserved c =
       uses = uses_step b o c.args.start c.args.count c.loop.at _ _ c.loop.before step (omega arith) s.head shape.head
           c.in_ok-shape.ensures.follows c.loop.uses _ c.loop.invariant.uses c.keep_use.ensures;
       memory = c.in_ok-keep_field.ensures.memory ∙ c.in_ok-shape.ensures.memory ∙ c.loop.invariant.memory;
+      asked = omega arith;
+      below = omega arith;
     }
 
 pub returns-clause-judged : goal.returns-clause-judged
@@ -108,3 +117,44 @@ pub returns-clause-uses : goal.returns-clause-uses
 returns-clause-uses c =
     let none : c.args.count - c.loop.counter ≡ 0 = omega arith in
     uses_end c.args.source.now.block.now c.args.source.now.order c.args.start c.args.count c.loop.uses _ _ _ none c.loop.invariant.uses
+
+pub returns-in_err-fields-clause-asked : goal.returns-in_err-fields-clause-asked
+returns-in_err-fields-clause-asked c =
+    let p = err_from_is_err_and c.from_residual.result c.from_residual.ensures.1 in
+    let fields = c.in_err-fields.ensures.asked in
+    rw p.1 (omega arith)
+
+pub returns-in_err-shape-clause-asked : goal.returns-in_err-shape-clause-asked
+returns-in_err-shape-clause-asked c =
+    let p = err_from_is_err_and c.from_residual-in_err-shape.result c.from_residual-in_err-shape.ensures.1 in
+    let fields = c.in_ok-fields.ensures.asked in
+    let before = c.loop.invariant.asked in
+    let shape = c.in_err-shape.ensures.asked in
+    rw p.1 (omega arith)
+
+pub returns-in_err-keep_field-clause-asked : goal.returns-in_err-keep_field-clause-asked
+returns-in_err-keep_field-clause-asked c =
+    let p = err_from_is_err_and c.from_residual-in_err-keep_field.result c.from_residual-in_err-keep_field.ensures.1 in
+    let fields = c.in_ok-fields.ensures.asked in
+    let before = c.loop.invariant.asked in
+    let shape = c.in_ok-shape.ensures.asked in
+    let kept = c.in_err-keep_field.ensures.asked in
+    rw p.1 (omega arith)
+
+pub returns-in_err-shape-clause-below : goal.returns-in_err-shape-clause-below
+returns-in_err-shape-clause-below c =
+    let before = c.loop.invariant.below in
+    let shape = c.in_err-shape.ensures.below in
+    omega arith
+
+pub returns-in_err-keep_field-clause-below : goal.returns-in_err-keep_field-clause-below
+returns-in_err-keep_field-clause-below c =
+    let before = c.loop.invariant.below in
+    let shape = c.in_ok-shape.ensures.below in
+    omega arith
+
+pub returns-clause-asked : goal.returns-clause-asked
+returns-clause-asked c =
+    let fields = c.in_ok-fields.ensures.asked in
+    let before = c.loop.invariant.asked in
+    omega arith

@@ -1,7 +1,9 @@
-use Rattle.std.proofs.Common.{◌≡◌, ◌+◌, ◌-◌, ◌*◌, ◌++◌, List, filter_map}
+use Rattle.std.proofs.Common.{◌≡◌, ◌≤◌, ◌+◌, ◌-◌, ◌*◌, ◌++◌, List, filter_map, length}
 use Rattle.px_bytes.specs.Range.{Range, Agrees}
 use Rattle.px_meaning.specs.Entry.{field, Rising}
 use Rattle.px_meaning.specs.calls.Places.{tags}
+use Rattle.px_meaning.specs.Asking.{field_bytes}
+use Rattle.px_tree.specs.calls.Paying.{paid, StaysBelow}
 use Rattle.px_tree.specs.calls.Reading.{Precede, entries_from}
 use Rattle.px_tree.proofs.reading.KeptUses.{UsesSoFar}
 use Rattle.px_tree.proofs.reading.Loop.{SoFar}
@@ -21,4 +23,7 @@ invariant-loop l = record {
       (entries_from l.source.block.now l.source.order l.start l.count) l.start l.held l.at l.before (l.count - l.counter);
   uses : UsesSoFar l.source.block.now l.source.order l.start l.count l.uses l.at l.before (l.count - l.counter);
   memory : l.memory.refusals ≡ l.initial.memory.refusals;
+  asked : l.memory.asked + paid l.initial.held + (l.count - l.counter) * field_bytes
+      ≤ l.initial.memory.asked + paid l.held + l.count * field_bytes;
+  below : StaysBelow (length l.source.block.now) l.initial.held l.held;
 }

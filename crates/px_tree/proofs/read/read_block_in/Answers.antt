@@ -6,6 +6,8 @@ use Rattle.px_meaning.specs.Says.{SaysExif}
 use Rattle.px_meaning.specs.calls.Seen.{meaning_of}
 use Rattle.px_tree.specs.Refused.{IsRefused}
 use Rattle.px_tree.proofs.faulting.Answered.{tree_said, tree_refused, tree_fits, header_refuses, refused_only}
+use Rattle.px_bytes.specs.Lacking.{AsksAtMost}
+use Rattle.px_tree.specs.Asking.{exif_request}
 use Rattle.px_tree.proofs.read.read_block_in.Goals as goal
 
 pub returns-in_err-judge_header-clause-refused : goal.returns-in_err-judge_header-clause-refused
@@ -43,3 +45,8 @@ returns-clause-refused c =
     subst (λ (x : List ℕ). IfErr c.read_tree.result (IsRefused x c.read_tree.new.memory.refusals)) is
     (tree_refused b c.order_in-order.result c.in_ok-judge_header.ensures.judged.0 c.order_in-order.ensures.told meaning_of
     c.read_tree.result _ _ most c.read_tree.ensures.judged c.read_tree.ensures.memory)
+
+pub returns-clause-asked : goal.returns-clause-asked
+returns-clause-asked c =
+    subst (λ (x : List ℕ). AsksAtMost (exif_request (length x)) c.args.memory.now c.read_tree.new.memory) c.bytes-bytes.ensures.value
+    c.read_tree.ensures.asked

@@ -11,6 +11,8 @@ use Rattle.px_meaning.specs.Says.{record_at}
 use Rattle.px_tree.specs.Checks.{dirs_held}
 use Rattle.px_tree.proofs.saying.Assembled.{thumb_read, main_each, dirs_refuse_tree, thumb_refuses_tree, tree_true, all_in_order}
 use Rattle.px_tree.proofs.saying.Assembled.{meaning_is}
+use Rattle.std.proofs.Common.{length, arith}
+use Rattle.px_tree.proofs.reading.Paying.{paid_most, paid_none, extent_none}
 use Rattle.px_tree.proofs.read.read_tree.Goals as goal
 
 pub returns-in_err-hold-clause-judged : goal.returns-in_err-hold-clause-judged
@@ -79,3 +81,69 @@ returns-clause-judged c =
           t.1
           seen.thumb_read.stands,
     )
+
+pub returns-in_err-hold-clause-asked : goal.returns-in_err-hold-clause-asked
+returns-in_err-hold-clause-asked c =
+    let paid_first = paid_none _ c.in_ok-held.ensures.none in
+    let extent_first = extent_none _ c.in_ok-held.ensures.none in
+    let marks = c.in_ok-held.ensures.asked in
+    let asked = c.in_err-hold.ensures.asked in
+    let below = c.in_err-hold.ensures.below in
+    let most = paid_most c.hold.new.held (length c.args.block.now) (omega arith) in
+    omega arith
+
+pub returns-in_err-directories-clause-asked : goal.returns-in_err-directories-clause-asked
+returns-in_err-directories-clause-asked c =
+    let paid_first = paid_none _ c.in_ok-held.ensures.none in
+    let extent_first = extent_none _ c.in_ok-held.ensures.none in
+    let marks = c.in_ok-held.ensures.asked in
+    let asked0 = c.in_ok-hold.ensures.asked in
+    let below0 = c.in_ok-hold.ensures.below in
+    let asked = c.in_err-directories.ensures.asked in
+    let below = c.in_err-directories.ensures.below in
+    let most = paid_most c.read_dirs.new.held (length c.args.block.now) (omega arith) in
+    omega arith
+
+pub returns-in_err-thumb-clause-asked : goal.returns-in_err-thumb-clause-asked
+returns-in_err-thumb-clause-asked c =
+    let paid_first = paid_none _ c.in_ok-held.ensures.none in
+    let extent_first = extent_none _ c.in_ok-held.ensures.none in
+    let marks = c.in_ok-held.ensures.asked in
+    let asked0 = c.in_ok-hold.ensures.asked in
+    let below0 = c.in_ok-hold.ensures.below in
+    let asked1 = c.in_ok-directories.ensures.asked in
+    let below1 = c.in_ok-directories.ensures.below in
+    let asked = c.in_err-thumb.ensures.asked in
+    let below = c.in_err-thumb.ensures.below in
+    let most = paid_most c.read_thumb.new.held (length c.args.block.now) (omega arith) in
+    omega arith
+
+pub returns-in_err-iptc-clause-asked : goal.returns-in_err-iptc-clause-asked
+returns-in_err-iptc-clause-asked c =
+    let paid_first = paid_none _ c.in_ok-held.ensures.none in
+    let extent_first = extent_none _ c.in_ok-held.ensures.none in
+    let marks = c.in_ok-held.ensures.asked in
+    let asked0 = c.in_ok-hold.ensures.asked in
+    let below0 = c.in_ok-hold.ensures.below in
+    let asked1 = c.in_ok-directories.ensures.asked in
+    let below1 = c.in_ok-directories.ensures.below in
+    let asked2 = c.in_ok-thumb.ensures.asked in
+    let below2 = c.in_ok-thumb.ensures.below in
+    let most = paid_most c.read_thumb.new.held (length c.args.block.now) (omega arith) in
+    let iptc = c.in_err-iptc.ensures.asked in
+    omega arith
+
+pub returns-clause-asked : goal.returns-clause-asked
+returns-clause-asked c =
+    let paid_first = paid_none _ c.in_ok-held.ensures.none in
+    let extent_first = extent_none _ c.in_ok-held.ensures.none in
+    let marks = c.in_ok-held.ensures.asked in
+    let asked0 = c.in_ok-hold.ensures.asked in
+    let below0 = c.in_ok-hold.ensures.below in
+    let asked1 = c.in_ok-directories.ensures.asked in
+    let below1 = c.in_ok-directories.ensures.below in
+    let asked2 = c.in_ok-thumb.ensures.asked in
+    let below2 = c.in_ok-thumb.ensures.below in
+    let most = paid_most c.read_thumb.new.held (length c.args.block.now) (omega arith) in
+    let iptc = c.in_ok-iptc.ensures.asked in
+    omega arith

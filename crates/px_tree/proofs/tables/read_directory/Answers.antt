@@ -9,6 +9,7 @@ use Rattle.px_meaning.specs.Footprint.{table_range}
 use Rattle.px_tree.specs.Checks.{opening_checks, entries_checks}
 use Rattle.px_tree.specs.calls.Linked.{offsets_of}
 use Rattle.px_tree.proofs.reading.Standing.{entries_checks_is, fields_is, ranges_is, uses_is, dir_checks_parts}
+use Rattle.std.proofs.Common.{arith}
 use Rattle.px_tree.proofs.tables.read_directory.Goals as goal
 
 pub returns-in_err-count-clause-judged : goal.returns-in_err-count-clause-judged
@@ -65,3 +66,16 @@ returns-clause-uses c =
     let l = c.args.link in
     uses_is c.args.source.now.block.now c.args.source.now.order l.at c.in_ok-count.count c.in_ok-count.ensures.there _
     c.in_ok-entries.ensures.uses
+
+pub returns-in_err-entries-clause-asked : goal.returns-in_err-entries-clause-asked
+returns-in_err-entries-clause-asked c =
+    let p = err_from_is_err_and c.from_residual-in_err-entries.result c.from_residual-in_err-entries.ensures.1 in
+    let table = c.in_ok-count.ensures.table in
+    let asked = c.in_err-entries.ensures.asked in
+    rw p.1 (omega arith)
+
+pub returns-clause-asked : goal.returns-clause-asked
+returns-clause-asked c =
+    let table = c.in_ok-count.ensures.table in
+    let asked = c.in_ok-entries.ensures.asked in
+    omega arith

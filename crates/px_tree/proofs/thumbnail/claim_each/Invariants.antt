@@ -1,8 +1,9 @@
-use Rattle.std.proofs.Common.{◌≡◌, List, map, drop}
+use Rattle.std.proofs.Common.{◌≡◌, ◌≤◌, ◌+◌, List, length, map, drop}
 use Rattle.std.specs.List.{AllByRecursion}
 use Rattle.px_bytes.specs.Range.{Range, Agrees}
 use Rattle.px_meaning.specs.Thumbnail.{whole_number, ranges_of, IsInside}
 use Rattle.px_meaning.specs.calls.Strips.{ranges_in}
+use Rattle.px_tree.specs.calls.Paying.{paid, StaysBelow}
 use Rattle.px_tree.proofs.reading.StripRanges.{RangesSoFar}
 use Rattle.px_tree.proofs.thumbnail.claim_each.Given as goal
 
@@ -15,4 +16,6 @@ invariant-loop-i l = record {
       (ranges_of (drop l.i (map whole_number l.lists.starts.elements)) (drop l.i (map whole_number l.lists.sizes.elements)))
       → AllByRecursion (IsInside l.lists.block.now) (ranges_in l.lists);
   memory : l.memory.refusals ≡ l.initial.memory.refusals;
+  asked : l.memory.asked + paid l.initial.held ≤ l.initial.memory.asked + paid l.held;
+  below : StaysBelow (length l.lists.block.now) l.initial.held l.held;
 }

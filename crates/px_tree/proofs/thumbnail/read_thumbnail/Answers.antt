@@ -8,6 +8,7 @@ use Rattle.px_tree.proofs.lists.Listed.{have_numbers, offsets_form, lengths_form
 use Rattle.px_tree.proofs.reading.Parted.{even_parts, pairs_refuse, end_refuses, jpeg_refuses, strips_refuse, thumb_true, jpeg_is}
 use Rattle.px_tree.proofs.reading.Parted.{strips_is}
 use Rattle.px_tree.proofs.saying.Assembled.{thumbnail_is}
+use Rattle.std.proofs.Common.{arith}
 use Rattle.px_tree.proofs.thumbnail.read_thumbnail.Goals as goal
 
 pub read_strips-requires-clause-numbers : goal.read_strips-requires-clause-numbers
@@ -65,3 +66,34 @@ returns-clause-judged c = λ taken a.
           (c.in_ok-jpeg.ensures.part ∙ ap (λ (r : Option Range). option_map (bytes_of b) r) (jpeg_is b o c.args.directory.at x found))
           (s.1 ∙ ap (λ (r : Option (List Range)). option_map (map (bytes_of b)) r) (strips_is b o c.args.directory.at x found)),
     )
+
+pub returns-in_err-jpeg-clause-asked : goal.returns-in_err-jpeg-clause-asked
+returns-in_err-jpeg-clause-asked c =
+    let p = err_from_is_err_and c.from_residual-in_err-jpeg.result c.from_residual-in_err-jpeg.ensures.1 in
+    let jpeg = c.in_err-jpeg.ensures.asked in
+    rw p.1 (omega arith)
+
+pub returns-in_err-strips-clause-asked : goal.returns-in_err-strips-clause-asked
+returns-in_err-strips-clause-asked c =
+    let p = err_from_is_err_and c.from_residual-in_err-strips.result c.from_residual-in_err-strips.ensures.1 in
+    let jpeg = c.in_ok-jpeg.ensures.asked in
+    let strips = c.in_err-strips.ensures.asked in
+    rw p.1 (omega arith)
+
+pub returns-in_err-strips-clause-below : goal.returns-in_err-strips-clause-below
+returns-in_err-strips-clause-below c =
+    let jpeg = c.in_ok-jpeg.ensures.below in
+    let strips = c.in_err-strips.ensures.below in
+    omega arith
+
+pub returns-clause-asked : goal.returns-clause-asked
+returns-clause-asked c =
+    let jpeg = c.in_ok-jpeg.ensures.asked in
+    let strips = c.in_ok-strips.ensures.asked in
+    omega arith
+
+pub returns-clause-below : goal.returns-clause-below
+returns-clause-below c =
+    let jpeg = c.in_ok-jpeg.ensures.below in
+    let strips = c.in_ok-strips.ensures.below in
+    omega arith

@@ -6,6 +6,7 @@ use Rattle.px_meaning.specs.declared.Dir.TheVariants.{Main, Exif, Interop, Gps, 
 use Rattle.px_meaning.specs.Entry.{fields}
 use Rattle.px_tree.proofs.reading.Named.{dirs_start, dirs_step, dirs_refuse, dirs_clean, dirs_end, names_exif, names_gps, names_interop}
 use Rattle.px_tree.proofs.reading.Named.{names_thumb, main_is, main_directory_found, some_checks, some_ranges}
+use Rattle.std.proofs.Common.{arith}
 use Rattle.px_tree.proofs.tree.read_dirs.Goals as goal
 
 pub read_linked-requires-clause-named : goal.read_linked-requires-clause-named
@@ -186,3 +187,96 @@ returns-clause-judged c = λ taken a.
         dirs_end b o taken _ _ s5,
       ),
     )
+
+pub returns-in_err-main-clause-asked : goal.returns-in_err-main-clause-asked
+returns-in_err-main-clause-asked c =
+    let p = err_from_is_err_and c.from_residual.result c.from_residual.ensures.1 in
+    let a0 = c.in_err-main.ensures.asked in
+    rw p.1 (omega arith)
+
+pub returns-in_err-main-clause-below : goal.returns-in_err-main-clause-below
+returns-in_err-main-clause-below c =
+    let a0 = c.in_err-main.ensures.below in
+    omega arith
+
+pub returns-in_err-exif-clause-asked : goal.returns-in_err-exif-clause-asked
+returns-in_err-exif-clause-asked c =
+    let p = err_from_is_err_and c.from_residual-in_err-exif.result c.from_residual-in_err-exif.ensures.1 in
+    let a0 = c.in_ok-main.ensures.asked in
+    let a1 = c.in_err-exif.ensures.asked in
+    rw p.1 (omega arith)
+
+pub returns-in_err-exif-clause-below : goal.returns-in_err-exif-clause-below
+returns-in_err-exif-clause-below c =
+    let a0 = c.in_ok-main.ensures.below in
+    let a1 = c.in_err-exif.ensures.below in
+    omega arith
+
+pub returns-in_err-interop-clause-asked : goal.returns-in_err-interop-clause-asked
+returns-in_err-interop-clause-asked c =
+    let p = err_from_is_err_and c.from_residual-in_err-interop.result c.from_residual-in_err-interop.ensures.1 in
+    let a0 = c.in_ok-main.ensures.asked in
+    let a1 = c.in_ok-exif.ensures.asked in
+    let a2 = c.in_err-interop.ensures.asked in
+    rw p.1 (omega arith)
+
+pub returns-in_err-interop-clause-below : goal.returns-in_err-interop-clause-below
+returns-in_err-interop-clause-below c =
+    let a0 = c.in_ok-main.ensures.below in
+    let a1 = c.in_ok-exif.ensures.below in
+    let a2 = c.in_err-interop.ensures.below in
+    omega arith
+
+pub returns-in_err-gps-clause-asked : goal.returns-in_err-gps-clause-asked
+returns-in_err-gps-clause-asked c =
+    let p = err_from_is_err_and c.from_residual-in_err-gps.result c.from_residual-in_err-gps.ensures.1 in
+    let a0 = c.in_ok-main.ensures.asked in
+    let a1 = c.in_ok-exif.ensures.asked in
+    let a2 = c.in_ok-interop.ensures.asked in
+    let a3 = c.in_err-gps.ensures.asked in
+    rw p.1 (omega arith)
+
+pub returns-in_err-gps-clause-below : goal.returns-in_err-gps-clause-below
+returns-in_err-gps-clause-below c =
+    let a0 = c.in_ok-main.ensures.below in
+    let a1 = c.in_ok-exif.ensures.below in
+    let a2 = c.in_ok-interop.ensures.below in
+    let a3 = c.in_err-gps.ensures.below in
+    omega arith
+
+pub returns-in_err-thumb-clause-asked : goal.returns-in_err-thumb-clause-asked
+returns-in_err-thumb-clause-asked c =
+    let p = err_from_is_err_and c.from_residual-in_err-thumb.result c.from_residual-in_err-thumb.ensures.1 in
+    let a0 = c.in_ok-main.ensures.asked in
+    let a1 = c.in_ok-exif.ensures.asked in
+    let a2 = c.in_ok-interop.ensures.asked in
+    let a3 = c.in_ok-gps.ensures.asked in
+    let a4 = c.in_err-thumb.ensures.asked in
+    rw p.1 (omega arith)
+
+pub returns-in_err-thumb-clause-below : goal.returns-in_err-thumb-clause-below
+returns-in_err-thumb-clause-below c =
+    let a0 = c.in_ok-main.ensures.below in
+    let a1 = c.in_ok-exif.ensures.below in
+    let a2 = c.in_ok-interop.ensures.below in
+    let a3 = c.in_ok-gps.ensures.below in
+    let a4 = c.in_err-thumb.ensures.below in
+    omega arith
+
+pub returns-clause-asked : goal.returns-clause-asked
+returns-clause-asked c =
+    let a0 = c.in_ok-main.ensures.asked in
+    let a1 = c.in_ok-exif.ensures.asked in
+    let a2 = c.in_ok-interop.ensures.asked in
+    let a3 = c.in_ok-gps.ensures.asked in
+    let a4 = c.in_ok-thumb.ensures.asked in
+    omega arith
+
+pub returns-clause-below : goal.returns-clause-below
+returns-clause-below c =
+    let a0 = c.in_ok-main.ensures.below in
+    let a1 = c.in_ok-exif.ensures.below in
+    let a2 = c.in_ok-interop.ensures.below in
+    let a3 = c.in_ok-gps.ensures.below in
+    let a4 = c.in_ok-thumb.ensures.below in
+    omega arith

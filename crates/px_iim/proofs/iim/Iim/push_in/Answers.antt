@@ -1,6 +1,8 @@
 use Rattle.std.proofs.Common.{◌≡◌, ◌∙◌, ◌+◌, ◌<◌, ◌≤◌, ℕ, List, ap, sym, subst, arith, length, map, get_or, refl}
 use Rattle.std.specs.List.{insert}
+use Rattle.std.proofs.lemmas.List.{length-map}
 use Rattle.px_iim.specs.declared.group.Item.{Item}
+use Rattle.px_iim.specs.Asking.{dataset_count}
 use Rattle.px_iim.specs.Group.{Record, named, put, AreGroups}
 use Rattle.px_iim.specs.Record.{normal_dataset, normal_iim}
 use Rattle.px_iim.specs.lemmas.BoundLaws.{length_put, length_normal_dataset}
@@ -8,6 +10,7 @@ use Rattle.px_iim.specs.calls.Runs.{key_of, runs, InOrder, AreNumbers}
 use Rattle.px_iim.specs.calls.View.{dataset_view}
 use Rattle.px_iim.specs.Writing.{within}
 use Rattle.px_iim.proofs.writing.Writes.{within_counted}
+use Rattle.px_iim.proofs.reading.Counted.{count_runs}
 use Rattle.px_iim.proofs.reading.Order.{whole_put}
 use Rattle.px_iim.proofs.reading.Parts.{inserted_order, inserted_numbers, inserted_put}
 use Rattle.px_iim.proofs.iim.Iim.push_in.Goals as goal
@@ -73,3 +76,27 @@ returns-clause-done c =
     c.key_of.ensures.byte (λ k y l. c.place_behind-at.ensures.front k y l) (λ k y l j. c.place_behind-at.ensures.behind k y l j)
     c.self.invariant.0 c.self.invariant.1 in
     e ∙ ap (put (dataset_view x)) c.self.view_is
+
+pub returns-in_err-put_at-clause-asked : goal.returns-in_err-put_at-clause-asked
+returns-in_err-put_at-clause-asked c =
+    let ss = c.self.inside.items.items in
+    omega (
+      arith,
+      c.in_err-put_at.ensures.asked,
+      count_runs (map dataset_view ss),
+      length-map ss dataset_view,
+      c.self.inside.items.ok.0,
+      ap dataset_count c.self.view_is,
+    )
+
+pub returns-clause-asked : goal.returns-clause-asked
+returns-clause-asked c =
+    let ss = c.self.inside.items.items in
+    omega (
+      arith,
+      c.in_ok-put_at.ensures.asked,
+      count_runs (map dataset_view ss),
+      length-map ss dataset_view,
+      c.self.inside.items.ok.0,
+      ap dataset_count c.self.view_is,
+    )

@@ -1,4 +1,4 @@
-use Rattle.std.proofs.Common.{sym, refl, ◌∙◌}
+use Rattle.std.proofs.Common.{sym, refl, ◌∙◌, arith}
 use Rattle.std.proofs.lemmas.Result.{err_from_is_err_and}
 use Rattle.px_meaning.proofs.writable.FieldLemmas.{at_tag_some, at_tag_gap, put_insert, in_order_insert}
 use Rattle.px_meaning.proofs.fields.Fields.put_in.Goals as goal
@@ -24,3 +24,17 @@ returns-in_err-insert-in-Err-clause-absent c =
     let p = err_from_is_err_and c.from_residual.result c.from_residual.ensures.1 in
     let gap = rw c.as_slice.ensures.value at c.in-Err.ensures.absent in
     rw p.1 (rw (← c.self.view_is) (at_tag_gap _ _ _ gap))
+
+pub returns-in-Ok-clause-asked : goal.returns-in-Ok-clause-asked
+returns-in-Ok-clause-asked c =
+    rw (← c.self.view_is) (rw (at_tag_some _ _ _ (rw c.as_slice.ensures.value at c.in-Ok.ensures.found)) (omega arith))
+
+pub returns-in_ok-insert-in-Err-clause-asked : goal.returns-in_ok-insert-in-Err-clause-asked
+returns-in_ok-insert-in-Err-clause-asked c =
+    let gap = rw c.as_slice.ensures.value at c.in-Err.ensures.absent in
+    rw (← c.self.view_is) (rw (at_tag_gap _ _ _ gap) c.in_ok-insert-in-Err.ensures.asked)
+
+pub returns-in_err-insert-in-Err-clause-asked : goal.returns-in_err-insert-in-Err-clause-asked
+returns-in_err-insert-in-Err-clause-asked c =
+    let gap = rw c.as_slice.ensures.value at c.in-Err.ensures.absent in
+    rw (← c.self.view_is) (rw (at_tag_gap _ _ _ gap) c.in_err-insert-in-Err.ensures.asked)
