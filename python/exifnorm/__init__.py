@@ -23,7 +23,7 @@ objects is tested, but not proved.
 
 from ._calls import Block, digest, kind, normal, same, show, version
 from ._captions import Caption, captions
-from ._errors import LibraryMissing, NormalTooLong, Refused
+from ._errors import LIMIT, LibraryMissing, NormalTooLong, Refused
 from ._fields import Field, Ratio, Values
 from ._library import Status
 from ._reading import fields
@@ -34,6 +34,7 @@ __all__ = [
     "Block",
     "Caption",
     "Field",
+    "LIMIT",
     "LibraryMissing",
     "NormalTooLong",
     "Ratio",

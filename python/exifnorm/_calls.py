@@ -7,8 +7,8 @@ import functools
 import hashlib
 from typing import Any, Callable, List, NoReturn, Optional, TypeVar, Union
 
-from ._errors import NormalTooLong, Refused
-from ._library import LIMIT, NAME_ROOM, Fault, Status, library
+from ._errors import LIMIT, NormalTooLong, Refused
+from ._library import NAME_ROOM, Fault, Status, library
 
 Block = Union[bytes, bytearray, memoryview]
 """A block's bytes. Any other object with contiguous bytes works too, such as an mmap."""
@@ -18,7 +18,6 @@ Made = TypeVar("Made")
 _DONE = int(Status.DONE)
 _KINDS = {1: "exif", 2: "iim"}
 _KEPT_ROOM = 65_536  # size in bytes of the output buffer that is kept from one call to the next
-_KEPT_SIZE = ctypes.c_size_t(_KEPT_ROOM)
 
 
 class _View(ctypes.Structure):
@@ -53,13 +52,15 @@ _FIRST_BYTE = bytes.__basicsize__ - 1  # offset of the bytes in such an object; 
 
 
 class _Places:
-    """The output buffer of a call, and the numbers that the call stores."""
+    """The output buffer of a call, and the numbers that it takes and stores, as arguments that ctypes passes without converting them
+    again: a conversion takes longer than the rest of a call."""
+
+    __slots__ = "kept", "out", "room", "length", "written", "number", "fault", "to_written", "to_number", "to_fault"
 
     def __init__(self) -> None:
-        kept = ctypes.create_string_buffer(_KEPT_ROOM)
-        self.kept = memoryview(kept).cast("B")
-        self.out = ctypes.c_void_p(ctypes.addressof(kept))
-        self.written, self.number, self.fault = ctypes.c_size_t(), ctypes.c_uint32(), Fault()
+        self.kept = ctypes.create_string_buffer(_KEPT_ROOM)
+        self.out, self.room = ctypes.byref(self.kept), ctypes.c_size_t.from_param(_KEPT_ROOM)
+        self.length, self.written, self.number, self.fault = ctypes.c_size_t(), ctypes.c_size_t(), ctypes.c_uint32(), Fault()
         self.to_written, self.to_number, self.to_fault = map(ctypes.byref, (self.written, self.number, self.fault))
 
 
@@ -75,14 +76,14 @@ def _take_places() -> _Places:
 
 
 def _over_bytes(block: Block, use: Callable[[Any, int], Made]) -> Made:
-    """Calls `use` with the address and the length of a block's bytes."""
+    """Calls `use` with the address of a block's bytes, as an argument for ctypes, and with their number."""
     if type(block) is bytes:
         return use(block, len(block))
     view = _View()
     _get_view(block, ctypes.byref(view), _SIMPLE)
     try:
         # without bytes any address but null works
-        return use(view.buf or ctypes.addressof(view), view.len)
+        return use(ctypes.c_void_p(view.buf or ctypes.addressof(view)), view.len)
     finally:
         _release(ctypes.byref(view))
 
@@ -109,25 +110,26 @@ def _fail(status: int, places: _Places, side: Optional[int] = None) -> NoReturn:
 def _made(call: Callable[..., int], at: Any, length: int, room: int) -> bytes:
     """The output of a call, which usually fits into a buffer of this size."""
     places = _take_places()
+    places.length.value = length
     if room <= _KEPT_ROOM:
-        status = call(at, length, places.out, _KEPT_SIZE, places.to_written, places.to_fault)
+        status = call(at, places.length, places.out, places.room, places.to_written, places.to_fault)
         if status == _DONE:
-            made = places.kept[: places.written.value].tobytes()
+            made = places.kept[: places.written.value]
             _free_places.append(places)
             return made
         if status != Status.TOO_LITTLE_ROOM:
             _fail(status, places)
         room = places.written.value
-    return _made_in_new(call, at, length, room, places)
+    return _made_in_new(call, at, room, places)
 
 
-def _made_in_new(call: Callable[..., int], at: Any, length: int, room: int, places: _Places) -> bytes:
+def _made_in_new(call: Callable[..., int], at: Any, room: int, places: _Places) -> bytes:
     """The same, written directly into a new bytes object: it is neither cleared before nor copied afterwards."""
     while True:
         made = ctypes.c_void_p(_new_bytes(None, room))
         try:
             out = ctypes.c_void_p(made.value + _FIRST_BYTE)
-            status = call(at, length, out, ctypes.c_size_t(room), places.to_written, places.to_fault)
+            status = call(at, places.length, out, ctypes.c_size_t(room), places.to_written, places.to_fault)
             if status == _DONE:
                 _resize(ctypes.byref(made), places.written.value)
                 _free_places.append(places)
@@ -141,8 +143,8 @@ def _made_in_new(call: Callable[..., int], at: Any, length: int, room: int, plac
 
 
 def _form(at: Any, length: int) -> bytes:
-    # a form has at most twice as many bytes as its block
-    return _made(library().exifnorm_normalise, at, length, min(2 * length, LIMIT) + 1)
+    """The form of the block at an address. A form has at most twice as many bytes as its block."""
+    return _made(library().exifnorm_normalise, at, length, 2 * length + 1 if length < LIMIT // 2 else LIMIT + 1)
 
 
 def _listing(at: Any, length: int) -> bytes:
@@ -169,8 +171,12 @@ def kind(block: Block) -> str:
     'iim'
     """
     places = _take_places()
-    check = library().exifnorm_check
-    status = _over_bytes(block, lambda at, length: check(at, length, places.to_number, places.to_fault))
+
+    def check(at: Any, length: int) -> int:
+        places.length.value = length
+        return library().exifnorm_check(at, places.length, places.to_number, places.to_fault)
+
+    status = _over_bytes(block, check)
     if status != _DONE:
         _fail(status, places)
     number = places.number.value
@@ -180,14 +186,14 @@ def kind(block: Block) -> str:
 
 def normal(block: Block) -> bytes:
     """The block's normal form: the same bytes for all blocks that mean the same. Raises Refused if the block breaks the rules,
-    NormalTooLong if the form would have more than 16,777,216 bytes, and MemoryError.
+    NormalTooLong if the form would be longer than `LIMIT`, and MemoryError.
 
     Use a normal form only to compare or to digest. Offsets inside a MakerNote may be invalid in it: keep the original.
 
     >>> normal(b"\\x1c\\x02\\x78\\x80\\x04\\x00\\x00\\x00\\x04Vase\\x00")
     b'\\x1c\\x02x\\x00\\x04Vase'
     """
-    return _over_bytes(block, _form)
+    return _form(block, len(block)) if type(block) is bytes else _over_bytes(block, _form)
 
 
 def digest(block: Block, algorithm: str = "sha256") -> str:
@@ -215,8 +221,8 @@ def same(first: Block, second: Block) -> bool:
     places = _take_places()
 
     def beside(at: Any, length: int) -> int:
-        compare = functools.partial(library().exifnorm_compare, at, length)
-        return _over_bytes(second, lambda *other: compare(*other, places.to_number, places.to_fault))
+        compare = functools.partial(library().exifnorm_compare, at, ctypes.c_size_t(length))
+        return _over_bytes(second, lambda to, size: compare(to, ctypes.c_size_t(size), places.to_number, places.to_fault))
 
     status = _over_bytes(first, beside)
     if status != _DONE:

@@ -2,15 +2,17 @@
 
 from __future__ import annotations
 
+import functools
 import re
+import struct
 from dataclasses import dataclass
-from typing import List, Optional, Set
+from typing import List, Optional
 
 from ._calls import Block, captions_text
 from ._reading import fields
 
 _ESCAPE = re.compile(rb"\\([0-9a-f]{2})")
-_EXIF_TAGS = {"description": 0x010E, "artist": 0x013B, "copyright": 0x8298}
+_UTF8 = 129  # the number of the Exif type
 
 
 @dataclass(frozen=True)
@@ -18,8 +20,7 @@ class Caption:
     """A labelled text of a block."""
 
     label: str
-    """"title", "caption", "headline", "credit", "source", "copyright", "byline", "byline-title", "keyword" or "inventory" of a
-    record; "description", "artist" or "copyright" of an Exif block."""
+    """The label that the library prints, such as "title" or "keyword" of a record, and "artist" of an Exif block."""
     data: bytes
     """Its bytes as they are in the block; a text of an Exif block usually ends in a zero byte."""
     text: Optional[str]
@@ -34,17 +35,27 @@ def _decoded(data: bytes, encoding: str) -> Optional[str]:
         return None
 
 
-def _utf8_tags(block: Block) -> Set[int]:
-    return {it.tag for it in fields(block) if it.directory == "main" and it.type == "UTF8"}
+@functools.lru_cache(maxsize=None)
+def _label_of_tag(tag: int) -> str:
+    """The label that the library prints for a text with this tag in a main directory; empty if it prints none.
+
+    >>> _label_of_tag(0x013B), _label_of_tag(0x010F)
+    ('artist', '')
+    """
+    block = struct.pack(">4sIHHHIII", b"MM\0*", 8, 1, tag, _UTF8, 1, 0, 0)
+    return captions_text(block).partition("\n")[2].partition(": ")[0]
+
+
+def _is_utf8(block: Block, label: str) -> bool:
+    """Whether the text with this label in a main directory has the type UTF-8, which only the listing shows."""
+    return any(it.directory == "main" and it.type == "UTF8" and _label_of_tag(it.tag) == label for it in fields(block))
 
 
 def _of_exif(block: Block, label: str, data: bytes) -> Caption:
     ended = data[:-1] if data.endswith(b"\0") else data
     if ended.isascii():
         return Caption(label, data, ended.decode("ascii"))
-    # only the listing has the type
-    encoding = "utf-8" if _EXIF_TAGS[label] in _utf8_tags(block) else "ascii"
-    return Caption(label, data, _decoded(ended, encoding))
+    return Caption(label, data, _decoded(ended, "utf-8" if _is_utf8(block, label) else "ascii"))
 
 
 def captions(block: Block) -> List[Caption]:

@@ -4,6 +4,9 @@ from __future__ import annotations
 
 from typing import Optional
 
+LIMIT = 16_777_216
+"""The greatest length in bytes of a block, and of a normal form."""
+
 
 class Refused(ValueError):
     """A block breaks the rules and has no meaning: its first fault.
@@ -19,7 +22,7 @@ class Refused(ValueError):
     def __init__(self, cause: str, place: int, side: Optional[int] = None) -> None:
         super().__init__(cause, place, side)
         self.cause = cause
-        """The name of the cause, such as "Overlap". docs/FORMAT.md and exifnorm(3) list the causes."""
+        """The name of the cause, such as "Overlap". docs/FORMAT.md lists the causes."""
         self.place = place
         """The byte offset from the block's first byte. The six bytes before an Exif block are not counted."""
         self.side = side
@@ -31,23 +34,25 @@ class Refused(ValueError):
 
 
 class NormalTooLong(ValueError):
-    """The block has a meaning, but its normal form is longer than 16,777,216 bytes.
+    """The block has a meaning, but its normal form is longer than `LIMIT`.
 
     `same`, `show`, `kind` and `captions` accept such a block.
 
     >>> import exifnorm
-    >>> count = 4_200_000  # numbers of RowsPerStrip, which take two bytes here, and four in the form
+    >>> count = exifnorm.LIMIT // 4  # numbers of RowsPerStrip, which take two bytes here, and four in the form
     >>> head = bytes.fromhex("4d4d002a00000008 0001 0116 0003") + count.to_bytes(4, "big") + bytes.fromhex("0000001a 00000000")
     >>> block = head + bytes(2 * count)
     >>> exifnorm.kind(block)
     'exif'
-    >>> exifnorm.normal(block)
-    Traceback (most recent call last):
-    exifnorm._errors.NormalTooLong: the normal form is longer than 16777216 bytes
+    >>> try:
+    ...     exifnorm.normal(block)
+    ... except exifnorm.NormalTooLong as error:
+    ...     print(str(error) == f"the normal form is longer than {exifnorm.LIMIT} bytes")
+    True
     """
 
     def __str__(self) -> str:
-        return "the normal form is longer than 16777216 bytes"
+        return f"the normal form is longer than {LIMIT} bytes"
 
 
 class LibraryMissing(OSError):

@@ -11,7 +11,6 @@ from typing import Iterator
 from ._errors import LibraryMissing
 
 NAME = "libexifnorm.so.1"
-LIMIT = 16_777_216  # the greatest length in bytes of a block, and of a normal form
 NAME_ROOM = 32
 
 
@@ -36,15 +35,15 @@ class Fault(ctypes.Structure):
     _fields_ = [("cause", ctypes.c_uint32), ("place", ctypes.c_uint32)]
 
 
-_BLOCK = [ctypes.c_void_p, ctypes.c_size_t]
+_READY = None  # each argument is bytes or a ctypes object, which ctypes passes unchanged
 _TEXT = [ctypes.c_void_p, ctypes.c_size_t, ctypes.POINTER(ctypes.c_size_t)]
-# The arguments that ctypes converts. The others are ctypes objects, which are made once and passed unchanged.
+# The types to which ctypes converts the arguments.
 CALLS = {
-    "exifnorm_check": _BLOCK,
-    "exifnorm_normalise": _BLOCK,
-    "exifnorm_compare": _BLOCK + _BLOCK,
-    "exifnorm_show": _BLOCK,
-    "exifnorm_captions": _BLOCK,
+    "exifnorm_check": _READY,
+    "exifnorm_normalise": _READY,
+    "exifnorm_compare": _READY,
+    "exifnorm_show": _READY,
+    "exifnorm_captions": _READY,
     "exifnorm_cause_name": [ctypes.c_uint32, *_TEXT],
     "exifnorm_version": _TEXT,
 }

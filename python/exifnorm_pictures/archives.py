@@ -12,12 +12,13 @@ from typing import BinaryIO, List, Optional
 
 from . import changed as changes
 from . import groups, report, rooms, session, tools, writing
+from .batches import Lines
+from .blocks import KIND_OF, KINDS, WORDS
 from .catalogue import Catalogue, NoCatalogue, head_is_ours
 from .index import Asked, index
-from .kept import KIND_OF, KINDS, WORDS, Entry
 from .looking import How
 from .merge import merge
-from .telling import chosen_paths, entry_lines, entry_members, from_list, named, tell
+from .telling import chosen_paths, entry_json, entry_lines, from_list, named, tell
 from .texts import Members, path_members, shown_path
 from .words import parser
 
@@ -34,14 +35,10 @@ def index_(asked: argparse.Namespace) -> int:
     if any(not it for it in names):
         raise NoCatalogue("a name is empty")
 
-    def told(entry: Entry) -> None:
-        for line in entry_lines(entry) if not asked.json else (json.dumps(entry_members(entry)),):
-            print(line)
-
     with rooms.room() as room, Catalogue(asked.catalogue, make=True) as catalogue:
         if asked.keep_old:
             keep_old(catalogue, asked.keep_old, room)
-        wanted = Asked(names, asked.again, asked.quiet, _how(asked, room), told)
+        wanted = Asked(names, asked.again, asked.quiet, _how(asked, room, entry_json if asked.json else entry_lines), print)
         if asked.scheduler:
             from . import cluster  # only this needs Dask
 
@@ -52,8 +49,8 @@ def index_(asked: argparse.Namespace) -> int:
     return FAILED if any(counts[it] for it in FAILURES) else DONE
 
 
-def _how(asked: argparse.Namespace, room: str) -> How:
-    return How(asked.jobs, asked.whole, asked.limit, room)
+def _how(asked: argparse.Namespace, room: str, lines: Optional[Lines] = None) -> How:
+    return How(asked.jobs, asked.whole, asked.limit, room, lines)
 
 
 def keep_old(catalogue: Catalogue, name: str, room: str) -> None:

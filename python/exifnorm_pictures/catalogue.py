@@ -14,8 +14,9 @@ import urllib.parse
 import zlib
 from typing import Callable, Dict, Iterable, Iterator, List, NamedTuple, Optional, Sequence, Tuple, TypeVar
 
+from .blocks import Block
 from .formats.found import NotRead
-from .kept import Block, Entry, Picture, Stamp, block_of_row, digests, has, not_read_of_row, picture_of_row
+from .kept import Entry, Picture, Stamp, block_of_row, digests, has, not_read_of_row, picture_of_row
 from .listing import Field, unpacked
 
 APPLICATION = 0x45584E50  # 'EXNP', which distinguishes a catalogue from other SQLite files
@@ -80,10 +81,23 @@ CREATE INDEX pictures_by_content ON pictures (exif, iptc, xmp, not_read) WHERE p
 _OCTETS = "exif_octets, iptc_octets, xmp_octets"
 PICTURE_COLUMNS = f"id, path, root, type, extractor, problem, detail, size, modified, inode, not_read, exif, iptc, xmp, {_OCTETS}"
 BLOCK_COLUMNS = "number, kind, name, source, extractor, status, digest, cause, place, length, octets"
-_COLUMNS = f"path, root, size, modified, changed, inode, type, extractor, problem, detail, exif, iptc, xmp, not_read, {_OCTETS}"
+ALL_PICTURE_COLUMNS = f"path, root, size, modified, changed, inode, type, extractor, problem, detail, exif, iptc, xmp, not_read, {_OCTETS}"
 # A row that replaces another of the same path takes the other's blocks and parts with it, by ON DELETE CASCADE.
-_PUT_PICTURE = f"INSERT OR REPLACE INTO pictures (id, {_COLUMNS}, run) VALUES (?{', ?' * 18})"
+_PUT_PICTURE = f"INSERT OR REPLACE INTO pictures (id, {ALL_PICTURE_COLUMNS}, run) VALUES (?{', ?' * 18})"
 _PUT_BLOCK = f"INSERT INTO blocks (picture, {BLOCK_COLUMNS}, fields) VALUES (?{', ?' * 12})"
+_ADD_ROWS = (
+    "DELETE FROM main.pictures WHERE path IN (SELECT path FROM {other}.pictures)",
+    f"INSERT INTO main.pictures (id, {ALL_PICTURE_COLUMNS}, run)"
+    f" SELECT id + :pictures, {ALL_PICTURE_COLUMNS}, run + :runs FROM {{other}}.pictures",
+    f"INSERT INTO main.blocks (picture, {BLOCK_COLUMNS}, fields) SELECT picture + :pictures, {BLOCK_COLUMNS}, fields FROM {{other}}.blocks",
+    "INSERT INTO main.not_read SELECT picture + :pictures, number, what, digest FROM {other}.not_read",
+)
+# The same tables without keys, for rows that are only written and read once
+_ROWS = (
+    f"CREATE TABLE pictures (id, {ALL_PICTURE_COLUMNS}, run)", f"CREATE TABLE blocks (picture, {BLOCK_COLUMNS}, fields)",
+    "CREATE TABLE not_read (picture, number, what, digest)",
+)  # fmt: skip
+KEPT_BEFORE = ("Vanished", "Unreadable")  # what was known of a picture stays, if it can't be read now
 
 Run = Tuple[str, Optional[str], Optional[str], Optional[str]]  # when it began and ended, ExifTool's version, exiv2's
 Made = TypeVar("Made")
@@ -235,21 +249,43 @@ class Catalogue:
                     self.base.execute("ROLLBACK")
                 raise
 
-    def put(self, run: int, entries: Iterable[Entry]) -> None:
-        """Keeps some pictures, in one transaction; of several entries with one path the last one counts."""
-        with self.transaction():
-            new = [it for it in {it.path: it for it in entries}.values() if not self._is_kept(run, it)]
-            first = 1 + int(self.base.execute("SELECT ifnull(max(id), 0) FROM pictures").fetchone()[0])
-            numbered = list(enumerate(new, first))
-            self.base.executemany(_PUT_PICTURE, [(number, *_row(it), run) for number, it in numbered])
-            blocks = [(number, at, *block.row(), block.kept) for number, it in numbered for at, block in enumerate(it.blocks)]
-            self.base.executemany(_PUT_BLOCK, blocks)
-            parts = [(number, at, part.what, part.digest) for number, it in numbered for at, part in enumerate(it.not_read)]
-            self.base.executemany("INSERT INTO not_read VALUES (?, ?, ?, ?)", parts)
+    def put(self, run: int, entries: Iterable[Entry], files: Sequence[str] = ()) -> None:
+        """Keeps some pictures, and those of `files`, which `make_rows` began, in one transaction; the last one with a path counts."""
+        with contextlib.ExitStack() as attached:
+            names = [attached.enter_context(self.attached(name, f"batch{number}")) for number, name in enumerate(files)]
+            with self.transaction():
+                for other in names:
+                    self.add_rows(other, run)
+                new = [it for it in {it.path: it for it in entries}.values() if not self._is_kept(run, it)]
+                put_rows(self.base, run, 1 + self.greatest("pictures"), new)
+
+    @contextlib.contextmanager
+    def attached(self, file: str, other: str) -> Iterator[str]:
+        """Another SQLite file under a name, while it is read."""
+        with self.guarded():
+            self.base.execute(f"ATTACH ? AS {other}", (address(file),))
+        try:
+            yield other
+        finally:
+            with self.guarded():
+                self.base.execute(f"DETACH {other}")
+
+    def add_rows(self, other: str, runs: int) -> None:
+        """Adds the pictures of an attached file, by SQLite alone; they replace those with the same paths.
+
+        Their numbers are raised by the greatest one here, so that no row is looked up by itself, and those of their runs by `runs`.
+        """
+        offsets = {"pictures": self.greatest("pictures"), "runs": runs}
+        for step in _ADD_ROWS:
+            self.base.execute(step.format(other=other), offsets)
+
+    def greatest(self, table: str) -> int:
+        """The greatest number of a row."""
+        return int(self.base.execute(f"SELECT ifnull(max(id), 0) FROM main.{table}").fetchone()[0])
 
     def _is_kept(self, run: int, it: Entry) -> bool:
         """Whether a picture that can't be read now was known before. Its earlier results are kept."""
-        if it.problem in ("Vanished", "Unreadable"):
+        if it.problem in KEPT_BEFORE:
             words = (it.problem, it.detail, run, it.path)
             return self.base.execute("UPDATE pictures SET problem = ?, detail = ?, run = ? WHERE path = ?", words).rowcount > 0
         return False
@@ -334,6 +370,21 @@ class Catalogue:
                 other.execute("PRAGMA journal_mode = DELETE")
             finally:
                 other.close()
+
+
+def make_rows(base: sqlite3.Connection) -> None:
+    """Makes tables in a new file that `put_rows` fills and a catalogue takes over. A file that is cut short is of no use to anybody."""
+    for it in ("PRAGMA journal_mode = OFF", "PRAGMA synchronous = OFF", *_ROWS):
+        base.execute(it)
+
+
+def put_rows(base: sqlite3.Connection, run: int, first: int, entries: Iterable[Entry]) -> None:
+    """Adds rows for some pictures, which get the numbers from `first` on."""
+    numbered = list(enumerate(entries, first))
+    base.executemany(_PUT_PICTURE, [(number, *_row(it), run) for number, it in numbered])
+    base.executemany(_PUT_BLOCK, [(number, at, *block.row()) for number, it in numbered for at, block in enumerate(it.blocks)])
+    parts = [(number, at, part.what, part.digest) for number, it in numbered for at, part in enumerate(it.not_read)]
+    base.executemany("INSERT INTO not_read VALUES (?, ?, ?, ?)", parts)
 
 
 def _row(it: Entry) -> Tuple[object, ...]:

@@ -2,11 +2,26 @@
 
 from __future__ import annotations
 
+import enum
 from dataclasses import dataclass
 from typing import Dict, Tuple
 
+from exifnorm import LIMIT
+
 MEASURED = "measured on 419 JPEG files of Debian source packages, 2026"
 READERS = "ExifTool 12.57, exiv2 0.27.6, exif 0.6.22 (libexif), Pillow 9.4 and piexif 1.1.3 of Debian 12"
+
+
+class Facts(enum.Enum):
+    """What `explain` shows of a refused block, beside the bytes at the offset."""
+
+    LENGTH = enum.auto()
+    BEGINNING = enum.auto()  # or what else the file is
+    DIRECTORY = enum.auto()  # where it begins and ends
+    NEXT = enum.auto()  # the offset of a further directory
+    ENTRY = enum.auto()
+    RANGES = enum.auto()  # the two that share bytes
+    DATA_SET = enum.auto()
 
 
 @dataclass(frozen=True)
@@ -21,6 +36,7 @@ class Cause:
     readers: str
     remedy: str
     cost: str
+    facts: Facts = Facts.ENTRY
 
 
 _TOUCH = "`exifnorm-pictures mend`, whose first step lets ExifTool add a field and remove it: ExifTool then lays the block out again"
@@ -29,14 +45,15 @@ _OTHER = "Extract the block again; if the file itself is damaged, use another co
 _CAUSES = (
     Cause(
         "TooLong",
-        "The block is longer than 16,777,216 bytes.",
+        f"The block is longer than {LIMIT:,} bytes.",
         "A block in a JPEG has fewer than 65,536 bytes; other formats seldom have more than a megabyte. A longer block is"
         " usually a whole picture, or another file.",
-        "0 .................... 16777215 | 16777216 ...\n                                   !",
+        f"0 .................... {LIMIT - 1} | {LIMIT} ...\n                                   !",
         (),
         "Not tried: no JPEG can contain such a block.",
         "Give the block and not the file that contains it. A real block of this length can't be normalised.",
         "None.",
+        Facts.LENGTH,
     ),
     Cause(
         "UnknownKind",
@@ -50,6 +67,7 @@ _CAUSES = (
         " no field. piexif: an exception.",
         "A picture without metadata needs no remedy. " + _OTHER,
         "None.",
+        Facts.BEGINNING,
     ),
     Cause(
         "HeaderCut",
@@ -62,6 +80,7 @@ _CAUSES = (
         " among those without one.",
         _OTHER + " ExifTool can remove the segment: `exiftool -Exif:all= picture.jpg`.",
         "The content of the segment is lost in any case.",
+        Facts.LENGTH,
     ),
     Cause(
         "Loop",
@@ -74,6 +93,7 @@ _CAUSES = (
         " message. exif and Pillow read the rest silently. piexif takes the fields a second time as those of the thumbnail.",
         _TOUCH + " without the second pointer.",
         "None that was seen: the pointer had no meaning.",
+        Facts.DIRECTORY,
     ),
     Cause(
         "DirectoryOutside",
@@ -87,6 +107,7 @@ _CAUSES = (
         " warning. piexif: an exception, also for blocks that piexif wrote.",
         "`exifnorm-pictures mend`: exiv2 adds a field and removes it (2 of 2); after piexif, ExifTool does the same (69 of 69).",
         "No printed value was lost.",
+        Facts.DIRECTORY,
     ),
     Cause(
         "EmptyDirectory",
@@ -100,6 +121,7 @@ _CAUSES = (
         "ExifTool, exiv2, exif, Pillow and piexif report nothing; exiv2, Pillow and piexif show the pointer as a number.",
         _TOUCH + " without the empty directory (4 of 6). If that doesn't help, use the rebuild.",
         "None by the touch (4 of 4); a rebuild changed printed values.",
+        Facts.DIRECTORY,
     ),
     Cause(
         "Overlap",
@@ -116,6 +138,7 @@ _CAUSES = (
         "ExifTool, exiv2, exif, Pillow and piexif read both values and report nothing.",
         _TOUCH + " with a copy for each value (7 of 8; all 12 of exiv2, all 69 of piexif).",
         "No printed value was lost. Both values are kept, each with its copy of the shared bytes.",
+        Facts.RANGES,
     ),
     Cause(
         "Unsorted",
@@ -208,6 +231,7 @@ _CAUSES = (
         "exiv2 shows the third directory's fields. ExifTool, exif, Pillow and piexif read two and report nothing.",
         "`exifnorm-pictures mend`. Look at the fields of the third directory first: `exiv2 -pa picture.jpg` shows it as Image2.",
         "The fields of the third directory, if a tool leaves it out.",
+        Facts.NEXT,
     ),
     Cause(
         "ThumbnailOutside",
@@ -233,6 +257,7 @@ _CAUSES = (
         "`exifnorm-pictures mend`: ExifTool or exiv2 writes the record again. ExifTool drops what follows the offset,"
         " exiv2 keeps it: compare both.",
         "With ExifTool, what follows the offset.",
+        Facts.DATA_SET,
     ),
     Cause(
         "LengthForm",
@@ -244,6 +269,7 @@ _CAUSES = (
         "ExifTool reads the DataSet. exiv2: `Failed to decode IPTC metadata`, no DataSet at all.",
         "`exifnorm-pictures mend`: ExifTool writes the record again.",
         "None, if ExifTool reads the DataSet.",
+        Facts.DATA_SET,
     ),
     Cause(
         "DataSetCut",
@@ -254,6 +280,7 @@ _CAUSES = (
         "ExifTool leaves the DataSet out and reports nothing; exiv2 leaves it out with `has invalid size`.",
         "`exifnorm-pictures mend`: the record is written again without the DataSet.",
         "The DataSet; a part of it is lost in any case.",
+        Facts.DATA_SET,
     ),
 )
 

@@ -11,9 +11,9 @@ from collections import Counter
 from dataclasses import dataclass, field
 from typing import Dict, Iterable, Iterator, List, Optional, Set, Tuple
 
+from .blocks import Block
 from .catalogue import Catalogue
 from .formats.found import EXIF, NAMES, OWN, PROGRAMS
-from .kept import Block
 from .listing import Change, changes, only_maker_note
 from .pairing import AFTER, BEFORE, Pair, Pairs
 from .verdicts import (

@@ -3,68 +3,36 @@
 from __future__ import annotations
 
 import hashlib
-from typing import Dict, List, NamedTuple, Optional, Set
+from typing import Dict, List, Optional, Set
 
 import exifnorm
 
-from . import xmp
-from .formats.found import OWN, XMP, Blocks, Found
-from .listing import fields as read_fields
+from . import forms, xmp
+from .blocks import FAILED, TOO_LONG, Block
+from .formats.found import XMP, Blocks, Found
 from .listing import packed
-
-KINDS = ("exif", "iim")
-KIND_NAMES = {"exif": "Exif", "iim": "IPTC", "xmp": "XMP"}
-
-ACCEPTED, REFUSED, TOO_LONG, FAILED, UNREADABLE = "accepted", "refused", "too long", "failed", "unreadable"
-
-
-class Judgement(NamedTuple):
-    """The engine's result for a block: `digest` if it is accepted, `cause` and `place` if it is refused."""
-
-    kind: str
-    length: int
-    octets: str  # SHA-256 of the block's bytes, which distinguishes a copied block from one that was written again
-    status: str
-    digest: Optional[str] = None
-    cause: Optional[str] = None
-    place: Optional[int] = None
-    fields: Optional[bytes] = None  # its fields in the form of `listing.packed`, if they were requested
-    name: str = ""  # which block of the picture it is: `Exif`, `second Exif`, `page 2`
-    where: str = ""  # its position in the file
-    extractor: str = OWN
-
-    @property
-    def line(self) -> str:
-        """The judgement in a line, as the program `exifnorm check` puts it."""
-        if self.status == ACCEPTED:
-            return f"ok {self.kind}"
-        if self.status == UNREADABLE:
-            return f"unreadable: {self.cause}"
-        if self.status == REFUSED:
-            return f"refused: {self.cause} at {self.place}"
-        return "refused: NormalTooLong" if self.status == TOO_LONG else "failed: OutOfMemory"
-
+from .verdicts import ACCEPTED, REFUSED, UNREADABLE
 
 _BY_ITSELF = Found("", b"", "", "")  # where a block is that was given without a picture
 
 
-def judge(kind: str, block: bytes, with_fields: bool = False, at: Found = _BY_ITSELF) -> Judgement:
+def judge(kind: str, block: bytes, with_fields: bool = False, at: Found = _BY_ITSELF) -> Block:
     """Judges a block that was taken as one of `kind`; a refused block never gets a digest."""
     octets = hashlib.sha256(block).hexdigest()
-    known, named = (kind, len(block), octets), (at.name, at.where, at.extractor)
     try:
-        fields = packed(read_fields(exifnorm.show(block))) if with_fields else None
-        digest = hashlib.sha256(exifnorm.normal(block)).hexdigest()
+        form = exifnorm.normal(block)
     except exifnorm.Refused as refused:
-        return Judgement(*known, REFUSED, None, refused.cause, refused.place, None, *named)
+        return Block(kind, *at[2:5], REFUSED, None, refused.cause, refused.place, len(block), octets)
     except exifnorm.NormalTooLong:
-        return Judgement(*known, TOO_LONG, None, "NormalTooLong", None, None, *named)
+        return Block(kind, *at[2:5], TOO_LONG, None, "NormalTooLong", None, len(block), octets)
     except MemoryError:
-        return Judgement(*known, FAILED, None, "OutOfMemory", None, None, *named)
-    return Judgement(*known, ACCEPTED, digest, None, None, fields, *named)
+        return Block(kind, *at[2:5], FAILED, None, "OutOfMemory", None, len(block), octets)
+    digest = octets if form == block else hashlib.sha256(form).hexdigest()
+    kept = packed(forms.fields(form)) if with_fields else None
+    return Block(kind, *at[2:5], ACCEPTED, digest, None, None, len(block), octets, kept)
 
 
-def judge_all(blocks: Blocks, with_fields: bool = False) -> List[Judgement]:
+def judge_all(blocks: Blocks, with_fields: bool = False) -> List[Block]:
     """Judges all blocks of a picture, in their order. Extended XMP is judged with the packet that refers to it."""
     found = []
     extensions: Dict[str, bytes] = {}
@@ -82,12 +50,12 @@ def judge_all(blocks: Blocks, with_fields: bool = False) -> List[Judgement]:
     return found
 
 
-def judge_packet(packet: bytes, with_fields: bool = False) -> Judgement:
+def judge_packet(packet: bytes, with_fields: bool = False) -> Block:
     """Judges an XMP packet by itself."""
     return _judge_xmp(_BY_ITSELF._replace(data=packet), {}, {}, with_fields)
 
 
-def _judge_xmp(at: Found, extensions: Dict[str, bytes], left: Dict[str, bytes], with_fields: bool) -> Judgement:
+def _judge_xmp(at: Found, extensions: Dict[str, bytes], left: Dict[str, bytes], with_fields: bool) -> Block:
     """Reads a packet with its extended XMP, which is taken out of `left`."""
     used: Set[str] = set()
     try:
@@ -102,12 +70,11 @@ def _judge_xmp(at: Found, extensions: Dict[str, bytes], left: Dict[str, bytes], 
     if said is None:
         return _unreadable(at, octets.hexdigest(), cause)
     fields = packed(xmp.fields(said)) if with_fields else None
-    known, named = (XMP, len(at.data), octets.hexdigest()), (at.name, at.where, at.extractor)
-    return Judgement(*known, ACCEPTED, xmp.digest(said), None, None, fields, *named)
+    return Block(XMP, *at[2:5], ACCEPTED, xmp.digest(said), None, None, len(at.data), octets.hexdigest(), fields)
 
 
-def _unreadable(at: Found, octets: str, cause: str) -> Judgement:
-    return Judgement(XMP, len(at.data), octets, UNREADABLE, None, cause, None, None, at.name, at.where, at.extractor)
+def _unreadable(at: Found, octets: str, cause: str) -> Block:
+    return Block(XMP, *at[2:5], UNREADABLE, None, cause, None, len(at.data), octets)
 
 
 def listing(block: bytes) -> str:

@@ -3,14 +3,16 @@
 from __future__ import annotations
 
 from dataclasses import dataclass, field
-from typing import List, Optional
+from typing import Callable, Dict, List, Optional
 
 from . import xmp
-from .causes import CAUSES, Cause
-from .engine import ACCEPTED, REFUSED, Judgement, judge, judge_packet
+from .blocks import Block
+from .causes import CAUSES, Cause, Facts
+from .engine import judge, judge_packet
 from .formats.found import XMP
 from .layout import EntryAt, Layout, Part, hexadecimal
 from .texts import Members
+from .verdicts import ACCEPTED, REFUSED
 
 _OTHER_FILES = (
     (b"\xff\xd8\xff", "This is a whole JPEG; cut the block out: exiftool -b -Exif PICTURE"),
@@ -29,7 +31,7 @@ class Explanation:
     """The explanation of one block."""
 
     kind: str
-    judgement: Judgement
+    judgement: Block
     cause: Optional[Cause] = None
     here: List[str] = field(default_factory=list)  # the parts at the offset
     octets: List[str] = field(default_factory=list)
@@ -68,35 +70,21 @@ def explain(kind: str, block: bytes) -> Explanation:
             return Explanation(kind, judgement, cause)
         return Explanation(kind, judgement)
     layout = Layout(block)
-    here = _said_of(layout, judgement.cause or "", judgement.place)
+    here = _FACTS[cause.facts](layout, cause.name, judgement.place)
     return Explanation(kind, judgement, cause, here, hexadecimal(layout.block, judgement.place))
 
 
-def explain_packet(judgement: Judgement) -> Explanation:
+def explain_packet(judgement: Block) -> Explanation:
     """Explains an XMP packet that was judged; one that was read needs no explanation."""
     return Explanation(XMP, judgement, here=[xmp.CAUSES[judgement.cause]] if judgement.cause else [])
 
 
-_PIXELS = (0x0111, 0x0144, 0x014A)  # StripOffsets, TileOffsets, SubIFDs
+def _length(layout: Layout, cause: str, place: int) -> List[str]:
+    return [f"The block has {len(layout.block):,} bytes."]
 
 
-def _said_of(layout: Layout, cause: str, place: int) -> List[str]:
-    if cause == "UnknownKind":
-        return _unknown(layout.block)
-    if cause in ("TooLong", "HeaderCut"):
-        return [f"The block has {len(layout.block):,} bytes."]
-    if cause in ("NoMarker", "LengthForm", "DataSetCut"):
-        return _data_set(layout.block, place)
-    if cause == "Overlap":
-        return _shared(layout, place)
-    if cause in ("Loop", "DirectoryOutside", "EmptyDirectory"):
-        return _directory(layout, cause, place)
-    if cause == "ExtraDirectory":
-        return [f"The thumbnail directory names a further one at {layout.number(place, 4)}."]
-    return _entry(layout, cause, place)
-
-
-def _unknown(block: bytes) -> List[str]:
+def _beginning(layout: Layout, cause: str, place: int) -> List[str]:
+    block = layout.block
     if not block:
         return ["The block is empty: the picture has no such metadata."]
     for beginning, words in _OTHER_FILES:
@@ -105,7 +93,8 @@ def _unknown(block: bytes) -> List[str]:
     return [f"It begins with {block[:8].hex(' ')}."]
 
 
-def _data_set(block: bytes, place: int) -> List[str]:
+def _data_set(layout: Layout, cause: str, place: int) -> List[str]:
+    block = layout.block
     before = block.rfind(b"\x1c", 0, place)
     found = [f"The record has {len(block):,} bytes; at {place} stands {block[place : place + 8].hex(' ') or 'nothing'}."]
     if block[place : place + 1] == b"\x1c" and place + 3 <= len(block):
@@ -119,7 +108,7 @@ def _range(part: Part) -> str:
     return f"{part.what} (bytes {part.start} to {part.end - 1})"
 
 
-def _shared(layout: Layout, place: int) -> List[str]:
+def _ranges(layout: Layout, cause: str, place: int) -> List[str]:
     owners = layout.owners(place)
     found = _entry_line(layout, place)
     if owners:
@@ -144,6 +133,10 @@ def _directory(layout: Layout, cause: str, place: int) -> List[str]:
     return found + [words]
 
 
+def _next(layout: Layout, cause: str, place: int) -> List[str]:
+    return [f"The thumbnail directory names a further one at {layout.number(place, 4)}."]
+
+
 def _named(layout: Layout, place: int) -> Optional[int]:
     """The offset in the pointer to a directory."""
     it = layout.entries.get(place)
@@ -156,6 +149,9 @@ def _entry_line(layout: Layout, place: int) -> List[str]:
         words = {4: "the header's offset of the main directory"}.get(place, "the offset of the next directory")
         return [f"At {place} stands {words}."]
     return [f"At {place} stands entry {it.number}: {it.label}, {it.form}, last field {it.last}."]
+
+
+_PIXELS = (0x0111, 0x0144, 0x014A)  # StripOffsets, TileOffsets, SubIFDs
 
 
 def _entry(layout: Layout, cause: str, place: int) -> List[str]:
@@ -180,3 +176,14 @@ def _thumbnail(layout: Layout, it: EntryAt) -> List[str]:
         if part.named_at == it.place and part.what == "the thumbnail JPEG":
             return [f"The thumbnail would end at {part.end}; the block has {len(layout.block)} bytes."]
     return []
+
+
+_FACTS: Dict[Facts, Callable[[Layout, str, int], List[str]]] = {
+    Facts.LENGTH: _length,
+    Facts.BEGINNING: _beginning,
+    Facts.DIRECTORY: _directory,
+    Facts.NEXT: _next,
+    Facts.ENTRY: _entry,
+    Facts.RANGES: _ranges,
+    Facts.DATA_SET: _data_set,
+}

@@ -5,10 +5,10 @@ from __future__ import annotations
 import os
 import re
 import stat
-from typing import BinaryIO
 
 from .formats import jpeg, png, tiff, webp
 from .formats.found import Blocks, Broken, LeftToOthers
+from .formats.streams import File
 from .others import PROBLEMS, add_trailers, by_others
 
 __all__ = ["PROBLEMS", "blocks_of"]
@@ -21,13 +21,15 @@ def blocks_of(path: bytes, whole: bool = False) -> Blocks:
     the files that the readers here don't. Raises `tools.Missing` if it is needed and not installed, and `tools.Failed`.
     """
     try:
-        with _opened(path) as stream:
-            try:
-                blocks = _read(stream, path, whole)
-            except LeftToOthers as why:
-                return by_others(path, stream, whole, str(why))
-            except Broken as why:
-                return by_others(path, stream, True, f"broken: {why}")
+        file = _opened(path)
+        try:
+            blocks = _read(file, path, whole)
+        except LeftToOthers as why:
+            return by_others(path, file, whole, str(why))
+        except Broken as why:
+            return by_others(path, file, True, f"broken: {why}")
+        finally:
+            file.close()
     except FileNotFoundError:
         return Blocks(problem="Vanished", detail=PROBLEMS["Vanished"])
     except OSError as error:
@@ -37,22 +39,25 @@ def blocks_of(path: bytes, whole: bool = False) -> Blocks:
     return blocks
 
 
-def _opened(path: bytes) -> BinaryIO:
+def _opened(path: bytes) -> File:
     """A regular file that is open. Nothing else is opened; a file that becomes a pipe meanwhile is not waited for."""
     if not stat.S_ISREG(os.stat(path).st_mode):
         raise OSError("it is no regular file")
-    # by its number, since Python asks the system once more about a file that an `opener` opened
-    stream = open(os.open(path, os.O_RDONLY | os.O_NONBLOCK | os.O_CLOEXEC), "rb", buffering=1 << 16)
-    if not stat.S_ISREG(os.fstat(stream.fileno()).st_mode):
-        stream.close()
-        raise OSError("it is no regular file")
-    return stream
+    number = os.open(path, os.O_RDONLY | os.O_NONBLOCK | os.O_CLOEXEC)
+    try:
+        now = os.fstat(number)
+        if not stat.S_ISREG(now.st_mode):
+            raise OSError("it is no regular file")
+        return File(number, now.st_size)
+    except BaseException:
+        os.close(number)
+        raise
 
 
 _RAW_NAME = re.compile(rb"\.(dng|nef|nrw|cr2|arw|arq|sr2|srf|srw|orf|pef|rw2|rwl|3fr|iiq|erf|mef|mos|dcr|kdc|k25|gpr|fff|raw)\Z", re.I)
 
 
-def _read(stream: BinaryIO, path: bytes, whole: bool) -> Blocks:
+def _read(stream: File, path: bytes, whole: bool) -> Blocks:
     """Reads a file by the reader of its format, which its first bytes show. Raises `Broken` and `LeftToOthers`."""
     head = stream.read(12)
     if head.startswith(jpeg.START):

@@ -5,9 +5,10 @@ from __future__ import annotations
 from dataclasses import dataclass
 from typing import Callable, Dict, Iterator, List, Optional, Sequence, Tuple
 
+from .blocks import KINDS, WORDS
 from .catalogue import Catalogue, Made
 from .formats.found import NAMES
-from .kept import KINDS, WORDS, has
+from .kept import has
 
 
 @dataclass

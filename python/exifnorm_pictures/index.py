@@ -10,21 +10,22 @@ from datetime import datetime, timezone
 from typing import Callable, Dict, Iterable, Iterator, List, Optional, Sequence, Set, Tuple
 
 from . import looking, tools
+from .batches import Batch
 from .catalogue import Catalogue, Known
 from .extraction import PROBLEMS
 from .kept import Entry
-from .looking import How
+from .looking import LONGEST_WAIT, How, Result
 from .moves import Departed
 from .progress import Progress
 from .walk import Found, Unlisted, below
 
 BATCH = 1000  # pictures of one transaction
-LONGEST_WAIT = 2.0  # seconds until results are committed, if pictures are slow
+FILES = 8  # of batches, which SQLite attaches at once; it can attach ten
 GONE = ("Vanished", "Moved")
 NEEDED = {"NeedsExifTool": "exiftool", "NeedsExiv2": "exiv2"}
 
-Tell = Callable[[Entry], None]
-Look = Callable[[Sequence[Found], How], Iterator[Entry]]
+Say = Callable[[str], None]
+Look = Callable[[Sequence[Found], How], Iterator[Result]]
 
 
 @dataclass
@@ -35,7 +36,7 @@ class Asked:
     again: bool = False  # also the pictures that haven't changed
     quiet: bool = False
     how: How = How()
-    tell: Optional[Tell] = None  # called for each picture that was looked at, once it is committed
+    say: Optional[Say] = None  # prints a line about a picture that was looked at, once it is committed
     look: Look = looking.looked
 
 
@@ -44,7 +45,7 @@ class Work:
     """The pictures that a run has to look at."""
 
     due: List[Found] = field(default_factory=list)
-    new: Set[bytes] = field(default_factory=set)  # those of them that the catalogue doesn't know
+    new: Set[bytes] = field(default_factory=set)  # those of them that the catalogue doesn't know, if it knows any
     unlisted: List[Unlisted] = field(default_factory=list)
     counts: "Counter[str]" = field(default_factory=Counter)
     seen: Dict[int, int] = field(default_factory=dict)  # a set of row numbers, 4,096 in a number
@@ -61,11 +62,10 @@ def index(asked: Asked, catalogue: Catalogue) -> "Counter[str]":
     gone, departed = _gone(asked.names, work, catalogue)
     if gone:
         catalogue.put(run, gone)
-    _Looking(asked, catalogue, run, work, departed).all()
-    for it in [*departed.settle(catalogue, run, gone), *_named_wrong(work, catalogue)]:
-        work.counts[it.state] += 1
-        if asked.tell:
-            asked.tell(it)
+    at_work = _Looking(asked, catalogue, run, work)
+    at_work.all()
+    for it in [*departed.settle(catalogue, run, gone, work.new), *_named_wrong(work, catalogue)]:
+        at_work.count(it)
     catalogue.end_run(run, _now())
     return work.counts
 
@@ -91,9 +91,9 @@ def _work(asked: Asked, catalogue: Catalogue) -> Work:
                 continue
             named.add(it.path)
         known = None if first else catalogue.known(it.path)
-        if known is None:
+        if known is None and not first:
             work.new.add(it.path)
-        else:
+        elif known is not None:
             work.seen[known.id >> 12] = work.seen.get(known.id >> 12, 0) | 1 << (known.id & 4095)
         if asked.again or not _is_unchanged(it, known):
             work.due.append(it)
@@ -147,10 +147,12 @@ def _version(program: str) -> Optional[str]:
 class _Looking:
     """Looks at pictures and commits the results in batches, each before it is reported."""
 
-    def __init__(self, asked: Asked, catalogue: Catalogue, run: int, work: Work, departed: Departed) -> None:
-        self.asked, self.catalogue, self.run, self.work, self.departed = asked, catalogue, run, work, departed
+    def __init__(self, asked: Asked, catalogue: Catalogue, run: int, work: Work) -> None:
+        self.asked, self.catalogue, self.run, self.work = asked, catalogue, run, work
         self.progress = Progress(len(work.due), quiet=asked.quiet)
-        self.ready: List[Entry] = []
+        self.ready: List[Result] = []
+        self.files = 0  # of batches that are ready
+        self.pictures = 0  # that are ready
         self.done = 0
         self.last = time.monotonic()
 
@@ -161,20 +163,37 @@ class _Looking:
         self.catalogue.set_versions(self.run, _version("exiftool"), _version("exiv2"))
         for it in self.asked.look(self.work.due, self.asked.how):
             self.ready.append(it)
-            if len(self.ready) >= BATCH or time.monotonic() - self.last > LONGEST_WAIT:
+            self.files += isinstance(it, Batch)
+            self.pictures += sum(it.states.values()) if isinstance(it, Batch) else 1
+            if self.pictures >= BATCH or self.files >= FILES or time.monotonic() - self.last > LONGEST_WAIT:
                 self.commit()
         self.commit()
 
     def commit(self) -> None:
-        """Adds the result for a picture."""
-        self.catalogue.put(self.run, self.ready)
-        self.done += len(self.ready)
+        """Keeps what is ready, and reports it."""
+        batches = [it for it in self.ready if isinstance(it, Batch)]
+        entries = [one for it in self.ready for one in (it.unread if isinstance(it, Batch) else (it,))]
+        self.catalogue.put(self.run, entries, [it.file for it in batches])
         for it in self.ready:
-            self.work.counts[it.state] += 1
-            if it.path in self.work.new:
-                self.departed.meet(it)
-            if self.asked.tell:
-                self.asked.tell(it)
+            if isinstance(it, Batch):
+                self.work.counts += it.states
+                self.say(it.lines)
+                os.unlink(it.file)
+            else:
+                self.count(it)
+        self.done += self.pictures
         self.ready.clear()
+        self.pictures = self.files = 0
         self.last = time.monotonic()
         self.progress.done(self.done)
+
+    def count(self, it: Entry) -> None:
+        """Counts and reports a picture."""
+        self.work.counts[it.state] += 1
+        if self.asked.how.lines:
+            self.say(self.asked.how.lines(it))
+
+    def say(self, lines: Iterable[str]) -> None:
+        """Prints lines about pictures."""
+        for line in lines if self.asked.say else ():
+            self.asked.say(line)

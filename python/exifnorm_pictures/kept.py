@@ -7,18 +7,16 @@ import os
 from dataclasses import dataclass, field
 from typing import Any, Dict, Iterable, List, NamedTuple, Optional, Sequence, Tuple
 
-from .engine import Judgement
-from .formats.found import EXIF, IPTC, NAMES, XMP, Blocks, NotRead
-from .verdicts import ABSENT, ACCEPTED, REFUSED, UNREADABLE, Side, side
+from .blocks import KIND_OF, KINDS, Block
+from .formats.found import XMP, Blocks, NotRead
+from .verdicts import ABSENT, ACCEPTED, REFUSED, UNREADABLE, Side, side_of
 
-KINDS = (EXIF, IPTC, XMP)
-WORDS = {EXIF: "exif", IPTC: "iptc", XMP: "xmp"}  # the names for people and in the catalogue: archivists know IPTC, the engine IIM
-KIND_OF = {word: kind for kind, word in WORDS.items()}
+_LEAST, _GREATEST = -(1 << 63), (1 << 63) - 1
 
 
 def _in_64_bits(number: int) -> int:
     """A number as a signed one of 64 bits, as SQLite keeps it: times after the year 2262 and large inodes have more."""
-    return (number + (1 << 63)) % (1 << 64) - (1 << 63)
+    return (number - _LEAST) % (1 << 64) + _LEAST
 
 
 class Stamp(NamedTuple):
@@ -31,39 +29,10 @@ class Stamp(NamedTuple):
 
     @classmethod
     def of(cls, it: os.stat_result) -> "Stamp":
-        return cls(it.st_size, _in_64_bits(it.st_mtime_ns), _in_64_bits(it.st_ctime_ns), _in_64_bits(it.st_ino))
-
-
-class Block(NamedTuple):
-    """A block: its name, its position in the file, its reader, and the result of judging it."""
-
-    kind: str
-    name: str
-    source: str
-    extractor: str
-    status: str
-    digest: Optional[str]
-    cause: Optional[str]
-    place: Optional[int]
-    length: int
-    octets: str
-    kept: Optional[bytes] = None  # the fields, packed
-    number: int = 0
-
-    @classmethod
-    def of(cls, it: Judgement) -> "Block":
-        """A block that was judged."""
-        return cls(it.kind, it.name, it.where, it.extractor, it.status, it.digest, it.cause, it.place, it.length, it.octets, it.fields)
-
-    def row(self) -> Tuple[Any, ...]:
-        """The block as a row of the catalogue, without its fields."""
-        return (WORDS[self.kind], self.name, self.source, self.extractor, self.status, self.digest, self.cause, self.place,
-                self.length, self.octets)  # fmt: skip
-
-    @property
-    def refusal(self) -> str:
-        """The cause and byte offset of a refusal in a line."""
-        return f"{self.cause} at {self.place}" if self.place is not None else str(self.cause)
+        marks = (it.st_size, it.st_mtime_ns, it.st_ctime_ns, it.st_ino)
+        if min(marks) >= _LEAST and max(marks) <= _GREATEST:
+            return tuple.__new__(cls, marks)
+        return cls._make(map(_in_64_bits, marks))
 
 
 Digests = Tuple[Optional[str], ...]
@@ -84,11 +53,10 @@ class Entry(NamedTuple):
     digests: "Optional[Digests]" = None  # what `digests` returns, if it was already called
 
     @classmethod
-    def of(cls, path: bytes, root: bytes, stamp: Optional[Stamp], it: Blocks, judged: Sequence[Judgement] = ()) -> "Entry":
+    def of(cls, path: bytes, root: bytes, stamp: Optional[Stamp], it: Blocks, judged: Sequence[Block] = ()) -> "Entry":
         """The result for a file."""
-        blocks = tuple(Block.of(one) for one in judged)
-        found = cls(path, root, stamp, it.type, it.extractor, it.problem, it.detail, blocks, tuple(it.not_read))
-        return found._replace(digests=digests(found))  # here, since several processes look at pictures, and one writes
+        found = _digests(it.problem, judged, it.not_read)  # here, since several processes look at pictures, and one writes
+        return cls(path, root, stamp, it.type, it.extractor, it.problem, it.detail, tuple(judged), tuple(it.not_read), found)
 
     @property
     def state(self) -> str:
@@ -139,15 +107,20 @@ def state_of(problem: Optional[str], blocks: Iterable[Block]) -> str:
 
 def digests(it: Entry) -> Digests:
     """The columns exif, iptc, xmp and not_read of a picture, and those of its blocks' octets."""
-    if it.digests is not None:
-        return it.digests
-    if it.problem:
+    return it.digests or _digests(it.problem, it.blocks, it.not_read)
+
+
+def _digests(problem: Optional[str], blocks: Sequence[Block], not_read: Sequence[NotRead]) -> Digests:
+    if problem:
         return (None, None, None, None, "", "", "")
-    sides = [side(kind, it.blocks) for kind in KINDS]
+    by_kind: Dict[str, List[Block]] = {kind: [] for kind in KINDS}
+    for it in blocks:
+        by_kind[it.kind].append(it)
+    sides = [side_of(ours) for ours in by_kind.values()]
     said = [one.digest if one.status == ACCEPTED else "" if one.status == ABSENT else None for one in sides]
     parts: Optional[str] = ""
-    if it.not_read:
-        parts = _together(f"{one.what} {one.digest}" for one in it.not_read) if all(one.digest for one in it.not_read) else None
+    if not_read:
+        parts = _together(f"{one.what} {one.digest}" for one in not_read) if all(one.digest for one in not_read) else None
     return (*said, parts, *(one.octets for one in sides))
 
 

@@ -18,7 +18,7 @@ _SHORTEST = 200  # characters of a listing that compression makes longer, or har
 _SHORT = 4096  # characters of a listing that is compressed with small buffers
 DIGITS = 32  # hexadecimal digits of SHA-256 that identify a value that is not shown in full
 
-_OCTETS = {"BYTE", "ASCII", "SBYTE", "UNDEFINED", "UTF8", "octets"}
+OCTETS = {"BYTE", "ASCII", "SBYTE", "UNDEFINED", "UTF8", "octets"}
 _WIDE_TEXTS = {"9c9b", "9c9c", "9c9d", "9c9e", "9c9f"}  # UTF-16, least significant byte first
 _COMMENTS = {"9286", "001b", "001c"}  # eight bytes for a character set, and the text (CIPA DC-008 4.6.6)
 
@@ -42,10 +42,11 @@ class Field(NamedTuple):
 
 # A line of a listing: a directory, a field, a DataSet, or a picture of the thumbnail directory.
 _LINE = re.compile(
-    r"\[(\w+)\]"
+    r"^(?:\[(\w+)\]"
     r"|([0-9a-f]{4}) (\w+) (\d+):(?: (.*))?"
     r"|(\d+:\d+) (\d+):(?: (.*))?"
-    r"|(jpeg|strip) (\d+):(?: (.*))?"
+    r"|(jpeg|strip) (\d+):(?: (.*))?)$",
+    re.M,
 )
 
 
@@ -55,38 +56,40 @@ def fields(listing: str) -> List[Field]:
     >>> fields("exif\\n[main]\\n010f ASCII 4: 61626300\\n")
     [Field(where='main', key='010f', type='ASCII', elements=4, shown='"abc"')]
     """
-    return list(_fields(listing))
-
-
-def _fields(listing: str) -> Iterator[Field]:
+    found: List[Field] = []
     where = "iptc"
-    for line in listing.splitlines():
-        found = _LINE.fullmatch(line)
-        if found is None:
-            continue
-        directory, key, kind, count, value, dataset, length, octets, picture, size, data = found.groups()
+    for directory, key, kind, count, value, dataset, length, octets, picture, size, data in _LINE.findall(listing):
         if directory:
             where = directory
         elif key:
-            yield Field(where, key, kind, int(count), _shown(where, key, kind, value or ""))
+            shown = shown_value(where, key, bytes.fromhex(value)) if kind in OCTETS else shown_numbers(value)
+            found.append(Field(where, key, kind, int(count), shown))
         elif dataset:
-            yield Field("iptc", dataset, "octets", int(length), shown_octets(bytes.fromhex(octets or "")))
+            found.append(Field("iptc", dataset, "octets", int(length), shown_octets(bytes.fromhex(octets))))
         else:
-            digest = hashlib.sha256(bytes.fromhex(data or "")).hexdigest()[:DIGITS]
-            yield Field("thumb", picture, "octets", int(size), f"sha256:{digest}")
+            found.append(Field("thumb", picture, "octets", int(size), shown_picture(bytes.fromhex(data))))
+    return found
 
 
-def _shown(where: str, key: str, kind: str, value: str) -> str:
-    if kind in _OCTETS:
-        octets = bytes.fromhex(value)
-        if where == "main" and key in _WIDE_TEXTS and (text := _wide_text(octets)) is not None:
-            return text
-        if key in _COMMENTS and (where == "gps" or key == "9286") and (text := _comment(octets)) is not None:
-            return text
-        return shown_octets(octets)
+def shown_value(where: str, key: str, octets: bytes) -> str:
+    """The bytes of a field as they are shown: in some fields a text has another form."""
+    if where == "main" and key in _WIDE_TEXTS and (text := _wide_text(octets)) is not None:
+        return text
+    if key in _COMMENTS and (where == "gps" or key == "9286") and (text := _comment(octets)) is not None:
+        return text
+    return shown_octets(octets)
+
+
+def shown_numbers(value: str) -> str:
+    """Numbers as they are shown: all of them, or their beginning and a digest."""
     if len(value) <= LONGEST_NUMBERS:
         return value
     return f"{value[:60]}.. sha256:{hashlib.sha256(value.encode()).hexdigest()[:DIGITS]}"
+
+
+def shown_picture(octets: bytes) -> str:
+    """A picture inside a block as it is shown."""
+    return f"sha256:{hashlib.sha256(octets).hexdigest()[:DIGITS]}"
 
 
 def shown_octets(octets: bytes) -> str:

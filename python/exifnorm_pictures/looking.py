@@ -7,19 +7,26 @@ import itertools
 import multiprocessing
 import os
 import signal
+import time
 from collections import deque
 from concurrent.futures import Future, ProcessPoolExecutor
 from concurrent.futures.process import BrokenProcessPool
 from dataclasses import dataclass
-from typing import Deque, Iterator, List, Optional, Sequence, Set, Tuple
+from typing import Deque, Iterator, List, Optional, Sequence, Set, Union
 
 from . import ends, engine, extraction, session, tools
+from .batches import Batch, Lines, batch
 from .formats.found import Blocks
 from .kept import Entry, Stamp
 from .walk import Found, reason
 
-CHUNK = 32  # pictures that a process gets at once
+CHUNK = 500  # pictures that a process gets at once at most
+PARTS = 8  # chunks of each process at least, so that all end at nearly the same time ..
+LEAST_CHUNK = 8  # .. unless they have fewer pictures than this
+LONGEST_WAIT = 2.0  # seconds until results are committed, if pictures are slow
 FEW = 64  # pictures for which starting a further process takes too long
+
+Result = Union[Entry, Batch]
 
 
 @dataclass(frozen=True)
@@ -30,6 +37,7 @@ class How:
     whole: bool = False  # every byte of a JPEG, not only its head and tail
     seconds: float = tools.SECONDS  # that a program may take for one file
     room: str = ""  # a folder for temporary files
+    lines: Optional[Lines] = None  # makes the lines that are printed about a picture
 
     @property
     def processes(self) -> int:
@@ -67,9 +75,15 @@ def _unless_changed(it: Found) -> Optional[Stamp]:
         return None
 
 
-def look_at_all(chunk: Sequence[Found], whole: bool) -> List[Entry]:
-    """A process's results for some pictures."""
-    return [look(it, whole) for it in chunk]
+def look_at_some(chunk: Sequence[Found], how: How, file: str) -> Batch:
+    """A process's results for the first pictures of a chunk: for all of them, unless that takes too long."""
+    ends_at = time.monotonic() + LONGEST_WAIT
+    entries: List[Entry] = []
+    for it in chunk:
+        entries.append(look(it, how.whole))
+        if time.monotonic() > ends_at:
+            break
+    return batch(file, entries, chunk[len(entries) :], how.lines)
 
 
 _PR_SET_PDEATHSIG = 1
@@ -88,8 +102,8 @@ def _begin(how: How, parent: int, mask: Set[int]) -> None:
     session.begin(how.room)
 
 
-def looked(work: Sequence[Found], how: How) -> Iterator[Entry]:
-    """The result for each of these files, in their order."""
+def looked(work: Sequence[Found], how: How) -> Iterator[Result]:
+    """The results for these files, in their order."""
     if how.processes == 1 or len(work) <= FEW:
         tools.set_limit(how.seconds)
         session.begin(how.room)
@@ -99,33 +113,38 @@ def looked(work: Sequence[Found], how: How) -> Iterator[Entry]:
         finally:
             session.finish()
         return
-    chunks = iter([work[at : at + CHUNK] for at in range(0, len(work), CHUNK)])
-    broken: List[Sequence[Found]] = [[]]
-    while broken:
-        broken = []
-        yield from _by_processes(chunks, how, broken)
-        for chunk in broken:
+    size = max(LEAST_CHUNK, min(CHUNK, len(work) // (PARTS * how.processes)))
+    chunks = iter([work[at : at + size] for at in range(0, len(work), size)])
+    files = (os.path.join(how.room, f"rows-{number}") for number in itertools.count())
+    unfinished: List[Sequence[Found]] = [[]]
+    while unfinished:
+        unfinished = []
+        yield from _by_processes(chunks, how, files, unfinished)
+        for chunk in unfinished:
             yield from _one_by_one(chunk, how)
 
 
-_Waiting = Tuple[Sequence[Found], "Future[List[Entry]]"]
-
-
-def _by_processes(chunks: Iterator[Sequence[Found]], how: How, broken: List[Sequence[Found]]) -> Iterator[Entry]:
-    """The results of several processes. If one of them dies, its unfinished chunks go to `broken`."""
-    waiting: Deque[_Waiting] = deque()
+def _by_processes(
+    chunks: Iterator[Sequence[Found]], how: How, files: Iterator[str], unfinished: List[Sequence[Found]]
+) -> Iterator[Batch]:
+    """The results of several processes. If one of them dies, the chunks that have no result are left in `unfinished`."""
+    waiting: "Deque[Future[Batch]]" = deque()  # in the order of `unfinished`, which has a chunk before it is given to the pool
     pool = _pool(how, how.processes)
     try:
         while True:
             for chunk in itertools.islice(chunks, 4 * how.processes - len(waiting)):
-                broken.append(chunk)
-                waiting.append((chunk, pool.submit(look_at_all, chunk, how.whole)))
+                unfinished.append(chunk)
+                waiting.append(pool.submit(look_at_some, chunk, how, next(files)))
             if not waiting:
                 break
-            found = waiting[0][1].result()
+            found = waiting[0].result()
             waiting.popleft()
-            broken.pop(0)
-            yield from found
+            unfinished.pop(0)
+            if found.left:
+                unfinished.insert(0, found.left)
+            yield found
+            if found.left:
+                waiting.appendleft(pool.submit(look_at_some, found.left, how, next(files)))
         pool.shutdown()
     except BrokenProcessPool:
         return
@@ -152,7 +171,7 @@ def _one_by_one(chunk: Sequence[Found], how: How) -> Iterator[Entry]:
     for it in chunk:
         pool = _pool(how, 1)
         try:
-            yield from pool.submit(look_at_all, [it], how.whole).result()
+            yield pool.submit(look, it, how.whole).result()
         except BrokenProcessPool:
             yield _failed(it, "the process that looked at it died twice")
         finally:

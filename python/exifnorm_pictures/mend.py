@@ -11,9 +11,10 @@ from dataclasses import dataclass, field
 from typing import Callable, Dict, List, Optional, Tuple
 
 from . import tools, writing
-from .engine import ACCEPTED, judge_all
+from .engine import judge_all
 from .extraction import blocks_of
 from .formats.found import Blocks
+from .verdicts import ACCEPTED
 from .walk import reason
 
 COPY, NONE = "copy", "none"

@@ -3,13 +3,14 @@
 from __future__ import annotations
 
 import os
-from typing import Dict, Iterator, List, Optional, Sequence, Tuple
+from typing import Collection, Dict, Iterator, List, Optional, Sequence, Tuple
 
 from .catalogue import Catalogue
-from .kept import Entry, digests
+from .kept import Entry
 from .texts import shown_path
 
 Key = Tuple[object, ...]
+_MARKS = "size, modified, inode, not_read, exif_octets, iptc_octets, xmp_octets"
 
 
 def content_key(octets: Sequence[Optional[str]], unread: Optional[str], size: Optional[int]) -> Optional[Key]:
@@ -27,7 +28,7 @@ class Departed:
 
     def add(self, catalogue: Catalogue, number: int, path: bytes) -> None:
         """Notes a picture that is gone."""
-        query = "SELECT size, modified, inode, not_read, exif_octets, iptc_octets, xmp_octets FROM pictures WHERE id = ?"
+        query = f"SELECT {_MARKS} FROM pictures WHERE id = ?"
         for size, modified, inode, unread, *octets in catalogue.rows(query, (number,)):
             if size is not None:
                 self.by_file[(size, modified, inode)] = path
@@ -35,20 +36,22 @@ class Departed:
             if key:
                 self.by_content.setdefault(key, []).append(path)
 
-    def meet(self, it: Entry) -> None:
+    def _meet(self, path: bytes, size: int, modified: int, inode: int, unread: Optional[str], *octets: str) -> None:
         """Notes a picture that is new: one that is gone may have become it."""
-        if it.problem or it.stamp is None or not (self.by_content or self.by_file):
-            return
-        same = self.by_file.get((it.stamp.size, it.stamp.modified, it.stamp.inode))
+        same = self.by_file.get((size, modified, inode))
         if same is None or same in self.went:
-            _, _, _, unread, *octets = digests(it)
-            key = content_key(octets, unread, it.stamp.size)
-            same = best([one for one in self.by_content.get(key or (), []) if one not in self.went], it.path)
+            key = content_key(octets, unread, size)
+            same = best([one for one in self.by_content.get(key or (), []) if one not in self.went], path)
         if same is not None:
-            self.went[same] = it.path
+            self.went[same] = path
 
-    def settle(self, catalogue: Catalogue, run: int, gone: Sequence[Entry]) -> Iterator[Entry]:
-        """The report on each picture that is gone: moved or missing."""
+    def settle(self, catalogue: Catalogue, run: int, gone: Sequence[Entry], new: Collection[bytes]) -> Iterator[Entry]:
+        """The report on each picture that is gone: moved, if one of those that are new in this run is the same, or missing."""
+        if self.by_content or self.by_file:
+            query = f"SELECT path, {_MARKS} FROM pictures WHERE run = ? AND problem IS NULL AND size IS NOT NULL ORDER BY id"
+            for row in catalogue.rows(query, (run,)):
+                if row[0] in new:
+                    self._meet(*row)
         if self.went:
             with catalogue.transaction():
                 words = ((f"to {shown_path(to)}", path) for path, to in self.went.items())

@@ -8,11 +8,11 @@ from __future__ import annotations
 
 import os
 import shutil
-from typing import BinaryIO, Dict
+from typing import Dict
 
 from . import session, tools
 from .formats.found import EXIF, EXIFTOOL, EXIV2, IPTC, XMP, Blocks, NotRead
-from .formats.streams import digest_of, size_of
+from .formats.streams import Stream, digest_of, size_of
 
 # The problems that may be reported instead of blocks, each with its meaning for people.
 PROBLEMS = {
@@ -20,7 +20,7 @@ PROBLEMS = {
     "Unreadable": "the file can't be read",
     "NoPicture": "the file is no picture that ExifTool knows",
     "SeveralBlocks": "a CR3 file holds several Exif blocks (CMT1 to CMT4), and ExifTool gives the first alone: two different"
-    " pictures could seem to say the same",
+    " pictures could seem to be the same",
     "BigTIFF": "a BigTIFF, whose offsets have eight bytes, is not read",
     "NeedsExiv2": "ExifTool gives no Exif block of raw files; exiv2 does, and it isn't installed (package exiv2)",
     "ToolFailed": "the program that extracts blocks failed on this file",
@@ -38,7 +38,7 @@ _TIFF_TYPES = frozenset(
 )
 
 
-def by_others(path: bytes, stream: BinaryIO, whole: bool, why: str) -> Blocks:
+def by_others(path: bytes, stream: Stream, whole: bool, why: str) -> Blocks:
     """The blocks that ExifTool and exiv2 extract; `why` is the reason why the file was not read here, for a known format.
 
     Raises `tools.Missing` and `tools.Failed`.

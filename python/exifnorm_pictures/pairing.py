@@ -8,9 +8,10 @@ import os
 import sqlite3
 from typing import Callable, Iterator, List, NamedTuple, Optional, Set, Tuple, TypeVar
 
+from .blocks import Block
 from .catalogue import BLOCK_COLUMNS, PICTURE_COLUMNS, WRONG, Catalogue, NoCatalogue, address
 from .formats.found import NotRead
-from .kept import Block, Picture, block_of_row, not_read_of_row, picture_of_row
+from .kept import Picture, block_of_row, not_read_of_row, picture_of_row
 from .listing import Field, unpacked
 from .moves import content_key
 

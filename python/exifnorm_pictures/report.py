@@ -14,11 +14,12 @@ from html import escape
 from typing import Any, Dict, Iterator, List, Optional, Set, Tuple
 
 from . import changed, groups
+from .blocks import KIND_OF, WORDS
 from .catalogue import Catalogue, Run
 from .causes import CAUSES
 from .changed import Compared, Equal
 from .extraction import PROBLEMS
-from .kept import KIND_OF, WORDS, Picture, has
+from .kept import Picture, has
 from .page_style import STYLE
 from .texts import Members, path_members, shown_path
 from .thumbnails import small_pictures
@@ -263,7 +264,7 @@ def _overview(found: Gathered) -> str:
         for state, count in found.states.most_common()
     )
     number, same = found.all_groups
-    cards += f'<li class="plain"><b>{same:,}</b> say the same as another, in {_counted(number, "group")}</li>'
+    cards += f'<li class="plain"><b>{same:,}</b> have the same metadata as another, in {_counted(number, "group")}</li>'
     cards += f'<li class="odd"><b>{found.unread:,}</b> not wholly read</li>' if found.unread else ""
     if found.since:
         count = sum(found.results[it] for it in found.results if it not in changed.UNCHANGED)
@@ -361,9 +362,9 @@ def _more(count: int, most: int, what: str) -> str:
 
 def _groups(found: Gathered) -> str:
     small = small_pictures([path for _, _, pictures in found.groups for path in pictures])
-    parts = ["<section><h2>Pictures that say the same</h2>"]
+    parts = ["<section><h2>Pictures with the same metadata</h2>"]
     if not found.groups:
-        parts.append("<p>No two pictures say the same.</p>")
+        parts.append("<p>No two pictures have the same metadata.</p>")
     for count, sentence, pictures in found.groups:
         parts.append(f'<div class="group"><h3>{count:,} pictures <span class="note">{_text(sentence)}</span></h3><ul class="small">')
         for path in pictures:
@@ -424,7 +425,7 @@ def _problems(found: Gathered) -> str:
 
 def _foot() -> str:
     return (
-        "</main><footer><p>Two pictures say the same where the normal forms of their Exif and IPTC blocks are equal, which is proved,"
-        " and the statements of their XMP, which is tested. Pixels are not looked at. Values are shown short, long ones by the first"
-        " digits of their SHA-256. Made by exifnorm-pictures.</p></footer></body></html>\n"
+        "</main><footer><p>Two pictures have the same metadata if the normal forms of their Exif and IPTC blocks are equal, which is"
+        " proved, and the statements of their XMP, which is tested. Pixels are not looked at. Values are shown short, long ones by"
+        " the first digits of their SHA-256. Made by exifnorm-pictures.</p></footer></body></html>\n"
     )

@@ -6,10 +6,12 @@ import argparse
 import os
 from typing import Callable, Iterator, List, Tuple
 
+from exifnorm import LIMIT
+
 from . import explain, extraction, mend, readable, rooms, session, tools
-from .engine import Judgement, judge_all
+from .blocks import WORDS, Block
+from .engine import judge_all
 from .formats.found import EXIF, IPTC, NAMES, PROGRAMS, XMP, Blocks, Found
-from .kept import WORDS, Block
 from .listing import readable as listed
 from .listing import unpacked
 from .telling import block_members, from_list, named, tell
@@ -19,7 +21,7 @@ from .walk import reason
 from .words import parser
 
 DONE, LOST, REFUSED, FAILED = 0, 1, 2, 4
-LONGEST = 16777216 + 7  # bytes of a block that are read: one more than any block and its six bytes in front can have
+LONGEST = LIMIT + 7  # bytes of a block that are read: one more than any block and its six bytes in front can have
 
 Said = Tuple[List[str], Members]
 
@@ -42,7 +44,7 @@ def _blocks(asked: argparse.Namespace, name: bytes) -> Blocks:
     return Blocks([Found(kind, octets, NAMES[kind], "the file")])
 
 
-Say = Callable[[Found, Judgement], Said]
+Say = Callable[[Found, Block], Said]
 
 
 def _each(asked: argparse.Namespace, say: Say, refused_too: bool = False) -> int:
@@ -84,8 +86,8 @@ def _one(asked: argparse.Namespace, name: bytes, head: List[str], say: Say, refu
     return worst
 
 
-def _refused(it: Judgement) -> Said:
-    return [f"{it.name}: {it.line}"], block_members(Block.of(it))
+def _refused(it: Block) -> Said:
+    return [f"{it.name}: {it.line}"], block_members(it)
 
 
 def _kinds(members: Members) -> Members:
@@ -96,8 +98,8 @@ def _kinds(members: Members) -> Members:
 def show(asked: argparse.Namespace) -> int:
     """Lists the fields or captions of pictures."""
 
-    def say(_: Found, it: Judgement) -> Said:
-        fields = unpacked(it.fields) if it.fields else []
+    def say(_: Found, it: Block) -> Said:
+        fields = unpacked(it.kept) if it.kept else []
         keys = ("directory", "key", "type", "count", "value")
         members = [{"name": one.name, **dict(zip(keys, one))} for one in fields]
         by = f", extracted by {PROGRAMS[it.extractor]}" if it.extractor in PROGRAMS else ""
@@ -109,7 +111,7 @@ def show(asked: argparse.Namespace) -> int:
 def captions(asked: argparse.Namespace) -> int:
     """Lists captions of Exif and IPTC blocks."""
 
-    def say(found: Found, it: Judgement) -> Said:
+    def say(found: Found, it: Block) -> Said:
         if it.kind == XMP:
             return [], {}
         return list(readable.captions(found.data)), _kinds(readable.captions_members(it.kind, found.data)) if asked.json else {}
@@ -120,10 +122,10 @@ def captions(asked: argparse.Namespace) -> int:
 def explain_(asked: argparse.Namespace) -> int:
     """Explains refusals."""
 
-    def say(found: Found, it: Judgement) -> Said:
+    def say(found: Found, it: Block) -> Said:
         line = f"{it.name}: {'ok' if it.status == ACCEPTED else it.line}"
         if it.status == ACCEPTED:
-            return [line], block_members(Block.of(it))
+            return [line], block_members(it)
         explained = explain.explain_packet(it) if it.kind == XMP else explain.explain(it.kind, found.data)
         return [line, *explained.lines()[1:]], _kinds(explained.members())
 

@@ -7,7 +7,8 @@ import json
 import os
 from typing import List, Optional, Sequence, Set
 
-from .kept import WORDS, Block, Entry
+from .blocks import WORDS, Block
+from .kept import Entry
 from .formats.found import NAMES
 from .texts import Members, path_members, shown_path
 from .verdicts import ACCEPTED
@@ -47,6 +48,8 @@ def named(asked: argparse.Namespace, names: Sequence[str]) -> List[bytes]:
 
 def entry_lines(it: Entry) -> List[str]:
     """Lines for a picture with a problem: the problem, the refusal of a block, or its unread parts."""
+    if it.problem is None and not it.not_read and all(one.status == ACCEPTED for one in it.blocks):
+        return []
     name = shown_path(it.path)
     lines = []
     if it.problem and it.problem != "NoPicture":
@@ -60,6 +63,11 @@ def entry_lines(it: Entry) -> List[str]:
 def refused_line(it: Block) -> str:
     """A block that isn't accepted, in a line."""
     return "failed: OutOfMemory" if it.cause == "OutOfMemory" else f"refused: {it.refusal}"
+
+
+def entry_json(it: Entry) -> List[str]:
+    """The line of --json for a picture that was looked at."""
+    return [json.dumps(entry_members(it))]
 
 
 def entry_members(it: Entry) -> Members:

@@ -37,12 +37,18 @@ class Side(NamedTuple):
 
 def side(kind: str, judged: Iterable[Judged]) -> Side:
     """The side of a picture for one kind. Several blocks are compared in their order and under their names."""
-    ours = [it for it in judged if it.kind == kind]
+    return side_of([it for it in judged if it.kind == kind])
+
+
+def side_of(ours: Sequence[Judged]) -> Side:
+    """The side of a picture for the kind that these blocks have."""
     if not ours:
         return Side(ABSENT)
+    if len(ours) == 1 and ours[0].status == ACCEPTED:  # as of most pictures
+        return Side(ACCEPTED, ours[0].digest or "", ours[0].octets)
     octets = _joined([(it.name, it.octets) for it in ours])
     if any(it.status != ACCEPTED for it in ours):
-        return Side(UNREADABLE if kind == XMP else REFUSED, "", octets)
+        return Side(UNREADABLE if ours[0].kind == XMP else REFUSED, "", octets)
     return Side(ACCEPTED, _joined([(it.name, it.digest or "") for it in ours]), octets)
 
 

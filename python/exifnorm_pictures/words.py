@@ -7,7 +7,7 @@ import sys
 from typing import IO, Callable, NoReturn, Optional, Tuple
 
 from . import tools
-from .kept import KIND_OF
+from .blocks import KIND_OF
 
 REFUSED_WORDS = 3
 
@@ -154,7 +154,7 @@ def _report_words(it: argparse.ArgumentParser) -> None:
     it.add_argument("--catalogue", required=True, type=_name, metavar="FILE")
     it.add_argument("--since", type=_name, metavar="OLD", help="an older catalogue: also list the changes")
     it.add_argument("--html", type=_name, metavar="PAGE", help="the page to write")
-    it.add_argument("--title", default="Pictures and what they say", help="the page's title")
+    it.add_argument("--title", default="Pictures and their metadata", help="the page's title")
     _limit_words(it)
 
 

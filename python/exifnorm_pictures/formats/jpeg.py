@@ -7,15 +7,15 @@ Not compared, because they contain no Exif, IPTC or XMP: JFIF and its thumbnail,
 from __future__ import annotations
 
 import re
-from typing import BinaryIO, List, Set, Tuple
+from typing import List, Set, Tuple
 
 from . import mpf, photoshop
 from .extended_xmp import HEAD as EXTENDED
 from .extended_xmp import Pieces
 from .found import EXIF, XMP, Blocks, Broken, NotRead
-from .jpeg_segments import APP1, APP2, APP3, APP13, SOS, Budget, Segment, segments
+from .jpeg_segments import APP1, APP2, APP3, APP13, SOS, Budget, segments
 from .jpeg_tail import WINDOW, Tail, tail
-from .streams import digest_of, is_blank, read_at, size_of
+from .streams import Stream, digest_of, is_blank, read_at, size_of
 from .trailers import known_trailer
 
 START = b"\xff\xd8\xff"
@@ -27,7 +27,7 @@ _EXIF_LIKE = re.compile(rb".{0,4}?Exif\0.", re.I | re.S)
 _META = (b"Meta\0\0", b"META\0\0", b"Exif\0\0")  # Kodak's APP3, which has the structure of an Exif block
 
 
-def read(stream: BinaryIO, whole: bool = False) -> Blocks:
+def read(stream: Stream, whole: bool = False) -> Blocks:
     """The blocks of a JPEG. Raises `Broken`."""
     blocks = Blocks(type="JPEG")
     budget = Budget()
@@ -60,58 +60,62 @@ class _Head:
         self._pieces = Pieces()
         self._last = b""  # the kind of the last segment
 
-    def read(self, stream: BinaryIO, start: int, budget: Budget) -> None:
+    def read(self, stream: Stream, start: int, budget: Budget) -> None:
         """Reads the picture that begins at `start`."""
-        self.end = start + 2
-        for it in segments(stream, start, budget):
-            kind = b""
-            self.end, self.has_scan = it.end, it.marker == SOS
-            if it.marker == APP1:
-                kind = self._app1(it)
-            elif it.marker == APP2 and it.data.startswith(mpf.HEAD):
-                self.indexes.append((it.at + 8, it.data[4:]))
-            elif it.marker == APP3 and it.data.startswith(_META):
-                self._leave("APP3 segment Meta", it)
-            elif it.marker == APP13:
-                kind = self._app13(it)
-            self._last = kind
+        for marker, at, end, data, follows in segments(stream, start, budget):
+            if not follows:
+                self._last = b""
+            if marker == APP1:
+                self._last = self._app1(at, data)
+            elif marker == APP13:
+                self._last = self._app13(at, data)
+            else:
+                self._last = b""
+                self._other(marker, at, data)
+        self.end, self.has_scan = end, marker == SOS
         self._put_together()
 
-    def _leave(self, what: str, it: Segment) -> None:
-        self.blocks.leave(what + self.of, it.data)
+    def _leave(self, what: str, data: bytes) -> None:
+        self.blocks.leave(what + self.of, data)
 
-    def _app1(self, it: Segment) -> bytes:
-        place = f"APP1 segment at {it.at}"
-        if it.data.startswith(_SIX):
+    def _other(self, marker: int, at: int, data: bytes) -> None:
+        if marker == APP2 and data.startswith(mpf.HEAD):
+            self.indexes.append((at + 8, data[4:]))
+        elif marker == APP3 and data.startswith(_META):
+            self._leave("APP3 segment Meta", data)
+
+    def _app1(self, at: int, data: bytes) -> bytes:
+        place = f"APP1 segment at {at}"
+        if data.startswith(_SIX):
             # A block that is too long for one segment continues in the next, after the same six bytes and without a header.
-            if self._last == _SIX and it.data[6:10] not in _TIFF:
-                self._exif[-1][1].append(it.data[6:])
+            if self._last == _SIX and data[6:10] not in _TIFF:
+                self._exif[-1][1].append(data[6:])
             else:
-                self._exif.append((place, [it.data[6:]]))
+                self._exif.append((place, [data[6:]]))
             return _SIX
-        if it.data.startswith(_XMP):
-            self.blocks.add(XMP, it.data[len(_XMP) :], place, self.part)
-        elif it.data.startswith(EXTENDED):
-            if not self._pieces.add(it.data, place):
-                self._leave("piece of extended XMP that does not fit the others", it)
-        elif like := _EXIF_LIKE.match(it.data):
-            self._exif.append((place, [it.data[like.end() :]]))
+        if data.startswith(_XMP):
+            self.blocks.add(XMP, data[len(_XMP) :], place, self.part)
+        elif data.startswith(EXTENDED):
+            if not self._pieces.add(data, place):
+                self._leave("piece of extended XMP that does not fit the others", data)
+        elif like := _EXIF_LIKE.match(data):
+            self._exif.append((place, [data[like.end() :]]))
         else:
-            self._leave("APP1 segment of an unknown kind", it)
+            self._leave("APP1 segment of an unknown kind", data)
         return b""
 
-    def _app13(self, it: Segment) -> bytes:
-        place = f"APP13 segment at {it.at}"
-        if it.data.startswith(photoshop.HEAD):
+    def _app13(self, at: int, data: bytes) -> bytes:
+        place = f"APP13 segment at {at}"
+        if data.startswith(photoshop.HEAD):
             if self._last == photoshop.HEAD:
-                self._runs[-1][1].append(it.data[len(photoshop.HEAD) :])
+                self._runs[-1][1].append(data[len(photoshop.HEAD) :])
             else:
-                self._runs.append((place, [it.data[len(photoshop.HEAD) :]]))
+                self._runs.append((place, [data[len(photoshop.HEAD) :]]))
             return photoshop.HEAD
-        if it.data.startswith(photoshop.OLD_HEAD):
-            self._runs.append((place, [it.data[photoshop.OLD_HEAD_LENGTH :]]))
-        elif not it.data.startswith(b"Adobe_CM"):
-            self._leave("APP13 segment of an unknown kind", it)
+        if data.startswith(photoshop.OLD_HEAD):
+            self._runs.append((place, [data[photoshop.OLD_HEAD_LENGTH :]]))
+        elif not data.startswith(b"Adobe_CM"):
+            self._leave("APP13 segment of an unknown kind", data)
         return b""
 
     def _put_together(self) -> None:
@@ -121,7 +125,7 @@ class _Head:
         self._pieces.put_together(self.blocks, self.part)
 
 
-def _further(stream: BinaryIO, head: _Head, end: int) -> List[int]:
+def _further(stream: Stream, head: _Head, end: int) -> List[int]:
     """The offsets of the further pictures of the MPF index. An index that does not fit the file is noted, and not followed."""
     found: Set[int] = set()
     for at, data in head.indexes:
@@ -137,7 +141,7 @@ def _further(stream: BinaryIO, head: _Head, end: int) -> List[int]:
     return sorted(found)
 
 
-def _read_behind(stream: BinaryIO, head: _Head, end: int, whole: bool) -> None:
+def _read_behind(stream: Stream, head: _Head, end: int, whole: bool) -> None:
     """Reads the part after a picture's first scan, up to the next picture or the end of the file."""
     found = tail(stream, head.end, end, whole) if head.has_scan else Tail([], min(head.end, end), True)
     for at, length in found.segments:
@@ -154,7 +158,7 @@ def _read_behind(stream: BinaryIO, head: _Head, end: int, whole: bool) -> None:
     head.blocks.not_read.append(NotRead(f"{what} of {end - start:,} bytes{head.of}", digest_of(stream, start, end)))
 
 
-def _kind_of_rest(stream: BinaryIO, at: int, end: int) -> str:
+def _kind_of_rest(stream: Stream, at: int, end: int) -> str:
     stream.seek(at)
     first = stream.read(min(64, end - at)).lstrip(b"\0")
     return "second picture" if first.startswith(START) else "trailer"

@@ -8,11 +8,11 @@ the rest is assumed to be picture data; otherwise everything is read.
 from __future__ import annotations
 
 import re
-from typing import BinaryIO, List, NamedTuple
+from typing import List, NamedTuple
 
 from .found import Broken
 from .jpeg_segments import APP1, APP13, EOI, SOI
-from .streams import CHUNK
+from .streams import CHUNK, Stream
 
 WINDOW = 1 << 16  # bytes
 MOST_PLACES = 1000  # of metadata segments after the first scan
@@ -29,7 +29,7 @@ class Tail(NamedTuple):
     has_mark: bool
 
 
-def tail(stream: BinaryIO, start: int, end: int, whole: bool) -> Tail:
+def tail(stream: Stream, start: int, end: int, whole: bool) -> Tail:
     """The tail of the picture whose first scan begins at `start`, in a part of the file that ends at `end`. Raises `Broken`."""
     if not whole and end - start > WINDOW:
         first = end - WINDOW
@@ -43,7 +43,7 @@ def tail(stream: BinaryIO, start: int, end: int, whole: bool) -> Tail:
 class _Markers:
     """The markers of a part of a file, in their order. Each piece of the file is read once."""
 
-    def __init__(self, stream: BinaryIO, at: int, end: int) -> None:
+    def __init__(self, stream: Stream, at: int, end: int) -> None:
         self.stream = stream
         self.at = at  # after the last marker, or after the segment that was skipped
         self.end = end

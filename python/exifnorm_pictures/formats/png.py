@@ -7,11 +7,9 @@ Not compared, because they contain no Exif, IPTC or XMP: text chunks with other 
 from __future__ import annotations
 
 import zlib
-from typing import BinaryIO
-
 from . import photoshop
 from .found import EXIF, IPTC, XMP, Blocks, Broken, NotRead
-from .streams import digest_of, is_blank, read_at, size_of
+from .streams import Stream, digest_of, is_blank, read_at, size_of
 
 START = b"\x89PNG\r\n\x1a\n"
 MOST_CHUNKS = 100_000
@@ -28,7 +26,7 @@ class _Unreadable(Exception):
     """A text chunk does not follow its form."""
 
 
-def read(stream: BinaryIO, whole: bool = False) -> Blocks:
+def read(stream: Stream, whole: bool = False) -> Blocks:
     """The blocks of a PNG, which is always read to its end. Raises `Broken`."""
     reader = _Reader(stream)
     at = len(START)
@@ -45,7 +43,7 @@ def read(stream: BinaryIO, whole: bool = False) -> Blocks:
 class _Reader:
     """The chunks of one file."""
 
-    def __init__(self, stream: BinaryIO) -> None:
+    def __init__(self, stream: Stream) -> None:
         self.stream = stream
         self.size = size_of(stream)
         self.blocks = Blocks(type="PNG")

@@ -1,33 +1,70 @@
-"""Reading parts of a file: exactly so many bytes, or not at all. A file is read through a buffer and never mapped, because a mapped
-file that another program shortens ends the process with a signal."""
+"""Reading parts of a file: exactly so many bytes, or not at all. A file is read by calls and never mapped, because a mapped file that
+another program shortens ends the process with a signal."""
 
 from __future__ import annotations
 
 import hashlib
-import io
 import os
-from typing import BinaryIO, Iterator
+from typing import Iterator, Protocol
 
 from .found import Broken
 
 CHUNK = 1 << 18
 PIECE = 1 << 13  # bytes that are read at once where the parts are small
+HEAD = 1 << 15  # bytes of a file that are read at first
 
 
-def size_of(stream: BinaryIO) -> int:
+class Stream(Protocol):
+    """What a reader needs of a file that is open."""
+
+    def seek(self, at: int, whence: int = os.SEEK_SET, /) -> int: ...
+
+    def read(self, length: int, /) -> bytes: ...
+
+
+class File:
+    """A regular file that is open, with as many bytes as it had then. Its first bytes are in memory, so that a picture whose metadata are
+    there takes few calls of the system."""
+
+    def __init__(self, number: int, size: int) -> None:
+        """Takes over the file of this number."""
+        self.number, self.size = number, size
+        self._at = 0
+        self._head = os.pread(number, min(size, HEAD), 0)
+
+    def seek(self, at: int, whence: int = os.SEEK_SET) -> int:
+        """Sets the offset at which the next bytes are read."""
+        self._at = at + self.size if whence == os.SEEK_END else at
+        return self._at
+
+    def read(self, length: int) -> bytes:
+        """The next bytes: less than `length` only at the end of the file."""
+        at = self._at
+        data = self._head[at : at + length]
+        while len(data) < length and at + len(data) < self.size:
+            more = os.pread(self.number, min(length, self.size - at) - len(data), at + len(data))
+            if not more:  # the file has been shortened
+                break
+            data += more
+        self._at = at + len(data)
+        return data
+
+    def close(self) -> None:
+        """Closes the file."""
+        os.close(self.number)
+
+
+def size_of(stream: Stream) -> int:
     """The number of bytes of a file.
 
     >>> import io
     >>> size_of(io.BytesIO(b"abc"))
     3
     """
-    try:
-        return os.fstat(stream.fileno()).st_size  # what was read of the file stays in its buffer
-    except io.UnsupportedOperation:
-        return stream.seek(0, os.SEEK_END)
+    return stream.seek(0, os.SEEK_END)
 
 
-def read_at(stream: BinaryIO, at: int, length: int) -> bytes:
+def read_at(stream: Stream, at: int, length: int) -> bytes:
     """Exactly `length` bytes. Raises `Broken` if the file ends before."""
     stream.seek(at)
     data = stream.read(length)
@@ -36,7 +73,7 @@ def read_at(stream: BinaryIO, at: int, length: int) -> bytes:
     return data
 
 
-def pieces(stream: BinaryIO, start: int, end: int) -> Iterator[bytes]:
+def pieces(stream: Stream, start: int, end: int) -> Iterator[bytes]:
     """The bytes from `start` up to `end`, or up to the end of the file, in pieces."""
     while start < end:
         stream.seek(start)
@@ -47,7 +84,7 @@ def pieces(stream: BinaryIO, start: int, end: int) -> Iterator[bytes]:
         start += len(data)
 
 
-def digest_of(stream: BinaryIO, start: int, end: int) -> str:
+def digest_of(stream: Stream, start: int, end: int) -> str:
     """SHA-256 of a part of a file.
 
     >>> import io
@@ -60,6 +97,6 @@ def digest_of(stream: BinaryIO, start: int, end: int) -> str:
     return found.hexdigest()
 
 
-def is_blank(stream: BinaryIO, start: int, end: int) -> bool:
+def is_blank(stream: Stream, start: int, end: int) -> bool:
     """Whether a part of a file has only zeros."""
     return not any(it.strip(b"\0") for it in pieces(stream, start, end))

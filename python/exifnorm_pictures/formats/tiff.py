@@ -7,11 +7,13 @@ Raw pictures have the same structure, and private pointers too; ExifTool and exi
 from __future__ import annotations
 
 from collections import deque
-from typing import BinaryIO, Deque, Dict, Iterator, List, NamedTuple, Optional, Set, Tuple
+from typing import Deque, Dict, Iterator, List, NamedTuple, Optional, Set, Tuple
+
+from exifnorm import LIMIT
 
 from . import photoshop
 from .found import EXIF, IPTC, XMP, Blocks, Broken, LeftToOthers, NotRead
-from .streams import digest_of, is_blank, read_at
+from .streams import Stream, digest_of, is_blank, read_at
 from .tiff_block import Layout, Table, is_pointer
 from .tiff_directories import HEADS, IFD, LONG, MOST_DIRECTORIES, Directories, Directory, Entry
 
@@ -20,7 +22,6 @@ __all__ = ["BIG_HEADS", "HEADS", "read", "read_big"]
 BIG_HEADS = (b"II+\0", b"MM\0+")
 DEEPEST = 10  # SubIFDs below one another
 MOST_STRIPS = 4_000_000  # whose ends are computed
-LIMIT = 16_777_216  # bytes of a block that the engine judges
 
 PIXELS: Dict[int, str] = {
     0x0111: "StripOffsets",
@@ -52,7 +53,7 @@ class _Page(NamedTuple):
     part: str
 
 
-def read(stream: BinaryIO, whole: bool = False) -> Blocks:
+def read(stream: Stream, whole: bool = False) -> Blocks:
     """The blocks of a TIFF. Raises `Broken`, and `LeftToOthers` for a raw picture."""
     if read_at(stream, 8, 2) == b"CR":
         raise LeftToOthers("a raw picture of Canon")
@@ -64,7 +65,7 @@ def read(stream: BinaryIO, whole: bool = False) -> Blocks:
     return reader.blocks
 
 
-def read_big(stream: BinaryIO, whole: bool = False) -> Blocks:
+def read_big(stream: Stream, whole: bool = False) -> Blocks:
     """A BigTIFF, which is not read."""
     return Blocks(type="BTF", problem="BigTIFF", detail="a BigTIFF, whose offsets have eight bytes, is not read")
 

@@ -7,10 +7,10 @@ from __future__ import annotations
 
 import struct
 from bisect import bisect_left
-from typing import BinaryIO, Dict, List, NamedTuple, Optional, Tuple
+from typing import Dict, List, NamedTuple, Optional, Tuple
 
 from .found import Broken
-from .streams import read_at, size_of
+from .streams import Stream, read_at, size_of
 
 HEADS = (b"II*\0", b"MM\0*")
 SIZES = {1: 1, 2: 1, 3: 2, 4: 4, 5: 8, 6: 1, 7: 1, 8: 2, 9: 4, 10: 8, 11: 4, 12: 8, 13: 4, 129: 1}
@@ -45,7 +45,7 @@ class Directory(NamedTuple):
 class Directories:
     """The directories of one file."""
 
-    def __init__(self, stream: BinaryIO) -> None:
+    def __init__(self, stream: Stream) -> None:
         self.stream = stream
         self.size = size_of(stream)
         head = read_at(stream, 0, 8)

@@ -3,7 +3,9 @@
 from __future__ import annotations
 
 import re
-from typing import BinaryIO, NamedTuple, Optional
+from typing import NamedTuple, Optional
+
+from .streams import Stream
 
 
 class Trailer(NamedTuple):
@@ -24,7 +26,7 @@ _SIGNS = (
 _LONGEST = 64
 
 
-def known_trailer(stream: BinaryIO, end: int) -> Optional[Trailer]:
+def known_trailer(stream: Stream, end: int) -> Optional[Trailer]:
     """The kind of the trailer that ends at an offset, if it is known.
 
     >>> import io

@@ -4,10 +4,8 @@ and some end the name XMP by a zero byte."""
 from __future__ import annotations
 
 import struct
-from typing import BinaryIO
-
 from .found import EXIF, XMP, Blocks, Broken, NotRead
-from .streams import digest_of, is_blank, read_at, size_of
+from .streams import Stream, digest_of, is_blank, read_at, size_of
 
 MOST_CHUNKS = 100_000
 MOST_BYTES = 64 << 20  # of chunks that are kept
@@ -24,7 +22,7 @@ def is_webp(head: bytes) -> bool:
     return head[:4] == b"RIFF" and head[8:12] == b"WEBP"
 
 
-def read(stream: BinaryIO, whole: bool = False) -> Blocks:
+def read(stream: Stream, whole: bool = False) -> Blocks:
     """The blocks of a WebP, which is always read to its end. Raises `Broken`."""
     blocks = Blocks(type="WEBP")
     size = size_of(stream)
@@ -58,6 +56,6 @@ def _add(blocks: Blocks, kind: bytes, data: bytes, at: int) -> None:
         blocks.leave("chunk of an unknown kind", data)
 
 
-def _rest(blocks: Blocks, stream: BinaryIO, at: int, size: int) -> None:
+def _rest(blocks: Blocks, stream: Stream, at: int, size: int) -> None:
     if not is_blank(stream, at, size):
         blocks.not_read.append(NotRead(f"trailer of {size - at:,} bytes", digest_of(stream, at, size)))

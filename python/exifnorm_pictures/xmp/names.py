@@ -2,6 +2,7 @@
 
 from __future__ import annotations
 
+import functools
 from typing import Dict
 
 _SPACES: Dict[str, str] = dict(
@@ -46,6 +47,7 @@ http://www.w3.org/1999/02/22-rdf-syntax-ns# rdf
 )
 
 
+@functools.lru_cache(maxsize=4096)
 def short_name(uri: str) -> str:
     """The name of a property with a usual prefix; its URI in angle brackets if its namespace has none.
 

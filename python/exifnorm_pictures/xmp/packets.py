@@ -55,7 +55,8 @@ def rdf_of(packet: bytes) -> ElementTree.Element:
     Traceback (most recent call last):
     exifnorm_pictures.xmp.packets.Unreadable: NoRDF: The packet is not x:xmpmeta around one rdf:RDF, nor rdf:RDF by itself.
     """
-    if len(packet) > LONGEST or packet.count(b"<") > MOST_TAGS:
+    tags = packet.count(b"<")
+    if len(packet) > LONGEST or tags > MOST_TAGS:
         raise Unreadable("TooLong")
     text = _text(packet)
     if "<!DOCTYPE" in text:
@@ -64,7 +65,8 @@ def rdf_of(packet: bytes) -> ElementTree.Element:
         root = ElementTree.fromstring(text)
     except (ElementTree.ParseError, ValueError):
         raise Unreadable("NotWellFormed") from None
-    _check_depth(root)
+    if tags > DEEPEST:  # fewer can't be nested too deep
+        _check_depth(root)
     if root.tag in _OUTER:
         inner = list(root)
         if len(inner) == 1 and not (root.text or "").strip() and not (inner[0].tail or "").strip():
@@ -82,7 +84,7 @@ def _text(packet: bytes) -> str:
         text = packet.decode(encoding).lstrip("\ufeff").strip("\0 \t\r\n")
     except UnicodeDecodeError:
         raise Unreadable("NotText") from None
-    declared = _DECLARATION.match(text)
+    declared = _DECLARATION.match(text) if text.startswith("<?xml") else None
     if declared:
         if "encoding" in declared[0] and not _ENCODING.search(declared[0]):
             raise Unreadable("NotText")

@@ -71,6 +71,8 @@ def unique(statements: Statements) -> "List[Statement]":
     >>> len(unique((Statement("a", Literal("1")), Statement("a", Literal("1")), Statement("a", Node(())), Statement("a", Node(())))))
     3
     """
+    if len(statements) < 2:
+        return list(statements)
     plain = dict.fromkeys(it for it in statements if not isinstance(it.value, Node))
     return [*plain, *(it for it in statements if isinstance(it.value, Node))]
 
@@ -86,8 +88,5 @@ def digest_of(statements: Statements, is_bag: bool = False) -> str:
     for predicate, value in unique(statements):
         word = "member" if is_bag and MEMBER.match(predicate) else predicate
         lines.append(f"{len(word)}:{word}{key_of(value)}")
-    found = hashlib.sha256()
-    for line in sorted(lines):
-        octets = line.encode("utf-8", "surrogatepass")
-        found.update(b"%d:" % len(octets) + octets)
-    return found.hexdigest()
+    octets = [line.encode("utf-8", "surrogatepass") for line in sorted(lines)]
+    return hashlib.sha256(b"".join([b"%d:%b" % (len(it), it) for it in octets])).hexdigest()

@@ -1,0 +1,55 @@
+"""The fields of a normal form, exactly as `listing.fields` returns them for the block's listing. The catalogue needs the form for its
+digest, so that no listing has to be made."""
+
+from __future__ import annotations
+
+from typing import Any, Callable, Dict, Iterator, List
+
+from exifnorm._forms import fields_of_form
+
+from .listing import OCTETS, Field, shown_numbers, shown_octets, shown_picture, shown_value
+
+
+def _decimal(values: Any) -> str:
+    return " ".join(map(str, values))
+
+
+def _fractions(values: Any) -> str:
+    return " ".join([f"{above}/{below}" for above, below in values])
+
+
+# how the numbers of a type are written in a listing (docs/FORMAT.md, "Listing")
+_WRITTEN: Dict[str, Callable[[Any], str]] = {
+    **dict.fromkeys(("SHORT", "LONG", "WHOLE", "SSHORT", "SLONG"), _decimal),
+    **dict.fromkeys(("RATIONAL", "SRATIONAL"), _fractions),
+    "FLOAT": lambda patterns: " ".join([f"{it:08x}" for it in patterns]),
+    "DOUBLE": lambda patterns: " ".join([f"{it:016x}" for it in patterns]),
+}
+
+
+def fields(form: bytes) -> List[Field]:
+    """The fields of a normal form, in the order of a listing.
+
+    >>> fields(b"\\x1c\\x02\\x78\\x00\\x04Vase")
+    [Field(where='iptc', key='2:120', type='octets', elements=4, shown='"Vase"')]
+    """
+    found: List[Field] = []
+    for where, tag, kind, values in fields_of_form(form):
+        if kind in OCTETS:
+            key = f"{tag:04x}"
+            found.append(Field(where, key, kind, len(values), shown_value(where, key, values)))
+        elif kind == "DATASET":
+            found.append(Field("iptc", f"{tag >> 8}:{tag & 255}", "octets", len(values), shown_octets(values)))
+        elif kind in _WRITTEN:
+            found.append(Field(where, f"{tag:04x}", kind, len(values), shown_numbers(_WRITTEN[kind](values))))
+        else:
+            found += _pictures(kind, values)
+    return found
+
+
+def _pictures(kind: str, values: Any) -> Iterator[Field]:
+    """The thumbnail's JPEG, or each of its strips."""
+    for octets in values if kind == "STRIPS" else (values,):
+        yield Field("thumb", "jpeg" if kind == "JPEG" else "strip", "octets", len(octets), shown_picture(octets))
+
+
