@@ -1,176 +1,125 @@
 #!/usr/bin/env python3
-"""Times exifnorm's library beside its peers, in one interleaved run, and prints a table.
+"""Times exifnorm's library beside plain C code for the same work and beside its peers, in one interleaved run.
 
-  bench/peers/run.py LIBRARY PROGRAM     LIBRARY is the folder with libexifnorm.a and exifnorm.h
+  bench/peers/run.py LIBRARY PROGRAM [--only TEXT ..] [--rounds N] [--seconds S] [--no-peers]
+  bench/peers/run.py LIBRARY PROGRAM --changed N
 
-Each peer that is installed has a driver built here: libexif and libiptcdata (Debian: libexif-dev, libiptcdata0-dev), exiv2
-(libexiv2-dev), kamadak-exif (librust-kamadak-exif-dev and librust-mutate-once-dev; KAMADAK names the registry folder where they
-stand elsewhere). What isn't installed is named and left out. A time is the least of all rounds, of which each runs every driver
-once on each block; a ratio is exifnorm's time over the peer's: below 1 exifnorm is quicker. Then the program: its filter beside
-`cat`, and the most memory that each command holds, over its input.
+LIBRARY is the folder with libexifnorm.a and exifnorm.h. Each peer that is installed has a driver built here: libexif and libiptcdata
+(Debian: libexif-dev, libiptcdata0-dev), exiv2 (libexiv2-dev), kamadak-exif (librust-kamadak-exif-dev and librust-mutate-once-dev; KAMADAK
+names the registry folder if they are elsewhere). What isn't installed is named and left out. A time is processor time, the least of all
+rounds, of which each runs every driver once; a ratio is exifnorm's time over the other's: below 1 exifnorm is faster. The forms of the
+library and of C (limits/) must be equal, byte for byte. The most memory that a call has allocated, and a command of the program, is printed
+over the block's bytes; neither block nor form count for a call. With --changed nothing is timed: so many changed blocks of each small kind
+of the tests are read by both, and must be accepted by both, with the same form, or by none.
 """
 
 import argparse
 import os
-import shutil
-import subprocess
 import sys
 import tempfile
-import time
-from random import Random
+from pathlib import Path
+from typing import Dict, List
 
-HERE = os.path.dirname(os.path.abspath(__file__))
-sys.path.insert(0, os.path.join(HERE, "..", "..", "tests"))
+HERE = Path(__file__).resolve().parent
+sys.path.insert(0, str(HERE.parent.parent / "tests"))
 sys.dont_write_bytecode = True
 
 import paths
-import kinds
-from cases import Case
-from meanings import *
-from meanings import Exif, Layout, Record, Value, laid
+from block_kinds import KINDS
+from changed import changed
+from drivers import OWN, Driver, all_drivers, own_drivers
+from kinds import small_kinds
+from program_costs import LARGE, filter_times, memory
+from race import MODES, Differs, Times, allocated, compare_forms, least_times
 from shims import make_shim
-from watching import watched
-
-ROUNDS, SECONDS = 5, 0.4
-REGISTRY = os.environ.get("KAMADAK", "/usr/share/cargo/registry")
 
 
-class Clean(Layout):
-    """A layout with a zero where nothing is said, as kamadak-exif asks of what follows the Exif directory."""
-
-    def spare(self, n):
-        return bytes(n)
-
-
-def blocks():
-    """The blocks, each with its name."""
-    plain = [tag for tag in range(0x1000, 0x8000)]
-    camera, layout = next(iter(kinds.camera())).meaning, Layout("<", shuffled=True)
-    mixed = {tag: Value(RATIONAL, [(tag, 7)]) if i % 2 else Value(SHORT, [i % 9]) for i, tag in enumerate(plain[:16_000])}
-    strips = [b"x"] * 1_200_000
-    yield "a block as a camera writes it", laid(camera, Clean("<"))
-    yield "16,384 RATIONALs at random places", laid(Exif({tag: Value(RATIONAL, [(tag, 7)]) for tag in plain[:16_384]}), layout)
-    yield "16,000 mixed fields, places shuffled", laid(Exif(mixed), layout)
-    yield "16 MB of SHORTs", laid(Exif({0x9999: Value(SHORT, Random(1).choices(range(65_536), k=8_388_000))}), Layout("<"))
-    yield "16 MB of bytes", laid(Exif({0x9999: Value(UNDEFINED, bytes(16_777_000))}), Layout("<"))
-    yield "1.2 million strips", laid(Exif(dict(kinds.ORIENTATION), thumb={}, strips=strips), Layout(">"))
-    yield "as many bytes as those strips, in one value", laid(Exif({0x9999: Value(UNDEFINED, bytes(10_800_026))}), Layout("<"))
-    yield "65,536 groups", Record([(255 - (i >> 8), 255 - i % 256, b"octets 1") for i in range(65_536)]).spelled()
-    yield "a million DataSets in 256 groups in turn", Record([(3, i % 256, b"octets 1") for i in range(1_000_000)]).spelled()
-    yield "a million DataSets in one group", Record([(2, 25, b"octets 1") for i in range(1_000_000)]).spelled()
+def drivers_for(block: bytes, drivers: Dict[str, Driver]) -> Dict[str, Driver]:
+    """Those that read this kind of block."""
+    is_iim = block[:1] == b"\x1c"
+    return {name: it for name, it in drivers.items() if (it.is_for_iim if is_iim else it.is_for_exif)}
 
 
-def compiled(words):
-    return subprocess.run(words, stdin=subprocess.DEVNULL, capture_output=True).returncode == 0
+def print_times(least: Times) -> None:
+    for mode in MODES:
+        own = least[mode, OWN]
+        if own is None:
+            raise Differs("the library refuses the block")
+        others = [(name, spent) for (way, name), spent in least.items() if way == mode and name != OWN]
+        ratios = [f"{name} failed" if spent is None else f"{own / spent:.2f} of {name}" for name, spent in others]
+        print(f"  {mode}: {own:,.2f} microseconds; {'; '.join(ratios)}")
 
 
-def flags(package):
-    """What pkg-config says of a package; nothing where it isn't installed."""
-    ran = subprocess.run(["pkg-config", "--cflags", "--libs", package], capture_output=True, text=True)
-    return ran.stdout.split() if ran.returncode == 0 else None
+def print_memory(drivers: Dict[str, Driver], path: Path) -> None:
+    size = path.stat().st_size
+    for mode in MODES:
+        of = {name: allocated(it, mode, path) for name, it in drivers.items() if it.counting}
+        print(f"  memory of {mode}, over the block: {', '.join(f'{name} {it / size:.2f}' for name, it in of.items())}")
 
 
-def build(folder, library):
-    """The drivers that could be built, by name."""
-    made = {}
-    for name, package in (("exifnorm", ""), ("libexif", "libexif"), ("libiptcdata", "libiptcdata"), ("exiv2", "exiv2")):
-        out = os.path.join(folder, name)
-        source = os.path.join(HERE, name + (".cpp" if name == "exiv2" else ".c"))
-        uses = ["-I", library, os.path.join(library, "libexifnorm.a")] if not package else flags(package)
-        if uses is not None and compiled(["g++" if name == "exiv2" else "cc", "-O2", "-o", out, source, *uses]):
-            made[name] = out
-    if build_kamadak(folder):
-        made["kamadak-exif"] = os.path.join(folder, "kamadak")
-    return made
+class Bench:
+    """The built drivers, and a folder for blocks."""
+
+    def __init__(self, options: argparse.Namespace, folder: Path) -> None:
+        self.options, self.folder, self.path = options, folder, folder / "block"
+        self.program, self.library = os.path.abspath(options.program), Path(options.library).resolve()
+        self.shim = make_shim(folder, "watch_calls")
+
+    def kinds(self) -> List[str]:
+        return [name for name in KINDS if any(it in name for it in self.options.only)]
+
+    def time_all(self) -> None:
+        drivers = (own_drivers if self.options.no_peers else all_drivers)(self.folder, self.library)
+        print(f"load {os.getloadavg()[0]:.1f}, {self.options.rounds} rounds of {self.options.seconds} seconds", flush=True)
+        for name in self.kinds():
+            block = KINDS[name]()
+            self.path.write_bytes(block)
+            print(f"\n{name}, {len(block):,} bytes", flush=True)
+            self.time_one(block, drivers_for(block, drivers))
+        print(f"\nload {os.getloadavg()[0]:.1f}")
+
+    def time_one(self, block: bytes, drivers: Dict[str, Driver]) -> None:
+        options = self.options
+        compare_forms(drivers, self.path)
+        print_times(least_times(drivers, self.path, options.rounds, options.seconds))
+        print_memory(drivers, self.path)
+        if len(block) >= LARGE:
+            least = filter_times(self.program, self.path, self.folder, options.rounds)
+            ratios = ", ".join(f"{least['filter'] / least[it]:.2f} of {it}" for it in ("cat", "one value"))
+            print(f"  filter: {1e3 * least['filter']:.1f} ms, {ratios} with as many bytes")
+        shares = memory(self.program, str(self.shim), block)
+        print(f"  memory of the program, over the input: {', '.join(f'{it} {n:.2f}' for it, n in shares)}", flush=True)
+
+    def compare_changed(self) -> None:
+        drivers, accepted, count = own_drivers(self.folder, self.library), 0, 0
+        for kind in small_kinds():
+            for block in (it for whole in kind.blocks for it in [whole, *changed(whole, self.options.changed)]):
+                self.path.write_bytes(block)
+                try:
+                    accepted += compare_forms(drivers_for(block, drivers), self.path) is not None
+                except Differs as why:
+                    raise Differs(f"{kind.name}: {why}: {block.hex() if len(block) < 1000 else len(block)}") from None
+                count += 1
+        print(f"{count} blocks, of which {accepted} are accepted: C and the library agree on each")
 
 
-def build_kamadak(folder):
-    try:
-        names = os.listdir(REGISTRY)
-    except FileNotFoundError:
-        return False
-    found = {name: next((it for it in names if it.startswith(name)), None) for name in ("mutate_once", "kamadak-exif")}
-    if not all(found.values()) or not shutil.which("rustc"):
-        return False
-    library = ["rustc", "--edition", "2018", "-O", "--crate-type", "rlib", "--cap-lints", "allow", "-L", folder, "--out-dir", folder]
-    source = lambda name: os.path.join(REGISTRY, found[name], "src", "lib.rs")
-    return (
-        compiled([*library, "--crate-name", "mutate_once", source("mutate_once")])
-        and compiled([*library, "--crate-name", "exif", "--extern", "mutate_once", source("kamadak-exif")])
-        and compiled(["rustc", "--edition", "2021", "-O", "-L", folder, "--extern", "exif", "-o", os.path.join(folder, "kamadak"), os.path.join(HERE, "kamadak.rs")])
-    )
-
-
-def told(driver, mode, path):
-    """Microseconds; none where the peer can't do it, or takes over a minute."""
-    try:
-        ran = subprocess.run([driver, mode, str(SECONDS), path], capture_output=True, text=True, timeout=60)
-    except subprocess.TimeoutExpired:
-        return None
-    return float(ran.stdout) if ran.returncode == 0 else None
-
-
-def race(drivers, path, is_iim):
-    """The least time of each driver and mode, over all rounds."""
-    least = {}
-    for _ in range(ROUNDS):
-        for mode in ("parse", "write"):
-            for name, driver in drivers.items():
-                if name in ({"libexif", "kamadak-exif"} if is_iim else {"libiptcdata"}) or least.get((mode, name), 0) is None:
-                    continue
-                spent = told(driver, mode, path)
-                before = least.get((mode, name))
-                least[mode, name] = spent if before is None or spent is None else min(before, spent)
-    return least
-
-
-def filter_beside_cat(program, path, folder):
-    """How many times as long as `cat` the filter takes, from file to file."""
-    least = {}
-    for _ in range(ROUNDS):
-        for words in (["cat"], [program]):
-            with open(path, "rb") as reader, open(os.path.join(folder, "out"), "wb") as writer:
-                began = time.perf_counter()
-                subprocess.run(words, stdin=reader, stdout=writer, check=True)
-                spent = time.perf_counter() - began
-            least[words[0]] = min(spent, least.get(words[0], spent))
-    return least[program] / least["cat"], 1e3 * least[program]
-
-
-def memory(program, shim, block):
-    """The most that each command holds, over its input."""
-    files = {"a": block, "b": block}
-    for words in ([], ["check", "a"], ["show", "a"], ["captions", "a"], ["compare", "a", "b"]):
-        case = Case("", words=words, files=files, input_from="" if words else "a")
-        _, counts = watched(program, shim, case)
-        yield words[0] if words else "filter", counts.held / len(block) / max(1, len(words) - 1)
-
-
-def main():
+def main() -> None:
     words = argparse.ArgumentParser(description=__doc__, formatter_class=argparse.RawDescriptionHelpFormatter)
     words.add_argument("library", help="the folder with libexifnorm.a and exifnorm.h")
     words.add_argument("program", help="the built program")
-    words = words.parse_args()
-    program = os.path.abspath(words.program)
+    words.add_argument("--only", action="append", metavar="TEXT", help="only the kinds whose name has TEXT, or one of several")
+    words.add_argument("--rounds", type=int, default=5)
+    words.add_argument("--seconds", type=float, default=0.2, help="of each driver in a round")
+    words.add_argument("--no-peers", action="store_true", help="only exifnorm and C")
+    words.add_argument("--changed", type=int, default=0, metavar="N")
+    options = words.parse_args()
+    options.only = options.only or [""]
     with tempfile.TemporaryDirectory(dir="/dev/shm" if os.path.isdir("/dev/shm") else None) as folder:
-        drivers, shim = build(folder, os.path.abspath(words.library)), make_shim(folder, "watch_calls")
-        for name in ("exifnorm", "kamadak-exif", "libexif", "exiv2", "libiptcdata"):
-            if name not in drivers:
-                print(f"{name} is not installed, and is left out", flush=True)
-        for name, block in blocks():
-            path = os.path.join(folder, "block")
-            with open(path, "wb") as it:
-                it.write(block)
-            least = race(drivers, path, block[:1] == b"\x1c")
-            print(f"\n{name}, {len(block):,} bytes")
-            for mode in ("parse", "write"):
-                own = least.get((mode, "exifnorm"))
-                peers = {peer: spent for (way, peer), spent in least.items() if way == mode and peer != "exifnorm" and spent}
-                if own:
-                    print(f"  {mode}: {own:,.2f} microseconds; " + "; ".join(f"{own / it:.2f} of {peer}" for peer, it in peers.items()))
-            over, spent = filter_beside_cat(program, path, folder)
-            print(f"  filter: {spent:.1f} ms, {over:.1f} of cat")
-            print("  memory over the input: " + ", ".join(f"{it} {n:.1f}" for it, n in memory(program, shim, block)), flush=True)
+        bench = Bench(options, Path(folder))
+        try:
+            bench.compare_changed() if options.changed else bench.time_all()
+        except Differs as why:
+            sys.exit(f"FAILED: {why}")
 
 
 if __name__ == "__main__":

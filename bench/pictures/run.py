@@ -1,7 +1,7 @@
 #!/usr/bin/env python3
 """Times exifnorm-pictures at an archive's scale beside ExifTool, in one interleaved run, and prints a table.
 
-  bench/pictures/run.py LIBRARY [--pictures N] [--rows N] [--compared N] [--rounds N]
+  bench/pictures/run.py LIBRARY [--pictures N] [--rows N] [--compared N] [--counted N] [--rounds N]
 
 LIBRARY is a folder such as out/lib. The pictures are small JPEG files with Exif, IPTC and XMP, made here from a few bytes; those of
 another format are PSD files by ImageMagick's convert. A time is the least of all rounds. Catalogues with many rows are made by the
@@ -11,6 +11,7 @@ package itself, without pictures. Memory is the peak of one process, as the syst
 import argparse
 import hashlib
 import os
+import re
 import shutil
 import subprocess
 import sys
@@ -32,6 +33,7 @@ from exifnorm_pictures.listing import Field, packed
 
 ROOT = b"/archive"
 BATCH = 1000  # rows at once: few, because the system counts the memory of this process into that of a command that it starts
+EXIFTOOL = ("-config", "", "-q", "-q", "-r", "-b", "-Exif")
 ROW = Tuple[str, str, str]  # what was measured, the result, the target
 
 
@@ -39,12 +41,12 @@ ROW = Tuple[str, str, str]  # what was measured, the result, the target
 
 
 def letters(number: int) -> bytes:
-    """Three letters that tell a number below 17,576."""
+    """Three letters that encode a number below 17,576."""
     return bytes(65 + number // 26**place % 26 for place in range(3))
 
 
 def make_pictures(folder: str, count: int) -> None:
-    """Small JPEG files; each fourth one says what the one before it says."""
+    """Small JPEG files; each fourth one has the metadata of the one before it."""
     for number in range(count):
         says = number - (number % 4 == 3)
         there = os.path.join(folder, f"{number // 1000:03}")
@@ -68,7 +70,7 @@ def make_others(folder: str, count: int) -> bool:
 
 
 def row(number: int, says: int, path: bytes, fields: bool) -> Entry:
-    """A picture as the catalogue keeps it, whose Exif, IPTC and XMP blocks say a number."""
+    """A picture as the catalogue keeps it, whose Exif, IPTC and XMP blocks contain a number."""
     kept = packed([Field("main", "010f", "ASCII", 4, f'"{says}"')]) if fields else None
     blocks = []
     for kind in (EXIF, IPTC, XMP):
@@ -115,6 +117,25 @@ def cost(words: Sequence[str], statuses: Sequence[int] = (0,)) -> Cost:
     return Cost(time.perf_counter() - began, used.ru_utime + used.ru_stime, used.ru_maxrss / 1024)
 
 
+# Runs a command, and writes to standard error which part of the processor time the first process had.
+SHARE = """
+import sys
+from resource import RUSAGE_CHILDREN, RUSAGE_SELF, getrusage
+from exifnorm_pictures.main import main
+def spent(whose): return getrusage(whose).ru_utime + getrusage(whose).ru_stime
+before = spent(RUSAGE_SELF)
+main(sys.argv[1:])
+own = spent(RUSAGE_SELF) - before
+print(own / (own + spent(RUSAGE_CHILDREN)), file=sys.stderr)
+"""
+
+
+def share(*words: str) -> float:
+    """The part of the processor time that the first process of a command has, without the start of Python."""
+    done = subprocess.run([sys.executable, "-c", SHARE, *words], check=True, stdout=subprocess.DEVNULL, stderr=subprocess.PIPE)
+    return float(done.stderr)
+
+
 def pictures(*words: str) -> List[str]:
     return [sys.executable, "-m", "exifnorm_pictures", *words]
 
@@ -133,7 +154,7 @@ class Timed:
 
     def round(self) -> None:
         """Each command once."""
-        self._time("exiftool", ["exiftool", "-config", "", "-q", "-q", "-r", "-b", "-Exif", self.jpegs])
+        self._time("exiftool", ["exiftool", *EXIFTOOL, self.jpegs])
         self._index("one", self.jpegs, "1")
         self._index("four", self.jpegs, "4")
         self._index("again", self.jpegs, "1", new=False)
@@ -158,6 +179,8 @@ class Timed:
         count = f"{self.count:,} JPEG files"
         yield f"`index`, over `exiftool -b -Exif`, one process each ({count})", ratio(least, "one", "exiftool"), "0.1"
         yield f"`index` with four processes, over one ({count})", ratio(least, "four", "one"), "0.35"
+        first = share("index", self.jpegs, "--catalogue", os.path.join(self.folder, "share.catalogue"), "--jobs", "4", "--quiet")
+        yield f"the first process's part of the processor time of four ({count})", f"{first:.3f}", "0.15"
         again = (least["again"].processor - least["start"].processor) / self.count * 100000
         yield f"a second run, nothing changed, for each 100,000 pictures ({count})", f"{again:.1f} s of processor time", "3.5 s"
         if self.has_others:
@@ -206,6 +229,28 @@ def plain(number: int) -> bytes:
     return b"/%04d/%07d.jpg" % (number // 1000, number)
 
 
+def instructions(words: Sequence[str]) -> int:
+    """The instructions of a command, which don't depend on what else the machine does; those of programs that it starts aren't counted."""
+    counting = ["valgrind", "--tool=cachegrind", "--cache-sim=no", "--cachegrind-out-file=/dev/null", *words]
+    done = subprocess.run(counting, check=True, stdout=subprocess.DEVNULL, stderr=subprocess.PIPE, text=True)
+    return int(re.findall(r"I\s+refs:\s+([\d,]+)", done.stderr)[0].replace(",", ""))
+
+
+def counted(folder: str, count: int) -> Iterator[ROW]:
+    """The instructions of `index` and of ExifTool for the start and for each further picture."""
+    costs = []
+    for number in (count // 5, count):
+        there, catalogue = os.path.join(folder, f"counted{number}"), os.path.join(folder, f"counted{number}.catalogue")
+        os.mkdir(there)
+        make_pictures(there, number)
+        index = instructions(pictures("index", there, "--catalogue", catalogue, "--jobs", "1", "--quiet"))
+        costs.append((index, instructions(["perl", str(shutil.which("exiftool")), *EXIFTOOL, there])))
+    for it, name in enumerate(("index", "exiftool -b -Exif")):
+        each = (costs[1][it] - costs[0][it]) / (count - count // 5)
+        start = costs[1][it] - each * count
+        yield f"instructions of `{name}`", f"{each / 1e3:,.0f} thousand for a picture, {start / 1e6:,.0f} million for the start", ""
+
+
 def megabytes(it: Cost) -> str:
     return f"{it.megabytes:.0f} MB ({it.processor:.0f} s of processor time)"
 
@@ -226,17 +271,23 @@ def main() -> None:
     words.add_argument("--pictures", type=int, default=5000, help="JPEG files")
     words.add_argument("--rows", type=int, default=1000000, help="rows of the catalogue for `same`; 0 leaves it out")
     words.add_argument("--compared", type=int, default=100000, help="pictures for `changed` and `report`; 0 leaves them out")
+    words.add_argument("--counted", type=int, default=0, help="JPEG files whose instructions Valgrind counts; 0 leaves it out")
     words.add_argument("--rounds", type=int, default=3)
     asked = words.parse_args()
     os.environ["EXIFNORM_LIBRARY"] = os.path.abspath(os.path.join(asked.library, "libexifnorm.so.1"))
     os.environ["PYTHONPATH"] = str(TOP / "python")
     print("| Measured | Result | Target |\n|---|---|---|", flush=True)
     with tempfile.TemporaryDirectory() as folder:
+        os.environ.pop("PYTHONDONTWRITEBYTECODE", None)
+        os.environ["PYTHONPYCACHEPREFIX"] = os.path.join(folder, "compiled")  # once, as in an installed package
         if asked.pictures:
             timed = Timed(folder, asked.pictures)
             for _ in range(asked.rounds):
                 timed.round()
             show(timed.rows())
+        if asked.counted:
+            cost(pictures("--version"))  # which compiles the modules
+            show(counted(folder, asked.counted))
         show(great(folder, asked.rows, asked.compared))
 
 

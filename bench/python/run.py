@@ -4,8 +4,8 @@
   bench/python/run.py LIBRARY [--rounds N] [BLOCK ..]
 
 LIBRARY is the folder with libexifnorm.a, libexifnorm.so.1 and exifnorm.h; each BLOCK is a file with a block, and without any a block
-as a camera writes it is timed. piexif is Debian's python3-piexif; where this Python hasn't it, /usr/bin/python3 may. A time is the
-least of all rounds, of which each makes every call many times; below 1 a ratio says that exifnorm is quicker.
+as a camera writes it is timed. piexif is Debian's python3-piexif; if this Python doesn't have it, /usr/bin/python3 may. Each round
+times every call, a few at once; a time is the least of all rounds. Below 1 a ratio means that exifnorm is faster.
 """
 
 import argparse
@@ -15,6 +15,8 @@ import subprocess
 import sys
 import tempfile
 import time
+import timeit
+from functools import partial
 from pathlib import Path
 from typing import Callable, Dict
 
@@ -29,6 +31,7 @@ from meanings import Layout, laid
 
 PREFIX = b"Exif\0\0"
 SECONDS = 0.01  # of each call in a round
+BATCH = 100e-6  # seconds of the calls that are timed at once: few enough that other processes seldom interrupt them
 
 
 def camera() -> bytes:
@@ -36,11 +39,13 @@ def camera() -> bytes:
     return laid(next(iter(kinds.camera())).meaning, Layout("<"))
 
 
-def microseconds(call: Callable[[], object], times: int) -> float:
-    began = time.perf_counter()
-    for _ in range(times):
-        call()
-    return (time.perf_counter() - began) / times * 1e6
+def microseconds(timer: timeit.Timer) -> float:
+    """The least time of a call."""
+    end, least = time.perf_counter() + SECONDS, timer.timeit(10) / 10
+    while time.perf_counter() < end:
+        times = int(BATCH / least) + 1
+        least = min(least, timer.timeit(times) / times)
+    return 1e6 * least
 
 
 def driver(library: str, folder: str) -> str:
@@ -55,35 +60,32 @@ def in_c(program: str, mode: str, path: str) -> float:
     return float(ran.stdout)
 
 
-def calls_over(block: bytes, path: str, library: str, folder: str) -> Dict[str, Callable[[], float]]:
-    """What is timed, by name."""
+def timers(block: bytes) -> Dict[str, timeit.Timer]:
+    """The calls in Python, by name. A timer makes a call without another one around it."""
     import exifnorm
     from exifnorm import _calls
 
-    out, written, fault = ctypes.create_string_buffer(2 * len(block) + 1), ctypes.c_size_t(), _calls.Fault()
-    to = out, len(out), ctypes.byref(written), ctypes.byref(fault)
-    bare, size = _calls.library().exifnorm_normalise, len(block)
-    python = {
-        "ctypes: normalise": lambda: bare(block, size, *to),
-        "exifnorm.kind": lambda: exifnorm.kind(block),
-        "exifnorm.normal": lambda: exifnorm.normal(block),
-        "exifnorm.digest": lambda: exifnorm.digest(block),
-        "exifnorm.fields": lambda: exifnorm.fields(block),
-        "exifnorm.captions": lambda: exifnorm.captions(block),
-    }
+    size, out, written, fault = ctypes.c_size_t, ctypes.create_string_buffer(2 * len(block) + 1), ctypes.c_size_t(), _calls.Fault()
+    names = {"exifnorm": exifnorm, "block": block, "length": size(len(block)), "room": size.from_param(len(out)),
+             "bare": _calls.library().exifnorm_normalise, "out": ctypes.byref(out), "written": ctypes.byref(written),
+             "fault": ctypes.byref(fault), "whole": block if block.startswith(PREFIX) else PREFIX + block}  # fmt: skip
+    calls = {f"exifnorm.{it}": f"exifnorm.{it}(block)" for it in ("kind", "normal", "digest", "fields", "captions")}
+    calls["ctypes: normalise"] = "bare(block, length, out, room, written, fault)"
     try:
         import piexif
     except ImportError:
         print("piexif is not installed, and is left out")
     else:
-        whole = block if block.startswith(PREFIX) else PREFIX + block
-        python["piexif.load"] = lambda: piexif.load(whole)
-    counts = {name: max(1, int(SECONDS * 1e6 / microseconds(call, 10))) for name, call in python.items()}
-    timed = {name: lambda name=name: microseconds(python[name], counts[name]) for name in python}
-    program = driver(library, folder)
+        names["piexif"], calls["piexif.load"] = piexif, "piexif.load(whole)"
+    return {name: timeit.Timer(call, timer=time.process_time, globals=names) for name, call in calls.items()}
+
+
+def calls_over(block: bytes, path: str, program: str) -> Dict[str, Callable[[], float]]:
+    """What is timed, by name."""
+    timed = {name: partial(microseconds, it) for name, it in timers(block).items()}
     if program:
-        timed["C: check"] = lambda: in_c(program, "parse", path)
-        timed["C: normalise"] = lambda: in_c(program, "write", path)
+        timed["C: check"] = partial(in_c, program, "parse", path)
+        timed["C: normalise"] = partial(in_c, program, "write", path)
     return timed
 
 
@@ -114,10 +116,11 @@ def main() -> None:
     os.environ.setdefault("EXIFNORM_LIBRARY", os.path.join(library, "libexifnorm.so.1"))
     blocks = {it: Path(it).read_bytes() for it in words.blocks} or {"a block as a camera writes it": camera()}
     with tempfile.TemporaryDirectory() as folder:
+        program = driver(library, folder)
         for name, block in blocks.items():
             path = os.path.join(folder, "block")
             Path(path).write_bytes(block)
-            least = race(calls_over(block, path, library, folder), words.rounds)
+            least = race(calls_over(block, path, program), words.rounds)
             print(f"\n{name}, {len(block):,} bytes")
             for call, spent in sorted(least.items(), key=lambda it: it[1]):
                 print(f"  {call}: {spent:,.2f} microseconds")
