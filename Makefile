@@ -7,7 +7,7 @@
 #   make wheel                            a Python wheel with the library, in out/wheel
 #   make dist                             an archive of all that install writes, its sums and its components, in out/dist
 #
-# The first build proves every crate and takes minutes. Where nothing changed, nothing is built again. docs/PACKAGING.md says more.
+# The first build proves every crate and takes minutes. If nothing changed, nothing is built again. See docs/PACKAGING.md.
 
 PREFIX = /usr/local
 DESTDIR =
@@ -21,19 +21,19 @@ ZSHDIR = $(PREFIX)/share/zsh/site-functions
 FISHDIR = $(PREFIX)/share/fish/vendor_completions.d
 # the prefix as exifnorm.pc has it
 PCPREFIX = $(PREFIX)
-# the list of what install wrote, by which uninstall removes it
+# the list of installed files, which uninstall follows
 MANIFEST = $(PREFIX)/share/exifnorm/installed
-# strips the shared library that is installed; empty: it stays as it was linked
+# strips the installed shared library; if empty, it stays as it was linked
 STRIP = strip
 PYTHON = python3
-# what the first line of exifnorm-pictures names, where that isn't the file of PYTHON
+# what the first line of exifnorm-pictures names, if that isn't the file of PYTHON
 INTERPRETER =
 # the first folder below PREFIX in which that Python looks for packages, or the usual one
 PYTHONDIR = $(eval PYTHONDIR := $(shell '$(PYTHON)' -c 'import site, sys; below = sys.argv[1] + "/lib"; \
     print(next((it for it in site.getsitepackages() if it.startswith(below)), \
     "%s/python%d.%d/site-packages" % (below, *sys.version_info[:2])))' '$(PREFIX)'))$(PYTHONDIR)
 
-# each of these is looked up where it is first used, and once
+# each of these is computed once, when it is first used
 VERSION = $(eval VERSION := $(shell sed -n 's/^pub const VERSION: &str = "\(.*\)";$$/\1/p' crates/px_engine/src/version.rt))$(VERSION)
 SONAME = libexifnorm.so.1
 built = out/lib
@@ -44,7 +44,7 @@ packages = $(eval packages := $(patsubst python/%/__init__.py,%,$(shell find pyt
 pages = $(wildcard docs/*.1 docs/*.3)
 # the licences, and the documents that installed pages, documents and modules refer to
 papers = LICENSE-APACHE LICENSE-MIT CHANGELOG.md $(addprefix docs/,DECISIONS.md FORMAT.md RECIPES.md REFUSALS.md)
-# all that is installed, before it is copied to where it belongs
+# all that is installed, before it is copied to its folder
 stage = out/stage
 
 .PHONY: all program library check stage install uninstall wheel dist
@@ -52,7 +52,7 @@ stage = out/stage
 
 all: program library
 
-# ./exifnorm builds the program where that is due.
+# ./exifnorm builds the program if a source has changed.
 program:
 	@./exifnorm --help >/dev/null
 

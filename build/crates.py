@@ -44,8 +44,8 @@ def below(crate: str, uses: dict[str, list[str]]) -> list[str]:
 def chains(crate: str, uses: dict[str, list[str]]) -> dict[str, int]:
     """The length of the longest chain of crates above each: the longer, the sooner it is proved.
 
-    >>> chains("d", {"d": ["c", "late"], "c": ["b"], "b": ["a"], "late": ["a"], "a": []})
-    {'d': 0, 'a': 3, 'b': 2, 'c': 1, 'late': 1}
+    >>> chains("d", {"d": ["late", "c"], "c": ["b"], "b": ["a"], "late": ["a"], "a": []})
+    {'d': 0, 'a': 3, 'late': 1, 'b': 2, 'c': 1}
     """
     found = dict.fromkeys([crate, *below(crate, uses)], 0)
     for it in [crate, *reversed(below(crate, uses))]:

@@ -36,9 +36,12 @@ def library(crates: Crates, crate: str) -> Path:
 
 
 def is_of_the_gate(built: Path, mark: int) -> bool:
-    """Whether `rt ci` has built a library since the mark: those of other commands have a stamp."""
-    files = [it for it in built.rglob("*") if it.is_file()]
-    return bool(files) and all(it.stat().st_mtime_ns > mark for it in files) and not (built.parent / "stamp").exists()
+    """Whether `rt ci` has put a library there since the mark: those of other commands have a stamp. It makes the folders, and writes the
+    files or links them there: those that it kept from an earlier run on this machine have their old times, but not for the system."""
+    found = [built, *built.rglob("*")]
+    files = [it for it in found if it.is_file()]
+    is_new = all(it.stat().st_mtime_ns > mark for it in found if it.is_dir()) and all(it.stat().st_ctime_ns > mark for it in files)
+    return bool(files) and is_new and not (built.parent / "stamp").exists()
 
 
 def is_proved(crates: Crates, crate: str) -> bool:

@@ -1,7 +1,7 @@
 #!/bin/sh -
-# Lists all that the program is built from, and the program itself: a line for each file with its name, size, number and times.
-# The quick look of ./exifnorm compares these lines with those from when the program was up to date. The last time is that of the
-# system, which no command can set: an edit, or another file in its place, is seen whatever time it bears and whatever the clock shows.
+# Lists all files from which the program is built, and the program itself: a line for each, with its name, size, inode and times.
+# ./exifnorm compares these lines with those from when the program was last up to date. The last time in a line is the change time, which
+# no command can set. So an edit, or another file in its place, is noticed, whatever its modification time and whatever the clock.
 unset CDPATH
 rt=$(command -v rt)
 case $rt in '' | /*) ;; *) rt=$PWD/$rt ;; esac

@@ -1,7 +1,7 @@
-"""Counts the tests of a part of ./test, for each script under tests/ that is one.
+"""Counts the tests of a script below tests/, as each part of ./test does.
 
-A script prints a line for each test that fails or is skipped. Its last line is `N passed, N failed`, followed by `, N skipped` where
-tests were skipped, and its status is 0 only where something ran and nothing failed. A script of functions:
+A script prints a line for each test that fails or is skipped. Its last line is `N passed, N failed`, with `, N skipped` if tests were
+skipped, and its status is 0 only if something ran and nothing failed. A script of functions:
 
     def test_sums(counter: Counter) -> None:
         counter.check("two and two", 2 + 2 == 4, f"{2 + 2} came")
@@ -79,8 +79,7 @@ class Counter:
             print(f"skipped: {name}: {why}", flush=True)
 
     def run(self, name: str, test: Callable[[], Any]) -> None:
-        """Counts one test that passes where the call returns, is skipped where it raises SkipTest, and fails where it raises
-        anything else.
+        """Counts one test: it passes if the call returns, is skipped if it raises SkipTest, and fails if it raises anything else.
 
         >>> Counter().run("a division", lambda: 1 / 0)  # doctest: +ELLIPSIS
         FAILED a division: ZeroDivisionError: division by zero (...)
@@ -89,7 +88,7 @@ class Counter:
             self._call(name, test) and self.check(name, True)
 
     def collect(self, name: str, test: Callable[["Counter"], Any]) -> None:
-        """Calls a function with a counter for what it checks. To check nothing is a failure, and so is to end with an exception.
+        """Calls a function with a counter for its checks. It is a failure if it checks nothing, or ends with an exception.
 
         >>> Counter().collect("an empty table", lambda counter: [counter.check(it, True) for it in ()])
         FAILED an empty table: it checked nothing
@@ -114,7 +113,7 @@ class Counter:
         return False
 
     def finish(self) -> int:
-        """Prints the last line, and returns the status to end with.
+        """Prints the last line, and returns the exit status.
 
         >>> Counter().finish()
         FAILED: no test ran
@@ -140,7 +139,7 @@ def reason(why: BaseException) -> str:
 
 
 def examples(module: ModuleType) -> None:
-    """Runs the examples of a module's docstrings. It is a failure where one is wrong, and where there is none."""
+    """Runs the examples of a module's docstrings. A wrong example is a failure, and so is a module without any."""
     with mock.patch.dict(os.environ):
         os.environ.pop("TEST_ONLY", None)
         found = doctest.testmod(module)
@@ -149,7 +148,7 @@ def examples(module: ModuleType) -> None:
 
 
 def run_tests(tests: Iterable[Callable[[Counter], Any]]) -> int:
-    """Runs functions that check, each named by its own name, prints the last line and returns the status to end with."""
+    """Runs test functions, each under its own name, prints the last line, and returns the exit status."""
     counter = Counter()
     for test in tests:
         counter.collect(test.__name__, test)
@@ -223,12 +222,12 @@ def tests_in(suite: unittest.TestSuite) -> Iterable[unittest.TestCase]:
 
 
 def run_suite(suite: unittest.TestSuite) -> int:
-    """Runs a suite of unittest, prints the last line and returns the status to end with."""
+    """Runs a suite of unittest, prints the last line, and returns the exit status."""
     counter = Counter()
     unittest.TestSuite(it for it in tests_in(suite) if counter.asks(name_of(it))).run(Outcomes(counter))
     return counter.finish()
 
 
 def run_module(module: ModuleType) -> int:
-    """Runs the unittest tests of a module, prints the last line and returns the status to end with."""
+    """Runs the unittest tests of a module, prints the last line, and returns the exit status."""
     return run_suite(unittest.defaultTestLoader.loadTestsFromModule(module))

@@ -1,6 +1,5 @@
-"""The folders of the repository that tests use. Whoever imports this module finds the modules of all tests, except tests/pictures/.
-
-A script, which Python starts with its own folder alone, begins with:
+"""The folders of the repository that tests use. After an import of this module, Python finds the modules of all tests, except those of
+tests/pictures/. Python starts a script with only the script's own folder, so the script begins with:
 
     sys.path.insert(0, str(Path(__file__).resolve().parent.parent))
     import paths

@@ -1,4 +1,4 @@
-"""Blocks that are nearly in order: known ones, changed by chance, the same in every run."""
+"""Blocks with few faults: known ones with random changes, which are the same in every run."""
 
 from random import Random
 
@@ -49,7 +49,7 @@ CHANGES = [one_bit, one_byte, one_number, one_number, a_cut, a_part_taken_away, 
 
 
 def changed(block, count):
-    """So many blocks, each with one change or a few; none of them is empty."""
+    """A number of blocks, each with one change or a few; none is empty."""
     chance = Random(len(block))
     for _ in range(count):
         octets = bytearray(block)

@@ -1,4 +1,4 @@
-"""Blocks of every kind that is accepted, made from their meanings, each with the expected result of every command.
+"""Accepted blocks of every kind, made from their meanings, each with the expected result of every command.
 
 Two layouts of each meaning are made: in either byte order, with parts moved and gaps and spare bytes filled by chance (the same
 chance in every run).
@@ -7,6 +7,7 @@ chance in every run).
 from dataclasses import dataclass
 from random import Random
 
+import orders
 from meanings import *  # noqa: F403 (the numbers of the types)
 from meanings import Exif, Layout, Record, Value, laid
 
@@ -131,7 +132,9 @@ def records():
     keywords = [(2, 25, bytes(f"keyword {i}", "ascii").ljust(1000, b".")) for i in range(70)]
     some = [(1, 90, b"\x1b\x25\x47"), (2, 80, b"A"), (2, 5, b"T\xc3\xa9"), (2, 85, b"a"), (2, 80, b"B"), (2, 120, b"c\\\n"), (2, 0, b"\0\2")]
     long = [(2, 120, Random(11).randbytes(40_000)), (7, 20, b""), (0, 0, b"x"), (255, 255, b"y")]
-    for name, datasets in (("some captions", some), ("70 keywords of 1,000 octets", keywords), ("a caption of 40,000 octets", long)):
+    each = [(record, number, b"%d:%d" % (record, number)) for record in (3, 2, 1) for number in range(255, -1, -1)]
+    told = {"some captions": some, "70 keywords of 1,000 octets": keywords, "a caption of 40,000 octets": long, "a DataSet of each number": each}
+    for name, datasets in told.items():
         record = Record(datasets)
         yield Kind(name, record, [record.spelled(), record.spelled(extended=3, zeros=3)])
         fields = {0x010F: Value(ASCII, b"Maker\0"), 0x8298: Value(ASCII, b"nobody\0")}
@@ -157,32 +160,49 @@ def many_strips():
 
 
 def strips_far_apart():
-    """The last range that is claimed below a strip is always far below it."""
+    """Strips of which each is far above the last claimed range below it."""
     count = 1_000_000
     layout = Layout(">", shuffled=True, gap=14, chance=OfStrips(count, -1))
     yield exif("a million strips far apart, descending", Exif(dict(ORIENTATION), thumb={}, strips=[b"x"] * count), layout)
 
 
+def of_record(name, record):
+    return Kind(name, record, [record.spelled()])
+
+
 def many_datasets():
-    many = Record([(2, 25, b"")] * 3_300_000)
-    yield Kind("3.3 million empty keywords", many, [many.spelled()])
+    yield of_record("3.3 million empty keywords", orders.record([(2, 25)] * 3_355_000))
 
 
 def many_groups():
-    groups = Record([(record, number, b"") for record in range(256) for number in range(256)])
+    groups = orders.record(orders.in_turn(orders.ALL))
     falling = Record([it for _, them in reversed(groups.groups().items()) for it in them])
     yield Kind("65,536 DataSets, each of another name", groups, [groups.spelled(), falling.spelled(extended=1)])
     yield exif("65,536 DataSets, each of another name, inside an Exif block", Exif({}, record=groups))
 
 
-def groups_in_turn():
-    turns = Record([(3, i % 256, b"") for i in range(1_000_000)])
-    yield Kind("a million DataSets of 256 names in turn", turns, [turns.spelled()])
-    yield exif("a million DataSets of 256 names in turn, inside an Exif block", Exif({}, record=turns))
+def bad_orders():
+    """Orders for which lists of each group would take the most time or memory."""
+    yield of_record("3.3 million empty DataSets of all names in turn", orders.record(orders.in_turn(50 * orders.ALL)))
+    yield of_record("3.3 million empty DataSets of random names", orders.record(orders.random(50 * orders.ALL)))
+    yield of_record("four empty DataSets of each name, ascending", orders.record(orders.ascending(4 * orders.ALL)))
+    yield of_record("four empty DataSets of each name, in turn", orders.record(orders.in_turn(4 * orders.ALL)))
+    yield of_record("an empty DataSet of each name, in random order", orders.record(orders.shuffled()))
+    turns = orders.record(orders.in_turn(4 * orders.ALL, 256))
+    yield exif("262,144 empty DataSets of 256 names in turn, inside an Exif block", Exif({}, record=turns))
+
+
+def random_records():
+    """Records of random names and lengths. The first is one DataSet longer than what a file's list doubles up to."""
+    yield of_record("a megabyte of empty DataSets of random names", orders.record(orders.random((1 << 20) // 5 + 1, seed=5)))
+    for seed in range(6, 9):
+        chance = Random(seed)
+        names = orders.random(chance.randrange(65, 100_000), seed)
+        yield of_record(f"DataSets of random names and lengths, {seed}", Record([(*it, chance.randbytes(chance.randrange(9))) for it in names]))
 
 
 def long_values():
-    yield exif("one value up to the limit", Exif({0xFD00: Value(UNDEFINED, bytes(16_777_190))}), Layout(">"))
+    yield exif("one value up to the limit", Exif({0xFD00: Value(UNDEFINED, bytes(LIMIT - 26))}), Layout(">"))
     numbers = {0xFD00: Value(SHORT, range(65_536)), 0xFD01: Value(DOUBLE, range(100_000)), 0xFD02: Value(SLONG, range(-50_000, 50_000))}
     yield exif("long values of SHORT, DOUBLE and SLONG", Exif(numbers))
     yield exif("four million SHORTs", Exif({0xFD00: Value(SHORT, [it % 65_536 for it in range(4_000_000)])}))
@@ -194,7 +214,7 @@ def long_values():
 
 
 class OfStrips(Random):
-    """A chance that moves the strips alone: it leaves them in ascending order, turns them round, or mixes them."""
+    """A source of chance that only moves the strips: in ascending order, in descending order, or shuffled."""
 
     def __new__(cls, *_):
         return super().__new__(cls, 2)
@@ -213,11 +233,12 @@ class OfStrips(Random):
 
 
 def small_kinds():
-    """Blocks of every kind that is accepted."""
+    """Accepted blocks of every kind."""
     return [*types(), *camera(), *thumbnails(), *directories(), *records()]
 
 
 def large_kinds():
-    """Blocks for which anything quadratic would take hours, or that contain as much as a block may, one after the other."""
-    for make in (many_fields, placed_values, many_strips, strips_far_apart, many_datasets, many_groups, groups_in_turn, long_values):
+    """Large blocks: some for which a quadratic step would take hours, and some of the greatest length."""
+    makers = many_fields, placed_values, many_strips, strips_far_apart, many_datasets, many_groups, bad_orders, random_records, long_values
+    for make in makers:
         yield from make()

@@ -1,4 +1,4 @@
-"""Meanings of blocks, laid out in any way, and the normal form, the listing and the captions that are expected of them.
+"""Meanings of blocks: laid out in any way, and their expected normal form, listing and captions.
 
 This follows docs/FORMAT.md and shares nothing with the program: it starts from a meaning, writes a block with it, and reads no
 block. `Exif` is the meaning of an Exif block, and `Record` is a caption record.

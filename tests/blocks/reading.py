@@ -1,7 +1,8 @@
-"""The meaning of a file, or the first fault of its block, by the rules of docs/FORMAT.md, sections 2, 3 and 5.
+"""The meaning of a file, or the first fault of its block, by the rules of docs/FORMAT.md, sections 2, 3 and 5; and the causes of
+refusal, each with a block that is refused for it.
 
-It is written as those sections are: each check in its order, each byte of the block marked once a range covers it, nothing made
-quick. It has nothing in common with the program, so that any block can be judged by both.
+It follows these sections step by step: it makes each check in its order, marks each byte that a range covers, and is not made fast.
+It shares nothing with the program, so that any block can be judged by both. All tests take the causes from here.
 """
 
 import struct
@@ -15,7 +16,7 @@ JPEG_PARTS, STRIP_PARTS = (JPEG_OFFSET, JPEG_LENGTH), (STRIP_OFFSETS, STRIP_LENG
 
 
 class Fault(Exception):
-    """A block is refused, by a cause and a place."""
+    """A refusal, with its cause and its byte offset."""
 
     def __str__(self):
         cause, place = self.args
@@ -56,7 +57,7 @@ def datasets(block):
 
 
 def record_in(octets):
-    """The record that these octets are, where they are one."""
+    """The record that these octets encode, if they are one."""
     try:
         return Record(datasets(octets))
     except Fault:
@@ -75,7 +76,7 @@ def exif_block(block):
 
 
 class Entry:
-    """One entry of a table: its place, what it holds, and its value's bytes once they are known to be inside the block."""
+    """One entry of a table: its offset, its parts, and the bytes of its value once they are known to be inside the block."""
 
     def __init__(self, block, place):
         self.place = place
@@ -91,7 +92,7 @@ class Entry:
 
 
 class Block:
-    """An Exif block with a header, while it is judged: which bytes a range covers, and where directories were read."""
+    """An Exif block with a header, while it is judged: the bytes that ranges cover, and the offsets of the directories that were read."""
 
     def __init__(self, octets, order):
         self.octets, self.order = octets, order
@@ -166,7 +167,7 @@ class Block:
         entry.raw = self.octets[start : start + size]
 
     def thumbnail(self, table, at):
-        """The JPEG and the strips, where they are there."""
+        """The JPEG and the strips, if the block has them."""
         jpeg, strips = ([table.get(tag) for tag in pair] for pair in (JPEG_PARTS, STRIP_PARTS))
         for pair in (jpeg, strips):
             there = [it for it in pair if it]
@@ -184,3 +185,56 @@ class Block:
         check(start + size <= len(self.octets), "ThumbnailOutside", place)
         self.cover(start, size, place)
         return self.octets[start : start + size]
+
+
+# ---- the causes
+
+
+def entry(tag, form, count, last):
+    """An entry of 12 bytes; `last` is a number or the four bytes themselves."""
+    return struct.pack(">HHI", tag, form, count) + (last if isinstance(last, bytes) else struct.pack(">I", last))
+
+
+def table(entries, following=0):
+    return struct.pack(">H", len(entries)) + b"".join(entries) + struct.pack(">I", following)
+
+
+HEADER = b"MM\0*\0\0\0\x08"
+MAKE = entry(0x010F, ASCII, 4, b"Abc\0")
+MODEL = entry(0x0110, ASCII, 4, b"Xyz\0")
+ORIENTATION = entry(0x0112, SHORT, 1, b"\0\1\0\0")
+WHO = entry(0x013B, ASCII, 4, b"Who\0")
+JPEG = b"\xff\xd8\xff\xd9"
+
+
+def block(entries, following=0, tail=b""):
+    return HEADER + table(entries, following) + tail
+
+
+def with_thumbnail(entries, following=0, tail=b""):
+    """A block with one entry in its main directory and these in its thumbnail directory, at 26."""
+    return block([MAKE], 26) + table(entries, following) + tail
+
+
+# Each cause, in the order of docs/FORMAT.md: a block that is refused for it, and the offset of the fault.
+CAUSES = {
+    "TooLong": (block([MAKE]) + bytes(LIMIT), LIMIT),
+    "UnknownKind": (b"<x:xmpmeta/>", 0),
+    "HeaderCut": (b"MM\0*\0\0", 6),
+    "Loop": (block([MAKE], 8), 22),
+    "DirectoryOutside": (block([MAKE, MODEL])[:-4], 4),
+    "EmptyDirectory": (block([MAKE, entry(0x8825, LONG, 1, 38)]) + table([]), 38),
+    "Overlap": (block([MAKE, entry(0x0110, ASCII, 8, 62), entry(0x0131, ASCII, 8, 66), WHO]) + b"Model 1 Program\0", 34),
+    "Unsorted": (block([MODEL, MAKE, ORIENTATION]), 22),
+    "Doubled": (block([MAKE, ORIENTATION, entry(0x0112, SHORT, 1, b"\0\6\0\0")]), 34),
+    "UnknownType": (block([MAKE, entry(0x0110, 13, 1, 8), ORIENTATION]), 22),
+    "MisplacedOffset": (block([MAKE, entry(0x0111, LONG, 1, 8), entry(0x0117, LONG, 1, 8)]), 22),
+    "PointerForm": (block([MAKE, entry(0x8825, SLONG, 1, 38)]) + table([entry(0, BYTE, 4, b"\2\3\0\0")]), 22),
+    "ValueOutside": (block([MAKE, entry(0x0110, ASCII, 40, 50), ORIENTATION]) + b"Model\0", 22),
+    "ThumbnailPair": (with_thumbnail([entry(0x0201, LONG, 1, 44)], 0, JPEG), 28),
+    "ExtraDirectory": (with_thumbnail([MAKE], 44) + table([MODEL]), 40),
+    "ThumbnailOutside": (with_thumbnail([entry(0x0201, LONG, 1, 56), entry(0x0202, LONG, 1, 4000)], 0, JPEG), 28),
+    "NoMarker": (b"\x1c\x02\x19\0\x03one?\x1c\x02\x19\0\x03two", 8),
+    "LengthForm": (b"\x1c\x02\x19\x80\x05\0\0\0\0\x03one", 0),
+    "DataSetCut": (b"\x1c\x02\x19\0\x09one", 0),
+}

@@ -13,13 +13,11 @@ sys.path.insert(0, str(Path(__file__).resolve().parent.parent))
 
 import paths
 from cases import Sweep, read_all
+from reading import CAUSES
 
 DONE, REFUSED, TOO_LONG, SECOND_REFUSED = 0, 2, 3, 6
 KINDS = {"exif": 1, "iim": 2}
-CAUSES = (
-    "TooLong UnknownKind HeaderCut Loop DirectoryOutside EmptyDirectory Overlap Unsorted Doubled UnknownType MisplacedOffset "
-    "PointerForm ValueOutside ThumbnailPair ExtraDirectory ThumbnailOutside NoMarker LengthForm DataSetCut"
-).split()
+NAMES = list(CAUSES)  # of the causes; their numbers count from 1
 
 
 class Unexpected(Exception):
@@ -49,12 +47,12 @@ def fault_in(line):
     found = re.fullmatch(r"refused: (\w+) at (\d+)(?: in file \d)?\n", line)
     if not found:
         raise Unexpected(f"the line {line!r}")
-    return CAUSES.index(found[1]) + 1, int(found[2])
+    return NAMES.index(found[1]) + 1, int(found[2])
 
 
 def said(program, *words, given=None):
     with open(given or os.devnull, "rb") as it:
-        ran = subprocess.run([program, *words], stdin=it, stdout=subprocess.PIPE, timeout=120, check=False)
+        ran = subprocess.run([program, *words], stdin=it, stdout=subprocess.PIPE, timeout=1200, check=False)
     return ran.returncode, ran.stdout
 
 
@@ -82,9 +80,9 @@ def comparison(program, paths, first, second):
 
 
 def blocks_of_cases():
-    """Each block that a case reads, once: small ones and those of many bytes. Of a sweep over many blocks some forty are taken, as
-    each_byte.py judges them all."""
-    found = {}
+    """Each block that a case reads, and one for each cause, once: small ones and those of many bytes. Of a sweep over many blocks some
+    forty are taken, as each_byte.py judges them all."""
+    found = dict.fromkeys(block for block, _ in CAUSES.values())
     for case in read_all(paths.CASES):
         if isinstance(case, Sweep):
             found.update(dict.fromkeys(case.blocks if len(case.blocks) < 300 else case.blocks[:: len(case.blocks) // 40]))

@@ -1,13 +1,13 @@
-/* Calls every export of libexifnorm with blocks whose answers are known, and compares: statuses, bytes, and all that must stay
- * as it was.
+/* Calls every export of libexifnorm with blocks whose results are known, and compares the statuses, the bytes, and what must stay
+ * unchanged.
  *
- *   calls once JOBS       each block by itself, each pair, with all the room that is needed, with a byte too little, and with none
+ *   calls once JOBS       each block by itself and each pair, with an output of the length needed, one byte too short, and empty
  *   calls threads JOBS    the same by sixteen threads at once, each on a small stack
- *   calls refused JOBS    each call with the first growth refused, then the second, and so on until none is refused; only where
- *                         this file is compiled with REFUSES_GROWTHS and linked with --wrap for malloc, calloc, realloc and free
+ *   calls refused JOBS    each call with the first allocation failing, then the second, and so on until none fails; only if this
+ *                         file is compiled with REFUSES_GROWTHS and linked with --wrap for malloc, calloc, realloc and free
  *
- * library.py writes the file of jobs, from what the built program answers. Numbers in it have four bytes, least first. Each line
- * that is printed is a failure; the last one says how many calls were made.
+ * library.py writes the file of jobs, with the results of the built program. Its numbers have four bytes, least significant first.
+ * Each printed line is a failure, except the last one, which has the number of calls.
  */
 #define _POSIX_C_SOURCE 200809L
 #include <exifnorm.h>
@@ -74,13 +74,13 @@ static int is_filled(const unsigned char *bytes, size_t length) {
     return 1;
 }
 
-/* ---- growths that are refused */
+/* ---- failed allocations */
 
-static int want_of_memory; /* whether a growth of the last call was refused; then it may answer so */
+static int want_of_memory; /* whether an allocation of the last call failed; then NO_MEMORY is expected */
 
 #ifdef REFUSES_GROWTHS
 static long until_refused, live;
-static size_t asked; /* the bytes of all growths that were asked for, added up */
+static size_t asked; /* the sum of the bytes of all allocations that were requested */
 
 void *__real_malloc(size_t size);
 void *__real_calloc(size_t count, size_t size);
@@ -162,7 +162,7 @@ static void try_check(const struct job *job, uint32_t at, struct seen *seen) {
     }
 }
 
-/* One call for a text, into so much room. */
+/* One call for a text, into an output of this length. */
 static void try_room(const struct job *job, uint32_t at, int which, size_t room, struct seen *seen) {
     const char *name = text_names[which];
     const struct text *due = &job->texts[which];
@@ -186,7 +186,7 @@ static void try_room(const struct job *job, uint32_t at, int which, size_t room,
 #ifdef REFUSES_GROWTHS
     until_refused = 0;
     DUE(live == before, "memory was not given back");
-    /* a form is written into the caller's room: memory is taken for what the block says alone */
+    /* a form is written into the caller's buffer: only the meaning of the block is allocated */
     if (which == 0 && status != EXIFNORM_NO_MEMORY)
         DUE(asked == reading, "the form took memory");
 #endif
@@ -204,7 +204,7 @@ static void try_room(const struct job *job, uint32_t at, int which, size_t room,
         DUE(memcmp(out, due->bytes, due->length) == 0, "other bytes");
         DUE(is_filled(out + due->length, room - due->length) && is_fault(fault, NO_FAULT), "more was written");
     }
-    DUE(is_filled(out + room, BEHIND), "bytes were written behind the room");
+    DUE(is_filled(out + room, BEHIND), "bytes were written after the output");
     free(out);
 }
 
@@ -280,7 +280,7 @@ static int run_threads(const struct jobs *jobs, struct seen *seen) {
 }
 
 #ifdef REFUSES_GROWTHS
-/* The calls are numbered: check, the three texts, and the pairs behind. */
+/* The calls are numbered: check, the three texts, then the pairs. */
 static void try_numbered(const struct jobs *jobs, uint32_t job, int which, struct seen *seen) {
     if (which == 0)
         try_check(&jobs->job[job], job, seen);

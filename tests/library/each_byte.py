@@ -1,9 +1,9 @@
-"""Judges every block that differs from one of the worked blocks in one byte, by the library and by the rules of the format as
-tests/blocks/reading.py tells them.
+"""Judges every block that differs from one of the worked blocks in one byte, by the library and by tests/blocks/reading.py, which
+follows the rules of the format.
 
   each_byte.py NAME ..
 
-NAME is a block of tests/program/cases/blocks.json. Each line that is printed is a failure; the last one says how many blocks there were.
+NAME is a block of tests/program/cases/blocks.json. Each printed line is a failure, except the last one, which has the number of blocks.
 """
 
 import json
@@ -36,7 +36,7 @@ WORKED = [
     "a record in an UNDEFINED field",
     "keyword, caption, keyword",
     "a caption in extended form",
-    "a caption with three zeros behind",
+    "a caption with three zeros after it",
 ]
 
 

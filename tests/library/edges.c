@@ -1,5 +1,5 @@
-/* Calls the library at the edges of what exifnorm.h allows: blocks and room of no bytes, room below and above 64 MB, names into
- * each room, and each status of each call. Each line that is printed is a failure, but the last one, which counts the checks.
+/* Calls the library at the edges of what exifnorm.h allows: empty blocks and outputs, outputs below and above 64 MB, names into an
+ * output of each length, and each status of each call. Each printed line is a failure, except the last one, which counts the checks.
  */
 #define _DEFAULT_SOURCE
 #include <exifnorm.h>
@@ -7,7 +7,11 @@
 #include <string.h>
 #include <sys/mman.h>
 
-enum { UNSET = 0x5EED5EED, FILLER = 0xA5, PAGE = 4096, LARGEST = 16777216, MOST_ROOM = 201326592 };
+enum { UNSET = 0x5EED5EED, FILLER = 0xA5, PAGE = 4096, LARGEST = EXIFNORM_LIMIT, MOST_ROOM = 12 * LARGEST };
+enum { ZEROS = LARGEST - 9, SHORTS = LARGEST / 2 - 256 };
+
+/* The four bytes of a number, the most significant first. */
+#define NUMBER(n) (n) >> 24 & 255, (n) >> 16 & 255, (n) >> 8 & 255, (n) & 255
 
 static unsigned long checks, failures;
 
@@ -29,7 +33,7 @@ enum { CAPTION = sizeof caption - 1 };
 static const char *const caption_texts[] = {"\034\002\170\0\004Vase", "iim\n2:120 4: 56617365\n", "iim\ncharset: not declared\ncaption: Vase\n"};
 static const size_t caption_lengths[] = {9, 22, 40};
 
-/* Memory whose pages are taken once they are touched. */
+/* Memory whose pages are allocated when they are first touched. */
 static unsigned char *room_of(size_t size) {
     unsigned char *got = mmap(NULL, size, PROT_READ | PROT_WRITE, MAP_PRIVATE | MAP_ANONYMOUS | MAP_NORESERVE, -1, 0);
     return got == MAP_FAILED ? NULL : got;
@@ -68,7 +72,7 @@ static void try_no_bytes(void) {
     DUE(exifnorm_compare(&one, 0, &one, 0, &number, &fault) == EXIFNORM_REFUSED && number == UNSET);
 }
 
-/* ---- room below and above 64 MB */
+/* ---- outputs below and above 64 MB */
 
 static void try_room(unsigned char *out, size_t room) {
     for (int i = 0; i < 3; i++) {
@@ -82,7 +86,7 @@ static void try_room(unsigned char *out, size_t room) {
     }
 }
 
-/* A block of as many bytes as there may be, whose captions have three times as many, and one byte more. */
+/* A block of the greatest length, whose captions are three times as long, and one of one byte more. */
 static void try_largest(unsigned char *out) {
     unsigned char *block = room_of(LARGEST + 1);
     struct exifnorm_fault fault = {UNSET, UNSET};
@@ -90,12 +94,13 @@ static void try_largest(unsigned char *out) {
     uint32_t number = UNSET;
     if (!block)
         return;
-    memcpy(block, "\034\002\170\200\004\0\377\377\367", 9); /* a caption of 16,777,207 zeros */
+    const unsigned char head[] = {0x1C, 2, 120, 0x80, 4, NUMBER(ZEROS)};
+    memcpy(block, head, sizeof head); /* a caption that fills the block with zeros */
     DUE(exifnorm_check(block, LARGEST, &number, &fault) == EXIFNORM_DONE && number == EXIFNORM_IIM);
-    DUE(exifnorm_captions(block, LARGEST, out, MOST_ROOM, &written, &fault) == EXIFNORM_DONE && written == 36 + 3 * 16777207UL);
+    DUE(exifnorm_captions(block, LARGEST, out, MOST_ROOM, &written, &fault) == EXIFNORM_DONE && written == 36 + 3UL * ZEROS);
     DUE(memcmp(out + written - 7, "\\00\\00\n", 7) == 0);
     DUE(exifnorm_captions(block, LARGEST, out, written - 1, &written, &fault) == EXIFNORM_TOO_LITTLE_ROOM);
-    DUE(exifnorm_show(block, LARGEST, out, MOST_ROOM, &written, &fault) == EXIFNORM_DONE && written == 21 + 2 * 16777207UL);
+    DUE(exifnorm_show(block, LARGEST, out, MOST_ROOM, &written, &fault) == EXIFNORM_DONE && written == 21 + 2UL * ZEROS);
     DUE(exifnorm_normalise(block, LARGEST, out, LARGEST, &written, &fault) == EXIFNORM_DONE && written == LARGEST);
     DUE(memcmp(out, block, LARGEST) == 0);
     DUE(is_fault(fault, UNSET, UNSET));
@@ -104,7 +109,7 @@ static void try_largest(unsigned char *out) {
     munmap(block, LARGEST + 1);
 }
 
-/* A block whose form is too long: RowsPerStrip of as many SHORTs as there is room for. */
+/* A block whose form is too long: RowsPerStrip with as many SHORTs as fit. */
 static void try_too_long(unsigned char *out) {
     unsigned char *block = room_of(LARGEST);
     struct exifnorm_fault fault = {UNSET, UNSET};
@@ -112,14 +117,15 @@ static void try_too_long(unsigned char *out) {
     uint32_t number = UNSET;
     if (!block)
         return;
-    memcpy(block, "MM\0\052\0\0\0\010\0\001\001\026\0\003\0\177\377\000\0\0\0\032\0\0\0\0", 26); /* 8,388,352 of them */
+    const unsigned char head[] = {'M', 'M', 0, 42, NUMBER(8), 0, 1, 0x01, 0x16, 0, 3, NUMBER(SHORTS), NUMBER(26), NUMBER(0)};
+    memcpy(block, head, sizeof head);
     DUE(exifnorm_check(block, LARGEST, &number, &fault) == EXIFNORM_DONE && number == EXIFNORM_EXIF);
     memset(out, FILLER, PAGE);
     DUE(exifnorm_normalise(block, LARGEST, out, MOST_ROOM, &written, &fault) == EXIFNORM_TOO_LONG && written == UNSET && is(out, PAGE, FILLER));
     DUE(exifnorm_normalise(block, LARGEST, out, 0, &written, &fault) == EXIFNORM_TOO_LONG && written == UNSET);
     DUE(is_fault(fault, UNSET, UNSET));
     DUE(exifnorm_compare(block, LARGEST, block, LARGEST, &number, &fault) == EXIFNORM_DONE && number == 1);
-    DUE(exifnorm_show(block, LARGEST, out, MOST_ROOM, &written, &fault) == EXIFNORM_DONE && written > 2 * 8388352UL);
+    DUE(exifnorm_show(block, LARGEST, out, MOST_ROOM, &written, &fault) == EXIFNORM_DONE && written > 2UL * SHORTS);
     munmap(block, LARGEST);
 }
 
@@ -138,14 +144,14 @@ static void try_name(uint32_t cause, const char *name) {
     }
 }
 
-static void try_names(void) {
-    static const char *const names[] = {"", "TooLong", "UnknownKind", "HeaderCut", "Loop", "DirectoryOutside", "EmptyDirectory", "Overlap",
-        "Unsorted", "Doubled", "UnknownType", "MisplacedOffset", "PointerForm", "ValueOutside", "ThumbnailPair", "ExtraDirectory",
-        "ThumbnailOutside", "NoMarker", "LengthForm", "DataSetCut", ""};
-    for (uint32_t cause = 0; cause < sizeof names / sizeof *names; cause++) {
-        try_name(cause, names[cause]);
-        DUE(strlen(names[cause]) < EXIFNORM_NAME_ROOM);
+/* The causes have these names, in their order, and the numbers from 1. */
+static void try_names(int count, char **names) {
+    for (int at = 0; at < count; at++) {
+        try_name(at + 1, names[at]);
+        DUE(strlen(names[at]) < EXIFNORM_NAME_ROOM);
     }
+    try_name(0, "");
+    try_name(count + 1, "");
     try_name(0xFFFFFFFF, "");
     try_name(0x80000007, "");
 }
@@ -165,14 +171,14 @@ static void try_version(const char *version) {
 int main(int count, char **words) {
     static const size_t rooms[] = {2 * PAGE, 67108863, 67108864, 67108865, 134217728, MOST_ROOM};
     unsigned char *out = room_of(MOST_ROOM);
-    if (count != 2 || !out)
+    if (count < 3 || !out)
         return 2;
     try_no_bytes();
     for (size_t i = 0; i < sizeof rooms / sizeof *rooms; i++)
         try_room(out, rooms[i]);
     try_largest(out);
     try_too_long(out);
-    try_names();
+    try_names(count - 2, words + 2);
     try_version(words[1]);
     printf("%lu checks\n", checks);
     return failures ? 1 : 0;

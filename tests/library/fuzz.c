@@ -1,11 +1,11 @@
 /* Judges blocks in process by the laws of fuzz/laws.h: known blocks, and millions that are made from them by chance.
  *
- *   fuzz CORPUS SEED COUNT    reads the blocks of the file CORPUS, the records first, each behind its length in four
- *                             bytes, least first; then judges COUNT changed ones
+ *   fuzz CORPUS SEED COUNT    reads the blocks of the file CORPUS, the records first, each after its length in four
+ *                             bytes, least significant first; then judges COUNT changed ones
  *   fuzz CORPUS 0 0 FILE ..   judges the blocks of these files, as a fuzzer leaves them
  *
- * Each line that begins with BROKEN is a law that does not hold of a block. Then come the laws and the causes with their numbers.
- * The status is 1 where a law was broken. With -DLIBFUZZER this is a target for libFuzzer or AFL++ (docs/FUZZING.md).
+ * Each line that begins with BROKEN names a law that is false for a block. Then come the laws and the causes with their numbers.
+ * The status is 1 if a law was broken. With -DLIBFUZZER this is a target for libFuzzer or AFL++ (docs/FUZZING.md).
  */
 #include "fuzz/changes.h"
 #include "fuzz/laws.h"
@@ -61,7 +61,7 @@ struct block {
     size_t length;
 };
 
-/* The known blocks, the records first, and behind them those that were made and accepted, as many as there is room for. */
+/* The known blocks, the records first, and after them the accepted ones that were made, as many as fit. */
 static struct block blocks[MOST_BLOCKS];
 static size_t records, known, count;
 

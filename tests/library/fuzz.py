@@ -1,6 +1,6 @@
 #!/usr/bin/env python3
-"""Judges millions of blocks by the built library, in one process, by laws that hold of the answers to any block; then shows that
-the laws are broken by libraries that are wrong.
+"""Judges millions of blocks by the built library, in one process, by laws that are true of the results for any block. Then shows that
+wrong libraries break the laws.
 
   tests/library/fuzz.py LIBRARY [--blocks N] [--seed N] [--corpus FOLDER]
 
@@ -33,6 +33,7 @@ import paths
 from blocks import Blocks
 from counting import Counter, SkipTest
 from kinds import small_kinds
+from reading import CAUSES as ALL_CAUSES
 
 HERE = os.path.dirname(os.path.abspath(__file__))
 TOP = str(paths.TOP)
@@ -41,7 +42,7 @@ CC = ["cc", "-std=c99", "-Wall", "-Wextra", "-Werror", "-O2", "-I", HEADER, "-I"
 SOURCES = [os.path.join(HERE, it) for it in ("fuzz.c", "fuzz/laws.c", "fuzz/changes.c", "fuzz/memory.c")]
 LONGEST = 4096  # longer blocks take longer, and show little more
 BLOCKS, SEED = 4_000_000, 1
-CAUSES = range(2, 20)  # each but TooLong, which takes 16 MB
+CAUSES = range(2, len(ALL_CAUSES) + 1)  # each but TooLong, which takes 16 MB
 WRONG_BLOCKS = 8_000
 
 
@@ -112,7 +113,7 @@ class Fuzz:
         if mistake:
             environment.update(WRONG=mistake, RIGHT=os.path.join(self.library, "libexifnorm.so.1"))
         ran = subprocess.run(
-            [self.program, self.corpus, str(seed), str(blocks)], env=environment, capture_output=True, text=True, timeout=600, check=False
+            [self.program, self.corpus, str(seed), str(blocks)], env=environment, capture_output=True, text=True, timeout=4 * 3600, check=False
         )
         return read_report(ran.returncode, ran.stdout + ran.stderr)
 
@@ -132,6 +133,8 @@ def judge_blocks(fuzz: Fuzz, counter: Counter, seed: int, blocks: int) -> None:
     for cause in CAUSES:
         met = sum(it.causes.get(cause, 0) for it in reports)
         counter.check(f"cause {cause}: met", met >= blocks // 20_000, f"{met} times of {blocks}")
+    others = {cause: count for it in reports for cause, count in it.causes.items() if count and cause not in CAUSES}
+    counter.check("no other cause", not others, others)
     accepted, records = sum(it.accepted for it in reports), sum(it.records for it in reports)
     counter.check("a fifth is accepted", accepted >= blocks // 5, accepted)
     counter.check("of either kind", records >= blocks // 100 and accepted - records >= blocks // 20, (accepted, records))
@@ -185,7 +188,7 @@ def try_target(fuzz: Fuzz, counter: Counter, tool: str) -> None:
     options = ["-runs=20000", "-seed=1", "-max_len=4096", corpus] if tool == "clang" else [os.path.join(corpus, "known-0000")]
     for name, environment in (("right", {"LD_LIBRARY_PATH": fuzz.library}), ("wrong", {"LD_LIBRARY_PATH": fuzz.wrong, "WRONG": "FORM_CUT"})):
         environment["RIGHT"] = os.path.join(fuzz.library, "libexifnorm.so.1")
-        ran = subprocess.run([target, *options], cwd=fuzz.room, env=environment, capture_output=True, text=True, timeout=600, check=False)
+        ran = subprocess.run([target, *options], cwd=fuzz.room, env=environment, capture_output=True, text=True, timeout=4 * 3600, check=False)
         is_due = ran.returncode == 0 if name == "right" else "BROKEN" in ran.stdout and ran.returncode != 0
         counter.check(f"{tool}'s target with the {name} library", is_due, (ran.stdout + ran.stderr)[-500:])
 

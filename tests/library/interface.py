@@ -1,6 +1,6 @@
 #!/usr/bin/env python3
-"""Tests the interface of the C library: the header's names and prototypes against the sources, the manual page and the exports, and
-the calls at the edges of what they allow.
+"""Tests the interface of the C library: the header's names and prototypes against the sources, the manual page and the exports, and the
+calls with arguments at the limits of what is allowed.
 
   tests/library/interface.py LIBRARY
 
@@ -18,8 +18,10 @@ sys.dont_write_bytecode = True
 sys.path.insert(0, str(Path(__file__).resolve().parent.parent))
 
 import paths
+from answers import NAMES
 from counting import Counter
-from library import CAUSES, EXPORTS, HEADER, PARTS, TOP, due, need, run, tests_of, text_of
+from library import EXPORTS, HEADER, PARTS, TOP, due, need, run, tests_of, text_of
+from meanings import LIMIT
 
 STRICT = ["-Wall", "-Wextra", "-pedantic", "-Werror", "-Wundef", "-Wstrict-prototypes", f"-I{HEADER}"]
 COMPILERS = (["cc", "-std=c99"], ["cc", "-std=c11"], ["c++", "-std=c++11", "-x", "c++"])
@@ -41,31 +43,33 @@ def prototypes(text):
 
 
 def page_prototypes():
-    """Those of the manual page's synopsis."""
+    """The prototypes in the manual page's synopsis."""
     synopsis = re.search(r"^\.SH SYNOPSIS\n(.*?)^\.SH", text_of("docs", "exifnorm.3"), re.M | re.S)[1]
     # the words of a line with .BI are printed without the spaces that part them
     return prototypes(" ".join("".join(shlex.split(it[4:])) for it in synopsis.splitlines() if it.startswith(".BI ")))
 
 
-def number_in(pattern, *path):
-    """The number that a source names."""
-    found = re.findall(pattern, text_of(*path))
-    due(len(found) == 1, f"{path[-1]} has {len(found)} of {pattern}")
-    return int(found[0].replace("_", ""))
-
-
 def numbers_of_the_sources():
     """The numbers that the header's names must have, from the sources in Rattle."""
-    known = {"EXIFNORM_LIMIT": number_in(r"pub const LIMIT: u32 = ([\d_]+);", "crates", "px_bytes", "src", "blocks.rt")}
+    known = {"EXIFNORM_LIMIT": LIMIT}
     statuses = re.findall(r"pub const (\w+): u32 = (\d+);", text_of("crates", "px_c", "src", "statuses.rt"))
     known.update((f"EXIFNORM_{name}", int(number)) for name, number in statuses)
     table = text_of("crates", "px_bytes", "src", "causes.rt")
     causes = re.findall(r"^ +(\d+) => Some\(Cause::(\w+)\),$", table, re.M)
-    due([name for _, name in causes] == CAUSES, "causes.rt has other causes")
-    due(re.findall(r'^ +Cause::\w+ => b"(\w+)",$', table, re.M) == CAUSES, "causes.rt has other names")
+    due([name for _, name in causes] == NAMES, "causes.rt has other causes")
+    due(re.findall(r'^ +Cause::\w+ => b"(\w+)",$', table, re.M) == NAMES, "causes.rt has other names")
     spelled = {name: re.sub(r"(?<!^)(?=[A-Z])", "_", name.replace("DataSet", "Dataset")).upper() for _, name in causes}
     known.update((f"EXIFNORM_CAUSE_{spelled[name]}", int(number)) for number, name in causes)
     return {**known, "EXIFNORM_EXIF": 1, "EXIFNORM_IIM": 2, "EXIFNORM_NAME_ROOM": 32}
+
+
+# The statuses that the header describes before each call that has a list of them.
+DESCRIBED = {
+    "check": ["DONE", "REFUSED", "NO_MEMORY"],
+    "normalise": ["DONE", "REFUSED", "TOO_LONG", "NO_MEMORY", "TOO_LITTLE_ROOM"],
+    "compare": ["DONE", "REFUSED", "SECOND_REFUSED", "NO_MEMORY"],
+    "cause_name": ["DONE", "TOO_LITTLE_ROOM"],
+}
 
 
 class Interface:
@@ -98,16 +102,26 @@ class Interface:
         due(dict(re.findall(r"(EXIFNORM_\w+) = (\d+)", header())).keys() < numbers_of_the_sources().keys(), "the header has other names")
         statuses = re.findall(r"pub const (\w+): u32 = (\d+);", text_of("crates", "px_c", "src", "statuses.rt"))
         page = text_of("docs", "exifnorm.3")
-        told = dict(re.findall(r'^\.BR EXIFNORM_(\w+) " \((\d+)\)"', page, re.MULTILINE))
-        due({it: told[it] for it in told if it not in ("EXIF", "IIM")} == dict(statuses), "other statuses in the manual page")
-        causes = re.findall(r"^(\d+)\t(\w+)\t", page, re.MULTILINE)
-        due(causes == [(str(i + 1), it) for i, it in enumerate(CAUSES)], "other causes in the manual page")
+        told = dict(re.findall(r'^\.BR EXIFNORM_(\w+) " \((\d+)\)\.?"', page, re.MULTILINE))
+        due(told == {**dict(statuses), "EXIF": "1", "IIM": "2"}, "other statuses or kinds in the manual page")
         code = "import exifnorm; print(*(f'{it.name}={it.value}' for it in exifnorm.Status))"
         due(dict(it.split("=") for it in self.python(code).split()) == dict(statuses), "other statuses in Python")
-        code = "from exifnorm import _calls as c; print(*(c._text(c.library().exifnorm_cause_name, i) for i in range(1, 21)))"
-        due(self.python(code).split() == CAUSES, "the library names other causes")
-        code = "from exifnorm import _library as it; print(it.LIMIT, it.NAME_ROOM, it.NAME)"
-        due(self.python(code).split() == ["16777216", "32", "libexifnorm.so.1"], "other numbers in Python")
+        code = f"from exifnorm import _calls as c; print(*(c._text(c.library().exifnorm_cause_name, i) for i in range(1, {len(NAMES) + 2})))"
+        due(self.python(code).split() == NAMES, "the library names other causes")
+        code = "from exifnorm import LIMIT, _library as it; print(LIMIT, it.NAME_ROOM, it.NAME)"
+        due(self.python(code).split() == [str(LIMIT), "32", "libexifnorm.so.1"], "other numbers in Python")
+
+    def describes_the_statuses_of_each_call(self):
+        for name, statuses in DESCRIBED.items():
+            comment = header().partition(f"\nuint32_t exifnorm_{name}(")[0].rpartition("/*")[2]
+            due(re.findall(r"^ \*   ([A-Z_]+)  +\w", comment, re.M) == statuses, f"{name}: {comment}")
+
+    def promises_the_same_as_its_page(self):
+        page, callers = text_of("docs", "exifnorm.3"), text_of("tests", "library", "library.py") + text_of("tests", "library", "calls.c")
+        for text in (header(), page):
+            due(re.findall(r"stack of (\d+) KiB", text) == ["256"], "another size of the stack")
+        due("ulimit -s 256 &&" in callers and "STACK = 256 * 1024 " in callers, "the callers of the tests have another stack")
+        due("at most twice as many bytes as its block" in header() and "\n.I 2 * block_length\n" in page, "another size of a form")
 
     def has_one_version(self):
         version = re.search(r'VERSION: &str = "(.*)";', text_of("crates", "px_engine", "src", "version.rt"))[1]
@@ -119,7 +133,7 @@ class Interface:
         due(prototypes(header()) == page_prototypes(), f"the header has {prototypes(header())}, and the page {page_prototypes()}")
 
     def has_a_header_with_the_numbers_of_the_sources(self):
-        """What compilers make of the header's names, included twice, are the numbers of the sources in Rattle."""
+        """The header can be included twice, and gives its names the numbers of the sources in Rattle."""
         names = sorted(set(re.findall(r"^(?:#define | +)(EXIFNORM_[A-Z_]+)(?= = | \d)", header(), re.M)))
         source = os.path.join(self.room, "names.c")
         lines = [f'    printf("%s %lld\\n", "{it}", (long long){it});' for it in names]
@@ -155,7 +169,7 @@ class Interface:
         for name, library in (("shared", [self.shared, f"-Wl,-rpath,{self.library}"]), ("static", [self.archive])):
             program = os.path.join(self.room, f"edges-{name}")
             run("cc", "-std=c99", "-O1", *STRICT, os.path.join(PARTS, "edges.c"), "-o", program, *library)
-            said = run(program, version)
+            said = run(program, version, *NAMES)
             due(re.fullmatch(r"[1-9]\d{3}\d* checks\n", said), f"{name}: it said {said[:500]}")
 
     def python(self, code):

@@ -4,8 +4,8 @@ installs everything into an empty folder, and uses it from there.
 
   tests/library/library.py PROGRAM
 
-It needs make, cc, ld and objcopy besides Python 3; tests with valgrind, man, bash and pkg-config are skipped where these are not
-installed. interface.py tests the header.
+It needs make, cc, ld and objcopy besides Python 3; tests with valgrind, man, bash and pkg-config are skipped if these are not installed.
+interface.py tests the header.
 """
 
 import os
@@ -20,7 +20,8 @@ sys.dont_write_bytecode = True
 sys.path.insert(0, str(Path(__file__).resolve().parent.parent))
 
 import paths
-from answers import CAUSES, all_answers, blocks_of_cases, write_jobs
+from answers import all_answers, blocks_of_cases, write_jobs
+from costs import Costs
 from counting import Counter, SkipTest
 
 TOP = str(paths.TOP)
@@ -36,7 +37,7 @@ LARGE = 40_000  # blocks of more bytes are called less often
 
 
 class Failed(Exception):
-    """A test failed, for this reason."""
+    """The reason why a test failed."""
 
 
 def text_of(*path):
@@ -239,7 +240,7 @@ def main(words):
         sys.exit(__doc__)
     program, counter = os.path.abspath(words[0]), Counter()
     with tempfile.TemporaryDirectory() as room:
-        for name, test in [*tests_of(Library(program, room)), *tests_of(Installed(program, room))]:
+        for name, test in [*tests_of(Library(program, room)), *tests_of(Costs(CC, ARCHIVE, room)), *tests_of(Installed(program, room))]:
             counter.run(name, test)
     return counter.finish()
 

@@ -45,7 +45,7 @@ PIEXIF = Made(
 #     "Exif": {33434: (1, 60), 34855: (100, 200), 36864: b"0231", 37380: (-1, 3), 37500: b"note of a maker", 40963: 70000},
 #     "GPS": {0: (2, 3, 0, 0), 1: b"N", 2: ((52, 1), (22, 1), (1, 7))},
 #     "1st": {259: 6, 282: (72, 1)}, "thumbnail": a JPEG of 15 bytes})
-# piexif leaves out the four bytes behind the entries of the Exif directory, so that its table and its first value share them. The
+# piexif leaves out the four bytes after the entries of the Exif directory, so that its table and its first value share them. The
 # entry of that value is the first of the directory, at 114.
 PIEXIF_REFUSED = bytes.fromhex(
     "4578696600004d4d002a000000080007010000040000000100000fa0010f00020000000600000062011200030000000100060000011a0005"

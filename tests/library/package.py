@@ -1,11 +1,11 @@
 #!/usr/bin/env python3
 """Tests the Python package exifnorm: each public call with its exact result on blocks that other tools wrote, each argument, each
-exception, where the library is looked for, and what the calls cost, counted.
+exception, where the library is searched for, and the counted cost of the calls.
 
   tests/library/package.py LIBRARY
 
-LIBRARY is the folder with libexifnorm.so.1 and exifnorm.h. What is expected of other blocks comes from meanings.py and reading.py, which
-know nothing of the library. It needs cc besides Python 3.
+LIBRARY is the folder with libexifnorm.so.1 and exifnorm.h. The expected results for other blocks come from meanings.py and reading.py,
+which don't use the library. It needs cc besides Python 3.
 """
 
 import array
@@ -41,7 +41,7 @@ import made_by_tools
 from counting import Counter
 from exifnorm import _library, _listings
 from kinds import small_kinds
-from meanings import LONG, SHORT, Exif, Layout, Record, Value, laid
+from meanings import LABELS, LIMIT, LONG, SHORT, Exif, Layout, Record, Value, laid
 from reading import Fault, said
 
 ROOM = ""  # a folder for this run
@@ -53,7 +53,7 @@ ONE = bytes.fromhex("4d4d002a00000008 0001 0112 0003 00000001 00060000 00000000"
 LOOP = ONE[:-4] + bytes.fromhex("00000008")
 CAPTION = b"\x1c\x02\x78\x00\x04Vase"
 # numbers of RowsPerStrip, which take two bytes here, and four in the form: its form is too long
-NUMBERS = [*range(1000), *bytes(4_200_000)]
+NUMBERS = [*range(1000), *bytes(LIMIT // 4)]
 LONG_FORM = laid(Exif({0x0116: Value(SHORT, NUMBERS)}), Layout("<"))
 
 
@@ -104,7 +104,7 @@ def fields_of_each_kind(counter: Counter) -> None:
 
 
 def fields_that_are_nearly_others(counter: Counter) -> None:
-    """Tags that mean something in one directory alone, and records that are none."""
+    """Tags that have a role in only one directory, and bytes that are nearly a record."""
     Field = exifnorm.Field
     inside = {0x0100: Value(LONG, [7]), 0xA002: Value(LONG, [8]), 0x83BB: Value(7, CAPTION)}
     block = laid(Exif(dict(inside), dict(inside), dict(inside), dict(inside), dict(inside)), Layout("<"))
@@ -115,6 +115,10 @@ def fields_that_are_nearly_others(counter: Counter) -> None:
         due.append(Field(name, 0xA002, "WHOLE" if name == "exif" else "LONG", (8,)))
         due += [Field("record", 0x0278, "DATASET", b"Vase")] if name == "main" else []
     counter.check("one tag in five directories", exifnorm.fields(block) == due, exifnorm.fields(block))
+    rows = laid(Exif({0x0116: Value(LONG, [7])}, {0xA003: Value(LONG, [8])}, thumb={0x0116: Value(SHORT, [9])}), Layout(">"))
+    found = [(it.directory, it.tag, it.type, it.values) for it in exifnorm.fields(rows)]
+    due = [("main", 0x0116, "WHOLE", (7,)), ("exif", 0xA003, "WHOLE", (8,)), ("thumb", 0x0116, "WHOLE", (9,))]
+    counter.check("rows and heights", found == due, found)
     for octets, form in ((b"\x1c\x02\x78\x00\x09Vase", 7), (CAPTION, 2), (b"", 7), (ONE, 7), (b"\x1c", 1)):
         found = exifnorm.fields(laid(Exif({0x83BB: Value(form, octets)}), Layout(">")))
         counter.check(f"no record: {octets!r}", [it[:2] + it[3:] for it in found] == [("main", 0x83BB, octets)], found)
@@ -129,19 +133,18 @@ def forms_that_are_too_long(counter: Counter) -> None:
     counter.check("its kind", exifnorm.kind(LONG_FORM) == "exif")
     counter.check("its form", outcome(exifnorm.normal, LONG_FORM) == ("NormalTooLong",))
     counter.check("its digest", outcome(exifnorm.digest, LONG_FORM) == ("NormalTooLong",))
-    counter.check("what is said of it", str(exifnorm.NormalTooLong()) == "the normal form is longer than 16777216 bytes")
+    counter.check("what is said of it", str(exifnorm.NormalTooLong()) == f"the normal form is longer than {LIMIT} bytes")
     due = [exifnorm.Field("main", 0x0116, "WHOLE", tuple(NUMBERS))]
     counter.check("its fields", exifnorm.fields(LONG_FORM) == due)
     counter.check("its captions", exifnorm.captions(LONG_FORM) == [])
-    counter.check("it says the same as itself", exifnorm.same(LONG_FORM, LONG_FORM) is True)
-    counter.check("a block that is too long", outcome(exifnorm.kind, ONE + bytes(2**24)) == ("Refused", "TooLong", 2**24, None))
-    counter.check("a block that is just long enough", exifnorm.kind(ONE + bytes(2**24 - len(ONE))) == "exif")
+    counter.check("it means the same as itself", exifnorm.same(LONG_FORM, LONG_FORM) is True)
+    counter.check("a block that is too long", outcome(exifnorm.kind, ONE + bytes(LIMIT)) == ("Refused", "TooLong", LIMIT, None))
+    counter.check("a block that is just long enough", exifnorm.kind(ONE + bytes(LIMIT - len(ONE))) == "exif")
 
 
 def captions_once(counter: Counter) -> None:
     """Each caption of a record and of an Exif block is returned once, in the order of the labels."""
-    labels = {5: "title", 120: "caption", 105: "headline", 110: "credit", 115: "source", 116: "copyright", 80: "byline",
-        85: "byline-title", 25: "keyword", 103: "inventory"}  # fmt: skip
+    labels = {number: label for _, them in LABELS for number, label in them.items()}
     datasets = [(2, number, label.encode()) for number, label in reversed(list(labels.items()))]
     for repeats in (1, 2):
         found = [(it.label, it.data) for it in exifnorm.captions(Record(datasets * repeats).spelled())]
@@ -158,9 +161,23 @@ def captions_once(counter: Counter) -> None:
         ("caption", b"\xc3\xa9", "é"),
     ]
     counter.check("texts and a record", found == [exifnorm.Caption(*it) for it in due], found)
+    others = Exif({0x013B: Value(2, b"\xc3\xa9\0")}, thumb={0x013B: Value(129, b"\xc3\xa9\0")})
+    found = exifnorm.captions(laid(others, Layout("<")))
+    counter.check("a type of the thumbnail's directory", found == [exifnorm.Caption("artist", b"\xc3\xa9\0", None)], found)
     for octets in (bytes(range(256)), b"charset: a: b", b"", b"\\0a\n"):
         found = exifnorm.captions(Record([(2, 120, octets)]).spelled())
         counter.check(f"a caption of {octets[:20]!r}", [(it.label, it.data) for it in found] == [("caption", octets)], found)
+
+
+def texts_about_the_size_of_the_kept_buffer(counter: Counter) -> None:
+    """Captions of many DataSets without bytes, whose text is a little shorter or longer than the buffer that calls share."""
+    names = [(2, 85, b"")] * 4000
+    for length in range(65_534, 65_540):
+        head = "iim\ncharset: not declared\n" + "byline-title: \n" * len(names)
+        caption = length - len(head) - len("caption: \n")
+        text = exifnorm._calls.captions_text(Record([*names, (2, 120, b"x" * caption)]).spelled())
+        due = len(text) == length and sorted(text.splitlines()) == sorted(f"{head}caption: {'x' * caption}\n".splitlines()) and text[-1] == "\n"
+        counter.check(f"a text of {length} bytes", due, (len(text), text[-40:]))
 
 
 def digests(counter: Counter) -> None:
@@ -176,10 +193,10 @@ def digests(counter: Counter) -> None:
 
 
 def ways_to_give_a_block(counter: Counter) -> None:
-    """Whatever gives its bytes in one piece."""
+    """Any object with contiguous bytes."""
 
     class Own(bytes):
-        """A kind of bytes of the caller's."""
+        """A subclass of bytes."""
 
         def __len__(self) -> int:
             return 3
@@ -226,7 +243,7 @@ def blocks_of_no_bytes(counter: Counter) -> None:
 
 
 def names_and_arguments(counter: Counter) -> None:
-    due = "Block Caption Field LibraryMissing NormalTooLong Ratio Refused Status Values captions digest fields kind normal same show version"
+    due = "Block Caption Field LIMIT LibraryMissing NormalTooLong Ratio Refused Status Values captions digest fields kind normal same show version"
     counter.check("the public names", sorted(exifnorm.__all__) == due.split(), exifnorm.__all__)
     arguments = {
         "captions": "block",
@@ -286,7 +303,7 @@ def objects(counter: Counter) -> None:
 
 
 def told(code: str, packages: str = PACKAGES, **environment: str) -> str:
-    """What Python prints that runs this code with these variables."""
+    """The output of a Python that runs this code with these variables."""
     kept = {name: value for name, value in os.environ.items() if name not in ("EXIFNORM_LIBRARY", "LD_LIBRARY_PATH", "PYTHONPATH")}
     ran = subprocess.run(
         [sys.executable, "-B", "-c", code],
@@ -362,7 +379,7 @@ print(json.dumps([*(outcome(it, b"ab") for it in calls), outcome(exifnorm.same, 
 
 
 class Watch:
-    """What the library in front of the built one counts."""
+    """The counts of the library in front of the built one."""
 
     def __init__(self) -> None:
         self.library = ctypes.CDLL(WATCHED)
@@ -372,7 +389,7 @@ class Watch:
         return ctypes.c_ulong.in_dll(self.library, f"watched_{name}").value
 
     def of(self, call: Callable, *arguments: Any) -> Dict[str, int]:
-        """How often each call of the library is made by one of the package."""
+        """How often one call of the package makes each call of the library."""
         before = list(self.calls)
         outcome(call, *arguments)
         return {name: now - was for name, now, was in zip(CALLS, self.calls, before) if now != was}
@@ -424,7 +441,7 @@ def calls_of_the_library(counter: Counter) -> None:
         exifnorm.normal(large)
         counter.check("the room of a form", watch.number("room") <= 2 * len(large) + 1, watch.number("room"))
         outcome(exifnorm.normal, LONG_FORM)
-        counter.check("the most room of a form", watch.number("room") <= 2**24 + 1, watch.number("room"))
+        counter.check("the most room of a form", watch.number("room") <= LIMIT + 1, watch.number("room"))
         exifnorm.captions(escaped)
         counter.check("the room of captions, the second time", watch.number("room") == len(said(escaped).captions()), watch.number("room"))
 
@@ -455,7 +472,7 @@ def bytes_that_are_taken(call: Callable, *arguments: Any) -> int:
 
 
 def bytes_of_the_calls(counter: Counter) -> None:
-    """No block is copied, and no form beside the one that is returned."""
+    """No block is copied, and no form but the returned one is made."""
     large = laid(Exif({0x9999: Value(7, bytes(4_000_000))}), Layout("<"))
     for block in (large, bytearray(large), memoryview(large)):
         kind = type(block).__name__
@@ -465,6 +482,8 @@ def bytes_of_the_calls(counter: Counter) -> None:
         counter.check(f"normal of 4 MB as {kind}", taken < 2 * len(large) + 10_000, taken)
     taken = bytes_that_are_taken(exifnorm.normal, ONE)
     counter.check("normal of a small block", taken < 1000, taken)
+    taken = bytes_that_are_taken(outcome, exifnorm.kind, LOOP)
+    counter.check("kind of a small block that is refused", taken < 10_000, taken)
     held = [exifnorm.normal(large) for _ in range(3)]
     tracemalloc.start()
     held.append(exifnorm.normal(large))
@@ -474,7 +493,7 @@ def bytes_of_the_calls(counter: Counter) -> None:
 
 
 def what_is_given_back(counter: Counter) -> None:
-    """A block can be changed and freed after a call, also after one that fails, and nothing is left."""
+    """After a call, also after a failed one, the block can be changed and freed, and nothing stays allocated."""
     calls = [(call, block) for block in (bytearray(ONE), bytearray(LOOP)) for call in OF_BLOCK]
     for call, block in [*calls, (exifnorm.normal, bytearray(LONG_FORM))]:
         outcome(call, block)
@@ -503,7 +522,7 @@ def what_is_given_back(counter: Counter) -> None:
 
 
 def sixteen_threads(counter: Counter) -> None:
-    """Each call by sixteen threads at once returns the same as by one, for blocks whose forms differ in each byte."""
+    """Sixteen threads at once get the same results as one, for blocks whose forms differ in each byte."""
     blocks = [Record([(2, 120, bytes([it]) * (it % 7 + 1) * 900)]).spelled(extended=4) for it in range(16)]
     blocks += [it.block for it in made_by_tools.ALL] + [made_by_tools.PIEXIF_REFUSED, LOOP, b""]
     jobs = [(call, block) for block in blocks for call in OF_BLOCK]
@@ -534,6 +553,7 @@ TESTS = (
     fields_that_are_nearly_others,
     forms_that_are_too_long,
     captions_once,
+    texts_about_the_size_of_the_kept_buffer,
     digests,
     ways_to_give_a_block,
     what_is_no_block,

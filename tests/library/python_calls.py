@@ -22,7 +22,7 @@ from concurrent.futures import ThreadPoolExecutor
 sys.dont_write_bytecode = True
 
 import exifnorm
-from answers import CAUSES, KINDS, REFUSED, TOO_LONG, Answer, Pair
+from answers import KINDS, NAMES, REFUSED, TOO_LONG, Answer, Pair
 
 FAILURES = []
 LITTLE_MEMORY = "--little-memory"
@@ -62,7 +62,7 @@ def read_jobs(path):
 
 
 def outcome(call, *arguments):
-    """What a call returns, or its refusal as (cause, place, side)."""
+    """The result of a call, or its refusal as (cause, place, side)."""
     try:
         return call(*arguments)
     except exifnorm.Refused as why:
@@ -126,7 +126,7 @@ def as_given(block):
 
 def try_block(at, answer):
     kinds = {number: kind for kind, number in KINDS.items()}
-    refusal = (CAUSES[answer.fault[0] - 1], answer.fault[1], None) if not answer.kind else None
+    refusal = (NAMES[answer.fault[0] - 1], answer.fault[1], None) if not answer.kind else None
     form, listing, captions = (it[1] for it in answer.texts)
     for block in as_given(answer.block):
         due(outcome(exifnorm.kind, block) == (refusal or kinds[answer.kind]), at, type(block), "another kind")
@@ -147,7 +147,7 @@ def try_block(at, answer):
 
 def try_pair(answers, pair):
     side = 1 if pair.status == REFUSED else 2
-    wanted = bool(pair.same) if pair.status == 0 else (CAUSES[pair.fault[0] - 1], pair.fault[1], side)
+    wanted = bool(pair.same) if pair.status == 0 else (NAMES[pair.fault[0] - 1], pair.fault[1], side)
     came = outcome(exifnorm.same, answers[pair.first].block, bytearray(answers[pair.second].block))
     due(came == wanted, pair.first, pair.second, "another comparison")
 

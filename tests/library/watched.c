@@ -1,6 +1,6 @@
-/* A library in front of the built one, which RIGHT names: it counts the calls, and where it is asked to, answers otherwise.
+/* A library in front of the built one, which RIGHT names. It counts the calls, and returns something else on request.
  *
- *   STATUS=N    each call but those for names answers the status N, and does nothing
+ *   STATUS=N    each call but those for names returns the status N, and does nothing
  *   VERSION=V   the version is V
  *   MEET=N      a check waits until so many threads are inside one at the same time, or 60 seconds
  *               have passed
@@ -17,7 +17,7 @@
 
 /* How often each call was made: check, normalise, compare, show, captions, cause_name, version. */
 unsigned long watched_calls[7];
-/* The room that the calls for texts were given: of the last one, and of all. */
+/* The length of the output of the calls for texts: of the last one, and of all together. */
 unsigned long watched_room, watched_rooms;
 /* The most threads that were inside a check at once. */
 unsigned long watched_inside;

@@ -24,7 +24,6 @@ SMALL_JPEG = base64.b64decode(
     "X/xAAWEQADAAAAAAAAAAAAAAAAAAAAFWH/2gAMAwEAAhEDEQA/AMxbS2oLFlhDC+6pfbRBYEMDqn//2Q=="
 )
 
-IIM_CAUSES = ("NoMarker", "LengthForm", "DataSetCut")
 PROGRAMS = {"exiftool": "libimage-exiftool-perl", "exiv2": "exiv2", "convert": "imagemagick", "chromium": "chromium",
             "parallel": "parallel", "sqlite3": "sqlite3", "perl": "perl"}  # fmt: skip
 MODULES = {"piexif": "python3-piexif", "distributed": "python3-distributed", "PIL": "python3-pil", "rdflib": "python3-rdflib"}
@@ -143,7 +142,7 @@ def make_collection(folder):
     write(os.path.join(folder, "normal"), run(["exifnorm"], folder, tool(folder, "exiftool", "-b", "-Exif", first)).stdout)
     tool(folder, "exiftool", "-q", "-overwrite_original", f"-Exif<={os.path.join(folder, 'normal')}", turned)
     os.remove(os.path.join(folder, "normal"))
-    write(os.path.join(pictures, "refused.jpg"), with_exif(read(small), BLOCKS["Overlap"]()))
+    write(os.path.join(pictures, "refused.jpg"), with_exif(read(small), BLOCKS["Overlap"]))
     write(os.path.join(pictures, "notes.txt"), b"no picture\n")
     write(os.path.join(pictures, "bare.jpg"), read(small))
     if shutil.which("convert"):
@@ -166,11 +165,10 @@ def small_tiff():
 def make_refused(folder):
     """A picture for each cause that fits into a JPEG."""
     base = SMALL_JPEG
-    for cause, block in BLOCKS.items():
-        octets = block()
+    for cause, octets in BLOCKS.items():
         write(os.path.join(folder, cause + ".block"), octets)
         if len(octets) < 60000:
-            write(os.path.join(folder, cause + ".jpg"), (with_iptc if cause in IIM_CAUSES else with_exif)(base, octets))
+            write(os.path.join(folder, cause + ".jpg"), (with_iptc if octets.startswith(b"\x1c") else with_exif)(base, octets))
 
 
 def make_many(folder):

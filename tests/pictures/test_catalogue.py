@@ -213,6 +213,48 @@ class Archive(WithPictures):
         self.assertEqual(one[1], {"unchanged": 4, "accepted": 200})
         self.assertEqual(self.rows(), self.rows("d"))
 
+    def test_several_processes_find_what_one_finds(self):
+        """Pictures that are new, the same, moved, refused, no longer readable and never readable: the same lines and the same rows."""
+        for number in range(200):
+            write(self.path("p", f"m{number}.jpg"), with_exif(SMALL_JPEG, block([MAKE[:-4] + b"%03d\0" % number])))
+        self.asked("index", "p", "--catalogue", "c", "--quiet")
+        for name in ("m7.jpg", "m9.jpg", "m150.jpg"):
+            os.rename(self.path("p", name), self.path("p", "sub", name))
+        for name in ("m3.jpg", "never.jpg"):
+            if os.path.exists(self.path("p", name)):
+                os.remove(self.path("p", name))
+            os.mkfifo(self.path("p", name))
+        write(self.path("p", "refused.jpg"), with_exif(SMALL_JPEG, BLOCKS["Overlap"]))
+        write(self.path("p", "trailer.jpg"), ONE + b"a trailer")
+        shutil.copy(self.path("c"), self.path("d"))
+        self.rows_by_path("c")
+        one, several = (self.asked("index", "p", "--catalogue", name, "--quiet", "--again", "--jobs", jobs, status=4)
+                        for name, jobs in (("c", "1"), ("d", "3")))  # fmt: skip
+        self.assertEqual(one, several)
+        self.assertEqual(sum("Moved: to " in it for it in one), 3)
+        self.assertIn(f"{self.path('p', 'trailer.jpg')}: not wholly read: trailer of 9 bytes", one)
+        rows = self.rows_by_path("d")
+        self.assertEqual(self.rows_by_path("c"), rows)
+        query = "SELECT exif, iptc, xmp, not_read FROM pictures WHERE path = ?"
+        base = sqlite3.connect(self.path("d"))
+        self.assertEqual(base.execute(query, (os.fsencode(self.path("p", "never.jpg")),)).fetchone(), (None,) * 4, "nothing is known")
+        base.close()
+        again, of_several = (self.asked("index", "p", "--catalogue", name, "--quiet", "--json", "--again", "--jobs", jobs, status=4)
+                             for name, jobs in (("c", "1"), ("d", "3")))  # fmt: skip
+        self.assertEqual(again, of_several)
+
+    def rows_by_path(self, name):
+        """All that a catalogue has about each picture, without the numbers of rows."""
+        base = sqlite3.connect(self.path(name))
+        self.assertEqual(base.execute("PRAGMA integrity_check").fetchall() + base.execute("PRAGMA foreign_key_check").fetchall(), [("ok",)])
+        found = {}
+        for number, path, *row in base.execute("SELECT * FROM pictures"):
+            query = "SELECT * FROM {} WHERE picture = ? ORDER BY number"
+            parts = [base.execute(query.format(it), (number,)).fetchall() for it in ("blocks", "not_read")]
+            found[path] = (row[:-1], [[one[1:] for one in it] for it in parts])
+        base.close()
+        return found
+
     def test_a_picture_that_is_named_twice(self):
         words = ["index", "p", "p/a.jpg", "p/../p", "p/sub", "--quiet", "--catalogue"]
         self.assertEqual(self.asked(*words, "twice"), ["3 accepted, 1 no block"])
@@ -223,6 +265,67 @@ class Archive(WithPictures):
         self.assertRegex(self.complaint, r"^4 of 4 pictures, \d+ a second\n$")
         self.asked("index", "p", "--catalogue", "e", "--quiet")
         self.assertEqual(self.complaint, "")
+
+
+class Processes(WithPictures):
+    """Several processes look at pictures, of which some are slow, or end the process."""
+
+    def setUp(self):
+        super().setUp()
+        os.mkdir(self.path("p"))
+        for number in range(100):
+            write(self.path("p", f"{number:02}.jpg"), ONE)
+
+    def indexed(self, before):
+        """The states of a run with this text before it, and what it leaves in its folder for temporary files."""
+        text = (
+            "import collections, json, os\nfrom exifnorm_pictures import extraction, index, looking\n"
+            "from exifnorm_pictures.catalogue import Catalogue\nfrom exifnorm_pictures.telling import entry_lines\n"
+            f"{before}\nlines = []\nos.mkdir('room')\n"
+            "how = looking.How(jobs=2, room=os.path.abspath('room'), lines=entry_lines)\n"
+            "with Catalogue('c', make=True) as made:\n"
+            "    counts = index.index(index.Asked([b'p'], quiet=True, how=how, say=lines.append), made)\n"
+            "print(json.dumps([counts, lines, [it for it in os.listdir('room') if it.startswith('rows')]]))"
+        )
+        done = run([sys.executable, "-c", text], self.folder)
+        self.assertEqual(done.returncode, 0, done.stderr)
+        return json.loads(done.stdout)
+
+    def paths(self):
+        base = sqlite3.connect(self.path("c"))
+        found = [os.path.basename(os.fsdecode(it[0])) for it in base.execute("SELECT path FROM pictures WHERE problem IS NULL ORDER BY id")]
+        base.close()
+        return found
+
+    def test_slow_pictures(self):
+        """A process returns what it has after some time; another or the same one looks at the others."""
+        self.assertEqual(self.indexed("looking.LONGEST_WAIT = 0"), [{"accepted": 100}, [], []])
+        self.assertEqual(self.paths(), sorted(os.listdir(self.path("p"))))
+
+    def test_a_picture_that_ends_the_process(self):
+        """It costs one line; all others, also those that were given to the same process, are looked at."""
+        ending = (
+            "read = extraction.blocks_of\n"
+            "extraction.blocks_of = lambda path, *more: os._exit(9) if path.endswith(b'41.jpg') else read(path, *more)"
+        )
+        counts, lines, _ = self.indexed(ending)
+        self.assertEqual(counts, {"accepted": 99, "ToolFailed": 1})
+        self.assertEqual(lines, [self.path("p", "41.jpg") + ": ToolFailed: the process that looked at it died twice"])
+        self.assertEqual(sorted(self.paths()), [it for it in sorted(os.listdir(self.path("p"))) if it != "41.jpg"])
+
+    def test_processes_that_ended_before_they_got_more(self):
+        """The pictures that could not be given to them are looked at as well: those of a new chunk, and those that were left of one."""
+        for wait, number in ((2, 5), (0, 25)):
+            with self.subTest(number):
+                failing = (
+                    f"looking.LONGEST_WAIT = {wait}\nsubmit, calls = looking.ProcessPoolExecutor.submit, []\n"
+                    "def submitted(*words):\n    calls.append(1)\n"
+                    f"    if len(calls) == {number}: raise looking.BrokenProcessPool('it ended')\n"
+                    "    return submit(*words)\nlooking.ProcessPoolExecutor.submit = submitted\n"
+                    "import shutil\nshutil.rmtree('room', True)\nos.path.exists('c') and os.unlink('c')"
+                )
+                self.assertEqual(self.indexed(failing)[:2], [{"accepted": 100}, []])
+                self.assertEqual(sorted(self.paths()), sorted(os.listdir(self.path("p"))))
 
 
 @needs("exiftool")
@@ -282,7 +385,7 @@ class Kinds(WithPictures):
         return json.loads(self.asked("changed", "before", "after", "--json", "--all", status=status)[0])
 
     def test_a_refused_exif_block_hides_no_caption(self):
-        refused = with_exif(SMALL_JPEG, BLOCKS["Overlap"]())
+        refused = with_exif(SMALL_JPEG, BLOCKS["Overlap"])
         found = self.compared(with_iptc(refused, b"\x1c\x02\x78\0\x03one"), with_iptc(refused, b"\x1c\x02\x78\0\x03two"))
         self.assertEqual((found["result"], found["kinds"]), ("different", {"exif": "refused", "iptc": "different", "xmp": "absent"}))
         self.assertEqual(found["fields"], [{"name": "iptc:CaptionAbstract", "before": '"one"', "after": '"two"'}])
@@ -291,7 +394,7 @@ class Kinds(WithPictures):
     def test_refused_pictures_are_in_no_group(self):
         os.mkdir(self.path("p"))
         for name in ("a.jpg", "b.jpg", "gone.jpg"):
-            write(self.path("p", name), with_exif(SMALL_JPEG, BLOCKS["Overlap"]()))
+            write(self.path("p", name), with_exif(SMALL_JPEG, BLOCKS["Overlap"]))
         self.asked("index", "p", "--catalogue", "c", "--quiet")
         os.remove(self.path("p", "gone.jpg"))
         self.asked("index", "p", "--catalogue", "c", "--quiet")
@@ -367,7 +470,7 @@ class Json(WithPictures):
     @needs("exiftool")
     def test_each_command(self):
         os.mkdir(self.path("p"))
-        for name, octets in (("a.jpg", ONE), ("b.jpg", ONE), ("refused.jpg", with_exif(SMALL_JPEG, BLOCKS["Overlap"]())), ("n.txt", b"no\n"),
+        for name, octets in (("a.jpg", ONE), ("b.jpg", ONE), ("refused.jpg", with_exif(SMALL_JPEG, BLOCKS["Overlap"])), ("n.txt", b"no\n"),
                              ("g.gif", GIF)):  # fmt: skip
             write(self.path("p", name), octets)
         self.asked("index", "p", "--catalogue", "old", "--quiet")

@@ -112,9 +112,9 @@ class SameAndChanged(WithPictures):
     def test_refused_in_the_same_bytes_is_no_change(self):
         for side in ("before", "after"):
             os.mkdir(self.path(side))
-            write(self.path(side, "a.jpg"), with_exif(SMALL_JPEG, BLOCKS["Overlap"]()))
+            write(self.path(side, "a.jpg"), with_exif(SMALL_JPEG, BLOCKS["Overlap"]))
         self.assertEqual(self.asked("changed", "before", "after"), ["1 refused, the same bytes"])
-        write(self.path("after", "a.jpg"), with_exif(SMALL_JPEG, BLOCKS["Doubled"]()))
+        write(self.path("after", "a.jpg"), with_exif(SMALL_JPEG, BLOCKS["Doubled"]))
         lines = self.asked("changed", "before", "after", status=2)
         self.assertEqual(lines[0], "a.jpg: refused (Exif is refused, no IPTC and no XMP; Exif: before Overlap at 34, after Doubled at 34)")
 
@@ -204,7 +204,7 @@ class Explain(WithPictures):
         self.assertEqual(self.asked("explain", "picture.jpg"), ["Exif: ok", "IPTC: ok"])
 
     def test_damaged_blocks_never_fail(self):
-        good = BLOCKS["Overlap"]()
+        good = BLOCKS["Overlap"]
         for at in range(0, len(good), 3):
             write(self.path(f"{at:03}"), good[:at] + bytes([255 - good[at]]) + good[at + 1 :])
             write(self.path(f"{at:03}-cut"), good[:at])

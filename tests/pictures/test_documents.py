@@ -1,4 +1,5 @@
-"""Every command in docs/RECIPES.md and docs/REFUSALS.md is run; the page of refusals is that of the program's own texts."""
+"""Every command in docs/RECIPES.md and docs/REFUSALS.md is run, and the README's first example; the page of refusals is that of the
+program's own texts."""
 
 import doctest
 import importlib
@@ -9,7 +10,7 @@ import subprocess
 import sys
 
 from made_blocks import BLOCKS
-from studio import MODULES, PROGRAMS, TOP, Studio, WithPictures, collection, interpreter_with, needs, read
+from studio import MODULES, PROGRAMS, SMALL_JPEG, TOP, Studio, WithPictures, collection, interpreter_with, needs, read, tool, write
 
 # What a section needs besides ExifTool and the folder of pictures.
 WORDS = {"exiv2": "exiv2", "parallel": "parallel", "sqlite3": "sqlite3", "perl": "perl", "dask_scheduler": "distributed"}
@@ -58,6 +59,26 @@ class Documents(WithPictures):
     @needs("exiftool")
     def test_refusals(self):
         self.run_page("REFUSALS.md")
+
+    @needs("exiftool")
+    def test_the_first_example_of_the_readme(self):
+        """Each command succeeds, but the last one, which prints what the README shows, and ends with status 1."""
+        page = read(os.path.join(TOP, "README.md")).decode()
+        commands, printed = re.search(r"(?ms)^```sh\n(.*?)^```$.*?^```text\n(.*?)^```$", page).groups()
+        self.make_two_folders("pictures", "after")
+        ran = [subprocess.run(["bash", "-c", it], cwd=self.folder, capture_output=True, env=Studio.environment()) for it in commands.splitlines()]
+        self.assertEqual([it.returncode for it in ran], [0] * (len(ran) - 1) + [1], [it.stderr for it in ran])
+        self.assertEqual(ran[-1].stdout.decode(), printed)
+        self.assertGreater(len(ran), 2)
+
+    def make_two_folders(self, before, after):
+        """Three pictures with an Exif block, and copies of them, of which one is edited."""
+        os.mkdir(os.path.join(self.folder, before))
+        for name in ("first.jpg", "second.jpg", "third.jpg"):
+            write(os.path.join(self.folder, before, name), SMALL_JPEG)
+            tool(self.folder, "exiftool", "-q", "-overwrite_original", "-Artist=Someone", os.path.join(before, name))
+        shutil.copytree(os.path.join(self.folder, before), os.path.join(self.folder, after))
+        tool(self.folder, "exiftool", "-q", "-overwrite_original", "-Copyright=The Museum", os.path.join(after, "first.jpg"))
 
     def test_refusals_are_the_programs_own_texts(self):
         sys.path.insert(0, os.path.join(TOP, "python"))

@@ -282,7 +282,7 @@ class Outputs(WithPictures):
         super().setUp()
         os.mkdir(self.path("p"))
         write(self.path("p", "a.jpg"), GOOD)
-        write(self.path("p", "refused.jpg"), with_exif(SMALL_JPEG, BLOCKS["Overlap"]()))
+        write(self.path("p", "refused.jpg"), with_exif(SMALL_JPEG, BLOCKS["Overlap"]))
         self.asked("index", "p", "--catalogue", "c", "--quiet")
         self.asked("index", "p", "--catalogue", "d", "--quiet")
 
@@ -362,6 +362,19 @@ class Outputs(WithPictures):
         self.assertEqual(read(self.path("page")), PAGE)
         self.assertEqual(self.asked("index", "p", "--catalogue", "c", "--quiet"), ["2 unchanged"])
         self.asked("index", "p", "--catalogue", "new", "--quiet")
+
+    def test_full_folder_for_temporary_files(self):
+        """Several processes write rows there; what they wrote is removed again."""
+        own = self.path("own")
+        os.mkdir(own)
+        for number in range(100):
+            write(self.path("p", f"{number}.jpg"), GOOD)
+        done = self.full("index", "p", "--catalogue", "c", "--again", "--quiet", "--jobs", "2", TMPDIR=own, blocks=20)
+        self.assertEqual((done.returncode, done.stdout), (4, b""), done)
+        self.assertRegex(done.stderr.decode(), r"^exifnorm-pictures: [^\n]+\n$")
+        self.assertEqual(os.listdir(own), [])
+        self.asked("index", "p", "--catalogue", "c", "--quiet", "--jobs", "2", TMPDIR=own)
+        self.assertEqual(os.listdir(own), [])
 
     def test_streams(self):
         calls = (["same", "--catalogue", "c"], ["show", "p/a.jpg"], ["report", "--catalogue", "c", "--json"], ["changed", "c", "d", "--all"],

@@ -14,7 +14,7 @@ from made_blocks import ASCII, LONG, segment
 from made_files import (
     app1, app1_xmp, app13, chunk, exif, extension, iim, jpeg, mpf, page, png, png_xmp, profile, resource, tiff, title, webp, xmp,
 )  # fmt: skip
-from studio import SMALL_JPEG, TOP, WithPictures, interpreter_with, needs, read, tool, write
+from studio import SMALL_JPEG, TOP, WithPictures, interpreter_with, needs, read, run, tool, write
 
 sys.path.insert(0, os.path.join(TOP, "python"))
 
@@ -76,6 +76,24 @@ class Found(unittest.TestCase):
         apart = found_in(jpeg(app1(A), between, app1(b"more")))
         self.assertEqual([it for it in named(apart) if it[0] == "exif"], [("exif", "Exif", A), ("exif", "second Exif", b"more")])
         self.assertEqual(named(found_in(jpeg(app1(A), app1(b"more"), between)))[0], ("exif", "Exif", A + b"more"))
+
+    def test_what_is_between_two_pieces_of_a_block(self):
+        """A segment of any kind, and a marker without one, end a block: TEM (FF 01) and the restart marks (ITU T.81, B.1.1.3)."""
+        for between in (segment(0xFE, b"comment"), segment(0xE0, b"JFXX\0"), b"\xff\x01", b"\xff\xd0", b"\xff\xd7"):
+            found = named(found_in(jpeg(app1(A), between, app1(b"more"))))
+            self.assertEqual(found, [("exif", "Exif", A), ("exif", "second Exif", b"more")], between)
+            found = named(found_in(jpeg(app13(resource(0x404, K)), between, app13(resource(0x404, L)))))
+            self.assertEqual(found, [("iim", "IPTC", K), ("iim", "second IPTC", L)], between)
+
+    def test_a_picture_without_a_scan(self):
+        head = b"\xff\xd8" + app1(A)
+        for rest, unread in ((b"", []), (b"\xff\xd9", []), (b"\xff\xd9trailer", ["trailer of 7 bytes"]), (segment(0xFE, b"c"), []),
+                             (b"\xff", ["trailer of 1 bytes"])):  # fmt: skip
+            found = found_in(head + rest)
+            self.assertEqual((named(found), [it.what for it in found.not_read]), ([("exif", "Exif", A)], unread), rest)
+        for rest in (b"\xff\xe0", b"\xff\xe0\x01", b"\xff\xe0\0\x01", b"\xff\0", b"no marker"):
+            with self.assertRaises(Broken, msg=rest):
+                found_in(head + rest)
 
     def test_where_a_piece_of_the_file_ends(self):
         """The file is read in pieces of 8,192 bytes: wherever one ends, the segments are the same, and so is what is too short."""
@@ -516,6 +534,36 @@ class Opened(WithPictures):
         os.symlink("nothing", self.path("link"))
         for name, problem in (("pipe", "Unreadable"), ("link", "Vanished"), (".", "Unreadable")):
             self.assertEqual(extraction.blocks_of(os.fsencode(self.path(name))).problem, problem)
+
+    def by_itself(self, text):
+        """The output of a Python program about this folder, which must end soon."""
+        done = run([sys.executable, "-c", "import os, sys\nfrom exifnorm_pictures import extraction\n" + text], self.folder, seconds=30)
+        self.assertEqual(done.returncode, 0, done.stderr)
+        return done.stdout.decode().split()
+
+    def test_a_file_that_becomes_a_pipe(self):
+        """It was a regular file a moment ago. It is not waited for."""
+        write(self.path("a.jpg"), SMALL_JPEG)
+        os.mkfifo(self.path("pipe"))
+        text = "opened = os.open\nos.open = lambda path, *more: opened('pipe', *more)\nprint(extraction.blocks_of(b'a.jpg').problem)"
+        self.assertEqual(self.by_itself(text), ["Unreadable"])
+
+    def test_a_file_that_becomes_shorter(self):
+        write(self.path("a.jpg"), jpeg(app1(A), base=SMALL_JPEG[:-2] + b"\x11" * 400_000 + SMALL_JPEG[-2:]))
+        text = "file = extraction._opened(b'a.jpg')\nos.truncate('a.jpg', 100_000)\nfile.seek(90_000)\nprint(len(file.read(50_000)), file.size)"
+        self.assertEqual(self.by_itself(text), ["10000", str(len(jpeg(app1(A))) + 400_000)])
+
+    def test_each_file_is_closed(self):
+        """Pictures, what is broken, what is no picture, and what is no file."""
+        for name, octets in (("a.jpg", jpeg(app1(A))), ("b.png", png()), ("c.jpg", jpeg(app1(A))[:30]), ("d.txt", b"no picture")):
+            write(self.path(name), octets)
+        os.mkfifo(self.path("pipe"))
+        text = (
+            "extraction.by_others = lambda *_: None\n"
+            "def count(): return len(os.listdir('/proc/self/fd'))\n"
+            "before = count()\nfor name in os.listdir(b'.'): extraction.blocks_of(name)\nprint(count() - before)"
+        )
+        self.assertEqual(self.by_itself(text), ["0"])
 
 
 class Kept(unittest.TestCase):

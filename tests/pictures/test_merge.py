@@ -20,7 +20,7 @@ class Merge(WithPictures):
             os.mkdir(self.path(folder))
             for name in names:
                 write(self.path(folder, name), with_iptc(ONE, b"\x1c\x02\x78\0\x01" + name[:1].encode()))
-        write(self.path("two", "refused.jpg"), with_exif(SMALL_JPEG, BLOCKS["Overlap"]()))
+        write(self.path("two", "refused.jpg"), with_exif(SMALL_JPEG, BLOCKS["Overlap"]))
         write(self.path("two", "trailer.jpg"), ONE + b"\0" * 100 + b"a trailer that isn't known")
         for folder in ("one", "two"):
             self.asked("index", folder, "--catalogue", folder + ".c", "--quiet")

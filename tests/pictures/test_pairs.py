@@ -139,10 +139,10 @@ class Jpeg(Pairs):
         self.same(whole("one"), jpeg(app1_xmp(T)))
 
     def test_a_refusal_hides_no_other_change(self):
-        refused = app1(BLOCKS["Overlap"]())
+        refused = app1(BLOCKS["Overlap"])
         words = self.not_same(jpeg(refused, app13(resource(0x404, K))), jpeg(refused, app13(resource(0x404, L))))
         self.assertEqual(words, "IPTC is different, Exif is refused in the same bytes, no XMP")
-        self.not_same(jpeg(refused), jpeg(app1(BLOCKS["Doubled"]())), "refused")
+        self.not_same(jpeg(refused), jpeg(app1(BLOCKS["Doubled"])), "refused")
         self.not_same(jpeg(refused), jpeg(refused), "refused, the same bytes")
         words = self.not_same(jpeg(app1(A), app1_xmp(b"<x")), jpeg(app1(A), app1_xmp(b"<y")), "unreadable")
         self.assertEqual(words, "Exif is the same, XMP is unreadable, no IPTC")
@@ -327,7 +327,7 @@ class Others(Pairs):
 
     @needs("convert")
     def test_the_program_is_named(self):
-        """Where ExifTool extracted the blocks, also of pictures that are the same, the result says so; that of own readers doesn't."""
+        """If ExifTool extracted the blocks, the result names it, also for equal pictures. The result of the built-in readers names nothing."""
         one, _, copy = self.pair("psd", "-IFD0:Artist")
         for folder, octets in (("before", one), ("after", copy)):
             os.mkdir(self.path(folder))

@@ -55,7 +55,7 @@ class Report(WithPictures):
             for number in range(count):
                 write(self.path("p", f"{maker[:3]}{number}.jpg"), picture(maker.encode()))
         for number in range(REFUSED):
-            octets = with_exif(SMALL_JPEG, BLOCKS["Overlap"]())
+            octets = with_exif(SMALL_JPEG, BLOCKS["Overlap"])
             write(self.path("p", f"refused{number}.jpg"), with_iptc(octets, b"\x1c\x02\x78\0\x01%d" % number))
         for number in range(CHANGED):
             write(self.path("p", f"changed{number}.jpg"), picture(b"Old\0", b"M%02d\0" % number))
@@ -78,7 +78,7 @@ class Report(WithPictures):
         counts = dict(zip(cards[1::2], cards[0::2]))
         self.assertEqual(counts["accepted: all blocks say something"], "17")
         self.assertEqual(counts["with a block that is refused or unreadable"], str(REFUSED))
-        self.assertEqual(counts["say the same as another, in 2 groups"], "8")
+        self.assertEqual(counts["have the same metadata as another, in 2 groups"], "8")
         self.assertEqual(counts["changed since the older catalogue"], str(CHANGED + 3))
         heads = [it for it in page.texts("h3") if re.match(r"\d+ pictures", it)]
         self.assertEqual(heads, ["5 pictures", "3 pictures"])
@@ -94,7 +94,7 @@ class Report(WithPictures):
 
     def test_long_lists_are_cut(self):
         for number in range(100):
-            write(self.path("p", f"z{number:03}.jpg"), with_exif(SMALL_JPEG, BLOCKS["Doubled"]()))
+            write(self.path("p", f"z{number:03}.jpg"), with_exif(SMALL_JPEG, BLOCKS["Doubled"]))
         self.asked("index", "p", "--catalogue", "c", "--quiet")
         self.asked("report", "--catalogue", "c", "--html", "r.html")
         page = Text(read(self.path("r.html")).decode())

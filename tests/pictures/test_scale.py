@@ -23,8 +23,12 @@ COUNTING = """
 import os, sqlite3, sys
 counted = os.open(os.environ["COUNTED"], os.O_WRONLY | os.O_CREAT | os.O_APPEND)
 
+parent = os.getpid()
+
 def note(what):
     os.write(counted, what.encode() + b"\\n")
+    if what == "statement" and os.getpid() == parent:
+        note("own statement")
 
 def heard(event, values):
     if event == "open" and values[1] is None and os.fsencode(values[0]).endswith((b".jpg", b".gif")):
@@ -209,6 +213,17 @@ class Scale(WithPictures):
         self.assertEqual(len(set(moves.values())), 50)
         self.assertEqual(moves["one/00000025.jpg"], "other/00000025.jpg")  # the one with the same name, where there is one
         self.assertEqual(moves["one/00000000.jpg"], "other/00000050.jpg")  # the first one of the others
+
+    def test_statements_of_an_index_by_several_processes(self):
+        """The further processes make the rows; the first one takes over hundreds of them with a few statements."""
+        own = []
+        for count in (400, 800):
+            self.pictures(f"p{count}", count)
+            costs = self.counted("index", f"p{count}", "--catalogue", f"c{count}", "--jobs", "2", "--quiet")
+            own.append(costs["own statement"])
+            self.assertGreater(costs["statement"] - costs["own statement"], 3 * count)  # a picture's row and those of its two blocks
+        self.assertLess(own[1] - own[0], 50)
+        self.assertLess(own[1], 300)
 
     # Files and processes
 

@@ -10,7 +10,9 @@ from unittest import mock
 
 from studio import TOP, WithPictures
 
-sys.path.insert(0, os.path.join(TOP, "python"))
+sys.path[:0] = [os.path.join(TOP, "python"), os.path.join(TOP, "tests", "blocks")]
+
+import kinds  # noqa: E402
 
 from exifnorm_pictures import changed, groups, report  # noqa: E402
 from exifnorm_pictures.catalogue import Catalogue, NoCatalogue  # noqa: E402
@@ -35,7 +37,7 @@ def block_of(kind, text):
 
 
 def picture(name, blocks=BASE, parts=(), number=0, problem=None, root="/a"):
-    """A row of a catalogue; the number tells files apart."""
+    """A row of a catalogue; the number distinguishes files."""
     path = os.fsencode(f"{root.rstrip('/')}/{name}")
     number = number or int(digest(name)[:8], 16)
     return Entry(path, os.fsencode(root), Stamp(number, number, number, number), "JPEG", "own", problem, "why" if problem else "",
@@ -259,6 +261,26 @@ class Remedies(WithPictures):
         self.assertEqual(self.best(touch="abcx", exiv2=None, rebuild="abc"), (("rebuild", [], []), steps))
         self.assertEqual(self.best(touch="abx", exiv2="aby", rebuild="abz"), (("touch", ["c"], ["x"]), steps))
         self.assertEqual(self.best(touch=None, exiv2=None, rebuild=None), (None, steps))
+
+
+# numbers with zeros in front, where they are written in hexadecimal
+SMALL_NUMBERS = ((kinds.FLOAT, (0, 1, 0xFFFF)), (kinds.DOUBLE, (0, 1, 0xFFFFFFFF)), (kinds.SSHORT, (0, -1)), (kinds.LONG, (0,)))
+
+
+class Forms(unittest.TestCase):
+    def test_a_form_has_the_fields_of_its_listing(self):
+        """Every kind of block that is accepted: each type in each directory, records, thumbnails and long values."""
+        from exifnorm_pictures import forms, listing
+
+        seen = set()
+        for kind in kinds.small_kinds():
+            listed = listing.fields(kind.meaning.listing())
+            self.assertEqual(forms.fields(kind.meaning.normal()), listed, kind.name)
+            seen.update((it.where, it.type) for it in listed)
+        small = kinds.Exif({tag: kinds.Value(kind, list(numbers)) for tag, (kind, numbers) in enumerate(SMALL_NUMBERS, 0x9500)})
+        self.assertEqual(forms.fields(small.normal()), listing.fields(small.listing()))
+        types = [it[0] for it in kinds.TYPES.values()]
+        self.assertLessEqual({(where, it) for where in ("main", "exif", "interop", "gps", "thumb") for it in types}, seen)
 
 
 class EqualChanges(unittest.TestCase):

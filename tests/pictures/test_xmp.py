@@ -44,7 +44,8 @@ class Packets(unittest.TestCase):
             xmp("\n  <!-- a comment --><dc:format>one</dc:format>\n"), xmp("<dc:format>one</dc:format><dc:format>one</dc:format>"),
             bare.encode(), other_prefix.encode(), bare.replace("Description>", "Description rdf:about='uuid:1'>", 1).encode(),
             bare.encode("utf-16"), bare.encode("utf-16-be"), bare.encode("utf-32"), b"\xef\xbb\xbf" + bare.encode(),
-            b"<?xml version='1.0' encoding='UTF-8'?>" + bare.encode(),
+            b"<?xml version='1.0' encoding='UTF-8'?>" + bare.encode(), b"<?xml\nversion='1.0'\tencoding='utf-8' ?>\n" + bare.encode(),
+            b"<?xml\tversion='1.0' encoding='UTF-16'?>".decode().encode("utf-16") + bare.encode("utf-16-le"),
         ):  # fmt: skip
             self.assertEqual(said(packet), said(base), packet)
         self.assertEqual(said(array("Bag", "a", "b", "b")), said(array("Bag", "b", "a", "b")))
@@ -80,6 +81,16 @@ class Packets(unittest.TestCase):
             with self.assertRaises(reader.Unusual, msg=inside):
                 reader.statements(rdf.rdf_of(xmp(inside)))
 
+    def test_how_deep_elements_may_be_nested(self):
+        """Arrays in arrays: 100 elements that are nested in one another are read, 102 are not."""
+
+        def nested(elements):
+            arrays = (elements - 4) // 2  # four elements are around the first array
+            return xmp("<dc:subject>" + "<rdf:Bag><rdf:li>" * arrays + "a" + "</rdf:li></rdf:Bag>" * arrays + "</dc:subject>")
+
+        self.assertEqual([cause(nested(it)) for it in (6, 98, 100)], [None, None, None])
+        self.assertEqual([cause(nested(it)) for it in (102, 104, 400)], ["TooDeep"] * 3)
+
     def test_extended(self):
         more = xmp("<dc:title>two</dc:title>")
         name = hashlib.md5(more).hexdigest().upper()
@@ -109,6 +120,8 @@ class Packets(unittest.TestCase):
         self.assertEqual(control, '"a\\nb\\u202e"')
         quoted = fields(title("one\", \"two"))[0].shown
         self.assertEqual(quoted, '"one\\", \\"two"')
+        doubled = [fields(xmp(f"<dc:format>{one_}</dc:format><dc:format>{other_}</dc:format>")) for one_, other_ in ("ab", "ba")]
+        self.assertEqual(doubled[0], doubled[1])  # the order of properties means nothing
         words = [f"w{number}" for number in range(12)]
         self.assertEqual(fields(array("Seq", *words))[0].shown, "Seq[" + ", ".join(f'"{it}"' for it in words) + "]")
 
@@ -126,6 +139,7 @@ class Harm(unittest.TestCase):
             "<a/>": "NoRDF", f"<x:xmpmeta xmlns:x='adobe:ns:meta/'><rdf:RDF {SPACES}/><rdf:RDF {SPACES}/></x:xmpmeta>": "NoRDF",
             xmp(deep).decode(): "TooDeep", "<a>" * 500_001: "TooLong", " " * (16 << 20) + "<a/>": "TooLong",
             "<?xml version='1.0' encoding='cp037'?>" + bare: "NotText",
+            "<?xml\nversion='1.0' encoding='cp037'?>" + bare: "NotText",
             f"<rdf:RDF {SPACES}><rdf:Description rdf:about='a:1'/><rdf:Description rdf:about='a:2'/></rdf:RDF>": "SeveralSubjects",
         }  # fmt: skip
         for packet, why in due.items():

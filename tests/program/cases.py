@@ -29,11 +29,11 @@ class Case:
     left: dict = field(default_factory=dict)  # files and their content afterwards
     absent: list = field(default_factory=list)  # files that must not be there afterwards
     refuses_growths: bool = False
-    holds: object = None  # the counts of what a reader keeps of each of its files, if they are given
+    keeps: object = None  # what a reader keeps of each of its files (`Keeps`), if that is known
 
     @property
     def out(self):
-        """The name of the file that a normal form goes to."""
+        """The name of the file for a normal form."""
         names = [it for it in self.words[1:] if it != "--"]
         return names[1] if self.words[:1] == ["normalise"] and len(names) == 2 else "OUT"
 
@@ -44,17 +44,17 @@ class Case:
 
 
 @dataclass
-class Holds:
-    """The size of a meaning: the numbers of fields, strips, and DataSets of each group."""
+class Keeps:
+    """What a reader keeps of a block: so many fields and DataSets and, of an Exif block, a bit for each byte."""
 
-    fields: int
-    strips: int
-    lists: list
+    fields: int = 0
+    datasets: int = 0
+    is_exif: bool = False
 
 
 @dataclass
 class Sweep:
-    """Many blocks that come of one, each of which is judged by the rules of the format."""
+    """Many blocks made from one; each is judged by the rules of the format."""
 
     name: str
     blocks: list
@@ -158,7 +158,7 @@ def sweeps(blocks, entry, ways):
 
 @dataclass
 class Table:
-    """How the entries of a table are read: the words that they must have, those that they may have, and what makes cases of one."""
+    """How the entries of a table are read: their required members, their optional members, and the function that makes cases of one."""
 
     cases_of: object
     needs: set
@@ -204,7 +204,7 @@ def read_file(path, ways, shared):
 
 
 def cases_of(path, table, entry, blocks, ways, refuses):
-    """The cases of one entry, of which there must be one where a way of the file is one of the table's."""
+    """The cases of one entry. There must be one if the table has one of the file's ways to run."""
     made = list(table.cases_of(blocks, entry, ways))
     if not made and table.ways & set(ways):
         raise Misspelled(f"{path}: nothing is due in {entry['name']!r}")
@@ -219,7 +219,7 @@ def cases_of(path, table, entry, blocks, ways, refuses):
 
 
 def read_list(folder):
-    """The files of cases, each with its ways. Each file in cases/ but that of the blocks must be listed."""
+    """The files of cases, each with its ways to run. Each file in cases/ must be listed, except the one of the blocks."""
     listed, path = {}, os.path.join(folder, "cases.txt")
     with open(path, encoding="utf-8") as it:
         for line in it:

@@ -4,14 +4,15 @@ a write stops after each byte, and memory is limited.
 
   tests/program/faults.py PROGRAM
 
-strace makes the faults, prlimit's limits the others. The calls by which the loader starts a program are left alone: their failures
-end any program. A run must end as it does without a fault, or with status 4 and the line that fits what failed; a file or a stream
-that is written has a prefix of the expected bytes, or its old content.
+strace makes system calls fail, and prlimit sets limits. The calls of the loader that starts the program don't fail: that would end any
+program. A run must end as it does without a fault, or with status 4 and the line for what failed. A file or stream that it writes has a
+prefix of the expected bytes, or its old content.
 
-Left out are `openat` and `ftruncate` that return EINTR each time: Rust's standard library tries these two again until they return
-something else, so such a run has no end, and no file system does so. Each of them returns EINTR once here.
+`openat` and `ftruncate` return EINTR only once here. Rust's standard library repeats these two until they return something else, so a
+run in which they always return it would never end; no file system does that.
 """
 
+import functools
 import os
 import re
 import resource
@@ -37,7 +38,7 @@ ONE = bytes.fromhex("4D4D002A00000008 0001 0112000300000001 00010000 00000000")
 TURNED = bytes.fromhex("49492A0008000000 0100 1201030001000000 01000000 00000000")
 LOOP = ONE[:-4] + bytes.fromhex("00000008")
 OLD = b"what OUT held before"
-SECONDS = 60
+SECONDS = 600  # a guard alone, also on a very busy machine
 ERRORS = ("EIO", "EINTR", "ENOMEM")
 READ, WRITE, MEMORY = b"failed: ReadFailed", b"failed: WriteFailed", b"failed: OutOfMemory"
 SIDES = (b"", b" in file 1", b" in file 2")
@@ -46,7 +47,7 @@ OF_MEMORY = {"brk", "mmap", "mremap", "munmap", "mprotect", "madvise"}
 
 
 def record(datasets: int) -> bytes:
-    """A caption record of so many keywords, whose lengths are encoded in four bytes.
+    """A caption record with a number of keywords, whose lengths have four bytes.
 
     >>> record(1)
     b'\\x1c\\x02\\x19\\x80\\x04\\x00\\x00\\x00\\nkeyword  0'
@@ -59,7 +60,7 @@ FILES = {"one": ONE, "turned": TURNED, "loop": LOOP, "record": record(4000), "OU
 
 @dataclass
 class Run:
-    """One run of the program, and what is expected of it if nothing fails."""
+    """One run of the program, and its expected result if nothing fails."""
 
     words: List[str]
     status: int = 0
@@ -89,12 +90,13 @@ class Outcome:
         return [it for it in self.trace.splitlines() if "(INJECTED)" in it]
 
 
+@functools.lru_cache(maxsize=None)
 def form_of(block: bytes) -> bytes:
     return said(block).normal()
 
 
 def runs() -> Iterator[Run]:
-    """Each command with a block that is accepted and one that is refused, and words that ask for texts."""
+    """Each command with an accepted and a refused block, and the arguments for help and version."""
     yield Run(["check", "one"], output=b"ok exif\n")
     yield Run(["check", "loop"], 2, b"refused: Loop at 22\n")
     yield Run(["show", "record"], output=said(FILES["record"]).listing().encode())
@@ -112,13 +114,13 @@ def runs() -> Iterator[Run]:
 
 
 class Bench:
-    """The program, and a folder in which each run has one of its own."""
+    """The program, and a folder in which each run has a folder of its own."""
 
     def __init__(self, program: str, room: str) -> None:
         self.program, self.room = os.path.abspath(program), room
 
     def run(self, run: Run, before: Tuple[str, ...] = (), trace: bool = True, limits: Tuple[Tuple[int, int], ...] = ()) -> Outcome:
-        """Runs the program after these words, under strace or with limits."""
+        """Runs the program by this command, which is strace or sets limits."""
         with tempfile.TemporaryDirectory(dir=self.room) as folder:
             for name, octets in FILES.items():
                 Path(folder, name).write_bytes(octets)
@@ -147,7 +149,7 @@ def files_due(run: Run) -> Dict[str, bytes]:
 
 
 def is_right(run: Run, outcome: Outcome) -> bool:
-    """Whether a run ended as one without a fault does."""
+    """Whether a run ended as it does without a fault."""
     return (outcome.status, outcome.output, outcome.files) == (run.status, run.output, files_due(run))
 
 
@@ -161,8 +163,8 @@ def keeps_files(run: Run, files: Dict[str, bytes]) -> bool:
 
 
 def says(run: Run, outcome: Outcome, lines: List[bytes]) -> bool:
-    """Whether a run ended with status 4 and one of these lines, behind a prefix of its output. Where nothing takes the line, it
-    is missing."""
+    """Whether a run ended with status 4 and one of these lines after a prefix of its output. The line is missing if it could not be
+    written."""
     ends = [b"", *(line + b"\n" for line in lines)]
     starts = [outcome.output[: len(outcome.output) - len(end)] for end in ends if outcome.output.endswith(end)]
     return outcome.status == 4 and keeps_files(run, outcome.files) and any(run.output.startswith(it) for it in starts)
@@ -173,7 +175,7 @@ def says(run: Run, outcome: Outcome, lines: List[bytes]) -> bool:
 
 @dataclass(frozen=True)
 class Call:
-    """A system call of a run: its name, which of those of that name it is, and its line in the trace."""
+    """A system call of a run: its name, its number among the calls of that name, and its line in the trace."""
 
     name: str
     number: int
@@ -197,14 +199,14 @@ def calls_of(trace: str) -> List[Call]:
 
 
 def side_of(run: Run, line: str) -> bytes:
-    """Where a comparison is asked for, the file that a line of a trace names."""
+    """For a comparison: the file that a line of a trace names."""
     if run.words[:1] != ["compare"]:
         return b""
     return SIDES[next((at for at in (1, 2) if re.search(rf'[/"<]{run.words[at]}[">]', line)), 0)]
 
 
 def lines_due(run: Run, call: Call, line: str, error: str) -> List[bytes]:
-    """The lines that fit where this call fails; none where the program does without the call."""
+    """The lines that are right if this call fails; none if the program doesn't need the call."""
     if call.name in OF_MEMORY:
         return [MEMORY + it for it in SIDES]
     names_out = re.search(r'[/"<](OUT|NEW)[">]', line)
@@ -264,7 +266,7 @@ def judge_failure(counter: Counter, name: str, run: Run, call: Call, error: str,
 
 
 def kills(bench: Bench, counter: Counter) -> None:
-    """SIGKILL at each call of a run leaves OUT old, empty, a prefix or complete, and every other file as it was."""
+    """SIGKILL at each call of a run leaves OUT unchanged, empty, a prefix or complete, and every other file unchanged."""
     with ThreadPoolExecutor(os.cpu_count()) as pool:
         for run in (it for it in runs() if it.words[:1] == ["normalise"]):
             calls = calls_of(bench.run(run).trace)
@@ -280,7 +282,7 @@ def kills(bench: Bench, counter: Counter) -> None:
 
 
 def cut_writes(bench: Bench, counter: Counter) -> None:
-    """A file that takes only so many bytes has exactly these, and the status is 4."""
+    """If a file takes only a number of bytes, it has exactly these, and the status is 4."""
     for name, most in (("turned", range(len(ONE))), ("record", range(0, len(form_of(FILES["record"])), 997))):
         form = form_of(FILES[name])
         for length in most:
@@ -293,16 +295,17 @@ def cut_writes(bench: Bench, counter: Counter) -> None:
 
 
 def little_memory(bench: Bench, counter: Counter) -> None:
-    """With ever more memory a run ends with its line, until it ends well; never in another way."""
+    """With more and more memory a run ends with its line of a failure, and from some point on it succeeds."""
     block = record(200_000)
+    meaning = said(block)
     FILES["large"] = block
     for run in (
         Run(["check", "large"], output=b"ok iim\n"),
-        Run(["show", "large"], output=said(block).listing().encode()),
-        Run(["captions", "large"], output=said(block).captions().encode()),
+        Run(["show", "large"], output=meaning.listing().encode()),
+        Run(["captions", "large"], output=meaning.captions().encode()),
         Run(["compare", "large", "large"], output=b"same\n"),
-        Run(["normalise", "large", "OUT"], out=form_of(block)),
-        Run([], output=form_of(block), stdin="large"),
+        Run(["normalise", "large", "OUT"], out=meaning.normal()),
+        Run([], output=meaning.normal(), stdin="large"),
     ):
         ends = set()
         for most in (it * 2**20 for it in (0.25, 0.5, 1, 2, 3, 4, 5, 6, 8, 10, 12, 16, 24, 64)):

@@ -1,5 +1,5 @@
-"""Runs a case with each of the program's allocations failing in turn: first the first one, then the second, and so on until no
-allocation of a run fails. Each run has the case's result, or reports that it is out of memory."""
+"""Runs a case with each allocation of the program failing in turn, until a run has no such allocation. Each run has the case's result, or
+reports that it is out of memory."""
 
 import os
 
@@ -10,7 +10,7 @@ SECONDS = 20
 
 
 def run_refusing(program, shim, case, number):
-    """Runs the case with this allocation failing. Returns the outcome and whether the run had so many allocations."""
+    """Runs the case with this allocation failing. Returns the outcome, and whether the run came to this allocation."""
     hears, tells = os.pipe()
     try:
         environment = {"LD_PRELOAD": shim, "REFUSE_GROWTH": str(number), "REFUSE_GROWTH_TELLS": str(tells)}
@@ -22,7 +22,7 @@ def run_refusing(program, shim, case, number):
 
 
 def out_of_memory(case):
-    """The lines that may report it: compare names the file, if it has opened one. If nothing takes a line there is none."""
+    """The lines that may report it: compare names the file, if it has opened one. There is none if it can't be written."""
     if case.output_to:
         return [b""]
     sides = ["", " in file 1", " in file 2"] if case.words[:1] == ["compare"] else [""]
@@ -48,7 +48,7 @@ def every():
 
 
 def sample():
-    """Some allocations: the first ones, then ever fewer."""
+    """Some allocations: the first ones, then one at greater and greater distances."""
     number = 1
     while number <= MOST_GROWTHS * 100:
         yield number
@@ -56,7 +56,7 @@ def sample():
 
 
 def complaints_under_refusals(program, shim, case, complaints_of, numbers):
-    """Returns what is wrong, and how many allocations failed: those with these numbers, until a run has no such one."""
+    """Returns what is wrong, and how many allocations failed. It tries those with these numbers, until a run doesn't come to one."""
     bad, refused = [], 0
     for number in numbers:
         outcome, was_met = run_refusing(program, shim, case, number)

@@ -1,6 +1,6 @@
-/* For libraries that are preloaded: what a program does between its main's beginning and its return, and not what the C library
- * and the loader do before. The library stands in for __libc_start_main, which gets the program's main, and hands it one that
- * calls `begins` before and `ends` behind. */
+/* For preloaded libraries: they see what a program does from the beginning of its main to its return, and not what the C library and
+ * the loader do before. The library replaces __libc_start_main, which gets the program's main, and passes on a main that calls
+ * `begins` first and `ends` last. */
 #ifndef MAIN_ONLY_H
 #define MAIN_ONLY_H
 #include <dlfcn.h>

@@ -1,7 +1,7 @@
-/* Changes what the system says of an open file, so that a test sees what the program makes of it.
+/* Changes what the system reports of an open file, so that a test sees what the program makes of it.
  *
- * Compiled as a shared library and preloaded. ODD_FILES says what each call of statx answers: `fails`, an error of the device;
- * `inode`, inode 1 of every file, on devices numbered one after the other; `device`, device 1 for every file, with inodes so numbered.
+ * Compiled as a shared library and preloaded. ODD_FILES is what each call of statx returns: `fails`, an error of the device;
+ * `inode`, inode 1 for every file, and a new device for each; `device`, device 1 for every file, and a new inode for each.
  */
 #define _GNU_SOURCE
 #include <dlfcn.h>

@@ -1,6 +1,6 @@
 #!/usr/bin/env python3
-"""Tests what the program does with the files that it opens, where no contract can say it: calls of the system that fail, files that
-have a device or an inode in common, and an OUT that held more before.
+"""Tests what no contract can state of the files that the program opens: calls of the system that fail, files with one device or one
+inode in common, and an OUT that was longer before.
 
   tests/program/open_files.py PROGRAM
 
@@ -31,7 +31,7 @@ PROGRAM = ""
 
 
 def run(folder: Path, words: list[str], environment: Optional[dict[str, str]] = None, most_open: int = 0) -> tuple[int, bytes]:
-    """The status and the output of a run in the folder, with no more than so many files open at a time."""
+    """The status and the output of a run in the folder, with a limit on the number of open files."""
 
     def few_files() -> None:
         if most_open:
@@ -44,7 +44,7 @@ def run(folder: Path, words: list[str], environment: Optional[dict[str, str]] = 
         stdin=subprocess.DEVNULL,
         stdout=subprocess.PIPE,
         preexec_fn=few_files,
-        timeout=60,
+        timeout=600,
     )
     return it.returncode, it.stdout
 
@@ -55,7 +55,8 @@ def fill(folder: Path, out: bytes = b"old") -> None:
 
 
 def a_file_that_can_not_be_duplicated(counter: Counter) -> None:
-    """A failed call is a failed read of FILE and a failed write of OUT, and never out of memory: the system's error is another."""
+    """A failed call is a failed read of FILE or a failed write of OUT. It isn't out of memory, because the system returned another
+    error."""
     with tempfile.TemporaryDirectory() as room:
         folder = Path(room)
         fill(folder)
@@ -70,7 +71,7 @@ def a_file_that_can_not_be_duplicated(counter: Counter) -> None:
 
 
 def a_file_that_says_nothing_of_itself(counter: Counter) -> None:
-    """It is a failed write, and OUT is as it was."""
+    """It is a failed write, and OUT is unchanged."""
     with tempfile.TemporaryDirectory() as room:
         folder, shim = Path(room), make_shim(room, "odd_files")
         fill(folder)
@@ -79,7 +80,7 @@ def a_file_that_says_nothing_of_itself(counter: Counter) -> None:
 
 
 def files_with_one_number_in_common(counter: Counter) -> None:
-    """Two files are one where both numbers are the same: of the device, and of the inode there."""
+    """Two files are one if they have the same device and the same inode."""
     with tempfile.TemporaryDirectory() as room:
         folder, shim = Path(room), make_shim(room, "odd_files")
         for how in ("inode", "device"):

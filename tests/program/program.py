@@ -18,7 +18,7 @@ class Outcome:
 
 
 def run(program, case, environment=None, seconds=120, keeps_open=()):
-    """Runs the program on the case's words, files and input."""
+    """Runs the program with the case's arguments, files and input."""
     with tempfile.TemporaryDirectory() as folder:
         for name in case.folders:
             os.mkdir(os.path.join(folder, name))
@@ -72,7 +72,7 @@ def run_in(folder, program, case, environment, seconds, keeps_open):
 
 
 def sink(name):
-    """What the program's standard output goes to, where the test doesn't read it."""
+    """Where the program's standard output goes if the test doesn't read it."""
     if name != CLOSED_PIPE:
         return open(name, "wb")
     reads, writes = os.pipe()
@@ -86,7 +86,7 @@ def take(started, name, said):
 
 
 def feed(stream, case):
-    """Writes the case's input, in pieces where it asks for that, and then what it repeats without end."""
+    """Writes the case's input, in pieces if the case has these, and then the bytes that it repeats without end."""
     piece = case.in_pieces or max(len(case.input), 1)
     try:
         for at in range(0, len(case.input), piece):

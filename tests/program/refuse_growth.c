@@ -1,9 +1,9 @@
-/* Refuses one call for memory of a program, so that a test sees what the program answers then.
+/* Lets one allocation of a program fail, so that a test sees what the program does then.
  *
- * Compiled as a shared library and preloaded. REFUSE_GROWTH=N refuses the Nth call of malloc, calloc, realloc,
- * aligned_alloc, memalign or posix_memalign, as the system does where there is no memory: a null pointer and ENOMEM
- * (posix_memalign: ENOMEM as its result). Every other call is the C library's own. REFUSE_GROWTH_TELLS=FD has one
- * byte written to that open file where a call was refused, so that a run that meets no refusal is known as such.
+ * Compiled as a shared library and preloaded. With REFUSE_GROWTH=N the Nth call of malloc, calloc, realloc,
+ * aligned_alloc, memalign or posix_memalign fails as it does without memory: a null pointer and ENOMEM
+ * (posix_memalign: ENOMEM as its result). Every other call is the C library's own. With REFUSE_GROWTH_TELLS=FD one
+ * byte is written to that open file if a call failed, so that the test knows of runs in which none did.
  *
  * Calls are counted from the program's main to its return.
  */
@@ -26,7 +26,7 @@ static void ends(void) {
     is_counting = 0;
 }
 
-/* Whether this call is the one to be refused. */
+/* Whether this call is the one that fails. */
 static int is_refused(void) {
     if (!is_counting || until_refused <= 0 || --until_refused > 0)
         return 0;

@@ -20,14 +20,14 @@ sys.path.insert(0, str(Path(__file__).resolve().parent.parent))
 
 import paths
 from blocks import Misspelled
-from cases import Case, Holds, Sweep, read_all
+from cases import Case, Keeps, Sweep, read_all
 from changed import changed
 from counting import reason
 from growths import complaints_under_refusals, every, sample
 from kinds import Kind, large_kinds, small_kinds
 from meanings import LIMIT, Record
 from program import run
-from reading import Fault, said
+from reading import CAUSES, Fault, said
 from shims import NoShim, make_shim
 from watching import complaints_of_cost, complaints_of_failures, complaints_of_short_calls
 
@@ -53,19 +53,19 @@ def complaints_of(case, outcome):
     """What is wrong with the outcome of a case. The list is empty if nothing is wrong."""
     bad = []
     if outcome.status != case.status:
-        bad.append(f"status {case.status} was due, and {outcome.status} came with the output {shown(outcome.output)}")
+        bad.append(f"expected status {case.status}, and {outcome.status} came with the output {shown(outcome.output)}")
     if case.output is not None and outcome.output != case.output:
-        bad.append(f"the output {shown(case.output)} was due, and {shown(outcome.output)} came")
+        bad.append(f"expected the output {shown(case.output)}, and {shown(outcome.output)} came")
     if case.lines is not None and (outcome.output.count(b"\n"), outcome.output[-1:]) != (case.lines, b"\n"):
-        bad.append(f"{case.lines} lines were due, and {outcome.output.count(bytes([10]))} came")
-    bad += [f"{shown(it)} was due in the output {shown(outcome.output)}" for it in case.has if it not in outcome.output]
+        bad.append(f"expected {case.lines} lines, and {outcome.output.count(bytes([10]))} came")
+    bad += [f"expected {shown(it)} in the output {shown(outcome.output)}" for it in case.has if it not in outcome.output]
     if outcome.complaints:
-        bad.append(f"nothing was due on standard error, and {shown(outcome.complaints)} came")
+        bad.append(f"expected nothing on standard error, and {shown(outcome.complaints)} came")
     for name, octets in case.left.items():
         if outcome.files.get(name) != octets:
             held = shown(outcome.files[name]) if name in outcome.files else "no such file"
-            bad.append(f"{shown(octets)} was due in {name}, and there is {held}")
-    bad += [f"no file {name} was due, and there is one" for name in case.absent if name in outcome.files]
+            bad.append(f"expected {shown(octets)} in {name}, and there is {held}")
+    bad += [f"expected no file {name}, and there is one" for name in case.absent if name in outcome.files]
     return bad + complaints_of_other_files(case, outcome)
 
 
@@ -112,7 +112,7 @@ def judge_sweep(program, sweep):
         bad.append(f"{sweep.accepted} blocks were to be accepted, and the rules accept {len(accepted)}")
     forms = {case_of(block).output for block in accepted}
     if sweep.normal is not None and (forms != {sweep.normal} or len(accepted) < len(sweep.blocks)):
-        bad.append(f"the one normal form {shown(sweep.normal)} was due, and there are {len(forms)}, of {len(accepted)} blocks")
+        bad.append(f"expected the one normal form {shown(sweep.normal)}, and there are {len(forms)}, of {len(accepted)} blocks")
     return bad + judge_files(program, sorted(forms))
 
 
@@ -137,23 +137,29 @@ def other(kind):
     return block if block != kind.meaning.normal() else b"\x1c\x02\x05\0\0"
 
 
-def holds(meaning):
-    """How much a reader keeps of a meaning. It allocates for the number of entries, of which up to six are no fields."""
+def kept_of(meaning):
+    """What a reader keeps of a meaning. It allocates for the number of entries, of which up to six are no fields."""
     record = meaning if isinstance(meaning, Record) else meaning.record
-    lists = [len(them) for them in record.groups().values()] if record else []
+    datasets = len(record.datasets) if record else 0
     if meaning is record:
-        return Holds(0, 0, lists)
+        return Keeps(datasets=datasets)
     directories = meaning.directories()
-    return Holds(sum(len(fields) for _, fields in directories) + 6 * len(directories), len(meaning.strips or []), lists)
+    return Keeps(sum(len(fields) for _, fields in directories) + 6 * len(directories), datasets, is_exif=True)
 
 
 def named(kind):
-    """The cases of a kind, with its name, and with the counts of what a reader keeps of its meaning."""
-    held = holds(kind.meaning)
+    """The cases of a kind, with its name, and with what a reader keeps of each file."""
+    keeps = kept_of(kind.meaning)
     for case in cases_of_kind(kind):
         case.name = f"{kind.name}: {case.name}"
-        case.holds = [held, holds(said(case.files["c"])) if "c" in case.files else held]
+        case.keeps = [keeps, kept_of(said(case.files["c"])) if "c" in case.files else keeps]
         yield case
+
+
+def cases_of_causes():
+    """The block of each cause is refused for it, at the offset of the fault."""
+    for cause, (block, place) in CAUSES.items():
+        yield Case(f"the block of {cause}", words=["check", "a"], files={"a": block}, status=2, output=f"refused: {cause} at {place}\n".encode())
 
 
 class Parts:
@@ -165,7 +171,8 @@ class Parts:
         self.refused = []
 
     def all(self):
-        yield "cases", self.plain()
+        yield "cases", self.plain(self.cases)
+        yield "the block of each cause", self.plain([it for it in cases_of_causes() if self.only in it.name])
         yield "cases, with growths refused in turn", self.refusing([it for it in self.cases if isinstance(it, Case) and it.refuses_growths], every)
         yield "what the cases cost", self.costing([it for it in self.cases if is_counted(it)])
         small = self.chosen(small_kinds())
@@ -186,8 +193,8 @@ class Parts:
     def chosen(self, kinds):
         return [case for kind in kinds for case in named(kind) if self.only in case.name]
 
-    def plain(self):
-        for case in self.cases:
+    def plain(self, cases):
+        for case in cases:
             judge = judge_sweep if isinstance(case, Sweep) else judge_case
             yield case.name, lambda judge=judge, case=case: judge(self.program, case)
 

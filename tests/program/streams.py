@@ -4,8 +4,8 @@ files that may not be read.
 
   tests/program/streams.py PROGRAM
 
-The tests run as root too, so no device is named as an output but by a link in a folder of the test's own, or as another user: a
-program that replaces what it writes could otherwise replace the device.
+The tests also run as root. A program that replaces the file that it writes could then replace a device. So a test names a device as an
+output only by a link in its own folder, or as another user.
 """
 
 import itertools
@@ -35,7 +35,7 @@ NOBODY = 65534
 
 
 def run(program: str, folder: Path, words: list, closed: tuple = (), **how) -> tuple:
-    """The status and the output of a run in the folder, with these of the standard streams closed.
+    """The status and the output of a run in the folder, with some standard streams closed.
 
     >>> run("/bin/echo", Path("/"), ["a"])
     (0, b'a\\n')
@@ -45,7 +45,7 @@ def run(program: str, folder: Path, words: list, closed: tuple = (), **how) -> t
         ["/bin/sh", "-c", f'exec "$@" {shut}', "sh", program, *words],
         cwd=folder,
         stdout=subprocess.PIPE,
-        timeout=60,
+        timeout=600,
         **{"stdin": subprocess.DEVNULL, **how},
     )
     return it.returncode, it.stdout
@@ -78,7 +78,7 @@ def closed_streams(program: str, folder: Path):
 
 
 def links(program: str, folder: Path):
-    """OUT is FILE by another name: it is refused, and stays as it was."""
+    """OUT is FILE by another name: it is refused and unchanged."""
     os.link(folder / "one", folder / "hard")
     os.symlink("one", folder / "symbolic")
     (folder / "d").mkdir()
@@ -93,7 +93,7 @@ def links(program: str, folder: Path):
 
 
 def an_input_that_stays_open(program: str, folder: Path):
-    """Standard input is read by the filter alone: every other run ends while nothing comes there and nobody closes it."""
+    """Only the filter reads standard input. Every other run ends, even if nothing arrives there and nobody closes it."""
     reads, writes = os.pipe()
     for words, status in (
         (["check", "one"], 0),
@@ -122,7 +122,7 @@ def an_input_that_stays_open(program: str, folder: Path):
 
 
 def a_file_that_may_not_be_read(program: str, folder: Path):
-    """It is a failed read, and one that may not be written a failed write."""
+    """Without permission to read, a file is a failed read; without permission to write, a failed write."""
     for name in ("secret", "fixed"):
         (folder / name).write_bytes(ONE)
         (folder / name).chmod(0o000 if name == "secret" else 0o444)
@@ -149,7 +149,7 @@ def a_file_that_may_not_be_read(program: str, folder: Path):
 
 
 def links_that_lead_nowhere(program: str, folder: Path):
-    """A link without an end is a failed read or write; one to a file that isn't there makes that file."""
+    """A link to itself is a failed read or write. OUT that is a link to a missing file creates that file."""
     os.symlink("round", folder / "round")
     os.symlink("made", folder / "ahead")
     for words, line in (
@@ -165,7 +165,7 @@ def links_that_lead_nowhere(program: str, folder: Path):
 
 
 def ways_to_leave_an_output(program: str, folder: Path) -> Iterator[Tuple[str, bool, object]]:
-    """OUT is written in place: nothing of what it held is left behind the form, and it stays the file that it was."""
+    """OUT is written in place: it stays the same file, and nothing of its old content follows the form."""
     for length in (0, 1, len(ONE) - 1, len(ONE), len(ONE) + 1, len(ONE) + 2_000_000):
         for name, octets in (("one", ONE), ("loop", b"")):
             fill(folder)
@@ -199,7 +199,7 @@ def devices() -> Dict[str, Tuple[int, int]]:
 
 
 def outputs_that_are_no_files(program: str, folder: Path) -> Iterator[Tuple[str, bool, object]]:
-    """A device takes the form, or fails; it stays the device that it was."""
+    """A device takes the form, or fails. It stays the same device."""
     were = devices()
     folder.chmod(0o755)
     how = {"user": NOBODY, "group": NOBODY} if os.getuid() == 0 else {}
@@ -217,16 +217,16 @@ def outputs_that_are_no_files(program: str, folder: Path) -> Iterator[Tuple[str,
     with open(folder / "to", "wb+") as to:
         to.write(b"what stood there before, which is longer")
         to.flush()
-        subprocess.run([program, "normalise", "one", "stdout"], cwd=folder, stdout=to, timeout=60, check=False)
+        subprocess.run([program, "normalise", "one", "stdout"], cwd=folder, stdout=to, timeout=600, check=False)
     yield "OUT is standard output, a file", (folder / "to").read_bytes() == ONE, (folder / "to").read_bytes()
     with open(folder / "to", "ab") as to:
-        subprocess.run([program], cwd=folder, input=ONE, stdout=to, timeout=60, check=False)
+        subprocess.run([program], cwd=folder, input=ONE, stdout=to, timeout=600, check=False)
     yield "a form behind what stands there", (folder / "to").read_bytes() == ONE + ONE, (folder / "to").read_bytes()
     yield "the devices", devices() == were and all((folder / it).is_symlink() for it in ("null", "full", "stdout")), devices()
 
 
 def pipes_by_a_name(program: str, folder: Path) -> Iterator[Tuple[str, bool, object]]:
-    """A FIFO is read to its end, and takes the form; where nobody reads it any more a write fails."""
+    """A FIFO is read to its end, and takes the form. If nobody reads it any more, a write fails."""
     os.mkfifo(folder / "fifo")
     block, form = LARGE.spelled(extended=4), LARGE.normal()
     (folder / "large").write_bytes(block)
@@ -243,17 +243,17 @@ def pipes_by_a_name(program: str, folder: Path) -> Iterator[Tuple[str, bool, obj
 
 
 def beside(one, other) -> tuple:
-    """What two calls return that run at the same time."""
+    """The results of two calls that run at the same time."""
     found = []
     thread = threading.Thread(target=lambda: found.append(other()), daemon=True)
     thread.start()
     came = one()
-    thread.join(60)
+    thread.join(600)
     return came, found[0] if found else b""
 
 
 def standard_inputs(program: str, folder: Path) -> Iterator[Tuple[str, bool, object]]:
-    """Standard input is read from where it stands, and can be named as a file."""
+    """Standard input is read from its current position, and can be named as a file."""
     (folder / "behind").write_bytes(b"xyz" + ONE)
     with open(folder / "behind", "rb", buffering=0) as given:
         given.seek(3)
@@ -272,7 +272,7 @@ def standard_inputs(program: str, folder: Path) -> Iterator[Tuple[str, bool, obj
 
 
 def an_output_that_may_not_be_read(program: str, folder: Path) -> Iterator[Tuple[str, bool, object]]:
-    """OUT is only written, so that it need not be readable."""
+    """OUT is only written, so it need not be readable."""
     how = {"user": NOBODY, "group": NOBODY} if os.getuid() == 0 else {}
     out = folder / "OUT"
     if how:
@@ -285,7 +285,7 @@ def an_output_that_may_not_be_read(program: str, folder: Path) -> Iterator[Tuple
 
 
 def words_and_names(program: str, folder: Path) -> Iterator[Tuple[str, bool, object]]:
-    """Behind `--` each word is a name; more names than a command takes are refused, and no file is opened."""
+    """After `--` each argument is a name. Too many names are refused, and no file is opened."""
     for name in ("-a", "--help", "--", "-"):
         (folder / name).write_bytes(ONE)
         came = run(program, folder, ["check", "--", name])
@@ -306,6 +306,32 @@ def words_and_names(program: str, folder: Path) -> Iterator[Tuple[str, bool, obj
         yield " ".join(words), came[0] == 3 and is_told and (folder / "OUT").read_bytes() == b"old", came
 
 
+ODD_NAMES = (" ", "a b", "a\nb", "a\rb", "\x1b[31m", "\x7f", "\x01", "$(touch made)", "`touch made`", "*", "?", "'", '"', "\\", "%s%n", "é", "\u202e", "x" * 255)
+
+
+def odd_names(program: str, folder: Path) -> Iterator[Tuple[str, bool, object]]:
+    """A name is used as it is, and no line has it. One that the system has no file for is a failed read or write."""
+    there = {it.name for it in folder.iterdir()}
+    for name in ODD_NAMES:
+        (folder / name).write_bytes(LOOP)
+        came = run(program, folder, ["normalise", "one", name])
+        left = (folder / name).read_bytes()
+        yield f"OUT is {name!r}", (came, left) == ((0, b""), ONE), (came, left)
+        (folder / name).write_bytes(LOOP)
+        came = run(program, folder, ["compare", "one", name])
+        yield f"SECOND is {name!r}", came == (2, b"refused: Loop at 22 in file 2\n"), came
+    yield "no other file is made", {it.name for it in folder.iterdir()} == there | {*ODD_NAMES}, list(folder.iterdir())
+    for name in ("x" * 256, "d/" * 2100 + "one"):
+        for words, line in ((["check", name], b"failed: ReadFailed\n"), (["normalise", "one", name], b"failed: WriteFailed\n")):
+            came = run(program, folder, words)
+            yield f"{words[0]} with a name of {len(name)} bytes", came == (4, line), came
+    for name in (b"\xff", b"a\xc3", b"\xed\xa0\x80"):
+        Path(os.fsdecode(os.fsencode(folder) + b"/" + name)).write_bytes(b"old")
+        came = run(program, folder, ["normalise", "one", name])
+        left = Path(os.fsdecode(os.fsencode(folder) + b"/" + name)).read_bytes()
+        yield f"OUT is {name!r}", (came, left) == ((3, b"refused words: they are not text\n"), b"old"), (came, left)
+
+
 TESTS = (
     closed_streams,
     links,
@@ -318,6 +344,7 @@ TESTS = (
     standard_inputs,
     an_output_that_may_not_be_read,
     words_and_names,
+    odd_names,
 )
 
 

@@ -1,11 +1,11 @@
-/* Counts what a program asks of the system, and fails one of its reads or writes, so that a test sees what a run costs and what
- * the program answers to a device that fails once and then goes on.
+/* Counts what a program asks of the system, and lets one of its reads or writes fail. So a test sees what a run costs, and what the
+ * program does if a device fails once and then works again.
  *
- * Compiled as a shared library and preloaded; only what happens from the program's main to its return counts. WATCH_TELLS=FD has
- * one line written to that open file at the end: the calls for memory, the bytes that they asked for, the most bytes held at
- * once, the reads, the writes, the processor's milliseconds, and whether a call was failed. FAIL_READ=N or FAIL_WRITE=N fails the Nth read or write: with the
- * error number FAIL_AS, or, where that is 0, with the answer 0. SHORT=N has each read and each write move N bytes at most. Every
- * other call is the C library's own.
+ * Compiled as a shared library and preloaded. Only what happens from the beginning of the program's main to its return counts. With
+ * WATCH_TELLS=FD one line is written to that open file at the end: the calls for memory, the bytes that they requested, the most
+ * bytes allocated at once, the reads, the writes, the milliseconds of processor time, and whether a call was made to fail. With
+ * FAIL_READ=N or FAIL_WRITE=N the Nth read or write fails with the error number FAIL_AS, or returns 0 if that is 0. With SHORT=N each
+ * read and each write moves at most N bytes. Every other call is the C library's own.
  */
 #define _GNU_SOURCE
 #include "main_only.h"
@@ -38,7 +38,7 @@ static void begins(void) {
     is_watching = 1;
 }
 
-/* The milliseconds of the processor that this process has used. */
+/* The milliseconds of processor time that this process has used. */
 static long spent(void) {
     struct rusage used;
     getrusage(RUSAGE_SELF, &used);
@@ -54,7 +54,7 @@ static void ends(void) {
         _exit(99);
 }
 
-/* A growth to `to` from what was `from`, which is freed. */
+/* An allocation at `to` in place of the one at `from`, which is freed. */
 static void *counted(size_t size, size_t was, void *made) {
     if (!is_watching)
         return made;

@@ -9,6 +9,8 @@ import os
 import signal
 import subprocess
 import sys
+import threading
+from concurrent.futures import ThreadPoolExecutor
 from pathlib import Path
 from unittest import mock
 
@@ -20,7 +22,7 @@ import crates
 import machine
 import prove
 import verdict
-from room import SIGNALS, Room, due, runs, wait_until
+from room import SIGNALS, Room, due, runs, tick, wait_until
 from store import Store
 
 LEVELS = "px_low: byteorder\npx_middle: px_low\npx_high staticlib: px_middle\npx_aside: px_low\n"
@@ -55,7 +57,7 @@ CHANGES = {
 
 
 def each_change(room: Room):
-    """Each kind of change of each source of three crates: what it is, the crate, and what makes it. Each is taken back."""
+    """Each kind of change of each source of three crates: its name, the crate, and the function that makes it. Each is undone."""
     for crate in ("px_low", "px_middle", "px_high"):
         for name in SOURCES:
             for kind, change in list(CHANGES.items())[:: 1 if crate == "px_middle" else 3]:
@@ -149,7 +151,7 @@ def a_crate_is_good_over_the_very_libraries_that_it_was_built_over(room: Room) -
 
 
 def a_product_that_was_put_without_its_note_is_not_taken(room: Room) -> None:
-    """A build is killed between the two, and the edit is taken back."""
+    """A build is killed between the two, and the edit is undone."""
     room.call()
     room.main.write_text("two")
     store = store_of(room)
@@ -193,7 +195,7 @@ def a_crate_of_another_name_is_an_error(room: Room) -> None:
 
 
 def is_proved(room: Room, crate: str) -> bool:
-    """Whether the gate's proof counts for a crate, in the room's folder and by its toolchain."""
+    """Whether the gate's proof counts for a crate, in the test's folder and with its toolchain."""
     script = "import sys; sys.path.insert(0, sys.argv[1]); import gate; from crates import Crates; from pathlib import Path\n"
     script += "print(gate.is_proved(Crates.read(Path(sys.argv[1]).parent), sys.argv[2]))"
     ran = room.call("-B", "-c", script, str(room.top / "build"), crate, program=sys.executable)
@@ -215,6 +217,16 @@ def nothing_counts_as_just_proved_after_a_change(room: Room) -> None:
         room.is_proved()
 
 
+def add_to_an_old_library(room: Room, library: Path) -> None:
+    """Makes a later mark and the libraries again, but this one, to which a file is added."""
+    tick(room.mark, room.mark.touch, library / "checked")
+    low = room.top / "crates/px_low/out/rlib/px_low.rlib"
+    tick(low, lambda: room.put_library(low), room.mark)
+    more = library / "more"
+    tick(library, lambda: [more.touch(), more.unlink()], room.mark)
+    more.touch()
+
+
 def nothing_counts_as_just_proved_that_is_not_of_the_last_run(room: Room) -> None:
     room = levels(room)
     library = room.top / "crates/px_middle/out/rlib/px_middle.rlib"
@@ -223,8 +235,10 @@ def nothing_counts_as_just_proved_that_is_not_of_the_last_run(room: Room) -> Non
         "no mark": lambda: room.mark.unlink(),
         "a mark without sums": lambda: room.mark.write_text(""),
         "a mark of fewer crates": lambda: room.mark.write_text(room.mark.read_text().rpartition("px_aside")[0]),
-        "a library of before": lambda: os.utime(library / "checked", (10**9, 10**9)),
-        "a library without files": lambda: (library / "checked").unlink(),
+        "a library of before": lambda: os.utime(library, (10**9, 10**9)),
+        "a library with a folder of before": lambda: [(library / "old").mkdir(), os.utime(library / "old", (10**9, 10**9))],
+        "a library with files of before": lambda: add_to_an_old_library(room, library),
+        "a library without files": lambda: [(library / it).unlink() for it in ("checked", "kept")],
         "a library of another command": lambda: (library.parent / "stamp").touch(),
         "a list of crates that was touched": lambda: (room.top / "crates.txt").touch(),
         "another toolchain": lambda: (room.folder / "version").write_text("toolchain 2\n"),
@@ -293,7 +307,7 @@ def how_many_are_proved_at_once(room: Room) -> None:
 
 
 def most_at_once(log: list) -> int:
-    """How many crates were being built side by side at most.
+    """The most crates that were built at the same time.
 
     >>> most_at_once([["begin", "build", "a", "1"], ["begin", "build", "b", "2"], ["end", "build", "a", "0"]])
     2
@@ -386,6 +400,32 @@ def the_first_crate_that_fails_ends_the_others(room: Room) -> None:
     wait_until(lambda: not runs(field), "it still runs")
 
 
+def compilers_are_stopped_before_their_threads_are_waited_for(room: Room) -> None:
+    """One proof fails while another runs."""
+    begun, stopped, were_stopped = threading.Event(), threading.Event(), []
+
+    class Failing(prove.Build):
+        def prove(self, crate: str, gives_way: bool) -> None:
+            if crate == "px_field":
+                begun.set()
+                stopped.wait()
+            elif crate == "px_iim":
+                begun.wait()
+                raise prove.NotBuilt(crate)
+
+    class Pool(ThreadPoolExecutor):
+        def __exit__(self, *why):
+            were_stopped.append(stopped.is_set())
+            stopped.set()
+            return super().__exit__(*why)
+
+    build = Failing(crates.Crates.read(room.top), "px_cli", mock.Mock(stop=stopped.set), store_of(room))
+    build.places = 2
+    with mock.patch.object(prove, "ThreadPoolExecutor", Pool), mock.patch.object(prove, "say"), contextlib.suppress(prove.NotBuilt):
+        build.run()
+    due(were_stopped == [True], "the other proof runs on")
+
+
 def what_a_killed_build_left_is_waited_for(room: Room) -> None:
     for i, closes in enumerate(("", "<&- >&- 2>&-")):
         other = Room(room.folder / str(i))
@@ -396,8 +436,8 @@ def what_a_killed_build_left_is_waited_for(room: Room) -> None:
             started.kill()  # the compiler that it started runs on
         with open(other.folder / "said", "w", encoding="utf-8") as said:
             again = other.start("a", stderr=said)
-            wait_until(lambda it=other: "waiting for it" in (it.folder / "said").read_text(), "it does not wait")
-            due(len(other.log()) == 1, other.log())
+            wait_until(lambda it=other: "waiting for it" in (it.folder / "said").read_text() or len(it.log()) > 1, "it does nothing")
+            due(len(other.log()) == 1, f"it does not wait: {other.log()}")
             other.let_go("px_bytes")
             due(again.communicate(timeout=300)[0] == "one: a\n", other.log())
         due([it[0] for it in other.log() if it[2] == "px_bytes"] == ["begin", "end"] * 2, other.log())
@@ -407,7 +447,9 @@ def one_build_at_a_time(room: Room) -> None:
     room.hold("px_bytes")
     said = [room.folder / f"said {it}" for it in range(5)]
     started = [room.start(str(i), stderr=open(it, "w", encoding="utf-8")) for i, it in enumerate(said)]
-    wait_until(lambda: sum("waiting for it" in it.read_text() for it in said) == 4, "four of five wait")
+    waiting = lambda: sum("waiting for it" in it.read_text() for it in said)  # noqa: E731
+    wait_until(lambda: waiting() == 4 or len(room.log()) > 1, "four of five wait")
+    due(len(room.log()) == 1, room.log())
     room.let_go("px_bytes")
     due([it.communicate(timeout=300)[0] for it in started] == [f"one: {it}\n" for it in range(5)], said)
     due(room.builds() == 1 and len(room.built()) == 4, room.log())
@@ -426,7 +468,7 @@ def a_build_without_the_launcher_is_stopped_too(room: Room) -> None:
 
 
 def of_build(code: str) -> str:
-    """What code prints that may import the modules of build/."""
+    """The output of code that may import the modules of build/."""
     ran = subprocess.run([sys.executable, "-c", code], env={**os.environ, "PYTHONPATH": str(paths.TOP / "build")}, capture_output=True, text=True)
     due(ran.returncode == 0, ran)
     return ran.stdout
@@ -451,14 +493,26 @@ print("it goes on")"""
 
 
 def what_a_build_wrote_is_never_too_new_for_a_look(_: Room) -> None:
-    code = """import launch, time
-now = time.time()
-for name, changed in (("out/exifnorm", now), ("crates/a", now), ("crates/a", now - 9), ("crates/a", "")):
-    print(launch.is_fresh(f"{name} 3 4 5 {changed}"))"""
-    due(of_build(code) == "False\nTrue\nFalse\nTrue\n", "another file is too new")
+    code = """import launch
+launch.time.time_ns = lambda: 5 * 10**9
+for it in ("out/exifnorm 3 4 5 5", "a 3 4 5 5", "a 3 4 5 4.1", "a 3 4 5 5.9", "a 3 4 5 3.9", "a 3 4 5 6.1", "a 3 4 5 "):
+    print(end="ny"[launch.is_fresh(it)])"""
+    due(of_build(code) == "nyyynny", "another file is too new")
+
+
+def a_program_that_does_not_end_does_not_start(_: Room) -> None:
+    code = """import subprocess, verdict
+
+def run(words, **how):
+    raise subprocess.TimeoutExpired(words, how["timeout"])
+
+subprocess.run = run
+print(verdict.starts("a program"))"""
+    due(of_build(code) == "False\n", "it is waited for without end")
 
 
 TESTS = [
+    a_program_that_does_not_end_does_not_start,
     only_processors_that_it_may_use_are_counted,
     a_second_signal_does_not_end_a_stop,
     what_a_build_wrote_is_never_too_new_for_a_look,
@@ -483,6 +537,7 @@ TESTS = [
     a_crate_that_changes_in_each_build_is_an_error,
     a_proof_that_is_killed_is_tried_again_with_one_job,
     the_first_crate_that_fails_ends_the_others,
+    compilers_are_stopped_before_their_threads_are_waited_for,
     what_a_killed_build_left_is_waited_for,
     one_build_at_a_time,
     a_build_without_the_launcher_is_stopped_too,

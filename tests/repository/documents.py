@@ -13,6 +13,7 @@ import io
 import json
 import os
 import re
+import shutil
 import subprocess
 import sys
 import tempfile
@@ -24,9 +25,16 @@ sys.dont_write_bytecode = True
 sys.path.insert(0, str(Path(__file__).resolve().parent.parent))
 
 import paths
+
+sys.path.insert(0, str(paths.TOP / "packaging"))
+
+import header
 import named
+import rules
+import watching
 from blocks import Blocks
 from counting import examples, run_suite
+from meanings import LIMIT
 
 TOP = str(paths.TOP)
 PROGRAM, LIBRARY = "", ""
@@ -34,7 +42,7 @@ PROGRAM, LIBRARY = "", ""
 # the files in the documents' examples, each with the name of its block in cases/blocks.json
 FILES = {
     "one.exif": "ASCII before its directory",
-    "other.exif": "ASCII at an even place, least first",
+    "other.exif": "ASCII at an even offset, least first",
     "caption.iim": "five labelled DataSets",
     "broken.exif": "one SHORT that leads on to itself",
 }
@@ -45,6 +53,7 @@ HEADER = "crates/px_c/include/exifnorm.h"
 
 # Old words that comments use in a sense of their own: words of bits, a plan that lays out a block, a process that waits.
 ORDINARY = {"words", "place", "places", "lay", "lays", "laid", "wait", "waits"}
+LOGICAL = {"hold", "holds"}  # of a condition
 
 
 def text_of(name):
@@ -92,6 +101,33 @@ def comments_of_python(text):
     return [re.sub(r"`[^`]*`|^ *(?:>>>|\.\.\.).*", "", it, flags=re.M) for it in found]
 
 
+def logics(text):
+    """The numbers of the toolchain's logic that a text has.
+
+    >>> logics("rattle-kit-1 logic 0123456789abcdef")
+    ['0123456789abcdef']
+    """
+    return re.findall(r"\blogic ([0-9a-f]{16})\b", text)
+
+
+def comments_of_c(text):
+    """The comments of a C or Rust source, without code.
+
+    >>> comments_of_c('/* A `told`\\n * b. */ int c; // d')
+    ['/* A \\n * b. */', '// d']
+    """
+    return [re.sub(r"`[^`]*`", "", it) for it in re.findall(r"/\*.*?\*/|//[^\n]*", text, re.S)]
+
+
+def comments_of_shell(text):
+    """The comment lines of a shell script or a Makefile, without code.
+
+    >>> comments_of_shell("# A `told` b.\\nc # d")
+    ['# A  b.']
+    """
+    return [re.sub(r"`[^`]*`", "", it) for it in re.findall(r"^[\t ]*(#.*)$", text, re.M)]
+
+
 def commands(block):
     """Each command of a console block with its expected output."""
     for part in re.split(r"^\$ ", block, flags=re.M)[1:]:
@@ -124,7 +160,7 @@ class Folder(unittest.TestCase):
         self.room.cleanup()
 
     def ran(self, words, **options):
-        return subprocess.run(words, cwd=self.folder, env=self.environment, capture_output=True, text=True, timeout=60, **options)
+        return subprocess.run(words, cwd=self.folder, env=self.environment, capture_output=True, text=True, timeout=900, **options)
 
 
 class Shown(Folder):
@@ -177,6 +213,9 @@ class Listed(unittest.TestCase):
         self.assertEqual([int(number) for _, number in listed], list(range(1, len(self.causes()) + 1)))
         self.assertEqual([name.replace("_", "") for name, _ in listed], [it.upper() for it in self.causes()])
 
+    def test_the_headers_list_of_causes_is_made_from_the_source(self):
+        self.assertEqual(subprocess.run([sys.executable, os.path.join(TOP, "packaging", "header.py"), "--check"]).returncode, 0)
+
     def test_commands_are_the_same_wherever_they_are_listed(self):
         helped = subprocess.run([PROGRAM, "--help"], capture_output=True, text=True).stdout
         names = re.findall(r"^  (\w+)  +\w", helped.split("Commands:")[1].split("Options:")[0], re.M)
@@ -189,8 +228,25 @@ class Listed(unittest.TestCase):
         helped = subprocess.run([PROGRAM, "--help"], capture_output=True, text=True).stdout
         statuses = set(re.findall(r"^  (\d)  ", helped.split("Statuses:")[1], re.M))
         self.assertEqual(statuses, set("01234"))
-        for name, row in (("README.md", r"^\| (\d) \|"), ("docs/FORMAT.md", r"^\| (\d) \| .* \| .* \|$"), ("docs/exifnorm.1", r"^\.B (\d)$")):
-            self.assertLessEqual(statuses, set(re.findall(row, text_of(name), re.M)), name)
+        listed = text_of("docs/FORMAT.md").split("\n## 8.")[1].split("\n## 9.")[0]
+        for name, row, text in (
+            ("README.md", r"^\| (\d+) \|", text_of("README.md")),
+            ("docs/FORMAT.md", r"^\| (\d+) \|", listed),
+            ("docs/exifnorm.1", r"^\.B (\d+)$", text_of("docs/exifnorm.1")),
+        ):
+            self.assertEqual(set(re.findall(row, text, re.M)), statuses, name)
+
+    def test_figures_are_those_of_the_tests(self):
+        laws = len(re.findall(r"^    LAW\(", text_of("tests/library/fuzz/laws.h"), re.M))
+        mistakes = len(re.findall(r"^    MISTAKE\(", text_of("tests/library/fuzz/wrong.c"), re.M))
+        for name, text in (
+            ("docs/FUZZING.md", f"It checks {laws} laws"),
+            ("docs/FUZZING.md", f"one of {mistakes} mistakes"),
+            ("SECURITY.md", f"at most {watching.TIMES} times the input"),
+            ("bench/README.md", f"to {watching.TIMES} times the input"),
+            ("docs/FORMAT.md", f"`LIMIT` = {LIMIT:,} bytes"),
+        ):
+            self.assertIn(text, text_of(name), name)
 
     def test_what_must_be_read_has_so_many_lines(self):
         rows = re.findall(r"^\| (px_\w+) \| ([^|]*) \| (\d+) \|$", text_of("docs/PROOFS.md"), re.M)
@@ -219,6 +275,15 @@ class Listed(unittest.TestCase):
         for file in files:
             self.assertNotRegex(file.read_text(encoding="utf-8"), r"Rattle\.px_\w+\.specs\.calls", str(file))
 
+    def test_the_logic_of_the_toolchain_is_the_one_that_is_named(self):
+        """Another kit of the same logic proves the same."""
+        tool = shutil.which("rt")
+        if not tool:
+            self.skipTest("rt is not on the PATH")
+        printed = subprocess.run([tool, "version"], capture_output=True, text=True).stdout
+        self.assertEqual(logics(text_of("README.md")), logics(printed))
+        self.assertEqual(len(logics(printed)), 1, printed)
+
     def test_the_version_is_stated_once(self):
         stated = re.search(r'VERSION: &str = "([^"]+)"', text_of("crates/px_engine/src/version.rt")).group(1)
         self.assertEqual(re.search(r"^## (\S+)", text_of("CHANGELOG.md"), re.M).group(1), stated)
@@ -231,7 +296,9 @@ class Written(unittest.TestCase):
     """How documents and sources are written."""
 
     def test_examples(self):
+        examples(header)
         examples(named)
+        examples(rules)
         examples(sys.modules[__name__])
 
     def test_the_readme_is_short(self):
@@ -246,12 +313,25 @@ class Written(unittest.TestCase):
         for name in (*documents, HEADER, *sorted(pages)):
             self.assertEqual(re.findall(rf"\b(?:{'|'.join(old)})\b", prose(name), re.I), [], name)
 
+    def test_other_documents_have_the_terms_of_the_field(self):
+        """What contributors read has none of these words, but for those that have a sense of their own there."""
+        old = re.compile(rf"\b(?:{'|'.join(set(old_words()) - ORDINARY - LOGICAL)})\b", re.I)
+        self.assertGreater(len(named.DOCUMENTS), 25)
+        for path in named.DOCUMENTS:
+            name = str(path.relative_to(TOP))
+            text = re.sub(r"^    .*$", "", prose(name), flags=re.M).partition("| Don't write |")[0]
+            self.assertEqual(old.findall(text), [], name)
+
     def test_comments_have_the_terms_of_the_field(self):
         """Comments of sources have none of these words either, but for those that have a sense of their own there."""
         old = re.compile(rf"\b(?:{'|'.join(set(old_words()) - ORDINARY)})\b", re.I)
         sources = [(it, comments_of_rattle) for it in sorted(Path(TOP).glob("crates/*/src/*.rt"))]
-        sources += [(it, comments_of_python) for folder in ("python", "build", "packaging") for it in sorted(Path(TOP, folder).rglob("*.py"))]
-        self.assertGreater(len(sources), 150)
+        folders = [Path(TOP, it) for it in ("python", "build", "packaging", "docs", "tests", "bench")]
+        sources += [(it, comments_of_python) for folder in folders for it in sorted(folder.rglob("*.py"))]
+        sources += [(it, comments_of_c) for folder in folders for kind in ("c", "cpp", "h", "rs") for it in sorted(folder.rglob(f"*.{kind}"))]
+        shells = ("exifnorm", "test", "Makefile", "build/listing.sh", ".ci/run", "tests/parts.txt", "debian/rules", "packaging/exifnorm.map")
+        sources += [(Path(TOP, it), comments_of_shell) for it in shells]
+        self.assertGreater(len(sources), 250)
         for path, comments in sources:
             for it in comments(path.read_text(encoding="utf-8")):
                 self.assertNotRegex(it, old, str(path.relative_to(TOP)))
@@ -298,7 +378,7 @@ def main(words):
     global PROGRAM, LIBRARY
     PROGRAM, LIBRARY = map(os.path.abspath, words)
     load = unittest.defaultTestLoader.loadTestsFromModule
-    return run_suite(unittest.TestSuite(map(load, (sys.modules[__name__], named))))
+    return run_suite(unittest.TestSuite(map(load, (sys.modules[__name__], named, rules))))
 
 
 if __name__ == "__main__":

@@ -9,10 +9,11 @@ import os
 import shutil
 import subprocess
 import tempfile
+import uuid
 from concurrent.futures import ThreadPoolExecutor
 from pathlib import Path
 
-from counting import Counter
+from counting import Counter, reason
 from paths import TOP
 
 PROGRAM, ARCHIVE = "crates/px_cli/out/px_cli", "out/proved/libpx_c.a"
@@ -129,6 +130,12 @@ pub fn two(rt: &impl Wait) -> u32
 """
 
 
+HOURS = 4 * 3600  # what a command may take at most, also on a very busy machine
+
+# In each source, so that the toolchain has kept no proof of it from an earlier run on this machine.
+UNIQUE = f"// {uuid.uuid4()}\n"
+
+
 class Project:
     """The small repository in a folder that is made for it."""
 
@@ -137,10 +144,12 @@ class Project:
         top.mkdir()
         (top / "crates.txt").touch()
         self.call("rt", "new", "crates/px_bytes", "start_lib")
-        (top / "crates/px_bytes/BUILD.bazel").unlink()
+        (top / "crates/px_bytes/BUILD.bazel").unlink(missing_ok=True)  # older toolchains write one
         for name, text in FILES.items():
             (top / name).parent.mkdir(parents=True, exist_ok=True)
             (top / name).write_text(text, encoding="utf-8")
+        for source in top.glob("crates/*/src/*.rt"):
+            source.write_text(UNIQUE + source.read_text(encoding="utf-8"), encoding="utf-8")
         shutil.copytree(TOP / "build", top / "build", ignore=shutil.ignore_patterns("__pycache__"))
         shutil.copytree(TOP / "packaging", top / "packaging")
         for name in ("exifnorm", "Makefile", "test"):
@@ -150,7 +159,7 @@ class Project:
 
     def call(self, *words: str, folder: str = ".", **named: str) -> subprocess.CompletedProcess:
         environment = {key: value for key, value in os.environ.items() if not key.startswith(("RT_", "EXIFNORM_", "MAKE", "TEST_PARTS"))}
-        how = {"cwd": self.top / folder, "stdin": subprocess.DEVNULL, "capture_output": True, "text": True, "timeout": 900}
+        how = {"cwd": self.top / folder, "stdin": subprocess.DEVNULL, "capture_output": True, "text": True, "timeout": HOURS}
         return subprocess.run(words, env={**environment, **named}, check=False, **how)
 
     def bytes_of(self, name: str) -> bytes:
@@ -175,7 +184,16 @@ class Gate(Project):
         archive = self.top / ARCHIVE
         before = archive.stat().st_mtime_ns if archive.exists() else 0
         self.is_archived = self.call("make", ARCHIVE).returncode == 0 and archive.stat().st_mtime_ns == before
+        self.again = again(self)
         return self
+
+
+def again(gate: Gate) -> subprocess.CompletedProcess:
+    """./test in a copy of the sources, which the toolchain proves no more where it has kept the proofs."""
+    copy = Project.__new__(Gate)
+    copy.top = gate.top.with_name("again")
+    shutil.copytree(gate.top, copy.top, ignore=shutil.ignore_patterns("out"))
+    return copy.call("./test")
 
 
 def due(is_so: bool, what: object) -> None:
@@ -197,6 +215,12 @@ def the_gate_proves_each_crate_once_and_builds(user: FromNothing, gate: Gate) ->
     due((said.count("fn px_bytes::echo: proved\n"), said.count("fn px_cli::main: proved\n")) == (1, 1), said)
     due("taking what was just proved of px_cli" in said and "proving px_bytes" not in said, said)
     due("proving px_c (1 of 1, 0 left)" in said, said)
+
+
+def what_the_toolchain_kept_of_an_earlier_run_is_taken_too(user: FromNothing, gate: Gate) -> None:
+    said = gate.again.stdout + gate.again.stderr
+    due(gate.again.returncode == 0 and gate.again.stdout.endswith(" seconds\n7 passed, 0 failed\n"), said)
+    due("taking what was just proved of px_cli" in said and "proving px_bytes" not in said, said)
 
 
 def the_program_that_the_gate_proved_is_the_launcher_s(user: FromNothing, gate: Gate) -> None:
@@ -235,6 +259,7 @@ def what_the_gate_refuses_is_not_built(user: FromNothing, gate: Gate) -> None:
 TESTS = [
     the_launcher_proves_builds_and_runs,
     the_gate_proves_each_crate_once_and_builds,
+    what_the_toolchain_kept_of_an_earlier_run_is_taken_too,
     the_program_that_the_gate_proved_is_the_launcher_s,
     the_archive_is_that_of_rt_lib,
     nothing_of_the_gate_is_taken_that_was_changed_since,
@@ -242,15 +267,26 @@ TESTS = [
 ]
 
 
+def build_both(folder: Path) -> tuple[FromNothing, Gate]:
+    """Makes and builds both repositories at once."""
+    with ThreadPoolExecutor(2) as pool:
+        user, gate = (pool.submit(lambda kind=kind, name=name: kind(folder / name).build()) for kind, name in ((FromNothing, "user"), (Gate, "gate")))
+        return user.result(), gate.result()
+
+
 def run(counter: Counter) -> None:
-    """Builds both repositories, and counts the tests that the counter asks for."""
+    """Builds both repositories, and counts the tests that the counter asks for. Where they can't be made, each of these fails."""
     tests = [it for it in TESTS if counter.asks(it.__name__)]
     for test in tests if not shutil.which("rt") else []:
         counter.skip(test.__name__, "there is no command rt on the PATH")
     if not tests or not shutil.which("rt"):
         return
-    with tempfile.TemporaryDirectory() as folder, ThreadPoolExecutor(2) as pool:
-        made = [FromNothing(Path(folder) / "user"), Gate(Path(folder) / "gate")]
-        user, gate = pool.map(lambda it: it.build(), made)
+    with tempfile.TemporaryDirectory() as folder:
+        try:
+            user, gate = build_both(Path(folder))
+        except Exception as why:
+            for test in tests:
+                counter.check(test.__name__, False, reason(why))
+            return
         for test in tests:
             counter.run(test.__name__, lambda it=test: it(user, gate))

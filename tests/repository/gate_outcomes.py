@@ -1,7 +1,9 @@
-"""Tests ./test over parts that are none: each way in which a part can end, with its last line and its status."""
+"""Tests ./test with false parts: each way in which a part can end, with its last line and its status."""
 
 import os
+import re
 import shutil
+import signal
 import subprocess
 import tempfile
 import unittest
@@ -10,6 +12,28 @@ from pathlib import Path
 from typing import Optional
 
 from paths import TESTS, TOP
+
+
+# Debian packages, and the commands of each that scripts name in quotes.
+COMMANDS = """build-essential: cc c++ make objcopy nm readelf
+strace: strace
+valgrind: valgrind
+groff: groff
+man-db: man
+pkg-config: pkg-config
+cmake: cmake
+zsh: zsh
+fish: fish
+lintian: lintian
+dpkg-dev: dpkg-buildpackage
+clang: clang
+afl++: afl-clang-fast
+libimage-exiftool-perl: exiftool
+imagemagick: convert
+chromium: chromium
+parallel: parallel
+sqlite3: sqlite3
+"""
 
 
 @dataclass
@@ -42,7 +66,7 @@ class Folder(unittest.TestCase):
             (self.folder / "tests" / "parts.txt").write_text(listed)
         own = {it: value for it, value in os.environ.items() if it not in ("CI", "TEST_PARTS")}
         own["PATH"] = f"{self.folder}/bin:{own['PATH']}"
-        ran = subprocess.run([self.folder / "test", *words], env={**own, **environment}, capture_output=True, text=True, timeout=60)
+        ran = subprocess.run([self.folder / "test", *words], env={**own, **environment}, capture_output=True, text=True, timeout=900)
         return Ended(ran.returncode, (ran.stdout.splitlines() or [""])[-1], ran.stdout + ran.stderr)
 
     def part(self, command: str, least: str = "3", name: str = "a", more: str = "") -> str:
@@ -167,6 +191,44 @@ class Gate(Folder):
             self.assertEqual((ended.status, ended.last[:9]), (1, "0 passed,"), listed + ended.printed)
             self.assertNotIn("begins", ended.printed)
 
+    def test_what_is_built_is_counted(self):
+        for program, made, last in ((0, 0, "2 passed, 0 failed"), (1, 0, "1 passed, 1 failed"), (0, 1, "1 passed, 1 failed"), (1, 1, "0 passed, 2 failed")):
+            self.command("make", f"exit {made}")
+            (self.folder / "exifnorm").write_text(f"#!/bin/sh\nexit {program}\n")
+            (self.folder / "exifnorm").chmod(0o755)
+            ended = self.ran(self.part("build", least="2"))
+            self.assertEqual((ended.status, ended.last), (program | made, last), ended.printed)
+
+    def test_where_there_is_no_dpkg_no_package_is_called_missing(self):
+        for name in "cat date dirname grep mktemp paste rm sed sh sort tail tee tr uniq".split():
+            (self.folder / "bin" / name).symlink_to(shutil.which(name))
+        (self.folder / "tests" / "parts.txt").write_text(self.part("echo 3 passed, 0 failed", more="Packages: zsh fish\n"))
+        environment = {"PATH": str(self.folder / "bin"), "TMPDIR": str(self.folder)}
+        ran = subprocess.run([self.folder / "test"], env=environment, stdout=subprocess.PIPE, stderr=subprocess.STDOUT, text=True, timeout=900)
+        self.assertEqual((ran.returncode, ran.stdout.splitlines()[-1]), (0, "3 passed, 0 failed"), ran.stdout)
+        self.assertNotIn("are missing", ran.stdout)
+
+    def test_it_runs_in_its_own_folder(self):
+        """From another folder, also where CDPATH has a folder of the same name."""
+        (self.folder / "tests" / "parts.txt").write_text(self.part("echo 3 passed, 0 failed"))
+        (self.folder / "elsewhere" / self.folder.name).mkdir(parents=True)
+        words = ["sh", f"{self.folder.name}/test"]
+        for more in ({}, {"CDPATH": str(self.folder / "elsewhere")}):
+            ran = subprocess.run(words, cwd=self.folder.parent, env={**os.environ, "TEST_PARTS": "", **more}, capture_output=True, text=True, timeout=600)
+            self.assertEqual((ran.returncode, ran.stdout.splitlines()[-1]), (0, "3 passed, 0 failed"), ran)
+
+    def test_a_run_that_is_stopped_leaves_nothing(self):
+        (self.folder / "temporary").mkdir()
+        os.mkfifo(self.folder / "pipe")
+        (self.folder / "tests" / "parts.txt").write_text(self.part(f"echo begun >{self.folder}/pipe; sleep 1000", more="Beside: yes\n"))
+        environment = {**os.environ, "TEST_PARTS": "", "TMPDIR": str(self.folder / "temporary")}
+        started = subprocess.Popen([self.folder / "test"], env=environment, stdout=subprocess.DEVNULL, stderr=subprocess.DEVNULL, start_new_session=True)
+        self.assertEqual((self.folder / "pipe").read_text(), "begun\n")
+        started.send_signal(signal.SIGTERM)
+        self.assertNotEqual(started.wait(600), 0)
+        os.killpg(started.pid, signal.SIGKILL)
+        self.assertEqual(list((self.folder / "temporary").iterdir()), [])
+
     def test_no_list(self):
         ended = self.ran(None)
         self.assertEqual((ended.status, ended.last), (1, "0 passed, 1 failed"))
@@ -186,10 +248,10 @@ class Gate(Folder):
 
 
 class Proved(Folder):
-    """The part rt over an rt that is none, and the mark that says since when what was proved holds."""
+    """The part rt with a false rt, and the file that notes the time from which on the proofs are valid."""
 
     def proved(self, *lines: str, status: int = 0) -> tuple:
-        """The status and the last line, and whether the mark is there, which a run before it left."""
+        """The status, the last line, and whether the note of an earlier run is still there."""
         (self.folder / "out").mkdir(exist_ok=True)
         (self.folder / "out" / "proved-since").touch()
         self.command("rt", '[ "$*" = ci ] || exit 9\n' + "".join(f"echo '{it}'\n" for it in lines) + f"exit {status}")
@@ -200,20 +262,28 @@ class Proved(Folder):
         self.assertEqual(self.proved("0 passed, 0 failed"), (1, "0 passed, 1 failed", False))
 
     def test_a_program_that_is_not_proved_is_not_taken(self):
-        lines = "rt: px_cli NOT PROVED", "rt: px_cli: its tests are proved", "1 passed, 1 failed"
+        lines = "rt: px_cli NOT PROVED", "rt: px_cli: its tests are proved", "rt: px_c is kept: an earlier run", "1 passed, 1 failed"
+        self.assertEqual(self.proved("rt: px_cli proved but for one function", *lines, status=1), (1, "1 passed, 1 failed", False))
         self.assertEqual(self.proved(*lines, status=1), (1, "1 passed, 1 failed", False))
 
     def test_a_program_that_is_proved_is_taken(self):
         self.assertEqual(self.proved("rt: px_cli proved", "2 passed, 0 failed"), (0, "2 passed, 0 failed", True))
         self.assertEqual(self.proved("rt: px_cli proved", "2 passed, 1 failed", status=1), (1, "2 passed, 1 failed", True))
+        kept = "rt: px_cli is kept: an earlier run on this machine proved the same files over the same libraries"
+        self.assertEqual(self.proved(kept, "2 passed, 0 failed"), (0, "2 passed, 0 failed", True))
 
 
 class Listed(unittest.TestCase):
-    """tests/parts.txt itself, and who uses it."""
+    """tests/parts.txt itself, and the scripts that use it."""
 
     def parts(self) -> list:
-        return [dict(line.split(": ", 1) for line in it.splitlines() if not line.startswith("#"))
-                for it in (TOP / "tests" / "parts.txt").read_text().split("\n\n") if "\nPart: " in f"\n{it}"]  # fmt: skip
+        """The parts; their packages are a list, as a part may have several lines of them."""
+        found = []
+        for text in (TOP / "tests" / "parts.txt").read_text().split("\n\n"):
+            lines = [it.split(": ", 1) for it in text.splitlines() if not it.startswith("#")]
+            if dict(lines).get("Part"):
+                found.append({**dict(lines), "Packages": [it for name, it in lines if name == "Packages"]})
+        return found
 
     def test_each_script_is_a_part(self):
         commands = " ".join(it["Command"] for it in self.parts())
@@ -228,6 +298,28 @@ class Listed(unittest.TestCase):
         names = [it["Part"] for it in self.parts()]
         self.assertEqual(names[0], "rt")
         self.assertLessEqual({"build", "program", "tests", "sources", "launcher", "streams", "library", "documents", "pictures"}, set(names))
+
+    def modules(self, script: Path, known: dict) -> set:
+        """A script and the modules that it imports, without those that are scripts themselves."""
+        found, left = {script}, [script]
+        while left:
+            for name in re.findall(r"^ *(?:import|from) (\w+)", left.pop().read_text(encoding="utf-8"), re.M):
+                module = known.get(name)
+                if module and module not in found and not module.read_text(encoding="utf-8").startswith("#!"):
+                    found.add(module)
+                    left.append(module)
+        return found
+
+    def test_each_part_lists_the_packages_of_its_commands(self):
+        known, wanted = {it.stem: it for it in TESTS.rglob("*.py")}, 0
+        for part in self.parts():
+            scripts = [TOP / it for it in part["Command"].split() if it.endswith(".py")]
+            texts = [it.read_text(encoding="utf-8") for script in scripts for it in self.modules(script, known)]
+            for package, command in ((line.partition(":")[0], it) for line in COMMANDS.splitlines() for it in line.split()[1:]):
+                if any(re.search(rf"""["'\[(,]{re.escape(command)}["',)\]]""", it) for it in texts):
+                    wanted += 1
+                    self.assertIn(package, " ".join(part["Packages"]).split(), f"{part['Part']} calls {command}")
+        self.assertGreater(wanted, 30)
 
     def test_the_part_rt_counts_each_crate_and_each_wrong_body(self):
         """`rt ci` counts one test for each crate, and one for each edit that must fail."""
@@ -245,7 +337,7 @@ class Listed(unittest.TestCase):
                 self.assertEqual(called, [*expected, "test "])
 
     def gate(self, room: Path, user: str, fails: str) -> list:
-        """What .ci/run calls, in order: the packages of each apt-get, and ./test with its words."""
+        """What .ci/run calls, in order: the packages of each apt-get, and ./test with its arguments."""
         for name in (".ci", "bin"):
             (room / name).mkdir()
         shutil.copy(TOP / ".ci" / "run", room / ".ci" / "run")

@@ -56,7 +56,7 @@ class Fails(unittest.TestCase):
 
 
 class Passes(unittest.TestCase):
-    """The same of tests that don't fail."""
+    """Tests of each outcome but failure."""
 
     def passes(self):
         pass
@@ -81,7 +81,7 @@ class IsNotSetUp(unittest.TestCase):
 
 
 class Counting(unittest.TestCase):
-    """What counting.py makes of tests."""
+    """How counting.py counts tests."""
 
     def setUp(self) -> None:
         changed = mock.patch.dict(os.environ)
@@ -217,9 +217,9 @@ class Wrong(Room):
     """The output of run.py for the built program with something changed around it."""
 
     cases = {it.name: it for it in read_all(CASES)}
-    refused = "a caption behind the six bytes of a JPEG segment, by check"
+    refused = "a caption after the six bytes of a JPEG segment, by check"
     shown = "a FLOAT, an SRATIONAL and two SSHORTs, by show"
-    normalised = "a caption with three zero octets behind it, by normalise"
+    normalised = "a caption with three zero octets after it, by normalise"
     filtered = "own form of one SHORT, through standard input"
 
     def judged(self, name: str, text: str) -> list:
@@ -277,17 +277,18 @@ class Wrong(Room):
 
 
 class Titles(unittest.TestCase):
-    """What run.py runs: so many tests under each title, and none of them lost on the way."""
+    """The tests that run.py runs: a number under each title, and none is lost."""
 
     least = {
-        "cases": 594,
-        "cases, with growths refused in turn": 485,
-        "what the cases cost": 521,
-        "blocks nearly in order": 78,
-        "blocks of every kind, and what they cost": 423,
-        "blocks of every kind, with growths refused": 423,
-        "devices that fail once": 259,
-        "devices that move one byte in a call": 481,
+        "cases": 593,
+        "the block of each cause": 19,
+        "cases, with growths refused in turn": 484,
+        "what the cases cost": 520,
+        "blocks nearly in order": 84,
+        "blocks of every kind, and what they cost": 450,
+        "blocks of every kind, with growths refused": 450,
+        "devices that fail once": 286,
+        "devices that move one byte in a call": 480,
         "devices that move one byte in a call, and fail once": 10,
         "large blocks, and what they cost": 9,
         "the libraries that are preloaded": 1,

@@ -42,7 +42,7 @@ def text_of(*path: str) -> str:
 
 
 class Shared:
-    """An installation that several tests use. It is made where one first asks for something of it."""
+    """An installation that several tests use. It is made when the first of them needs it."""
 
     def __init__(self, it: Tree, mask: int, python: str = "") -> None:
         """With a folder for a Python of its own, which is made too."""
@@ -161,7 +161,7 @@ class Program(unittest.TestCase):
 
 
 def words_of_help(program: Path, *words: str) -> tuple[set[str], set[str]]:
-    """The commands and the options that a help text shows, found in another way than packaging/grammar.py does."""
+    """The commands and the options in a help text, found in another way than by `packaging/grammar.py`."""
     text = run(program, *words, "--help", COLUMNS="500", PYTHONDONTWRITEBYTECODE="1")
     body = text.partition("Statuses:")[0]
     commands = set(re.findall(r"^ {2,4}([a-z]+)  +\w", body, re.MULTILINE))
@@ -182,7 +182,7 @@ class Completion(unittest.TestCase):
         return set(run("bash", "-c", code, "bash", file, *words, folder=EXAMPLES).split())
 
     def zsh(self, *words: str) -> str:
-        """What the function for zsh hands to those that show it."""
+        """What the function for zsh passes to the functions that show it."""
         code = """
 _describe() { local -a it=(${(P)2}); print -rl -- ${it%%:*} }
 _arguments() { print -rl -- "at $CURRENT of $words" "$@" }
@@ -223,6 +223,11 @@ autoload_and_run $1"""
         self.assertEqual(self.bash("exifnorm", "show", "a", "comp"), set(), "a second file for show")
         self.assertNotIn("compare.c", self.bash("exifnorm-pictures", "index", "--jobs", "comp"))
 
+    def test_bash_takes_what_it_offers_for_names_of_files(self) -> None:
+        """So it puts a slash after a folder, and a backslash before a space."""
+        code = 'source "$1"; compopt() { echo "$*"; }; COMP_WORDS=(exifnorm show comp) COMP_CWORD=2; _exifnorm'
+        self.assertEqual(run("bash", "-c", code, "bash", USR.at("share/bash-completion/completions/exifnorm"), folder=EXAMPLES), "-o filenames\n")
+
     def test_zsh_is_at_the_right_word_of_a_command(self) -> None:
         self.assertIn("at 3 of same --kind \n", self.zsh("exifnorm-pictures", "same", "--kind", ""))
 
@@ -237,7 +242,7 @@ autoload_and_run $1"""
 
 
 class Libraries(unittest.TestCase):
-    """The header, the libraries and exifnorm.pc, used from the installed tree alone."""
+    """The header, the libraries and exifnorm.pc, used only from the installed tree."""
 
     def setUp(self) -> None:
         self.work = Path(tempfile.mkdtemp(dir=ROOM))
@@ -330,7 +335,7 @@ class Libraries(unittest.TestCase):
 
 
 class Python(unittest.TestCase):
-    """The Python packages, used from the installed tree alone."""
+    """The Python packages, used only from the installed tree."""
 
     def python(self, it: Shared, *words: str | Path) -> str:
         """Runs the Python of an installation with the installed packages."""
@@ -362,7 +367,7 @@ class Python(unittest.TestCase):
 
 
 class PicturesCommand(unittest.TestCase):
-    """exifnorm-pictures, started from the installed tree without help of the environment."""
+    """exifnorm-pictures, started from the installed tree without variables of the environment."""
 
     def call(self, it: Shared | Tree, *words: str | Path, status: int = 0) -> str:
         command = it.at("bin/exifnorm-pictures")
@@ -565,7 +570,7 @@ class Manifest(unittest.TestCase):
 
 
 class DebianLists(unittest.TestCase):
-    """How debian/*.install share out what `make install` writes, without building the packages."""
+    """Which package gets each installed file by debian/*.install. No package is built."""
 
     PACKAGES = {
         "bin/exifnorm": "exifnorm",
@@ -593,7 +598,7 @@ class DebianLists(unittest.TestCase):
         self.patterns = [(package, line) for package, it in lists for line in it.read_text().splitlines() if line and line[0] != "#"]
 
     def owners(self, name: str) -> list[str]:
-        """The packages whose lists have a file, or a folder that it is in. A star stands for no slash."""
+        """The packages whose lists have a file, or a folder that it is in. A star matches anything but a slash."""
         parts = name.split("/")
         ways = ["/".join(parts[: i + 1]) for i in range(len(parts))]
         as_pattern = {line: re.escape(line).replace(r"\*", "[^/]*") for _, line in self.patterns}

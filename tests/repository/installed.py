@@ -31,7 +31,7 @@ def run(*words: str | Path, folder: Path = TOP, status: int = 0, mask: int = 0o0
         stdout=subprocess.PIPE,
         stderr=subprocess.STDOUT,
         umask=mask,
-        timeout=1800,
+        timeout=4 * 3600,  # a guard alone, also on a very busy machine
         check=False,
     )
     said = ran.stdout.decode("utf-8", "replace")
@@ -46,7 +46,7 @@ def kind_of(path: Path) -> int | str:
 
 
 def tree(folder: Path) -> dict[str, int | str]:
-    """All that is below a folder: the modes of files and of folders, whose names end with a slash, and where links lead."""
+    """The content of a folder: the mode of each file and of each folder, whose name ends with a slash, and the target of each link."""
     found = {}
     for path in folder.rglob("*"):
         is_folder = path.is_dir() and not path.is_symlink()
@@ -71,7 +71,7 @@ def modules() -> list[str]:
 
 
 def packages_path(python: str, prefix: str) -> str:
-    """The folder below a prefix in which a Python looks for packages: that of its own module site, or else the usual one."""
+    """The folder below a prefix in which a Python looks for packages: the one of its module `site`, or else the usual one."""
     code = """
 import site, sys
 print(*site.getsitepackages(), "%s/lib/python%d.%d/site-packages" % (sys.argv[1], *sys.version_info[:2]), sep="\\n")"""
@@ -107,7 +107,7 @@ class Tree:
         return Path(f"{self.root}{self.packages}")
 
     def expected(self) -> dict[str, int | str]:
-        """The list of all that install writes."""
+        """The list of all installed files."""
         prefix, packages = self.prefix[1:], self.packages[1:]
         dist_info = f"{packages}/exifnorm-{VERSION}.dist-info"
         up = os.path.relpath(f"/{prefix}/lib", f"/{packages}/exifnorm")

@@ -9,7 +9,7 @@ import sys
 
 from room import Room, due
 
-# Runs build/launch.py, and at its Nth change of a file kills it, or lets that change and all later ones fail for want of space.
+# Runs build/launch.py, and at its Nth change of a file kills it, or lets that change and all later ones fail as on a full disk.
 FAULTY = """import errno, os, runpy, signal, sys
 how, left = sys.argv[1], int(sys.argv[2])
 sys.argv = sys.argv[3:]
@@ -38,7 +38,7 @@ CRATES = "px_bytes: byteorder\npx_cli: px_bytes\n"
 
 
 def small(room: Room, name: str) -> Room:
-    """Two crates, and a Python that makes the fault which the room's file `fault` names."""
+    """Two crates, and a Python that makes the fault that the file `fault` names."""
     made = Room(room.folder / name, CRATES)
     (made.folder / "faulty.py").write_text(FAULTY)
     made.command(made.bin / "python3", f'#!/bin/sh\nshift\nexec "{sys.executable}" -E "ROOM/faulty.py" $(cat "ROOM/fault") "$@"\n')
@@ -47,7 +47,7 @@ def small(room: Room, name: str) -> Room:
 
 
 def at_each_step(room: Room, how: str, begin) -> None:
-    """Builds with a fault at the first change of a file, at the second, and so on; a call after each is right."""
+    """Builds with a fault at the first change of a file, then at the second, and so on. The next call must then be right."""
     made = small(room, how)
     for step in range(1, 200):
         text = f"text {step}"
@@ -94,7 +94,7 @@ def a_full_disk_at_any_step_of_a_later_build_is_an_error(room: Room) -> None:
 
 
 def a_file_that_cannot_grow_is_an_error(room: Room) -> None:
-    """What this process may write to one file ends after some bytes, as on a full disk; the compiler may write more."""
+    """This process may write only some bytes to one file, as on a full disk; the compiler may write more."""
     made = Room(room.folder / "bytes", CRATES)
     rattle = (made.folder / "kit/bin/rattle").read_text()
     made.command(made.folder / "kit/bin/rattle", rattle.replace("#!/bin/sh\n", "#!/bin/sh\nulimit -S -f unlimited\n"))

@@ -1,12 +1,14 @@
-"""Tests what streams.py, open_files.py, faults.py and growths.py find of programs that are wrong, sources.py of sources, and installed.py
-of installed trees, so that each of them is judged too.
+"""Tests the tests: that `streams.py`, `open_files.py`, `faults.py` and `growths.py` find mistakes in wrong programs, `sources.py` in wrong
+sources, and `installed.py` in wrong trees.
 
 self_tests.py runs these.
 """
 
 import contextlib
+import dataclasses
 import io
 import os
+import signal
 import subprocess
 import sys
 import tempfile
@@ -69,7 +71,7 @@ def outcome(status=4, output=WRITE + b"\n", complaints=b"", trace="", **files) -
 
 
 class Faults(unittest.TestCase):
-    """What faults.py takes for right, of outcomes that are spelled here."""
+    """Which outcomes faults.py accepts; they are written out here."""
 
     def test_a_run_is_right_by_its_status_its_output_and_its_files(self):
         well = outcome(0, b"", OUT=FORM)
@@ -134,8 +136,74 @@ class Faults(unittest.TestCase):
         self.assertEqual(ways["brk"], ["retval=0", "retval=0+"])
 
 
+class Runs(unittest.TestCase):
+    """What faults.py finds of runs that are killed, whose writes are cut, and that have little memory; a function ends them here."""
+
+    trace = "munmap(1) = 0\nopenat(1) = 3\nread(3) = 1\nwrite(1) = 1\nclose(3) = 0\n"
+
+    def failed(self, test, ended) -> int:
+        """How many checks fail where a run ends as the function has it, by the run, the words before the program, and the limit."""
+
+        def run(it: Run, before: tuple = (), trace: bool = True, limits: tuple = ()) -> Outcome:
+            return ended(it, before, limits[0][1] if limits else 0)
+
+        counter = Counter(only="")
+        with contextlib.redirect_stdout(io.StringIO()), mock.patch.object(faults, "record", lambda _: faults.FILES["record"]):
+            test(mock.Mock(run=run), counter)
+        self.assertGreater(counter.total, 15)
+        return counter.failed
+
+    def killed(self, status=-signal.SIGKILL, **files):
+        """A killed run: OUT is unchanged at first, and then the expected form."""
+
+        def ended(it: Run, before: tuple, _: int) -> Outcome:
+            made = faults.files_due(it) if "write" in "".join(before) else faults.FILES
+            return Outcome(status if before else 0, b"", b"", {**made, **files}, self.trace)
+
+        return self.failed(faults.kills, ended)
+
+    def test_a_kill_leaves_what_was_or_a_prefix(self):
+        self.assertEqual(self.killed(), 0)
+        for wrong in ({"status": 0}, {"status": -signal.SIGTERM}, {"OUT": b"x"}, {"one": b""}, {"more": b""}):
+            self.assertGreater(self.killed(**wrong), 10, wrong)
+
+    def cut(self, change):
+        def ended(it: Run, _: tuple, most: int) -> Outcome:
+            return change(outcome(OUT=faults.form_of(faults.FILES[it.words[1]])[:most]))
+
+        return self.failed(faults.cut_writes, ended)
+
+    def test_a_write_that_is_cut_leaves_these_bytes(self):
+        self.assertEqual(self.cut(lambda it: it), 0)
+        for wrong in (
+            lambda it: dataclasses.replace(it, files={**it.files, "OUT": it.files["OUT"][:-1]}),
+            lambda it: dataclasses.replace(it, files={**it.files, "OUT": it.files["OUT"] + b"x"}),
+            lambda it: dataclasses.replace(it, status=0),
+            lambda it: dataclasses.replace(it, output=b""),
+        ):
+            self.assertGreater(self.cut(wrong), 20)
+
+    def little(self, short: Outcome, enough: int = 4 << 20, **changed):
+        """With less memory than is enough a run ends like that, else well, with these changes."""
+
+        def ended(it: Run, _: tuple, most: int) -> Outcome:
+            well = Outcome(it.status, it.output, b"", faults.files_due(it))
+            return dataclasses.replace(short, files={**well.files, "OUT": OLD}) if most < enough else dataclasses.replace(well, **changed)
+
+        return self.failed(faults.little_memory, ended)
+
+    def test_little_memory_is_reported(self):
+        line = b"failed: OutOfMemory\n"
+        self.assertEqual(self.little(outcome(output=line)), 0)
+        for wrong in (outcome(output=READ + b"\n"), outcome(output=b""), outcome(2, line), outcome(0, line), outcome(-signal.SIGSEGV, b"")):
+            self.assertGreater(self.little(wrong), 20, wrong)
+        self.assertGreater(self.little(outcome(output=line), output=b"else"), 20)
+        self.assertEqual(self.little(outcome(output=line), enough=0), 6, "memory that is never short")
+        self.assertEqual(self.little(outcome(output=line), enough=1 << 40), 6, "memory that is never enough")
+
+
 class Growths(unittest.TestCase):
-    """What growths.py takes for a run without memory."""
+    """What `growths.py` accepts of a run without memory."""
 
     case = Case("", words=["compare", "a", "b"], files={"a": b"1", "b": b"2"})
 
@@ -209,7 +277,7 @@ class Sources(unittest.TestCase):
     def test_functions_that_make_memory(self):
         for body, wrong in (("1", 0), ("let mut memory = Memory::new(alloc); two(&mut memory)", 1), ("one_in(&mut Memory::new(alloc))", 0)):
             found = self.found(sources.memory_is_made_nowhere_else, src_in_lib=f"pub fn one(alloc: A) -> u8 {{ {body} }}\n")
-            self.assertEqual(sum("makes memory and is no line" in it for it in found), wrong, body)
+            self.assertEqual(sum("makes memory and is not one line" in it for it in found), wrong, body)
             self.assertEqual(sum("makes no memory" in it for it in found), len(sources.MAKERS))
 
     def test_a_run_that_is_more_than_two_lines(self):

@@ -27,7 +27,7 @@ import first_build
 import interrupted
 import makefile
 from counting import Counter
-from room import HANDLES, Room, due, runs, wait_until
+from room import HANDLES, Room, due, runs, wait_until, was_told_to_end
 
 # Prints the state of the process that a program runs as: its number, how it treats signals, and its open files.
 PROGRAM = r"""#!/bin/sh
@@ -46,6 +46,8 @@ def the_first_call_builds_each_crate_once_and_runs(room: Room) -> None:
     due(sorted(room.built()) == ["px_bytes", "px_cli", "px_field", "px_iim"], room.log())
     due(room.built()[0] == "px_bytes" and room.built()[-1] == "px_cli", room.log())
     due("proving px_cli (4 of 4, 0 left)" in ran.stderr, ran.stderr)
+    due(not (room.top / "out/proved/making").exists(), "what was made aside is left behind")
+    due(all(it.startswith("exifnorm: ") for it in ran.stderr.splitlines()), ran.stderr)
 
 
 def a_later_call_builds_nothing_and_says_nothing(room: Room) -> None:
@@ -236,6 +238,19 @@ def a_crate_that_fails_is_told_and_built_by_the_next_call(room: Room) -> None:
     due("this crate is not proved" in ran.stderr and "px_iim was not proved" in ran.stderr, ran.stderr)
     (room.folder / "fails-px_iim").unlink()
     due(room.call("a").stdout == "one: a\n", room.log())
+
+
+def the_end_of_a_log_is_shown(room: Room) -> None:
+    (room.folder / "fails-px_iim").write_text("".join(f"line {it}\n" for it in range(1, 51)))
+    ran = room.call("a")
+    due(ran.returncode == 70 and "line 50\n" in ran.stderr and "line 1\n" not in ran.stderr, ran)
+
+
+def a_toolchain_that_fails_is_named(room: Room) -> None:
+    room.command(room.rt, "#!/bin/sh\nexit 3\n")
+    for ran, status in ((room.call("a"), 70), (room.prove("px_cli"), 1)):
+        due((ran.returncode, ran.stdout) == (status, ""), ran)
+        due("'rt'" in ran.stderr and "status 3" in ran.stderr and "Traceback" not in ran.stderr, ran)
 
 
 def a_proof_that_fails_after_a_good_build_is_not_taken(room: Room) -> None:
@@ -517,7 +532,8 @@ def stopped(room: Room, how: int) -> None:
     started.send_signal(how)
     out, why = started.communicate(timeout=300)
     due((started.returncode, out) == (70, "") and "stopped" in why, (started.returncode, out, why))
-    wait_until(lambda: not runs(working) and not runs(below), "the compiler still runs, or what it started")
+    wait_until(lambda: was_told_to_end(working) and was_told_to_end(below), "the compiler runs on, or what it started", 5)
+    wait_until(lambda: not runs(working) and not runs(below), "they don't end")
     (room.folder / "holds-px_cli").unlink()
     (room.folder / "starts-px_cli").unlink()
     ran = room.call("a")
@@ -559,6 +575,8 @@ TESTS = [
     a_built_program_runs_without_the_toolchain,
     a_call_without_python_runs_what_is_built_and_builds_nothing,
     a_crate_that_fails_is_told_and_built_by_the_next_call,
+    the_end_of_a_log_is_shown,
+    a_toolchain_that_fails_is_named,
     a_proof_that_fails_after_a_good_build_is_not_taken,
     a_crate_counts_as_proved_by_its_verdict_alone,
     a_compiler_is_asked_for_contracts_that_no_call_can_meet,
@@ -589,12 +607,14 @@ def run_in_a_room(test) -> None:
 
 
 def main() -> int:
-    """Runs the tests, four at a time."""
+    """Runs the tests, four at a time. Those of first_build.py take longest, so they begin first."""
     counter = Counter()
     tests = [it for it in [*TESTS, *build_rules.TESTS, *interrupted.TESTS, *makefile.TESTS] if counter.asks(it.__name__)]
     with ThreadPoolExecutor(4) as pool:
-        list(pool.map(lambda it: counter.run(it.__name__, lambda: run_in_a_room(it)), tests))
-    first_build.run(counter)
+        waits = [pool.submit(first_build.run, counter)]
+        waits += [pool.submit(counter.run, it.__name__, lambda it=it: run_in_a_room(it)) for it in tests]
+        for it in waits:
+            it.result()
     return counter.finish()
 
 

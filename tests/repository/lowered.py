@@ -1,7 +1,7 @@
-"""What the compiler made of functions: the lowered code (MIR) that each library has that a build left in out/proved.
+"""The lowered code (MIR) of functions, which a build leaves in out/proved beside each library.
 
-tests/repository/sources.py judges by it which functions only call their `_in` variant, and which make memory. Programs and static libraries are
-built without such a file.
+tests/repository/sources.py finds in it which functions only call their `_in` variant, and which make memory. Programs and static
+libraries are built without such a file.
 """
 
 from __future__ import annotations
@@ -28,7 +28,7 @@ Function = dict[str, Any]
 
 
 def functions(crate: str) -> Optional[dict[str, Function]]:
-    """The functions of a library by their paths; None where no library of these sources was built."""
+    """The functions of a library by their paths, or None if no library of these sources was built."""
     store = Store(Crates.read(TOP), "", TOP / "out" / "proved")
     file = store.product(crate) / "toolchain" / "mir.json"
     return dict(json.loads(file.read_text(encoding="utf-8"))) if store.is_built(crate) and file.is_file() else None
@@ -48,7 +48,7 @@ def steps(body: Any) -> Iterator[Any]:
 
 
 def callee(step: Any) -> str:
-    """The path of the function that a statement calls; nothing where it calls none, and a mark where it calls by a pointer."""
+    """The path of the function that a statement calls: empty if it calls none, and a mark if it calls by a pointer."""
     if not isinstance(step, dict) or "Call" not in step:
         return ""
     called = step["Call"][0]
@@ -126,11 +126,11 @@ def only_calls(function: Function, variant: str) -> bool:
 
 
 def with_variant(found: dict[str, Function]) -> list[str]:
-    """The functions beside an `_in` variant, over an allocator or a value that has one: no memory is passed to them."""
+    """The functions that have an `_in` variant and take no memory, but an allocator or a value with one."""
     kinds = {name: [named(it["ty"]) for it in function["locals"][1 : function["params"] + 1]] for name, function in found.items()}
     return [name for name in found if f"{name}_in" in found and MEMORY not in kinds[name]]
 
 
 def makers(found: dict[str, Function]) -> list[str]:
-    """The functions that make memory, closures counted with the function that they are in."""
+    """The functions that make memory. A closure belongs to its function."""
     return sorted({name.partition("::fn::")[0] for name, it in found.items() if any(callee(step) in MAKES for step in steps(it["body"]))})

@@ -1,4 +1,4 @@
-"""Tests of the Makefile's rules for the program and the library, over the toolchain of room.py: what is built again after what change.
+"""Tests of the Makefile's rules for the program and the library, over the toolchain of `room.py`: which change builds what again.
 
 tests/repository/launcher.py runs these. Installing is tested by tests/repository/install.py. They need make, cc, ld, objcopy and ar.
 """

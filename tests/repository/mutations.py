@@ -3,9 +3,8 @@
 
   tests/repository/mutations.py PROGRAM [--only TEXT]
 
-mutations/README.md says how the tables of mistakes are written. Each mistake is planted in a copy of the tree and of what was built,
-and the tests that are named beside it are run there. They must fail; without the mistake they must pass. The last line is
-'N passed, N failed'.
+mutations/README.md describes the tables of mistakes. Each mistake is planted in a copy of the tree and of the build, and its tests are run
+there. They must fail; without the mistake they must pass. The last line is 'N passed, N failed'.
 """
 
 import argparse
@@ -29,7 +28,7 @@ sys.path.insert(0, str(Path(__file__).resolve().parent.parent))
 import paths
 from counting import Counter
 
-SECONDS = 600  # what a run may take at most, also on a busy machine: one that takes longer says nothing
+SECONDS = 3600  # the most that a run may take, also on a very busy machine: a longer one shows nothing
 PROGRAM = "crates/px_cli/out/px_cli"
 NEEDED, ALLOWED = {"file", "old", "new", "part", "why"}, {"only"}
 NO_TEST = "FAILED: no test ran"

@@ -4,7 +4,7 @@ import re
 import unittest
 from functools import lru_cache
 from pathlib import Path
-from typing import Iterator, List, Set, Tuple
+from typing import Dict, Iterator, List, Set, Tuple
 
 from paths import TOP
 
@@ -14,9 +14,11 @@ DOCUMENTS = [*TOP.glob("*.md"), *TOP.glob("docs/**/*.md"), *TOP.glob("crates/*/*
              *TOP.glob("bench/README.md")]  # fmt: skip
 # Names of the toolchain, of std and of other tools that no source has, and words that a reader replaces.
 OTHERS = {"read_to_end", "from_be_bytes", "Consumes-trans", "Keeps-trans", "fail-alloc", "allow-holes", "fix-imports", "jpg_original", "crash-",
-          "MODULE", "rattle-kit-13b", "pythonX", "HEX", "noclobber", "hardening-no-fortify-functions"}  # fmt: skip
+          "MODULE", "pythonX", "HEX", "noclobber", "hardening-no-fortify-functions"}  # fmt: skip
 MADE = {"crates/NAME/specs", "crates/NAME/src", "proofs/MODULE/FUNCTION/", "Proof.antt"}  # examples
 ELSEWHERE = ("/", "./", "..", "out/", "bin/", "lib/", "share/", "include/", "usr/", "etc/")  # what is built or installed
+LIMIT = re.compile(r"\b16[_,]?777[_,]?2(?:16|17|23)\b")
+OTHER_NUMBERS = {"crates/px_iim/proofs/reading/Octets.antt", "python/exifnorm_pictures/others.py", "tests/blocks/kinds.py"}
 WORD = re.compile(r"[^\W\d][\w-]*")
 FILE = re.compile(r"[\w.*-]*(?:/[\w.*-]*)+|[\w-]+\.(?:rt|antt|py|md|json|sh|c|h|txt|edit)")
 
@@ -29,13 +31,18 @@ def sources() -> List[Path]:
 
 
 @lru_cache(maxsize=None)
+def text_of(path: Path) -> str:
+    """The text of a file; nothing if it is none."""
+    try:
+        return path.read_text(encoding="utf-8")
+    except UnicodeDecodeError:
+        return ""
+
+
+@lru_cache(maxsize=None)
 def words_of(path: Path) -> Set[str]:
     """The words of a file and of its name, and the parts of those with hyphens."""
-    try:
-        words = set(WORD.findall(path.read_text(encoding="utf-8")))
-    except UnicodeDecodeError:
-        words = set()
-    words |= set(WORD.findall(str(path.relative_to(TOP))))
+    words = set(WORD.findall(text_of(path))) | set(WORD.findall(str(path.relative_to(TOP))))
     return words | {part for it in words for part in it.split("-")}
 
 
@@ -68,6 +75,39 @@ def lemmas(text: str) -> Iterator[Tuple[str, str, str]]:
         crate = (heading[1] or "px_*") if heading else crate
         for names, file in re.findall(r"((?:`[^`]+`(?:, | and |,? or )?)+) in `([\w/.]+)`", line):
             yield from ((re.split(r"::|\.", it)[-1].split("(")[0].split(" ")[0], file, crate) for it in quoted(names))
+
+
+@lru_cache(maxsize=None)
+def clauses_of(crate: str) -> Dict[str, Set[str]]:
+    """The named clauses of each function of a crate. Functions of one name are one entry."""
+    found: Dict[str, Set[str]] = {}
+    for path in sorted(TOP.glob(f"crates/{crate}/src/*.rt")):
+        for part in re.split(r"\bfn (?=\w)", path.read_text(encoding="utf-8"))[1:]:
+            found.setdefault(WORD.match(part)[0], set()).update(re.findall(r"\bensures (\w+) \{", part))
+    return found
+
+
+def wrong_clauses(text: str) -> List[str]:
+    """What is wrong in each `CALL, CALL, clauses NAME, NAME` of a table: a clause of none of the calls, or a call with none of them.
+
+    >>> wrong_clauses("## px_bytes\\n| a | `Block::new`, `Ranges::add`, clause `listed` |\\n| b | px_engine's `check`, clause `taken` |")
+    ['px_bytes: new has none of these clauses: listed', 'px_engine: check has none of these clauses: taken', 'px_engine: taken is no clause of check']
+    """
+    wrong, crate = [], "px_*"
+    for line in text.splitlines():
+        heading = re.match(r"## (px_\w+)?", line)
+        crate = (heading[1] or "px_*") if heading else crate
+        for part in line.strip("|").split("|")[-1].split(";") if line.startswith("|") else []:
+            listed = re.search(r"\bclauses? ((?:`\w+`(?:, )?)+)", part)
+            other = re.search(r"\b(px_\w+)'s? `", part)
+            owner = other[1] if other else crate
+            calls = clauses_of(owner)
+            named = [it.split("::")[-1] for it in quoted(part.replace(listed[0], ""))] if listed else []
+            named = [it for it in named if it in calls]
+            clauses = quoted(listed[1]) if listed and named else []
+            wrong += [f"{owner}: {it} has none of these clauses: {', '.join(clauses)}" for it in named if not calls[it] & set(clauses)]
+            wrong += [f"{owner}: {it} is no clause of {', '.join(named)}" for it in clauses if not any(it in calls[name] for name in named)]
+    return wrong
 
 
 def files_named(file: str, crate: str) -> List[Path]:
@@ -118,6 +158,11 @@ class Named(unittest.TestCase):
                 other = re.search(rf"(px_\w+)(?:'s?)? `{name}`", line)
                 self.assertTrue(is_there(name, other[1] if other else crate), f"{name} of {crate}")
 
+    def test_each_clause_of_its_call(self):
+        text = (TOP / "docs" / "PROOFS.md").read_text(encoding="utf-8")
+        self.assertGreater(len(re.findall(r"^\|.*`, clauses? `", text, re.M)), 20)
+        self.assertEqual(wrong_clauses(text), [])
+
     def test_each_part_of_the_gate(self):
         parts = set(re.findall(r"^Part: (.*)$", (TOP / "tests" / "parts.txt").read_text(encoding="utf-8"), re.M))
         for path in DOCUMENTS:
@@ -136,6 +181,13 @@ class Named(unittest.TestCase):
             for number in re.findall(r"FORMAT (\d)(?: and (\d))?", row[4]):
                 for it in filter(None, number):
                     self.assertIn(f"\n## {it}.", (TOP / "docs" / "FORMAT.md").read_text(encoding="utf-8"), row)
+
+    def test_the_limit_is_written_in_the_files_of_its_row(self):
+        """No other file has the number: they take it from these. In OTHER_NUMBERS it means something else."""
+        row = " ".join(next(it for it in change_rows() if it[0] == "the limit"))
+        written = [it for it in [*sources(), *DOCUMENTS] if LIMIT.search(text_of(it)) and str(it.relative_to(TOP)) not in OTHER_NUMBERS]
+        self.assertEqual({it.stem for it in written if not re.search(rf"\b(?:{re.escape(it.name)}|{it.stem})\b", row)}, set())
+        self.assertGreaterEqual(len(written), 9)
 
     def see_cell(self, cell: str) -> None:
         """Each name of a cell is a path, or a file, a definition or a word of the crate named before it."""

@@ -1,5 +1,5 @@
 #!/usr/bin/env python3
-"""Builds the wheel, the Debian packages and the archive of `make dist`, and uses what is in them.
+"""Builds the wheel, the Debian packages and the archive of `make dist`, and uses their content.
 
   tests/repository/packages.py
 
@@ -42,7 +42,7 @@ def setUpModule() -> None:
 
 
 def copy_built(folder: Path) -> Path:
-    """Copies the sources with what was built of them, so that nothing is built again there."""
+    """Copies the sources and the build, so that nothing is built again there."""
     unneeded = shutil.ignore_patterns(".git", "__pycache__", "*.rlib", "making", "stage", "wheel", "dist", "*.log")
 
     def ignored(at: str, names: list[str]) -> set[str]:
@@ -53,7 +53,7 @@ def copy_built(folder: Path) -> Path:
 
 
 def python_of(folder: Path, *words: str | Path, **environment: str) -> str:
-    """Runs Debian's Python with the packages of a folder, and with no other way to the library than the environment given."""
+    """Runs Debian's Python with the packages of a folder. Only the given environment leads to the library."""
     return run(DEBIAN_PYTHON, "-B", *words, folder=ROOM, PYTHONPATH=str(folder), EXIFNORM_LIBRARY="", **environment)
 
 
@@ -232,7 +232,7 @@ class Debian(unittest.TestCase):
             self.assertEqual(file.name, f"{name}_{VERSION}-1_{architecture}.deb")
 
     def test_lintian_has_no_error_and_no_warning(self) -> None:
-        """But for the bug of Debian that a first upload closes."""
+        """Except for the Debian bug that a first upload closes."""
         (changes,) = self.room.glob("*.changes")
         words = ["--allow-root", "--fail-on", "error,warning", "--suppress-tags", "initial-upload-closes-no-bugs"]
         said = run("lintian", *words, changes, PATH=SYSTEM_PATH)
@@ -315,7 +315,7 @@ class Archive(unittest.TestCase):
 
     @classmethod
     def setUpClass(cls) -> None:
-        """Makes it twice, in folders of other names and with another umask, time, zone and locale."""
+        """Makes it twice: the second time in a folder of another name, and with another umask, time, time zone and locale."""
         cls.name = f"exifnorm-{VERSION}-linux-{os.uname().machine}"
         cls.one, cls.other = (copy_built(ROOM / "dist" / it) / "out/dist" for it in ("one", "an other"))
         run("make", "dist", folder=cls.one.parent.parent)

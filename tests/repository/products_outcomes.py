@@ -1,5 +1,5 @@
-"""Tests what library.py, package.py, fuzz.py and documents.py find of a library, a package and documents that are wrong, so that each of
-them is judged too.
+"""Tests the tests: that library.py, package.py, fuzz.py and documents.py find the mistakes of a wrong library, a wrong package and wrong
+documents.
 
 self_tests.py runs these. The library is the one in out/lib; tests/library/fuzz/wrong.c makes the wrong ones over it.
 """
@@ -8,6 +8,7 @@ import contextlib
 import importlib
 import io
 import os
+import shutil
 import subprocess
 import sys
 import tempfile
@@ -28,6 +29,7 @@ from paths import TESTS, TOP
 PROGRAM = TOP / "crates" / "px_cli" / "out" / "px_cli"
 RIGHT = TOP / "out" / "lib" / "libexifnorm.so.1"
 ONE = bytes.fromhex("4D4D002A00000008 0001 0112000300000001 00010000 00000000")
+CALLS = ("check", "normalise", "show", "captions", "compare")
 BLOCKS = [ONE, bytes.fromhex("49492A0008000000 0100 1201030001000000 01000000 00000000"), ONE[:-4] + bytes.fromhex("00000008"), ONE[:-5],
           bytes.fromhex("4D4D002A00000008 0001 010E000200000005 0000001A 00000000 55726E730000"), bytes.fromhex("1C0278000163 1C0219000162"),
           bytes.fromhex("1C0278000961")]  # fmt: skip
@@ -42,7 +44,7 @@ def printed_by(test: Callable, *arguments: Any) -> List[str]:
 
 
 class Library(unittest.TestCase):
-    """The callers in C and in Python, over a library that is right and over those that are wrong in one way."""
+    """The callers in C and in Python, with the right library and with libraries that have one mistake."""
 
     @classmethod
     def setUpClass(cls) -> None:
@@ -57,13 +59,25 @@ class Library(unittest.TestCase):
         it = library.Library(str(PROGRAM), room.name)
         it.is_compiled()
         cls.calls = it.calls
+        cls.refusing = cls.link_refusing()
+
+    @classmethod
+    def link_refusing(cls) -> str:
+        """The caller whose allocations are refused, linked with the wrong library over the right archive."""
+        right, program = cls.folder / "right.a", cls.folder / "refusing wrong"
+        renamed = [it for name in CALLS for it in ("--redefine-sym", f"exifnorm_{name}=its_{name}")]
+        subprocess.run(["objcopy", *renamed, library.ARCHIVE, right], check=True)
+        sources = [TESTS / "library" / "calls.c", TESTS / "library" / "fuzz" / "wrong.c"]
+        flags = ["-fno-builtin", "-DREFUSES_GROWTHS", "-DRIGHT_IS_LINKED", *(f"-Wl,--wrap={it}" for it in ("malloc", "calloc", "realloc", "free"))]
+        subprocess.run([*fuzz.CC, *flags, "-o", program, *sources, right, "-lpthread"], check=True)
+        return str(program)
 
     def status(self, mistake: str, *words: Any, **more: str) -> int:
         environment = {**os.environ, **more, "WRONG": mistake, "RIGHT": str(RIGHT), "PYTHONDONTWRITEBYTECODE": "1", "PYTHONPATH": str(TOP / "python")}
         return subprocess.run([str(it) for it in words], env=environment, stdout=subprocess.PIPE, stderr=subprocess.STDOUT, timeout=300).returncode
 
-    def in_c(self, mistake: str, how: str = "once") -> int:
-        return self.status(mistake, self.calls, how, self.jobs, LD_PRELOAD=self.wrong)
+    def in_c(self, mistake: str, how: str = "once", **more: str) -> int:
+        return self.status(mistake, self.calls, how, self.jobs, LD_PRELOAD=self.wrong, **more)
 
     def in_python(self, mistake: str, *words: Any) -> int:
         return self.status(mistake, sys.executable, *words, EXIFNORM_LIBRARY=self.wrong, LD_LIBRARY_PATH=str(RIGHT.parent))
@@ -77,6 +91,26 @@ class Library(unittest.TestCase):
                         "LISTING_UNENDED", "SHOW_ACCEPTS", "CAPTIONS_ACCEPT", "CAPTIONS_UNLABELLED"):  # fmt: skip
             with self.subTest(mistake):
                 self.assertNotEqual(self.in_c(mistake), 0)
+
+    def test_each_call_is_judged_by_itself_in_c(self):
+        for call in CALLS:
+            self.assertEqual(self.in_c("NONE", ALONE=call), 0)
+            for mistake in ("NONE_OF_THEM_ANSWERS", "NEXT_CAUSE", "PLACE_BESIDE"):
+                with self.subTest(mistake, call=call):
+                    self.assertNotEqual(self.in_c(mistake, ALONE=call), 0)
+
+    def refused(self, mistake: str, call: str = "") -> int:
+        more = {"ALONE": call} if call else {}
+        return self.status(mistake, self.refusing, "refused", self.jobs, **more)
+
+    def test_each_call_without_memory_is_judged_by_itself(self):
+        self.assertEqual(self.refused("NONE"), 0)
+        for call in CALLS:
+            for mistake in ("IGNORES_NULL", "SETS_WITHOUT_MEMORY"):
+                with self.subTest(mistake, call=call):
+                    self.assertNotEqual(self.refused(mistake, call), 0)
+        for call in CALLS[:2]:
+            self.assertNotEqual(self.refused("TAKES_MUCH", call), 0, call)
 
     def test_threads_with_a_wrong_library_in_c(self):
         self.assertNotEqual(self.in_c("FORM_CUT", "threads"), 0)
@@ -103,7 +137,7 @@ class Library(unittest.TestCase):
 
 
 class Package(unittest.TestCase):
-    """package.py with a call of the package that is wrong."""
+    """package.py with a wrong call of the package."""
 
     @classmethod
     def setUpClass(cls) -> None:
@@ -149,7 +183,7 @@ class Package(unittest.TestCase):
 
 
 class Fuzz(unittest.TestCase):
-    """fuzz.py with reports that are spelled here."""
+    """fuzz.py with reports that are written out here."""
 
     def report(self, **changed: Any) -> Report:
         well = {"looked": {"a law": 500, "another": 500}, "causes": {it: 50 for it in fuzz.CAUSES}, "blocks": 10_000, "accepted": 5_000, "records": 1_000}
@@ -173,7 +207,8 @@ class Fuzz(unittest.TestCase):
     def test_all_reports_together_are_judged(self):
         for changed, failed in (
             ({"looked": {"a law": 19, "another": 500}}, "a law: looked at"),
-            ({"causes": {it: 1 if it == 19 else 50 for it in fuzz.CAUSES}}, "cause 19: met"),
+            ({"causes": {it: 1 if it == 17 else 50 for it in fuzz.CAUSES}}, "cause 17: met"),
+            ({"causes": {**dict.fromkeys(fuzz.CAUSES, 50), 40: 1}}, "no other cause"),
             ({"accepted": 7_999}, "a fifth is accepted"),
             ({"records": 399}, "of either kind"),
             ({"accepted": 9_000, "records": 7_001}, "of either kind"),
@@ -186,8 +221,8 @@ class Fuzz(unittest.TestCase):
 
     def test_a_mistake_is_found_by_a_broken_law_alone(self):
         known = fuzz.mistakes()
-        self.assertEqual(len(known), 53)
-        for status, broken, more in ((1, ["BROKEN"], 0), (1, [], 53), (0, ["BROKEN"], 53), (-11, [], 52)):
+        self.assertEqual(len(known), 54)
+        for status, broken, more in ((1, ["BROKEN"], 0), (1, [], 54), (0, ["BROKEN"], 54), (-11, [], 53)):
             plain = Report(blocks=fuzz.WRONG_BLOCKS)
             it = mock.Mock(run=lambda seed, blocks, name: plain if name == "NONE" else Report(status, broken))
             self.assertEqual(len(printed_by(lambda counter: fuzz.find_mistakes(it, counter))), more, (status, broken))
@@ -204,7 +239,7 @@ class Fuzz(unittest.TestCase):
 
 
 class Documents(unittest.TestCase):
-    """documents.py with a document in which one text is another."""
+    """documents.py with a document in which one text is replaced."""
 
     def ran(self, module: Any, test: str, name: str, old: str, new: str) -> unittest.TestResult:
         real = documents.text_of
@@ -224,8 +259,14 @@ class Documents(unittest.TestCase):
             ("Listed.test_causes_are_listed_in_the_header_in_their_order", header, "EXIFNORM_CAUSE_LOOP = 4", "EXIFNORM_CAUSE_LOOP = 5"),
             ("Listed.test_causes_are_listed_in_the_header_in_their_order", header, "EXIFNORM_CAUSE_LOOP", "EXIFNORM_CAUSE_LOP"),
             ("Listed.test_statuses_are_the_same_wherever_they_are_listed", page, "\n.B 4\n", "\n.B 5\n"),
+            ("Listed.test_statuses_are_the_same_wherever_they_are_listed", page, "\n.B 4\n", "\n.B 4\nx\n.B 70\n"),
+            ("Listed.test_statuses_are_the_same_wherever_they_are_listed", "README.md", "\n| 4 |", "\n| 3 |"),
+            ("Listed.test_statuses_are_the_same_wherever_they_are_listed", "docs/FORMAT.md", "\n| 4 | a read", "\n| 3 | a read"),
+            ("Listed.test_figures_are_those_of_the_tests", "docs/FUZZING.md", "one of 54 mistakes", "one of 53 mistakes"),
+            ("Listed.test_figures_are_those_of_the_tests", "SECURITY.md", "at most 6.3 times", "at most 6 times"),
             ("Listed.test_the_version_is_stated_once", "python/pyproject.toml", 'version = "', 'version = "9'),
             ("Written.test_readers_meet_the_terms_of_the_field", "README.md", "\n\n", "\n\nThis is said.\n\n"),
+            ("Written.test_other_documents_have_the_terms_of_the_field", "docs/PROVING.md", "\n\n", "\n\nThis is said.\n\n"),
             ("Written.test_the_readme_is_short", "README.md", "\n\n", "\n\n" + "more " * 700),
             ("Written.test_links_lead_to_files", "README.md", "](docs/FORMAT.md)", "](docs/FORMATS.md)"),
             ("Written.test_each_document_begins_with_its_title", "README.md", "# ", "#"),
@@ -235,6 +276,12 @@ class Documents(unittest.TestCase):
             with self.subTest(test, old=old):
                 self.assertTrue(self.ran(documents, test, name, old, old).wasSuccessful())
                 self.assertFalse(self.ran(documents, test, name, old, new).wasSuccessful())
+
+    @unittest.skipUnless(shutil.which("rt"), "rt is not on the PATH")
+    def test_another_logic_is_found(self):
+        test, logic = "Listed.test_the_logic_of_the_toolchain_is_the_one_that_is_named", documents.logics(documents.text_of("README.md"))[0]
+        self.assertTrue(self.ran(documents, test, "README.md", logic, logic).wasSuccessful())
+        self.assertFalse(self.ran(documents, test, "README.md", logic, logic[::-1]).wasSuccessful())
 
     def test_a_command_that_prints_something_else_is_found(self):
         block = documents.fenced("README.md", "console")[0]

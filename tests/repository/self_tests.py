@@ -24,17 +24,18 @@ import gate_outcomes
 import harness_outcomes
 import judges_outcomes
 import mutations_outcomes
+import orders
 import products_outcomes
 import watching
 from blocks import Blocks, Misspelled
-from cases import Case, Holds, read_all
+from cases import Case, Keeps, read_all
 from changed import changed
 from kinds import small_kinds
 from meanings import ASCII, LIMIT, SHORT, Exif, Layout, Record, Value, laid
 from program import Outcome
-from reading import Fault, said
+from reading import CAUSES, Fault, said
 from run import case_of, complaints_of
-from watching import TIMES, Counts, complaints_of_cost, growth, limits_of, reading, says_failed
+from watching import TIMES, Counts, complaints_of_cost, limits_of, reading, says_failed
 
 sys.path.insert(0, str(paths.TOP / "build"))
 
@@ -45,7 +46,7 @@ GOOD = {"name": "a case", "block": "1C0205000141", "refused": "NoMarker at 0"}
 
 
 class Tables(unittest.TestCase):
-    """Files of cases as they must not be."""
+    """Wrong files of cases."""
 
     def read(self, tables, listed="some: filter commands\n", files=None):
         with tempfile.TemporaryDirectory() as folder:
@@ -120,7 +121,7 @@ class Tables(unittest.TestCase):
 
 
 class Judging(unittest.TestCase):
-    """Outcomes that are not as they should be."""
+    """Wrong outcomes."""
 
     due = Case("a case", output=b"same\n", left={"OUT": b"new"}, absent=["gone"], has=[b"am"])
     good = Outcome(0, b"same\n", b"", {"OUT": b"new"})
@@ -165,51 +166,66 @@ class Judging(unittest.TestCase):
             self.assertEqual(limits_of(case, Outcome(0, bytes(8_192_000), b"")).writes, 2002)
 
     def test_a_text_that_is_made_whole_costs_too_much(self):
-        """Its memory is none of the limit, however long it is."""
+        """The limit has no memory for a text, however long it is."""
         case = Case("", words=["show", "a"], files={"a": bytes(1_000_000)})
         short, long = (limits_of(case, Outcome(0, bytes(it), b"")) for it in (10, 10_000_000))
         self.assertEqual((short.held, short.asked, short.calls), (long.held, long.asked, long.calls))
 
-    def test_a_large_file_is_held_a_few_times_at_most(self):
-        for size, most in ((1 << 20, int(TIMES * (1 << 20))), ((1 << 20) - 1, None)):
-            case = Case("", words=["check", "a"], files={"a": bytes(size)}, holds=[Holds(0, 0, [size // 5] * 10)])
-            held = limits_of(case, Outcome(0, b"ok iim\n", b"")).held
-            self.assertTrue(held == most if most else held > 8 << 20)
-        both = Case("", words=["compare", "a", "b"], files={"a": bytes(1 << 21), "b": bytes(1 << 20)}, holds=[Holds(0, 0, [1 << 20])] * 2)
-        self.assertEqual(limits_of(both, Outcome(0, b"same\n", b"")).held, int(TIMES * (3 << 20)))
+    def most_of(self, size, *keeps, command="show", block=b""):
+        """The limits of a run over files of this size."""
+        files = {name: block.ljust(size, b"\0") for name, _ in zip("ab", keeps)}
+        return limits_of(Case("", words=[command, *files], files=files, keeps=list(keeps)), Outcome(0, b"", b""))
 
-    def test_a_long_list_grows_by_a_32nd(self):
-        self.assertEqual(growth(65_536).room, growth(60_000).room)
-        self.assertLess(growth(3_300_000).room, 3_300_000 * 33 // 32 + 1)
+    def test_a_large_file_is_held_a_few_times_at_most(self):
+        self.assertEqual(self.most_of(1 << 20, Keeps(datasets=1 << 20)).held, int(TIMES * (1 << 20)))
+        self.assertGreater(self.most_of((1 << 20) - 1, Keeps(datasets=1 << 20)).held, 8 << 20)
+        self.assertEqual(self.most_of(1 << 20, *[Keeps(datasets=1 << 20)] * 2, command="compare").held, int(TIMES * (2 << 20)))
+
+    def test_each_bad_order_has_its_limit(self):
+        """Of empty DataSets: each group in turn, four of each group, and each group once."""
+        for count, times in ((3_276_800, 6.02), (262_144, 6.25), (65_536, 7.65)):
+            for command, files in (("show", 1), ("captions", 1), ("normalise", 1), ("compare", 2)):
+                most = self.most_of(5 * count, *[Keeps(datasets=count)] * files, command=command)
+                self.assertLess(most.held, times * 5 * count * files, command)
 
     def test_a_copy_of_what_is_read_costs_too_much(self):
-        """If a file's bytes were kept twice, or requested once more, the limits would be passed: they leave less than that."""
-        size = LIMIT
-        most = limits_of(Case("", words=["check", "a"], files={"a": bytes(size)}, holds=[Holds(1, 0, [])]), Outcome(0, b"ok exif\n", b""))
-        judged = size // 8 + size // 100  # a bit for each of the bytes
-        read = reading(size)
-        self.assertLess(most.held, read.room + judged + size)
-        self.assertLess(most.asked, read.asked + judged + size)
+        """If a file's bytes were kept twice, or requested once more, the run would exceed the limits."""
+        most, read = self.most_of(LIMIT, Keeps(1, is_exif=True), command="check"), reading(LIMIT)
+        judged = LIMIT // 8  # a bit for each of the bytes
+        self.assertLess(most.held, read.capacity + judged + LIMIT)
+        self.assertLess(most.asked, read.asked + judged + LIMIT)
 
     def test_a_file_that_is_read_into_a_list_that_doubles_costs_too_much(self):
         size = 9 << 20
-        most = limits_of(Case("", words=["check", "a"], files={"a": bytes(size)}, holds=[Holds(1, 0, [])]), Outcome(0, b"ok exif\n", b""))
-        self.assertLess(most.held, (16 << 20) + size // 8)
+        self.assertLess(self.most_of(size, Keeps(1, is_exif=True)).held, (16 << 20) + size // 8)
 
     def test_a_record_that_is_listed_twice_costs_too_much(self):
-        size, once = 5 * 3_000_000, growth(3_000_000)
-        most = limits_of(Case("", words=["check", "a"], files={"a": bytes(size)}, holds=[Holds(0, 0, [3_000_000])]), Outcome(0, b"ok iim\n", b""))
-        self.assertLess(most.asked, 24 * 2 * once.asked)
-        self.assertLess(most.calls, 2 * once.calls + 2 * 80)
+        count = 3_000_000
+        most = self.most_of(5 * count, Keeps(datasets=count))
+        self.assertLess(most.held, reading(5 * count).capacity + 2 * 24 * count)
+        self.assertLess(most.asked, reading(5 * count).asked + 2 * 24 * count)
 
-    def test_room_for_4096_in_each_group_costs_too_much(self):
-        most = limits_of(Case("", words=["check", "a"], files={"a": bytes(70)}, holds=[Holds(0, 0, [1, 1])]), Outcome(0, b"ok iim\n", b""))
-        self.assertLess(most.held, 24 * 2 * 4096)
+    def test_a_meaning_of_datasets_that_are_only_checked_costs_too_much(self):
+        size = 1_000_000
+        for command, block, is_kept in (("check", b"\x1c", False), ("check", b"MM", True), ("show", b"\x1c", True)):
+            most = self.most_of(size, Keeps(datasets=size // 5), command=command, block=block)
+            self.assertEqual(most.held > reading(size).capacity + 24 * size // 5, is_kept, command)
+
+    def test_counters_for_few_datasets_cost_too_much(self):
+        for count, counters in ((64, 0), (65, 4 * 65536)):
+            most = self.most_of(5 * count, Keeps(datasets=count))
+            self.assertEqual(most.held > 65536 + 4 * 65536, bool(counters), count)
+
+    def test_what_is_kept_of_strips_costs_too_much(self):
+        """An Exif block takes a bit for each byte, and memory for its fields."""
+        size = 10_800_000
+        most = self.most_of(size, Keeps(8, is_exif=True))
+        self.assertLess(most.held, 1.03 * (reading(size).capacity + size / 8 + 70_000))
 
     def test_a_run_that_tells_no_counts_is_a_complaint(self):
         case = Case("", input_from="a", files={"a": b""}, output=b"")
         bad = complaints_of_cost("/bin/true", "/no/such/library.so", case, lambda case, outcome: [])
-        self.assertEqual(bad, ["the run told no counts"])
+        self.assertEqual(bad, ["the run reported no counts"])
 
     def test_counts_are_compared_one_by_one(self):
         self.assertEqual(list(vars(Counts(1, 2, 3, 4, 5, 6, 7))), ["calls", "asked", "held", "reads", "writes", "spent", "failed"])
@@ -223,7 +239,7 @@ class Judging(unittest.TestCase):
 
 
 class Meanings(unittest.TestCase):
-    """Worked blocks, encoded by hand, and what is made of their meanings."""
+    """Blocks that were encoded by hand, and the blocks that are made from their meanings."""
 
     def test_one_short_in_both_byte_orders(self):
         meaning = Exif({0x0112: Value(SHORT, [1])})
@@ -260,8 +276,17 @@ class Reading(unittest.TestCase):
                     yield from json.load(it).get(table, [])
 
     def blocks(self):
-        with open(paths.CASES / "cases" / "blocks.json", encoding="utf-8") as it:
-            return Blocks(json.load(it)["blocks"])
+        """The named blocks of all files of cases."""
+        named = {}
+        for path in sorted((paths.CASES / "cases").glob("*.json")):
+            named.update(json.loads(path.read_text(encoding="utf-8")).get("blocks", {}))
+        return Blocks(named)
+
+    def test_each_cause_has_a_block(self):
+        for cause, (block, place) in CAUSES.items():
+            with self.assertRaises(Fault) as told:
+                said(block)
+            self.assertEqual(told.exception.args, (cause, place))
 
     def test_each_layout_of_a_kind_says_its_meaning(self):
         for kind in small_kinds():
@@ -306,7 +331,7 @@ class Reading(unittest.TestCase):
 
 
 class Running(unittest.TestCase):
-    """run.py over programs that are none."""
+    """run.py with false programs."""
 
     def ran(self, program, *words):
         ran = subprocess.run([sys.executable, paths.CASES / "run.py", program, *words], capture_output=True, text=True)
@@ -325,7 +350,7 @@ class Running(unittest.TestCase):
 
 
 class Builds(unittest.TestCase):
-    """What counts as just proved where the library's archive is built over it, and in what order crates are proved."""
+    """What counts as just proved if the library's archive is built over it, and the order in which crates are proved."""
 
     @mock.patch("compiler.version", return_value="toolchain 1")
     def is_proved_after(self, change, _):
@@ -359,7 +384,7 @@ class Builds(unittest.TestCase):
 
     def test_a_library_of_another_run(self):
         folder = "crates/px_bytes/out/rlib"
-        self.assertFalse(self.is_proved_after(lambda top: os.utime(top / folder / "px_bytes.rlib/checked", (10**9, 10**9))))
+        self.assertFalse(self.is_proved_after(lambda top: os.utime(top / folder / "px_bytes.rlib", (10**9, 10**9))))
         self.assertFalse(self.is_proved_after(lambda top: (top / folder / "px_bytes.rlib/checked").unlink()))
         self.assertFalse(self.is_proved_after(lambda top: (top / folder / "stamp").touch()))
 
@@ -368,7 +393,7 @@ class Examples(unittest.TestCase):
     """The examples in docstrings."""
 
     def test_they_are_right(self):
-        for module in (counting, crates, watching):
+        for module in (counting, crates, orders, watching):
             with self.subTest(module.__name__):
                 counting.examples(module)
 
@@ -379,7 +404,7 @@ def loaded(it: object) -> unittest.TestSuite:
 
 
 def main() -> int:
-    # what counts all others is judged by unittest alone
+    # counting.py, which counts all others, is judged by unittest alone
     if not unittest.TextTestRunner(stream=sys.stdout).run(loaded(harness_outcomes.Counting)).wasSuccessful():
         print("0 passed, 1 failed")
         return 1

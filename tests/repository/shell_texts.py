@@ -1,4 +1,4 @@
-"""Tests what users meet in a shell: the completions of a command that is spelled here, and the manual pages beside each --help.
+"""Tests what users meet in a shell: the completions of a command that is written out here, and that manual pages agree with each --help.
 
 install.py runs these. Nothing is installed for them. How bash, zsh and fish read completions is in their own manuals: COMPREPLY and
 `complete`, `_describe` and `_arguments`, and `complete -C`.
@@ -112,7 +112,7 @@ class Completed(unittest.TestCase):
             self.assertEqual(self.bash(*words), expected, words)
 
     def zsh(self, *words: str) -> list[str]:
-        """What the function gives to those functions of zsh that offer it, a line for each."""
+        """What the function passes to zsh's own functions, a line for each."""
         code = """
 _describe() { print -rl -- "$1" "${(@P)2}" }
 _arguments() { print -rl -- "$@" }

@@ -1,10 +1,10 @@
 #!/usr/bin/env python3
 """Tests of the sources themselves: python3 tests/repository/sources.py
 
-What no contract can say of a body and a reader relies on. A call over an allocator, and an export for C, takes its memory from a
-`Memory` of its own, of which no clause can speak, so its body must be one line over the sister that is proved to give up nowhere
-else. Memory is made nowhere else, but in the few functions that are listed here. Libraries that `make`
-built are judged by what the compiler made of them, programs and static libraries by their text. The last line is 'N passed, N failed'.
+These are facts about bodies on which a reader relies, and which no contract can state. A call over an allocator, and an export for C,
+makes a `Memory` of its own, of which no clause can speak. So its body must be one line over its `_in` variant, which is proved to fail
+only where an allocation failed. Only a few listed functions make memory otherwise. Libraries that `make` built are judged by the
+compiled code, programs and static libraries by their text. The last line is 'N passed, N failed'.
 """
 
 import glob
@@ -32,7 +32,7 @@ SIGNATURE = re.compile(r"\[[^\]\n]*\]|\b(?:requires|ensures)\b[^{;]*\{|\{|;")
 
 
 def closed(text, at, opening, closing):
-    """The place behind the bracket that closes the one at a place."""
+    """The position after the bracket that closes the one at `at`."""
     depth = 0
     for i in range(at, len(text)):
         depth += (text[i] == opening) - (text[i] == closing)
@@ -42,7 +42,7 @@ def closed(text, at, opening, closing):
 
 
 def parted(text):
-    """The parts of a list, cut at the commas that stand in no bracket."""
+    """The parts of a list, cut at the commas outside brackets."""
     parts, depth, part = [], 0, ""
     for c in text:
         depth += (c in "(<[{") - (c in ")>]}")
@@ -62,7 +62,7 @@ def functions(text):
             at = closed(text.replace("->", "  "), at, "<", ">")
         end = closed(text, at, "(", ")")
         parameters = parted(text[at + 1 : end - 1])
-        # behind the answer and the clauses comes the body, or a semicolon where a trait asks for one
+        # after the result and the clauses comes the body, or a semicolon in a trait
         for part in SIGNATURE.finditer(text, end):
             if part[0].endswith("]") or part.start() < end:
                 continue
@@ -75,7 +75,7 @@ def functions(text):
 
 
 def crates():
-    """Each crate's functions: (file, name, whether it is public, parameters, body), tests' own left out."""
+    """Each crate's functions, without those of tests: (file, name, whether it is public, parameters, body)."""
     for folder in sorted(glob.glob(os.path.join(TOP, "crates", "*", "src"))):
         found = []
         for path in sorted(glob.glob(os.path.join(folder, "*.rt"))):
@@ -85,15 +85,15 @@ def crates():
         yield os.path.basename(os.path.dirname(folder)), found
 
 
-# The memory of a call that is lent none, and the one line over the sister.
+# The memory that a call makes for itself, and the one line over the `_in` variant.
 OWN = r"(?:let mut memory = (?:Memory::new\([*\w.]+(?:\(\))?\)|[\w.]+\.(?:fresh|memory)\(\)); )?"
-SISTER = OWN + r"(?:Ok\()?(?:self\.|\w+::)?{}_in\(((?:(?:&mut |&)?(?:memory|Memory::new\(alloc\))|\w+)(?:, \w+)*)\)(?:\?\)|\?; Ok\(\(\)\))?"
+VARIANT = OWN + r"(?:Ok\()?(?:self\.|\w+::)?{}_in\(((?:(?:&mut |&)?(?:memory|Memory::new\(alloc\))|\w+)(?:, \w+)*)\)(?:\?\)|\?; Ok\(\(\)\))?"
 
-# Functions that make a Memory, or that report that it refused nothing.
+# A call that makes a Memory.
 MAKES = re.compile(r"\bMemory::new\(|\.fresh\(\)")
 
-# The functions that make memory and are no line over a sister: the program's, what keeps memory of its own for later calls, and
-# memory itself.
+# The functions that make memory and are not one line over an `_in` variant: that of the program, those of structs that keep memory
+# for later calls, and one of `Memory` itself.
 MAKERS = {
     "crates/px_bytes/src/growing.rt: new",
     "crates/px_bytes/src/growing.rt: with_room_in",
@@ -103,12 +103,12 @@ MAKERS = {
     "crates/px_plans/src/plan.rt: new_in",
 }
 
-# The two lines of the program's run: what clap answers has no contract of its own, so nothing may stand beside them.
+# The two lines of the program's run. No contract describes clap's result, so the run does nothing else.
 RUN = "let asked = parse(memory, rt.alloc(), words, VERSION); run_asked(rt, files, memory, asked, lines)"
 
 
 def is_one_line(name, takes, body):
-    """Whether a body calls the sister of that name with the memory and all that the function takes, in that order, and nothing else.
+    """Whether a body only calls the `_in` variant of that name, with the memory and all parameters of the function, in their order.
 
     >>> is_one_line("check", ["alloc", "file"], "check_in(&mut Memory::new(alloc), file)")
     True
@@ -117,7 +117,7 @@ def is_one_line(name, takes, body):
     >>> is_one_line("compare", ["alloc", "first", "second"], "compare_in(&mut Memory::new(alloc), second, first)")
     False
     """
-    found = re.fullmatch(SISTER.format(name), " ".join(body.split()))
+    found = re.fullmatch(VARIANT.format(name), " ".join(body.split()))
     given = [it for it in found[1].split(", ") if not re.search("memory|Memory", it)] if found else []
     return bool(found) and given == [it for it in takes if it.lstrip("_") not in ("alloc", "&self", "&mut self")]
 
@@ -127,15 +127,15 @@ def names_of(parameters):
     return [it.split(":")[0].removeprefix("mut ").strip() for it in parameters]
 
 
-def one_line_over_their_sisters():
-    """Says which calls over an allocator and which exports do more than call their `_in` variant: by what the compiler made of them,
-    and by their text where the build leaves no library, as of the program and of the C library."""
+def one_line_over_their_variants():
+    """Reports calls over an allocator and exports that do more than call their `_in` variant. It reads the compiled code, or the text
+    where the build leaves no library, as of the program and of the C library."""
     wrong, seen = [], 0
     for crate, found in crates():
         compiled = lowered.functions(crate)
         if compiled is not None:
             both = lowered.with_variant(compiled)
-            wrong += [f"{it} does more than to call {it}_in" for it in both if not lowered.only_calls(compiled[it], f"{it}_in")]
+            wrong += [f"{it} does more than call {it}_in" for it in both if not lowered.only_calls(compiled[it], f"{it}_in")]
             seen += len(both)
             continue
         names = {name for _, name, public, _, _ in found if public}
@@ -143,7 +143,7 @@ def one_line_over_their_sisters():
             takes, plain = names_of(parameters), name.removeprefix("exifnorm_")
             if not public or f"{plain}_in" not in names or "memory" in takes:
                 continue
-            # another type's method of that name, which has no sister beside it
+            # another type's method of that name, which has no `_in` variant
             if not re.search(rf"\b{plain}_in\b", body) and not any(it[0] == path and it[1] == f"{plain}_in" for it in found):
                 continue
             seen += 1
@@ -153,7 +153,7 @@ def one_line_over_their_sisters():
 
 
 def each_library_is_read_as_it_was_compiled():
-    """Says where a library of these sources, which `make` leaves, isn't read by the two tests beside this one."""
+    """Reports libraries that `make` built of these sources and the two tests beside this one don't read."""
     built = [crate for crate, _ in crates() if lowered.functions(crate)]
     if not built:
         raise unittest.SkipTest("no library was built of these sources: call make first")
@@ -162,7 +162,7 @@ def each_library_is_read_as_it_was_compiled():
 
 
 def memory_is_made_nowhere_else():
-    """Says which functions make memory and are neither such a line nor listed, and which are listed and make none."""
+    """Reports functions that make memory and are neither such a line nor listed, and listed functions that make none."""
     makers = set()
     for crate, found in crates():
         compiled = lowered.functions(crate)
@@ -173,45 +173,45 @@ def memory_is_made_nowhere_else():
         elif crate != "px_calls":
             makers |= {f"{path}: {name}" for path, name, _, parameters, body in found
                 if MAKES.search(body) and not is_one_line(name.removeprefix("exifnorm_"), names_of(parameters), body)}
-    return [f"{it} makes memory and is no line over a sister" for it in sorted(makers - MAKERS)] + [f"{it} makes no memory"
+    return [f"{it} makes memory and is not one line over its _in variant" for it in sorted(makers - MAKERS)] + [f"{it} makes no memory"
         for it in sorted(MAKERS - makers)]
 
 
 def the_examples_are_right():
-    """Says so where an example of the two modules is wrong."""
+    """Runs the examples of the two modules."""
     counting.examples(lowered)
     counting.examples(sys.modules[__name__])
     return []
 
 
-def each_export_with_memory_has_a_sister():
-    """Says which exports that take an allocator were not read above."""
+def each_export_with_memory_has_a_variant():
+    """Reports exports that take an allocator and were not read above."""
     names = {name for crate, found in crates() if crate == "px_c" for _, name, _, _, _ in found}
     wrong = [name for crate, found in crates() if crate == "px_c" for _, name, _, parameters, _ in found
         if "alloc" in names_of(parameters) and f"{name.removeprefix('exifnorm_')}_in" not in names]
-    return [f"{it} has no sister" for it in wrong] + ([] if {"exifnorm_check", "exifnorm_version"} <= names else ["no export was found"])
+    return [f"{it} has no _in variant" for it in wrong] + ([] if {"exifnorm_check", "exifnorm_version"} <= names else ["no export was found"])
 
 
 def the_run_is_two_lines():
-    """Says so where the program's run does more than read its words and do what they ask for."""
+    """Reports a run of the program that does more than read its arguments and do what they request."""
     found = [body for _, it in crates() for path, name, _, _, body in it if (path, name) == ("crates/px_cli/src/run.rt", "run_words")]
     return [] if [" ".join(it.split()) for it in found] == [RUN] else ["crates/px_cli/src/run.rt: run_words is not its two lines"]
 
 
 def few_parameters():
-    """Says which functions take more than five parameters."""
+    """Reports functions with more than five parameters."""
     return [f"{path}: {name} takes {len(parameters)} parameters" for _, found in crates() for path, name, _, parameters, _ in found
         if len(parameters) > PARAMETERS]
 
 
 def short_functions():
-    """Says which functions are longer than 40 lines."""
+    """Reports functions longer than 40 lines."""
     return [f"{path}: {name} has {body.count(chr(10))} lines" for _, found in crates() for path, name, _, _, body in found
         if body.count("\n") > LINES]
 
 
 def short_lines():
-    """Says which lines of the sources have more than 140 columns, but for attributes, which stand on one line."""
+    """Reports lines of more than 140 columns, except attributes, which `rt fmt` keeps on one line."""
     wrong = []
     for pattern in ("src/*.rt", "specs/**/*.antt", "proofs/**/*.antt"):
         for path in sorted(glob.glob(os.path.join(TOP, "crates", "*", pattern), recursive=True)):
@@ -221,40 +221,56 @@ def short_lines():
     return wrong
 
 
-# A lemma that other modules see, and a type that is a record: its fields look like lemmas.
-RECORD = re.compile(r"^( *)(?:pub )?record [^\n]*\n(?:(?!\1[^ \n])[^\n]*\n)*", re.M)
+# A record, whose fields look like lemmas, and a public lemma.
+RECORD = re.compile(r"^( *)(?:pub )?record (?!\{)[^\n]*\n(?:(?!\1[^ \n])[^\n]*\n)*", re.M)
 LEMMA = re.compile(r"^(?P<indent> *)pub (?P<name>[^\s:(){}]+) :(?= |$)", re.M)
+WORD = re.compile(r"[^\s(){},.;:]+")
 GOALS = ("Answers.antt", "Proof.antt", "Invariants.antt")
 
 
+def texts(*patterns):
+    """The files of the crates by their paths, with their texts without comments."""
+    found = [it for pattern in patterns for it in sorted(Path(TOP, "crates").glob(f"*/{pattern}"))]
+    return {it: re.sub("(?:--|//) .*", "", it.read_text(encoding="utf-8")) for it in found}
+
+
+def public_lemmas():
+    """Each public lemma: its file, its name, and the file's text without it. Rattle names the goals of a function's proof."""
+    for path, text in texts("proofs/**/*.antt", "specs/lemmas/**/*.antt").items():
+        text = RECORD.sub("", text) if path.name not in GOALS else ""
+        for it in LEMMA.finditer(text):
+            start = it["indent"] + re.escape(it["name"]) + " "
+            own = re.compile(rf"[^\n]*\n(?:{it['indent']}(?:[ )\]}}]|unfolding )[^\n]*\n|{start}[^\n]*\n)*").match(text, it.start())[0]
+            if re.search(rf"^{start}", own, re.M):
+                yield path, it["name"], text.replace(own, "", 1)
+
+
 def lemmas_name_their_subject():
-    """Reports public lemmas whose name isn't at least two words joined by `_`; rattle names the goals of a function's proof."""
-    wrong, seen = [], 0
-    for pattern in ("proofs/**/*.antt", "specs/lemmas/**/*.antt"):
-        for path in sorted(glob.glob(os.path.join(TOP, "crates", "*", pattern), recursive=True)):
-            if path.endswith(GOALS):
-                continue
-            with open(path, encoding="utf-8") as file:
-                text = RECORD.sub("", file.read())
-            for it in LEMMA.finditer(text):
-                if re.search(rf"^{it['indent']}{re.escape(it['name'])}(?= )", text[it.end() :], re.M):
-                    seen += 1
-                    if not re.fullmatch(r"\w+_\w+", it["name"]):
-                        wrong.append(f"{os.path.relpath(path, TOP)}: {it['name']}")
-    return wrong + (["hardly a lemma was found"] if seen < 500 else [])
+    """Reports public lemmas whose name isn't at least two words joined by `_`."""
+    found = list(public_lemmas())
+    wrong = [f"{path.relative_to(TOP)}: {name}" for path, name, _ in found if not re.fullmatch(r"\w+_\w+", name)]
+    return wrong + (["hardly a lemma was found"] if len(found) < 500 else [])
+
+
+def public_lemmas_are_cited():
+    """Reports public lemmas that are cited neither in the rest of their file nor in a file that names their module."""
+    words = {path: set(WORD.findall(text)) for path, text in texts("proofs/**/*.antt", "specs/**/*.antt", "src/*.rt").items()}
+    return [f"{path.relative_to(TOP)}: {name} is cited nowhere" for path, name, rest in public_lemmas()
+        if name not in WORD.findall(rest) and not any({name, path.stem} <= words[it] for it in words if it != path)]
 
 
 TESTS = (
     the_examples_are_right,
-    one_line_over_their_sisters,
+    one_line_over_their_variants,
     each_library_is_read_as_it_was_compiled,
     memory_is_made_nowhere_else,
-    each_export_with_memory_has_a_sister,
+    each_export_with_memory_has_a_variant,
     the_run_is_two_lines,
     few_parameters,
     short_functions,
     short_lines,
     lemmas_name_their_subject,
+    public_lemmas_are_cited,
 )
 
 

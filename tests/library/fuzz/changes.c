@@ -12,7 +12,7 @@ uint32_t below(struct chance *chance, uint32_t most) {
     return (uint32_t)((next(chance) >> 32) * most >> 32);
 }
 
-/* A block that is changed: its bytes, and the room that there is. */
+/* A block that is changed: its bytes, and the capacity of its buffer. */
 struct draft {
     struct chance *chance;
     unsigned char *bytes;
@@ -21,7 +21,7 @@ struct draft {
     size_t other_length;
 };
 
-/* A place, more often near the front, where tables stand, and seldom in a header, which is soon wrong. */
+/* An offset: more often near the beginning, where the tables are, and seldom in the header, where most changes are a fault. */
 static size_t place_in(struct draft *it, size_t length) {
     size_t first = length > 20 && it->bytes[0] != 0x1C && below(it->chance, 16) ? 8 : 0;
     size_t at = below(it->chance, (uint32_t)(length - first));
@@ -111,7 +111,7 @@ static void change_once(struct draft *it) {
     case 6:
         put_number(it, at, below(it->chance, 2) ? 2 : 4, it->bytes[0] != 'I' || below(it->chance, 8) == 0, number_for(it));
         break;
-    case 7: /* a small step up or down, as of an offset or a count */
+    case 7: /* a small step up or down, for an offset or a count */
         it->bytes[at] = (unsigned char)(it->bytes[at] + below(it->chance, 9) - 4);
         break;
     case 8:

@@ -12,7 +12,7 @@ struct chance {
 
 uint32_t below(struct chance *chance, uint32_t most);
 
-/* Changes a block of `length` bytes, of which there is room for `most`, once or a few times, and returns its new length.
+/* Changes a block of `length` bytes, in a buffer of `most` bytes, once or a few times, and returns its new length.
  * `other` is a block from which a part may be taken. */
 size_t changed(struct chance *chance, unsigned char *block, size_t length, size_t most, const unsigned char *other, size_t other_length);
 

@@ -6,10 +6,10 @@
 #include <string.h>
 #include <sys/mman.h>
 
-/* A block of so many bytes at most is judged: its listing and captions then fit into the room below. */
+/* The longest block that is judged: its listing and its captions then fit into the buffers below. */
 enum { LONGEST = 8192, ROOM = 16 * LONGEST, PAGE = 4096, SHOWN = 400 };
 enum { UNSET = 0x5EED5EED, FILLER = 0xA5, TAIL_BYTES = 3 };
-/* What judging may hold: so many times the block, and a constant. */
+/* The most memory that judging may take at once: so many times the block, and a constant. */
 enum { TIMES = 16, BESIDE = 300000 };
 
 struct seen seen;
@@ -32,7 +32,7 @@ struct area {
     size_t size;
 };
 
-/* An answer: its status, what it wrote, and the fault. */
+/* A result: its status, what was written, and the fault. */
 struct answer {
     uint32_t status, number;
     size_t written;
@@ -78,14 +78,14 @@ int open_room(void) {
     return open_area(&block_area, 2 * LONGEST + 64) && open_area(&other_area, 2 * LONGEST + 64) && open_area(&out_area, ROOM);
 }
 
-/* Puts one part behind another. */
+/* Appends one part to another. */
 static size_t joined(unsigned char *place, const void *one, size_t one_length, const void *two, size_t two_length) {
     memcpy(place, one, one_length);
     memcpy(place + one_length, two, two_length);
     return one_length + two_length;
 }
 
-/* The bytes, put where none behind them can be read. */
+/* The bytes, copied to where the next byte can not be read. */
 static unsigned char *laid(const struct area *area, const unsigned char *bytes, size_t length) {
     return memcpy(area->start + area->size - length, bytes, length);
 }
@@ -127,10 +127,10 @@ static struct answer compare(const unsigned char *one, size_t one_length, const 
     return it;
 }
 
-/* What a record and an Exif block can be refused for. */
+/* The causes for which a record and an Exif block can be refused. fuzz.py knows which numbers are causes. */
 static int is_cause_of(uint32_t cause, int is_record) {
-    return is_record ? cause >= EXIFNORM_CAUSE_NO_MARKER && cause <= EXIFNORM_CAUSE_DATASET_CUT
-                     : cause >= EXIFNORM_CAUSE_UNKNOWN_KIND && cause <= EXIFNORM_CAUSE_THUMBNAIL_OUTSIDE;
+    int of_record = cause >= EXIFNORM_CAUSE_NO_MARKER && cause <= EXIFNORM_CAUSE_DATASET_CUT;
+    return cause > EXIFNORM_CAUSE_TOO_LONG && of_record == is_record;
 }
 
 static int has_prefix(const unsigned char *block, size_t length) {
@@ -171,7 +171,7 @@ static void judge_refused_prefix(const unsigned char *block, size_t length, stru
     holds(LAW_PREFIX, longer.status == EXIFNORM_REFUSED && is_fault(longer.fault, fault));
 }
 
-/* Bytes behind a record's first fault are read by nobody, where the fault is not that the record is cut. */
+/* Bytes after a record's first fault change nothing, unless the fault is that the record is cut. */
 static void judge_order(const unsigned char *block, size_t length, struct exifnorm_fault fault) {
     if (!is_record(block, length) || fault.cause == EXIFNORM_CAUSE_DATASET_CUT || length + TAIL_BYTES > LONGEST)
         return;
@@ -185,7 +185,7 @@ static void judge_order(const unsigned char *block, size_t length, struct exifno
 
 /* ---- one block that is accepted */
 
-/* The form of the block, which is remembered; 0 where there is none to go on with. */
+/* The form of the block, which is kept for the next laws; 0 if there is none. */
 static int judge_form(const unsigned char *block, size_t length) {
     struct answer form = call(exifnorm_normalise, block, length, 2 * length + 64);
     if (!holds(LAW_NORMALISE, form.status == EXIFNORM_DONE && is_fault(form.fault, NO_FAULT)))
@@ -206,7 +206,7 @@ static int judge_form(const unsigned char *block, size_t length) {
     return 1;
 }
 
-/* What a form says by itself, and beside its block. */
+/* The laws of a form by itself, and of a form and its block. */
 static void judge_form_again(const unsigned char *block, size_t length) {
     const unsigned char *form = laid(&other_area, now.form, now.form_length);
     struct answer kind = check(form, now.form_length);
@@ -236,13 +236,14 @@ static int is_listing(const unsigned char *text, size_t length) {
     return begins(text, length, start) && text[length - 1] == '\n' && is_ascii(text, length) && !memmem(text, length, "\n\n", 2);
 }
 
-static int is_label(const unsigned char *line, size_t length) {
-    static const char *const labels[] = {"charset: UTF-8\n", "charset: not declared\n", "title: ", "caption: ", "headline: ", "credit: ",
-        "source: ", "copyright: ", "byline: ", "byline-title: ", "keyword: ", "inventory: ", "description: ", "artist: "};
-    for (size_t i = 0; i < sizeof labels / sizeof *labels; i++)
-        if (begins(line, length, labels[i]))
-            return 1;
-    return 0;
+/* Small letters, perhaps with hyphens, then a colon and a space; or the line of the character set. */
+static int has_label(const unsigned char *line, size_t length) {
+    size_t letters = 0;
+    while (letters < length && ((line[letters] >= 'a' && line[letters] <= 'z') || line[letters] == '-'))
+        letters++;
+    if (begins(line, length, "charset"))
+        return begins(line, length, "charset: UTF-8\n") || begins(line, length, "charset: not declared\n");
+    return letters > 0 && begins(line + letters, length - letters, ": ");
 }
 
 static int are_captions(const unsigned char *text, size_t length) {
@@ -250,17 +251,17 @@ static int are_captions(const unsigned char *text, size_t length) {
     if (!begins(text, length, now.kind == EXIFNORM_EXIF ? "exif\n" : "iim\ncharset: ") || end[-1] != '\n' || !is_ascii(text, length))
         return 0;
     for (line = (const unsigned char *)memchr(text, '\n', length) + 1; line < end; line = (const unsigned char *)memchr(line, '\n', end - line) + 1)
-        if (!is_label(line, end - line))
+        if (!has_label(line, end - line))
             return 0;
     return 1;
 }
 
-/* Room for either text: an element of two bytes is shown by up to seven characters, a byte by three, an empty DataSet by ten. */
+/* Capacity for either text: an element of two bytes takes up to seven characters, a byte three, an empty DataSet ten. */
 static size_t room_for(size_t length) {
     return 8 * length + 64 < ROOM ? 8 * length + 64 : ROOM;
 }
 
-/* A text of the block, which is remembered, and that of its form. */
+/* A text of the block, which is kept, and that of its form. */
 static size_t judge_text(Call *made, const unsigned char *block, size_t length, unsigned char *kept, int answers, int of_form) {
     size_t room = room_for(length);
     struct answer text = call(made, block, length, room);
@@ -284,13 +285,13 @@ static void judge_texts(const unsigned char *block, size_t length) {
         holds(LAW_LABELS, are_captions(now.captions, now.captions_length));
 }
 
-/* Whether what stands in `other_area` has the form that is known. */
+/* Whether the block in `other_area` has the known form. */
 static int has_form(const unsigned char *block, size_t length) {
     struct answer form = call(exifnorm_normalise, block, length, now.form_length);
     return form.status == EXIFNORM_DONE && form.written == now.form_length && memcmp(form.bytes, now.form, form.written) == 0;
 }
 
-/* The form with more in front or behind. */
+/* The form with more bytes before or after it. */
 static void judge_longer(void) {
     unsigned char *place = other_area.start;
     if (now.kind == EXIFNORM_EXIF) {
@@ -327,7 +328,7 @@ static void judge_pair(const unsigned char *block, size_t length) {
 
 static Call *const text_calls[] = {exifnorm_normalise, exifnorm_show, exifnorm_captions};
 
-/* What one of the calls answers where an allocation fails; its numbers turn with the blocks. */
+/* What one of the calls returns if an allocation fails. From block to block another call and another allocation are tried. */
 static void judge_refused_memory(const unsigned char *block, size_t length) {
     size_t live = memory.live, room = room_for(length);
     Call *made = text_calls[seen.blocks / 8 % 3];

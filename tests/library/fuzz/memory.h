@@ -1,11 +1,11 @@
-/* Counts the memory that the library takes, and refuses it: the program's own malloc, which the library calls. */
+/* The program's own malloc, which the library calls: it counts what is allocated, and can fail. */
 #ifndef FUZZ_MEMORY_H
 #define FUZZ_MEMORY_H
 
 #include <stddef.h>
 
 struct memory {
-    size_t live;   /* bytes that are taken and not given back */
+    size_t live;   /* bytes that are allocated now */
     size_t peak;   /* the most of them since `start_counting` */
     size_t taken;  /* allocations since then */
     long refuse;   /* which allocation from now on fails: 1 is the next one, 0 is none */

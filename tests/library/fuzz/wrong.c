@@ -1,4 +1,6 @@
-/* A library that answers as the built one, but for one mistake: RIGHT names the built one, WRONG the mistake. */
+/* A library that returns what the built one returns, with one mistake: RIGHT names the built one, WRONG the mistake, and ALONE, if it is
+ * set, the only call that makes the mistake. If this is compiled with RIGHT_IS_LINKED, it is linked with the built one, whose calls then
+ * begin with `its_`. */
 #define _GNU_SOURCE
 #include <dlfcn.h>
 #include <exifnorm.h>
@@ -8,58 +10,59 @@
 
 #define MISTAKES \
     MISTAKE(NONE_OF_THEM_ANSWERS, "no call does anything, and all answer DONE") \
-    MISTAKE(OTHER_KIND, "check answers the other kind") \
+    MISTAKE(OTHER_KIND, "check returns the other kind") \
     MISTAKE(KIND_OF_REFUSED, "check sets the kind of a block that it refuses") \
     MISTAKE(FAULT_OF_ACCEPTED, "check sets the fault of a block that it accepts") \
-    MISTAKE(ODD_STATUS, "check answers a status that there is not") \
+    MISTAKE(ODD_STATUS, "check returns a status that does not exist") \
     MISTAKE(WEAK_CHECK, "check accepts values that pass the end") \
     MISTAKE(STRICT_CHECK, "check refuses blocks of odd length") \
-    MISTAKE(NEXT_CAUSE, "check answers the cause behind the right one") \
-    MISTAKE(PLACE_BESIDE, "the place is one too high") \
-    MISTAKE(PLACE_BEHIND_PREFIX, "the place counts the six bytes in front") \
-    MISTAKE(PLACE_OUTSIDE, "the place is behind the block") \
-    MISTAKE(FORGETS, "every hundredth check answers otherwise") \
+    MISTAKE(NEXT_CAUSE, "check returns the cause after the right one") \
+    MISTAKE(PLACE_BESIDE, "the offset is one too high") \
+    MISTAKE(PLACE_BEHIND_PREFIX, "the offset counts the six bytes before the block") \
+    MISTAKE(PLACE_OUTSIDE, "the offset is after the block") \
+    MISTAKE(FORGETS, "every hundredth check returns something else") \
     MISTAKE(WRITES_BLOCK, "the first byte of a block is changed") \
-    MISTAKE(READS_BEHIND, "a byte behind the block is read") \
+    MISTAKE(READS_BEHIND, "a byte after the block is read") \
     MISTAKE(FORM_IS_BLOCK, "the form is the block itself") \
     MISTAKE(FORM_OF_ONE_ORDER, "the form of a block of the order II is the block") \
-    MISTAKE(FORM_WITH_ZEROS, "two zeros stand behind the form") \
+    MISTAKE(FORM_WITH_ZEROS, "two zeros follow the form") \
     MISTAKE(FORM_CUT, "the last byte of a form is missing") \
-    MISTAKE(FORM_LESS_A_BIT, "a bit of a form's last byte is turned") \
+    MISTAKE(FORM_LESS_A_BIT, "a bit of a form's last byte is inverted") \
     MISTAKE(FORM_TOO_LONG, "a form is filled up to twice the block and more") \
-    MISTAKE(FORM_BEHIND, "a byte is written behind the form") \
+    MISTAKE(FORM_BEHIND, "a byte is written after the form") \
     MISTAKE(FORM_OF_LAST, "the form is that of the block before") \
-    MISTAKE(FORM_FAULT, "normalise answers another place than check") \
+    MISTAKE(FORM_FAULT, "normalise returns another offset than check") \
     MISTAKE(FORM_WRITES_REFUSED, "normalise writes the length of a block that it refuses") \
-    MISTAKE(ROOM_IS_ENOUGH, "too little room is filled with the first bytes") \
-    MISTAKE(ROOM_LENGTH, "too little room is answered with another length") \
-    MISTAKE(ROOM_OF_TEXT, "a text in too little room is answered with the room") \
-    MISTAKE(ALWAYS_SAME, "all accepted blocks say the same") \
-    MISTAKE(NEVER_SAME, "no two blocks say the same") \
-    MISTAKE(SAME_LENGTH, "blocks of one length say the same") \
-    MISTAKE(SAME_BYTES, "blocks say the same where their bytes are equal") \
-    MISTAKE(SAME_ONE_WAY, "the longer block never says the same") \
-    MISTAKE(SAME_KINDS, "blocks of different kinds say the same") \
-    MISTAKE(FIRST_IS_SECOND, "the fault of the first is answered as one of the second") \
-    MISTAKE(SECOND_IS_FIRST, "the fault of the second is answered as one of the first") \
-    MISTAKE(SECOND_UNJUDGED, "a second block that is refused says something else") \
+    MISTAKE(ROOM_IS_ENOUGH, "an output that is too short gets the first bytes") \
+    MISTAKE(ROOM_LENGTH, "for an output that is too short another length is returned") \
+    MISTAKE(ROOM_OF_TEXT, "for an output that is too short its own length is returned") \
+    MISTAKE(ALWAYS_SAME, "all accepted blocks mean the same") \
+    MISTAKE(NEVER_SAME, "no two blocks mean the same") \
+    MISTAKE(SAME_LENGTH, "blocks of one length mean the same") \
+    MISTAKE(SAME_BYTES, "blocks mean the same only if their bytes are equal") \
+    MISTAKE(SAME_ONE_WAY, "a longer first block never means the same") \
+    MISTAKE(SAME_KINDS, "blocks of different kinds mean the same") \
+    MISTAKE(FIRST_IS_SECOND, "the fault of the first is returned as one of the second") \
+    MISTAKE(SECOND_IS_FIRST, "the fault of the second is returned as one of the first") \
+    MISTAKE(SECOND_UNJUDGED, "a refused second block means something else") \
     MISTAKE(LISTING_EMPTY, "the listing is the kind alone") \
     MISTAKE(LISTING_OF_PLACES, "the listing depends on the layout") \
     MISTAKE(LISTING_UNENDED, "the listing's last line is not ended") \
     MISTAKE(LISTING_BINARY, "the listing has a byte that is not printable") \
-    MISTAKE(SHOW_ACCEPTS, "show answers DONE for a block that is refused") \
-    MISTAKE(CAPTIONS_ACCEPT, "captions answers DONE for a block that is refused") \
-    MISTAKE(CAPTIONS_UNLABELLED, "a caption's label is another") \
+    MISTAKE(SHOW_ACCEPTS, "show returns DONE for a refused block") \
+    MISTAKE(CAPTIONS_ACCEPT, "captions returns DONE for a refused block") \
+    MISTAKE(CAPTIONS_UNLABELLED, "a caption has another label") \
     MISTAKE(CAPTIONS_OF_PLACES, "the captions depend on the layout") \
-    MISTAKE(PREFIX_REFUSED, "six bytes in front of a block are refused") \
-    MISTAKE(TAIL_REFUSED, "bytes behind the last part of an Exif block are refused") \
-    MISTAKE(ZEROS_REFUSED, "a zero behind a record is refused") \
-    MISTAKE(ZEROS_ACCEPTED, "four zeros behind a record are accepted") \
+    MISTAKE(PREFIX_REFUSED, "six bytes before a block are refused") \
+    MISTAKE(TAIL_REFUSED, "bytes after the last part of an Exif block are refused") \
+    MISTAKE(ZEROS_REFUSED, "a zero after a record is refused") \
+    MISTAKE(ZEROS_ACCEPTED, "four zeros after a record are accepted") \
     MISTAKE(RECORDS_OF_ONE_KEYWORD, "a record with two captions is refused") \
     MISTAKE(LEAKS, "every tenth check keeps its memory") \
-    MISTAKE(TAKES_MUCH, "check takes a megabyte") \
-    MISTAKE(IGNORES_NULL, "a failed allocation is answered as a refusal") \
-    MISTAKE(FAULT_AT_END, "the fault of a record depends on what stands behind it")
+    MISTAKE(TAKES_MUCH, "check and normalise allocate a megabyte") \
+    MISTAKE(IGNORES_NULL, "a failed allocation is returned as a refusal") \
+    MISTAKE(SETS_WITHOUT_MEMORY, "a number is set although an allocation failed") \
+    MISTAKE(FAULT_AT_END, "the fault of a record depends on what follows it")
 
 #define MISTAKE(name, text) name,
 enum { NONE, MISTAKES COUNT };
@@ -76,22 +79,43 @@ static Check *right_check;
 static Text *right_normalise, *right_show, *right_captions;
 static Compare *right_compare;
 static int wrong;
+static const char *alone;
 static unsigned long calls;
 
-__attribute__((constructor)) static void open_right(void) {
-    void *right = dlopen(getenv("RIGHT"), RTLD_NOW | RTLD_LOCAL);
-    const char *name = getenv("WRONG");
-    if (!right || !name)
+#ifdef RIGHT_IS_LINKED
+Check its_check;
+Text its_normalise, its_show, its_captions;
+Compare its_compare;
+#define ITS(type, name) its_##name
+#define FIND_RIGHT()
+#else
+#define ITS(type, name) (type *)dlsym(right, "exifnorm_" #name)
+#define FIND_RIGHT() \
+    void *right = dlopen(getenv("RIGHT"), RTLD_NOW | RTLD_LOCAL); \
+    if (!right) \
         abort();
-    right_check = (Check *)dlsym(right, "exifnorm_check");
-    right_normalise = (Text *)dlsym(right, "exifnorm_normalise");
-    right_show = (Text *)dlsym(right, "exifnorm_show");
-    right_captions = (Text *)dlsym(right, "exifnorm_captions");
-    right_compare = (Compare *)dlsym(right, "exifnorm_compare");
+#endif
+
+__attribute__((constructor)) static void open_right(void) {
+    FIND_RIGHT()
+    const char *name = getenv("WRONG");
+    if (!name)
+        abort();
+    alone = getenv("ALONE");
+    right_check = ITS(Check, check);
+    right_normalise = ITS(Text, normalise);
+    right_show = ITS(Text, show);
+    right_captions = ITS(Text, captions);
+    right_compare = ITS(Compare, compare);
     while (wrong < COUNT && strcmp(names[wrong], name) != 0)
         wrong++;
     if (wrong == COUNT)
         abort();
+}
+
+/* Whether a call makes no mistake. */
+static int is_right(const char *call) {
+    return alone && strcmp(alone, call) != 0;
 }
 
 static int is_record(const unsigned char *block, size_t length) {
@@ -108,7 +132,12 @@ static uint32_t refused(struct exifnorm_fault *fault, uint32_t cause, size_t pla
     return EXIFNORM_REFUSED;
 }
 
-/* A refusal that is not the library's, where the mistake is one of those that all calls make. */
+/* The status of a call in which an allocation failed. */
+static uint32_t without_memory(struct exifnorm_fault *fault) {
+    return wrong == IGNORES_NULL ? refused(fault, EXIFNORM_CAUSE_LOOP, 0) : EXIFNORM_NO_MEMORY;
+}
+
+/* A wrong refusal, if the mistake is one that all calls make. */
 static int is_refused(const unsigned char *block, size_t length, uint32_t status, struct exifnorm_fault *fault) {
     unsigned char form[8192];
     size_t written = 0;
@@ -141,8 +170,10 @@ static void change_fault(const unsigned char *block, size_t length, struct exifn
         fault->place = (uint32_t)length - 1;
 }
 
-/* A mistake in what one check answers. */
+/* A mistake in the result of one check. */
 static uint32_t changed_check(const unsigned char *block, size_t length, uint32_t *kind, struct exifnorm_fault *fault, uint32_t status) {
+    if (status == EXIFNORM_NO_MEMORY)
+        return *kind = wrong == SETS_WITHOUT_MEMORY ? 0 : *kind, without_memory(fault);
     if (is_refused(block, length, status, fault))
         return EXIFNORM_REFUSED;
     if (wrong == ODD_STATUS)
@@ -168,6 +199,8 @@ static uint32_t changed_check(const unsigned char *block, size_t length, uint32_
 
 uint32_t exifnorm_check(const unsigned char *block, size_t length, uint32_t *kind, struct exifnorm_fault *fault) {
     volatile unsigned char seen = 0;
+    if (is_right("check"))
+        return right_check(block, length, kind, fault);
     calls++;
     if (wrong == NONE_OF_THEM_ANSWERS)
         return EXIFNORM_DONE;
@@ -183,7 +216,7 @@ uint32_t exifnorm_check(const unsigned char *block, size_t length, uint32_t *kin
     return changed_check(block, length, kind, fault, right_check(block, length, kind, fault));
 }
 
-/* Bytes that stand in place of a text, in so much room. */
+/* Bytes in place of a text, in an output of this length. */
 static uint32_t put(const void *bytes, size_t length, unsigned char *out, size_t room, size_t *written) {
     *written = length;
     if (length > room)
@@ -227,13 +260,17 @@ static uint32_t changed_form(const unsigned char *block, size_t length, unsigned
 }
 
 uint32_t exifnorm_normalise(const unsigned char *block, size_t length, unsigned char *out, size_t room, size_t *written, struct exifnorm_fault *fault) {
+    if (is_right("normalise"))
+        return right_normalise(block, length, out, room, written, fault);
     if (wrong == NONE_OF_THEM_ANSWERS)
         return EXIFNORM_DONE;
+    if (wrong == TAKES_MUCH)
+        free(malloc(1 << 20));
     uint32_t status = right_normalise(block, length, out, room, written, fault);
     if (is_refused(block, length, status, fault))
         return EXIFNORM_REFUSED;
-    if (status == EXIFNORM_NO_MEMORY && wrong == IGNORES_NULL)
-        return refused(fault, EXIFNORM_CAUSE_LOOP, 0);
+    if (status == EXIFNORM_NO_MEMORY)
+        return *written = wrong == SETS_WITHOUT_MEMORY ? 0 : *written, without_memory(fault);
     if (status == EXIFNORM_REFUSED) {
         change_fault(block, length, fault);
         fault->place += wrong == FORM_FAULT;
@@ -261,6 +298,8 @@ static uint32_t changed_compare(size_t one_length, size_t two_length, int is_one
 }
 
 uint32_t exifnorm_compare(const unsigned char *one, size_t one_length, const unsigned char *two, size_t two_length, uint32_t *same, struct exifnorm_fault *fault) {
+    if (is_right("compare"))
+        return right_compare(one, one_length, two, two_length, same, fault);
     if (wrong == NONE_OF_THEM_ANSWERS)
         return EXIFNORM_DONE;
     uint32_t status = right_compare(one, one_length, two, two_length, same, fault);
@@ -268,6 +307,8 @@ uint32_t exifnorm_compare(const unsigned char *one, size_t one_length, const uns
         return EXIFNORM_REFUSED;
     if (is_refused(two, two_length, status, fault))
         return EXIFNORM_SECOND_REFUSED;
+    if (status == EXIFNORM_NO_MEMORY)
+        return *same = wrong == SETS_WITHOUT_MEMORY ? 0 : *same, without_memory(fault);
     if (status == EXIFNORM_REFUSED || status == EXIFNORM_SECOND_REFUSED)
         change_fault(status == EXIFNORM_REFUSED ? one : two, status == EXIFNORM_REFUSED ? one_length : two_length, fault);
     if (status == EXIFNORM_REFUSED && wrong == FIRST_IS_SECOND)
@@ -288,8 +329,8 @@ static uint32_t changed_text(Text *call, const unsigned char *block, size_t leng
     uint32_t status = call(block, length, out, room, written, fault);
     if (is_refused(block, length, status, fault))
         return EXIFNORM_REFUSED;
-    if (status == EXIFNORM_NO_MEMORY && wrong == IGNORES_NULL)
-        return refused(fault, EXIFNORM_CAUSE_LOOP, 0);
+    if (status == EXIFNORM_NO_MEMORY)
+        return *written = wrong == SETS_WITHOUT_MEMORY ? 0 : *written, without_memory(fault);
     if (status == EXIFNORM_REFUSED)
         change_fault(block, length, fault);
     if (status == EXIFNORM_TOO_LITTLE_ROOM && wrong == ROOM_OF_TEXT)
@@ -298,6 +339,8 @@ static uint32_t changed_text(Text *call, const unsigned char *block, size_t leng
 }
 
 uint32_t exifnorm_show(const unsigned char *block, size_t length, unsigned char *out, size_t room, size_t *written, struct exifnorm_fault *fault) {
+    if (is_right("show"))
+        return right_show(block, length, out, room, written, fault);
     if (wrong == NONE_OF_THEM_ANSWERS)
         return EXIFNORM_DONE;
     uint32_t status = changed_text(right_show, block, length, out, room, written, fault);
@@ -317,6 +360,8 @@ uint32_t exifnorm_show(const unsigned char *block, size_t length, unsigned char 
 }
 
 uint32_t exifnorm_captions(const unsigned char *block, size_t length, unsigned char *out, size_t room, size_t *written, struct exifnorm_fault *fault) {
+    if (is_right("captions"))
+        return right_captions(block, length, out, room, written, fault);
     if (wrong == NONE_OF_THEM_ANSWERS)
         return EXIFNORM_DONE;
     uint32_t status = changed_text(right_captions, block, length, out, room, written, fault);

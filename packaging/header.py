@@ -1,0 +1,62 @@
+#!/usr/bin/env python3
+"""Writes the list of causes in exifnorm.h. Their names, their numbers and what they mean are those of px_bytes' causes.rt.
+
+  packaging/header.py            writes the list into the header
+  packaging/header.py --check    ends with 1 if the header has another list
+"""
+
+from __future__ import annotations
+
+import re
+import sys
+from pathlib import Path
+
+CRATES = Path(__file__).resolve().parent.parent / "crates"
+SOURCE, HEADER = CRATES / "px_bytes" / "src" / "causes.rt", CRATES / "px_c" / "include" / "exifnorm.h"
+LIST = re.compile(r"(?<=/\* The causes of a refusal, in the order of docs/FORMAT\.md\. \*/\nenum \{\n).*?(?=\};\n)", re.S)
+MEMBER = re.compile(r"((?:    /// .*\n)+)    (\w+),\n")
+
+
+def name_in_c(name: str) -> str:
+    """The name of a cause as a constant in C.
+
+    >>> name_in_c("DataSetCut")
+    'EXIFNORM_CAUSE_DATASET_CUT'
+    """
+    parts = re.findall("[A-Z][a-z]+", name.replace("DataSet", "Dataset"))
+    return "_".join(["EXIFNORM_CAUSE", *parts]).upper()
+
+
+def meaning(comment: str) -> str:
+    """The first sentence of a comment in Rattle, as a comment in C.
+
+    >>> meaning("    /// Longer than `LIMIT`\\n    /// bytes. More.\\n")
+    '/* longer than EXIFNORM_LIMIT bytes */'
+    """
+    sentence = " ".join(re.sub("^ *///", "", comment, flags=re.M).split()).partition(". ")[0].rstrip(".")
+    return f"/* {sentence[0].lower()}{sentence[1:].replace('`LIMIT`', 'EXIFNORM_LIMIT')} */"
+
+
+def members(source: str) -> str:
+    """The members of the header's list."""
+    declared = re.search(r"pub enum Cause \{\n(.*?)\n\}", source, re.S)
+    found = MEMBER.findall(declared[1] + "\n" if declared else "")
+    lines = [f"    {name_in_c(name)} = {number}" + "," * (number < len(found)) for number, (_, name) in enumerate(found, 1)]
+    return "".join(f"{line:{max(map(len, lines))}} {meaning(comment)}\n" for line, (comment, _) in zip(lines, found))
+
+
+def main(words: list[str]) -> int:
+    if words not in ([], ["--check"]):
+        sys.exit(__doc__)
+    header = HEADER.read_text(encoding="utf-8")
+    made, count = LIST.subn(lambda _: members(SOURCE.read_text(encoding="utf-8")), header)
+    if count != 1:
+        sys.exit("the header has no list of causes")
+    if words:
+        return int(made != header)
+    HEADER.write_text(made, encoding="utf-8")
+    return 0
+
+
+if __name__ == "__main__":
+    sys.exit(main(sys.argv[1:]))

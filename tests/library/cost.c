@@ -1,0 +1,65 @@
+/* What one call of the library costs: cost CALL FILE, where CALL is check, normalise, show, captions or compare (with itself). It prints the
+ * most bytes that the call has allocated at once. costs.py runs it, also under callgrind, which counts the instructions of the call. */
+#include "fuzz/memory.h"
+#include <exifnorm.h>
+#include <stdio.h>
+#include <stdlib.h>
+#include <string.h>
+
+/* A listing of DataSets of five bytes has the most bytes for each byte of its block. */
+#define TIMES 5
+#define BESIDE 1024
+
+struct block {
+    unsigned char *bytes;
+    size_t length;
+};
+
+static struct block read_file(const char *name) {
+    struct block block = {NULL, 0};
+    FILE *file = fopen(name, "rb");
+    if (!file || fseek(file, 0, SEEK_END) != 0)
+        exit(2);
+    block.length = (size_t)ftell(file);
+    rewind(file);
+    block.bytes = malloc(block.length + 1);
+    if (!block.bytes || fread(block.bytes, 1, block.length, file) != block.length)
+        exit(2);
+    fclose(file);
+    return block;
+}
+
+static uint32_t called(const char *name, struct block block, unsigned char *out, size_t room) {
+    struct exifnorm_fault fault;
+    uint32_t number;
+    size_t written;
+    if (!strcmp(name, "check"))
+        return exifnorm_check(block.bytes, block.length, &number, &fault);
+    if (!strcmp(name, "compare"))
+        return exifnorm_compare(block.bytes, block.length, block.bytes, block.length, &number, &fault);
+    if (!strcmp(name, "normalise"))
+        return exifnorm_normalise(block.bytes, block.length, out, room, &written, &fault);
+    if (!strcmp(name, "show"))
+        return exifnorm_show(block.bytes, block.length, out, room, &written, &fault);
+    if (!strcmp(name, "captions"))
+        return exifnorm_captions(block.bytes, block.length, out, room, &written, &fault);
+    exit(2);
+}
+
+int main(int count, char **words) {
+    if (count != 3)
+        return 2;
+    struct block block = read_file(words[2]);
+    size_t room = TIMES * block.length + BESIDE, before;
+    unsigned char *out = malloc(room);
+    if (!out)
+        return 2;
+    before = memory.live;
+    start_counting(0);
+    uint32_t status = called(words[1], block, out, room);
+    stop_counting();
+    printf("%zu\n", memory.peak - before);
+    free(out);
+    free(block.bytes);
+    return status != EXIFNORM_DONE;
+}

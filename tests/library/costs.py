@@ -1,0 +1,132 @@
+"""What calls of the built library cost, in numbers that don't depend on the machine: the bytes that they allocate at most, and the
+instructions that valgrind counts, for orders that are made to be slow beside the usual one."""
+
+import os
+import re
+import shutil
+import subprocess
+from collections import Counter
+from random import Random
+from typing import Dict, Iterable
+
+import orders
+from counting import SkipTest
+from kinds import ORIENTATION, Kind, OfStrips, bad_orders, many_datasets, random_records
+from meanings import RATIONAL, Exif, Layout, Record, Value, laid
+
+HERE = os.path.dirname(os.path.abspath(__file__))
+ITEM, FEW, COUNTERS = 24, 64, 4 * 65536  # bytes of a DataSet; more DataSets than this are sorted, with four bytes for each group
+SMALL, SLACK = 1024, 1.03  # bytes of small lists; 3 % more than is allocated now
+LONG = 300_000  # DataSets
+SAME, SORTED = 1.3, 3.0  # how often the instructions of the usual order an unusual one takes, and one that has to be sorted
+OCTETS = b"octets 1"
+
+
+def due(is_so: bool, what: object) -> None:
+    if not is_so:
+        raise AssertionError(what)
+
+
+def memory_of_record(call: str, record: Record) -> int:
+    """The bytes that a call takes for an IIM block: one list of exactly its DataSets, and counters while it is sorted. A text is made in a
+    list of its own, which may double. Nothing is kept of a block that is only checked."""
+    count = len(record.datasets)
+    if call == "check":
+        return 0
+    text = 2 * len({"show": record.listing, "captions": record.captions}.get(call, str)())
+    return (2 if call == "compare" else 1) * ITEM * count + (COUNTERS if count > FEW else 0) + text
+
+
+def strips(order: int, count: int) -> bytes:
+    """A thumbnail with strips of one byte: ascending, descending, or in random order (1, -1, 0)."""
+    layout = Layout(">") if order > 0 else Layout(">", shuffled=True, chance=OfStrips(count, order))
+    return laid(Exif(dict(ORIENTATION), thumb={}, strips=[b"x"] * count), layout)
+
+
+def iim(names: orders.Names) -> bytes:
+    return orders.record(names, OCTETS).spelled()
+
+
+class Costs:
+    """The tests; each public method is one."""
+
+    def __init__(self, compiler: Iterable[str], archive: str, room: str) -> None:
+        self.compiler, self.archive = list(compiler), archive
+        self._program, self._block = os.path.join(room, "cost"), os.path.join(room, "cost.block")
+
+    def are_compiled(self) -> None:
+        sources = [os.path.join(HERE, "cost.c"), os.path.join(HERE, "fuzz", "memory.c")]
+        words = [*self.compiler, "-I", HERE, *sources, self.archive, "-o", self._program]
+        ran = subprocess.run(words, capture_output=True, text=True, check=False)
+        due(ran.returncode == 0, ran.stderr)
+
+    def are_in_proportion_for_each_order_of_datasets(self) -> None:
+        for kind in (*many_datasets(), *bad_orders(), *random_records()):
+            if isinstance(kind.meaning, Record):
+                self._keep_to_memory(kind)
+
+    def are_small_for_strips(self) -> None:
+        for order in (1, -1, 0):
+            self._write(strips(order, 400_000))
+            for call in ("check", "normalise", "captions", "compare"):
+                took, size = self._memory(call), os.path.getsize(self._block)
+                due(took <= SLACK * (size / 8 + SMALL), f"{call} of strips in order {order} takes {took / size:.3f} of the block")
+
+    def are_like_the_usual_order_of_values(self) -> None:
+        fields = Exif({tag: Value(RATIONAL, [(tag, 7)]) for tag in range(0x1000, 0x3000)})
+        blocks = {"usual": laid(fields, Layout("<")), "shuffled": laid(fields, Layout("<", shuffled=True))}
+        self._keep_to_instructions(blocks, {"check": SAME, "normalise": SAME})
+
+    def are_like_the_usual_order_of_strips(self) -> None:
+        """Strips in the usual order are judged by one look at their whole span, and others one by one."""
+        blocks = {"usual": strips(1, 50_000), "descending": strips(-1, 50_000), "random": strips(0, 50_000)}
+        self._keep_to_instructions(blocks, {"check": 3.2, "normalise": SAME, "compare": 1.7})
+
+    def are_like_the_usual_order_of_groups(self) -> None:
+        names = list(orders.ascending(orders.ALL))
+        blocks = {"usual": iim(names), "descending": iim(names[::-1]), "random": iim(orders.shuffled())}
+        self._keep_to_instructions(blocks, {"check": 1.0, "normalise": SORTED, "captions": SORTED, "compare": SORTED})
+
+    def are_like_the_usual_order_of_few_groups(self) -> None:
+        names = sorted(Random(1).sample(list(orders.ascending(orders.ALL)), FEW))
+        blocks = {"usual": iim(names), "descending": iim(names[::-1]), "random": iim(Random(2).sample(names, FEW))}
+        self._keep_to_instructions(blocks, {"check": 1.0, "normalise": SORTED})
+
+    def are_like_the_usual_order_of_random_records(self) -> None:
+        names = list(orders.random(200_000))
+        in_order = [name for name, count in sorted(Counter(names).items()) for _ in range(count)]
+        blocks = {"usual": iim(in_order), "random": iim(names)}
+        self._keep_to_instructions(blocks, {"check": 1.0, "normalise": SORTED, "captions": SORTED, "compare": SORTED})
+
+    def _write(self, block: bytes) -> None:
+        with open(self._block, "wb") as it:
+            it.write(block)
+
+    def _memory(self, call: str) -> int:
+        """The most bytes that a call has allocated at once."""
+        return int(subprocess.run([self._program, call, self._block], capture_output=True, text=True, check=True).stdout)
+
+    def _keep_to_memory(self, kind: Kind) -> None:
+        self._write(kind.blocks[0])
+        texts = ("show", "captions") if len(kind.meaning.datasets) < LONG else ()  # the others take long to make
+        for call in ("check", "normalise", "compare", *texts):
+            took, most = self._memory(call), SLACK * (memory_of_record(call, kind.meaning) + SMALL)
+            due(took <= most, f"{call} of {kind.name}: {took} bytes, and not {most:.0f}, are {took / len(kind.blocks[0]):.2f} of the block")
+
+    def _instructions(self, call: str, block: bytes) -> int:
+        self._write(block)
+        words = ["valgrind", "--tool=callgrind", "--callgrind-out-file=/dev/null", f"--toggle-collect=exifnorm_{call}", self._program]
+        ran = subprocess.run([*words, call, self._block], capture_output=True, text=True, check=True)
+        return int(re.search(r"Collected : (\d+)", ran.stderr)[1])
+
+    def _keep_to_instructions(self, blocks: Dict[str, bytes], most: Dict[str, float]) -> None:
+        """Compares each order with the first."""
+        if not shutil.which("valgrind"):
+            raise SkipTest("valgrind is not installed")
+        usual, *others = blocks
+        for call, times in most.items():
+            count = self._instructions(call, blocks[usual])
+            due(count > 1000, f"valgrind counts {count} instructions of {call}")
+            for name in others:
+                more = self._instructions(call, blocks[name]) / count
+                due(more <= times, f"{call}: the order {name} takes {more:.2f} times the instructions")

@@ -1,0 +1,135 @@
+"""Tests that docs/FORMAT.md, the Python package and the blocks of the tests have the types and the roles of tags of the definitions."""
+
+import re
+import sys
+import unittest
+from typing import Dict, List, Set, Tuple
+
+from paths import TOP
+
+sys.path.insert(0, str(TOP / "python"))
+
+import meanings
+from exifnorm import _forms
+
+FORMS, ROLES, FORMAT = "crates/px_field/specs/Forms.antt", "crates/px_meaning/specs/Roles.antt", "docs/FORMAT.md"
+# the directories of the definitions, by their names in the listing and in the format's table of roles
+DIRECTORIES = {"Main": "main", "Exif": "exif", "Interop": "interop", "Gps": "gps", "Thumb": "thumb"}
+IN = {"main": "Main", "Exif": "Exif", "thumbnail": "Thumb"}
+# the roles of the definitions, by their texts in that table
+MEANT = {"strip offsets": "StripOffsets", "strip lengths": "StripLengths", "JPEG offset": "JpegOffset", "JPEG length": "JpegLength",
+         "leads to the Exif directory": "To Exif", "leads to the GPS directory": "To Gps",
+         "leads to the Interoperability directory": "To Interop"}  # fmt: skip
+Types = Dict[int, Tuple[str, int]]  # the name of a type, without hyphens, and the bytes of an element, by its number
+Roles = Dict[Tuple[str, int], str]  # the role of a tag in a directory
+
+
+def text_of(name: str) -> str:
+    return (TOP / name).read_text(encoding="utf-8")
+
+
+def section(title: str) -> str:
+    """A section of the format."""
+    return text_of(FORMAT).split(f"\n### {title}\n")[1].split("\n#")[0]
+
+
+def types_defined(text: str) -> Types:
+    """The types of the definitions.
+
+    >>> types_defined("code Byte = 1\\ncode Long = 4\\nsize Long = 4\\nsize _ = 1\\n")
+    {1: ('BYTE', 1), 4: ('LONG', 4)}
+    """
+    size = dict(re.findall(r"^size (\w+) = (\d+)$", text, re.M))
+    return {int(number): (name.upper(), int(size.get(name, size["_"]))) for name, number in re.findall(r"^code (\w+) = (\d+)$", text, re.M)}
+
+
+def types_listed(text: str) -> Types:
+    """The types of the format's table, which has two in a row.
+
+    >>> types_listed("| 1 | BYTE | 1 | 129 | UTF-8 | 1 |")
+    {1: ('BYTE', 1), 129: ('UTF8', 1)}
+    """
+    found = re.findall(r"(?<=\| )(\d+) \| ([A-Z][\w-]*) \| (\d+)(?= \|)", text)
+    return {int(number): (name.replace("-", ""), int(size)) for number, name, size in found}
+
+
+def tags_defined(text: str) -> Dict[str, int]:
+    """The tags of the definitions, by name."""
+    return {name: int(tag, 16) for name, tag in re.findall(r"^(\w+_tag) = (0x[0-9A-F]{4})$", text, re.M)}
+
+
+def roles_defined(text: str) -> Roles:
+    """The roles that tags have in single directories."""
+    tags, found = tags_defined(text), {}
+    for directory in DIRECTORIES:
+        rows = re.search(rf"^special {directory} =(.*?)\[\]$", text, re.M | re.S)[1]
+        found.update({(directory, tags[name]): role for name, role in re.findall(r"\((\w+), (\w+(?: \w+)?)\)", rows)})
+    return found
+
+
+def offsets_defined(text: str) -> Set[int]:
+    """The tags that are forbidden in each directory in which they have no role."""
+    tags, rows = tags_defined(text), re.search(r"^offset_tags =(.*?)\[\]$", text, re.M | re.S)[1]
+    return {tags[name] for name in re.findall(r"\((\w+), Forbidden\)", rows)}
+
+
+def rows_of_roles(text: str) -> List[List[str]]:
+    """The rows of the format's table of roles: tag, name, role, directory.
+
+    >>> rows_of_roles("| `0x0120` | FreeOffsets | none | nowhere |")
+    [['0120', 'FreeOffsets', 'none', 'nowhere']]
+    """
+    return [list(it) for it in re.findall(r"^\| `0x([0-9A-F]{4})` \| ([^|]+) \| ([^|]+) \| ([^|]+) \|$", text, re.M)]
+
+
+def widened_listed(text: str) -> Set[Tuple[str, int]]:
+    """The widened tags of the format, each with its directory.
+
+    >>> sorted(widened_listed("At A `0x0100` and B `0x0101` in the main and thumbnail directories, and at C `0xA002` in the Exif directory"))
+    [('Exif', 40962), ('Main', 256), ('Main', 257), ('Thumb', 256), ('Thumb', 257)]
+    """
+    found = set()
+    for part in re.split(r" director(?:y|ies)\b", text):
+        tags, _, directories = part.rpartition(" in the ")
+        found |= {(IN[it], int(tag, 16)) for tag in re.findall(r"`0x(\w+)`", tags) for it in directories.split(" and ")}
+    return found
+
+
+class Rules(unittest.TestCase):
+    """Rules that are written down in several places."""
+
+    def setUp(self) -> None:
+        self.roles, self.offsets = roles_defined(text_of(ROLES)), offsets_defined(text_of(ROLES))
+
+    def test_types(self) -> None:
+        defined = types_defined(text_of(FORMS))
+        self.assertEqual(len(defined), 13)
+        self.assertEqual(types_listed(section("Types")), defined)
+        self.assertEqual({number: it[:2] for number, it in _forms._TYPES.items()}, defined)
+        self.assertEqual({number: it[:2] for number, it in meanings.TYPES.items()}, defined)
+
+    def test_roles_in_the_format(self) -> None:
+        rows = rows_of_roles(section("Roles of tags"))
+        self.assertEqual([int(it[0], 16) for it in rows if it[3] == "nowhere"], sorted(self.offsets - {tag for _, tag in self.roles}))
+        listed = {(IN[it[3]], int(it[0], 16)): MEANT[it[2]] for it in rows if it[3] != "nowhere"}
+        self.assertEqual(listed, {place: role for place, role in self.roles.items() if role not in ("Widened", "Record")})
+        self.assertEqual({int(it[0], 16) for it in rows}, self.offsets)
+
+    def test_widened_tags(self) -> None:
+        defined = {place for place, role in self.roles.items() if role == "Widened"}
+        self.assertEqual(widened_listed(section("Widened tags")), defined)
+        named = {(DIRECTORIES[directory], tag) for directory, tag in defined}
+        for whole in (_forms._WHOLE, meanings.WIDENED):
+            self.assertEqual({(directory, tag) for directory, tags in whole.items() for tag in tags}, named)
+
+    def test_other_roles_in_python(self) -> None:
+        roles = {(DIRECTORIES[directory], tag): role for (directory, tag), role in self.roles.items() if role != "Widened"}
+        leads = {place: DIRECTORIES[role[3:]] for place, role in roles.items() if role.startswith("To ")}
+        self.assertEqual(_forms._POINTERS, leads)
+        self.assertEqual({place: target for target, place in meanings.POINTERS.items()}, leads)
+        self.assertEqual([place for place, role in roles.items() if role == "Record"], [("main", _forms._RECORD)])
+        self.assertEqual(_forms._RECORD, meanings.RECORD_TAG)
+        parts = {tag for (directory, tag), role in roles.items() if directory == "thumb"}
+        self.assertEqual(_forms._PARTS, parts)
+        self.assertEqual({meanings.STRIP_OFFSETS, meanings.STRIP_LENGTHS, meanings.JPEG_OFFSET, meanings.JPEG_LENGTH}, parts)
+        self.assertEqual(set(meanings.NOT_PLAIN), self.offsets)
