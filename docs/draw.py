@@ -77,7 +77,7 @@ def main():
     words = words.parse_args()
     with open(paths.CASES / "cases" / "blocks.json", encoding="utf-8") as it:
         blocks = Blocks(json.load(it)["blocks"])
-    names = ("ASCII before its directory", "ASCII at an even place, least first", "ASCII in normal form")
+    names = ("ASCII before its directory", "ASCII at an even offset, least first", "ASCII in normal form")
     due = picture(*map(blocks.named, names))
     if words.check:
         with open(PICTURE, encoding="utf-8") as it:
