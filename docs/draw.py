@@ -78,12 +78,12 @@ def main():
     with open(paths.CASES / "cases" / "blocks.json", encoding="utf-8") as it:
         blocks = Blocks(json.load(it)["blocks"])
     names = ("ASCII before its directory", "ASCII at an even offset, least first", "ASCII in normal form")
-    due = picture(*map(blocks.named, names))
+    expected = picture(*map(blocks.named, names))
     if words.check:
         with open(PICTURE, encoding="utf-8") as it:
-            return 0 if it.read() == due else 1
+            return 0 if it.read() == expected else 1
     with open(PICTURE, "w", encoding="utf-8") as it:
-        it.write(due)
+        it.write(expected)
     return 0
 
 

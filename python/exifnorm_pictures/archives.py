@@ -18,9 +18,9 @@ from .catalogue import Catalogue, NoCatalogue, head_is_ours
 from .index import Asked, index
 from .looking import How
 from .merge import merge
-from .telling import chosen_paths, entry_json, entry_lines, from_list, named, tell
+from .lines import chosen_paths, entry_json, entry_lines, from_list, named, tell
 from .texts import Members, path_members, shown_path
-from .words import parser
+from .arguments import parser
 
 DONE, DIFFERENT, OPEN, FAILED = 0, 1, 2, 4
 FAILURES = ("Unreadable", "ToolFailed", "NeedsExifTool", "NeedsExiv2")

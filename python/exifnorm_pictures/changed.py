@@ -108,7 +108,7 @@ def _add_details(it: Compared, blocks: List[List[Packed]], pairs: Pairs) -> None
             maker_note = maker_note and bool(one and other) and only_maker_note(*fields)
             head = "" if key[1] == NAMES[key[0]] else f"{key[1]}: "
             it.changes += [Change(head + change.name, change.before, change.after) for change in changes(*fields)]
-        it.note += _told_of(key[1], one, other)
+        it.note += _report_of(key[1], one, other)
     if it.result == DIFFERENT and maker_note:
         it.result = ONLY_MAKER_NOTE
 
@@ -116,7 +116,7 @@ def _add_details(it: Compared, blocks: List[List[Packed]], pairs: Pairs) -> None
 _NONE: Tuple[None, None] = (None, None)
 
 
-def _told_of(name: str, one: Optional[Block], other: Optional[Block]) -> str:
+def _report_of(name: str, one: Optional[Block], other: Optional[Block]) -> str:
     """The report on one block besides its fields: that only one side has it, or why it is refused."""
     said = [None if it is None else it.refusal if it.status != ACCEPTED else "accepted" for it in (one, other)]
     if one and other and one.octets == other.octets and one.status != ACCEPTED:

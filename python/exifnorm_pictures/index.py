@@ -44,7 +44,7 @@ class Asked:
 class Work:
     """The pictures that a run has to look at."""
 
-    due: List[Found] = field(default_factory=list)
+    to_read: List[Found] = field(default_factory=list)
     new: Set[bytes] = field(default_factory=set)  # those of them that the catalogue doesn't know, if it knows any
     unlisted: List[Unlisted] = field(default_factory=list)
     counts: "Counter[str]" = field(default_factory=Counter)
@@ -96,7 +96,7 @@ def _work(asked: Asked, catalogue: Catalogue) -> Work:
         elif known is not None:
             work.seen[known.id >> 12] = work.seen.get(known.id >> 12, 0) | 1 << (known.id & 4095)
         if asked.again or not _is_unchanged(it, known):
-            work.due.append(it)
+            work.to_read.append(it)
         else:
             work.counts["unchanged"] += 1
     return work
@@ -149,7 +149,7 @@ class _Looking:
 
     def __init__(self, asked: Asked, catalogue: Catalogue, run: int, work: Work) -> None:
         self.asked, self.catalogue, self.run, self.work = asked, catalogue, run, work
-        self.progress = Progress(len(work.due), quiet=asked.quiet)
+        self.progress = Progress(len(work.to_read), quiet=asked.quiet)
         self.ready: List[Result] = []
         self.files = 0  # of batches that are ready
         self.pictures = 0  # that are ready
@@ -158,10 +158,10 @@ class _Looking:
 
     def all(self) -> None:
         """Looks at every picture that must be read."""
-        if not self.work.due:
+        if not self.work.to_read:
             return
         self.catalogue.set_versions(self.run, _version("exiftool"), _version("exiv2"))
-        for it in self.asked.look(self.work.due, self.asked.how):
+        for it in self.asked.look(self.work.to_read, self.asked.how):
             self.ready.append(it)
             self.files += isinstance(it, Batch)
             self.pictures += sum(it.states.values()) if isinstance(it, Batch) else 1

@@ -13,7 +13,7 @@ import exifnorm
 from . import archives, ends, looking, single, tools
 from .catalogue import NoCatalogue
 from .walk import BadList
-from .words import REFUSED_WORDS, parser
+from .arguments import REFUSED_WORDS, parser
 from .writing import NotReplaced
 
 FAILED, STOPPED = 4, 130

@@ -14,11 +14,11 @@ from .engine import judge_all
 from .formats.found import EXIF, IPTC, NAMES, PROGRAMS, XMP, Blocks, Found
 from .listing import readable as listed
 from .listing import unpacked
-from .telling import block_members, from_list, named, tell
+from .lines import block_members, from_list, named, tell
 from .texts import Members, path_members, shown_path
 from .verdicts import ACCEPTED
 from .walk import reason
-from .words import parser
+from .arguments import parser
 
 DONE, LOST, REFUSED, FAILED = 0, 1, 2, 4
 LONGEST = LIMIT + 7  # bytes of a block that are read: one more than any block and its six bytes in front can have

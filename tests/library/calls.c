@@ -57,14 +57,14 @@ static void fail(struct seen *seen, const char *call, uint32_t job, const char *
     printf("%s of block %u: %s\n", call, (unsigned)job, what);
 }
 
-#define DUE(holds, what) \
+#define REQUIRE(holds, what) \
     do { \
         if (!(holds)) \
             fail(seen, name, at, what); \
     } while (0)
 
-static int is_fault(struct exifnorm_fault fault, struct exifnorm_fault due) {
-    return fault.cause == due.cause && fault.place == due.place;
+static int is_fault(struct exifnorm_fault fault, struct exifnorm_fault expected) {
+    return fault.cause == expected.cause && fault.place == expected.place;
 }
 
 static int is_filled(const unsigned char *bytes, size_t length) {
@@ -149,23 +149,23 @@ static void try_check(const struct job *job, uint32_t at, struct seen *seen) {
     uint32_t status = exifnorm_check(job->block, job->length, &kind, &fault);
     seen->calls++;
 #ifdef REFUSES_GROWTHS
-    DUE(asked == 0 || job->length == 0 || job->block[0] != 0x1C, "a caption block was read into memory");
+    REQUIRE(asked == 0 || job->length == 0 || job->block[0] != 0x1C, "a caption block was read into memory");
 #endif
     if (status == EXIFNORM_NO_MEMORY && want_of_memory) {
-        DUE(kind == 77 && is_fault(fault, NO_FAULT), "something changed without memory");
+        REQUIRE(kind == 77 && is_fault(fault, NO_FAULT), "something changed without memory");
     } else if (job->kind != 0) {
-        DUE(status == EXIFNORM_DONE && kind == job->kind, "another kind");
-        DUE(is_fault(fault, NO_FAULT), "the fault was changed");
+        REQUIRE(status == EXIFNORM_DONE && kind == job->kind, "another kind");
+        REQUIRE(is_fault(fault, NO_FAULT), "the fault was changed");
     } else {
-        DUE(status == EXIFNORM_REFUSED && is_fault(fault, job->fault), "another refusal");
-        DUE(kind == 77, "the kind was changed");
+        REQUIRE(status == EXIFNORM_REFUSED && is_fault(fault, job->fault), "another refusal");
+        REQUIRE(kind == 77, "the kind was changed");
     }
 }
 
 /* One call for a text, into an output of this length. */
 static void try_room(const struct job *job, uint32_t at, int which, size_t room, struct seen *seen) {
     const char *name = text_names[which];
-    const struct text *due = &job->texts[which];
+    const struct text *expected = &job->texts[which];
     unsigned char *out = malloc(room + BEHIND);
     size_t written = 987654321;
     struct exifnorm_fault fault = NO_FAULT;
@@ -185,26 +185,26 @@ static void try_room(const struct job *job, uint32_t at, int which, size_t room,
     seen->calls++;
 #ifdef REFUSES_GROWTHS
     until_refused = 0;
-    DUE(live == before, "memory was not given back");
+    REQUIRE(live == before, "memory was not given back");
     /* a form is written into the caller's buffer: only the meaning of the block is allocated */
     if (which == 0 && status != EXIFNORM_NO_MEMORY)
-        DUE(asked == reading, "the form took memory");
+        REQUIRE(asked == reading, "the form took memory");
 #endif
     if (status == EXIFNORM_NO_MEMORY && want_of_memory) {
-        DUE(written == 987654321 && is_fault(fault, NO_FAULT) && is_filled(out, room), "something changed without memory");
-    } else if (due->status != EXIFNORM_DONE) {
-        DUE(status == due->status, "another status");
-        DUE(is_fault(fault, status == EXIFNORM_REFUSED ? job->fault : NO_FAULT), "another fault");
-        DUE(written == 987654321 && is_filled(out, room), "something was written");
-    } else if (room < due->length) {
-        DUE(status == EXIFNORM_TOO_LITTLE_ROOM && written == due->length, "another answer to too little room");
-        DUE(is_filled(out, room) && is_fault(fault, NO_FAULT), "something was written into too little room");
+        REQUIRE(written == 987654321 && is_fault(fault, NO_FAULT) && is_filled(out, room), "something changed without memory");
+    } else if (expected->status != EXIFNORM_DONE) {
+        REQUIRE(status == expected->status, "another status");
+        REQUIRE(is_fault(fault, status == EXIFNORM_REFUSED ? job->fault : NO_FAULT), "another fault");
+        REQUIRE(written == 987654321 && is_filled(out, room), "something was written");
+    } else if (room < expected->length) {
+        REQUIRE(status == EXIFNORM_TOO_LITTLE_ROOM && written == expected->length, "another answer to too little room");
+        REQUIRE(is_filled(out, room) && is_fault(fault, NO_FAULT), "something was written into too little room");
     } else {
-        DUE(status == EXIFNORM_DONE && written == due->length, "another status or length");
-        DUE(memcmp(out, due->bytes, due->length) == 0, "other bytes");
-        DUE(is_filled(out + due->length, room - due->length) && is_fault(fault, NO_FAULT), "more was written");
+        REQUIRE(status == EXIFNORM_DONE && written == expected->length, "another status or length");
+        REQUIRE(memcmp(out, expected->bytes, expected->length) == 0, "other bytes");
+        REQUIRE(is_filled(out + expected->length, room - expected->length) && is_fault(fault, NO_FAULT), "more was written");
     }
-    DUE(is_filled(out + room, BEHIND), "bytes were written after the output");
+    REQUIRE(is_filled(out + room, BEHIND), "bytes were written after the output");
     free(out);
 }
 
@@ -217,12 +217,12 @@ static void try_pair(const struct jobs *jobs, uint32_t at, struct seen *seen) {
     uint32_t status = exifnorm_compare(one->block, one->length, two->block, two->length, &same, &fault);
     seen->calls++;
     if (status == EXIFNORM_NO_MEMORY && want_of_memory) {
-        DUE(same == 77 && is_fault(fault, NO_FAULT), "something changed without memory");
+        REQUIRE(same == 77 && is_fault(fault, NO_FAULT), "something changed without memory");
         return;
     }
-    DUE(status == pair->status, "another status");
-    DUE(same == (status == EXIFNORM_DONE ? pair->same : 77), "another answer");
-    DUE(is_fault(fault, status == EXIFNORM_DONE ? NO_FAULT : pair->fault), "another fault");
+    REQUIRE(status == pair->status, "another status");
+    REQUIRE(same == (status == EXIFNORM_DONE ? pair->same : 77), "another answer");
+    REQUIRE(is_fault(fault, status == EXIFNORM_DONE ? NO_FAULT : pair->fault), "another fault");
 }
 
 /* ---- runs */

@@ -22,7 +22,7 @@ SAME, SORTED = 1.3, 3.0  # how often the instructions of the usual order an unus
 OCTETS = b"octets 1"
 
 
-def due(is_so: bool, what: object) -> None:
+def require(is_so: bool, what: object) -> None:
     if not is_so:
         raise AssertionError(what)
 
@@ -58,7 +58,7 @@ class Costs:
         sources = [os.path.join(HERE, "cost.c"), os.path.join(HERE, "fuzz", "memory.c")]
         words = [*self.compiler, "-I", HERE, *sources, self.archive, "-o", self._program]
         ran = subprocess.run(words, capture_output=True, text=True, check=False)
-        due(ran.returncode == 0, ran.stderr)
+        require(ran.returncode == 0, ran.stderr)
 
     def are_in_proportion_for_each_order_of_datasets(self) -> None:
         for kind in (*many_datasets(), *bad_orders(), *random_records()):
@@ -70,7 +70,7 @@ class Costs:
             self._write(strips(order, 400_000))
             for call in ("check", "normalise", "captions", "compare"):
                 took, size = self._memory(call), os.path.getsize(self._block)
-                due(took <= SLACK * (size / 8 + SMALL), f"{call} of strips in order {order} takes {took / size:.3f} of the block")
+                require(took <= SLACK * (size / 8 + SMALL), f"{call} of strips in order {order} takes {took / size:.3f} of the block")
 
     def are_like_the_usual_order_of_values(self) -> None:
         fields = Exif({tag: Value(RATIONAL, [(tag, 7)]) for tag in range(0x1000, 0x3000)})
@@ -111,7 +111,7 @@ class Costs:
         texts = ("show", "captions") if len(kind.meaning.datasets) < LONG else ()  # the others take long to make
         for call in ("check", "normalise", "compare", *texts):
             took, most = self._memory(call), SLACK * (memory_of_record(call, kind.meaning) + SMALL)
-            due(took <= most, f"{call} of {kind.name}: {took} bytes, and not {most:.0f}, are {took / len(kind.blocks[0]):.2f} of the block")
+            require(took <= most, f"{call} of {kind.name}: {took} bytes, and not {most:.0f}, are {took / len(kind.blocks[0]):.2f} of the block")
 
     def _instructions(self, call: str, block: bytes) -> int:
         self._write(block)
@@ -126,7 +126,7 @@ class Costs:
         usual, *others = blocks
         for call, times in most.items():
             count = self._instructions(call, blocks[usual])
-            due(count > 1000, f"valgrind counts {count} instructions of {call}")
+            require(count > 1000, f"valgrind counts {count} instructions of {call}")
             for name in others:
                 more = self._instructions(call, blocks[name]) / count
-                due(more <= times, f"{call}: the order {name} takes {more:.2f} times the instructions")
+                require(more <= times, f"{call}: the order {name} takes {more:.2f} times the instructions")

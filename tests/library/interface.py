@@ -20,7 +20,7 @@ sys.path.insert(0, str(Path(__file__).resolve().parent.parent))
 import paths
 from answers import NAMES
 from counting import Counter
-from library import EXPORTS, HEADER, PARTS, TOP, due, need, run, tests_of, text_of
+from library import EXPORTS, HEADER, PARTS, TOP, require, need, run, tests_of, text_of
 from meanings import LIMIT
 
 STRICT = ["-Wall", "-Wextra", "-pedantic", "-Werror", "-Wundef", "-Wstrict-prototypes", f"-I{HEADER}"]
@@ -56,8 +56,8 @@ def numbers_of_the_sources():
     known.update((f"EXIFNORM_{name}", int(number)) for name, number in statuses)
     table = text_of("crates", "px_bytes", "src", "causes.rt")
     causes = re.findall(r"^ +(\d+) => Some\(Cause::(\w+)\),$", table, re.M)
-    due([name for _, name in causes] == NAMES, "causes.rt has other causes")
-    due(re.findall(r'^ +Cause::\w+ => b"(\w+)",$', table, re.M) == NAMES, "causes.rt has other names")
+    require([name for _, name in causes] == NAMES, "causes.rt has other causes")
+    require(re.findall(r'^ +Cause::\w+ => b"(\w+)",$', table, re.M) == NAMES, "causes.rt has other names")
     spelled = {name: re.sub(r"(?<!^)(?=[A-Z])", "_", name.replace("DataSet", "Dataset")).upper() for _, name in causes}
     known.update((f"EXIFNORM_CAUSE_{spelled[name]}", int(number)) for number, name in causes)
     return {**known, "EXIFNORM_EXIF": 1, "EXIFNORM_IIM": 2, "EXIFNORM_NAME_ROOM": 32}
@@ -81,56 +81,56 @@ class Interface:
 
     def shows_its_calls_alone(self):
         shown = run("nm", "-D", "--defined-only", self.shared).split("\n")
-        due({it.split()[-1] for it in shown if it} == {"EXIFNORM_1", *(f"{it}@@EXIFNORM_1" for it in EXPORTS)}, f"the shared library shows {shown}")
+        require({it.split()[-1] for it in shown if it} == {"EXIFNORM_1", *(f"{it}@@EXIFNORM_1" for it in EXPORTS)}, f"the shared library shows {shown}")
         shown = [it.split()[-1] for it in run("nm", "-g", "--defined-only", self.archive).split("\n") if " T " in it or " D " in it]
-        due(set(shown) == EXPORTS, f"the archive shows {shown}")
-        due(set(prototypes(header())) == EXPORTS, f"the header has {sorted(prototypes(header()))}")
+        require(set(shown) == EXPORTS, f"the archive shows {shown}")
+        require(set(prototypes(header())) == EXPORTS, f"the header has {sorted(prototypes(header()))}")
         listed = re.search(r"global:\n(.*)local:", text_of("packaging", "exifnorm.map"), re.S)[1]
-        due(set(re.findall(r"\w+", listed)) == EXPORTS, f"the linker's list is {listed}")
+        require(set(re.findall(r"\w+", listed)) == EXPORTS, f"the linker's list is {listed}")
 
     def needs_the_c_library_alone(self):
         dynamic = run("readelf", "-dW", self.shared)
-        due(re.findall(r"\(NEEDED\).*\[(.*)\]", dynamic) == ["libc.so.6"], f"it needs {dynamic}")
-        due("SONAME" in dynamic and "[libexifnorm.so.1]" in dynamic, "it has another name")
-        due("BIND_NOW" in dynamic or re.search(r"FLAGS_1.*NOW", dynamic), "its symbols are looked up late")
+        require(re.findall(r"\(NEEDED\).*\[(.*)\]", dynamic) == ["libc.so.6"], f"it needs {dynamic}")
+        require("SONAME" in dynamic and "[libexifnorm.so.1]" in dynamic, "it has another name")
+        require("BIND_NOW" in dynamic or re.search(r"FLAGS_1.*NOW", dynamic), "its symbols are looked up late")
         segments = run("readelf", "-lW", self.shared)
         stack = [it for it in segments.split("\n") if "GNU_STACK" in it]
-        due(len(stack) == 1 and "RWE" not in stack[0], "its stack could be run")
-        due("GNU_RELRO" in segments, "its tables could be written to")
+        require(len(stack) == 1 and "RWE" not in stack[0], "its stack could be run")
+        require("GNU_RELRO" in segments, "its tables could be written to")
 
     def has_one_set_of_numbers(self):
-        due(dict(re.findall(r"(EXIFNORM_\w+) = (\d+)", header())).keys() < numbers_of_the_sources().keys(), "the header has other names")
+        require(dict(re.findall(r"(EXIFNORM_\w+) = (\d+)", header())).keys() < numbers_of_the_sources().keys(), "the header has other names")
         statuses = re.findall(r"pub const (\w+): u32 = (\d+);", text_of("crates", "px_c", "src", "statuses.rt"))
         page = text_of("docs", "exifnorm.3")
         told = dict(re.findall(r'^\.BR EXIFNORM_(\w+) " \((\d+)\)\.?"', page, re.MULTILINE))
-        due(told == {**dict(statuses), "EXIF": "1", "IIM": "2"}, "other statuses or kinds in the manual page")
+        require(told == {**dict(statuses), "EXIF": "1", "IIM": "2"}, "other statuses or kinds in the manual page")
         code = "import exifnorm; print(*(f'{it.name}={it.value}' for it in exifnorm.Status))"
-        due(dict(it.split("=") for it in self.python(code).split()) == dict(statuses), "other statuses in Python")
+        require(dict(it.split("=") for it in self.python(code).split()) == dict(statuses), "other statuses in Python")
         code = f"from exifnorm import _calls as c; print(*(c._text(c.library().exifnorm_cause_name, i) for i in range(1, {len(NAMES) + 2})))"
-        due(self.python(code).split() == NAMES, "the library names other causes")
+        require(self.python(code).split() == NAMES, "the library names other causes")
         code = "from exifnorm import LIMIT, _library as it; print(LIMIT, it.NAME_ROOM, it.NAME)"
-        due(self.python(code).split() == [str(LIMIT), "32", "libexifnorm.so.1"], "other numbers in Python")
+        require(self.python(code).split() == [str(LIMIT), "32", "libexifnorm.so.1"], "other numbers in Python")
 
     def describes_the_statuses_of_each_call(self):
         for name, statuses in DESCRIBED.items():
             comment = header().partition(f"\nuint32_t exifnorm_{name}(")[0].rpartition("/*")[2]
-            due(re.findall(r"^ \*   ([A-Z_]+)  +\w", comment, re.M) == statuses, f"{name}: {comment}")
+            require(re.findall(r"^ \*   ([A-Z_]+)  +\w", comment, re.M) == statuses, f"{name}: {comment}")
 
     def promises_the_same_as_its_page(self):
         page, callers = text_of("docs", "exifnorm.3"), text_of("tests", "library", "library.py") + text_of("tests", "library", "calls.c")
         for text in (header(), page):
-            due(re.findall(r"stack of (\d+) KiB", text) == ["256"], "another size of the stack")
-        due("ulimit -s 256 &&" in callers and "STACK = 256 * 1024 " in callers, "the callers of the tests have another stack")
-        due("at most twice as many bytes as its block" in header() and "\n.I 2 * block_length\n" in page, "another size of a form")
+            require(re.findall(r"stack of (\d+) KiB", text) == ["256"], "another size of the stack")
+        require("ulimit -s 256 &&" in callers and "STACK = 256 * 1024 " in callers, "the callers of the tests have another stack")
+        require("at most twice as many bytes as its block" in header() and "\n.I 2 * block_length\n" in page, "another size of a form")
 
     def has_one_version(self):
         version = re.search(r'VERSION: &str = "(.*)";', text_of("crates", "px_engine", "src", "version.rt"))[1]
-        due(self.python("import exifnorm; print(exifnorm.version())").strip() == version, "another version in the library")
-        due(self.python("import exifnorm; print(exifnorm.__version__)").strip() == version, "another version in the package")
-        due(version in text_of("python", "pyproject.toml") or "__version__" in text_of("python", "pyproject.toml"), "another in pyproject.toml")
+        require(self.python("import exifnorm; print(exifnorm.version())").strip() == version, "another version in the library")
+        require(self.python("import exifnorm; print(exifnorm.__version__)").strip() == version, "another version in the package")
+        require(version in text_of("python", "pyproject.toml") or "__version__" in text_of("python", "pyproject.toml"), "another in pyproject.toml")
 
     def has_the_prototypes_of_its_page(self):
-        due(prototypes(header()) == page_prototypes(), f"the header has {prototypes(header())}, and the page {page_prototypes()}")
+        require(prototypes(header()) == page_prototypes(), f"the header has {prototypes(header())}, and the page {page_prototypes()}")
 
     def has_a_header_with_the_numbers_of_the_sources(self):
         """The header can be included twice, and gives its names the numbers of the sources in Rattle."""
@@ -145,7 +145,7 @@ class Interface:
             options = [it for it in STRICT if compiler[0] == "cc" or it != "-Wstrict-prototypes"]
             run(*compiler, *options, source, "-o", os.path.join(self.room, "names"))
             said = {name: int(number) for name, number in (it.split() for it in run(os.path.join(self.room, "names")).splitlines())}
-            due(said == numbers_of_the_sources(), f"{compiler[0]} finds {said}")
+            require(said == numbers_of_the_sources(), f"{compiler[0]} finds {said}")
 
     def has_a_fault_of_two_numbers(self):
         """The struct is laid out as the library writes it."""
@@ -155,22 +155,22 @@ class Interface:
         with open(source, "w", encoding="ascii") as it:
             it.write(text)
         run("cc", "-std=c99", *STRICT, source, "-o", made)
-        due(run(made) == "8 0 4\n", "another struct")
+        require(run(made) == "8 0 4\n", "another struct")
 
     def is_called_from_cpp(self):
         need("c++")
         example, made = os.path.join(PARTS, "examples", "compare.c"), os.path.join(self.room, "plus")
         options = [it for it in STRICT if it != "-Wstrict-prototypes"]
         run("c++", *options, "-x", "c++", example, "-x", "none", self.archive, "-o", made)
-        due(run(made) == "same\n", "another answer in C++")
+        require(run(made) == "same\n", "another answer in C++")
 
-    def answers_at_its_edges(self):
+    def results_at_its_edges(self):
         version = re.search(r'VERSION: &str = "(.*)";', text_of("crates", "px_engine", "src", "version.rt"))[1]
         for name, library in (("shared", [self.shared, f"-Wl,-rpath,{self.library}"]), ("static", [self.archive])):
             program = os.path.join(self.room, f"edges-{name}")
             run("cc", "-std=c99", "-O1", *STRICT, os.path.join(PARTS, "edges.c"), "-o", program, *library)
             said = run(program, version, *NAMES)
-            due(re.fullmatch(r"[1-9]\d{3}\d* checks\n", said), f"{name}: it said {said[:500]}")
+            require(re.fullmatch(r"[1-9]\d{3}\d* checks\n", said), f"{name}: it said {said[:500]}")
 
     def python(self, code):
         return run(sys.executable, "-B", "-c", code, PYTHONPATH=os.path.join(TOP, "python"), EXIFNORM_LIBRARY=self.shared)

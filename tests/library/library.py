@@ -63,7 +63,7 @@ def run(*words, folder=TOP, seconds=900, **environment):
     return said
 
 
-def due(holds, why):
+def require(holds, why):
     if not holds:
         raise Failed(why)
 
@@ -93,16 +93,16 @@ class Library:
         run("make", seconds=4 * 3600)  # and the program, by the launcher
         were = times()
         run("make")
-        due(were == times(), "a second make built again")
+        require(were == times(), "a second make built again")
 
     def has_the_program_that_the_launcher_built(self):
         launched = os.path.join(os.path.realpath(TOP), "out", "exifnorm")
-        due(run(LAUNCHER, "--where", folder="/") == f"{launched}\n", "the launcher names another place")
+        require(run(LAUNCHER, "--where", folder="/") == f"{launched}\n", "the launcher names another place")
         with open(launched, "rb") as one, open(self.program, "rb") as other:
-            due(one.read() == other.read(), "the launcher built another program")
+            require(one.read() == other.read(), "the launcher built another program")
         note = text_of("out", "proved", "px_cli.made-from").splitlines()
-        due(note[2] == run("rt", "version").strip(), "it was built by another toolchain")
-        due(run(LAUNCHER, "--version", folder="/") == run(self.program, "--version"), "a later call says more")
+        require(note[2] == run("rt", "version").strip(), "it was built by another toolchain")
+        require(run(LAUNCHER, "--version", folder="/") == run(self.program, "--version"), "a later call says more")
 
     def is_compiled(self):
         calls = os.path.join(PARTS, "calls.c")
@@ -110,35 +110,35 @@ class Library:
         wrapped = "-Wl," + ",".join(f"--wrap={it}" for it in ("malloc", "calloc", "realloc", "free"))
         run(*CC, "-DREFUSES_GROWTHS", calls, "-o", self.refusing, ARCHIVE, "-lpthread", wrapped)
 
-    def answers_are_asked_for(self):
+    def expected_results_are_written(self):
         blocks = blocks_of_cases()
         for path, some in ((self.small, [it for it in blocks if len(it) < LARGE]), (self.large, [it for it in blocks if len(it) >= LARGE])):
             with tempfile.TemporaryDirectory() as folder:
                 write_jobs(path, *all_answers(self.program, folder, some))
 
-    def answers_each_small_block_in_c(self):
+    def judges_each_small_block_in_c(self):
         run(self.calls, "once", self.small)
 
-    def answers_each_large_block_in_c(self):
+    def judges_each_large_block_in_c(self):
         run("sh", "-c", 'ulimit -s 256 && exec "$@"', "sh", self.calls, "once", self.large)  # the stack size in exifnorm.h
 
-    def answers_sixteen_threads_in_c(self):
+    def judges_in_sixteen_threads_in_c(self):
         run(self.calls, "threads", self.small)
 
-    def answers_where_growths_are_refused(self):
+    def judges_where_allocations_fail(self):
         run(self.refusing, "refused", self.small)
 
     def keeps_to_its_memory(self):
         need("valgrind")
         run("valgrind", "--quiet", "--error-exitcode=9", "--leak-check=full", self.calls, "once", self.small)
 
-    def answers_each_block_in_python(self):
+    def judges_each_block_in_python(self):
         for jobs in (self.small, self.large):
             self.python(os.path.join(PARTS, "python_calls.py"), jobs)
 
-    def answers_each_value_of_each_byte_in_python(self):
+    def judges_each_value_of_each_byte_in_python(self):
         said = self.python(os.path.join(PARTS, "each_byte.py"))
-        due(re.fullmatch(r"[1-9]\d+ blocks were judged\n", said), f"it said {said[:2000]}")
+        require(re.fullmatch(r"[1-9]\d+ blocks were judged\n", said), f"it said {said[:2000]}")
 
     def python(self, *words):
         return run(sys.executable, "-B", *words, PYTHONPATH=os.path.join(TOP, "python"), EXIFNORM_LIBRARY=SHARED)
@@ -163,9 +163,9 @@ class Installed:
         wanted += " share/man/man1/exifnorm.1 share/man/man3/exifnorm.3 share/doc/exifnorm/FORMAT.md"
         wanted += " share/bash-completion/completions/exifnorm"
         found = files_below(self.prefix)
-        due(set(wanted.split()) < found, f"there is no {set(wanted.split()) - found}")
+        require(set(wanted.split()) < found, f"there is no {set(wanted.split()) - found}")
         package = [it for it in found if it.endswith("exifnorm/__init__.py")]
-        due(len(package) == 1 and not [it for it in found if it.endswith(".pyc")], f"the package stands in {package}")
+        require(len(package) == 1 and not [it for it in found if it.endswith(".pyc")], f"the package stands in {package}")
         self.packages = os.path.join(self.prefix, os.path.dirname(os.path.dirname(package[0])))
 
     def has_the_proved_program(self):
@@ -173,24 +173,24 @@ class Installed:
             installed = one.read()
         for path in (self.program, os.path.join(TOP, "out", "exifnorm")):
             with open(path, "rb") as other:
-                due(installed == other.read(), f"bin/exifnorm is another program than {path}")
+                require(installed == other.read(), f"bin/exifnorm is another program than {path}")
 
     def has_pages_without_complaints(self):
         need("man")
         for page in ("man1/exifnorm.1", "man3/exifnorm.3"):
             path = os.path.join(self.prefix, "share", "man", page)
             said = run("sh", "-c", 'man --warnings -l "$1" 2>&1 >/dev/null', "sh", path)
-            due(said == "", f"of {page} man says {said}")
+            require(said == "", f"of {page} man says {said}")
 
-    def completes_words(self):
+    def completes_arguments(self):
         need("bash")
         code = 'source "$1" && COMP_WORDS=(exifnorm c) COMP_CWORD=1 && _exifnorm && echo "${COMPREPLY[@]}"'
         file = os.path.join(self.prefix, "share", "bash-completion", "completions", "exifnorm")
-        due(run("bash", "-c", code, "bash", file).split() == ["check", "captions", "compare"], "other words are completed")
+        require(run("bash", "-c", code, "bash", file).split() == ["check", "captions", "compare"], "other words are completed")
 
     def runs_the_example_of_the_program(self):
         path = f"{self.prefix}/bin:{os.environ['PATH']}"
-        due(run("sh", "-e", os.path.join(PARTS, "examples", "compare.sh"), folder=self.work, PATH=path) == "same\n", "another answer")
+        require(run("sh", "-e", os.path.join(PARTS, "examples", "compare.sh"), folder=self.work, PATH=path) == "same\n", "another answer")
 
     def runs_the_example_in_c(self):
         example, lib = os.path.join(PARTS, "examples", "compare.c"), os.path.join(self.prefix, "lib")
@@ -199,14 +199,14 @@ class Installed:
             flags = run("pkg-config", "--cflags", "--libs", "exifnorm", PKG_CONFIG_PATH=f"{lib}/pkgconfig").split()
         strict = ["-std=c99", "-Wall", "-Wextra", "-pedantic", "-Werror"]
         run("cc", *strict, example, *flags, "-o", "shared", folder=self.work)
-        due(run("./shared", folder=self.work, LD_LIBRARY_PATH=lib) == "same\n", "another answer of the shared library")
+        require(run("./shared", folder=self.work, LD_LIBRARY_PATH=lib) == "same\n", "another answer of the shared library")
         run("cc", *strict, example, flags[0], os.path.join(lib, "libexifnorm.a"), "-o", "static", folder=self.work)
-        due(run("./static", folder=self.work) == "same\n", "another answer of the archive")
+        require(run("./static", folder=self.work) == "same\n", "another answer of the archive")
 
     def runs_the_example_in_python(self):
         example = os.path.join(PARTS, "examples", "compare.py")
         said = run(sys.executable, example, folder=self.work, PYTHONPATH=self.packages, EXIFNORM_LIBRARY="")
-        due(said == "same\n", f"another answer: {said}")
+        require(said == "same\n", f"another answer: {said}")
 
     def is_found_by_the_loader(self):
         sources, lib = os.path.join(TOP, "python"), os.path.join(self.prefix, "lib")
@@ -217,17 +217,17 @@ class Installed:
         words = [f"DESTDIR={self.stage}", "PREFIX=/usr", f"PYTHON={sys.executable}"]
         run("make", "install", *words)
         found = files_below(self.stage)
-        due(found and all(it.startswith("usr/") for it in found), f"files stand outside the prefix: {found}")
+        require(found and all(it.startswith("usr/") for it in found), f"files stand outside the prefix: {found}")
         config = os.path.join(self.stage, "usr", "lib", "pkgconfig", "exifnorm.pc")
-        due(self.stage not in text_of(config), "the stage is named in exifnorm.pc")
+        require(self.stage not in text_of(config), "the stage is named in exifnorm.pc")
         run("make", "uninstall", *words)
-        due(files_below(self.stage) == set(), f"uninstall leaves {files_below(self.stage)}")
+        require(files_below(self.stage) == set(), f"uninstall leaves {files_below(self.stage)}")
 
     def has_its_examples_in_the_readme(self):
         readme = text_of("README.md")
         for name, kind in (("compare.sh", "sh"), ("compare.c", "c"), ("compare.py", "python")):
             shown = text_of("tests", "library", "examples", name)
-            due(f"```{kind}\n{shown}```\n" in readme, f"README.md doesn't show {name} as a block of kind {kind}")
+            require(f"```{kind}\n{shown}```\n" in readme, f"README.md doesn't show {name} as a block of kind {kind}")
 
 
 def tests_of(it):

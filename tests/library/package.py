@@ -98,8 +98,8 @@ def refusals_of_tools(counter: Counter) -> None:
 def fields_of_each_kind(counter: Counter) -> None:
     """The fields from the form are those of the expected listing, for blocks with each type, directory and thumbnail."""
     for kind in small_kinds():
-        due, form = _listings.fields_of_listing(kind.meaning.listing()), kind.meaning.normal()
-        counter.check(kind.name, all(exifnorm.fields(it) == due for it in kind.blocks))
+        expected, form = _listings.fields_of_listing(kind.meaning.listing()), kind.meaning.normal()
+        counter.check(kind.name, all(exifnorm.fields(it) == expected for it in kind.blocks))
         counter.check(f"{kind.name}: its form", all(exifnorm.normal(it) == form for it in kind.blocks))
 
 
@@ -108,25 +108,25 @@ def fields_that_are_nearly_others(counter: Counter) -> None:
     Field = exifnorm.Field
     inside = {0x0100: Value(LONG, [7]), 0xA002: Value(LONG, [8]), 0x83BB: Value(7, CAPTION)}
     block = laid(Exif(dict(inside), dict(inside), dict(inside), dict(inside), dict(inside)), Layout("<"))
-    due = []
+    expected = []
     for name in ("main", "exif", "interop", "gps", "thumb"):
-        due.append(Field(name, 0x0100, "WHOLE" if name in ("main", "thumb") else "LONG", (7,)))
-        due += [] if name == "main" else [Field(name, 0x83BB, "UNDEFINED", CAPTION)]
-        due.append(Field(name, 0xA002, "WHOLE" if name == "exif" else "LONG", (8,)))
-        due += [Field("record", 0x0278, "DATASET", b"Vase")] if name == "main" else []
-    counter.check("one tag in five directories", exifnorm.fields(block) == due, exifnorm.fields(block))
+        expected.append(Field(name, 0x0100, "WHOLE" if name in ("main", "thumb") else "LONG", (7,)))
+        expected += [] if name == "main" else [Field(name, 0x83BB, "UNDEFINED", CAPTION)]
+        expected.append(Field(name, 0xA002, "WHOLE" if name == "exif" else "LONG", (8,)))
+        expected += [Field("record", 0x0278, "DATASET", b"Vase")] if name == "main" else []
+    counter.check("one tag in five directories", exifnorm.fields(block) == expected, exifnorm.fields(block))
     rows = laid(Exif({0x0116: Value(LONG, [7])}, {0xA003: Value(LONG, [8])}, thumb={0x0116: Value(SHORT, [9])}), Layout(">"))
     found = [(it.directory, it.tag, it.type, it.values) for it in exifnorm.fields(rows)]
-    due = [("main", 0x0116, "WHOLE", (7,)), ("exif", 0xA003, "WHOLE", (8,)), ("thumb", 0x0116, "WHOLE", (9,))]
-    counter.check("rows and heights", found == due, found)
+    expected = [("main", 0x0116, "WHOLE", (7,)), ("exif", 0xA003, "WHOLE", (8,)), ("thumb", 0x0116, "WHOLE", (9,))]
+    counter.check("rows and heights", found == expected, found)
     for octets, form in ((b"\x1c\x02\x78\x00\x09Vase", 7), (CAPTION, 2), (b"", 7), (ONE, 7), (b"\x1c", 1)):
         found = exifnorm.fields(laid(Exif({0x83BB: Value(form, octets)}), Layout(">")))
         counter.check(f"no record: {octets!r}", [it[:2] + it[3:] for it in found] == [("main", 0x83BB, octets)], found)
     record = laid(Exif({0x83BB: Value(1, CAPTION + b"\0")}), Layout(">"))
     counter.check("a record of type BYTE", exifnorm.fields(record) == [Field("record", 0x0278, "DATASET", b"Vase")])
     long = Record([(2, 120, bytes(40_000)), (2, 25, b"")])
-    due = [Field("record", 0x0219, "DATASET", b""), Field("record", 0x0278, "DATASET", bytes(40_000))]
-    counter.check("a DataSet of 40,000 bytes", exifnorm.fields(long.spelled()) == due)
+    expected = [Field("record", 0x0219, "DATASET", b""), Field("record", 0x0278, "DATASET", bytes(40_000))]
+    counter.check("a DataSet of 40,000 bytes", exifnorm.fields(long.spelled()) == expected)
 
 
 def forms_that_are_too_long(counter: Counter) -> None:
@@ -134,8 +134,8 @@ def forms_that_are_too_long(counter: Counter) -> None:
     counter.check("its form", outcome(exifnorm.normal, LONG_FORM) == ("NormalTooLong",))
     counter.check("its digest", outcome(exifnorm.digest, LONG_FORM) == ("NormalTooLong",))
     counter.check("what is said of it", str(exifnorm.NormalTooLong()) == f"the normal form is longer than {LIMIT} bytes")
-    due = [exifnorm.Field("main", 0x0116, "WHOLE", tuple(NUMBERS))]
-    counter.check("its fields", exifnorm.fields(LONG_FORM) == due)
+    expected = [exifnorm.Field("main", 0x0116, "WHOLE", tuple(NUMBERS))]
+    counter.check("its fields", exifnorm.fields(LONG_FORM) == expected)
     counter.check("its captions", exifnorm.captions(LONG_FORM) == [])
     counter.check("it means the same as itself", exifnorm.same(LONG_FORM, LONG_FORM) is True)
     counter.check("a block that is too long", outcome(exifnorm.kind, ONE + bytes(LIMIT)) == ("Refused", "TooLong", LIMIT, None))
@@ -148,19 +148,19 @@ def captions_once(counter: Counter) -> None:
     datasets = [(2, number, label.encode()) for number, label in reversed(list(labels.items()))]
     for repeats in (1, 2):
         found = [(it.label, it.data) for it in exifnorm.captions(Record(datasets * repeats).spelled())]
-        due = {(label, label.encode()): repeats for label in labels.values()}
-        counter.check(f"each label {repeats} times", {it: found.count(it) for it in found} == due, found)
+        expected = {(label, label.encode()): repeats for label in labels.values()}
+        counter.check(f"each label {repeats} times", {it: found.count(it) for it in found} == expected, found)
     texts = {0x010E: Value(2, b"d\xc3\xa9\0"), 0x013B: Value(129, b"\xc3\xa9\0"), 0x8298: Value(2, b"no zero")}
     record = Record([(1, 90, b"\x1b%G"), (2, 120, b"\xc3\xa9"), (2, 5, b"\xff")])
     found = exifnorm.captions(laid(Exif(texts, record=record), Layout("<")))
-    due = [
+    expected = [
         ("description", b"d\xc3\xa9\0", None),
         ("artist", b"\xc3\xa9\0", "é"),
         ("copyright", b"no zero", "no zero"),
         ("title", b"\xff", None),
         ("caption", b"\xc3\xa9", "é"),
     ]
-    counter.check("texts and a record", found == [exifnorm.Caption(*it) for it in due], found)
+    counter.check("texts and a record", found == [exifnorm.Caption(*it) for it in expected], found)
     others = Exif({0x013B: Value(2, b"\xc3\xa9\0")}, thumb={0x013B: Value(129, b"\xc3\xa9\0")})
     found = exifnorm.captions(laid(others, Layout("<")))
     counter.check("a type of the thumbnail's directory", found == [exifnorm.Caption("artist", b"\xc3\xa9\0", None)], found)
@@ -176,15 +176,15 @@ def texts_about_the_size_of_the_kept_buffer(counter: Counter) -> None:
         head = "iim\ncharset: not declared\n" + "byline-title: \n" * len(names)
         caption = length - len(head) - len("caption: \n")
         text = exifnorm._calls.captions_text(Record([*names, (2, 120, b"x" * caption)]).spelled())
-        due = len(text) == length and sorted(text.splitlines()) == sorted(f"{head}caption: {'x' * caption}\n".splitlines()) and text[-1] == "\n"
-        counter.check(f"a text of {length} bytes", due, (len(text), text[-40:]))
+        expected = len(text) == length and sorted(text.splitlines()) == sorted(f"{head}caption: {'x' * caption}\n".splitlines()) and text[-1] == "\n"
+        counter.check(f"a text of {length} bytes", expected, (len(text), text[-40:]))
 
 
 def digests(counter: Counter) -> None:
     form = exifnorm.normal(CAPTION)
     for algorithm in ("sha256", "md5", "sha1", "sha512", "sha3_256", "blake2b"):
-        due = hashlib.new(algorithm, form).hexdigest()
-        counter.check(algorithm, exifnorm.digest(CAPTION, algorithm) == due == exifnorm.digest(CAPTION, algorithm=algorithm))
+        expected = hashlib.new(algorithm, form).hexdigest()
+        counter.check(algorithm, exifnorm.digest(CAPTION, algorithm) == expected == exifnorm.digest(CAPTION, algorithm=algorithm))
     for algorithm in ("no such", "shake_128"):
         counter.check(algorithm, outcome(exifnorm.digest, CAPTION, algorithm)[0] == "ValueError", outcome(exifnorm.digest, CAPTION, algorithm))
 
@@ -243,8 +243,8 @@ def blocks_of_no_bytes(counter: Counter) -> None:
 
 
 def names_and_arguments(counter: Counter) -> None:
-    due = "Block Caption Field LIMIT LibraryMissing NormalTooLong Ratio Refused Status Values captions digest fields kind normal same show version"
-    counter.check("the public names", sorted(exifnorm.__all__) == due.split(), exifnorm.__all__)
+    expected = "Block Caption Field LIMIT LibraryMissing NormalTooLong Ratio Refused Status Values captions digest fields kind normal same show version"
+    counter.check("the public names", sorted(exifnorm.__all__) == expected.split(), exifnorm.__all__)
     arguments = {
         "captions": "block",
         "digest": "block algorithm=sha256",
@@ -269,7 +269,7 @@ def exceptions(counter: Counter) -> None:
     counter.check("Refused is a ValueError", exifnorm.Refused.__mro__[1] is ValueError)
     counter.check("NormalTooLong is a ValueError", exifnorm.NormalTooLong.__mro__[1] is ValueError)
     counter.check("LibraryMissing is an OSError", exifnorm.LibraryMissing.__mro__[1] is OSError)
-    for first, second, due in (
+    for first, second, expected in (
         (LOOP, ONE, ("Loop", 22, 1, "Loop at 22 in block 1")),
         (ONE, LOOP, ("Loop", 22, 2, "Loop at 22 in block 2")),
         (LOOP, CAPTION[:3], ("Loop", 22, 1, "Loop at 22 in block 1")),
@@ -280,8 +280,8 @@ def exceptions(counter: Counter) -> None:
         except exifnorm.Refused as why:
             came = (why.cause, why.place, why.side, str(why))
             again = pickle.loads(pickle.dumps(why))
-            counter.check(f"{due[3]}, pickled", (again.cause, again.place, again.side, str(again)) == due)
-        counter.check(due[3], came == due, came)
+            counter.check(f"{expected[3]}, pickled", (again.cause, again.place, again.side, str(again)) == expected)
+        counter.check(expected[3], came == expected, came)
     try:
         exifnorm.kind(b"Exif\0\0" + LOOP)
     except exifnorm.Refused as why:
@@ -332,7 +332,7 @@ def places_of_the_library(counter: Counter) -> None:
     real, own = exifnorm.version(), {"VERSION": "9.9.9"}
     alone, beside, broken = copied_packages("alone"), copied_packages("beside", WATCHED), copied_packages("broken", __file__)
     system = {"LD_LIBRARY_PATH": os.path.dirname(REAL)}
-    for name, packages, environment, due in (
+    for name, packages, environment, expected in (
         ("the variable's file", alone, {"EXIFNORM_LIBRARY": WATCHED}, "9.9.9"),
         ("the variable's file before the one beside", beside, {"EXIFNORM_LIBRARY": REAL}, real),
         ("the variable's file before the system's", alone, {"EXIFNORM_LIBRARY": WATCHED, **system}, "9.9.9"),
@@ -343,7 +343,7 @@ def places_of_the_library(counter: Counter) -> None:
         ("the system's where the file beside is none", broken, system, real),
     ):
         came = told(SAYS_VERSION, packages, **own, **environment)
-        counter.check(name, came == due, came)
+        counter.check(name, came == expected, came)
     wrong = "/no/such/libexifnorm.so.1"
     for packages in (alone, beside):
         came = told(SAYS_VERSION, packages, EXIFNORM_LIBRARY=wrong, **system)
@@ -370,9 +370,9 @@ def outcome(call, *blocks):
 calls = exifnorm.kind, exifnorm.normal, exifnorm.digest, exifnorm.show, exifnorm.fields, exifnorm.captions
 print(json.dumps([*(outcome(it, b"ab") for it in calls), outcome(exifnorm.same, b"a", b"b")]))
 """
-    for status, due in ((1, "AssertionError"), (2, "Refused"), (3, "NormalTooLong"), (4, "MemoryError"), (6, "Refused"), (7, "AssertionError")):
+    for status, expected in ((1, "AssertionError"), (2, "Refused"), (3, "NormalTooLong"), (4, "MemoryError"), (6, "Refused"), (7, "AssertionError")):
         came = told(code, EXIFNORM_LIBRARY=WATCHED, STATUS=str(status))
-        counter.check(f"status {status}", came == json.dumps([due] * 7), came)
+        counter.check(f"status {status}", came == json.dumps([expected] * 7), came)
 
 
 # ---- costs
@@ -418,7 +418,7 @@ def calls_of_the_library(counter: Counter) -> None:
     doubled = laid(Exif({0x0116: Value(SHORT, [1] * 40_000)}), Layout("<"))
     with watched() as watch:
         blocks_of_no_bytes(counter)
-        for name, due, call, *arguments in (
+        for name, expected, call, *arguments in (
             ("kind", {"check": 1}, exifnorm.kind, ONE),
             ("kind of a refused block", {"check": 1, "cause_name": 1}, exifnorm.kind, LOOP),
             ("normal", {"normalise": 1}, exifnorm.normal, ONE),
@@ -437,7 +437,7 @@ def calls_of_the_library(counter: Counter) -> None:
             ("version", {"version": 1}, exifnorm.version),
         ):
             came = watch.of(call, *arguments)
-            counter.check(f"calls of {name}", came == due, came)
+            counter.check(f"calls of {name}", came == expected, came)
         exifnorm.normal(large)
         counter.check("the room of a form", watch.number("room") <= 2 * len(large) + 1, watch.number("room"))
         outcome(exifnorm.normal, LONG_FORM)
@@ -526,7 +526,7 @@ def sixteen_threads(counter: Counter) -> None:
     blocks = [Record([(2, 120, bytes([it]) * (it % 7 + 1) * 900)]).spelled(extended=4) for it in range(16)]
     blocks += [it.block for it in made_by_tools.ALL] + [made_by_tools.PIEXIF_REFUSED, LOOP, b""]
     jobs = [(call, block) for block in blocks for call in OF_BLOCK]
-    due = [outcome(*it) for it in jobs]
+    expected = [outcome(*it) for it in jobs]
     kept = sys.getswitchinterval()
     sys.setswitchinterval(1e-6)
     try:
@@ -535,7 +535,7 @@ def sixteen_threads(counter: Counter) -> None:
     finally:
         sys.setswitchinterval(kept)
     for at, came in enumerate(rounds):
-        counter.check(f"thread {at}", came == due, [it for it, one, two in zip(jobs, came, due) if one != two][:2])
+        counter.check(f"thread {at}", came == expected, [it for it, one, two in zip(jobs, came, expected) if one != two][:2])
 
 
 def calls_at_once(counter: Counter) -> None:

@@ -28,7 +28,7 @@ FAILURES = []
 LITTLE_MEMORY = "--little-memory"
 
 
-def due(holds, *what):
+def require(holds, *what):
     if not holds:
         FAILURES.append(what)
         print(*what, flush=True)
@@ -129,47 +129,47 @@ def try_block(at, answer):
     refusal = (NAMES[answer.fault[0] - 1], answer.fault[1], None) if not answer.kind else None
     form, listing, captions = (it[1] for it in answer.texts)
     for block in as_given(answer.block):
-        due(outcome(exifnorm.kind, block) == (refusal or kinds[answer.kind]), at, type(block), "another kind")
-        due_form = exifnorm.NormalTooLong if answer.texts[0][0] == TOO_LONG else form
-        due(outcome(exifnorm.normal, block) == (refusal or due_form), at, type(block), "another normal form")
-    due(outcome(exifnorm.show, answer.block) == (refusal or listing.decode("ascii")), at, "another listing")
+        require(outcome(exifnorm.kind, block) == (refusal or kinds[answer.kind]), at, type(block), "another kind")
+        expected_form = exifnorm.NormalTooLong if answer.texts[0][0] == TOO_LONG else form
+        require(outcome(exifnorm.normal, block) == (refusal or expected_form), at, type(block), "another normal form")
+    require(outcome(exifnorm.show, answer.block) == (refusal or listing.decode("ascii")), at, "another listing")
     if refusal:
         for call in (exifnorm.digest, exifnorm.fields, exifnorm.captions):
-            due(outcome(call, answer.block) == refusal, at, call.__name__, "another refusal")
+            require(outcome(call, answer.block) == refusal, at, call.__name__, "another refusal")
         return
-    if due_form is form:
-        due(exifnorm.digest(answer.block) == hashlib.sha256(form).hexdigest(), at, "another digest")
+    if expected_form is form:
+        require(exifnorm.digest(answer.block) == hashlib.sha256(form).hexdigest(), at, "another digest")
     lines = [it for it in listing.decode("ascii").splitlines() if not it.startswith("[")]
-    due(listing_of(kinds[answer.kind], exifnorm.fields(answer.block)) == lines, at, "other fields")
+    require(listing_of(kinds[answer.kind], exifnorm.fields(answer.block)) == lines, at, "other fields")
     texts = [it for it in captions.decode("ascii").splitlines()[1:] if not it.startswith("charset: ")]
-    due([f"{it.label}: {escaped(it.data)}" for it in exifnorm.captions(answer.block)] == texts, at, "other captions")
+    require([f"{it.label}: {escaped(it.data)}" for it in exifnorm.captions(answer.block)] == texts, at, "other captions")
 
 
 def try_pair(answers, pair):
     side = 1 if pair.status == REFUSED else 2
     wanted = bool(pair.same) if pair.status == 0 else (NAMES[pair.fault[0] - 1], pair.fault[1], side)
     came = outcome(exifnorm.same, answers[pair.first].block, bytearray(answers[pair.second].block))
-    due(came == wanted, pair.first, pair.second, "another comparison")
+    require(came == wanted, pair.first, pair.second, "another comparison")
 
 
 def try_threads(answers):
     with ThreadPoolExecutor(8) as pool:
         forms = pool.map(lambda it: outcome(exifnorm.normal, it.block), answers * 8)
         for at, (answer, form) in enumerate(zip(answers * 8, forms)):
-            due(answer.texts[0][0] != 0 or form == answer.texts[0][1], at, "another normal form in threads")
+            require(answer.texts[0][0] != 0 or form == answer.texts[0][1], at, "another normal form in threads")
 
 
 def try_text_of_captions():
     record = b"\x1c\x02\x05\x00\x02\xc3\xbc"
-    due([it.text for it in exifnorm.captions(record)] == [None], "a text that nothing declares")
+    require([it.text for it in exifnorm.captions(record)] == [None], "a text that nothing declares")
     declared = b"\x1c\x01\x5a\x00\x03\x1b%G"
-    due([it.text for it in exifnorm.captions(declared + record)] == ["ü"], "a declared text")
-    due([it.text for it in exifnorm.captions(declared + record[:-1] + b"\x41")] == [None], "what is no UTF-8")
+    require([it.text for it in exifnorm.captions(declared + record)] == ["ü"], "a declared text")
+    require([it.text for it in exifnorm.captions(declared + record[:-1] + b"\x41")] == [None], "what is no UTF-8")
     for form, text in (("0002", None), ("0081", "Üre")):
         block = bytes.fromhex(f"4d4d002a00000008 0001 010e {form} 00000005 0000001a 00000000 c39c726500 00")
-        due([it.text for it in exifnorm.captions(block)] == [text], "the text of an Exif field of type", form)
+        require([it.text for it in exifnorm.captions(block)] == [text], "the text of an Exif field of type", form)
     plain = bytes.fromhex("4d4d002a00000008 0001 010e 0002 00000004 55726e00 00000000")
-    due([it.text for it in exifnorm.captions(plain)] == ["Urn"], "the text of an ASCII field")
+    require([it.text for it in exifnorm.captions(plain)] == ["Urn"], "the text of an ASCII field")
 
 
 def try_fields():
@@ -179,7 +179,7 @@ def try_fields():
     jpeg = "0201 0004 00000001 00000054  0202 0004 00000001 00000002"
     block = bytes.fromhex(f"{head} {strips} {jpeg} 00000000 414243 58 ffd8")
     Field = exifnorm.Field
-    due(
+    require(
         exifnorm.fields(block)
         == [
             Field("main", 0x0112, "SHORT", (1,)),
@@ -194,13 +194,13 @@ def try_fields():
 def try_objects():
     """Tests refusals in other processes, wrong arguments, and that a block isn't copied."""
     again = pickle.loads(pickle.dumps(exifnorm.Refused("Overlap", 22, 2)))
-    due((again.cause, again.place, again.side, str(again)) == ("Overlap", 22, 2, "Overlap at 22 in block 2"), "a refusal, pickled")
+    require((again.cause, again.place, again.side, str(again)) == ("Overlap", 22, 2, "Overlap at 22 in block 2"), "a refusal, pickled")
     for wrong, error in (("a text", TypeError), (None, TypeError), (memoryview(b"abcd")[::2], BufferError)):
         try:
             exifnorm.kind(wrong)
         except error:
             continue
-        due(False, "no", error, "for", wrong)
+        require(False, "no", error, "for", wrong)
     block = bytearray(b"\x1c\x02\x78\x00\x01a")
     exifnorm.kind(block)
     block.append(0)  # a bytearray that a view still uses can't grow
@@ -210,14 +210,14 @@ def try_objects():
     exifnorm.same(block, memoryview(block))
     peak = tracemalloc.get_traced_memory()[1]
     tracemalloc.stop()
-    due(peak < 1_000_000, "a block was copied", peak)
+    require(peak < 1_000_000, "a block was copied", peak)
 
 
 def try_memory():
     """Tests for MemoryError if the system has no more memory. It needs a process of its own: a process that has run threads has
     reserved memory for them, which no limit takes back."""
     ran = subprocess.run([sys.executable, "-B", os.path.abspath(__file__), LITTLE_MEMORY], capture_output=True, text=True, check=False)
-    due(ran.stdout == "MemoryError\n", "where there is no memory:", ran.stdout, ran.stderr)
+    require(ran.stdout == "MemoryError\n", "where there is no memory:", ran.stdout, ran.stderr)
 
 
 def call_with_little_memory():
@@ -238,16 +238,16 @@ def try_missing(named, words):
     ran = subprocess.run(
         [sys.executable, "-B", "-c", code], env={**os.environ, "EXIFNORM_LIBRARY": named}, capture_output=True, text=True, check=False
     )
-    due(ran.returncode == 0 and all(it in ran.stdout for it in words), "of a missing library it is said:", ran.stdout, ran.stderr)
+    require(ran.returncode == 0 and all(it in ran.stdout for it in words), "of a missing library it is said:", ran.stdout, ran.stderr)
 
 
 def run_doctests():
     run = 0
     for module in [exifnorm, *(importlib.import_module(f"exifnorm.{it.name}") for it in pkgutil.iter_modules(exifnorm.__path__))]:
         result = doctest.testmod(module, optionflags=doctest.ELLIPSIS)
-        due(result.failed == 0, "doctests of", module.__name__, "failed:", result.failed)
+        require(result.failed == 0, "doctests of", module.__name__, "failed:", result.failed)
         run += result.attempted
-    due(run > 20, "there are too few doctests:", run)
+    require(run > 20, "there are too few doctests:", run)
 
 
 def main(path):

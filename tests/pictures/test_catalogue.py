@@ -123,7 +123,7 @@ class Archive(WithPictures):
         self.assertEqual(found[-1]["counts"], {"moved": 3, "missing after": 1})
         self.assertEqual(self.run_again()[1], {"unchanged": 3})
 
-    def test_what_a_picture_said_is_kept_where_it_cannot_be_read(self):
+    def test_what_a_picture_meant_is_kept_where_it_cannot_be_read(self):
         os.remove(self.path("p", "b.jpg"))
         os.mkfifo(self.path("p", "b.jpg"))
         self.assertEqual(self.run_again(status=4), ({"b.jpg": "Unreadable"}, {"unchanged": 3, "Unreadable": 1}))
@@ -145,8 +145,8 @@ class Archive(WithPictures):
         base = sqlite3.connect(self.path("c"))
         went = dict(base.execute("SELECT CAST(path AS TEXT), detail FROM pictures WHERE problem = 'Moved'"))
         base.close()
-        due = {"a/2.jpg": "d/2.jpg", "b/1.jpg": "c/1.jpg", "b/9.jpg": "e/1.jpg"}
-        self.assertEqual(went, {self.path("p", it): f"to {self.path('p', to)}" for it, to in due.items()})
+        expected = {"a/2.jpg": "d/2.jpg", "b/1.jpg": "c/1.jpg", "b/9.jpg": "e/1.jpg"}
+        self.assertEqual(went, {self.path("p", it): f"to {self.path('p', to)}" for it, to in expected.items()})
         os.remove(self.path("p", "e", "1.jpg"))
         self.assertEqual(self.run_again()[1], {"unchanged": 6, "Vanished": 1})
         found = [json.loads(it) for it in self.asked("changed", "old", "c", "--json", status=1)]
@@ -280,7 +280,7 @@ class Processes(WithPictures):
         """The states of a run with this text before it, and what it leaves in its folder for temporary files."""
         text = (
             "import collections, json, os\nfrom exifnorm_pictures import extraction, index, looking\n"
-            "from exifnorm_pictures.catalogue import Catalogue\nfrom exifnorm_pictures.telling import entry_lines\n"
+            "from exifnorm_pictures.catalogue import Catalogue\nfrom exifnorm_pictures.lines import entry_lines\n"
             f"{before}\nlines = []\nos.mkdir('room')\n"
             "how = looking.How(jobs=2, room=os.path.abspath('room'), lines=entry_lines)\n"
             "with Catalogue('c', make=True) as made:\n"
@@ -449,11 +449,11 @@ class Kinds(WithPictures):
         for name, (octets, caption) in captions.items():
             write(self.path("p", name + ".jpg"), with_iptc(octets, b"\x1c\x02\x78\0\x03" + caption))
         self.asked("index", "p", "--catalogue", "c", "--quiet")
-        for kind, due in (("all", []), ("exif", [["a.jpg", "b.jpg"]]), ("iptc", [["b.jpg", "c.jpg"]]), ("xmp", [])):
+        for kind, expected in (("all", []), ("exif", [["a.jpg", "b.jpg"]]), ("iptc", [["b.jpg", "c.jpg"]]), ("xmp", [])):
             found = [json.loads(it) for it in self.asked("same", "--catalogue", "c", "--kind", kind, "--json")]
-            self.assertEqual([[os.path.basename(it["path"]) for it in one["pictures"]] for one in found], due, kind)
+            self.assertEqual([[os.path.basename(it["path"]) for it in one["pictures"]] for one in found], expected, kind)
 
-    def test_equal_changes_stand_together(self):
+    def test_equal_changes_are_listed_together(self):
         for side, artist in (("before", b"Old\0"), ("after", b"New\0")):
             os.mkdir(self.path(side))
             for number in range(12):

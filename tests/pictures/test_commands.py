@@ -41,9 +41,9 @@ class Index(WithPictures):
         self.asked("index", "pictures", "--catalogue", "c", "--quiet")
         write(self.path("block"), tool(self.folder, "exiftool", "-b", "-Exif", "pictures/first.jpg"))
         self.assertEqual(run(["exifnorm", "normalise", "block", "normal"], self.folder).returncode, 0)
-        due = tool(self.folder, "sha256sum", "normal").split()[0].decode()
+        expected = tool(self.folder, "sha256sum", "normal").split()[0].decode()
         query = "SELECT digest FROM blocks JOIN pictures ON id = picture WHERE kind = 'exif' AND CAST(path AS TEXT) LIKE '%first.jpg'"
-        self.assertEqual(sqlite3.connect(self.path("c")).execute(query).fetchone()[0], due)
+        self.assertEqual(sqlite3.connect(self.path("c")).execute(query).fetchone()[0], expected)
 
     def test_second_run_looks_at_changes_alone(self):
         self.copied(collection())
@@ -76,7 +76,7 @@ class Index(WithPictures):
         by_line = self.asked("index", "--catalogue", "d", "--files-from", "-", "--quiet", given=b"pictures/first.jpg\n")
         self.assertEqual(by_line, ["1 accepted"])
 
-    def test_what_is_no_catalogue_is_told(self):
+    def test_what_is_no_catalogue_is_reported(self):
         self.copied(collection())
         self.asked("index", "pictures", "--catalogue", "picture.jpg", status=4)
         self.assertIn("is no catalogue", self.complaint)
@@ -229,7 +229,7 @@ class Mend(WithPictures):
     def test_exiv2(self):
         self.assertEqual(self.mended("DataSetCut.jpg", step="exiv2")["lost"], [])
 
-    def test_rebuild_tells_what_is_lost(self):
+    def test_rebuild_reports_what_is_lost(self):
         found = self.mended("Doubled.jpg", step="rebuild", status=1)
         self.assertEqual(found["lost"], ["[IFD0] Orientation : Rotate 90 CW"])
 
@@ -273,13 +273,13 @@ class Mend(WithPictures):
 
 
 class Words(WithPictures):
-    def test_refused_words(self):
+    def test_refused_arguments(self):
         for words in ((), ("nothing",), ("index",), ("show",), ("report", "--catalogue", "c"), ("mend", "a")):
             with self.subTest(words):
                 self.asked(*words, status=3)
                 self.assertIn("usage:", self.complaint)
 
-    def test_help_tells_the_statuses(self):
+    def test_help_lists_the_statuses(self):
         for words in (("--help",), ("index", "--help"), ("mend", "--help")):
             text = "\n".join(self.asked(*words))
             self.assertIn("Statuses:", text)

@@ -64,7 +64,7 @@ class Tools(WithPictures):
         for name in ("a.gif", "bad.gif", "c.gif"):
             write(self.path("p", name), GIF)
 
-    def test_each_wrong_answer_costs_one_file(self):
+    def test_each_wrong_result_costs_one_file(self):
         self.pictures()
         for what, (answer, words) in ANSWERS.items():
             with self.subTest(what):
@@ -119,8 +119,8 @@ class Tools(WithPictures):
                     self.assertIsNone(started.poll())
                 tool = int(read(pids).split()[-1])
                 started.send_signal(number)
-                due = 130 if number == signal.SIGINT else -number
-                self.assertEqual(started.wait(60), due)
+                expected = 130 if number == signal.SIGINT else -number
+                self.assertEqual(started.wait(60), expected)
                 self.wait_for_end(tool)
                 if number != signal.SIGKILL:
                     self.assertEqual(os.listdir(own), [])
@@ -138,7 +138,7 @@ class Tools(WithPictures):
         call = ("import os, sys; from exifnorm_pictures.main import main\n"
                 "os.register_at_fork(after_in_parent=lambda: os.kill(os.getpid(), int(sys.argv[1])))\n"
                 "sys.exit(main(['index', sys.argv[2], '--catalogue', 'c', '--quiet', '--jobs', '2', '--limit', '20']))\n")  # fmt: skip
-        for number, due in ((signal.SIGTERM, -signal.SIGTERM), (signal.SIGINT, 130)):
+        for number, expected in ((signal.SIGTERM, -signal.SIGTERM), (signal.SIGINT, 130)):
             for folder, environment in (("p", sleeping), ("many", {"PATH": self.path("none")})):
                 with self.subTest(number.name, folder=folder):
                     own = self.path(f"own {number.name} {folder}")
@@ -146,7 +146,7 @@ class Tools(WithPictures):
                     words = [shutil.which("env"), f"--default-signal={number.name[3:]}", sys.executable, "-c", call, str(int(number)), folder]
                     done = subprocess.run(words, cwd=self.folder, env={**Studio.environment(**environment), "TMPDIR": own},
                                           capture_output=True, timeout=60)  # fmt: skip
-                    self.assertEqual(done.returncode, due, done.stderr)
+                    self.assertEqual(done.returncode, expected, done.stderr)
                     self.assertEqual(os.listdir(own), [])
 
     def wait_for_end(self, pid):
@@ -380,11 +380,11 @@ class Outputs(WithPictures):
         calls = (["same", "--catalogue", "c"], ["show", "p/a.jpg"], ["report", "--catalogue", "c", "--json"], ["changed", "c", "d", "--all"],
                  ["index", "p", "--catalogue", "c", "--again"], ["--help"], ["--version"])  # fmt: skip
         for words in calls:
-            for redirected, due in ((">/dev/full", 4), (">&-", 4), ("2>/dev/full", 0), ("2>&-", 0), ("<&-", 0)):
+            for redirected, expected in ((">/dev/full", 4), (">&-", 4), ("2>/dev/full", 0), ("2>&-", 0), ("<&-", 0)):
                 with self.subTest(words, stream=redirected):
                     line = f'exec "$0" "$@" {redirected}'
                     done = run(["bash", "-c", line, sys.executable, "-m", "exifnorm_pictures", *words], self.folder)
-                    self.assertEqual(done.returncode, due, done)
+                    self.assertEqual(done.returncode, expected, done)
                     self.assertNotIn(b"Traceback", done.stderr)
                     self.assertNotIn(b"Exception", done.stderr)
 

@@ -105,7 +105,7 @@ class Found(unittest.TestCase):
                     found_in(filled[:length])
             self.assertEqual(named(found_in(filled[:before])), [])
 
-    def test_words_in_front(self):
+    def test_other_bytes_before_the_signature(self):
         self.assertEqual(named(found_in(jpeg(segment(0xE1, b"\0exif\0\xff" + A)))), [("exif", "Exif", A)])
         self.assertEqual(named(found_in(jpeg(segment(0xE1, b"1234Exif\0\0" + A)))), [("exif", "Exif", A)])
         self.assertEqual(named(found_in(jpeg(segment(0xE1, b"12345Exif\0\0" + A)))), [])
@@ -267,12 +267,12 @@ class BesideOthers(WithPictures):
     def test_pillows_files(self):
         call = (
             "from PIL import Image; it = Image.new('RGB', (8, 8)); e = it.getexif(); e[0x10f] = 'Leica'; e[0x131] = 'Pillow';"
-            "[it.save('p.' + name, exif=e) for name in ('jpg', 'png', 'webp')]; open('due', 'wb').write(e.tobytes()[6:])"
+            "[it.save('p.' + name, exif=e) for name in ('jpg', 'png', 'webp')]; open('expected', 'wb').write(e.tobytes()[6:])"
         )
         tool(self.folder, interpreter_with("PIL"), "-c", call)
         for name in ("jpg", "png", "webp"):
             found = found_in(read(self.path("p." + name)))
-            self.assertEqual(named(found), [("exif", "Exif", read(self.path("due")))], name)
+            self.assertEqual(named(found), [("exif", "Exif", read(self.path("expected")))], name)
 
     @needs("convert")
     def test_exiftool_reads_the_same_in_a_page(self):
@@ -285,9 +285,9 @@ class BesideOthers(WithPictures):
             self.assertEqual(found.not_read, [])
             for number, it in enumerate(found.of_kind("exif")):
                 write(self.path("page.tif"), it.data)
-                due = self.printed(self.path(name), f"IFD{number}")
-                self.assertEqual(self.printed(self.path("page.tif"), "IFD0"), due)
-                self.assertGreater(len(due), 8)
+                expected = self.printed(self.path(name), f"IFD{number}")
+                self.assertEqual(self.printed(self.path("page.tif"), "IFD0"), expected)
+                self.assertGreater(len(expected), 8)
 
     def printed(self, path, group):
         more = ["-ExifIFD:all", "-GPS:all"] if group == "IFD0" else []

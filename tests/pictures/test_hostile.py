@@ -73,9 +73,9 @@ class Hostile(WithPictures):
         lines = self.asked("index", "p", "--catalogue", "c", "--json", "--quiet", status=4)
         found = {os.path.basename(it["path"]): it for it in map(json.loads, lines[:-1])}
         problems = {name: it.get("problem") for name, it in found.items()}
-        due = {"empty.jpg": "NoPicture", "text.jpg": "NoPicture", "posing.json": "NoPicture", "pipe.jpg": "Unreadable"}
-        due.update({"link.jpg": "Vanished", "good.jpg": None, "cut.jpg": None, "empty-block.jpg": None})
-        self.assertEqual(problems, due)
+        expected = {"empty.jpg": "NoPicture", "text.jpg": "NoPicture", "posing.json": "NoPicture", "pipe.jpg": "Unreadable"}
+        expected.update({"link.jpg": "Vanished", "good.jpg": None, "cut.jpg": None, "empty-block.jpg": None})
+        self.assertEqual(problems, expected)
 
     def test_a_text_never_passes_for_octets(self):
         write(self.path("a.jpg"), with_iptc(SMALL_JPEG, b"base64:HAIZAANvbmU="))
@@ -102,7 +102,7 @@ class Hostile(WithPictures):
         self.assertNotIn("<script", page)
         self.assertNotIn("<img src=x", page)
 
-    def test_a_picture_that_vanishes_keeps_what_it_said(self):
+    def test_a_picture_that_vanishes_keeps_its_meaning(self):
         os.mkdir(self.path("p"))
         write(self.path("p", "a.jpg"), with_exif(SMALL_JPEG, block([MAKE])))
         self.asked("index", "p", "--catalogue", "c", "--quiet")

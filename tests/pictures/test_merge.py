@@ -60,9 +60,9 @@ class Merge(WithPictures):
     def test_a_picture_in_several_is_there_once(self):
         write(self.path("one", "a.jpg"), OTHER)
         self.asked("index", "one", "--catalogue", "newer.c", "--quiet")
-        for names, due in ((("one.c", "newer.c"), "newer.c"), (("newer.c", "one.c"), "one.c"), (("one.c", "one.c"), "one.c")):
+        for names, expected in ((("one.c", "newer.c"), "newer.c"), (("newer.c", "one.c"), "one.c"), (("one.c", "one.c"), "one.c")):
             self.asked("merge", *names, "--catalogue", "all")
-            self.assertEqual(self.contents("all"), self.contents(due), names)
+            self.assertEqual(self.contents("all"), self.contents(expected), names)
             os.remove(self.path("all"))
         self.asked("merge", "one.c", "--catalogue", "two.c")
         self.assertEqual(sqlite3.connect(self.path("two.c")).execute("SELECT count(*) FROM pictures").fetchone(), (8,))

@@ -64,9 +64,9 @@ class Pairs(WithPictures):
         self.assertEqual(result, "same", words)
         return words
 
-    def not_same(self, one, other, due="different", **more):
+    def not_same(self, one, other, expected="different", **more):
         result, words = self.answer(one, other, **more)
-        self.assertEqual(result, due, words)
+        self.assertEqual(result, expected, words)
         return words
 
 
@@ -83,7 +83,7 @@ class Jpeg(Pairs):
         words = self.not_same(jpeg(app1(A)), jpeg(app1(A), app1_xmp(U)))
         self.assertEqual(words, "Exif is the same, XMP is different, no IPTC")
 
-    def test_blocks_behind_the_first(self):
+    def test_blocks_after_the_first(self):
         first = app1(A)
         self.not_same(jpeg(first), jpeg(first, app1(A)))
         self.not_same(jpeg(first, app1(A)), jpeg(first, app1(B)))
@@ -147,7 +147,7 @@ class Jpeg(Pairs):
         words = self.not_same(jpeg(app1(A), app1_xmp(b"<x")), jpeg(app1(A), app1_xmp(b"<y")), "unreadable")
         self.assertEqual(words, "Exif is the same, XMP is unreadable, no IPTC")
 
-    def test_what_is_behind(self):
+    def test_what_follows(self):
         one = jpeg(app1(A))
         words = self.not_same(one, one + b"trailer", "not wholly read")
         self.assertEqual(words, "Exif is the same, no IPTC and no XMP; not wholly read: trailer of 7 bytes")
@@ -336,9 +336,9 @@ class Others(Pairs):
         lines = run(["exifnorm-pictures", "changed", "before", "after", "--all", "--quiet"], self.folder).stdout.decode().splitlines()
         said = [it for it in lines if it.startswith(("a.psd", "b.jpg"))]
         self.assertEqual(["extracted by ExifTool" in it for it in said], [True, False], lines)
-        for name, due in (("a.psd", True), ("b.jpg", False)):
+        for name, expected in (("a.psd", True), ("b.jpg", False)):
             shown = run(["exifnorm-pictures", "show", os.path.join("before", name)], self.folder).stdout.decode()
-            self.assertEqual(shown.startswith("Exif, extracted by ExifTool:"), due, shown)
+            self.assertEqual(shown.startswith("Exif, extracted by ExifTool:"), expected, shown)
 
     @needs("convert")
     def test_same_blocks_but_not_wholly_read(self):

@@ -70,7 +70,7 @@ class Report(WithPictures):
         self.asked("report", "--catalogue", "c", "--since", "old", "--html", "r.html", "--title", "The <title>")
         self.page = read(self.path("r.html")).decode()
 
-    def test_each_count_group_and_change_stands_there_once(self):
+    def test_each_count_group_and_change_is_there_once(self):
         page = Text(self.page)
         self.assertEqual((page.wrong, page.open), ([], []))
         self.assertEqual(page.texts("h1"), ["The <title>"])

@@ -81,11 +81,11 @@ class Tables(WithPictures):
             "gone": (picture("p", problem="Vanished"), "missing after"),
             "moved": (picture("p", problem="Moved"), "missing after"),
         }
-        for what, (after, due) in cases.items():
+        for what, (after, expected) in cases.items():
             with self.subTest(what):
                 for every in (False, True):
                     found, counts = self.compared([picture("p", number=5)], [after], every=every)
-                    self.assertEqual((found, counts), ({} if due == "same" and not every else {"p": due}, {due: 1}))
+                    self.assertEqual((found, counts), ({} if expected == "same" and not every else {"p": expected}, {expected: 1}))
 
     def test_both_sides_of_a_kind(self):
         cases = [
@@ -100,11 +100,11 @@ class Tables(WithPictures):
             ({"problem": "NoPicture"}, {"problem": "NoPicture"}, "same"),
             ({"problem": "Unreadable"}, {"problem": "Unreadable"}, "not read"),
         ]
-        for one, other, due in cases:
+        for one, other, expected in cases:
             for every in (False, True):
                 with self.subTest(one=one, other=other, every=every):
                     found, counts = self.compared([picture("p", **one)], [picture("p", **other)], every=every)
-                    self.assertEqual((found, counts), ({} if due == "same" and not every else {"p": due}, {due: 1}))
+                    self.assertEqual((found, counts), ({} if expected == "same" and not every else {"p": expected}, {expected: 1}))
 
     def test_what_moved(self):
         bare = {}
@@ -134,11 +134,11 @@ class Tables(WithPictures):
         after = [picture(it, {EXIF: text}, root="/other/folder") for it, text in zip(("a", "b", "c", "new"), ("a", "B", "C", "n"))]
         everything = {"same": 1, "different": 2, "missing after": 1, "missing before": 1}
         self.assertEqual(self.compared(before, after)[1], everything)
-        for only, due in (({b"a"}, {"same": 1}), ({b"b", b"a"}, {"same": 1, "different": 1}), ({b"/a/b"}, {"different": 1}),
+        for only, expected in (({b"a"}, {"same": 1}), ({b"b", b"a"}, {"same": 1, "different": 1}), ({b"/a/b"}, {"different": 1}),
                           ({b"/other/folder/b"}, {"different": 1}), ({b"/other/folder/a"}, {"same": 1}), ({b"gone"}, {"missing after": 1}),
                           ({b"/other/folder/new", b"c"}, {"missing before": 1, "different": 1}), ({b"/x"}, {}), (set(), {})):  # fmt: skip
             with self.subTest(only):
-                self.assertEqual(self.compared(before, after, only)[1], due)
+                self.assertEqual(self.compared(before, after, only)[1], expected)
 
     def test_paths_of_several_folders(self):
         """Where a catalogue has more than one folder, whole paths are compared."""
@@ -295,8 +295,8 @@ class EqualChanges(unittest.TestCase):
             equal.add("to a place", b"moved %04d" % number, True)
         found = [(said, count, list(names)) for said, count, names in equal.all()]
         self.assertEqual(len(found), 1200 + 2500)
-        due = [f"change {number}" for number in range(1200)]
-        self.assertEqual([said for said, _, _ in found if said != "to a place"], due)
+        expected = [f"change {number}" for number in range(1200)]
+        self.assertEqual([said for said, _, _ in found if said != "to a place"], expected)
         self.assertEqual(found[0], ("change 0", 3, [b"0000", b"1200", b"2400"]))
         self.assertEqual(found[1], ("to a place", 1, [b"moved 0000"]))
         self.assertTrue(all(count == len(names) for _, count, names in found))
@@ -307,11 +307,11 @@ class Statuses(unittest.TestCase):
         """The greatest status of all results; 1 is a difference that is known, and nothing else."""
         from exifnorm_pictures.archives import status_of
 
-        due = {"same": 0, "refused, the same bytes": 0, "unreadable, the same bytes": 0, "different": 1, "only MakerNote differs": 1,
+        expected = {"same": 0, "refused, the same bytes": 0, "unreadable, the same bytes": 0, "different": 1, "only MakerNote differs": 1,
                "moved": 1, "missing before": 1, "missing after": 1, "refused": 2, "unreadable": 2, "not wholly read": 2, "not read": 4}  # fmt: skip
-        self.assertEqual(set(due), set(changed.RESULTS))
-        for one, status in due.items():
+        self.assertEqual(set(expected), set(changed.RESULTS))
+        for one, status in expected.items():
             self.assertEqual(status_of(Counter([one])), status, one)
-            for other in due:
-                self.assertEqual(status_of(Counter([one, other, "same"])), max(status, due[other]), (one, other))
+            for other in expected:
+                self.assertEqual(status_of(Counter([one, other, "same"])), max(status, expected[other]), (one, other))
         self.assertEqual(status_of(Counter()), 0)

@@ -134,7 +134,7 @@ class Harm(unittest.TestCase):
         file_ = "<!DOCTYPE x [<!ENTITY a SYSTEM 'file:///etc/hostname'>]>"
         bare = f"<rdf:RDF {SPACES}><rdf:Description><dc:format>&a;</dc:format></rdf:Description></rdf:RDF>"
         deep = "<xmp:a rdf:parseType='Resource'>" * 200 + "</xmp:a>" * 200
-        due = {
+        expected = {
             entities + bare: "DocumentType", file_ + bare: "DocumentType", bare: "NotWellFormed", "<x:y": "NotWellFormed", "": "NotWellFormed",
             "<a/>": "NoRDF", f"<x:xmpmeta xmlns:x='adobe:ns:meta/'><rdf:RDF {SPACES}/><rdf:RDF {SPACES}/></x:xmpmeta>": "NoRDF",
             xmp(deep).decode(): "TooDeep", "<a>" * 500_001: "TooLong", " " * (16 << 20) + "<a/>": "TooLong",
@@ -142,7 +142,7 @@ class Harm(unittest.TestCase):
             "<?xml\nversion='1.0' encoding='cp037'?>" + bare: "NotText",
             f"<rdf:RDF {SPACES}><rdf:Description rdf:about='a:1'/><rdf:Description rdf:about='a:2'/></rdf:RDF>": "SeveralSubjects",
         }  # fmt: skip
-        for packet, why in due.items():
+        for packet, why in expected.items():
             self.assertEqual(cause(packet.encode()), why, packet[:100])
         self.assertEqual(cause(b"<a>\xff</a>"), "NotText")
 
@@ -150,7 +150,7 @@ class Harm(unittest.TestCase):
         self.assertEqual(cause(b"<a>" * 499_999), "NotWellFormed")
         self.assertEqual(cause(b"<a>" * 200_000 + b"</a>" * 200_000), "TooDeep")
 
-    def test_damaged_packets_have_an_answer(self):
+    def test_damaged_packets_have_a_result(self):
         answers = {cause(it) for it in packets(5, 1000)}
         self.assertLessEqual({None, "NotWellFormed"}, answers)
 

@@ -83,20 +83,20 @@ def normal_forms(blocks, entry, ways):
 
 def refusals(blocks, entry, ways):
     block = blocks.bytes_of(entry["block"])
-    due = {"status": 2, "output": fixed(f"refused: {entry['refused']}")}
+    expected = {"status": 2, "output": fixed(f"refused: {entry['refused']}")}
     if "filter" in ways:
-        yield Case(f"{entry['name']}, through standard input", input=block, **due)
+        yield Case(f"{entry['name']}, through standard input", input=block, **expected)
     if "commands" in ways:
-        yield Case(f"{entry['name']}, by check", words=["check", "a"], files={"a": block}, **due)
+        yield Case(f"{entry['name']}, by check", words=["check", "a"], files={"a": block}, **expected)
 
 
 def comparisons(blocks, entry, ways):
     if "commands" not in ways:
         return
     files = {"a": blocks.bytes_of(entry["first"]), "b": blocks.bytes_of(entry["second"])}
-    due = {"status": 0 if entry["same"] else 1, "output": fixed("same" if entry["same"] else "different")}
-    yield Case(f"{entry['name']}, by compare", words=["compare", "a", "b"], files=files, **due)
-    yield Case(f"{entry['name']}, by compare the other way round", words=["compare", "b", "a"], files=files, **due)
+    expected = {"status": 0 if entry["same"] else 1, "output": fixed("same" if entry["same"] else "different")}
+    yield Case(f"{entry['name']}, by compare", words=["compare", "a", "b"], files=files, **expected)
+    yield Case(f"{entry['name']}, by compare the other way round", words=["compare", "b", "a"], files=files, **expected)
 
 
 def texts(blocks, entry, ways):
@@ -207,12 +207,12 @@ def cases_of(path, table, entry, blocks, ways, refuses):
     """The cases of one entry. There must be one if the table has one of the file's ways to run."""
     made = list(table.cases_of(blocks, entry, ways))
     if not made and table.ways & set(ways):
-        raise Misspelled(f"{path}: nothing is due in {entry['name']!r}")
+        raise Misspelled(f"{path}: nothing is expected in {entry['name']!r}")
     for case in made:
         if isinstance(case, Case):
             case.refuses_growths = refuses
             if not case.is_judged():
-                raise Misspelled(f"{path}: nothing but a status is due in {case.name!r}")
+                raise Misspelled(f"{path}: nothing but a status is expected in {case.name!r}")
         elif not case.blocks:
             raise Misspelled(f"{path}: there is no block in {case.name!r}")
         yield case

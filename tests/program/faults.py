@@ -141,7 +141,7 @@ class Bench:
             return Outcome(ran.returncode, ran.stdout, ran.stderr, files, text)
 
 
-def files_due(run: Run) -> Dict[str, bytes]:
+def files_expected(run: Run) -> Dict[str, bytes]:
     files = {**FILES, "OUT": run.out_due}
     if "NEW" in run.words:
         files["NEW"] = form_of(FILES["record"])
@@ -150,15 +150,15 @@ def files_due(run: Run) -> Dict[str, bytes]:
 
 def is_right(run: Run, outcome: Outcome) -> bool:
     """Whether a run ended as it does without a fault."""
-    return (outcome.status, outcome.output, outcome.files) == (run.status, run.output, files_due(run))
+    return (outcome.status, outcome.output, outcome.files) == (run.status, run.output, files_expected(run))
 
 
 def keeps_files(run: Run, files: Dict[str, bytes]) -> bool:
     """Whether the files are unchanged, and OUT has its old content or a prefix of the expected bytes."""
-    due, written = files_due(run), [it for it in ("OUT", "NEW") if it in run.words]
+    expected, written = files_expected(run), [it for it in ("OUT", "NEW") if it in run.words]
     others = {name: octets for name, octets in files.items() if name not in written}
     return others == {name: octets for name, octets in FILES.items() if name not in written} and all(
-        files.get(name, b"") == FILES.get(name, b"") or due[name].startswith(files[name]) for name in written
+        files.get(name, b"") == FILES.get(name, b"") or expected[name].startswith(files[name]) for name in written
     )
 
 

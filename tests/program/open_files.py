@@ -70,7 +70,7 @@ def a_file_that_can_not_be_duplicated(counter: Counter) -> None:
         counter.check("check with five open files", run(folder, ["check", "one"], most_open=5) == (0, b"ok exif\n"))
 
 
-def a_file_that_says_nothing_of_itself(counter: Counter) -> None:
+def a_file_without_a_status(counter: Counter) -> None:
     """It is a failed write, and OUT is unchanged."""
     with tempfile.TemporaryDirectory() as room:
         folder, shim = Path(room), make_shim(room, "odd_files")
@@ -89,7 +89,7 @@ def files_with_one_number_in_common(counter: Counter) -> None:
             counter.check(f"the same {how}", (came, (folder / "OUT").read_bytes()) == ((0, b""), ONE), came)
 
 
-def an_out_that_held_more(counter: Counter) -> None:
+def an_out_that_was_longer(counter: Counter) -> None:
     """Nothing is left of the old content of OUT."""
     with tempfile.TemporaryDirectory() as room:
         folder = Path(room)
@@ -100,7 +100,7 @@ def an_out_that_held_more(counter: Counter) -> None:
             counter.check(f"{count} bytes", (came, left) == ((0, b""), ONE), (came, len(left)))
 
 
-def more_words_than_any_command_takes(counter: Counter) -> None:
+def more_arguments_than_any_command_takes(counter: Counter) -> None:
     """They are refused, and never out of memory."""
     with tempfile.TemporaryDirectory() as room:
         for count in (4, 5, 100):
@@ -116,10 +116,10 @@ def main(words: list[str]) -> int:
     return run_tests(
         [
             a_file_that_can_not_be_duplicated,
-            a_file_that_says_nothing_of_itself,
+            a_file_without_a_status,
             files_with_one_number_in_common,
-            an_out_that_held_more,
-            more_words_than_any_command_takes,
+            an_out_that_was_longer,
+            more_arguments_than_any_command_takes,
         ]
     )
 

@@ -98,8 +98,8 @@ def judge_files(program, files, commands=("",)):
     """What is wrong with the results for these files, each with the next of the commands."""
     bad = []
     for i, file in enumerate(files):
-        due = case_of(file, commands[i % len(commands)])
-        bad += [f"for the file {file[:100].hex()} of {len(file)} bytes, by {due.words[:1]}: {it}" for it in complaints_of(due, run(program, due))]
+        expected = case_of(file, commands[i % len(commands)])
+        bad += [f"for the file {file[:100].hex()} of {len(file)} bytes, by {expected.words[:1]}: {it}" for it in complaints_of(expected, run(program, expected))]
         if len(bad) > 3:
             return [*bad[:3], "and no further ones were tried"]
     return bad

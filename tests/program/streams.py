@@ -64,10 +64,10 @@ def closed_streams(program: str, folder: Path):
                 fill(folder)
                 came = run(program, folder, words, closed)
                 line = REFUSED[:-1] + b" in file 1\n" if words[0] == "compare" else REFUSED
-                due = (4, b"") if 1 in closed else (2, line)
+                expected = (4, b"") if 1 in closed else (2, line)
                 out = b"" if words[0] == "normalise" else b"old"
                 left = [(folder / name).read_bytes() for name in ("one", "loop", "OUT")]
-                yield f"{words[0]} with {closed} closed", (came, left) == (due, [ONE, LOOP, out]), (came, left)
+                yield f"{words[0]} with {closed} closed", (came, left) == (expected, [ONE, LOOP, out]), (came, left)
     fill(folder)
     came = run(program, folder, ["normalise", "one", "OUT"], (0, 1, 2))
     yield "normalise with no stream", (came, (folder / "OUT").read_bytes()) == ((0, b""), ONE), came
@@ -205,11 +205,11 @@ def outputs_that_are_no_files(program: str, folder: Path) -> Iterator[Tuple[str,
     how = {"user": NOBODY, "group": NOBODY} if os.getuid() == 0 else {}
     for name in ("null", "full", "stdout"):
         os.symlink(f"/dev/{name}", folder / name)
-    for name, due in (("null", (0, b"")), ("full", (4, b"failed: WriteFailed\n"))):
+    for name, expected in (("null", (0, b"")), ("full", (4, b"failed: WriteFailed\n"))):
         came = run(program, folder, ["normalise", "one", name])
-        yield f"OUT is a link to /dev/{name}", came == due, came
+        yield f"OUT is a link to /dev/{name}", came == expected, came
         came = run(program, folder, ["normalise", "one", f"/dev/{name}"], **how)
-        yield f"OUT is /dev/{name}", came == due, came
+        yield f"OUT is /dev/{name}", came == expected, came
     came = run(program, folder, ["normalise", "loop", "null"])
     yield "a refused block, and OUT is /dev/null", came == (2, REFUSED), came
     came = run(program, folder, ["normalise", "one", "stdout"])

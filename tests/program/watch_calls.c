@@ -107,8 +107,8 @@ void free(void *old) {
 }
 
 /* Whether this call is the one that fails. */
-static int is_failed(long count, long due) {
-    if (!is_watching || count != due)
+static int is_failed(long count, long expected) {
+    if (!is_watching || count != expected)
         return 0;
     failed = 1;
     errno = (int)failed_as;

@@ -125,7 +125,7 @@ def kept(case, sizes):
     return case.keeps or [None] * len(sizes)
 
 
-def most_held(sizes, told):
+def most_in_memory(sizes, told):
     """The most bytes that a run may allocate at once: those for the meaning (`told`), and never more than a few times a large file."""
     return min(told, int(TIMES * sum(sizes))) if max(sizes, default=0) >= LARGE else told
 
@@ -143,7 +143,7 @@ def limits_of(case, outcome):
     return Counts(
         calls=(CALLS if case.words else 0) + sum(it.calls for it in read + meant),
         asked=with_slack(CHUNK * len(sizes) + SMALL + sum(it.asked for it in read + meant) + words),
-        held=max(words, most_held(sizes, held)),
+        held=max(words, most_in_memory(sizes, held)),
         reads=sum(it // CHUNK + 2 for it in sizes) if not case.input else sum(sizes) + 2,  # a pipe may give one byte at a time
         writes=(1 if sent <= ROOM else 2 * sent // ROOM + 2) + (outcome.status == 4),  # a write that failed, and the line
         spent=SPENT + sum(sizes) // BYTES_A_MILLISECOND,

@@ -22,7 +22,7 @@ import crates
 import machine
 import prove
 import verdict
-from room import SIGNALS, Room, due, runs, tick, wait_until
+from room import SIGNALS, Room, require, runs, tick, wait_until
 from store import Store
 
 LEVELS = "px_low: byteorder\npx_middle: px_low\npx_high staticlib: px_middle\npx_aside: px_low\n"
@@ -31,7 +31,7 @@ LEVELS = "px_low: byteorder\npx_middle: px_low\npx_high staticlib: px_middle\npx
 def the_examples_are_right(_: Room) -> None:
     for it in (crates, verdict):
         failed, ran = doctest.testmod(it)
-        due(failed == 0 and ran > 2, it.__name__)
+        require(failed == 0 and ran > 2, it.__name__)
 
 
 def levels(room: Room) -> Room:
@@ -91,34 +91,34 @@ def whatever_a_crate_is_made_from_is_in_the_sum(room: Room) -> None:
     room = levels(room)
     add_sources(room)
     for it in ("px_high", "px_aside"):
-        due(room.prove(it).returncode == 0, room.log())
+        require(room.prove(it).returncode == 0, room.log())
     before = state(room)
     order = ["px_low", "px_middle", "px_high"]
     for what, crate, change in each_change(room):
         change()
         unbuilt = store_of(room).unbuilt("px_high")
-        due(unbuilt == order[order.index(crate) :], (what, unbuilt))
-        due(store_of(room).is_current("px_aside") == (crate != "px_low"), what)
+        require(unbuilt == order[order.index(crate) :], (what, unbuilt))
+        require(store_of(room).is_current("px_aside") == (crate != "px_low"), what)
         put_back(room, before)
-        due(store_of(room).is_current("px_high"), f"{what}, taken back")
-    due(not store_of(room, "toolchain 2").is_built("px_low"), "the toolchain's version is passed over")
-    due(store_of(room, "").is_current("px_high"), "without a toolchain nothing is taken as built")
+        require(store_of(room).is_current("px_high"), f"{what}, taken back")
+    require(not store_of(room, "toolchain 2").is_built("px_low"), "the toolchain's version is passed over")
+    require(store_of(room, "").is_current("px_high"), "without a toolchain nothing is taken as built")
 
 
 def whatever_the_list_of_crates_says_is_in_the_sum(room: Room) -> None:
     room = levels(room)
-    due(room.prove("px_high").returncode == 0, room.log())
+    require(room.prove("px_high").returncode == 0, room.log())
     for old, new in (("px_low: byteorder", "px_low: byteorder hex"), ("px_high staticlib:", "px_high:"),
             ("px_middle: px_low", "px_middle: px_low hex"), ("px_high staticlib: px_middle", "px_high staticlib: px_middle px_low")):
         (room.top / "crates.txt").write_text(LEVELS.replace(old, new))
-        due(not store_of(room).is_current("px_high"), new)
+        require(not store_of(room).is_current("px_high"), new)
     (room.top / "crates.txt").write_text(LEVELS.replace("px_aside: px_low", "px_aside:") + "# a comment\n")
-    due(store_of(room).is_current("px_high"), "what does not concern it counts")
+    require(store_of(room).is_current("px_high"), "what does not concern it counts")
     (room.top / "crates.txt").write_text(LEVELS.replace("px_high staticlib", "px_high"))
     (room.top / "crates/px_high/src/lib.rt").write_text("two")
-    due(room.prove("px_high").returncode == 0, room.log())
+    require(room.prove("px_high").returncode == 0, room.log())
     (room.top / "crates.txt").write_text(LEVELS)
-    due(not store_of(room).is_current("px_high"), "the archive of other sources, from before it became a library, is taken")
+    require(not store_of(room).is_current("px_high"), "the archive of other sources, from before it became a library, is taken")
 
 
 def a_crate_is_good_over_the_very_libraries_that_it_was_built_over(room: Room) -> None:
@@ -129,25 +129,25 @@ def a_crate_is_good_over_the_very_libraries_that_it_was_built_over(room: Room) -
             ("px_middle.made-from", ["px_middle", "px_high"]), ("px_high.made-from", ["px_high"])):
         away = room.folder / "away"
         os.rename(folder / name, away)
-        due(store_of(room).unbuilt("px_high") == unbuilt, (name, store_of(room).unbuilt("px_high")))
+        require(store_of(room).unbuilt("px_high") == unbuilt, (name, store_of(room).unbuilt("px_high")))
         os.rename(away, folder / name)
     os.rename(folder / "px_low.rlib", room.folder / "px_low.rlib")
-    due(store_of(room).is_current("px_high"), "a library that nothing has to be built over is missed")
+    require(store_of(room).is_current("px_high"), "a library that nothing has to be built over is missed")
     (room.top / "crates/px_high/src/lib.rt").write_text("two")
-    due(store_of(room).unbuilt("px_high") == ["px_low", "px_middle", "px_high"], "a crate is built over a library that is not there")
+    require(store_of(room).unbuilt("px_high") == ["px_low", "px_middle", "px_high"], "a crate is built over a library that is not there")
     (room.top / "crates/px_high/src/lib.rt").write_text("one")
     os.rename(room.folder / "px_low.rlib", folder / "px_low.rlib")
     for text in ("", "one\n", "\xff"):
         note = folder / "px_middle.made-from"
         was = note.read_bytes()
         note.write_bytes(text.encode("latin-1"))
-        due(store_of(room).unbuilt("px_high") == ["px_middle", "px_high"], text)
+        require(store_of(room).unbuilt("px_high") == ["px_middle", "px_high"], text)
         note.write_bytes(was)
     (room.top / "crates/px_low/src/lib.rt").write_text("two")
     room.prove("px_aside")
     (room.top / "crates/px_low/src/lib.rt").write_text("one")
     room.prove("px_aside")
-    due(store_of(room).unbuilt("px_high") == ["px_middle", "px_high"], "another px_low of the same sources is below it now")
+    require(store_of(room).unbuilt("px_high") == ["px_middle", "px_high"], "another px_low of the same sources is below it now")
 
 
 def a_product_that_was_put_without_its_note_is_not_taken(room: Room) -> None:
@@ -160,38 +160,38 @@ def a_product_that_was_put_without_its_note_is_not_taken(room: Room) -> None:
     with mock.patch("store.time.time_ns", side_effect=KeyboardInterrupt), contextlib.suppress(KeyboardInterrupt):
         store.put("px_cli", made, store.expected("px_cli"))
     room.main.write_text("one")
-    due(room.call("a").stdout == "one: a\n" and room.builds() == 2, room.log())
+    require(room.call("a").stdout == "one: a\n" and room.builds() == 2, room.log())
 
 
-def only_what_was_changed_and_what_stands_on_it_is_proved_again(room: Room) -> None:
+def only_what_was_changed_and_what_depends_on_it_is_proved_again(room: Room) -> None:
     room.call()
     room.forget()
     (room.top / "crates/px_iim/proofs/Answers.antt").write_text("two")
-    due(room.call("a").stdout == "one: a\n" and room.built() == ["px_iim", "px_cli"], room.log())
+    require(room.call("a").stdout == "one: a\n" and room.built() == ["px_iim", "px_cli"], room.log())
     room.forget()
     (room.top / "out/proved/px_bytes.rlib").unlink()  # another px_bytes: what was built over the old one is not good over it
     room.main.write_text("two")
-    due(room.call("a").stdout == "two: a\n" and len(room.built()) == 4, room.log())
+    require(room.call("a").stdout == "two: a\n" and len(room.built()) == 4, room.log())
 
 
-def what_stands_on_a_crate_that_another_build_proved_again_is_proved_again(room: Room) -> None:
+def what_depends_on_a_crate_that_another_build_proved_again_is_proved_again(room: Room) -> None:
     for text in ("one", "two"):
         (room.top / "crates/px_bytes/src/lib.rt").write_text(text)
         room.call()
-        due(room.prove("px_other").returncode == 0, room.log())
-    due(room.built().count("px_bytes") == room.built().count("px_other") == 2, room.log())
+        require(room.prove("px_other").returncode == 0, room.log())
+    require(room.built().count("px_bytes") == room.built().count("px_other") == 2, room.log())
 
 
 def nothing_is_written_where_all_is_built(room: Room) -> None:
     room.call()
     before = {it: it.lstat().st_mtime_ns for it in (room.top / "out").rglob("*")}
-    due(room.prove("px_cli").returncode == 0, room.log())
-    due(before == {it: it.lstat().st_mtime_ns for it in (room.top / "out").rglob("*")}, "something was written")
+    require(room.prove("px_cli").returncode == 0, room.log())
+    require(before == {it: it.lstat().st_mtime_ns for it in (room.top / "out").rglob("*")}, "something was written")
 
 
 def a_crate_of_another_name_is_an_error(room: Room) -> None:
     ran = room.prove("px_none")
-    due(ran.returncode == 1 and "px_none" in ran.stderr and not (room.top / "out").exists(), ran)
+    require(ran.returncode == 1 and "px_none" in ran.stderr and not (room.top / "out").exists(), ran)
 
 
 def is_proved(room: Room, crate: str) -> bool:
@@ -199,7 +199,7 @@ def is_proved(room: Room, crate: str) -> bool:
     script = "import sys; sys.path.insert(0, sys.argv[1]); import gate; from crates import Crates; from pathlib import Path\n"
     script += "print(gate.is_proved(Crates.read(Path(sys.argv[1]).parent), sys.argv[2]))"
     ran = room.call("-B", "-c", script, str(room.top / "build"), crate, program=sys.executable)
-    due(ran.stdout in ("True\n", "False\n"), ran)
+    require(ran.stdout in ("True\n", "False\n"), ran)
     return ran.stdout == "True\n"
 
 
@@ -208,12 +208,12 @@ def nothing_counts_as_just_proved_after_a_change(room: Room) -> None:
     add_sources(room)
     before = state(room)
     room.is_proved()
-    due(is_proved(room, "px_high") and is_proved(room, "px_aside"), "nothing counts")
+    require(is_proved(room, "px_high") and is_proved(room, "px_aside"), "nothing counts")
     for what, _, change in list(each_change(room))[::5]:
         change()
-        due(not is_proved(room, "px_high"), what)
+        require(not is_proved(room, "px_high"), what)
         put_back(room, before)
-        due(not is_proved(room, "px_high"), f"{what}, and taken back while rt ci may have read it")
+        require(not is_proved(room, "px_high"), f"{what}, and taken back while rt ci may have read it")
         room.is_proved()
 
 
@@ -257,9 +257,9 @@ def nothing_counts_as_just_proved_that_is_not_of_the_last_run(room: Room) -> Non
         (room.top / "crates/px_low/src/lib.rt").write_text("one")
         (library.parent / "stamp").unlink(missing_ok=True)
         room.is_proved()
-        due(is_proved(room, "px_high"), f"nothing counts before {what}")
+        require(is_proved(room, "px_high"), f"nothing counts before {what}")
         change()
-        due(not is_proved(room, "px_high"), what)
+        require(not is_proved(room, "px_high"), what)
 
 
 def no_program_is_taken_that_is_not_of_the_last_proof(room: Room) -> None:
@@ -278,30 +278,30 @@ def no_program_is_taken_that_is_not_of_the_last_proof(room: Room) -> None:
         room.is_proved()
         change()
         ran = room.call("a")
-        due((ran.returncode, ran.stdout) == (0, "one: a\n"), (what, ran))
+        require((ran.returncode, ran.stdout) == (0, "one: a\n"), (what, ran))
 
 
 def what_is_built_is_not_taken_again_from_the_gate(room: Room) -> None:
     room.is_proved()
     room.call()
-    due(room.prove("px_other").returncode == 0, room.log())
-    due(room.call("a").stdout == "proved: a\n" and room.built() == ["px_other"], room.log())
-    due(store_of(room).is_current("px_cli"), "libraries below the program were taken anew")
+    require(room.prove("px_other").returncode == 0, room.log())
+    require(room.call("a").stdout == "proved: a\n" and room.built() == ["px_other"], room.log())
+    require(store_of(room).is_current("px_cli"), "libraries below the program were taken anew")
 
 
 def how_many_are_proved_at_once(room: Room) -> None:
     file = room.folder / "meminfo"
     for text, expected in (("MemTotal: 99 kB\nMemAvailable:    5000 kB\nCached: 7 kB\n", 5_120_000), ("MemTotal: 9 kB\n", 0)):
         file.write_text(text)
-        due(machine.free_memory(file) == expected, text)
-    due(machine.free_memory() > 0, "the system says nothing")
-    due(0 < machine.processors() <= (os.cpu_count() or 1), "no processors")
+        require(machine.free_memory(file) == expected, text)
+    require(machine.free_memory() > 0, "the system says nothing")
+    require(0 < machine.processors() <= (os.cpu_count() or 1), "no processors")
     were = machine.processors, machine.free_memory
     try:
         for processors, gigabytes, expected in ((1, 64, 1), (2, 64, 2), (3, 64, 3), (64, 64, 3), (4, 0, 1), (4, 3, 1), (4, 5, 1), (4, 6, 2),
                 (4, 9, 3)):
             machine.processors, machine.free_memory = lambda: processors, lambda: gigabytes << 30
-            due(prove.places() == expected, (processors, gigabytes, prove.places()))
+            require(prove.places() == expected, (processors, gigabytes, prove.places()))
     finally:
         machine.processors, machine.free_memory = were
 
@@ -325,23 +325,23 @@ def crates_that_need_not_wait_are_proved_side_by_side(room: Room) -> None:
     for it in ("px_field", "px_iim"):
         room.until("begin", it)  # neither has ended
     room.let_go("px_field", "px_iim")
-    due(started.communicate(timeout=300)[0] == "one: a\n", room.log())
+    require(started.communicate(timeout=300)[0] == "one: a\n", room.log())
 
 
-def a_crate_begins_as_soon_as_what_it_stands_on_is_proved(room: Room) -> None:
+def a_crate_begins_as_soon_as_what_it_depends_on_is_proved(room: Room) -> None:
     late = Room(room.folder / "late", "px_a: clap\npx_late: px_a\npx_b: px_a\npx_c: px_b\npx_cli: px_c px_late\n")
     late.hold("px_late")
     started = late.start("a")
     late.until("begin", "px_late")
     late.until("end", "px_c")  # it waits for px_b alone
-    due("px_cli" not in [it[2] for it in late.log()], late.log())
+    require("px_cli" not in [it[2] for it in late.log()], late.log())
     late.let_go("px_late")
-    due(started.communicate(timeout=300)[0] == "one: a\n", late.log())
+    require(started.communicate(timeout=300)[0] == "one: a\n", late.log())
     given_way = {name: int(by) for what, _, name, by in late.log() if what == "end"}
-    due(given_way["px_late"] > given_way["px_b"] == given_way["px_cli"] == given_way["px_a"], late.log())
+    require(given_way["px_late"] > given_way["px_b"] == given_way["px_cli"] == given_way["px_a"], late.log())
 
 
-def no_more_are_proved_at_once_than_there_is_room_for(room: Room) -> None:
+def no_more_are_proved_at_once_than_memory_allows(room: Room) -> None:
     names = "abcde"
     listed = "".join(f"px_{it}: clap\n" for it in names) + "px_f: clap\npx_g: px_f\n"
     listed += "px_cli: " + " ".join(f"px_{it}" for it in names + "g") + "\n"
@@ -351,12 +351,12 @@ def no_more_are_proved_at_once_than_there_is_room_for(room: Room) -> None:
         many.hold(*(f"px_{it}" for it in names + "fg"))
         started = many.start("a")
         wait_until(lambda many=many, expected=expected: sum(it[0] == "begin" for it in many.log()) >= expected, many.log())
-        due("px_f" in [it[2] for it in many.log()], "another waits for px_f, so it is among the first")
+        require("px_f" in [it[2] for it in many.log()], "another waits for px_f, so it is among the first")
         many.let_go(*(f"px_{it}" for it in names + "fg"))
-        due(started.communicate(timeout=300)[0] == "one: a\n" and len(many.built()) == 8, many.log())
-        due(most_at_once(many.log()) == expected, many.log())
+        require(started.communicate(timeout=300)[0] == "one: a\n" and len(many.built()) == 8, many.log())
+        require(most_at_once(many.log()) == expected, many.log())
         jobs = {it.split("--jobs ")[1].split()[0] for it in (many.folder / "asked").read_text().splitlines()}
-        due(jobs == {str(min(4, processors))}, jobs)
+        require(jobs == {str(min(4, processors))}, jobs)
 
 
 def a_crate_that_is_changed_while_it_is_proved_is_proved_again(room: Room) -> None:
@@ -366,9 +366,9 @@ def a_crate_that_is_changed_while_it_is_proved_is_proved_again(room: Room) -> No
     (room.top / "crates/px_bytes/src/lib.rt").write_text("two")
     room.let_go("px_bytes")
     out, why = started.communicate(timeout=300)
-    due(out == "one: a\n" and "changed during the build" in why, (out, why))
-    due(sorted(room.built()) == sorted(2 * ["px_bytes", "px_cli", "px_field", "px_iim"]), room.log())
-    due(store_of(room).is_current("px_cli"), "it is not built of the new text")
+    require(out == "one: a\n" and "changed during the build" in why, (out, why))
+    require(sorted(room.built()) == sorted(2 * ["px_bytes", "px_cli", "px_field", "px_iim"]), room.log())
+    require(store_of(room).is_current("px_cli"), "it is not built of the new text")
 
 
 def a_crate_that_changes_in_each_build_is_an_error(room: Room) -> None:
@@ -376,26 +376,26 @@ def a_crate_that_changes_in_each_build_is_an_error(room: Room) -> None:
     room.command(room.folder / "kit/bin/rattle-link", f'#!/bin/sh\n{edits}\nexec sh ROOM/link "$@"\n')
     room.command(room.folder / "link", '#!/bin/sh\nwhile [ "$1" != -o ]; do shift; done\ncp "$3" "$2" && chmod +x "$2"\n')
     ran = room.call("a")
-    due((ran.returncode, ran.stdout, room.builds()) == (70, "", 2) and "changed" in ran.stderr, (ran, room.log()))
+    require((ran.returncode, ran.stdout, room.builds()) == (70, "", 2) and "changed" in ran.stderr, (ran, room.log()))
 
 
 def a_proof_that_is_killed_is_tried_again_with_one_job(room: Room) -> None:
     (room.folder / "killed-px_iim").touch()
-    due(room.call("a").stdout == "one: a\n", room.log())
-    due("once more, with one job" in (room.top / "out/build-px_iim.log").read_text(), "the log doesn't mention it")
+    require(room.call("a").stdout == "one: a\n", room.log())
+    require("once more, with one job" in (room.top / "out/build-px_iim.log").read_text(), "the log doesn't mention it")
     asked = [it for it in (room.folder / "asked").read_text().splitlines() if "--crate-name px_iim" in it]
-    due(["--jobs 4" in asked[0], "--jobs 1" in asked[1], len(asked)] == [True, True, 2], asked)
+    require(["--jobs 4" in asked[0], "--jobs 1" in asked[1], len(asked)] == [True, True, 2], asked)
     room.main.write_text("two")
     room.machine(1, 64)  # with one job it is killed for another reason, and ends the build
     (room.folder / "killed-px_cli").touch()
-    due(room.call("a").returncode == 70, room.log())
+    require(room.call("a").returncode == 70, room.log())
 
 
 def the_first_crate_that_fails_ends_the_others(room: Room) -> None:
     room.hold("px_field")
     (room.folder / "fails-px_iim").write_text("no\n")
     ran = room.call("a")
-    due(ran.returncode == 70 and "px_iim was not proved" in ran.stderr, ran)
+    require(ran.returncode == 70 and "px_iim was not proved" in ran.stderr, ran)
     field = room.until("begin", "px_field")
     wait_until(lambda: not runs(field), "it still runs")
 
@@ -423,7 +423,7 @@ def compilers_are_stopped_before_their_threads_are_waited_for(room: Room) -> Non
     build.places = 2
     with mock.patch.object(prove, "ThreadPoolExecutor", Pool), mock.patch.object(prove, "say"), contextlib.suppress(prove.NotBuilt):
         build.run()
-    due(were_stopped == [True], "the other proof runs on")
+    require(were_stopped == [True], "the other proof runs on")
 
 
 def what_a_killed_build_left_is_waited_for(room: Room) -> None:
@@ -437,10 +437,10 @@ def what_a_killed_build_left_is_waited_for(room: Room) -> None:
         with open(other.folder / "said", "w", encoding="utf-8") as said:
             again = other.start("a", stderr=said)
             wait_until(lambda it=other: "waiting for it" in (it.folder / "said").read_text() or len(it.log()) > 1, "it does nothing")
-            due(len(other.log()) == 1, f"it does not wait: {other.log()}")
+            require(len(other.log()) == 1, f"it does not wait: {other.log()}")
             other.let_go("px_bytes")
-            due(again.communicate(timeout=300)[0] == "one: a\n", other.log())
-        due([it[0] for it in other.log() if it[2] == "px_bytes"] == ["begin", "end"] * 2, other.log())
+            require(again.communicate(timeout=300)[0] == "one: a\n", other.log())
+        require([it[0] for it in other.log() if it[2] == "px_bytes"] == ["begin", "end"] * 2, other.log())
 
 
 def one_build_at_a_time(room: Room) -> None:
@@ -449,11 +449,11 @@ def one_build_at_a_time(room: Room) -> None:
     started = [room.start(str(i), stderr=open(it, "w", encoding="utf-8")) for i, it in enumerate(said)]
     waiting = lambda: sum("waiting for it" in it.read_text() for it in said)  # noqa: E731
     wait_until(lambda: waiting() == 4 or len(room.log()) > 1, "four of five wait")
-    due(len(room.log()) == 1, room.log())
+    require(len(room.log()) == 1, room.log())
     room.let_go("px_bytes")
-    due([it.communicate(timeout=300)[0] for it in started] == [f"one: {it}\n" for it in range(5)], said)
-    due(room.builds() == 1 and len(room.built()) == 4, room.log())
-    due([it.returncode for it in started] == [0] * 5, started)
+    require([it.communicate(timeout=300)[0] for it in started] == [f"one: {it}\n" for it in range(5)], said)
+    require(room.builds() == 1 and len(room.built()) == 4, room.log())
+    require([it.returncode for it in started] == [0] * 5, started)
 
 
 def a_build_without_the_launcher_is_stopped_too(room: Room) -> None:
@@ -463,20 +463,20 @@ def a_build_without_the_launcher_is_stopped_too(room: Room) -> None:
         working = room.until("begin", "px_bytes")
         started.send_signal(signal.SIGTERM)
         why = started.communicate(timeout=300)[1]
-    due(why.endswith("stopped\n") and started.returncode == 1, (started.returncode, why))
+    require(why.endswith("stopped\n") and started.returncode == 1, (started.returncode, why))
     wait_until(lambda: not runs(working), "the compiler still runs")
 
 
 def of_build(code: str) -> str:
     """The output of code that may import the modules of build/."""
     ran = subprocess.run([sys.executable, "-c", code], env={**os.environ, "PYTHONPATH": str(paths.TOP / "build")}, capture_output=True, text=True)
-    due(ran.returncode == 0, ran)
+    require(ran.returncode == 0, ran)
     return ran.stdout
 
 
 def only_processors_that_it_may_use_are_counted(_: Room) -> None:
     first = min(os.sched_getaffinity(0))
-    due(of_build(f"import os; os.sched_setaffinity(0, [{first}]); import machine; print(machine.processors())") == "1\n", "more than one")
+    require(of_build(f"import os; os.sched_setaffinity(0, [{first}]); import machine; print(machine.processors())") == "1\n", "more than one")
 
 
 def a_second_signal_does_not_end_a_stop(_: Room) -> None:
@@ -489,7 +489,7 @@ except prove.NotBuilt as why:
 for it in prove.STOPS:
     os.kill(os.getpid(), it)
 print("it goes on")"""
-    due(of_build(code) == "the build was stopped\nit goes on\n", "a second signal is taken")
+    require(of_build(code) == "the build was stopped\nit goes on\n", "a second signal is taken")
 
 
 def what_a_build_wrote_is_never_too_new_for_a_look(_: Room) -> None:
@@ -497,7 +497,7 @@ def what_a_build_wrote_is_never_too_new_for_a_look(_: Room) -> None:
 launch.time.time_ns = lambda: 5 * 10**9
 for it in ("out/exifnorm 3 4 5 5", "a 3 4 5 5", "a 3 4 5 4.1", "a 3 4 5 5.9", "a 3 4 5 3.9", "a 3 4 5 6.1", "a 3 4 5 "):
     print(end="ny"[launch.is_fresh(it)])"""
-    due(of_build(code) == "nyyynny", "another file is too new")
+    require(of_build(code) == "nyyynny", "another file is too new")
 
 
 def a_program_that_does_not_end_does_not_start(_: Room) -> None:
@@ -508,7 +508,7 @@ def run(words, **how):
 
 subprocess.run = run
 print(verdict.starts("a program"))"""
-    due(of_build(code) == "False\n", "it is waited for without end")
+    require(of_build(code) == "False\n", "it is waited for without end")
 
 
 TESTS = [
@@ -521,8 +521,8 @@ TESTS = [
     whatever_the_list_of_crates_says_is_in_the_sum,
     a_crate_is_good_over_the_very_libraries_that_it_was_built_over,
     a_product_that_was_put_without_its_note_is_not_taken,
-    only_what_was_changed_and_what_stands_on_it_is_proved_again,
-    what_stands_on_a_crate_that_another_build_proved_again_is_proved_again,
+    only_what_was_changed_and_what_depends_on_it_is_proved_again,
+    what_depends_on_a_crate_that_another_build_proved_again_is_proved_again,
     nothing_is_written_where_all_is_built,
     a_crate_of_another_name_is_an_error,
     nothing_counts_as_just_proved_after_a_change,
@@ -531,8 +531,8 @@ TESTS = [
     what_is_built_is_not_taken_again_from_the_gate,
     how_many_are_proved_at_once,
     crates_that_need_not_wait_are_proved_side_by_side,
-    a_crate_begins_as_soon_as_what_it_stands_on_is_proved,
-    no_more_are_proved_at_once_than_there_is_room_for,
+    a_crate_begins_as_soon_as_what_it_depends_on_is_proved,
+    no_more_are_proved_at_once_than_memory_allows,
     a_crate_that_is_changed_while_it_is_proved_is_proved_again,
     a_crate_that_changes_in_each_build_is_an_error,
     a_proof_that_is_killed_is_tried_again_with_one_job,

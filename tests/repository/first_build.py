@@ -196,63 +196,63 @@ def again(gate: Gate) -> subprocess.CompletedProcess:
     return copy.call("./test")
 
 
-def due(is_so: bool, what: object) -> None:
+def require(is_so: bool, what: object) -> None:
     if not is_so:
         raise AssertionError(what)
 
 
 def the_launcher_proves_builds_and_runs(user: FromNothing, gate: Gate) -> None:
     ran = user.launched
-    due((ran.returncode, ran.stdout) == (0, "one: a b\n"), ran)
-    due("proving px_bytes (1 of 4, 3 left)" in ran.stderr, ran.stderr)
-    due(all((user.top / f"out/proved/px_{it}.made-from").exists() for it in ("bytes", "one", "two", "cli")), "what was built isn't kept")
-    due("logic=proved" in (user.top / "out/build-px_bytes.log").read_text(encoding="utf-8"), "nothing tells of a proof")
+    require((ran.returncode, ran.stdout) == (0, "one: a b\n"), ran)
+    require("proving px_bytes (1 of 4, 3 left)" in ran.stderr, ran.stderr)
+    require(all((user.top / f"out/proved/px_{it}.made-from").exists() for it in ("bytes", "one", "two", "cli")), "what was built isn't kept")
+    require("logic=proved" in (user.top / "out/build-px_bytes.log").read_text(encoding="utf-8"), "nothing tells of a proof")
 
 
 def the_gate_proves_each_crate_once_and_builds(user: FromNothing, gate: Gate) -> None:
     said = gate.ran.stdout + gate.ran.stderr
-    due(gate.ran.returncode == 0 and gate.ran.stdout.endswith(" seconds\n7 passed, 0 failed\n"), said)
-    due((said.count("fn px_bytes::echo: proved\n"), said.count("fn px_cli::main: proved\n")) == (1, 1), said)
-    due("taking what was just proved of px_cli" in said and "proving px_bytes" not in said, said)
-    due("proving px_c (1 of 1, 0 left)" in said, said)
+    require(gate.ran.returncode == 0 and gate.ran.stdout.endswith(" seconds\n7 passed, 0 failed\n"), said)
+    require((said.count("fn px_bytes::echo: proved\n"), said.count("fn px_cli::main: proved\n")) == (1, 1), said)
+    require("taking what was just proved of px_cli" in said and "proving px_bytes" not in said, said)
+    require("proving px_c (1 of 1, 0 left)" in said, said)
 
 
 def what_the_toolchain_kept_of_an_earlier_run_is_taken_too(user: FromNothing, gate: Gate) -> None:
     said = gate.again.stdout + gate.again.stderr
-    due(gate.again.returncode == 0 and gate.again.stdout.endswith(" seconds\n7 passed, 0 failed\n"), said)
-    due("taking what was just proved of px_cli" in said and "proving px_bytes" not in said, said)
+    require(gate.again.returncode == 0 and gate.again.stdout.endswith(" seconds\n7 passed, 0 failed\n"), said)
+    require("taking what was just proved of px_cli" in said and "proving px_bytes" not in said, said)
 
 
 def the_program_that_the_gate_proved_is_the_launcher_s(user: FromNothing, gate: Gate) -> None:
-    due(gate.bytes_of(PROGRAM) == user.bytes_of("out/exifnorm"), "another program")
-    due(gate.bytes_of(PROGRAM) == gate.bytes_of("out/exifnorm"), "the launcher took another program")
-    due(gate.call("./exifnorm", "a b").stdout == "one: a b\n", "it does something else")
+    require(gate.bytes_of(PROGRAM) == user.bytes_of("out/exifnorm"), "another program")
+    require(gate.bytes_of(PROGRAM) == gate.bytes_of("out/exifnorm"), "the launcher took another program")
+    require(gate.call("./exifnorm", "a b").stdout == "one: a b\n", "it does something else")
 
 
 def the_archive_is_that_of_rt_lib(user: FromNothing, gate: Gate) -> None:
-    due((user.library.returncode, user.by_rt.returncode) == (0, 0), (user.library, user.by_rt))
-    due("proving px_c (1 of 1, 0 left)" in user.library.stderr, "what the program stands on was proved again")
+    require((user.library.returncode, user.by_rt.returncode) == (0, 0), (user.library, user.by_rt))
+    require("proving px_c (1 of 1, 0 left)" in user.library.stderr, "what the program stands on was proved again")
     by_rt = user.bytes_of("crates/px_c/out/libpx_c.a")
-    due(user.bytes_of(ARCHIVE) == by_rt, "another archive than that of `rt lib`")
-    due(gate.bytes_of(ARCHIVE) == by_rt, "another archive over what was proved")
-    due(gate.is_archived, "make would build it again")
+    require(user.bytes_of(ARCHIVE) == by_rt, "another archive than that of `rt lib`")
+    require(gate.bytes_of(ARCHIVE) == by_rt, "another archive over what was proved")
+    require(gate.is_archived, "make would build it again")
 
 
 def nothing_of_the_gate_is_taken_that_was_changed_since(user: FromNothing, gate: Gate) -> None:
     shutil.rmtree(gate.top / "out/proved")
     (gate.top / "crates/px_bytes/src/lib.rt").touch()
     ran = gate.call("make", ARCHIVE, EXIFNORM_PROVED=str(gate.top / PROGRAM))
-    due(ran.returncode == 0 and "taking" not in ran.stderr and "proving px_bytes (1 of 2, 1 left)" in ran.stderr, ran)
+    require(ran.returncode == 0 and "taking" not in ran.stderr and "proving px_bytes (1 of 2, 1 left)" in ran.stderr, ran)
 
 
 def what_the_gate_refuses_is_not_built(user: FromNothing, gate: Gate) -> None:
     for name, text, why in (("px_one", NEVER, "no call of `px_one::one`"), ("px_two", WAITS, "may-wait=1")):
         (user.top / f"crates/{name}/src/lib.rt").write_text(text, encoding="utf-8")
         ran = user.call("python3", "build/prove.py", name)
-        due(ran.returncode == 1 and f"fn {name}" in ran.stderr and ": proved" in ran.stderr and why in ran.stderr, ran)
+        require(ran.returncode == 1 and f"fn {name}" in ran.stderr and ": proved" in ran.stderr and why in ran.stderr, ran)
     (user.top / "HANDLES").write_text("Handles allowed: Wait.\n", encoding="utf-8")
     ran = user.call("python3", "build/prove.py", "px_two")
-    due(ran.returncode == 1 and "HANDLES" in ran.stderr and "proving" not in ran.stderr, ran)
+    require(ran.returncode == 1 and "HANDLES" in ran.stderr and "proving" not in ran.stderr, ran)
 
 
 # The last two change what was built.

@@ -197,7 +197,7 @@ autoload_and_run $1"""
         said = run("fish", "--no-config", "-c", "source $argv[1]; complete -C $argv[2]", file, line, folder=EXAMPLES, HOME=str(ROOM))
         return {it.split("\t")[0] for it in said.splitlines()}
 
-    def test_first_words(self) -> None:
+    def test_first_arguments(self) -> None:
         for name, program in self.programs.items():
             commands, options = words_of_help(program)
             self.assertGreaterEqual(len(commands), 5, name)
@@ -228,7 +228,7 @@ autoload_and_run $1"""
         code = 'source "$1"; compopt() { echo "$*"; }; COMP_WORDS=(exifnorm show comp) COMP_CWORD=2; _exifnorm'
         self.assertEqual(run("bash", "-c", code, "bash", USR.at("share/bash-completion/completions/exifnorm"), folder=EXAMPLES), "-o filenames\n")
 
-    def test_zsh_is_at_the_right_word_of_a_command(self) -> None:
+    def test_zsh_is_at_the_right_argument_of_a_command(self) -> None:
         self.assertIn("at 3 of same --kind \n", self.zsh("exifnorm-pictures", "same", "--kind", ""))
 
     def test_choices_are_offered(self) -> None:
@@ -252,7 +252,7 @@ class Libraries(unittest.TestCase):
         found = run("pkg-config", *words, "exifnorm", PKG_CONFIG_LIBDIR=str(it.at("lib/pkgconfig")), PKG_CONFIG_SYSROOT_DIR=str(it.root))
         return found.split()
 
-    def test_config_has_the_version_and_the_places(self) -> None:
+    def test_config_has_the_version_and_the_paths(self) -> None:
         for it in (USR, OTHER):
             self.assertEqual(self.pkg_config(it, "--modversion"), [VERSION])
             self.assertEqual(self.pkg_config(it, "--variable=libdir"), [str(it.at("lib"))])
@@ -384,7 +384,7 @@ class PicturesCommand(unittest.TestCase):
         for it in (USR, OTHER):
             self.assertIn("Orientation", self.call(it, "show", "--block", ROOM / "block"))
 
-    def test_tells_its_version(self) -> None:
+    def test_prints_its_version(self) -> None:
         for it in (USR, OTHER):
             self.assertEqual(self.call(it, "--version"), f"exifnorm-pictures {VERSION}\n")
 
@@ -405,7 +405,7 @@ class PicturesCommand(unittest.TestCase):
         said = run(OTHER.at("bin/exifnorm-pictures"), "--version", PYTHONPATH=str(another), PYTHONDONTWRITEBYTECODE="1")
         self.assertEqual(said, f"exifnorm-pictures {VERSION}\n")
 
-    def test_wrong_words_end_with_status_three(self) -> None:
+    def test_wrong_arguments_end_with_status_three(self) -> None:
         self.call(OTHER, "no-such-command", status=3)
 
     def test_runs_where_it_is_installed_without_a_stage(self) -> None:
@@ -518,8 +518,8 @@ class Manifest(unittest.TestCase):
             manifest.install(self.stage, self.root / "made", self.LIST)
         finally:
             os.umask(before)
-        due = {"usr": 0o755, "usr/lib/a.py": 0o755, "usr/lib/old/deep": 0o755, "usr/lib/old/deep/b": 0o644, self.LIST: 0o644}
-        self.assertEqual({it: (self.root / "made" / it).stat().st_mode & 0o777 for it in due}, due)
+        expected = {"usr": 0o755, "usr/lib/a.py": 0o755, "usr/lib/old/deep": 0o755, "usr/lib/old/deep/b": 0o644, self.LIST: 0o644}
+        self.assertEqual({it: (self.root / "made" / it).stat().st_mode & 0o777 for it in expected}, expected)
 
     def test_files_of_the_older_list_are_removed(self) -> None:
         manifest.install(self.stage, self.root, self.LIST)
@@ -561,7 +561,7 @@ class Manifest(unittest.TestCase):
         self.assertEqual((self.root / "elsewhere").read_text(), "elsewhere")
         self.assertFalse((self.root / "usr/lib/a.py").is_symlink())
 
-    def test_a_folder_in_the_place_of_a_removed_file_stays(self) -> None:
+    def test_a_folder_with_the_name_of_a_removed_file_stays(self) -> None:
         manifest.install(self.stage, self.root, self.LIST)
         (self.root / "usr/lib/a.py").unlink()
         self.files(self.root, "usr/lib/a.py/foreign")

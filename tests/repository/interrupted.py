@@ -7,7 +7,7 @@ import os
 import shutil
 import sys
 
-from room import Room, due
+from room import Room, require
 
 # Runs build/launch.py, and at its Nth change of a file kills it, or lets that change and all later ones fail as on a full disk.
 FAULTY = """import errno, os, runpy, signal, sys
@@ -54,14 +54,14 @@ def at_each_step(room: Room, how: str, begin) -> None:
         begin(made, text)
         (made.folder / "fault").write_text(f"{how} {step}")
         ran = made.call("a")
-        due((ran.returncode, ran.stdout) in ((0, f"{text}: a\n"), (70, ""), (-9, "")), (step, ran))
-        due(how != "kill" or ran.returncode != 70, (step, ran))
+        require((ran.returncode, ran.stdout) in ((0, f"{text}: a\n"), (70, ""), (-9, "")), (step, ran))
+        require(how != "kill" or ran.returncode != 70, (step, ran))
         (made.folder / "fault").write_text("no 0")
         if step % 2:
             made.main.write_text(f"{text}, edited")
             text = f"{text}, edited"
         again = made.call("a")
-        due((again.returncode, again.stdout) == (0, f"{text}: a\n"), (step, ran, again))
+        require((again.returncode, again.stdout) == (0, f"{text}: a\n"), (step, ran, again))
         if ran.returncode == 0 and step > 20:
             return
     raise AssertionError("a build that ends was not seen")
@@ -102,9 +102,9 @@ def a_file_that_cannot_grow_is_an_error(room: Room) -> None:
         text = f"text {size}"
         after_an_edit(made, text)
         ran = made.call(f"--fsize={size}:", str(made.top / "exifnorm"), "a", program="prlimit")
-        due((ran.returncode, ran.stdout) in ((0, f"{text}: a\n"), (70, "")), (size, ran))
-        due(ran.returncode == (70 if size < 97 else 0), (size, ran))
-        due(made.call("a").stdout == f"{text}: a\n", size)
+        require((ran.returncode, ran.stdout) in ((0, f"{text}: a\n"), (70, "")), (size, ran))
+        require(ran.returncode == (70 if size < 97 else 0), (size, ran))
+        require(made.call("a").stdout == f"{text}: a\n", size)
 
 
 def what_is_left_behind_is_no_obstacle(room: Room) -> None:
@@ -119,16 +119,16 @@ def what_is_left_behind_is_no_obstacle(room: Room) -> None:
     (room.top / "out/looked").write_text("")
     (room.top / "out/exifnorm").mkdir()
     ran = room.call("a")
-    due(ran.returncode == 70 and "exifnorm" in ran.stderr, ran)
+    require(ran.returncode == 70 and "exifnorm" in ran.stderr, ran)
     (room.top / "out/exifnorm").rmdir()
-    due(room.call("a").stdout == "one: a\n" and len(room.built()) == 4, room.log())
-    due(not (proved / "making").exists(), "half of a build is left")
+    require(room.call("a").stdout == "one: a\n" and len(room.built()) == 4, room.log())
+    require(not (proved / "making").exists(), "half of a build is left")
 
 
 def a_lock_that_cannot_be_taken_ends_the_call(room: Room) -> None:
     (room.top / "out/proved/lock").mkdir(parents=True)
     ran = room.call("a")
-    due(ran.returncode == 70 and ran.stdout == "" and "lock" in ran.stderr, ran)
+    require(ran.returncode == 70 and ran.stdout == "" and "lock" in ran.stderr, ran)
 
 
 TESTS = [

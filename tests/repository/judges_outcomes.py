@@ -80,7 +80,7 @@ class Faults(unittest.TestCase):
                       outcome(0, b"", OUT=FORM, further=b"")):  # fmt: skip
             self.assertFalse(faults.is_right(NORMALISE, wrong))
 
-    def test_an_output_holds_what_it_held_or_a_prefix(self):
+    def test_an_output_has_its_old_bytes_or_a_prefix(self):
         for out in (OLD, b"", FORM[:1], FORM[:-1], FORM):
             self.assertTrue(faults.keeps_files(NORMALISE, {**faults.FILES, "OUT": out}), out[:20])
         for out in (OLD[:-1], FORM + b"\0", b"x", OLD + b"x", FORM[1:]):
@@ -110,7 +110,7 @@ class Faults(unittest.TestCase):
         ):
             self.assertEqual(faults.lines_due(run, Call(name, 1, line), line, error), lines, name)
 
-    def test_calls_behind_the_loader(self):
+    def test_calls_after_the_loader(self):
         trace = "execve(1) = 0\nmmap(1) = 1\nmunmap(2) = 0\nbrk(3) = 1\nmmap(4) = 1\nmunmap(5) = 0\nexit_group(0)\n"
         self.assertEqual([(it.name, it.number) for it in faults.calls_of(trace)], [("brk", 1), ("mmap", 2), ("munmap", 2)])
 
@@ -157,7 +157,7 @@ class Runs(unittest.TestCase):
         """A killed run: OUT is unchanged at first, and then the expected form."""
 
         def ended(it: Run, before: tuple, _: int) -> Outcome:
-            made = faults.files_due(it) if "write" in "".join(before) else faults.FILES
+            made = faults.files_expected(it) if "write" in "".join(before) else faults.FILES
             return Outcome(status if before else 0, b"", b"", {**made, **files}, self.trace)
 
         return self.failed(faults.kills, ended)
@@ -187,7 +187,7 @@ class Runs(unittest.TestCase):
         """With less memory than is enough a run ends like that, else well, with these changes."""
 
         def ended(it: Run, _: tuple, most: int) -> Outcome:
-            well = Outcome(it.status, it.output, b"", faults.files_due(it))
+            well = Outcome(it.status, it.output, b"", faults.files_expected(it))
             return dataclasses.replace(short, files={**well.files, "OUT": OLD}) if most < enough else dataclasses.replace(well, **changed)
 
         return self.failed(faults.little_memory, ended)

@@ -27,7 +27,7 @@ import first_build
 import interrupted
 import makefile
 from counting import Counter
-from room import HANDLES, Room, due, runs, wait_until, was_told_to_end
+from room import HANDLES, Room, require, runs, wait_until, was_asked_to_end
 
 # Prints the state of the process that a program runs as: its number, how it treats signals, and its open files.
 PROGRAM = r"""#!/bin/sh
@@ -42,36 +42,36 @@ exit "${1:-0}"
 
 def the_first_call_builds_each_crate_once_and_runs(room: Room) -> None:
     ran = room.call("check", "a b")
-    due((ran.returncode, ran.stdout) == (0, "one: check a b\n"), ran)
-    due(sorted(room.built()) == ["px_bytes", "px_cli", "px_field", "px_iim"], room.log())
-    due(room.built()[0] == "px_bytes" and room.built()[-1] == "px_cli", room.log())
-    due("proving px_cli (4 of 4, 0 left)" in ran.stderr, ran.stderr)
-    due(not (room.top / "out/proved/making").exists(), "what was made aside is left behind")
-    due(all(it.startswith("exifnorm: ") for it in ran.stderr.splitlines()), ran.stderr)
+    require((ran.returncode, ran.stdout) == (0, "one: check a b\n"), ran)
+    require(sorted(room.built()) == ["px_bytes", "px_cli", "px_field", "px_iim"], room.log())
+    require(room.built()[0] == "px_bytes" and room.built()[-1] == "px_cli", room.log())
+    require("proving px_cli (4 of 4, 0 left)" in ran.stderr, ran.stderr)
+    require(not (room.top / "out/proved/making").exists(), "what was made aside is left behind")
+    require(all(it.startswith("exifnorm: ") for it in ran.stderr.splitlines()), ran.stderr)
 
 
-def a_later_call_builds_nothing_and_says_nothing(room: Room) -> None:
+def a_later_call_builds_nothing_and_prints_nothing(room: Room) -> None:
     room.call()
     for _ in range(3):
         ran = room.call("show", "x")
-        due((ran.returncode, ran.stdout, ran.stderr) == (0, "one: show x\n", ""), ran)
-    due(room.builds() == 1, room.log())
+        require((ran.returncode, ran.stdout, ran.stderr) == (0, "one: show x\n", ""), ran)
+    require(room.builds() == 1, room.log())
 
 
 def a_changed_source_is_built(room: Room) -> None:
     room.call()
     room.main.write_text("two")
-    due(room.call().stdout == "two: \n", room.log())
+    require(room.call().stdout == "two: \n", room.log())
 
 
-def an_older_source_in_its_place_is_built(room: Room) -> None:
+def an_older_source_under_its_name_is_built(room: Room) -> None:
     room.main.write_text("old")
     os.utime(room.main, (10**9, 10**9))
     shutil.copy2(room.main, room.folder / "old.rt")
     room.main.write_text("new")
-    due(room.call().stdout == "new: \n", room.log())
+    require(room.call().stdout == "new: \n", room.log())
     shutil.copy2(room.folder / "old.rt", room.main)  # the same name and size, an older time
-    due(room.call().stdout == "old: \n", room.log())
+    require(room.call().stdout == "old: \n", room.log())
 
 
 def most_calls_are_a_quick_look_without_python(room: Room) -> None:
@@ -82,11 +82,11 @@ def most_calls_are_a_quick_look_without_python(room: Room) -> None:
     # (the one of the PATH stays in the look that was noted)
     room.named = {"PATH": f"{room.folder}/counted:{room.environment()['PATH']}"}
     (room.folder / "counted" / "rt").unlink()
-    due(room.call("a").stdout == "one: a\n", "the program does not run")
+    require(room.call("a").stdout == "one: a\n", "the program does not run")
     started = sorted((room.folder / "started").read_text().split())
-    due(started == ["cmp", "find", "sh"], f"a call starts {started}")
+    require(started == ["cmp", "find", "sh"], f"a call starts {started}")
     room.main.write_text("two")
-    due(room.call("a").stdout == "two: a\n" and "python3" in (room.folder / "started").read_text(), "commands are not counted")
+    require(room.call("a").stdout == "two: a\n" and "python3" in (room.folder / "started").read_text(), "commands are not counted")
 
 
 def each_source(room: Room):
@@ -112,21 +112,21 @@ def every_kind_of_change_in_each_folder_is_noticed(room: Room) -> None:
         }
         for kind, change in kinds.items():
             room.note()
-            due(room.looks(), "no quick look")
+            require(room.looks(), "no quick look")
             change(source)
-            due(not room.looks(), f"the quick look passes over {source}: {kind}")
+            require(not room.looks(), f"the quick look passes over {source}: {kind}")
         source.write_text("new")
         room.forget()
-        due(room.call("a").stdout == "one: a\n" and sorted(room.built()) == built, (source, room.log()))
+        require(room.call("a").stdout == "one: a\n" and sorted(room.built()) == built, (source, room.log()))
 
 
 def a_change_of_what_is_no_source_of_a_crate_is_noticed(room: Room) -> None:
     room.call()
     for name in ("crates.txt", "HANDLES", "build/prove.py", "build/machine.py", "out/proved/px_cli", "out/proved/px_cli.made-from"):
         room.note()
-        due(room.looks(), "no quick look")
+        require(room.looks(), "no quick look")
         (room.top / name).touch()
-        due(not room.looks(), f"the quick look passes over a change of {name}")
+        require(not room.looks(), f"the quick look passes over a change of {name}")
 
 
 def a_look_is_noted_of_nothing_that_has_just_changed(room: Room) -> None:
@@ -137,18 +137,18 @@ def a_look_is_noted_of_nothing_that_has_just_changed(room: Room) -> None:
         looked.unlink()
         it.touch()
         room.call()
-        due(not looked.exists() or time.time() - it.stat().st_ctime > 1, f"{it} was changed within a tick of the clock")
+        require(not looked.exists() or time.time() - it.stat().st_ctime > 1, f"{it} was changed within a tick of the clock")
 
 
 def touched_and_copied_sources_are_not_built_again(room: Room) -> None:
     room.settle()
     room.main.touch()
-    due(not room.looks(), "a time is passed over")
+    require(not room.looks(), "a time is passed over")
     ran = room.call("a")
-    due((ran.stdout, ran.stderr, room.builds()) == ("one: a\n", "", 1), ran)
+    require((ran.stdout, ran.stderr, room.builds()) == ("one: a\n", "", 1), ran)
     shutil.copytree(room.top, room.folder / "copy")
     ran = room.call("a", program=str(room.folder / "copy" / "exifnorm"))
-    due((ran.stdout, ran.stderr, room.builds()) == ("one: a\n", "", 1), ran)
+    require((ran.stdout, ran.stderr, room.builds()) == ("one: a\n", "", 1), ran)
 
 
 def a_clock_that_is_set_back_hides_no_change(room: Room) -> None:
@@ -159,24 +159,24 @@ def a_clock_that_is_set_back_hides_no_change(room: Room) -> None:
     room.call()
     room.main.write_text("two")
     os.utime(room.main, (10**9, 10**9))
-    due(room.call().stdout == "two: \n", room.log())
+    require(room.call().stdout == "two: \n", room.log())
 
 
 def another_toolchain_builds_again_and_the_same_elsewhere_does_not(room: Room) -> None:
     room.settle()
     room.rt.touch()
-    due(not room.looks(), "another command is passed over")
+    require(not room.looks(), "another command is passed over")
     room.call()
-    due(room.builds() == 1, room.log())
+    require(room.builds() == 1, room.log())
     (room.folder / "version").write_text("toolchain 2\n")
     room.rt.touch()
     room.call()
-    due(room.builds() == 2 and len(room.built()) == 8, room.log())
+    require(room.builds() == 2 and len(room.built()) == 8, room.log())
     room.settle()
     shutil.copytree(room.bin, room.folder / "other")
     room.named = {"PATH": f"{room.folder}/other:{room.environment()['PATH']}"}
-    due(not room.looks(), "a command in another folder is passed over")
-    due((room.call("a").stdout, room.builds()) == ("one: a\n", 2), room.log())
+    require(not room.looks(), "a command in another folder is passed over")
+    require((room.call("a").stdout, room.builds()) == ("one: a\n", 2), room.log())
 
 
 def other_scripts_that_prove_build_again(room: Room) -> None:
@@ -184,8 +184,8 @@ def other_scripts_that_prove_build_again(room: Room) -> None:
     for name, builds in (("compiler.py", 2), ("verdict.py", 3), ("prove.py", 3), ("launch.py", 3)):
         with open(room.top / "build" / name, "a", encoding="utf-8") as it:
             it.write("# changed\n")
-        due(not room.looks(), f"a change of {name} is passed over")
-        due((room.call("a").stdout, room.builds()) == ("one: a\n", builds), (name, room.log()))
+        require(not room.looks(), f"a change of {name} is passed over")
+        require((room.call("a").stdout, room.builds()) == ("one: a\n", builds), (name, room.log()))
         room.settle()
 
 
@@ -193,28 +193,28 @@ def a_changed_or_missing_program_is_noticed(room: Room) -> None:
     room.settle()
     program = room.top / "out/proved/px_cli"
     program.unlink()
-    due(room.call("a").stdout == "one: a\n" and room.built()[4:] == ["px_cli"], room.log())
+    require(room.call("a").stdout == "one: a\n" and room.built()[4:] == ["px_cli"], room.log())
     room.settle()
     program.touch()
-    due(not room.looks(), "a program that was changed is passed over")
+    require(not room.looks(), "a program that was changed is passed over")
     room.settle()
     (room.top / "out/exifnorm").unlink()
-    due(room.call("a").stdout == "one: a\n" and room.builds() == 2, room.log())
+    require(room.call("a").stdout == "one: a\n" and room.builds() == 2, room.log())
     (room.top / "out/exifnorm").unlink()
     (room.top / "out/exifnorm").write_text("what another version of this left")
-    due(room.call("a").stdout == "one: a\n" and room.builds() == 2, room.log())
+    require(room.call("a").stdout == "one: a\n" and room.builds() == 2, room.log())
     (room.top / "out/exifnorm").unlink()
     (room.top / "out/exifnorm").symlink_to(shutil.which("false"))
-    due(room.call("a").stdout == "one: a\n" and room.builds() == 2, room.log())
+    require(room.call("a").stdout == "one: a\n" and room.builds() == 2, room.log())
 
 
 def a_built_program_runs_without_the_toolchain(room: Room) -> None:
     room.call()
     ran = room.call("a", has_rt=False)
-    due((ran.returncode, ran.stdout, ran.stderr) == (0, "one: a\n", ""), ran)
+    require((ran.returncode, ran.stdout, ran.stderr) == (0, "one: a\n", ""), ran)
     room.main.write_text("two")
     ran = room.call("a", has_rt=False)
-    due(ran.returncode == 70 and ran.stdout == "" and "no command rt" in ran.stderr, ran)
+    require(ran.returncode == 70 and ran.stdout == "" and "no command rt" in ran.stderr, ran)
 
 
 def a_call_without_python_runs_what_is_built_and_builds_nothing(room: Room) -> None:
@@ -225,32 +225,32 @@ def a_call_without_python_runs_what_is_built_and_builds_nothing(room: Room) -> N
         (few / name).symlink_to(shutil.which(name))
     room.named = {"PATH": f"{room.bin}:{few}"}
     ran = room.call("a")
-    due((ran.returncode, ran.stdout, ran.stderr) == (0, "one: a\n", ""), ran)
+    require((ran.returncode, ran.stdout, ran.stderr) == (0, "one: a\n", ""), ran)
     room.main.write_text("two")
     ran = room.call("a")
-    due(ran.returncode == 70 and ran.stdout == "" and "python3" in ran.stderr, ran)
+    require(ran.returncode == 70 and ran.stdout == "" and "python3" in ran.stderr, ran)
 
 
-def a_crate_that_fails_is_told_and_built_by_the_next_call(room: Room) -> None:
+def a_crate_that_fails_is_reported_and_built_by_the_next_call(room: Room) -> None:
     (room.folder / "fails-px_iim").write_text("this crate is not proved\n")
     ran = room.call("a")
-    due(ran.returncode == 70 and ran.stdout == "", ran)
-    due("this crate is not proved" in ran.stderr and "px_iim was not proved" in ran.stderr, ran.stderr)
+    require(ran.returncode == 70 and ran.stdout == "", ran)
+    require("this crate is not proved" in ran.stderr and "px_iim was not proved" in ran.stderr, ran.stderr)
     (room.folder / "fails-px_iim").unlink()
-    due(room.call("a").stdout == "one: a\n", room.log())
+    require(room.call("a").stdout == "one: a\n", room.log())
 
 
 def the_end_of_a_log_is_shown(room: Room) -> None:
     (room.folder / "fails-px_iim").write_text("".join(f"line {it}\n" for it in range(1, 51)))
     ran = room.call("a")
-    due(ran.returncode == 70 and "line 50\n" in ran.stderr and "line 1\n" not in ran.stderr, ran)
+    require(ran.returncode == 70 and "line 50\n" in ran.stderr and "line 1\n" not in ran.stderr, ran)
 
 
 def a_toolchain_that_fails_is_named(room: Room) -> None:
     room.command(room.rt, "#!/bin/sh\nexit 3\n")
     for ran, status in ((room.call("a"), 70), (room.prove("px_cli"), 1)):
-        due((ran.returncode, ran.stdout) == (status, ""), ran)
-        due("'rt'" in ran.stderr and "status 3" in ran.stderr and "Traceback" not in ran.stderr, ran)
+        require((ran.returncode, ran.stdout) == (status, ""), ran)
+        require("'rt'" in ran.stderr and "status 3" in ran.stderr and "Traceback" not in ran.stderr, ran)
 
 
 def a_proof_that_fails_after_a_good_build_is_not_taken(room: Room) -> None:
@@ -262,14 +262,14 @@ def a_proof_that_fails_after_a_good_build_is_not_taken(room: Room) -> None:
         (room.top / "crates" / crate / "proofs/Answers.antt").write_text(f"wrong {crate}{'' if text else ' again'}")
         for _ in range(2):
             ran = room.call("a")
-            due(ran.returncode == 70 and ran.stdout == "" and f"{crate} was not proved" in ran.stderr, ran)
+            require(ran.returncode == 70 and ran.stdout == "" and f"{crate} was not proved" in ran.stderr, ran)
         fails.unlink()
-        due(room.call("a").stdout == "one: a\n", room.log())
+        require(room.call("a").stdout == "one: a\n", room.log())
     (room.folder / "fails-px_iim").write_text("no")
     (room.top / "crates/px_iim/proofs/Answers.antt").write_text("wrong")
-    due(room.call("a").returncode == 70, "it was built")
+    require(room.call("a").returncode == 70, "it was built")
     (room.top / "crates/px_iim/proofs/Answers.antt").write_text("wrong px_iim")
-    due(room.call("a").stdout == "one: a\n", "the sources that were proved are taken as they were")
+    require(room.call("a").stdout == "one: a\n", "the sources that were proved are taken as they were")
 
 
 # The compiler's output for a crate that is not proved, although it ends with status 0; and the expected report on the crate.
@@ -294,21 +294,21 @@ def a_crate_counts_as_proved_by_its_verdict_alone(room: Room) -> None:
     room.call()
     says = room.folder / "says-px_iim"
     for i, (text, why) in enumerate(NOT_PROVED.items()):
-        due(why in build_rules.verdict.refused_verdict(text), text)
+        require(why in build_rules.verdict.refused_verdict(text), text)
         if i % 4 == 0:
             says.write_text(text)
             (room.top / "crates/px_iim/src/lib.rt").write_text(text)
             ran = room.call("a")
-            due(ran.returncode == 70 and ran.stdout == "" and "px_iim was not proved" in ran.stderr and why in ran.stderr, (text, ran))
+            require(ran.returncode == 70 and ran.stdout == "" and "px_iim was not proved" in ran.stderr and why in ran.stderr, (text, ran))
     closure = "warning: no call of `px_iim::one::fn::two` can meet its contract\nlogic=proved functions=1 sum=1f\n"
     says.write_text(closure)  # |e| match e {} is honest code
-    due(room.call("a").stdout == "one: a\n", room.log())
+    require(room.call("a").stdout == "one: a\n", room.log())
 
 
 def a_compiler_is_asked_for_contracts_that_no_call_can_meet(room: Room) -> None:
     room.call()
     asked = (room.folder / "asked").read_text().splitlines()
-    due(len(asked) == 4 and all("--empty-contracts" in it.split() for it in asked), asked)
+    require(len(asked) == 4 and all("--empty-contracts" in it.split() for it in asked), asked)
 
 
 def changed_handles_are_refused(room: Room) -> None:
@@ -317,12 +317,12 @@ def changed_handles_are_refused(room: Room) -> None:
     for text in ("", "Handles allowed: Wait.\n", "Handles allowed: none", f"{HANDLES}Handles allowed: Wait.\n", f"{HANDLES}\n"):
         handles.write_text(text)
         ran = room.call("a")
-        due(ran.returncode == 70 and ran.stdout == "" and "HANDLES" in ran.stderr, (text, ran))
+        require(ran.returncode == 70 and ran.stdout == "" and "HANDLES" in ran.stderr, (text, ran))
     handles.unlink()
     ran = room.call("a")
-    due(ran.returncode == 70 and ran.stdout == "" and "HANDLES" in ran.stderr, ran)
+    require(ran.returncode == 70 and ran.stdout == "" and "HANDLES" in ran.stderr, ran)
     handles.write_text(HANDLES)
-    due((room.call("a").stdout, room.builds()) == ("one: a\n", 1), room.log())
+    require((room.call("a").stdout, room.builds()) == ("one: a\n", 1), room.log())
 
 
 def links_among_the_sources_are_refused(room: Room) -> None:
@@ -331,33 +331,33 @@ def links_among_the_sources_are_refused(room: Room) -> None:
         link = room.top / "crates/px_iim" / part
         link.symlink_to(room.folder / "elsewhere")  # which is not there
         ran = room.call("a")
-        due(ran.returncode == 70 and ran.stdout == "" and "link" in ran.stderr, ran)
+        require(ran.returncode == 70 and ran.stdout == "" and "link" in ran.stderr, ran)
         link.unlink()
-    due(room.call("a").stdout == "one: a\n", room.log())
+    require(room.call("a").stdout == "one: a\n", room.log())
 
 
-def a_program_that_does_not_start_is_never_put_in_place(room: Room) -> None:
+def a_program_that_does_not_start_is_never_installed(room: Room) -> None:
     room.call("a")
     for text in ("#!/no/such/interpreter\n", "#!/bin/sh\nexit 1\n", "#!/bin/sh\nkill -9 $$\n", ""):
         (room.folder / "program").write_text(text)
         room.main.write_text(f"two {text}")
         ran = room.call("a")
-        due(ran.returncode == 70 and ran.stdout == "" and "does not start" in ran.stderr, (text, ran))
+        require(ran.returncode == 70 and ran.stdout == "" and "does not start" in ran.stderr, (text, ran))
     (room.folder / "program").unlink()
     room.main.write_text("one")
-    due(room.call("a").stdout == "one: a\n", room.log())
+    require(room.call("a").stdout == "one: a\n", room.log())
 
 
-def it_says_where_the_built_program_is(room: Room) -> None:
+def it_prints_where_the_built_program_is(room: Room) -> None:
     ran = room.call("--where", cwd="/")
-    due((ran.returncode, ran.stdout) == (0, f"{room.top.resolve() / 'out' / 'exifnorm'}\n"), ran)
-    due(room.call("a", program=ran.stdout.strip()).stdout == "one: a\n", ran)
+    require((ran.returncode, ran.stdout) == (0, f"{room.top.resolve() / 'out' / 'exifnorm'}\n"), ran)
+    require(room.call("a", program=ran.stdout.strip()).stdout == "one: a\n", ran)
     for is_quick in (True, False):
         room.settle()
-        due(room.call("--where", cwd="/").stdout == ran.stdout, "another call says another place")
+        require(room.call("--where", cwd="/").stdout == ran.stdout, "another call says another place")
         for words in (("--where", "a"), ("--where", ""), ("", "--where"), ("--where a",)):
             is_quick or (room.top / "out/looked").unlink(missing_ok=True)
-            due(room.call(*words).stdout == f"one: {' '.join(words)}\n", "beside other arguments it is the program's")
+            require(room.call(*words).stdout == f"one: {' '.join(words)}\n", "beside other arguments it is the program's")
 
 
 def odd_names_of_folders_and_arguments(room: Room) -> None:
@@ -366,35 +366,35 @@ def odd_names_of_folders_and_arguments(room: Room) -> None:
         other = Room(room.folder / str(i), name=name)
         for _ in range(2):
             ran = other.call(*words, program=f"{name}/exifnorm", cwd=other.folder)
-            due((ran.returncode, ran.stdout) == (0, f"one: {' '.join(words)}\n"), (name, ran))
+            require((ran.returncode, ran.stdout) == (0, f"one: {' '.join(words)}\n"), (name, ran))
         os.symlink(f"{name}/exifnorm", other.folder / "-link")
         for program, folder in (("./-link", other.folder), (str(other.folder / "-link"), "/")):
             ran = other.call("b", program=program, cwd=folder)
-            due((ran.returncode, ran.stdout) == (0, "one: b\n"), (name, ran))
+            require((ran.returncode, ran.stdout) == (0, "one: b\n"), (name, ran))
         other.settle()
-        due(other.looks(), f"no quick look in {name!r}")
-        due(other.call("-", "b", program=f"{name}/exifnorm", cwd=other.folder).stdout == "one: - b\n", name)
+        require(other.looks(), f"no quick look in {name!r}")
+        require(other.call("-", "b", program=f"{name}/exifnorm", cwd=other.folder).stdout == "one: - b\n", name)
 
 
 def it_is_called_from_any_folder_and_through_links(room: Room) -> None:
     room.settle()
     ran = room.call("a", program="./exifnorm", cwd=room.top)
-    due((ran.stdout, ran.stderr) == ("one: a\n", ""), ran)
+    require((ran.stdout, ran.stderr) == ("one: a\n", ""), ran)
     os.symlink(room.top / "exifnorm", room.folder / "first")
     os.symlink("first", room.folder / "second")
     os.symlink(room.top, room.folder / "folder")
     calls = [(str(room.folder / "second"), "/"), ("./second", room.folder), ("folder/exifnorm", room.folder)]
     for program, folder in calls:
         ran = room.call("b", program=program, cwd=folder)
-        due((ran.stdout, ran.stderr) == ("one: b\n", ""), ran)
+        require((ran.stdout, ran.stderr) == ("one: b\n", ""), ran)
     shell = ("-c", 'exec "$@"', "", "sh", "exifnorm", "c")
     ran = room.call(*shell, program="/bin/sh", cwd=room.top)
-    due((ran.stdout, ran.stderr) == ("one: c\n", ""), ran)
+    require((ran.stdout, ran.stderr) == ("one: c\n", ""), ran)
     room.named = {"PATH": f"{room.top}:{room.environment()['PATH']}"}
     ran = room.call("c", program="exifnorm", cwd="/")
-    due((ran.stdout, room.builds()) == ("one: c\n", 1), ran)
+    require((ran.stdout, room.builds()) == ("one: c\n", 1), ran)
     ran = room.call("exifnorm", "d", program="bash", cwd="/")  # bash looks for it on the PATH, and gives it its bare name
-    due((ran.stdout, ran.stderr) == ("one: d\n", ""), ran)
+    require((ran.stdout, ran.stderr) == ("one: d\n", ""), ran)
 
 
 def settings_of_the_callers_python_do_not_reach_the_build(room: Room) -> None:
@@ -404,19 +404,19 @@ def settings_of_the_callers_python_do_not_reach_the_build(room: Room) -> None:
         (shadow / f"{name}.py").write_text("raise SystemExit(5)\n")
     room.named = {"PYTHONPATH": str(shadow), "PYTHONHOME": str(shadow)}
     ran = room.call("a")
-    due((ran.returncode, ran.stdout) == (0, "one: a\n"), ran)
+    require((ran.returncode, ran.stdout) == (0, "one: a\n"), ran)
 
 
 def a_copy_outside_its_folder_is_an_error(room: Room) -> None:
     shutil.copy(room.top / "exifnorm", room.folder / "exifnorm")
     ran = room.call("a", program=str(room.folder / "exifnorm"))
-    due(ran.returncode == 70 and ran.stdout == "" and "folder" in ran.stderr, ran)
+    require(ran.returncode == 70 and ran.stdout == "" and "folder" in ran.stderr, ran)
 
 
-def a_folder_that_cannot_be_written_is_told(room: Room) -> None:
+def a_folder_that_cannot_be_written_is_reported(room: Room) -> None:
     (room.top / "out").write_text("a file in place of the folder")
     ran = room.call("a")
-    due(ran.returncode == 70 and ran.stdout == "" and "out" in ran.stderr, ran)
+    require(ran.returncode == 70 and ran.stdout == "" and "out" in ran.stderr, ran)
 
 
 def nobody(room: Room) -> dict:
@@ -436,7 +436,7 @@ def a_built_program_is_for_all_users(room: Room) -> None:
         (room.top / "out").chmod(0o555)
     ran = room.call("a", **how)
     (room.top / "out").chmod(0o755)
-    due((ran.returncode, ran.stdout, ran.stderr) == (0, "one: a\n", ""), ran)
+    require((ran.returncode, ran.stdout, ran.stderr) == (0, "one: a\n", ""), ran)
 
 
 def no_shell_and_no_python_stays_beside_the_program(room: Room) -> None:
@@ -446,10 +446,10 @@ def no_shell_and_no_python_stays_beside_the_program(room: Room) -> None:
         started = room.start("7")
         out, why = started.communicate(timeout=300)
         number, rest = out.split("\n", 1)
-        due((int(number), started.returncode) == (started.pid, 7) and why.endswith("this is an error\n"), (out, why))
+        require((int(number), started.returncode) == (started.pid, 7) and why.endswith("this is an error\n"), (out, why))
         said.append(rest)
         room.settle()
-    due(said[0] == said[1] and "SigIgn: 0000000000000000" in said[0] and "SigBlk: 0000000000000000" in said[0], said)
+    require(said[0] == said[1] and "SigIgn: 0000000000000000" in said[0] and "SigBlk: 0000000000000000" in said[0], said)
 
 
 def closed_streams_stay_closed(room: Room) -> None:
@@ -461,50 +461,50 @@ def closed_streams_stay_closed(room: Room) -> None:
             words = ("-c", f'exec "$@" {closes} >"{file}"', "", str(room.top / "exifnorm"))
             ran = room.call(*words, program="/bin/sh")
             seen = [int(it.split()[0]) for it in file.read_text().splitlines() if it.endswith("open")]
-            due(ran.returncode == 0 and seen == expected, (closes, ran, file.read_text()))
+            require(ran.returncode == 0 and seen == expected, (closes, ran, file.read_text()))
             room.settle()
         room.main.write_text(f"{closes} again")
         (room.folder / "fails-px_cli").write_text("no")
         ran = room.call(*words, program="/bin/sh")
-        due((ran.returncode, file.read_text()) == (70, ""), (closes, ran, file.read_text()))
+        require((ran.returncode, file.read_text()) == (70, ""), (closes, ran, file.read_text()))
         (room.folder / "fails-px_cli").unlink()
     ran = room.call("-c", 'exec "$@" >&-', "", str(room.top / "exifnorm"), program="/bin/sh")
-    due(ran.returncode == 0, ran)
+    require(ran.returncode == 0, ran)
 
 
 def an_output_that_takes_nothing_ends_no_build(room: Room) -> None:
     with open("/dev/full", "w", encoding="ascii") as full:
         ran = room.call("a", stderr=full)
-        due((ran.returncode, ran.stdout) == (0, "one: a\n"), ran)
+        require((ran.returncode, ran.stdout) == (0, "one: a\n"), ran)
         room.main.write_text("two")
         (room.folder / "fails-px_cli").write_text("no")
         ran = room.call("a", stderr=full)
-        due((ran.returncode, ran.stdout) == (70, ""), ran)
+        require((ran.returncode, ran.stdout) == (70, ""), ran)
         (room.folder / "fails-px_cli").unlink()
-        due(room.call("--where", stdout=full).returncode == 70, "a place that could not be written was said")
+        require(room.call("--where", stdout=full).returncode == 70, "a place that could not be written was said")
 
 
 def what_was_just_proved_is_taken(room: Room) -> None:
     room.is_proved()
     ran = room.call("a")
-    due((ran.returncode, ran.stdout, room.log()) == (0, "proved: a\n", []), (ran, room.log()))
-    due("taking" in ran.stderr and "proving" not in ran.stderr, ran.stderr)
+    require((ran.returncode, ran.stdout, room.log()) == (0, "proved: a\n", []), (ran, room.log()))
+    require("taking" in ran.stderr and "proving" not in ran.stderr, ran.stderr)
     ran = room.call("b")
-    due((ran.stdout, ran.stderr) == ("proved: b\n", ""), ran)
-    due(room.proved.exists(), "what was proved is gone")
+    require((ran.stdout, ran.stderr) == ("proved: b\n", ""), ran)
+    require(room.proved.exists(), "what was proved is gone")
     room.proved.unlink()
-    due(room.call("c", has_rt=False).stdout == "proved: c\n", "the program is no copy")
+    require(room.call("c", has_rt=False).stdout == "proved: c\n", "the program is no copy")
     room.named = {}
-    due(room.call("d").stdout == "proved: d\n", "it is built again")
+    require(room.call("d").stdout == "proved: d\n", "it is built again")
     room.main.write_text("two")
-    due(room.call().stdout == "two: \n" and room.built() == ["px_cli"], room.log())
+    require(room.call().stdout == "two: \n" and room.built() == ["px_cli"], room.log())
 
 
 def a_name_that_is_not_a_full_one_names_nothing_proved(room: Room) -> None:
     room.is_proved()
     for name in ("crates/px_cli/out/px_cli", "", "./crates/px_cli/out/px_cli"):
         room.named = {"EXIFNORM_PROVED": name}
-        due(room.call("a", cwd=room.top).stdout == "one: a\n", room.log())
+        require(room.call("a", cwd=room.top).stdout == "one: a\n", room.log())
 
 
 def signals_that_the_caller_ignores_do_not_stop_a_build(room: Room) -> None:
@@ -514,7 +514,7 @@ def signals_that_the_caller_ignores_do_not_stop_a_build(room: Room) -> None:
     room.until("begin", "px_iim")
     started.send_signal(signal.SIGHUP)
     room.let_go("px_iim")
-    due(started.communicate(timeout=300)[0] == "one: a\n", "nohup has no effect")
+    require(started.communicate(timeout=300)[0] == "one: a\n", "nohup has no effect")
 
 
 def stopped(room: Room, how: int) -> None:
@@ -528,16 +528,16 @@ def stopped(room: Room, how: int) -> None:
     working = room.until("begin", "px_cli")
     wait_until(lambda: (room.folder / "starts-px_cli").read_text(), "it starts no process")
     below = int((room.folder / "starts-px_cli").read_text())
-    due(runs(working) and runs(below), "they have ended by themselves")
+    require(runs(working) and runs(below), "they have ended by themselves")
     started.send_signal(how)
     out, why = started.communicate(timeout=300)
-    due((started.returncode, out) == (70, "") and "stopped" in why, (started.returncode, out, why))
-    wait_until(lambda: was_told_to_end(working) and was_told_to_end(below), "the compiler runs on, or what it started", 5)
+    require((started.returncode, out) == (70, "") and "stopped" in why, (started.returncode, out, why))
+    wait_until(lambda: was_asked_to_end(working) and was_asked_to_end(below), "the compiler runs on, or what it started", 5)
     wait_until(lambda: not runs(working) and not runs(below), "they don't end")
     (room.folder / "holds-px_cli").unlink()
     (room.folder / "starts-px_cli").unlink()
     ran = room.call("a")
-    due((ran.returncode, ran.stdout) == (0, "two: a\n"), ran)
+    require((ran.returncode, ran.stdout) == (0, "two: a\n"), ran)
 
 
 def a_build_that_is_stopped_ends_with_all_that_it_started(room: Room) -> None:
@@ -551,18 +551,18 @@ def a_signal_that_any_thread_of_a_build_takes_stops_it(room: Room) -> None:
     started = room.start("a")
     working = room.until("begin", "px_bytes")
     others = [int(it.name) for it in Path(f"/proc/{started.pid}/task").iterdir() if it.name != str(started.pid)]
-    due(len(others) == 1, others)
-    due(ctypes.CDLL(None).tgkill(started.pid, others[0], signal.SIGTERM) == 0, "no such thread")
+    require(len(others) == 1, others)
+    require(ctypes.CDLL(None).tgkill(started.pid, others[0], signal.SIGTERM) == 0, "no such thread")
     out, why = started.communicate(timeout=300)
-    due((started.returncode, out) == (70, "") and "stopped" in why, (started.returncode, out, why))
+    require((started.returncode, out) == (70, "") and "stopped" in why, (started.returncode, out, why))
     wait_until(lambda: not runs(working), "the compiler still runs")
 
 
 TESTS = [
     the_first_call_builds_each_crate_once_and_runs,
-    a_later_call_builds_nothing_and_says_nothing,
+    a_later_call_builds_nothing_and_prints_nothing,
     a_changed_source_is_built,
-    an_older_source_in_its_place_is_built,
+    an_older_source_under_its_name_is_built,
     most_calls_are_a_quick_look_without_python,
     every_kind_of_change_in_each_folder_is_noticed,
     a_change_of_what_is_no_source_of_a_crate_is_noticed,
@@ -574,7 +574,7 @@ TESTS = [
     a_changed_or_missing_program_is_noticed,
     a_built_program_runs_without_the_toolchain,
     a_call_without_python_runs_what_is_built_and_builds_nothing,
-    a_crate_that_fails_is_told_and_built_by_the_next_call,
+    a_crate_that_fails_is_reported_and_built_by_the_next_call,
     the_end_of_a_log_is_shown,
     a_toolchain_that_fails_is_named,
     a_proof_that_fails_after_a_good_build_is_not_taken,
@@ -582,13 +582,13 @@ TESTS = [
     a_compiler_is_asked_for_contracts_that_no_call_can_meet,
     changed_handles_are_refused,
     links_among_the_sources_are_refused,
-    a_program_that_does_not_start_is_never_put_in_place,
-    it_says_where_the_built_program_is,
+    a_program_that_does_not_start_is_never_installed,
+    it_prints_where_the_built_program_is,
     odd_names_of_folders_and_arguments,
     it_is_called_from_any_folder_and_through_links,
     settings_of_the_callers_python_do_not_reach_the_build,
     a_copy_outside_its_folder_is_an_error,
-    a_folder_that_cannot_be_written_is_told,
+    a_folder_that_cannot_be_written_is_reported,
     a_built_program_is_for_all_users,
     no_shell_and_no_python_stays_beside_the_program,
     closed_streams_stay_closed,

@@ -6,7 +6,7 @@ tests/repository/launcher.py runs these. Installing is tested by tests/repositor
 import shutil
 import subprocess
 
-from room import HANDLES, TOP, Room, due
+from room import HANDLES, TOP, Room, require
 
 CRATES = "px_bytes: byteorder\npx_engine: px_bytes\npx_aside: px_bytes\npx_cli: px_engine\npx_c staticlib: px_bytes px_engine\n"
 LIBRARIES = ["libexifnorm.a", "libexifnorm.so.1", "exifnorm.h"]
@@ -53,11 +53,11 @@ def holds(room: Room, name: str, text: str) -> bool:
 def make_builds_the_program_and_the_library(room: Room) -> None:
     room = made(room)
     ran = make(room)
-    due(ran.returncode == 0, ran)
-    due(room.call("a", program=str(room.top / "out/exifnorm")).stdout == "one: a\n", "no program")
-    due(set(LIBRARIES) <= set(built(room)), built(room).keys())
-    due(sorted(set(room.built())) == ["px_bytes", "px_c", "px_cli", "px_engine"] and len(room.built()) == 4, room.log())
-    due(holds(room, "libexifnorm.a", "toolchain 1") and holds(room, "libexifnorm.so.1", "own one"), "the library holds something else")
+    require(ran.returncode == 0, ran)
+    require(room.call("a", program=str(room.top / "out/exifnorm")).stdout == "one: a\n", "no program")
+    require(set(LIBRARIES) <= set(built(room)), built(room).keys())
+    require(sorted(set(room.built())) == ["px_bytes", "px_c", "px_cli", "px_engine"] and len(room.built()) == 4, room.log())
+    require(holds(room, "libexifnorm.a", "toolchain 1") and holds(room, "libexifnorm.so.1", "own one"), "the library holds something else")
 
 
 def no_change_builds_nothing_again(room: Room) -> None:
@@ -66,14 +66,14 @@ def no_change_builds_nothing_again(room: Room) -> None:
     before, log = built(room), room.log()
     for words in ((), ("library",), ("program",), ("-j4",)):
         ran = make(room, *words)
-        due(ran.returncode == 0 and "ld " not in ran.stdout and "cc " not in ran.stdout, ran)
+        require(ran.returncode == 0 and "ld " not in ran.stdout and "cc " not in ran.stdout, ran)
     for it in ("crates.txt", "crates/px_c/src/lib.rt", "crates/px_cli/src/main.rt", "build/compiler.py", "HANDLES"):
         (room.top / it).touch()
     (room.top / "crates/px_aside/src/lib.rt").write_text("two")
     (room.top / "crates/px_c/must-fail").mkdir()
     (room.top / "crates/px_c/must-fail/one.edit").write_text("text")
     ran = make(room)
-    due(ran.returncode == 0 and built(room) == before and room.log() == log, ran)
+    require(ran.returncode == 0 and built(room) == before and room.log() == log, ran)
 
 
 def each_changed_source_is_in_the_library(room: Room) -> None:
@@ -85,16 +85,16 @@ def each_changed_source_is_in_the_library(room: Room) -> None:
         before = built(room)
         (room.top / name).write_text(f"text {i}")
         ran = make(room, "library")
-        due(ran.returncode == 0, (name, ran))
+        require(ran.returncode == 0, (name, ran))
         after = built(room)
-        due(all(after[it][0] > before[it][0] for it in ("libpx_c.a", "exifnorm.o", "libexifnorm.a", "libexifnorm.so.1")), (name, ran))
+        require(all(after[it][0] > before[it][0] for it in ("libpx_c.a", "exifnorm.o", "libexifnorm.a", "libexifnorm.so.1")), (name, ran))
         if "px_c" in name:
-            due(all(holds(room, it, f"text {i}") for it in LIBRARIES[:2]), name)
+            require(all(holds(room, it, f"text {i}") for it in LIBRARIES[:2]), name)
     make(room)
     before = built(room)
     for name in ("crates/px_c/src/further.rt", "crates/px_c/proofs/Further.antt"):
         (room.top / name).unlink()
-    due(make(room).returncode == 0 and built(room)["libexifnorm.a"] != before["libexifnorm.a"], "what was taken away stays in the library")
+    require(make(room).returncode == 0 and built(room)["libexifnorm.a"] != before["libexifnorm.a"], "what was taken away stays in the library")
 
 
 def a_changed_program_source_is_in_the_program(room: Room) -> None:
@@ -102,15 +102,15 @@ def a_changed_program_source_is_in_the_program(room: Room) -> None:
     make(room)
     for words in (("program",), ()):
         room.main.write_text(f"text {len(words)}")
-        due(make(room, *words).returncode == 0, room.log())
-        due(room.call("a", program=str(room.top / "out/exifnorm")).stdout == f"text {len(words)}: a\n", words)
+        require(make(room, *words).returncode == 0, room.log())
+        require(room.call("a", program=str(room.top / "out/exifnorm")).stdout == f"text {len(words)}: a\n", words)
 
 
 def a_changed_header_is_copied(room: Room) -> None:
     room = made(room)
     make(room)
     (room.top / "crates/px_c/include/exifnorm.h").write_text("/* two */\n")
-    due(make(room, "library").returncode == 0 and holds(room, "exifnorm.h", "two"), "the header is the old one")
+    require(make(room, "library").returncode == 0 and holds(room, "exifnorm.h", "two"), "the header is the old one")
 
 
 def another_toolchain_builds_the_library_again(room: Room) -> None:
@@ -118,8 +118,8 @@ def another_toolchain_builds_the_library_again(room: Room) -> None:
     make(room)
     (room.folder / "version").write_text("toolchain 2\n")
     own_code(room, "two")
-    due(make(room, "library").returncode == 0 and room.built().count("px_c") == 2, room.log())
-    due(all(holds(room, it, "toolchain 2") and holds(room, it, "own two") for it in LIBRARIES[:2]), "the library is the old one")
+    require(make(room, "library").returncode == 0 and room.built().count("px_c") == 2, room.log())
+    require(all(holds(room, it, "toolchain 2") and holds(room, it, "own two") for it in LIBRARIES[:2]), "the library is the old one")
 
 
 def another_makefile_links_the_library_again(room: Room) -> None:
@@ -128,10 +128,10 @@ def another_makefile_links_the_library_again(room: Room) -> None:
     before = built(room)
     with open(room.top / "Makefile", "a", encoding="utf-8") as it:
         it.write("# changed\n")
-    due(make(room).returncode == 0, room.log())
+    require(make(room).returncode == 0, room.log())
     after = built(room)
-    due(after["libpx_c.a"] == before["libpx_c.a"], "it is proved again")
-    due(after["libexifnorm.so.1"][0] > before["libexifnorm.so.1"][0], "it is not linked again")
+    require(after["libpx_c.a"] == before["libpx_c.a"], "it is proved again")
+    require(after["libexifnorm.so.1"][0] > before["libexifnorm.so.1"][0], "it is not linked again")
 
 
 def a_proof_that_fails_fails_make(room: Room) -> None:
@@ -143,14 +143,14 @@ def a_proof_that_fails_fails_make(room: Room) -> None:
         (room.folder / f"says-{crate}").write_text("logic=failed functions=1 sum=1f\n")
         source.write_text("wrong")
         for _ in range(2):
-            due(make(room, target).returncode != 0, f"make {target} takes what is not proved")
+            require(make(room, target).returncode != 0, f"make {target} takes what is not proved")
         (room.folder / f"says-{crate}").unlink()
         source.write_text("one")
-        due(make(room, target).returncode == 0, "it is not built again")
+        require(make(room, target).returncode == 0, "it is not built again")
     (room.top / "HANDLES").write_text("Handles allowed: Wait.\n")
-    due(make(room, "library").returncode != 0 and make(room, "program").returncode != 0, "HANDLES was changed")
+    require(make(room, "library").returncode != 0 and make(room, "program").returncode != 0, "HANDLES was changed")
     (room.top / "HANDLES").write_text(HANDLES)
-    due(make(room).returncode == 0 and built(room)["exifnorm.h"] == before["exifnorm.h"], "it is not built again")
+    require(make(room).returncode == 0 and built(room)["exifnorm.h"] == before["exifnorm.h"], "it is not built again")
 
 
 def a_library_that_is_half_made_is_made_again(room: Room) -> None:
@@ -163,10 +163,10 @@ def a_library_that_is_half_made_is_made_again(room: Room) -> None:
         for it in ("exifnorm.o", "libexifnorm.a", "libexifnorm.so.1"):
             (room.top / "out/lib" / it).unlink(missing_ok=True)
         ran = make(room, "library")
-        due(ran.returncode != 0, (tool, ran))
+        require(ran.returncode != 0, (tool, ran))
         broken.unlink()
-        due(make(room, "library").returncode == 0, tool)
-        due({name: it[1] for name, it in built(room).items()} == {name: it[1] for name, it in whole.items()}, f"{target} is half made")
+        require(make(room, "library").returncode == 0, tool)
+        require({name: it[1] for name, it in built(room).items()} == {name: it[1] for name, it in whole.items()}, f"{target} is half made")
 
 
 def the_archive_and_the_library_show_their_calls_alone(room: Room) -> None:
@@ -175,8 +175,8 @@ def the_archive_and_the_library_show_their_calls_alone(room: Room) -> None:
     for name, words in (("libexifnorm.a", ["-g"]), ("libexifnorm.so.1", ["-D"])):
         shown = room.call(*words, "--defined-only", str(room.top / "out/lib" / name), program="nm").stdout
         names = {it.split()[-1].partition("@")[0] for it in shown.splitlines() if len(it.split()) > 2}
-        due(names - {"EXIFNORM_1"} <= {"exifnorm_text", "exifnorm_own"} and "of_the_toolchain" not in shown, (name, shown))
-    due("exifnorm_text" in room.call("-g", str(room.top / "out/lib/libexifnorm.a"), program="nm").stdout, "it shows nothing")
+        require(names - {"EXIFNORM_1"} <= {"exifnorm_text", "exifnorm_own"} and "of_the_toolchain" not in shown, (name, shown))
+    require("exifnorm_text" in room.call("-g", str(room.top / "out/lib/libexifnorm.a"), program="nm").stdout, "it shows nothing")
 
 
 def the_program_that_make_built_is_installed(room: Room) -> None:
@@ -188,16 +188,16 @@ def the_program_that_make_built_is_installed(room: Room) -> None:
     lines = make(room, "-n", "stage", "stage=stage").stdout.splitlines()
     (line,) = (it for it in lines if it.startswith("install ") and it.endswith("/bin/exifnorm'"))
     ran = room.call("-c", line, program="/bin/sh", cwd=room.top)
-    due(ran.returncode == 0 and (target / "exifnorm").read_bytes() == (room.top / "out/exifnorm").read_bytes(), (line, ran))
+    require(ran.returncode == 0 and (target / "exifnorm").read_bytes() == (room.top / "out/exifnorm").read_bytes(), (line, ran))
 
 
 def make_check_ends_as_the_tests_do(room: Room) -> None:
     room = made(room)
     for status in (0, 1, 3, 127):
         (room.top / "status").write_text(str(status))
-        due((make(room, "check").returncode == 0) == (status == 0), status)
+        require((make(room, "check").returncode == 0) == (status == 0), status)
     (room.top / "test").unlink()
-    due(make(room, "check").returncode != 0, "there is no test")
+    require(make(room, "check").returncode != 0, "there is no test")
 
 
 TESTS = [

@@ -126,7 +126,7 @@ class Library(unittest.TestCase):
         with self.assertRaisesRegex(library.Failed, "status 3: a reason"):
             library.run("sh", "-c", "echo a reason; exit 3")
         with self.assertRaisesRegex(library.Failed, "why"):
-            library.due(False, "why")
+            library.require(False, "why")
         with self.assertRaises(SkipTest):
             library.need("no-such-tool")
 

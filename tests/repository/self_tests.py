@@ -123,11 +123,11 @@ class Tables(unittest.TestCase):
 class Judging(unittest.TestCase):
     """Wrong outcomes."""
 
-    due = Case("a case", output=b"same\n", left={"OUT": b"new"}, absent=["gone"], has=[b"am"])
+    expected = Case("a case", output=b"same\n", left={"OUT": b"new"}, absent=["gone"], has=[b"am"])
     good = Outcome(0, b"same\n", b"", {"OUT": b"new"})
 
     def test_what_is_due_is_no_complaint(self):
-        self.assertEqual(complaints_of(self.due, self.good), [])
+        self.assertEqual(complaints_of(self.expected, self.good), [])
 
     def test_each_part_that_differs_is_one(self):
         for other in (
@@ -139,20 +139,20 @@ class Judging(unittest.TestCase):
             Outcome(0, b"same\n", b"", {}),
             Outcome(0, b"same\n", b"", {"OUT": b"new", "gone": b""}),
         ):
-            self.assertEqual(len(complaints_of(self.due, other)), 1, other)
+            self.assertEqual(len(complaints_of(self.expected, other)), 1, other)
         for case in (Case("", has=[b"x"]), Case("", lines=2), Case("", lines=0), Case("", has=[b"x", b"am"])):
             self.assertEqual(len(complaints_of(case, Outcome(0, b"same\n", b""))), 1)
 
-    def test_a_failure_is_told_once_behind_a_prefix(self):
-        case, due = Case("", words=["show", "a"]), Outcome(0, b"exif\n[main]\n", b"")
+    def test_a_failure_is_reported_once_after_a_prefix(self):
+        case, expected = Case("", words=["show", "a"]), Outcome(0, b"exif\n[main]\n", b"")
         line = b"failed: WriteFailed"
-        self.assertTrue(says_failed(case, Outcome(4, b"exif\nfailed: WriteFailed\n", b""), line, due))
-        self.assertTrue(says_failed(case, Outcome(4, b"", b""), line, due))
-        self.assertFalse(says_failed(case, Outcome(0, b"exif\n[main]\n", b""), line, due))
-        self.assertFalse(says_failed(case, Outcome(4, b"iim\nfailed: WriteFailed\n", b""), line, due))
-        self.assertFalse(says_failed(case, Outcome(4, b"failed: ReadFailed\n", b""), line, due))
-        self.assertTrue(says_failed(case, Outcome(4, b"exif\n", b""), line, due, 5))
-        self.assertFalse(says_failed(case, Outcome(4, b"exif\n", b""), line, due, 6))
+        self.assertTrue(says_failed(case, Outcome(4, b"exif\nfailed: WriteFailed\n", b""), line, expected))
+        self.assertTrue(says_failed(case, Outcome(4, b"", b""), line, expected))
+        self.assertFalse(says_failed(case, Outcome(0, b"exif\n[main]\n", b""), line, expected))
+        self.assertFalse(says_failed(case, Outcome(4, b"iim\nfailed: WriteFailed\n", b""), line, expected))
+        self.assertFalse(says_failed(case, Outcome(4, b"failed: ReadFailed\n", b""), line, expected))
+        self.assertTrue(says_failed(case, Outcome(4, b"exif\n", b""), line, expected, 5))
+        self.assertFalse(says_failed(case, Outcome(4, b"exif\n", b""), line, expected, 6))
 
     def test_a_small_form_in_two_writes_costs_too_much(self):
         case = Case("", input_from="a", files={"a": bytes(100)})
@@ -176,7 +176,7 @@ class Judging(unittest.TestCase):
         files = {name: block.ljust(size, b"\0") for name, _ in zip("ab", keeps)}
         return limits_of(Case("", words=[command, *files], files=files, keeps=list(keeps)), Outcome(0, b"", b""))
 
-    def test_a_large_file_is_held_a_few_times_at_most(self):
+    def test_a_large_file_is_in_memory_a_few_times_at_most(self):
         self.assertEqual(self.most_of(1 << 20, Keeps(datasets=1 << 20)).held, int(TIMES * (1 << 20)))
         self.assertGreater(self.most_of((1 << 20) - 1, Keeps(datasets=1 << 20)).held, 8 << 20)
         self.assertEqual(self.most_of(1 << 20, *[Keeps(datasets=1 << 20)] * 2, command="compare").held, int(TIMES * (2 << 20)))
@@ -222,7 +222,7 @@ class Judging(unittest.TestCase):
         most = self.most_of(size, Keeps(8, is_exif=True))
         self.assertLess(most.held, 1.03 * (reading(size).capacity + size / 8 + 70_000))
 
-    def test_a_run_that_tells_no_counts_is_a_complaint(self):
+    def test_a_run_that_reports_no_counts_is_a_complaint(self):
         case = Case("", input_from="a", files={"a": b""}, output=b"")
         bad = complaints_of_cost("/bin/true", "/no/such/library.so", case, lambda case, outcome: [])
         self.assertEqual(bad, ["the run reported no counts"])
@@ -251,8 +251,8 @@ class Meanings(unittest.TestCase):
 
     def test_a_placed_text_of_odd_length(self):
         meaning = Exif({0x010E: Value(ASCII, b"Urns\0")})
-        due = bytes.fromhex("4D4D002A00000008 0001 010E000200000005 0000001A 00000000 55726E730000")
-        self.assertEqual(meaning.normal(), due)
+        expected = bytes.fromhex("4D4D002A00000008 0001 010E000200000005 0000001A 00000000 55726E730000")
+        self.assertEqual(meaning.normal(), expected)
         self.assertEqual(meaning.captions(), "exif\ndescription: Urns\\00\n")
 
     def test_keywords_keep_their_order_and_groups_rise(self):
@@ -288,7 +288,7 @@ class Reading(unittest.TestCase):
                 said(block)
             self.assertEqual(told.exception.args, (cause, place))
 
-    def test_each_layout_of_a_kind_says_its_meaning(self):
+    def test_each_layout_of_a_kind_has_its_meaning(self):
         for kind in small_kinds():
             for block in (*kind.blocks, kind.meaning.normal()):
                 found = said(block)
@@ -305,15 +305,15 @@ class Reading(unittest.TestCase):
     def test_each_normal_form_and_each_text_of_the_cases(self):
         blocks = self.blocks()
         for entry in self.entries("normal forms"):
-            due = blocks.bytes_of(entry.get("normal", entry["block"]))
-            self.assertTrue(said(blocks.bytes_of(entry["block"])).normal() == due, entry["name"])
+            expected = blocks.bytes_of(entry.get("normal", entry["block"]))
+            self.assertTrue(said(blocks.bytes_of(entry["block"])).normal() == expected, entry["name"])
         for entry in self.entries("texts"):
             found = said(blocks.bytes_of(entry["block"]))
             for word, text in (("check", f"ok {found.kind}\n"), ("show", found.listing()), ("captions", found.captions())):
-                due = entry.get(word)
+                expected = entry.get(word)
                 lines = text.split("\n")[:-1]
-                if due is not None:
-                    self.assertEqual(len(lines) if isinstance(due, int) else lines, [due] if isinstance(due, str) else due, entry["name"])
+                if expected is not None:
+                    self.assertEqual(len(lines) if isinstance(expected, int) else lines, [expected] if isinstance(expected, str) else expected, entry["name"])
 
     def test_what_is_due_of_a_file(self):
         one = bytes.fromhex("4D4D002A00000008 0001 0112000300000001 00010000 00000000")

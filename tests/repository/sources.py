@@ -274,7 +274,7 @@ TESTS = (
 )
 
 
-def due(test):
+def require(test):
     wrong = test()
     assert not wrong, "; ".join(wrong)
 
@@ -282,7 +282,7 @@ def due(test):
 def main():
     counter = counting.Counter()
     for test in TESTS:
-        counter.run(test.__name__, lambda test=test: due(test))
+        counter.run(test.__name__, lambda test=test: require(test))
     return counter.finish()
 
 

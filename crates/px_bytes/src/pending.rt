@@ -8,7 +8,7 @@ use crate::whole::write_whole;
 use std::marker::Model;
 
 // The greatest number of bytes in the buffer.
-const ROOM: usize = 8192;
+const CAPACITY: usize = 8192;
 
 /// An output buffer of up to 8,192 bytes: the writer gets many small parts in a few large writes. Contracts
 /// see it as the list of the buffered bytes. It is on the stack and allocates nothing.
@@ -16,7 +16,7 @@ const ROOM: usize = 8192;
 /// Dropping it loses the buffered bytes: call `send` first.
 #[derive(Drop)]
 pub struct Pending {
-    space: [u8; ROOM],
+    space: [u8; CAPACITY],
     held: usize,
 }
 
@@ -37,16 +37,16 @@ impl Pending {
         ensures { result ≡ [] }
     {
         Pending {
-            space: [0; ROOM],
+            space: [0; CAPACITY],
             held: 0,
         }
     }
 
     // How many more bytes fit.
-    fn room(&self) -> usize
+    fn free(&self) -> usize
         ensures { result + length self.now ≡ 8192 }
     {
-        ROOM - self.held
+        CAPACITY - self.held
     }
 
     // Appends the bytes to the buffered ones.
@@ -82,7 +82,7 @@ impl Pending {
         ensures count { Counts result (W.failed writer.old) (W.failed writer.new) }
     {
         self.send(writer)?;
-        if bytes.len() > self.room() {
+        if bytes.len() > self.free() {
             return write_whole(writer, bytes);
         }
         self.keep(bytes);
@@ -100,7 +100,7 @@ impl Pending {
         ensures count { Counts result (W.failed writer.old) (W.failed writer.new) }
         ensures waits { Waits result writer.old writer.new self.old self.new bytes.now }
     {
-        if bytes.len() > self.room() {
+        if bytes.len() > self.free() {
             return self.put_past(writer, bytes);
         }
         self.keep(bytes);

@@ -16,7 +16,7 @@ pub struct ExifnormFault {
 }
 
 // A refusal as numbers.
-pub(crate) fn told(cause: Cause, place: u32) -> ExifnormFault
+pub(crate) fn fault_from(cause: Cause, place: u32) -> ExifnormFault
     ensures cause { cause_of result.cause ≡ Some cause }
     ensures place { result.place ≡ place }
 {

@@ -10,7 +10,7 @@ ghost use Rattle.px_engine.specs.Input.{IsSaid};
 ghost use Rattle.px_engine.specs.Prints.{caption_text, listing};
 ghost use Rattle.px_c.specs.Outcomes.{Refuses, PutsSaid, IsOfKind, AreCompared};
 
-use crate::faults::{ExifnormFault, told};
+use crate::faults::{ExifnormFault, fault_from};
 use crate::giving::give;
 use crate::statuses::{DONE, NO_MEMORY, REFUSED, SECOND_REFUSED, TOO_LITTLE_ROOM, TOO_LONG};
 use px_bytes::Memory;
@@ -42,7 +42,7 @@ pub(crate) fn check_in(
             DONE
         }
         Err(Fault::Refused { cause, place }) => {
-            *fault = told(cause, place);
+            *fault = fault_from(cause, place);
             REFUSED
         }
         Err(Fault::OutOfMemory) => NO_MEMORY,
@@ -82,7 +82,7 @@ pub(crate) fn normalise_in(
             TOO_LITTLE_ROOM
         }
         Err(Fault::Refused { cause, place }) => {
-            *fault = told(cause, place);
+            *fault = fault_from(cause, place);
             REFUSED
         }
         Err(Fault::NormalTooLong) => TOO_LONG,
@@ -121,11 +121,11 @@ pub(crate) fn compare_in(
         }
         Err(e) => match (e.side, e.fault) {
             (Side::First, Fault::Refused { cause, place }) => {
-                *fault = told(cause, place);
+                *fault = fault_from(cause, place);
                 REFUSED
             }
             (Side::Second, Fault::Refused { cause, place }) => {
-                *fault = told(cause, place);
+                *fault = fault_from(cause, place);
                 SECOND_REFUSED
             }
             (_, Fault::OutOfMemory) => NO_MEMORY,
@@ -158,7 +158,7 @@ pub(crate) fn show_in(
     match px_engine::show_of_in(memory, file) {
         Ok(text) => give(&text, out, written),
         Err(Fault::Refused { cause, place }) => {
-            *fault = told(cause, place);
+            *fault = fault_from(cause, place);
             REFUSED
         }
         Err(Fault::OutOfMemory) => NO_MEMORY,
@@ -190,7 +190,7 @@ pub(crate) fn captions_in(
     match px_engine::captions_text_in(memory, file) {
         Ok(text) => give(&text, out, written),
         Err(Fault::Refused { cause, place }) => {
-            *fault = told(cause, place);
+            *fault = fault_from(cause, place);
             REFUSED
         }
         Err(Fault::OutOfMemory) => NO_MEMORY,

@@ -24,11 +24,11 @@ job_of one.Captions = job.Captions
 
 -- why a file can't be opened: out of memory, or a failed call
 abbrev pub IsLacking : Fault → Fault → Type 0
-IsLacking due e = (e ≡ OutOfMemory) ⊎ (e ≡ due)
+IsLacking expected e = (e ≡ OutOfMemory) ⊎ (e ≡ expected)
 
 -- a file that can't be opened is reported: `lacks` means that opening or creating it ended with the fault
 abbrev pub TellsLacking : Fault → (Fault → Type 0) → Option Side → ℕ → Device → Type 0
-TellsLacking due lacks file status lines = (e : Fault) × IsLacking due e × lacks e × TellsFault e file status lines
+TellsLacking expected lacks file status lines = (e : Fault) × IsLacking expected e × lacks e × TellsFault e file status lines
 
 -- A job was done with a reader of `bytes`, without a failed call so far, and some writer. Here and below `taken` and `taken_now`
 -- are the numbers of the memory before and now.

@@ -16,37 +16,37 @@ use std::io::{ErrorKind, Read, Write};
 use std::os::unix::fs::MetadataExt;
 use std::rt::Files;
 
-// The fault for an error of a call on a file: out of memory, or else `due`.
-fn fault_of(error: &io::Error, due: Fault) -> Fault
+// The fault for an error of a call on a file: out of memory, or else `expected`.
+fn fault_of(error: &io::Error, expected: Fault) -> Fault
     ensures memory { error_kind error.now ≡ ErrorKind.OutOfMemory → result ≡ OutOfMemory }
-    ensures either { IsLacking due result }
-    ensures call { error_kind error.now ≢ ErrorKind.OutOfMemory → result ≡ due }
+    ensures either { IsLacking expected result }
+    ensures call { error_kind error.now ≢ ErrorKind.OutOfMemory → result ≡ expected }
 {
     if error.kind() == ErrorKind::OutOfMemory {
         return Fault::OutOfMemory;
     }
-    due
+    expected
 }
 
 // The result of a call on a file, with its fault.
-fn lacking<T>(called: io::Result<T>, due: Fault) -> Result<T, Fault>
+fn lacking<T>(called: io::Result<T>, expected: Fault) -> Result<T, Fault>
     ensures answered { IfOk called (λ x. result ≡ Ok x) }
     ensures memory { IfErr called (λ e. error_kind e ≡ ErrorKind.OutOfMemory → result ≡ Err OutOfMemory) }
-    ensures failed { IfErr called (λ e. error_kind e ≢ ErrorKind.OutOfMemory → result ≡ Err due) }
-    ensures either { IfErr result (IsLacking due) }
+    ensures failed { IfErr called (λ e. error_kind e ≢ ErrorKind.OutOfMemory → result ≡ Err expected) }
+    ensures either { IfErr result (IsLacking expected) }
 {
     match called {
         Ok(x) => Ok(x),
-        Err(error) => Err(fault_of(&error, due)),
+        Err(error) => Err(fault_of(&error, expected)),
     }
 }
 
 // The file under a descriptor above the standard streams'. If a stream is closed, the system gives its
 // descriptor to the next file that is opened, and output for the stream would go there.
-fn above_streams<F: OpenFile + Drop>(file: F, due: Fault) -> Result<F, Fault>
-    ensures { IfErr result (IsLacking due) }
+fn above_streams<F: OpenFile + Drop>(file: F, expected: Fault) -> Result<F, Fault>
+    ensures { IfErr result (IsLacking expected) }
 {
-    lacking(file.try_clone(), due)
+    lacking(file.try_clone(), expected)
 }
 
 // Opens a file to read. If it can't be opened, that is a failed read. The file never gets the descriptor of a

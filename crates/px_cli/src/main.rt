@@ -27,7 +27,7 @@ use std::process::ExitCode;
 use std::{env, io};
 
 // The arguments after the program's name.
-fn behind_name(all: &[String]) -> &[String]
+fn after_name(all: &[String]) -> &[String]
     ensures { result.now ≡ drop 1 all.now }
 {
     if all.is_empty() {
@@ -52,7 +52,7 @@ fn run_given(rt: &HostRuntime) -> u8 {
     };
     let mut memory = Memory::new(alloc);
     let files = System::new(rt);
-    run_words(rt, &files, &mut memory, behind_name(&all), &mut lines)
+    run_words(rt, &files, &mut memory, after_name(&all), &mut lines)
 }
 
 fn main(rt: HostRuntime) -> ExitCode {

@@ -10,7 +10,7 @@ use Rattle.px_engine.specs.Files.{Said}
 use Rattle.px_engine.specs.Input.{most_read, IsSaid, IsUnsaid, LacksRunBy}
 use Rattle.px_engine.specs.Prints.{Prints}
 use Rattle.px_engine.specs.calls.Ends.{WritesText}
-use Rattle.px_engine.specs.calls.Faults.{told}
+use Rattle.px_engine.specs.calls.Faults.{as_fault}
 use Rattle.px_engine.proofs.Judged.{known_said, known_stops}
 
 -- the text was added to an empty buffer, and the buffer was then written
@@ -21,7 +21,7 @@ owes_written (Ok x) a b c none held out e p q = owed_all a b c held out (from_no
 owes_written (Err x) a b c none held out e p q = owed_prefix a b c held out (from_none (Owes a b held) none out e p) q
 
 -- the result of a text's writer, as that of a run
-pub told_text : {A E : Type 0} (r : Result A E) (t : Result A Fault) (old new : Option (List ℕ)) (a b : ℕ) (out : List ℕ) → t ≡ told r
+pub told_text : {A E : Type 0} (r : Result A E) (t : Result A Fault) (old new : Option (List ℕ)) (a b : ℕ) (out : List ℕ) → t ≡ as_fault r
     → Writes r old new out → Counts r a b → WritesText t old new a b out
 told_text (Ok x) t old new a b out e w n = subst (λ z. WritesText z old new a b out) (sym e) (w, n)
 told_text (Err x) t old new a b out e w n = subst (λ z. WritesText z old new a b out) (sym e) (w, n)

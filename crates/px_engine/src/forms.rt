@@ -45,7 +45,7 @@ fn written(answer: Result<u64, WriteRefusal>) -> Result<u64, Fault>
 }
 
 // Writes the normal form of what a file means. It allocates nothing.
-pub(crate) fn write_said<W: Sink>(said: &Said, writer: &mut W) -> Result<u64, Fault>
+pub(crate) fn write_form<W: Sink>(said: &Said, writer: &mut W) -> Result<u64, Fault>
     requires few { CanFail (W.failed writer.old) }
     requires fits { CanBeWritten (said_of said.now) }
     ensures { WritesSaid result (W.bytes_taken writer.old) (W.bytes_taken writer.new) (W.failed writer.old) (W.failed writer.new)
@@ -179,7 +179,7 @@ fn put_record(iim: &Iim, out: &mut [u8]) -> Option<Given>
 
 // Writes the normal form of what a file means to the start of `out`. None if it is longer than `LIMIT`. It
 // allocates nothing.
-pub(crate) fn put_said(said: &Said, out: &mut [u8]) -> Option<Given>
+pub(crate) fn put_form_of(said: &Said, out: &mut [u8]) -> Option<Given>
     requires { CanBeWritten (said_of said.now) }
     ensures { PutsShort result (normal (said_of said.now)) out.old out.new }
 {

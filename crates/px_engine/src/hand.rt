@@ -8,7 +8,7 @@ ghost use Rattle.px_engine.specs.Prints.{caption_text, listing, IsTextOf};
 ghost use Rattle.px_engine.specs.Files.{Said as AnySaid};
 
 use crate::faults::{CompareFault, Fault, Side};
-use crate::forms::{Given, form_of, put_said};
+use crate::forms::{Given, form_of, put_form_of};
 use crate::input::judge_any_in;
 use crate::judging::{judge, judge_side, same_second};
 use crate::kinds::BlockKind;
@@ -71,7 +71,7 @@ pub fn put_form_in(memory: &mut Memory, file: &[u8], out: &mut [u8]) -> Result<G
     ensures asked { AsksAtMost (block_request (length file.now)) memory.old memory.new }
 {
     let said = judge(memory, file)?;
-    match put_said(&said, out) {
+    match put_form_of(&said, out) {
         Some(given) => Ok(given),
         None => Err(Fault::NormalTooLong),
     }

@@ -11,7 +11,7 @@ ghost use Rattle.px_engine.specs.calls.Seen.{said_of};
 ghost use Rattle.px_bytes.specs.Devices.{CanFail};
 
 use crate::faults::{CompareFault, Fault, Side};
-use crate::forms::write_said;
+use crate::forms::write_form;
 use crate::hand::check_of_in;
 use crate::input::{read_all_in, read_side};
 use crate::judging::{judge, judge_side, same_second};
@@ -44,7 +44,7 @@ pub fn normalise_in<R: Source, W: Sink>(
 {
     let file = read_all_in(memory, reader)?;
     let said = judge(memory, &file)?;
-    let done = write_said(&said, writer);
+    let done = write_form(&said, writer);
     drop(said);
     done
 }

@@ -5,7 +5,7 @@ ghost use Rattle.px_bytes.specs.Lacking.{Lacks, AsksAtMost};
 ghost use Rattle.px_bytes.specs.Waiting.{Adds};
 ghost use Rattle.px_engine.specs.Prints.{caption_text, listing};
 ghost use Rattle.px_engine.specs.calls.Ends.{WritesText};
-ghost use Rattle.px_engine.specs.calls.Faults.{told};
+ghost use Rattle.px_engine.specs.calls.Faults.{as_fault};
 ghost use Rattle.px_engine.specs.calls.Seen.{said_of};
 
 use crate::faults::Fault;
@@ -66,8 +66,8 @@ fn send_captions<W: Sink>(said: &Said, writer: &mut W) -> Result<(), Failed>
 }
 
 // The result of a text's writer as the result of a run.
-fn told(answer: Result<(), Failed>) -> Result<(), Fault>
-    ensures { result ≡ told answer }
+fn as_fault(answer: Result<(), Failed>) -> Result<(), Fault>
+    ensures { result ≡ as_fault answer }
 {
     match answer {
         Ok(()) => Ok(()),
@@ -81,7 +81,7 @@ pub(crate) fn write_listing<W: Sink>(said: &Said, writer: &mut W) -> Result<(), 
     ensures { WritesText result (W.bytes_taken writer.old) (W.bytes_taken writer.new) (W.failed writer.old) (W.failed writer.new)
         (listing (said_of said.now)) }
 {
-    told(send_listing(said, writer))
+    as_fault(send_listing(said, writer))
 }
 
 // Writes the captions and flushes once. It allocates nothing.
@@ -90,7 +90,7 @@ pub(crate) fn write_captions<W: Sink>(said: &Said, writer: &mut W) -> Result<(),
     ensures { WritesText result (W.bytes_taken writer.old) (W.bytes_taken writer.new) (W.failed writer.old) (W.failed writer.new)
         (caption_text (said_of said.now)) }
 {
-    told(send_captions(said, writer))
+    as_fault(send_captions(said, writer))
 }
 
 // The listing, in memory.

@@ -21,7 +21,7 @@ impl<'a> Value<'a> {
         ensures front { (e : Element) → slice_get self.now.elements i ≡ Some e → take result into.new ≡ spell order e }
         ensures rest { drop result into.new ≡ drop result into.old }
     {
-        spell_element(order, self.element(i), into)
+        encode_element(order, self.element(i), into)
     }
 }
 
@@ -75,7 +75,7 @@ fn append_elements(
 }
 
 // Writes the encoding of the element into the first bytes of `into`. Returns its length.
-fn spell_element(order: Order, element: Element, into: &mut [u8; 8]) -> usize
+fn encode_element(order: Order, element: Element, into: &mut [u8; 8]) -> usize
     ensures width { result ≡ length (spell order element) }
     ensures front { into.new ≡ spell order element ++ drop result into.old }
 {
@@ -84,12 +84,12 @@ fn spell_element(order: Order, element: Element, into: &mut [u8; 8]) -> usize
             into[0] = n;
             1
         }
-        Element::Short(n) => spell16(order, n, into),
-        Element::SShort(n) => spell16(order, n.cast_unsigned(), into),
-        Element::Long(n) | Element::Float(n) => spell32(order, n, into),
-        Element::SLong(n) => spell32(order, n.cast_unsigned(), into),
-        Element::Rational(n, d) => spell_fraction(order, n, d, into),
-        Element::SRational(n, d) => spell_fraction(
+        Element::Short(n) => encode16(order, n, into),
+        Element::SShort(n) => encode16(order, n.cast_unsigned(), into),
+        Element::Long(n) | Element::Float(n) => encode32(order, n, into),
+        Element::SLong(n) => encode32(order, n.cast_unsigned(), into),
+        Element::Rational(n, d) => encode_fraction(order, n, d, into),
+        Element::SRational(n, d) => encode_fraction(
             order,
             n.cast_unsigned(),
             d.cast_unsigned(),
@@ -102,7 +102,7 @@ fn spell_element(order: Order, element: Element, into: &mut [u8; 8]) -> usize
     }
 }
 
-fn spell16(order: Order, n: u16, into: &mut [u8; 8]) -> usize
+fn encode16(order: Order, n: u16, into: &mut [u8; 8]) -> usize
     ensures width { result ≡ 2 }
     ensures front { into.new ≡ spelling order 2 n ++ drop 2 into.old }
 {
@@ -110,7 +110,7 @@ fn spell16(order: Order, n: u16, into: &mut [u8; 8]) -> usize
     2
 }
 
-fn spell32(order: Order, n: u32, into: &mut [u8; 8]) -> usize
+fn encode32(order: Order, n: u32, into: &mut [u8; 8]) -> usize
     ensures width { result ≡ 4 }
     ensures front { into.new ≡ spelling order 4 n ++ drop 4 into.old }
 {
@@ -118,7 +118,7 @@ fn spell32(order: Order, n: u32, into: &mut [u8; 8]) -> usize
     4
 }
 
-fn spell_fraction(order: Order, n: u32, d: u32, into: &mut [u8; 8]) -> usize
+fn encode_fraction(order: Order, n: u32, d: u32, into: &mut [u8; 8]) -> usize
     ensures width { result ≡ 8 }
     ensures front { into.new ≡ spelling order 4 n ++ spelling order 4 d }
 {

@@ -172,7 +172,7 @@ impl<'a> Value<'a> {
             read: self.order,
             write: order,
         };
-        let raw = behind(self.raw, self.form, i, count);
+        let raw = slice_from(self.raw, self.form, i, count);
         turn(
             way,
             count as usize,
@@ -224,11 +224,11 @@ impl<'a> Value<'a> {
         if self.form.size() == 1 {
             return padded_four(self.raw);
         }
-        self.spell_few(order)
+        self.encode_few(order)
     }
 
     // The same for any value.
-    fn spell_few(&self, order: Order) -> [u8; 4]
+    fn encode_few(&self, order: Order) -> [u8; 4]
         requires { length (spelled order self.now) ≤ 4 }
         ensures { result ≡ spelled order self.now ++ replicate (4 - length (spelled order self.now)) 0 }
     {
@@ -363,7 +363,7 @@ fn how_many(rest: u32, width: u32, room: usize) -> u32
 
 // The bytes of the elements from index `i` on.
 #[tactic(auto, using(crate::proofs::TurnLaws::parts_fit))]
-fn behind(raw: &[u8], form: Form, i: u32, count: u32) -> &[u8]
+fn slice_from(raw: &[u8], form: Form, i: u32, count: u32) -> &[u8]
     requires bounded { length raw.now ≤ limit }
     requires inside { i + count ≤ count_in form raw.now }
     ensures value { result.now ≡ drop (i * size form) raw.now }

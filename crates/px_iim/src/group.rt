@@ -49,7 +49,7 @@ const LONG: usize = 65536;
 
 // How many more items a full list of `len` items gets capacity for: half as many, and at least three; in a long list a
 // 32nd. So a long list needs few allocations and has little unused capacity. The system moves it without a copy.
-fn room_for(len: usize) -> usize
+fn capacity_to_add(len: usize) -> usize
     ensures some { 1 ≤ result }
     ensures most { result ≤ max 3 (len / 2) }
     ensures long { LONG < len → result ≤ len / 32 }
@@ -63,7 +63,7 @@ fn room_for(len: usize) -> usize
 
 // Makes capacity for one more item in a full list. An empty list gets capacity for one item only, since many records
 // have one DataSet.
-fn make_room<'a>(memory: &mut Memory, list: &mut Vec<Item<'a>>) -> Result<(), Refused>
+fn reserve_more<'a>(memory: &mut Memory, list: &mut Vec<Item<'a>>) -> Result<(), Refused>
     ensures items { list.new.items ≡ list.old.items }
     ensures len { vec_len list.new ≡ vec_len list.old }
     ensures room { OnOk result (vec_len list.new < vec_capacity list.new) }
@@ -80,7 +80,7 @@ fn make_room<'a>(memory: &mut Memory, list: &mut Vec<Item<'a>>) -> Result<(), Re
     if list.is_empty() {
         return memory.reserve_exact(list, 1);
     }
-    memory.reserve_exact(list, room_for(list.len()))
+    memory.reserve_exact(list, capacity_to_add(list.len()))
 }
 
 // Inserts an item at an index. Most items are appended at the end, and then no item is moved.
@@ -96,7 +96,7 @@ pub(crate) fn put_at<'a>(
     ensures memory { Lacks result memory.old memory.new }
     ensures asked { AsksAtMost (put_request (vec_len list.old)) memory.old memory.new }
 {
-    make_room(memory, list)?;
+    reserve_more(memory, list)?;
     if at == list.len() {
         list.push_reserved(item);
         return Ok(());
@@ -105,7 +105,7 @@ pub(crate) fn put_at<'a>(
 }
 
 // Makes capacity for exactly `count` more items.
-pub(crate) fn make_room_for<'a>(
+pub(crate) fn reserve_for<'a>(
     memory: &mut Memory,
     list: &mut Vec<Item<'a>>,
     count: usize,

@@ -9,9 +9,9 @@ ghost use Rattle.px_iim.specs.calls.Runs.{runs, InOrder, AreNumbers};
 ghost use Rattle.px_iim.specs.calls.View.{dataset_view, item_view, part_view, octets_left, octets_of};
 ghost use Rattle.px_iim.specs.Writing.{within};
 
-use crate::group::{All, Item, key_of, make_room_for, put_at};
+use crate::group::{All, Item, key_of, reserve_for, put_at};
 use crate::length::longer;
-use crate::places::{count_before, place_behind};
+use crate::places::{count_before, index_after};
 use crate::walk::Groups;
 use px_bytes::{Memory, Refused};
 use std::alloc::{AllocError, Global};
@@ -77,7 +77,7 @@ impl<'a> Iim<'a> {
         ensures asked { memory.new.asked ≡ memory.old.asked + item_bytes * count }
     {
         let mut record = Iim::new_in(memory);
-        make_room_for(memory, &mut record.items, count)?;
+        reserve_for(memory, &mut record.items, count)?;
         Ok(record)
     }
 
@@ -122,7 +122,7 @@ impl<'a> Iim<'a> {
         ensures memory { Lacks result memory.old memory.new }
         ensures asked { AsksAtMost (put_request (dataset_count self.old)) memory.old memory.new }
     {
-        let at = place_behind(&self.items, key_of(rec, number));
+        let at = index_after(&self.items, key_of(rec, number));
         let item = Item {
             rec,
             number,

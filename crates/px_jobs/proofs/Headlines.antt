@@ -12,9 +12,9 @@ use Rattle.px_jobs.specs.Endings.{TellsWritten, TellsCompared}
 use Rattle.px_jobs.specs.Laws.{FormsTell, ComparisonTells}
 
 -- the status is the given one, or 4
-status_not_told : (due : ℕ) (line : List ℕ) (status : ℕ) (lines : Device) → 1 < due → status < 2 → Tells due line status lines → ⊥
-status_not_told due line status lines p q (inl t) = let e = t.0 in absurd (omega arith)
-status_not_told due line status lines p q (inr t) = let e = t.0 in absurd (omega arith)
+status_not_told : (n : ℕ) (line : List ℕ) (status : ℕ) (lines : Device) → 1 < n → status < 2 → Tells n line status lines → ⊥
+status_not_told expected line status lines p q (inl t) = let e = t.0 in absurd (omega arith)
+status_not_told expected line status lines p q (inr t) = let e = t.0 in absurd (omega arith)
 
 -- no fault has status 0 or 1
 no_fault : (e : Fault) (file : Option Side) (status : ℕ) (lines : Device) → status < 2 → TellsFault e file status lines → ⊥
@@ -39,8 +39,8 @@ forms_tell law f g reader out lines other_reader other_out other_lines a b c d p
     law f g h.0 k.0 out.old out.new other_out.old other_out.new h.1 k.1
 
 -- status 0 or 1 is no other
-status_apart : {A B : Type 0} (due status : ℕ) → 1 < due → status ≡ due → (status ≡ 0 → A) × (status ≡ 1 → B)
-status_apart due status p e = (λ q. absurd (omega arith), λ q. absurd (omega arith))
+status_apart : {A B : Type 0} (expected status : ℕ) → 1 < expected → status ≡ expected → (status ≡ 0 → A) × (status ≡ 1 → B)
+status_apart expected status p e = (λ q. absurd (omega arith), λ q. absurd (omega arith))
 
 -- a comparison that ends with status 0 or 1 has a result
 status_compared : (law : ComparingTells) (r : Result Bool CompareFault) (f g m n : List ℕ) (lines : Device) (status : ℕ) → Headline f g m n

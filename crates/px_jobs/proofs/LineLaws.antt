@@ -49,10 +49,10 @@ owes_written (Ok x) a b c h k out none p w = from_none (Appends a c) h out none 
 owes_written (Err x) a b c h k out none p w = from_none (AppendsPrefix a c) h out none (owed_prefix a b c k (h ++ out) p w)
 
 -- a line that was written, and then a flush
-pub flushes_tells : (due : ℕ) (line : List ℕ) (status failed mid now : ℕ) (old written new : Option (List ℕ)) → mid ≡ failed
+pub flushes_tells : (expected : ℕ) (line : List ℕ) (status failed mid now : ℕ) (old written new : Option (List ℕ)) → mid ≡ failed
     → Appends old written line
-    → Flushes due status (device mid now written new) → Tells due line status (device failed now old new)
-flushes_tells due line status failed mid now old written new same h f = elim f [
+    → Flushes expected status (device mid now written new) → Tells expected line status (device failed now old new)
+flushes_tells expected line status failed mid now old written new same h f = elim f [
   | inl f ↦ inl (f.0, f.1 ∙ same, appends_kept old written new line h f.2)
   | inr f ↦ inr (f.0, f.1 ∙ ap (λ n. n + 1) same, prefix_all old new line (appends_kept old written new line h f.2))
 ]

@@ -50,8 +50,8 @@ TookNothing d = Keeps d.old d.new
 
 -- the given status and line; or, if the writer of lines fails, status 4 and a prefix of the line
 abbrev pub Tells : ℕ → List ℕ → ℕ → Device → Type 0
-Tells due line status lines =
-    ((status ≡ due) × IsWell lines × Took lines line)
+Tells expected line status lines =
+    ((status ≡ expected) × IsWell lines × Took lines line)
     ⊎ ((status ≡ 4) × IsFailed lines × TookPrefix lines line)
 
 -- those of a fault
@@ -72,4 +72,4 @@ ended text = if is_ended text then text else text ++ end_of None
 
 -- those of a text
 abbrev pub TellsWords : ℕ → List ℕ → ℕ → Device → Type 0
-TellsWords due text status lines = Tells due (ended text) status lines
+TellsWords expected text status lines = Tells expected (ended text) status lines

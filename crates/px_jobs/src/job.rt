@@ -28,7 +28,7 @@ pub enum Job {
 }
 
 // Reports a failed normal form. A written one needs no line.
-fn tell_written<L: Sink>(lines: &mut L, written: Result<u64, Fault>) -> u8
+fn report_written<L: Sink>(lines: &mut L, written: Result<u64, Fault>) -> u8
     requires { CanFail (L.failed lines.old) }
     ensures { TellsWritten written result (over L.failed L.bytes_taken lines.old lines.new) }
 {
@@ -49,7 +49,7 @@ fn accepted(kind: BlockKind) -> &'static [u8]
 }
 
 // Reports the kind of a block.
-fn tell_checked<L: Sink>(lines: &mut L, checked: Result<BlockKind, Fault>) -> u8
+fn report_checked<L: Sink>(lines: &mut L, checked: Result<BlockKind, Fault>) -> u8
     requires { CanFail (L.failed lines.old) }
     ensures { TellsChecked checked result (over L.failed L.bytes_taken lines.old lines.new) }
 {
@@ -60,7 +60,7 @@ fn tell_checked<L: Sink>(lines: &mut L, checked: Result<BlockKind, Fault>) -> u8
 }
 
 // Reports the fault of a text. If the lines failed, it writes no more to them.
-fn tell_behind<L: Sink>(lines: &mut L, fault: Fault) -> u8
+fn report_text_fault<L: Sink>(lines: &mut L, fault: Fault) -> u8
     requires { fault ≢ WriteFailed → CanFail (L.failed lines.old) }
     ensures { TellsBehind fault result (over L.failed L.bytes_taken lines.old lines.new) }
 {
@@ -71,13 +71,13 @@ fn tell_behind<L: Sink>(lines: &mut L, fault: Fault) -> u8
 }
 
 // Reports a failed text. A written one needs no further line.
-fn tell_printed<L: Sink>(lines: &mut L, printed: Result<(), Fault>) -> u8
+fn report_printed<L: Sink>(lines: &mut L, printed: Result<(), Fault>) -> u8
     requires { (e : Fault) → printed ≡ Err e → e ≢ WriteFailed → CanFail (L.failed lines.old) }
     ensures { TellsPrinted printed result (over L.failed L.bytes_taken lines.old lines.new) }
 {
     match printed {
         Ok(()) => 0,
-        Err(fault) => tell_behind(lines, fault),
+        Err(fault) => report_text_fault(lines, fault),
     }
 }
 
@@ -102,7 +102,7 @@ fn compared_status(same: bool) -> u8
 }
 
 // Reports whether two blocks mean the same.
-fn tell_compared<L: Sink>(lines: &mut L, same: Result<bool, CompareFault>) -> u8
+fn report_compared<L: Sink>(lines: &mut L, same: Result<bool, CompareFault>) -> u8
     requires { CanFail (L.failed lines.old) }
     ensures { TellsCompared same result (over L.failed L.bytes_taken lines.old lines.new) }
 {
@@ -128,7 +128,7 @@ fn run_normalise<R: Source, O: Sink, L: Sink>(
         (over L.failed L.bytes_taken lines.old lines.new)
         memory.old memory.new result }
 {
-    tell_written(lines, normalise_in(memory, reader, out))
+    report_written(lines, normalise_in(memory, reader, out))
 }
 
 // Reports the kind of the block.
@@ -140,7 +140,7 @@ fn run_check<R: Source, L: Sink>(memory: &mut Memory, reader: &mut R, lines: &mu
         (over L.failed L.bytes_taken lines.old lines.new)
         memory.old memory.new result }
 {
-    tell_checked(lines, check_in(memory, reader))
+    report_checked(lines, check_in(memory, reader))
 }
 
 // Writes the listing of the block.
@@ -152,7 +152,7 @@ fn run_show<R: Source, L: Sink>(memory: &mut Memory, reader: &mut R, lines: &mut
         memory.old memory.new result }
 {
     let printed = show_in(memory, reader, lines);
-    tell_printed(lines, printed)
+    report_printed(lines, printed)
 }
 
 // Writes the captions of the block.
@@ -164,7 +164,7 @@ fn run_captions<R: Source, L: Sink>(memory: &mut Memory, reader: &mut R, lines: 
         memory.old memory.new result }
 {
     let printed = captions_in(memory, reader, lines);
-    tell_printed(lines, printed)
+    report_printed(lines, printed)
 }
 
 /// Does a job on one file. Returns the exit status: 0 on success, 2 if the block is refused or its normal
@@ -217,5 +217,5 @@ pub fn run_compare_in<R: Source, S: Source, L: Sink>(
         (over L.failed L.bytes_taken lines.old lines.new)
         memory.old memory.new result }
 {
-    tell_compared(lines, compare_in(memory, first, second))
+    report_compared(lines, compare_in(memory, first, second))
 }

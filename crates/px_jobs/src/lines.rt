@@ -104,13 +104,13 @@ fn status(fault: Fault) -> u8
     }
 }
 
-// Flushes. Returns the exit status: `due`, or 4 if the flush fails.
-fn flushed<L: Sink>(lines: &mut L, due: u8) -> u8
+// Flushes. Returns the exit status: `expected`, or 4 if the flush fails.
+fn flushed<L: Sink>(lines: &mut L, expected: u8) -> u8
     requires { CanFail (L.failed lines.old) }
-    ensures { Flushes due result (over L.failed L.bytes_taken lines.old lines.new) }
+    ensures { Flushes expected result (over L.failed L.bytes_taken lines.old lines.new) }
 {
     match lines.flush_all() {
-        Ok(()) => due,
+        Ok(()) => expected,
         Err(_) => 4,
     }
 }
@@ -127,14 +127,14 @@ pub fn tell<L: Sink>(lines: &mut L, fault: Fault, file: Option<Side>) -> u8
     }
 }
 
-/// Writes a line and flushes. Returns the exit status: `due`, or 4 if a write or the flush fails. It
+/// Writes a line and flushes. Returns the exit status: `expected`, or 4 if a write or the flush fails. It
 /// allocates nothing.
-pub fn say<L: Sink>(lines: &mut L, line: &[u8], due: u8) -> u8
+pub fn say<L: Sink>(lines: &mut L, line: &[u8], expected: u8) -> u8
     requires { CanFail (L.failed lines.old) }
-    ensures { Tells due line.now result (over L.failed L.bytes_taken lines.old lines.new) }
+    ensures { Tells expected line.now result (over L.failed L.bytes_taken lines.old lines.new) }
 {
     match write_whole(lines, line) {
-        Ok(()) => flushed(lines, due),
+        Ok(()) => flushed(lines, expected),
         Err(_) => 4,
     }
 }
@@ -150,24 +150,24 @@ fn is_ended(text: &[u8]) -> bool
 }
 
 // Writes a text and a line feed, and flushes. Returns the exit status.
-fn say_ended<L: Sink>(lines: &mut L, text: &str, due: u8) -> u8
+fn print_line<L: Sink>(lines: &mut L, text: &str, expected: u8) -> u8
     requires { CanFail (L.failed lines.old) }
-    ensures { Tells due (text.now ++ end_of None) result (over L.failed L.bytes_taken lines.old lines.new) }
+    ensures { Tells expected (text.now ++ end_of None) result (over L.failed L.bytes_taken lines.old lines.new) }
 {
     match write_ended(lines, text.as_bytes(), None) {
-        Ok(()) => flushed(lines, due),
+        Ok(()) => flushed(lines, expected),
         Err(_) => 4,
     }
 }
 
 /// Writes a text, adds a line feed if the text doesn't end in one, and flushes. Returns the exit status:
-/// `due`, or 4 if a write or the flush fails. It allocates nothing.
-pub fn say_text<L: Sink>(lines: &mut L, text: &str, due: u8) -> u8
+/// `expected`, or 4 if a write or the flush fails. It allocates nothing.
+pub fn say_text<L: Sink>(lines: &mut L, text: &str, expected: u8) -> u8
     requires { CanFail (L.failed lines.old) }
-    ensures { TellsWords due text.now result (over L.failed L.bytes_taken lines.old lines.new) }
+    ensures { TellsWords expected text.now result (over L.failed L.bytes_taken lines.old lines.new) }
 {
     if is_ended(text.as_bytes()) {
-        return say(lines, text.as_bytes(), due);
+        return say(lines, text.as_bytes(), expected);
     }
-    say_ended(lines, text, due)
+    print_line(lines, text, expected)
 }

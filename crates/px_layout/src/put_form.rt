@@ -20,7 +20,7 @@ use crate::entries::{Entries, entries_in};
 use crate::form::NormalForm;
 use crate::items::{Entry, Item};
 use crate::put::{put_eight, put_padding, put_value};
-use crate::put_running::{put_running_header, put_running_table, put_told_item};
+use crate::put_running::{put_running_header, put_running_table, put_item_value};
 use crate::put_thumb::put_thumb;
 use px_bytes::{Failed, Order, Pending, Sink};
 use px_field::Value;
@@ -43,7 +43,7 @@ fn put_padded_item<W: Sink>(
         (padded (item_bytes (plan_in form.now) Order.Most 0 (item_of entry.now.item))) }
 {
     let item = entry.item;
-    put_told_item(pending, writer, form, item)?;
+    put_item_value(pending, writer, form, item)?;
     put_padding(pending, writer, item.size())
 }
 

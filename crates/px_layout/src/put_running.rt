@@ -69,7 +69,7 @@ fn jpeg_at(form: &NormalForm) -> u32
 
 // Encodes the byte offsets of the strips from `start` up to `end`, the first of which is at `at`. Returns the byte
 // offset of the next strip.
-fn spell_places(at: u32, strips: &Strips, start: usize, end: usize, into: &mut [u8]) -> u32
+fn encode_offsets(at: u32, strips: &Strips, start: usize, end: usize, into: &mut [u8]) -> u32
     requires rising { start ≤ end }
     requires inside { end ≤ length strips.now }
     requires most { at + strips_size (drop start strips.now) ≤ limit }
@@ -90,7 +90,7 @@ fn spell_places(at: u32, strips: &Strips, start: usize, end: usize, into: &mut [
 }
 
 // Puts the byte offsets of strips, the first of which is at `at`.
-fn put_strip_places<W: Sink>(
+fn put_strip_offsets<W: Sink>(
     pending: &mut Pending,
     writer: &mut W,
     at: u32,
@@ -107,14 +107,14 @@ fn put_strip_places<W: Sink>(
     while i < strips.len() {
         let count = AT_ONCE.min(strips.len() - i);
         let bytes = &mut piece[..4 * count];
-        next = spell_places(next, strips, i, i + count, bytes);
+        next = encode_offsets(next, strips, i, i + count, bytes);
         pending.put(writer, bytes)?;
         i += count;
     }
     Ok(())
 }
 
-fn put_any_places<W: Sink>(
+fn put_any_offsets<W: Sink>(
     pending: &mut Pending,
     writer: &mut W,
     at: u32,
@@ -126,13 +126,13 @@ fn put_any_places<W: Sink>(
         (long_bytes Order.Most) (strip_places at (unwrap_or strips.now []))) }
 {
     match strips {
-        Some(strips) => put_strip_places(pending, writer, at, strips),
+        Some(strips) => put_strip_offsets(pending, writer, at, strips),
         None => Ok(()),
     }
 }
 
 // Puts the byte offsets of the thumbnail's strips.
-fn put_strips_told<W: Sink>(
+fn put_thumbnail_offsets<W: Sink>(
     pending: &mut Pending,
     writer: &mut W,
     form: &NormalForm,
@@ -143,14 +143,14 @@ fn put_strips_told<W: Sink>(
         (long_bytes Order.Most) (strip_places (strips_start (said_in form.now)) (strip_list (said_in form.now).thumb))) }
 {
     match &form.m.thumb {
-        Some(thumb) => put_any_places(pending, writer, form.starts.strips, &thumb.strips),
+        Some(thumb) => put_any_offsets(pending, writer, form.starts.strips, &thumb.strips),
         None => Ok(()),
     }
 }
 
 // Puts the value of an entry.
 #[tactic(auto, unfolding(crate::specs::Laid::item_bytes))]
-pub(crate) fn put_told_item<W: Sink>(
+pub(crate) fn put_item_value<W: Sink>(
     pending: &mut Pending,
     writer: &mut W,
     form: &NormalForm,
@@ -169,7 +169,7 @@ pub(crate) fn put_told_item<W: Sink>(
         Item::Link(dir) => put_long(pending, writer, Order::Most, table_at(form, dir)),
         Item::JpegOffset => put_long(pending, writer, Order::Most, jpeg_at(form)),
         Item::JpegLength(len) => put_long(pending, writer, Order::Most, len),
-        Item::StripOffsets(_) => put_strips_told(pending, writer, form),
+        Item::StripOffsets(_) => put_thumbnail_offsets(pending, writer, form),
         Item::StripLengths(strips) => put_strip_lengths(pending, writer, Order::Most, strips),
     }
 }
@@ -241,7 +241,7 @@ fn put_near_entry<W: Sink>(
 {
     let size = entry.item.size();
     pending.put(writer, &entry_head(Order::Most, entry))?;
-    put_told_item(pending, writer, form, entry.item)?;
+    put_item_value(pending, writer, form, entry.item)?;
     put_filler(pending, writer, 0, 4 - size as usize)
 }
 

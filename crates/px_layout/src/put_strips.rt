@@ -13,7 +13,7 @@ use px_meaning::Strips;
 pub(crate) const AT_ONCE: usize = 64;
 
 // Encodes the lengths of the strips from `start` up to `end`.
-fn spell_lengths(order: Order, strips: &Strips, start: usize, end: usize, into: &mut [u8])
+fn encode_lengths(order: Order, strips: &Strips, start: usize, end: usize, into: &mut [u8])
     requires rising { start ≤ end }
     requires inside { end ≤ length strips.now }
     requires short { AllByRecursion (λ n. n ≤ limit) (map (λ x. length x) strips.now) }
@@ -45,7 +45,7 @@ pub fn put_strip_lengths<W: Sink>(
     while i < strips.len() {
         let count = AT_ONCE.min(strips.len() - i);
         let bytes = &mut piece[..4 * count];
-        spell_lengths(order, strips, i, i + count, bytes);
+        encode_lengths(order, strips, i, i + count, bytes);
         pending.put(writer, bytes)?;
         i += count;
     }

@@ -79,7 +79,7 @@ impl<'a> Fields<'a> {
     pub fn get(&self, tag: u16) -> Option<&Value<'a>>
         ensures { option_copied result ≡ at_tag tag self.now }
     {
-        match place_of(self.list.as_slice(), tag) {
+        match position_of(self.list.as_slice(), tag) {
             Ok(i) => Some(&self.list[i].1),
             Err(_) => None,
         }
@@ -111,7 +111,7 @@ impl<'a> Fields<'a> {
         ensures memory { Lacks result memory.old memory.new }
         ensures asked { memory.new.asked ≡ memory.old.asked + (if is_some (at_tag tag self.old) then 0 else field_bytes) }
     {
-        match place_of(self.list.as_slice(), tag) {
+        match position_of(self.list.as_slice(), tag) {
             Ok(_) => Ok(false),
             Err(i) => {
                 memory.insert(&mut self.list, i, (tag, value))?;
@@ -147,7 +147,7 @@ impl<'a> Fields<'a> {
 }
 
 // The index of the tag, or the index where it would be inserted.
-fn place_of(list: &[(u16, Value)], tag: u16) -> Result<usize, usize>
+fn position_of(list: &[(u16, Value)], tag: u16) -> Result<usize, usize>
     requires { IsInOrder list.now }
     ensures found { IfOk result (IsAt list.now tag) }
     ensures absent { IfErr result (IsGapFor list.now tag) }

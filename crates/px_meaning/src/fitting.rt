@@ -32,7 +32,7 @@ pub fn fits(m: &Meaning) -> bool
 {
     fits_fields(Dir::Main, &m.main)
         && fits_record(&m.iptc)
-        && stands_alone(m)
+        && is_alone(m)
         && fits_exif(&m.exif)
         && fits_optional(Dir::Gps, &m.gps)
         && fits_thumb(&m.thumb)
@@ -109,7 +109,7 @@ fn fits_record(iim: &Option<Iim>) -> bool
 }
 
 // Whether the record, if there is one, has no field at its tag.
-fn stands_alone(m: &Meaning) -> bool
+fn is_alone(m: &Meaning) -> bool
     ensures { IsTrue result ↔ IfSome m.now.iptc (λ i. AllByRecursion (λ p. (p.0 ≡ record_tag) → ⊥) m.now.main) }
 {
     match m.iptc {

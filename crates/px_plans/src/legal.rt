@@ -18,7 +18,7 @@ use std::alloc::{AllocError, Global};
 
 // Whether a chunk of `size` bytes has an offset, is inside the plan's length, and shares no byte with a
 // claimed range. If so, it claims its range.
-fn hold(
+fn claim(
     memory: &mut Memory,
     plan: &Plan,
     held: &mut Ranges,
@@ -45,7 +45,7 @@ fn hold(
 }
 
 // The same for all chunks.
-fn hold_all(
+fn claim_all(
     memory: &mut Memory,
     plan: &Plan,
     held: &mut Ranges,
@@ -58,7 +58,7 @@ fn hold_all(
 {
     for i in 0..chunks.len() {
         let (chunk, size) = chunks[i];
-        if !hold(memory, plan, held, chunk, size)? {
+        if !claim(memory, plan, held, chunk, size)? {
             return Ok(false);
         }
     }
@@ -74,7 +74,7 @@ fn are_apart(memory: &mut Memory, plan: &Plan, chunks: &[(Chunk, u64)]) -> Resul
 {
     let mut held = Ranges::new_in(memory);
     held.add_in(memory, 0, 8)?;
-    hold_all(memory, plan, &mut held, chunks)
+    claim_all(memory, plan, &mut held, chunks)
 }
 
 /// Like `is_legal_in`, with memory of its own.

@@ -12,7 +12,7 @@ ghost use Rattle.px_meaning.specs.calls.Used.{HasNoUse};
 ghost use Rattle.px_tree.specs.calls.Reading.{Shows, bare, IsShape, Follows, span, span_checks};
 ghost use Rattle.px_tree.specs.calls.Paying.{Pays, StaysBelow};
 
-use crate::holding::hold;
+use crate::claiming::claim_range;
 use crate::source::Source;
 use px_bytes::{Cause, Memory, Order, Ranges, Refusal};
 use px_field::Form;
@@ -99,7 +99,7 @@ fn shape_of(dir: Dir, at: u32, before: Option<u16>, head: Head) -> Result<Shape,
 }
 
 // Claims the value of the entry at an offset, unless the value is in the entry.
-fn hold_value(
+fn claim_value(
     memory: &mut Memory,
     block: &[u8],
     held: &mut Ranges,
@@ -125,7 +125,7 @@ fn hold_value(
     if u64::from(start) + len > block.len() as u64 {
         return Err(Cause::ValueOutside.at(at));
     }
-    hold(memory, held, at, start, len as u32)
+    claim_range(memory, held, at, start, len as u32)
 }
 
 // Judges the entry at an offset, after an entry with a given tag, and claims its value.
@@ -156,6 +156,6 @@ pub fn judge_entry(
 {
     let head = head_at(source.block, source.order, at);
     let shape = shape_of(source.dir, at, before, head)?;
-    hold_value(memory, source.block, held, at, shape)?;
+    claim_value(memory, source.block, held, at, shape)?;
     Ok(shape)
 }

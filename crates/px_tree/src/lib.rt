@@ -20,7 +20,7 @@ mod entry_values;
 pub mod fault_laws;
 mod field_reading;
 mod header;
-mod holding;
+mod claiming;
 mod links;
 mod read;
 mod records;

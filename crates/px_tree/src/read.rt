@@ -11,7 +11,7 @@ ghost use Rattle.px_bytes.specs.Lacking.{AsksAtMost};
 ghost use Rattle.px_tree.specs.Asking.{exif_request};
 
 use crate::header::{judge_header, order_in};
-use crate::holding::hold;
+use crate::claiming::claim_range;
 use crate::records::read_record;
 use crate::tables::Directory;
 use crate::thumbnail::read_thumb;
@@ -51,7 +51,7 @@ fn read_tree<'a>(memory: &mut Memory, block: &'a [u8], order: Order) -> Result<M
     ensures asked { AsksAtMost (exif_request (length block.now)) memory.old memory.new }
 {
     let mut held = Ranges::with_room_in(memory, block.len() as u32)?;
-    hold(memory, &mut held, 0, 0, 8)?;
+    claim_range(memory, &mut held, 0, 0, 8)?;
     let directories = read_dirs(memory, block, order, &mut held)?;
     let Directories {
         main,

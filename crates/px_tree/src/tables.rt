@@ -14,7 +14,7 @@ ghost use Rattle.px_meaning.specs.Asking.{field_bytes};
 ghost use Rattle.px_tree.specs.calls.Paying.{paid, Pays, StaysBelow};
 
 use crate::field_reading::{Entries, read_entries};
-use crate::holding::hold;
+use crate::claiming::claim_range;
 use crate::links::{Link, is_earlier};
 use crate::source::Source;
 use crate::uses::Uses;
@@ -66,7 +66,7 @@ fn open_table(
     if u64::from(at) + u64::from(size) > block.len() as u64 {
         return Err(Cause::DirectoryOutside.at(place));
     }
-    hold(memory, held, place, at, size)?;
+    claim_range(memory, held, place, at, size)?;
     Ok(count)
 }
 

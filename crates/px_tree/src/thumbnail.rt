@@ -20,7 +20,7 @@ ghost use Rattle.px_meaning.specs.calls.Strips.{ranges_in};
 ghost use Rattle.px_tree.specs.calls.Paying.{Pays, StaysBelow};
 
 use crate::entry_values::value_at;
-use crate::holding::hold;
+use crate::claiming::claim_range;
 use crate::links::{Found, next_link};
 use crate::rising::rising_span;
 use crate::tables::Directory;
@@ -110,11 +110,11 @@ fn claim(
     if u64::from(start) + u64::from(len) > block.len() as u64 {
         return Err(Cause::ThumbnailOutside.at(place));
     }
-    hold(memory, held, place, start, len)
+    claim_range(memory, held, place, start, len)
 }
 
 // Claims and returns the JPEG, if both of its entries are present.
-fn hold_jpeg<'a>(
+fn claim_jpeg<'a>(
     memory: &mut Memory,
     block: &'a [u8],
     held: &mut Ranges,
@@ -279,7 +279,7 @@ pub fn read_thumbnail<'a>(
     } = directory;
     judge_pairs(parts)?;
     judge_end(block, order, at, count)?;
-    let jpeg = hold_jpeg(memory, block, held, parts)?;
+    let jpeg = claim_jpeg(memory, block, held, parts)?;
     let strips = read_strips(memory, block, order, held, parts)?;
     Ok(Thumb {
         fields,

@@ -96,7 +96,7 @@ fn link_to_interop(exif: &Option<Directory>) -> Option<Link>
 }
 
 // The pointer to the next directory.
-fn link_behind(block: &[u8], order: Order, directory: &Directory) -> Option<Link>
+fn link_after(block: &[u8], order: Order, directory: &Directory) -> Option<Link>
     requires bounded { length block.now ≤ limit }
     requires stands { HasTable block.now order directory.now.at directory.now.count }
     ensures leads { option_map
@@ -172,7 +172,7 @@ pub fn read_dirs<'a>(
     let read = [interop_link, exif_link, Some(main_link)];
     source.dir = Dir::Gps;
     let gps = read_linked(memory, &source, held, &read, gps_link)?;
-    let thumb_link = link_behind(block, order, &main);
+    let thumb_link = link_after(block, order, &main);
     let read = [gps_link, interop_link, exif_link, Some(main_link)];
     source.dir = Dir::Thumb;
     let thumb = read_linked(memory, &source, held, &read, thumb_link)?;

@@ -106,7 +106,7 @@ fn with_one<'a>(
 }
 
 // The command with the subcommands that print something of one file.
-fn telling<'a>(alloc: Global, version: &'a str) -> Result<Command<'a>, AllocError>
+fn with_reports<'a>(alloc: Global, version: &'a str) -> Result<Command<'a>, AllocError>
     ensures { IfOk result (λ c. app_of c ≡ with_subcommand (with_subcommand (with_subcommand bare
         (of_one (codes "show"))) (of_one (codes "check"))) (of_one (codes "captions"))) }
 {
@@ -155,5 +155,5 @@ fn with_compare<'a>(
 pub fn command<'a>(alloc: Global, version: &'a str) -> Result<Command<'a>, AllocError>
     ensures { IfOk result (λ c. app_of c ≡ exifnorm) }
 {
-    with_compare(alloc, with_normalise(alloc, telling(alloc, version)))
+    with_compare(alloc, with_normalise(alloc, with_reports(alloc, version)))
 }

@@ -36,11 +36,11 @@ def read(stream: Stream, whole: bool = False) -> Blocks:
     head.read(stream, 0, budget)
     starts = _further(stream, head, end)
     whole = whole or head.index_is_wrong
-    _read_behind(stream, head, (starts + [end])[0], whole)
+    _read_after(stream, head, (starts + [end])[0], whole)
     for number, start in enumerate(starts):
         one = _Head(blocks, f"MPF picture {number + 2}")
         one.read(stream, start, budget)
-        _read_behind(stream, one, (starts + [end])[number + 1], whole)
+        _read_after(stream, one, (starts + [end])[number + 1], whole)
     return blocks
 
 
@@ -141,7 +141,7 @@ def _further(stream: Stream, head: _Head, end: int) -> List[int]:
     return sorted(found)
 
 
-def _read_behind(stream: Stream, head: _Head, end: int, whole: bool) -> None:
+def _read_after(stream: Stream, head: _Head, end: int, whole: bool) -> None:
     """Reads the part after a picture's first scan, up to the next picture or the end of the file."""
     found = tail(stream, head.end, end, whole) if head.has_scan else Tail([], min(head.end, end), True)
     for at, length in found.segments:

@@ -332,15 +332,15 @@ static Call *const text_calls[] = {exifnorm_normalise, exifnorm_show, exifnorm_c
 static void judge_refused_memory(const unsigned char *block, size_t length) {
     size_t live = memory.live, room = room_for(length);
     Call *made = text_calls[seen.blocks / 8 % 3];
-    struct answer due = call(made, block, length, room);
+    struct answer expected = call(made, block, length, room);
     uint32_t first[4] = {0, 0, 0, 0};
-    memcpy(first, due.bytes, due.status == EXIFNORM_DONE && due.written >= sizeof first ? sizeof first : 0);
+    memcpy(first, expected.bytes, expected.status == EXIFNORM_DONE && expected.written >= sizeof first ? sizeof first : 0);
     start_counting(1 + (long)(seen.blocks / 24 % 4));
     struct answer came = call(made, block, length, room);
     stop_counting();
     int is_none = memory.refused && came.status == EXIFNORM_NO_MEMORY && came.written == UNSET && is_fault(came.fault, NO_FAULT) &&
                   is_filled(came.bytes, room);
-    int is_same = came.status == due.status && came.written == due.written && is_fault(came.fault, due.fault) &&
+    int is_same = came.status == expected.status && came.written == expected.written && is_fault(came.fault, expected.fault) &&
                   (came.status != EXIFNORM_DONE || came.written < sizeof first || memcmp(came.bytes, first, sizeof first) == 0);
     holds(LAW_NO_MEMORY, is_none || is_same);
     holds(LAW_FREED, memory.live == live);

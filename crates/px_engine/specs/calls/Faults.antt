@@ -23,9 +23,9 @@ unwritten write.OutOfMemory = OutOfMemory
 unwritten write.WriteFailed = WriteFailed
 
 -- the result of a writer of texts
-abbrev pub told : {A E : Type 0} → Result A E → Result A Fault
-told (Ok x) = Ok x
-told (Err e) = Err WriteFailed
+abbrev pub as_fault : {A E : Type 0} → Result A E → Result A Fault
+as_fault (Ok x) = Ok x
+as_fault (Err e) = Err WriteFailed
 
 -- the result of a writer of normal forms
 abbrev pub written : Result ℕ WriteRefusal → Result ℕ Fault

@@ -5,6 +5,6 @@ use Rattle.px_jobs.specs.Lines.{IsWell, IsFailed, TookNothing}
 
 -- only a flush: the given status, or 4 if it failed
 abbrev pub Flushes : ℕ → ℕ → Device → Type 0
-Flushes due status lines =
-    ((status ≡ due) × IsWell lines × TookNothing lines)
+Flushes expected status lines =
+    ((status ≡ expected) × IsWell lines × TookNothing lines)
     ⊎ ((status ≡ 4) × IsFailed lines × TookNothing lines)

@@ -8,8 +8,8 @@ use Rattle.px_engine.proofs.Asked.{run_within}
 use Rattle.px_engine.proofs.runs.normalise_in.Goals as goal
 
 pub returns-clause-done : goal.returns-clause-done
-returns-clause-done g c = writes_said_normalises c.write_said-done.result _ _ c.deref.result.now (said_of c.in_ok-said.said) _ _ _ _
-    (read_as _ _ _ _ c.deref.ensures.value c.in_ok-file.ensures.found) c.in_ok-said.ensures.said c.write_said-done.ensures
+returns-clause-done g c = writes_said_normalises c.write_form-done.result _ _ c.deref.result.now (said_of c.in_ok-said.said) _ _ _ _
+    (read_as _ _ _ _ c.deref.ensures.value c.in_ok-file.ensures.found) c.in_ok-said.ensures.said c.write_form-done.ensures
 
 pub returns-in_err-said-clause-done : goal.returns-in_err-said-clause-done
 returns-in_err-said-clause-done g c =
@@ -19,8 +19,8 @@ returns-in_err-said-clause-done g c =
 
 pub returns-clause-memory : goal.returns-clause-memory
 returns-clause-memory g c =
-    lacks_nothing c.write_said-done.result _ _ _ _ _ _ _ (c.in_ok-said.ensures.memory ∙ c.in_ok-file.ensures.memory)
-    c.write_said-done.ensures
+    lacks_nothing c.write_form-done.result _ _ _ _ _ _ _ (c.in_ok-said.ensures.memory ∙ c.in_ok-file.ensures.memory)
+    c.write_form-done.ensures
 
 pub returns-in_err-said-clause-memory : goal.returns-in_err-said-clause-memory
 returns-in_err-said-clause-memory g c =

@@ -3,4 +3,4 @@ use Rattle.px_engine.proofs.texts.write_captions.Goals as goal
 
 pub returns : goal.returns
 returns g c =
-    told_text c.send_captions.result c.told.result _ _ _ _ _ c.told.ensures c.send_captions.ensures.0 c.send_captions.ensures.1
+    told_text c.send_captions.result c.as_fault.result _ _ _ _ _ c.as_fault.ensures c.send_captions.ensures.0 c.send_captions.ensures.1

@@ -3,4 +3,4 @@ use Rattle.px_engine.proofs.texts.write_listing.Goals as goal
 
 pub returns : goal.returns
 returns g c =
-    told_text c.send_listing.result c.told.result _ _ _ _ _ c.told.ensures c.send_listing.ensures.0 c.send_listing.ensures.1
+    told_text c.send_listing.result c.as_fault.result _ _ _ _ _ c.as_fault.ensures c.send_listing.ensures.0 c.send_listing.ensures.1

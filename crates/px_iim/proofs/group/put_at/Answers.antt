@@ -13,6 +13,6 @@ insert_at_end xs moved at x e l =
 pub returns-then-at-len-clause-done : goal.returns-then-at-len-clause-done
 returns-then-at-len-clause-done c =
     let here : length c.args.list.now.items ≤ c.args.at =
-    omega (arith, c.if-at-len.true, c.len.ensures, c.make_room.ensures.len, c.args.list.now.ok.0) in
+    omega (arith, c.if-at-len.true, c.len.ensures, c.reserve_more.ensures.len, c.args.list.now.ok.0) in
     c.push_reserved.ensures.items
-    ∙ insert_at_end c.args.list.now.items c.make_room.new.list.items c.args.at c.args.item c.make_room.ensures.items here
+    ∙ insert_at_end c.args.list.now.items c.reserve_more.new.list.items c.args.at c.args.item c.reserve_more.ensures.items here

@@ -27,7 +27,7 @@ module _ (x : List ℕ) (ds items : List DataSet) (short : length x ≤ limit) (
 pub put_all-form_len-requires-clause-said : goal.put_all-form_len-requires-clause-said
 put_all-form_len-requires-clause-said c =
     let (ds, s, n, o, w) = c.requires.said in
-    (ds, s, omega (arith, n, c.in_ok-make_room_for.ensures.room))
+    (ds, s, omega (arith, n, c.in_ok-reserve_for.ensures.room))
 
 pub of_items-requires-clause-order : goal.of_items-requires-clause-order
 of_items-requires-clause-order c =

@@ -7,14 +7,14 @@ returns g c = (
   c.show_in-printed.result,
   c.show_in-printed.ensures.reads,
   (c.show_in-printed.ensures.memory, c.show_in-printed.ensures.asked),
-  text_told listing c.show_in-printed.result (g.R.Source.bytes_left c.args.reader.now) c.tell_printed.result
-      (g.L.Device.failed c.args.lines.now) (g.L.Device.failed c.show_in-printed.new.writer) (g.L.Device.failed c.tell_printed.new.lines)
+  text_told listing c.show_in-printed.result (g.R.Source.bytes_left c.args.reader.now) c.report_printed.result
+      (g.L.Device.failed c.args.lines.now) (g.L.Device.failed c.show_in-printed.new.writer) (g.L.Device.failed c.report_printed.new.lines)
       (g.L.Sink.bytes_taken c.args.lines.now) (g.L.Sink.bytes_taken c.show_in-printed.new.writer)
-      (g.L.Sink.bytes_taken c.tell_printed.new.lines)
-      c.show_in-printed.ensures.done c.show_in-printed.ensures.writes c.tell_printed.ensures,
+      (g.L.Sink.bytes_taken c.report_printed.new.lines)
+      c.show_in-printed.ensures.done c.show_in-printed.ensures.writes c.report_printed.ensures,
 )
 
-pub tell_printed-requires : goal.tell_printed-requires
-tell_printed-requires g c =
+pub report_printed-requires : goal.report_printed-requires
+report_printed-requires g c =
     counts_writes_room c.show_in-printed.result (g.L.Device.failed c.args.lines.now) (g.L.Device.failed c.show_in-printed.new.writer)
     c.show_in-printed.ensures.writes c.requires.telling

@@ -29,16 +29,16 @@ returns-in_err-put g c =
       search rules,
     )
 
-pub returns-in_err-put_told_item : goal.returns-in_err-put_told_item
-returns-in_err-put_told_item g c =
-    let p = err_from_is_err_and c.from_residual-in_err-put_told_item.result c.from_residual-in_err-put_told_item.ensures.1 in
+pub returns-in_err-put_item_value : goal.returns-in_err-put_item_value
+returns-in_err-put_item_value g c =
+    let p = err_from_is_err_and c.from_residual-in_err-put_item_value.result c.from_residual-in_err-put_item_value.ensures.1 in
     let value = item_bytes (plan_in c.args.form.now) Most 0 (item_of c.args.entry.now.item) in
     let spare = replicate (4 - c.size-size.result) 0 in
     rw p.1 (
       fails_as g.W.Sink.bytes_taken _ _ c.args.pending.now _ _ (near_given_head (plan_in c.args.form.now)
           (entry_of c.args.entry.now) c.size-size.result c.entry_head.result c.size-size.ensures c.entry_head.ensures)
           (second_of g.W.Sink.bytes_taken _ _ _ c.args.pending.now c.put.new.self c.entry_head.result value spare
-          (c.in_ok-put.ensures.bytes, c.in_ok-put.ensures.waits) c.in_err-put_told_item.ensures.0),
+          (c.in_ok-put.ensures.bytes, c.in_ok-put.ensures.waits) c.in_err-put_item_value.ensures.0),
       search rules,
     )
 
@@ -50,7 +50,7 @@ returns g c =
           (near_given_head (plan_in c.args.form.now) (entry_of c.args.entry.now) c.size-size.result c.entry_head.result
           c.size-size.ensures c.entry_head.ensures)
           (c.in_ok-put.ensures.bytes, c.in_ok-put.ensures.waits)
-          (puts_to_both g.W.Sink.bytes_taken c.put_filler.result _ _ _ c.put.new.self c.put_told_item.new.pending c.put_filler.new.pending
-          value spare c.in_ok-put_told_item.ensures.0 c.put_filler.ensures.0),
+          (puts_to_both g.W.Sink.bytes_taken c.put_filler.result _ _ _ c.put.new.self c.put_item_value.new.pending c.put_filler.new.pending
+          value spare c.in_ok-put_item_value.ensures.0 c.put_filler.ensures.0),
       search rules,
     )

@@ -16,12 +16,12 @@ returns-in_err-shape-clause-judged c = λ taken a.
     rw (p.1, p.2) (shape_refuses _ c.args.source.now.order c.args.source.now.dir taken c.args.at c.args.before c.head_at-head.result _
     c.head_at-head.ensures _ c.in_err-shape.ensures.judged)
 
-pub returns-in_err-hold_value-clause-judged : goal.returns-in_err-hold_value-clause-judged
-returns-in_err-hold_value-clause-judged c = λ taken a.
-    let p = err_from_is_err_and c.from_residual-in_err-hold_value.result c.from_residual-in_err-hold_value.ensures.1 in
+pub returns-in_err-claim_value-clause-judged : goal.returns-in_err-claim_value-clause-judged
+returns-in_err-claim_value-clause-judged c = λ taken a.
+    let p = err_from_is_err_and c.from_residual-in_err-claim_value.result c.from_residual-in_err-claim_value.ensures.1 in
     let k = c.in_ok-shape.ensures.judged in
     rw (p.1, p.2) (value_refuses c.args.source.now.block.now c.args.source.now.order c.args.source.now.dir taken c.args.at c.args.before
-    c.head_at-head.result _ c.head_at-head.ensures c.in_ok-shape.shape k.1.0 k.1.1 k.0 _ (c.in_err-hold_value.ensures.judged taken a))
+    c.head_at-head.result _ c.head_at-head.ensures c.in_ok-shape.shape k.1.0 k.1.1 k.0 _ (c.in_err-claim_value.ensures.judged taken a))
 
 pub returns-clause-judged : goal.returns-clause-judged
 returns-clause-judged c = λ taken a.
@@ -33,9 +33,9 @@ returns-clause-judged c = λ taken a.
     let shows = c.head_at-head.ensures in
     let s = c.in_ok-shape.shape in
     let k = c.in_ok-shape.ensures.judged in
-    let j = c.in_ok-hold_value.ensures.judged taken a in (
+    let j = c.in_ok-claim_value.ensures.judged taken a in (
       entry_true b o d taken c.args.at c.args.before h e shows s k.1.0 k.1.1 k.0 j.0,
-      subst (λ (r : Option Range). Agrees (option_to_list r ++ taken) c.hold_value.new.held)
+      subst (λ (r : Option Range). Agrees (option_to_list r ++ taken) c.claim_value.new.held)
           (range_same b o d taken c.args.at c.args.before h e shows s k.1.0 k.1.1 k.0) j.1,
     )
 

@@ -15,17 +15,17 @@ use Rattle.std.proofs.Common.{length, arith}
 use Rattle.px_tree.proofs.reading.Paying.{paid_most, paid_none, extent_none}
 use Rattle.px_tree.proofs.read.read_tree.Goals as goal
 
-pub returns-in_err-hold-clause-judged : goal.returns-in_err-hold-clause-judged
-returns-in_err-hold-clause-judged c =
-    let p = err_from_is_err_and c.from_residual-in_err-hold.result c.from_residual-in_err-hold.ensures.1 in
+pub returns-in_err-claim_range-clause-judged : goal.returns-in_err-claim_range-clause-judged
+returns-in_err-claim_range-clause-judged c =
+    let p = err_from_is_err_and c.from_residual-in_err-claim_range.result c.from_residual-in_err-claim_range.ensures.1 in
     let a = agrees_none _ c.in_ok-held.ensures.none in
-    rw (p.1, p.2) (Refuses_none c.in_err-hold.field-0.0 (check Overlap 0 (is_free [] (range 0 8)) ∷ []) _ refl
-    (c.in_err-hold.ensures.judged [] a))
+    rw (p.1, p.2) (Refuses_none c.in_err-claim_range.field-0.0 (check Overlap 0 (is_free [] (range 0 8)) ∷ []) _ refl
+    (c.in_err-claim_range.ensures.judged [] a))
 
 pub returns-in_err-directories-clause-judged : goal.returns-in_err-directories-clause-judged
 returns-in_err-directories-clause-judged c =
     let p = err_from_is_err_and c.from_residual-in_err-directories.result c.from_residual-in_err-directories.ensures.1 in
-    let h = (c.in_ok-hold.ensures.judged [] (agrees_none _ c.in_ok-held.ensures.none)).1 in
+    let h = (c.in_ok-claim_range.ensures.judged [] (agrees_none _ c.in_ok-held.ensures.none)).1 in
     rw (p.1, p.2) (dirs_refuse_tree c.args.block.now c.args.order c.in_err-directories.field-0.0
     (c.in_err-directories.ensures.judged (range 0 8 ∷ []) h))
 
@@ -33,7 +33,7 @@ pub read_thumb-requires-clause-read : goal.read_thumb-requires-clause-read
 read_thumb-requires-clause-read c =
     let b = c.args.block.now in
     let o = c.args.order in
-    let h = (c.in_ok-hold.ensures.judged [] (agrees_none _ c.in_ok-held.ensures.none)).1 in
+    let h = (c.in_ok-claim_range.ensures.judged [] (agrees_none _ c.in_ok-held.ensures.none)).1 in
     let d = c.in_ok-directories.ensures.judged (range 0 8 ∷ []) h in
     thumb_read b o c.in_ok-directories.directories.thumb d.1.0.thumb_read d.1.0.thumb (all_in_order b o d.0).1.1.1.1.0
 
@@ -42,7 +42,7 @@ returns-in_err-thumb-clause-judged c =
     let p = err_from_is_err_and c.from_residual-in_err-thumb.result c.from_residual-in_err-thumb.ensures.1 in
     let b = c.args.block.now in
     let o = c.args.order in
-    let h = (c.in_ok-hold.ensures.judged [] (agrees_none _ c.in_ok-held.ensures.none)).1 in
+    let h = (c.in_ok-claim_range.ensures.judged [] (agrees_none _ c.in_ok-held.ensures.none)).1 in
     let d = c.in_ok-directories.ensures.judged (range 0 8 ∷ []) h in
     rw (p.1, p.2) (thumb_refuses_tree b o (option_map (λ (t : Directory). t.at) c.in_ok-directories.directories.thumb)
     d.1.0.thumb_read.stands d.0 c.in_err-thumb.field-0.0
@@ -50,14 +50,14 @@ returns-in_err-thumb-clause-judged c =
 
 pub read_record-requires-clause-found : goal.read_record-requires-clause-found
 read_record-requires-clause-found c =
-    let h = (c.in_ok-hold.ensures.judged [] (agrees_none _ c.in_ok-held.ensures.none)).1 in
+    let h = (c.in_ok-claim_range.ensures.judged [] (agrees_none _ c.in_ok-held.ensures.none)).1 in
     (c.in_ok-directories.ensures.judged (range 0 8 ∷ []) h).1.0.main_found
 
 pub read_record-requires-clause-each : goal.read_record-requires-clause-each
 read_record-requires-clause-each c =
     let b = c.args.block.now in
     let o = c.args.order in
-    let h = (c.in_ok-hold.ensures.judged [] (agrees_none _ c.in_ok-held.ensures.none)).1 in
+    let h = (c.in_ok-claim_range.ensures.judged [] (agrees_none _ c.in_ok-held.ensures.none)).1 in
     let d = c.in_ok-directories.ensures.judged (range 0 8 ∷ []) h in
     main_each b o c.in_ok-directories.directories.main.at d.1.0.main_stands (all_in_order b o d.0).0
 
@@ -65,7 +65,7 @@ pub returns-clause-judged : goal.returns-clause-judged
 returns-clause-judged c =
     let b = c.args.block.now in
     let o = c.args.order in
-    let h = (c.in_ok-hold.ensures.judged [] (agrees_none _ c.in_ok-held.ensures.none)).1 in
+    let h = (c.in_ok-claim_range.ensures.judged [] (agrees_none _ c.in_ok-held.ensures.none)).1 in
     let d = c.in_ok-directories.ensures.judged (range 0 8 ∷ []) h in
     let seen = d.1.0 in
     let t = c.in_ok-thumb.ensures.judged (dirs_held b o (range 0 8 ∷ []) dirs) d.1.1 in
@@ -82,14 +82,14 @@ returns-clause-judged c =
           seen.thumb_read.stands,
     )
 
-pub returns-in_err-hold-clause-asked : goal.returns-in_err-hold-clause-asked
-returns-in_err-hold-clause-asked c =
+pub returns-in_err-claim_range-clause-asked : goal.returns-in_err-claim_range-clause-asked
+returns-in_err-claim_range-clause-asked c =
     let paid_first = paid_none _ c.in_ok-held.ensures.none in
     let extent_first = extent_none _ c.in_ok-held.ensures.none in
     let marks = c.in_ok-held.ensures.asked in
-    let asked = c.in_err-hold.ensures.asked in
-    let below = c.in_err-hold.ensures.below in
-    let most = paid_most c.hold.new.held (length c.args.block.now) (omega arith) in
+    let asked = c.in_err-claim_range.ensures.asked in
+    let below = c.in_err-claim_range.ensures.below in
+    let most = paid_most c.claim_range.new.held (length c.args.block.now) (omega arith) in
     omega arith
 
 pub returns-in_err-directories-clause-asked : goal.returns-in_err-directories-clause-asked
@@ -97,8 +97,8 @@ returns-in_err-directories-clause-asked c =
     let paid_first = paid_none _ c.in_ok-held.ensures.none in
     let extent_first = extent_none _ c.in_ok-held.ensures.none in
     let marks = c.in_ok-held.ensures.asked in
-    let asked0 = c.in_ok-hold.ensures.asked in
-    let below0 = c.in_ok-hold.ensures.below in
+    let asked0 = c.in_ok-claim_range.ensures.asked in
+    let below0 = c.in_ok-claim_range.ensures.below in
     let asked = c.in_err-directories.ensures.asked in
     let below = c.in_err-directories.ensures.below in
     let most = paid_most c.read_dirs.new.held (length c.args.block.now) (omega arith) in
@@ -109,8 +109,8 @@ returns-in_err-thumb-clause-asked c =
     let paid_first = paid_none _ c.in_ok-held.ensures.none in
     let extent_first = extent_none _ c.in_ok-held.ensures.none in
     let marks = c.in_ok-held.ensures.asked in
-    let asked0 = c.in_ok-hold.ensures.asked in
-    let below0 = c.in_ok-hold.ensures.below in
+    let asked0 = c.in_ok-claim_range.ensures.asked in
+    let below0 = c.in_ok-claim_range.ensures.below in
     let asked1 = c.in_ok-directories.ensures.asked in
     let below1 = c.in_ok-directories.ensures.below in
     let asked = c.in_err-thumb.ensures.asked in
@@ -123,8 +123,8 @@ returns-in_err-iptc-clause-asked c =
     let paid_first = paid_none _ c.in_ok-held.ensures.none in
     let extent_first = extent_none _ c.in_ok-held.ensures.none in
     let marks = c.in_ok-held.ensures.asked in
-    let asked0 = c.in_ok-hold.ensures.asked in
-    let below0 = c.in_ok-hold.ensures.below in
+    let asked0 = c.in_ok-claim_range.ensures.asked in
+    let below0 = c.in_ok-claim_range.ensures.below in
     let asked1 = c.in_ok-directories.ensures.asked in
     let below1 = c.in_ok-directories.ensures.below in
     let asked2 = c.in_ok-thumb.ensures.asked in
@@ -138,8 +138,8 @@ returns-clause-asked c =
     let paid_first = paid_none _ c.in_ok-held.ensures.none in
     let extent_first = extent_none _ c.in_ok-held.ensures.none in
     let marks = c.in_ok-held.ensures.asked in
-    let asked0 = c.in_ok-hold.ensures.asked in
-    let below0 = c.in_ok-hold.ensures.below in
+    let asked0 = c.in_ok-claim_range.ensures.asked in
+    let below0 = c.in_ok-claim_range.ensures.below in
     let asked1 = c.in_ok-directories.ensures.asked in
     let below1 = c.in_ok-directories.ensures.below in
     let asked2 = c.in_ok-thumb.ensures.asked in

@@ -43,7 +43,7 @@ read_linked-requires-4-clause-named c =
     let lm = c.link_to_main-main_link.result in
     let nm = c.link_to_main-main_link.ensures in
     let me = c.in_ok-main.ensures.there.0 ∙ main_is b o lm nm in
-    names_thumb b o c.link_behind-thumb_link.result _ me c.link_behind-thumb_link.ensures.leads c.link_behind-thumb_link.ensures.place
+    names_thumb b o c.link_after-thumb_link.result _ me c.link_after-thumb_link.ensures.leads c.link_after-thumb_link.ensures.place
 
 pub returns-in_err-main-clause-judged : goal.returns-in_err-main-clause-judged
 returns-in_err-main-clause-judged c = λ taken a.
@@ -153,8 +153,8 @@ returns-clause-judged c = λ taken a.
     let ne = names_exif b o c.link_to_exif-exif_link.result _ me _ c.link_to_exif-exif_link.ensures c.in_ok-main.ensures.uses.exif in
     let ni = names_interop b o c.link_to_interop-interop_link.result _ c.in_ok-exif.ensures.there c.link_to_interop-interop_link.ensures in
     let ng = names_gps b o c.link_to_gps-gps_link.result _ me _ c.link_to_gps-gps_link.ensures c.in_ok-main.ensures.uses.gps in
-    let nt = names_thumb b o c.link_behind-thumb_link.result _ me c.link_behind-thumb_link.ensures.leads
-    c.link_behind-thumb_link.ensures.place in
+    let nt = names_thumb b o c.link_after-thumb_link.result _ me c.link_after-thumb_link.ensures.leads
+    c.link_after-thumb_link.ensures.place in
     let s0 = dirs_start b o taken c.args.held.now a in
     let j0 = c.in_ok-main.ensures.judged s0.now s0.agrees in
     let s1 = dirs_step b o taken [] Main (Exif ∷ Interop ∷ Gps ∷ Thumb ∷ []) _ s0 (Some lm) _ nm
@@ -170,7 +170,7 @@ returns-clause-judged c = λ taken a.
     _ s3 c.link_to_gps-gps_link.result _ ng j3.0 j3.1.1 in
     let j4 = c.in_ok-thumb.ensures.judged s4.now s4.agrees in
     let s5 = dirs_step b o taken (c.link_to_gps-gps_link.result ∷ c.link_to_interop-interop_link.result ∷ c.link_to_exif-exif_link.result ∷
-    Some lm ∷ []) Thumb [] _ s4 c.link_behind-thumb_link.result _ nt j4.0 j4.1.1 in (
+    Some lm ∷ []) Thumb [] _ s4 c.link_after-thumb_link.result _ nt j4.0 j4.1.1 in (
       dirs_clean b o taken _ _ s5,
       (
         record {

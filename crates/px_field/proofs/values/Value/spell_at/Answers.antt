@@ -7,20 +7,20 @@ use Rattle.px_field.proofs.values.Value.spell_at.Goals as goal
 
 pub returns-clause-width : goal.returns-clause-width
 returns-clause-width c =
-    c.spell_element.ensures.width ∙ length_spell c.args.order (form_in c.args.self.now.kind) c.element.result c.element.ensures.range
+    c.encode_element.ensures.width ∙ length_spell c.args.order (form_in c.args.self.now.kind) c.element.result c.element.ensures.range
 
 pub returns-clause-front : goal.returns-clause-front
 returns-clause-front c e here =
     let some : Some c.element.result ≡ Some e = sym c.element.ensures.element ∙ here in
     let same : c.element.result ≡ e = cc in
-    let w = c.spell_element.result in
+    let w = c.encode_element.result in
     let x = spell c.args.order c.element.result in
-    ap (λ (l : List ℕ). take w l) c.spell_element.ensures.front
-    ∙ take_at x (drop w c.args.into.now) w (sym c.spell_element.ensures.width)
+    ap (λ (l : List ℕ). take w l) c.encode_element.ensures.front
+    ∙ take_at x (drop w c.args.into.now) w (sym c.encode_element.ensures.width)
     ∙ ap (λ (d : Element). spell c.args.order d) same
 
 pub returns-clause-rest : goal.returns-clause-rest
 returns-clause-rest c =
-    let w = c.spell_element.result in
+    let w = c.encode_element.result in
     let x = spell c.args.order c.element.result in
-    ap (λ (l : List ℕ). drop w l) c.spell_element.ensures.front ∙ drop_at x (drop w c.args.into.now) w (sym c.spell_element.ensures.width)
+    ap (λ (l : List ℕ). drop w l) c.encode_element.ensures.front ∙ drop_at x (drop w c.args.into.now) w (sym c.encode_element.ensures.width)

@@ -10,8 +10,8 @@ use Rattle.px_field.proofs.ViewLemmas.{length_shown}
 use Rattle.px_field.proofs.TurnLaws.{part_shown, read_size}
 use Rattle.px_field.proofs.values.Value.spell_many.Goals as goal
 
-pub behind-raw-requires-clause-inside : goal.behind-raw-requires-clause-inside
-behind-raw-requires-clause-inside c =
+pub slice_from-raw-requires-clause-inside : goal.slice_from-raw-requires-clause-inside
+slice_from-raw-requires-clause-inside c =
     let v = c.self.inside in
     let seen : length (shown v.widened v.order v.form v.raw.now).elements ≡ length c.args.self.now.elements =
     ap (λ (w : Value). length w.elements) c.self.view_is in
@@ -31,12 +31,12 @@ returns-clause-front c =
     in
     let long : length c.turn.new.to ≡ n * c.width-width.result = search rules in
     let fits : n * size f ≤ length (drop (i * size f) v.raw.now) =
-    subst (λ (x : List ℕ). n * size f ≤ length x) c.behind-raw.ensures.value c.behind-raw.ensures.room in
+    subst (λ (x : List ℕ). n * size f ≤ length x) c.slice_from-raw.ensures.value c.slice_from-raw.ensures.room in
     take_at c.turn.new.to _ (n * size (form_in c.args.self.now.kind)) (long ∙ ap (λ (m : ℕ). n * m) c.width-width.ensures)
     ∙ c.turn.ensures
-    ∙ ap (λ (k : Width). flat_map (turned k v.order o) (pieces n (read_by k) c.behind-raw.result.now)) c.of.ensures
-    ∙ ap (λ (m : ℕ). flat_map (turned (width_of v.widened f) v.order o) (pieces n m c.behind-raw.result.now))
+    ∙ ap (λ (k : Width). flat_map (turned k v.order o) (pieces n (read_by k) c.slice_from-raw.result.now)) c.of.ensures
+    ∙ ap (λ (m : ℕ). flat_map (turned (width_of v.widened f) v.order o) (pieces n m c.slice_from-raw.result.now))
     (read_size v.widened f c.self.invariant.width)
-    ∙ ap (λ (x : List ℕ). flat_map (turned (width_of v.widened f) v.order o) (pieces n (size f) x)) c.behind-raw.ensures.value
+    ∙ ap (λ (x : List ℕ). flat_map (turned (width_of v.widened f) v.order o) (pieces n (size f) x)) c.slice_from-raw.ensures.value
     ∙ sym (part_shown v.widened v.order o f v.raw.now n i (i * size f) c.self.invariant.width c.self.invariant.bytes refl inside fits)
     ∙ ap (λ (u : Value). flat_map (spell o) (take n (drop i u.elements))) c.self.view_is

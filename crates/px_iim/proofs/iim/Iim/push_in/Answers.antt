@@ -44,9 +44,9 @@ invariant_of-self-2 c =
     let ss = c.self.inside.items.items in
     let i = runs (map dataset_view ss) in
     let (order, numbers, e) =
-    put_in ss c.deref.result.now c.put_at.new.list.items c.place_behind-at.result c.key_of.result x
+    put_in ss c.deref.result.now c.put_at.new.list.items c.index_after-at.result c.key_of.result x
     c.deref.ensures.value c.in_ok-put_at.ensures.done c.key_of.ensures.value c.key_of.ensures.byte
-    (λ k y l. c.place_behind-at.ensures.front k y l) (λ k y l j. c.place_behind-at.ensures.behind k y l j) c.self.invariant.0
+    (λ k y l. c.index_after-at.ensures.front k y l) (λ k y l j. c.index_after-at.ensures.behind k y l j) c.self.invariant.0
     c.self.invariant.1 in
     let whole =
     whole_put d (
@@ -71,9 +71,9 @@ pub returns-clause-done : goal.returns-clause-done
 returns-clause-done c =
     let x : Item = record { rec = c.args.rec; number = c.args.number; octets = c.args.octets } in
     let (order, numbers, e) =
-    put_in c.self.inside.items.items c.deref.result.now c.put_at.new.list.items c.place_behind-at.result
+    put_in c.self.inside.items.items c.deref.result.now c.put_at.new.list.items c.index_after-at.result
     c.key_of.result x c.deref.ensures.value c.in_ok-put_at.ensures.done c.key_of.ensures.value
-    c.key_of.ensures.byte (λ k y l. c.place_behind-at.ensures.front k y l) (λ k y l j. c.place_behind-at.ensures.behind k y l j)
+    c.key_of.ensures.byte (λ k y l. c.index_after-at.ensures.front k y l) (λ k y l j. c.index_after-at.ensures.behind k y l j)
     c.self.invariant.0 c.self.invariant.1 in
     e ∙ ap (put (dataset_view x)) c.self.view_is
 

@@ -1,0 +1,33 @@
+// Claims ranges of a block. TIFF 6.0 section 7, "No Duplicate Pointers".
+ghost use Rattle.std.specs.Prelude.{◌≡◌, ◌≤◌, ◌+◌, List, [], ◌∷◌, OnOk};
+ghost use Rattle.px_bytes.specs.declared.Cause.TheVariants.{Overlap};
+ghost use Rattle.px_bytes.specs.Parts.{limit};
+ghost use Rattle.px_bytes.specs.Range.{Range, range, is_free, Agrees};
+ghost use Rattle.px_bytes.specs.Checks.{LacksBlock, Judges, check};
+ghost use Rattle.px_tree.specs.Asking.{fields_request};
+ghost use Rattle.px_tree.specs.calls.Paying.{paid, Pays, StaysBelow};
+
+use px_bytes::{Cause, Memory, Ranges, Refusal};
+
+// Claims a range for the entry or pointer at an offset.
+pub fn claim_range(
+    memory: &mut Memory,
+    held: &mut Ranges,
+    at: u32,
+    start: u32,
+    len: u32,
+) -> Result<(), Refusal>
+    requires { start + len ≤ limit }
+    ensures judged { (taken : List Range) → Agrees taken held.old →
+        Judges result (check Overlap at (is_free taken (range start len)) ∷ [])
+        (λ _. Agrees (range start len ∷ taken) held.new) }
+    ensures memory { LacksBlock result memory.old memory.new }
+    ensures claimed { OnOk result (memory.new.asked + paid held.old + fields_request len ≡ memory.old.asked + paid held.new) }
+    ensures asked { Pays (start + len) 0 result memory.old memory.new held.old held.new }
+    ensures below { StaysBelow (start + len) held.old held.new }
+{
+    if !held.add_in(memory, start, len)? {
+        return Err(Cause::Overlap.at(at));
+    }
+    Ok(())
+}
