@@ -9,7 +9,7 @@ ghost use Rattle.px_iim.specs.calls.Runs.{runs, InOrder, AreNumbers};
 ghost use Rattle.px_iim.specs.calls.View.{dataset_view, item_view, part_view, octets_left, octets_of};
 ghost use Rattle.px_iim.specs.Writing.{within};
 
-use crate::group::{All, Item, key_of, reserve_for, put_at};
+use crate::group::{All, Item, key_of, put_at, reserve_for};
 use crate::length::longer;
 use crate::places::{count_before, index_after};
 use crate::walk::Groups;

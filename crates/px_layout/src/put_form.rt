@@ -20,7 +20,7 @@ use crate::entries::{Entries, entries_in};
 use crate::form::NormalForm;
 use crate::items::{Entry, Item};
 use crate::put::{put_eight, put_padding, put_value};
-use crate::put_running::{put_running_header, put_running_table, put_item_value};
+use crate::put_running::{put_item_value, put_running_header, put_running_table};
 use crate::put_thumb::put_thumb;
 use px_bytes::{Failed, Order, Pending, Sink};
 use px_field::Value;

@@ -15,12 +15,12 @@
 //! ```
 #![tactic(auto)]
 
+mod claiming;
 mod entries;
 mod entry_values;
 pub mod fault_laws;
 mod field_reading;
 mod header;
-mod claiming;
 mod links;
 mod read;
 mod records;

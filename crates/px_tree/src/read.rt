@@ -10,8 +10,8 @@ ghost use Rattle.px_tree.specs.Refused.{IsRefused};
 ghost use Rattle.px_bytes.specs.Lacking.{AsksAtMost};
 ghost use Rattle.px_tree.specs.Asking.{exif_request};
 
-use crate::header::{judge_header, order_in};
 use crate::claiming::claim_range;
+use crate::header::{judge_header, order_in};
 use crate::records::read_record;
 use crate::tables::Directory;
 use crate::thumbnail::read_thumb;

@@ -13,8 +13,8 @@ ghost use Rattle.px_tree.specs.calls.Linked.{offsets_of};
 ghost use Rattle.px_meaning.specs.Asking.{field_bytes};
 ghost use Rattle.px_tree.specs.calls.Paying.{paid, Pays, StaysBelow};
 
-use crate::field_reading::{Entries, read_entries};
 use crate::claiming::claim_range;
+use crate::field_reading::{Entries, read_entries};
 use crate::links::{Link, is_earlier};
 use crate::source::Source;
 use crate::uses::Uses;

@@ -19,8 +19,8 @@ ghost use Rattle.px_tree.specs.calls.Parts.{jpeg_of, strips_of, IsReadThumb};
 ghost use Rattle.px_meaning.specs.calls.Strips.{ranges_in};
 ghost use Rattle.px_tree.specs.calls.Paying.{Pays, StaysBelow};
 
-use crate::entry_values::value_at;
 use crate::claiming::claim_range;
+use crate::entry_values::value_at;
 use crate::links::{Found, next_link};
 use crate::rising::rising_span;
 use crate::tables::Directory;
