@@ -117,6 +117,28 @@ const FEW: usize = 64;
 // The size of that buffer for a longer value: larger, so that the value has few pieces.
 const MANY: usize = 1024;
 
+// From so many bytes on a value is put by pieces that are longer than the output buffer, which are written without
+// a copy into it.
+const LONG: u64 = 65_536;
+
+// The size of the buffer for such a value.
+const DIRECT: usize = 16_384;
+
+// Puts the elements of a long value.
+#[inline(never)]
+fn put_long<W: Sink>(
+    pending: &mut Pending,
+    writer: &mut W,
+    order: Order,
+    value: &Value,
+) -> Result<(), Failed>
+    requires { CanFail (W.failed writer.old) }
+    ensures { AddsTo W.failed W.bytes_taken result writer.old writer.new pending.old pending.new
+        (flat_map (spell order) value.now.elements) }
+{
+    put_by_pieces(pending, writer, order, value, &mut [0; DIRECT])
+}
+
 // Puts the elements of a value.
 fn put_elements<W: Sink>(
     pending: &mut Pending,
@@ -130,6 +152,9 @@ fn put_elements<W: Sink>(
 {
     if value.size() <= FEW as u64 {
         return put_by_pieces(pending, writer, order, value, &mut [0; FEW]);
+    }
+    if value.size() >= LONG {
+        return put_long(pending, writer, order, value);
     }
     put_by_pieces(pending, writer, order, value, &mut [0; MANY])
 }
