@@ -126,7 +126,7 @@ const DIRECT: usize = 16_384;
 
 // Puts the elements of a long value.
 #[inline(never)]
-fn put_long<W: Sink>(
+fn put_large<W: Sink>(
     pending: &mut Pending,
     writer: &mut W,
     order: Order,
@@ -154,7 +154,7 @@ fn put_elements<W: Sink>(
         return put_by_pieces(pending, writer, order, value, &mut [0; FEW]);
     }
     if value.size() >= LONG {
-        return put_long(pending, writer, order, value);
+        return put_large(pending, writer, order, value);
     }
     put_by_pieces(pending, writer, order, value, &mut [0; MANY])
 }
