@@ -22,6 +22,7 @@ from .listing import Field, unpacked
 APPLICATION = 0x45584E50  # 'EXNP', which distinguishes a catalogue from other SQLite files
 VERSION = 2
 CACHE = 32_000  # kB of a catalogue that is written to: digests go into its index in no order
+PATIENCE = 200  # milliseconds that closing waits for other programs; while they read, the write-ahead log stays
 
 _TABLES = """
 CREATE TABLE runs (
@@ -215,7 +216,8 @@ class Catalogue:
     def close(self) -> None:
         """Closes the catalogue. All committed data are then in its one file, which can be read in a read-only folder."""
         if self._made:
-            with contextlib.suppress(sqlite3.Error):  # another run is at work on it, or the disk is full
+            with contextlib.suppress(sqlite3.Error):  # another program has it open, or the disk is full
+                self.base.execute(f"PRAGMA busy_timeout = {PATIENCE}")
                 self.base.execute("PRAGMA journal_mode = DELETE")
         self.base.close()
 

@@ -266,6 +266,18 @@ class Catalogues(WithPictures):
             self.assertTrue(os.path.exists(self.path(name)))
         self.asked("index", "p", "--catalogue", "", status=3)
 
+    def test_one_that_another_program_reads(self):
+        """The end of a run doesn't wait for the other program, and the next run puts all into one file again."""
+        text = (
+            "import sqlite3\nfrom exifnorm_pictures.catalogue import Catalogue\n"
+            "made = Catalogue('c', make=True)\nother = sqlite3.connect('c', isolation_level=None)\n"
+            "other.execute('BEGIN')\nother.execute('SELECT count(*) FROM pictures').fetchall()\nmade.close()\n"
+        )
+        done = run([sys.executable, "-c", text], self.folder, seconds=30)
+        self.assertEqual((done.returncode, done.stderr), (0, b""))
+        self.asked("index", "p", "--catalogue", "c", "--quiet")
+        self.assertEqual(read(self.path("c"))[18:20], b"\1\1", "no write-ahead log is needed to read it")
+
     def test_two_first_runs_at_once(self):
         words = [sys.executable, "-m", "exifnorm_pictures", "index", "p", "--catalogue", "c", "--quiet"]
         started = [subprocess.Popen(words, cwd=self.folder, env=Studio.environment(), stderr=subprocess.PIPE) for _ in range(4)]
