@@ -154,13 +154,16 @@ def _by_processes(
 
 
 def _pool(how: How, processes: int) -> ProcessPoolExecutor:
-    """Processes that have begun. A signal that comes meanwhile ends them."""
+    """Processes that have begun. A signal that comes meanwhile ends them. Raises `tools.Failed`."""
     context = multiprocessing.get_context("fork")
     try:
         with ends.signals_held() as mask:
             pool = ProcessPoolExecutor(processes, mp_context=context, initializer=_begin, initargs=(how, os.getpid(), mask))
             pool.submit(os.getpid)  # the first task starts all of them
         return pool
+    except OSError as error:
+        end_children()
+        raise tools.Failed(f"a further process can't be started: {reason(error)}") from error
     except BaseException:
         end_children()
         raise

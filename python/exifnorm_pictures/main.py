@@ -12,8 +12,9 @@ import exifnorm
 
 from . import archives, ends, looking, single, tools
 from .catalogue import NoCatalogue
-from .walk import BadList
 from .arguments import REFUSED_WORDS, parser
+from .texts import shown_path
+from .walk import BadList, reason
 from .writing import NotReplaced
 
 FAILED, STOPPED = 4, 130
@@ -61,8 +62,8 @@ def _run(words: Optional[Sequence[str]]) -> int:
         return _failed(str(error), REFUSED_WORDS)
     except (tools.Missing, tools.Failed, NoCatalogue, NotReplaced, exifnorm.LibraryMissing, sqlite3.Error) as error:
         return _failed(str(error))
-    except OSError as error:
-        return _output_failed(error) if error.filename is None else _failed(str(error))
+    except OSError as error:  # without a name it is of standard output: processes that can't be started are `tools.Failed`
+        return _output_failed(error) if error.filename is None else _failed(f"{shown_path(error.filename)}: {reason(error)}")
     except KeyboardInterrupt:
         ends.say("exifnorm-pictures: stopped; the same command goes on from there")
         return STOPPED
@@ -80,4 +81,4 @@ def _failed(text: str, status: int = FAILED) -> int:
 def _output_failed(error: OSError) -> int:
     """Standard output can't be written to. If its reader has gone, no message is printed."""
     ends.drop(sys.stdout)
-    return FAILED if isinstance(error, BrokenPipeError) else _failed(f"standard output: {error.strerror or error}")
+    return FAILED if isinstance(error, BrokenPipeError) else _failed(f"standard output: {reason(error)}")

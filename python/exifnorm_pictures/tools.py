@@ -16,6 +16,7 @@ import time
 from typing import Callable, List, NamedTuple, Optional, Set
 
 from . import ends
+from .walk import reason
 
 PACKAGES = {"exiftool": "libimage-exiftool-perl", "exiv2": "exiv2"}
 SECONDS = 60.0  # that a program may take for one file
@@ -108,12 +109,14 @@ _libc = ctypes.CDLL(None)
 
 
 def start(words: List[str], folder: Optional[str] = None, stdin: int = subprocess.DEVNULL) -> "subprocess.Popen[bytes]":
-    """Starts a program in a process group of its own, which the system ends if this process is killed."""
+    """Starts a program in a process group of its own, which the system ends if this process is killed. Raises `Failed`."""
     started: "Optional[subprocess.Popen[bytes]]" = None
     try:
         with ends.signals_held() as mask:
             started = _started(words, folder, stdin, mask)
         return started
+    except OSError as error:
+        raise Failed(f"{_name(words)} can't be started: {reason(error)}") from error
     except BaseException:  # a signal that came meanwhile
         if started is not None:
             end(started)

@@ -149,6 +149,27 @@ class Tools(WithPictures):
                     self.assertEqual(done.returncode, expected, done.stderr)
                     self.assertEqual(os.listdir(own), [])
 
+    def test_processes_that_the_system_refuses(self):
+        """The message names what couldn't be started. Standard output has nothing to do with it."""
+        self.pictures()
+        os.mkdir(self.path("many"))
+        for number in range(70):
+            write(self.path("many", f"{number}.jpg"), SMALL_JPEG)
+        call = (
+            "import errno, os, subprocess, sys; from exifnorm_pictures.main import main\n"
+            "def refused(*_, **__): raise BlockingIOError(errno.EAGAIN, os.strerror(errno.EAGAIN))\n"
+            "os.fork = subprocess.Popen = refused\nsys.exit(main(sys.argv[1:]))"
+        )
+        environment = self.fake("exiftool", "#!/bin/sh\n")
+        for words, what in ((["index", "p/a.gif", "--catalogue", "c", "--quiet"], "exiftool"), (["show", "p/a.gif"], "exiftool"),
+                            (["mend", "p/a.gif", "out"], "exiftool"),
+                            (["index", "many", "--catalogue", "c", "--quiet", "--jobs", "2"], "a further process")):  # fmt: skip
+            with self.subTest(words):
+                done = run([sys.executable, "-c", call, *words], self.folder, **environment)
+                self.assertEqual(done.returncode, 4, done)
+                self.assertIn(f"{what} can't be started: resource temporarily unavailable\n", (done.stdout + done.stderr).decode())
+                self.assertNotIn(b"standard output", done.stderr)
+
     def wait_for_end(self, pid):
         """Waits until a process that isn't ours has ended; the system has already been asked to end it."""
         for _ in range(2000):
@@ -430,6 +451,12 @@ class Arguments(WithPictures):
                 self.asked(*words, status=3)
         self.asked("show", "--files-from", "-", status=3, given=b"a.jpg\0b.jpg\0")
         self.assertIn("-0", self.complaint)
+
+    def test_a_list_that_cannot_be_read(self):
+        for name, words in (("missing", "no such file or directory"), ("line\nfeed", "no such file or directory"), (".", "is a directory")):
+            self.asked("show", "--files-from", name, status=4)
+            shown = name.replace("\n", "\\n")
+            self.assertEqual(self.complaint, f"exifnorm-pictures: {shown}: {words}\n")
 
     def test_one_picture_by_two_names(self):
         write(self.path("a.jpg"), GOOD)
