@@ -167,7 +167,8 @@ class _Looking:
             self.pictures += sum(it.states.values()) if isinstance(it, Batch) else 1
             if self.pictures >= BATCH or self.files >= FILES or time.monotonic() - self.last > LONGEST_WAIT:
                 self.commit()
-        self.commit()
+        if self.ready:
+            self.commit()
 
     def commit(self) -> None:
         """Keeps what is ready, and reports it."""

@@ -265,6 +265,9 @@ class Archive(WithPictures):
         self.assertRegex(self.complaint, r"^4 of 4 pictures, \d+ a second\n$")
         self.asked("index", "p", "--catalogue", "e", "--quiet")
         self.assertEqual(self.complaint, "")
+        call = "import sys; from exifnorm_pictures import index, main; index.BATCH = 2; sys.exit(main.main(sys.argv[1:]))"
+        done = run([sys.executable, "-c", call, "index", "p", "--catalogue", "f"], self.folder)
+        self.assertEqual(done.stderr.count(b"4 of 4 pictures"), 1, "the last line is printed once")
 
 
 class Processes(WithPictures):
