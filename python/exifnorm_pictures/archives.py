@@ -18,7 +18,7 @@ from .catalogue import Catalogue, NoCatalogue, head_is_ours
 from .index import Asked, index
 from .looking import How
 from .merge import merge
-from .lines import chosen_paths, entry_json, entry_lines, from_list, named, tell
+from .lines import chosen_paths, closed_folder, entry_json, entry_lines, from_list, named, tell
 from .texts import Members, path_members, shown_path
 from .arguments import parser
 
@@ -148,11 +148,10 @@ def _side(name: str, asked: argparse.Namespace, open_: contextlib.ExitStack) -> 
     room = open_.enter_context(rooms.room())
     made = Catalogue(os.path.join(room, "catalogue"), make=True)
     try:
-        counts = index(Asked([os.fsencode(name)], quiet=True, how=_how(asked, room)), made)
-        if counts["Unreadable"]:
-            known = {path for path, in made.rows("SELECT path FROM pictures WHERE problem = 'Unreadable'")}
-            if counts["Unreadable"] > len(known):
-                raise NoCatalogue(f"a folder below {name} can't be read; `index` names it")
+        closed: List[str] = []
+        index(Asked([os.fsencode(name)], quiet=True, how=_how(asked, room, closed_folder), say=closed.append), made)
+        if closed:  # its pictures would seem to be missing
+            raise NoCatalogue("; ".join(closed))
     except BaseException:
         made.close()
         raise

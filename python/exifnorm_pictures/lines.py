@@ -60,6 +60,11 @@ def entry_lines(it: Entry) -> List[str]:
     return lines
 
 
+def closed_folder(it: Entry) -> List[str]:
+    """A line for a folder that can't be read, which has no row in a catalogue and so no folder above it."""
+    return [] if it.root else [f"the folder {shown_path(it.path)} can't be read: {it.detail}"]
+
+
 def refused_line(it: Block) -> str:
     """A block that isn't accepted, in a line."""
     return "failed: OutOfMemory" if it.cause == "OutOfMemory" else f"refused: {it.refusal}"

@@ -368,6 +368,20 @@ class Rights(WithPictures):
         done = self.as_nobody("index", "p", "--catalogue", "c", "--quiet")
         self.assertEqual((done.returncode, done.stdout), (0, b"2 unchanged, 1 accepted\n"), done)
 
+    def test_a_folder_of_two_that_are_compared(self):
+        """Its pictures aren't missing: the message names it, and nothing is compared."""
+        for side in ("before", "after"):
+            os.makedirs(self.path(side, "closed"))
+            for name in ("a.jpg", "closed/c.jpg"):
+                write(self.path(side, name), ONE)
+        os.chmod(self.path("after", "closed"), 0)
+        done = self.as_nobody("changed", "before", "after")
+        expected = f"exifnorm-pictures: the folder {self.path('after', 'closed')} can't be read: permission denied\n"
+        self.assertEqual((done.returncode, done.stdout, done.stderr.decode()), (4, b"", expected))
+        os.chmod(self.path("after", "closed"), 0o755)
+        done = self.as_nobody("changed", "before", "after")
+        self.assertEqual((done.returncode, done.stdout), (0, b"2 same\n"), done)
+
     def test_a_folder_that_nothing_can_be_written_to(self):
         os.makedirs(self.path("shut"))
         write(self.path("a.jpg"), ONE)
