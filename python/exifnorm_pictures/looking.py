@@ -2,6 +2,7 @@
 
 from __future__ import annotations
 
+import contextlib
 import ctypes
 import itertools
 import multiprocessing
@@ -12,7 +13,7 @@ from collections import deque
 from concurrent.futures import Future, ProcessPoolExecutor
 from concurrent.futures.process import BrokenProcessPool
 from dataclasses import dataclass
-from typing import Deque, Iterator, List, Optional, Sequence, Set, Union
+from typing import Deque, Iterable, Iterator, List, NamedTuple, Optional, Sequence, Set, Union
 
 from . import ends, engine, extraction, session, tools
 from .batches import Batch, Lines, batch
@@ -75,15 +76,15 @@ def _unless_changed(it: Found) -> Optional[Stamp]:
         return None
 
 
-def look_at_some(chunk: Sequence[Found], how: How, file: str) -> Batch:
-    """A process's results for the first pictures of a chunk: for all of them, unless that takes too long."""
+def look_at_some(task: "Task", how: How) -> Batch:
+    """A process's results for the first pictures of a task: for all of them, unless that takes too long."""
     ends_at = time.monotonic() + LONGEST_WAIT
     entries: List[Entry] = []
-    for it in chunk:
+    for it in task.chunk:
         entries.append(look(it, how.whole))
         if time.monotonic() > ends_at:
             break
-    return batch(file, entries, chunk[len(entries) :], how.lines)
+    return batch(task.file, entries, task.chunk[len(entries) :], how.lines)
 
 
 _PR_SET_PDEATHSIG = 1
@@ -116,41 +117,53 @@ def looked(work: Sequence[Found], how: How) -> Iterator[Result]:
     size = max(LEAST_CHUNK, min(CHUNK, len(work) // (PARTS * how.processes)))
     chunks = iter([work[at : at + size] for at in range(0, len(work), size)])
     files = (os.path.join(how.room, f"rows-{number}") for number in itertools.count())
-    unfinished: List[Sequence[Found]] = [[]]
+    unfinished: List[Task] = [Task([], "")]
     while unfinished:
         unfinished = []
         yield from _by_processes(chunks, how, files, unfinished)
-        for chunk in unfinished:
-            yield from _one_by_one(chunk, how)
+        for it in unfinished:
+            yield from _one_by_one(it.chunk, how)
 
 
-def _by_processes(
-    chunks: Iterator[Sequence[Found]], how: How, files: Iterator[str], unfinished: List[Sequence[Found]]
-) -> Iterator[Batch]:
-    """The results of several processes. If one of them dies, the chunks that have no result are left in `unfinished`."""
-    waiting: "Deque[Future[Batch]]" = deque()  # in the order of `unfinished`, which has a chunk before it is given to the pool
+class Task(NamedTuple):
+    """Pictures for a process, and the file to which it writes their rows."""
+
+    chunk: Sequence[Found]
+    file: str
+
+
+def _by_processes(chunks: Iterator[Sequence[Found]], how: How, files: Iterator[str], unfinished: List[Task]) -> Iterator[Batch]:
+    """The results of several processes. If one of them dies, the tasks that have no result are left in `unfinished`, without files."""
+    waiting: "Deque[Future[Batch]]" = deque()  # in the order of `unfinished`, which has a task before it is given to the pool
     pool = _pool(how, how.processes)
     try:
         while True:
             for chunk in itertools.islice(chunks, 4 * how.processes - len(waiting)):
-                unfinished.append(chunk)
-                waiting.append(pool.submit(look_at_some, chunk, how, next(files)))
+                task = Task(chunk, next(files))
+                unfinished.append(task)
+                waiting.append(pool.submit(look_at_some, task, how))
             if not waiting:
                 break
             found = waiting[0].result()
             waiting.popleft()
-            unfinished.pop(0)
-            if found.left:
-                unfinished.insert(0, found.left)
+            unfinished[:1] = [Task(found.left, next(files))] if found.left else []
             yield found
             if found.left:
-                waiting.appendleft(pool.submit(look_at_some, found.left, how, next(files)))
+                waiting.appendleft(pool.submit(look_at_some, unfinished[0], how))
         pool.shutdown()
     except BrokenProcessPool:
         return
     finally:
         end_children()
         pool.shutdown(wait=True, cancel_futures=True)
+        _remove_files(unfinished)
+
+
+def _remove_files(tasks: Iterable[Task]) -> None:
+    """Removes the files of tasks whose processes have ended: their pictures are looked at again, or not at all."""
+    for it in tasks:
+        with contextlib.suppress(FileNotFoundError):
+            os.unlink(it.file)
 
 
 def _pool(how: How, processes: int) -> ProcessPoolExecutor:

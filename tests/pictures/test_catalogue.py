@@ -311,10 +311,29 @@ class Processes(WithPictures):
             "read = extraction.blocks_of\n"
             "extraction.blocks_of = lambda path, *more: os._exit(9) if path.endswith(b'41.jpg') else read(path, *more)"
         )
-        counts, lines, _ = self.indexed(ending)
+        counts, lines, left = self.indexed(ending)
         self.assertEqual(counts, {"accepted": 99, "ToolFailed": 1})
         self.assertEqual(lines, [self.path("p", "41.jpg") + ": ToolFailed: the process that looked at it died twice"])
+        self.assertEqual(left, [])
         self.assertEqual(sorted(self.paths()), [it for it in sorted(os.listdir(self.path("p"))) if it != "41.jpg"])
+
+    def test_what_a_process_that_died_left(self):
+        """Rows that no result names are removed before their pictures are looked at again: in a long run they would fill the disk."""
+        ending = (
+            "import time\nread, by_each = extraction.blocks_of, looking._one_by_one\n"
+            "def blocks_of(path, *more):\n"
+            "    if path.endswith(b'00.jpg') and not os.path.exists('died'):\n"
+            "        while not os.path.exists('room/rows-1'): time.sleep(0.001)\n"  # the other process's
+            "        os.mkdir('died')\n        os._exit(9)\n"
+            "    return read(path, *more)\n"
+            "def one_by_one(*words):\n"
+            "    with open('seen', 'a') as file: file.write(' '.join(os.listdir('room')) + '\\n')\n"
+            "    return by_each(*words)\n"
+            "extraction.blocks_of, looking._one_by_one = blocks_of, one_by_one"
+        )
+        self.assertEqual(self.indexed(ending), [{"accepted": 100}, [], []])
+        seen = read(self.path("seen")).decode().splitlines()
+        self.assertEqual([it for it in seen[0].split() if it.startswith("rows")], [])
 
     def test_processes_that_ended_before_they_got_more(self):
         """The pictures that could not be given to them are looked at as well: those of a new chunk, and those that were left of one."""
