@@ -51,14 +51,14 @@ def look(it: Found, whole: bool) -> Entry:
     try:
         blocks = extraction.blocks_of(it.path, whole)
         judged = [] if blocks.problem else engine.judge_all(blocks, with_fields=True)
+    except engine.exifnorm.LibraryMissing:  # an OSError too, but not of this file
+        raise
     except tools.Failed as error:
         return _failed(it, str(error))
     except OSError as error:
         return Entry(it.path, it.root, problem="Unreadable", detail=reason(error))
     except tools.Missing as error:
         return Entry.of(it.path, it.root, it.stamp, Blocks(problem="NeedsExifTool", detail=str(error)))
-    except engine.exifnorm.LibraryMissing:
-        raise
     except Exception as error:  # an error of a reader affects only this file
         return _failed(it, f"it could not be read: {type(error).__name__}: {error}")
     return Entry.of(it.path, it.root, _unless_changed(it), blocks, judged)

@@ -170,6 +170,19 @@ class Tools(WithPictures):
                 self.assertIn(f"{what} can't be started: resource temporarily unavailable\n", (done.stdout + done.stderr).decode())
                 self.assertNotIn(b"standard output", done.stderr)
 
+    def test_a_library_that_is_missing(self):
+        """It's one error and no line for each picture, whose earlier results stay."""
+        os.mkdir(self.path("many"))
+        for number in range(70):
+            write(self.path("many", f"{number}.jpg"), GOOD)
+        self.asked("index", "many", "--catalogue", "c", "--quiet")
+        for words in (["index", "many", "--catalogue", "c", "--again", "--jobs", "1"], ["show", "many/1.jpg"], ["changed", "many", "many"],
+                      ["index", "many", "--catalogue", "c", "--again", "--jobs", "2"]):  # fmt: skip
+            with self.subTest(words):
+                self.assertEqual(self.asked(*words, status=4, EXIFNORM_LIBRARY=self.path("nothing")), [])
+                self.assertRegex(self.complaint, r"^exifnorm-pictures: [^\n]*libexifnorm[^\n]*\n$")
+        self.assertEqual(self.asked("index", "many", "--catalogue", "c", "--quiet"), ["70 unchanged"])
+
     def wait_for_end(self, pid):
         """Waits until a process that isn't ours has ended; the system has already been asked to end it."""
         for _ in range(2000):
