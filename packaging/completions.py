@@ -78,12 +78,12 @@ def bash_value(command: Command, option: Option) -> str:
     """The value of an option, if it takes one."""
     names = " | ".join(f"{command.name}:{it}" for it in option.names)
     if option.choices:
-        wanted = f"compgen -W '{' '.join(option.choices)}' -- \"$word\""
+        lines = [f"mapfile -t COMPREPLY < <(compgen -W '{' '.join(option.choices)}' -- \"$word\")"]
     elif option.takes_file:
-        wanted = 'compgen -f -- "$word"'
+        lines = ["compopt -o filenames 2>/dev/null", 'mapfile -t COMPREPLY < <(compgen -f -- "$word")']
     else:
         return f"    {names}) return ;;"
-    return f"    {names})\n        mapfile -t COMPREPLY < <({wanted})\n        return\n        ;;"
+    return "\n        ".join([f"    {names})", *lines, "return", ";;"])
 
 
 def bash(program: Program) -> str:

@@ -13,17 +13,19 @@ import subprocess
 import sys
 import tempfile
 import unittest
+from hashlib import sha256
 from pathlib import Path
 from shlex import quote
 
-from installed import run
+from installed import EXAMPLES, run
 from paths import TOP
 
 sys.path.insert(0, str(TOP / "packaging"))
 
 import command
 
-# A command with all that a help text may have: an apostrophe, brackets and colons, a choice, a number, a file, and fixed operands.
+# A command with all that a help text may have, in the forms of clap and of argparse: an apostrophe, brackets, colons and a backslash,
+# choices, a number, texts, a file, and no operands, two of them or many.
 HELP = {
     "": """Does what it does.
 
@@ -32,6 +34,9 @@ Usage: my-tool <COMMAND>
 Commands:
   show  Show a file: it's [one] line
   pair  Pair two files
+  list-all  List all
+  join  Join files
+  move  Move files
 
 Options:
   -h, --help  Print help
@@ -56,7 +61,45 @@ Arguments:
 Options:
   -h, --help  Print help
 """,
+    "list-all": """usage: my-tool list-all [-h] [-k {one,two}] [--catalogue FILE] [--title TITLE] [--note TEXT]
+
+optional arguments:
+  -h, --help  Print help
+  -k {one,two}, --kind {one,two}
+                        one \\ two
+  --catalogue FILE  where
+  --title TITLE  its title
+  --note TEXT  a note
+""",
+    "join": """Usage: my-tool join <FILE>...
+
+Arguments:
+  <FILE>...  the files
+
+Options:
+  -h, --help  Print help
+""",
+    "move": """usage: my-tool move [-h] [--jobs N] FROM TO
+
+positional arguments:
+  FROM  a file
+  TO    a folder
+
+options:
+  -h, --help  Print help
+  --jobs N  how many
+""",
 }
+# The lines for fish of the command list-all, by fish's manual: -s is a short option and -l a long one; -r takes a value, -x one that is
+# no file, and -F offers files.
+FISH = r"""
+-n __fish_use_subcommand -a list-all -d 'List all'
+-n '__fish_seen_subcommand_from list-all' -s h -l help -d 'Print help'
+-n '__fish_seen_subcommand_from list-all' -s k -l kind -x -a 'one two' -d 'one \ two'
+-n '__fish_seen_subcommand_from list-all' -l catalogue -r -F -d 'where'
+-n '__fish_seen_subcommand_from list-all' -l title -x -d 'its title'
+-n '__fish_seen_subcommand_from list-all' -l note -x -d 'a note'
+"""
 
 
 class Completed(unittest.TestCase):
@@ -83,9 +126,19 @@ class Completed(unittest.TestCase):
                 self.skipTest(f"{it} is not installed")
 
     def bash(self, *words: str) -> list[str]:
-        """What bash offers for the last word."""
-        code = 'source "$1"; shift; COMP_WORDS=("$@") COMP_CWORD=$(($# - 1)); _my_tool; printf "%s\\n" "${COMPREPLY[@]}"'
+        """What bash offers for the last word, where an earlier word had offers too."""
+        code = 'source "$1"; shift; COMPREPLY=(old) COMP_WORDS=("$@") COMP_CWORD=$(($# - 1)); _my_tool; printf "%s\\n" "${COMPREPLY[@]}"'
         return sorted(run("bash", "-c", code, "bash", self.made / "my-tool", "my-tool", *words, folder=self.room / "files").split())
+
+    def test_bash_keeps_its_own_variables(self) -> None:
+        code = 'source "$1"; COMP_WORDS=(my-tool show "") COMP_CWORD=2; _my_tool; echo "${word-}${last-}${options-}${operands-}"'
+        self.assertEqual(run("bash", "-c", code, "bash", self.made / "my-tool"), "\n")
+
+    def test_bash_takes_offers_for_names_of_files(self) -> None:
+        """So it puts a slash after a folder, and a backslash before a space: for operands, and for the values of options."""
+        code = 'source "$1"; shift; compopt() { echo "$*"; }; COMP_WORDS=("$@") COMP_CWORD=$(($# - 1)); _my_tool'
+        for words, expected in ((["show", ""], "-o filenames\n"), (["show", "--catalogue", ""], "-o filenames\n"), (["show", "--kind", ""], "")):
+            self.assertEqual(run("bash", "-c", code, "bash", self.made / "my-tool", "my-tool", *words, folder=self.room / "files"), expected, words)
 
     def test_bash_completes_this_command(self) -> None:
         said = run("bash", "-c", 'source "$1"; complete -p', "bash", self.made / "my-tool")
@@ -93,8 +146,9 @@ class Completed(unittest.TestCase):
 
     def test_bash_offers(self) -> None:
         for words, expected in (
-            ([""], ["--help", "-h", "pair", "show"]),
+            ([""], ["--help", "-h", "join", "list-all", "move", "pair", "show"]),
             (["s"], ["show"]),
+            (["-"], ["--help", "-h"]),
             (["show", "-"], ["--catalogue", "--help", "--jobs", "--kind", "-h", "-n"]),
             (["show", "--k"], ["--kind"]),
             (["show", "--kind", ""], ["both", "exif"]),
@@ -108,6 +162,15 @@ class Completed(unittest.TestCase):
             (["pair", "a", "comp"], ["compare.c"]),
             (["pair", "a", "b", "comp"], []),
             (["pair", "-"], ["--help", "-h"]),
+            (["show", "--kind", "-"], []),
+            (["show", "--catalogue", "-"], []),
+            (["list-all", ""], []),
+            (["list-all", "-k", "o"], ["one"]),
+            (["list-all", "--catalogue", "comp"], ["compare.c"]),
+            (["list-all", "--title", "comp"], []),
+            (["list-all", "--note", "comp"], []),
+            (["join", "a", "b", "c", "comp"], ["compare.c"]),
+            (["move", "--jobs", "2", "a", "comp"], ["compare.c"]),
         ):
             self.assertEqual(self.bash(*words), expected, words)
 
@@ -126,13 +189,26 @@ source_it $1"""
 
     def test_zsh_offers(self) -> None:
         own = ["(-h --help)-h[Print help]", "(-h --help)--help[Print help]"]
-        self.assertEqual(self.zsh(""), ["command", "show:Show a file: it's [one] line", "pair:Pair two files", *own])
+        commands = ["show:Show a file: it's [one] line", "pair:Pair two files", "list-all:List all", "join:Join files", "move:Move files"]
+        self.assertEqual(self.zsh(""), ["command", *commands, *own])
         self.assertEqual(
             self.zsh("show", ""),
             ["--kind[which\\: \\[blocks\\]]:value:(both exif)", "(-n --jobs)-n[how many]:N: ", "(-n --jobs)--jobs[how many]:N: ",
              "--catalogue[where]:FILE:_files", *own, "*:file:_files"],  # fmt: skip
         )
         self.assertEqual(self.zsh("pair", ""), [*own, "1:file:_files", "2:file:_files"])
+        self.assertEqual(
+            self.zsh("list-all", ""),
+            [*own, "(-k --kind)-k[one \\\\ two]:value:(one two)", "(-k --kind)--kind[one \\\\ two]:value:(one two)",
+             "--catalogue[where]:FILE:_files", "--title[its title]:TITLE: ", "--note[a note]:TEXT: "],  # fmt: skip
+        )
+        self.assertEqual(self.zsh("join", ""), [*own, "*:file:_files"])
+        self.assertEqual(self.zsh("move", ""), [*own, "--jobs[how many]:N: ", "*:file:_files"])
+
+    def test_zsh_runs_it_where_it_is_autoloaded(self) -> None:
+        """Zsh makes a function of the file, whose last line calls the function in it."""
+        code = '_describe() { : } ; _arguments() { print -rl -- "$@" }; fpath=($1); autoload -Uz _my-tool; words=(my-tool join "") CURRENT=3; _my-tool'
+        self.assertIn("*:file:_files\n", run("zsh", "-f", "-c", code, "zsh", self.made))
 
     def fish(self, line: str) -> list[str]:
         """What fish offers for the end of a line, each with its description."""
@@ -141,7 +217,8 @@ source_it $1"""
 
     def test_fish_offers(self) -> None:
         for line, expected in (
-            ("", ["pair\tPair two files", "show\tShow a file: it's [one] line"]),
+            ("", ["join\tJoin files", "list-all\tList all", "move\tMove files", "pair\tPair two files", "show\tShow a file: it's [one] line"]),
+            ("-", ["--help\tPrint help", "-h\tPrint help"]),
             ("--h", ["--help\tPrint help"]),
             ("show --k", ["--kind\twhich: [blocks]"]),
             ("show --kind ", ["both\twhich: [blocks]", "exif\twhich: [blocks]"]),
@@ -150,8 +227,18 @@ source_it $1"""
             ("show --catalogue comp", ["compare.c"]),
             ("show comp", ["compare.c"]),
             ("pair --k", []),
+            ("pair a comp", ["compare.c"]),
+            ("list-all comp", []),
+            ("list-all --kind ", ["one\tone \\ two", "two\tone \\ two"]),
+            ("list-all --catalogue comp", ["compare.c"]),
+            ("list-all --title comp", []),
         ):
             self.assertEqual([it.rstrip("\t") for it in self.fish(line)], expected, line)
+
+    def test_fish_reads_each_option_as_it_is(self) -> None:
+        lines = (self.made / "my-tool.fish").read_text(encoding="utf-8").splitlines()
+        self.assertEqual([it for it in lines if "list-all" in it], [f"complete -c my-tool {it}" for it in FISH.split("\n")[1:-1]])
+        self.assertIn("complete -c my-tool -n __fish_use_subcommand -s h -l help -d 'Print help'", lines)
 
 
 # What each page has to state of a status.
@@ -161,6 +248,14 @@ STATUSES = {
     "exifnorm-pictures": {"0": "success", "1": "there is a difference", "2": "a comparison is not possible", "3": "the arguments are wrong",
                           "4": "the catalogue failed", "130": "stopped by the keyboard"},
 }  # fmt: skip
+
+# One SHORT in both byte orders, of which the first is the normal form; its listing; and a record.
+ONE = bytes.fromhex("4d4d002a00000008 0001 0112 0003 00000001 00060000 00000000")
+TURNED = bytes.fromhex("49492a0008000000 0100 1201 0300 01000000 06000000 00000000")
+LISTING = "exif\n[main]\n0112 SHORT 1: 6\n"
+RECORD = b"\x1c\x02\x78\x00\x04Vase"
+# In place of ExifTool: by its manual, -b prints the bytes of a tag, and Exif is the whole block.
+EXIFTOOL = '#!/bin/sh\n[ "$*" = "-b -Exif picture.jpg" ] && cat picture.jpg\n'
 
 
 def help_of(name: str, *words: str) -> str:
@@ -210,6 +305,53 @@ class Pages(unittest.TestCase):
                 ran = subprocess.run([TOP / "exifnorm", *words], cwd=folder, capture_output=True, text=True, check=False)
                 self.assertEqual(ran.stdout, f"{line}\n", words)
                 self.assertIn(f"\n{line}\n", page)
+
+
+class Examples(unittest.TestCase):
+    """What the pages of exifnorm and of its library show is run."""
+
+    def setUp(self) -> None:
+        room = tempfile.TemporaryDirectory()
+        self.addCleanup(room.cleanup)
+        self.folder = Path(room.name)
+        (self.folder / "bin").mkdir()
+        (self.folder / "bin" / "exifnorm").symlink_to(TOP / "exifnorm")
+        (self.folder / "bin" / "exiftool").write_text(EXIFTOOL)
+        (self.folder / "bin" / "exiftool").chmod(0o755)
+        for name, octets in {"picture.jpg": TURNED, "before": ONE, "after": TURNED, "record": RECORD}.items():
+            (self.folder / name).write_bytes(octets)
+
+    def printed(self, command: str, status: int = 0) -> str:
+        path = f"{self.folder / 'bin'}:{os.environ['PATH']}"
+        return run("bash", "-o", "pipefail", "-c", command, folder=self.folder, status=status, PATH=path)
+
+    def test_each_command_of_the_page(self) -> None:
+        shown = page_of("exifnorm").partition(".SH EXAMPLES\n")[2].partition(".SH ")[0]
+        found = [(it, self.printed(it)) for it in re.findall(r"^    (.*)$", shown, re.M)]
+        self.assertEqual([it.split()[0] for it, _ in found], ["exiftool", "exifnorm", "exifnorm", "exifnorm"])
+        self.assertEqual([it for _, it in found], ["", LISTING, f"{sha256(ONE).hexdigest()}  -\n", "same\nnothing changed\n"])
+        self.assertEqual(self.printed(f"cp record after; {found[-1][0]}", status=1), "different\n")
+
+    def test_each_result_is_the_one_of_the_page(self) -> None:
+        page = page_of("exifnorm").partition(".SH COMMANDS\n")[2].partition(".SH OUTPUT")[0]
+        parts = {it.split()[0]: it for it in page.split(".TP\n")[1:]}
+        results = [self.printed("exifnorm check before"), self.printed("exifnorm check record")]
+        self.assertEqual(re.findall(r"^(ok \w+)", parts["check"], re.M), [it.strip() for it in results])
+        results = [self.printed("exifnorm compare before after"), self.printed("exifnorm compare before record", status=1)]
+        self.assertEqual(re.findall(r"^(same|different)\b", parts["compare"], re.M), [it.strip() for it in results])
+        self.assertRegex(self.printed("exifnorm --version"), r"^exifnorm \d")
+        self.assertRegex(parts["--version"], r"Prints\nexifnorm\nand its version")
+
+    def test_each_side_is_the_one_of_the_page(self) -> None:
+        page = page_of("exifnorm")
+        for side, command in ((1, "exifnorm compare absent before"), (2, "exifnorm compare before absent")):
+            self.assertEqual(self.printed(command, status=4), f"failed: ReadFailed in file {side}\n")
+            self.assertIn(f"\n in file {side}\n", page)
+
+    def test_the_example_in_c_is_the_one_that_is_compiled(self) -> None:
+        text = (TOP / "docs" / "exifnorm.3").read_text(encoding="utf-8")
+        shown = text.partition(".SH EXAMPLES\n.nf\n")[2].partition(".fi\n")[0]
+        self.assertEqual(shown.replace("\\e", "\\").replace("\\-", "-"), (EXAMPLES / "compare.c").read_text(encoding="utf-8"))
 
 
 class FirstLine(unittest.TestCase):
