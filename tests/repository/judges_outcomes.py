@@ -31,6 +31,22 @@ FORM = faults.form_of(faults.FILES["record"])
 NORMALISE = Run(["normalise", "record", "OUT"], out=FORM)
 CHECK = Run(["check", "one"], output=b"ok exif\n")
 COMPARE = Run(["compare", "one", "turned"], output=b"same\n")
+REAL = paths.TOP / "crates" / "px_cli" / "out" / "px_cli"
+# Programs that do what the real one does, but for one thing, and how many checks of each test of streams.py find it: those that look at
+# the status, at the output, at the bytes of files, and at what else files are.
+LITTLE_WRONG = {
+    "another status": ('"$real" "$@"; exit 99', (38, 6, 15, 9, 4, 4, 6, 6, 5, 1, 16, 43)),
+    "no output": ('exec "$real" "$@" >/dev/null', (37, 6, 0, 9, 3, 4, 6, 2, 5, 0, 12, 25)),
+    "a byte more in each file": (
+        '"$real" "$@"; status=$?; for it in * .[!.]*; do [ -h "$it" ] || [ ! -f "$it" ] || printf x >>"$it"; done 2>/dev/null; exit $status',
+        (36, 6, 0, 0, 1, 13, 2, 4, 0, 1, 8, 21),
+    ),
+    "other files with these bytes": (
+        '"$real" "$@"; status=$?; [ ! -h null ] || { rm null && touch null; }; touch left 2>/dev/null\n'
+        "for it in OUT new; do [ -h $it ] || [ ! -f $it ] || { cp $it aside && chmod 600 aside && mv aside $it; }; done 2>/dev/null; exit $status",
+        (0, 0, 0, 0, 0, 3, 1, 0, 0, 0, 0, 1),
+    ),
+}
 
 
 class Streams(unittest.TestCase):
@@ -43,12 +59,25 @@ class Streams(unittest.TestCase):
                     found = self.found(test, Path(room))
                     self.assertGreater(found.count(False), len(found) // 2)
 
-    def found(self, test, folder: Path) -> list:
+    def test_each_part_of_a_result_is_looked_at(self):
+        for name, (code, least) in LITTLE_WRONG.items():
+            with tempfile.TemporaryDirectory() as room:
+                program = Path(room, "program")
+                program.write_text(f"#!/bin/sh\nreal='{REAL}'\n{code}\n")
+                for it in (program, Path(room)):
+                    it.chmod(0o755)
+                for test, expected in zip(streams.TESTS, least):
+                    with self.subTest(name, test=test.__name__):
+                        (folder := Path(room, test.__name__)).mkdir()
+                        self.assertGreaterEqual(self.found(test, folder, str(program)).count(False), expected)
+                self.assertEqual(len(least), len(streams.TESTS))
+
+    def found(self, test, folder: Path, program: str = "/bin/true") -> list:
         """What a test finds, up to the file that it misses."""
         streams.fill(folder)
         found = []
         with contextlib.suppress(FileNotFoundError):
-            for _, is_well, _ in test("/bin/true", folder):
+            for _, is_well, _ in test(program, folder):
                 found.append(is_well)
         return found
 
