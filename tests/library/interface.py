@@ -72,6 +72,18 @@ DESCRIBED = {
 }
 
 
+# What the header and the manual page state of each status.
+MEANINGS = {
+    "DONE": "Success.",
+    "REFUSED": "of two blocks, the first",
+    "TOO_LONG": "The block is valid, but its normal form is longer than EXIFNORM_LIMIT",
+    "NO_MEMORY": "An allocation failed. Nothing is known of the block.",
+    "TOO_LITTLE_ROOM": "is too short",
+    "SECOND_REFUSED": "The first of two blocks is valid, and the second ",
+}
+CHECKS = 3159  # those of edges.c: raise the number with each new one
+
+
 class Interface:
     """The tests of the header and of what the library shows; each method is one."""
 
@@ -115,6 +127,13 @@ class Interface:
         for name, statuses in DESCRIBED.items():
             comment = header().partition(f"\nuint32_t exifnorm_{name}(")[0].rpartition("/*")[2]
             require(re.findall(r"^ \*   ([A-Z_]+)  +\w", comment, re.M) == statuses, f"{name}: {comment}")
+
+    def gives_each_status_its_meaning(self):
+        in_header = dict((name, text) for text, name in re.findall(r"^    /\* (.*) \*/\n    EXIFNORM_(\w+) = \d", header(), re.M))
+        parts = re.findall(r'^\.BR EXIFNORM_(\w+) " \(\d\)"\n((?:(?!\.TP|\.PP).*\n)+)', text_of("docs", "exifnorm.3"), re.M)
+        in_page = {name: re.sub(r"^\.[BI]R? ", "", text, flags=re.M).replace("\n", " ") for name, text in parts}
+        for told in (in_header, in_page):
+            require([it for it in MEANINGS if MEANINGS[it] not in told.get(it, "")] == [], f"other meanings: {told}")
 
     def promises_the_same_as_its_page(self):
         page, callers = text_of("docs", "exifnorm.3"), text_of("tests", "library", "library.py") + text_of("tests", "library", "calls.c")
@@ -170,7 +189,7 @@ class Interface:
             program = os.path.join(self.room, f"edges-{name}")
             run("cc", "-std=c99", "-O1", *STRICT, os.path.join(PARTS, "edges.c"), "-o", program, *library)
             said = run(program, version, *NAMES)
-            require(re.fullmatch(r"[1-9]\d{3}\d* checks\n", said), f"{name}: it said {said[:500]}")
+            require(said == f"{CHECKS} checks\n", f"{name}: it said {said[:500]}")
 
     def python(self, code):
         return run(sys.executable, "-B", "-c", code, PYTHONPATH=os.path.join(TOP, "python"), EXIFNORM_LIBRARY=self.shared)

@@ -245,6 +245,7 @@ class Listed(unittest.TestCase):
             ("SECURITY.md", f"at most {watching.TIMES} times the input"),
             ("bench/README.md", f"to {watching.TIMES} times the input"),
             ("docs/FORMAT.md", f"`LIMIT` = {LIMIT:,} bytes"),
+            ("docs/exifnorm.1", f"its normal form is longer than {LIMIT:,} bytes."),
         ):
             self.assertIn(text, text_of(name), name)
 

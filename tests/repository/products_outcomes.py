@@ -1,5 +1,5 @@
-"""Tests the tests: that library.py, package.py, fuzz.py and documents.py find the mistakes of a wrong library, a wrong package and wrong
-documents.
+"""Tests the tests: that library.py, interface.py, package.py, fuzz.py and documents.py find the mistakes of a wrong library, a wrong
+package, a wrong header and wrong documents.
 
 self_tests.py runs these. The library is the one in out/lib; tests/library/fuzz/wrong.c makes the wrong ones over it.
 """
@@ -7,7 +7,9 @@ self_tests.py runs these. The library is the one in out/lib; tests/library/fuzz/
 import contextlib
 import importlib
 import io
+import json
 import os
+import re
 import shutil
 import subprocess
 import sys
@@ -19,9 +21,11 @@ from unittest import mock
 
 import documents
 import fuzz
+import interface
 import library
 import named
-from answers import all_answers, write_jobs
+from answers import NAMES, all_answers, write_jobs
+from blocks import Blocks
 from counting import Counter, SkipTest
 from fuzz import Report
 from paths import TESTS, TOP
@@ -122,6 +126,31 @@ class Library(unittest.TestCase):
             with self.subTest(mistake):
                 self.assertNotEqual(self.in_python(mistake, script, self.jobs), 0)
 
+    def test_each_byte_with_a_wrong_library(self):
+        """And that each worked block is one of those whose bytes are tried."""
+        with mock.patch.object(sys, "path", [str(TOP / "python"), *sys.path]):
+            names = importlib.import_module("each_byte").WORKED
+        blocks = Blocks(json.loads((TESTS / "program" / "cases" / "blocks.json").read_text(encoding="utf-8"))["blocks"])
+        self.assertEqual(sum(len(blocks.bytes_of(it)) for it in names), library.WORKED)
+        script, block = TESTS / "library" / "each_byte.py", "a caption with three zeros after it"
+        self.assertEqual(self.in_python("NONE", script, block), 0)
+        for mistake in ("NEXT_CAUSE", "PLACE_BESIDE", "FORM_LESS_A_BIT", "FORM_CUT", "ZEROS_REFUSED"):
+            with self.subTest(mistake):
+                self.assertEqual(self.in_python(mistake, script, block), 1)
+
+    def test_each_wrong_library_at_the_edges(self):
+        """How many lines of edges.c find a mistake."""
+        edges, version = self.folder / "edges", re.search(r'VERSION: &str = "(.*)"', library.text_of("crates", "px_engine", "src", "version.rt"))[1]
+        subprocess.run([*fuzz.CC, "-o", edges, TESTS / "library" / "edges.c", RIGHT, f"-Wl,-rpath,{RIGHT.parent}"], check=True)
+        for mistake, lines in {"NONE": 0, "NEXT_CAUSE": 4, "KIND_OF_REFUSED": 3, "FAULT_OF_ACCEPTED": 2, "FORM_BEHIND": 1, "FORM_CUT": 2,
+                               "ROOM_OF_TEXT": 1, "SECOND_UNJUDGED": 2, "FIRST_IS_SECOND": 2, "NEVER_SAME": 1,
+                               "LISTING_EMPTY": 3, "CAPTIONS_UNLABELLED": 1}.items():  # fmt: skip
+            with self.subTest(mistake):
+                environment = {**os.environ, "WRONG": mistake, "RIGHT": str(RIGHT), "LD_PRELOAD": self.wrong}
+                ran = subprocess.run([edges, version, *NAMES], env=environment, capture_output=True, text=True, timeout=300)
+                found = set(re.findall(r"^line (\d+):", ran.stdout, re.M))
+                self.assertEqual((ran.returncode, len(found) >= lines), (1 if lines else 0, True), ran.stdout[-500:])
+
     def test_a_command_that_fails_is_a_failure(self):
         with self.assertRaisesRegex(library.Failed, "status 3: a reason"):
             library.run("sh", "-c", "echo a reason; exit 3")
@@ -180,6 +209,73 @@ class Package(unittest.TestCase):
             raise ValueError("a", 3)
 
         self.assertEqual(self.package.outcome(fails), ("ValueError", "a", 3))
+
+
+class Interface(unittest.TestCase):
+    """interface.py with libraries that are linked in another way, and with sources in which one text is replaced."""
+
+    LINK = ("-Wl,-soname,libexifnorm.so.1", f"-Wl,--version-script={TOP / 'packaging' / 'exifnorm.map'}", "-Wl,-z,defs", "-Wl,-z,relro", "-Wl,-z,now",
+            "-Wl,-z,noexecstack")  # fmt: skip
+
+    def setUp(self) -> None:
+        room = tempfile.TemporaryDirectory()
+        self.addCleanup(room.cleanup)
+        self.it = interface.Interface(str(RIGHT.parent), room.name)
+
+    def test_each_other_way_to_link(self):
+        for test, option, other in (
+            ("needs_the_c_library_alone", "", ()),
+            ("needs_the_c_library_alone", self.LINK[0], ("-Wl,-soname,libexifnorm.so.2",)),
+            ("needs_the_c_library_alone", "-Wl,-z,defs", ("-Wl,-z,defs", "-Wl,--no-as-needed", "-lm")),
+            ("needs_the_c_library_alone", "-Wl,-z,relro", ("-Wl,-z,norelro",)),
+            ("needs_the_c_library_alone", "-Wl,-z,now", ("-Wl,-z,lazy",)),
+            ("needs_the_c_library_alone", "-Wl,-z,noexecstack", ("-Wl,-z,execstack",)),
+            ("shows_its_calls_alone", "", ()),
+            ("shows_its_calls_alone", self.LINK[1], ()),
+        ):
+            with self.subTest(test, other=other):
+                flags = [flag for it in self.LINK for flag in (other if it == option else (it,))]
+                self.it.shared = f"{self.it.room}/linked.so"
+                subprocess.run(["cc", "-shared", "-o", self.it.shared, RIGHT.parent / "exifnorm.o", *flags], check=True, capture_output=True)
+                self.see(test, is_well=not option)
+
+    def see(self, test: str, is_well: bool) -> None:
+        with contextlib.nullcontext() if is_well else self.assertRaises(library.Failed):
+            getattr(self.it, test)()
+
+    def test_each_other_text(self):
+        header, page, statuses = "crates/px_c/include/exifnorm.h", "docs/exifnorm.3", "crates/px_c/src/statuses.rt"
+        real = library.text_of
+        for test, name, old, new in (
+            ("shows_its_calls_alone", header, "uint32_t exifnorm_version(", "uint32_t exifnorm_versions("),
+            ("shows_its_calls_alone", "packaging/exifnorm.map", "    exifnorm_show;\n", ""),
+            ("has_one_set_of_numbers", header, "EXIFNORM_IIM = 2", "EXIFNORM_RECORD = 2"),
+            ("has_one_set_of_numbers", statuses, ": u32 = 6;", ": u32 = 7;"),
+            ("has_one_set_of_numbers", page, '" (4)"', '" (5)"'),
+            ("describes_the_statuses_of_each_call", header, " *   TOO_LONG  ", " *   TO_LONG  "),
+            ("gives_each_status_its_meaning", header, "    /* An allocation failed.", "    /* The block is refused."),
+            ("gives_each_status_its_meaning", page, "An allocation failed.", "The block is refused."),
+            ("promises_the_same_as_its_page", header, "256 KiB", "128 KiB"),
+            ("promises_the_same_as_its_page", page, "256 KiB", "128 KiB"),
+            ("promises_the_same_as_its_page", "tests/library/library.py", "ulimit -s 256", "ulimit -s 512"),
+            ("promises_the_same_as_its_page", "tests/library/calls.c", "STACK = 256 ", "STACK = 512 "),
+            ("promises_the_same_as_its_page", header, "at most twice", "at most three times"),
+            ("promises_the_same_as_its_page", page, "2 * block_length", "block_length"),
+            ("has_one_version", "crates/px_engine/src/version.rt", 'VERSION: &str = "', 'VERSION: &str = "9'),
+            ("has_one_version", "python/pyproject.toml", 'version = "1', 'version = "2'),
+            ("has_the_prototypes_of_its_page", header, "unsigned char *out, size_t out_length", "unsigned char *out, uint32_t out_length"),
+            ("has_the_prototypes_of_its_page", page, "size_t *", "uint32_t *"),
+            ("has_a_header_with_the_numbers_of_the_sources", statuses, ": u32 = 6;", ": u32 = 7;"),
+        ):
+            with self.subTest(test, old=old):
+                self.assertIn(old, real(*name.split("/")))
+                for text in (old, new):
+                    changed = lambda *path, text=text: real(*path).replace(old, text, 1) if "/".join(path) == name else real(*path)
+                    with mock.patch.object(interface, "text_of", changed):
+                        self.see(test, is_well=text == old)
+
+    def test_each_method_is_a_test(self):
+        self.assertEqual(len(library.tests_of(self.it)), 12)
 
 
 class Fuzz(unittest.TestCase):
@@ -264,11 +360,21 @@ class Documents(unittest.TestCase):
             ("Listed.test_statuses_are_the_same_wherever_they_are_listed", "docs/FORMAT.md", "\n| 4 | a read", "\n| 3 | a read"),
             ("Listed.test_figures_are_those_of_the_tests", "docs/FUZZING.md", "one of 54 mistakes", "one of 53 mistakes"),
             ("Listed.test_figures_are_those_of_the_tests", "SECURITY.md", "at most 6.3 times", "at most 6 times"),
+            ("Listed.test_figures_are_those_of_the_tests", "docs/FUZZING.md", "It checks ", "It checks 1"),
+            ("Listed.test_figures_are_those_of_the_tests", "bench/README.md", "to 6.3 times", "to 6 times"),
+            ("Listed.test_figures_are_those_of_the_tests", "docs/FORMAT.md", "`LIMIT` = 16,777,216", "`LIMIT` = 16,777,215"),
+            ("Listed.test_figures_are_those_of_the_tests", page, "16,777,216", "16,777,215"),
+            ("Listed.test_what_must_be_read_has_so_many_lines", "docs/PROOFS.md", "| px_bytes | ", "| px_bytes | `src/devices.rt`, "),
+            ("Listed.test_what_must_be_read_comes_in_order", "docs/PROOFS.md", "| px_bytes | ", "| px_engine | `Prints` | 1 |\n| px_bytes | "),
+            ("Listed.test_the_version_is_stated_once", "CHANGELOG.md", "\n## ", "\n## 9"),
+            ("Listed.test_the_version_is_stated_once", "crates/px_engine/src/version.rt", 'VERSION: &str = "', 'VERSION: &str = "9'),
             ("Listed.test_the_version_is_stated_once", "python/pyproject.toml", 'version = "', 'version = "9'),
             ("Written.test_readers_meet_the_terms_of_the_field", "README.md", "\n\n", "\n\nThis is said.\n\n"),
             ("Written.test_other_documents_have_the_terms_of_the_field", "docs/PROVING.md", "\n\n", "\n\nThis is said.\n\n"),
             ("Written.test_the_readme_is_short", "README.md", "\n\n", "\n\n" + "more " * 700),
             ("Written.test_links_lead_to_files", "README.md", "](docs/FORMAT.md)", "](docs/FORMATS.md)"),
+            ("Written.test_the_packages_are_installed_by_one_command", "README.md", "apt-get install -y", "apt-get install"),
+            ("Written.test_the_packages_are_installed_by_one_command", ".ci/run", "apt-get install -y", "apt-get install"),
             ("Written.test_each_document_begins_with_its_title", "README.md", "# ", "#"),
             ("Shown.test_each_python_block_of_the_readme_runs", "README.md", "```python\n", "```python\nraise KeyError\n"),
             ("Shown.test_each_c_block_of_the_readme_runs", "README.md", "```c\n", "```c\nint unused(void) { int x; }\n"),
