@@ -24,11 +24,15 @@ sys.path.insert(0, str(Path(__file__).resolve().parent.parent))
 
 import paths
 import shell_texts
-from counting import run_suite
+from counting import examples, run_suite
 from installed import DEBIAN_PYTHON, EXAMPLES, FILE, TOP, VERSION, Tree, run, tree, with_folders
 
 sys.path.insert(0, str(TOP / "packaging"))
 
+import command
+import components
+import dist_info
+import grammar
 import manifest
 
 BLOCK = bytes.fromhex("4d4d002a00000008 0001 0112 0003 00000001 00060000 00000000")
@@ -258,6 +262,12 @@ class Libraries(unittest.TestCase):
             self.assertEqual(self.pkg_config(it, "--variable=libdir"), [str(it.at("lib"))])
             text = it.at("lib/pkgconfig/exifnorm.pc").read_text(encoding="utf-8")
             self.assertIn(f"prefix={it.prefix}\nlibdir=${{prefix}}/lib\nincludedir=${{prefix}}/include\n", text)
+
+    def test_a_program_is_built_by_the_line_of_the_manual_page(self) -> None:
+        line = re.search(r"^\.B (cc .*)$", text_of("docs", "exifnorm.3"), re.MULTILINE)[1].replace("\\-", "-")
+        shutil.copy(EXAMPLES / "compare.c", self.work / "program.c")
+        run("sh", "-c", line, folder=self.work, PKG_CONFIG_LIBDIR=str(USR.at("lib/pkgconfig")), PKG_CONFIG_SYSROOT_DIR=str(USR.root))
+        self.assertEqual(run("./a.out", folder=self.work, LD_LIBRARY_PATH=str(USR.at("lib"))), "same\n")
 
     def test_config_moves_with_its_prefix(self) -> None:
         moved = run("pkg-config", "--define-variable=prefix=/moved", "--cflags", "--libs-only-L", "exifnorm",
@@ -593,6 +603,36 @@ class DebianLists(unittest.TestCase):
         "share/zsh/vendor-completions/_exifnorm-pictures": "exifnorm-pictures",
     }
 
+    # What the packages depend on. By Debian's policy, what is compiled is built for each architecture and depends on the libraries that it
+    # is linked with, and packages of a library can be installed for several architectures.
+    NEEDS = "${misc:Depends}, ${shlibs:Depends}"
+    FIELDS = {
+        "exifnorm": {"Architecture": "any", "Depends": NEEDS, "Suggests": "exifnorm-pictures"},
+        "libexifnorm1": {"Section": "libs", "Architecture": "any", "Multi-Arch": "same", "Pre-Depends": "${misc:Pre-Depends}", "Depends": NEEDS},
+        "libexifnorm-dev": {"Section": "libdevel", "Architecture": "any", "Multi-Arch": "same", "Suggests": "exifnorm",
+                            "Depends": "libexifnorm1 (= ${binary:Version}), ${misc:Depends}"},
+        "python3-exifnorm": {"Section": "python", "Architecture": "all",
+                             "Depends": "libexifnorm1 (>= ${source:Upstream-Version}), ${misc:Depends}, ${python3:Depends}"},
+        "exifnorm-pictures": {"Architecture": "all", "Suggests": "exiv2, python3-distributed, python3-rdflib",
+                              "Depends": "libimage-exiftool-perl, python3-exifnorm (= ${source:Version}), ${misc:Depends}, ${python3:Depends}"},
+    }  # fmt: skip
+
+    def test_fields_of_each_package(self) -> None:
+        source, *found = (email.message_from_string(it) for it in text_of("debian", "control").split("\n\n"))
+        fields = [{name: " ".join(value.split()) for name, value in it.items()} for it in found]
+        begins = "normal form of Exif and IPTC metadata blocks"
+        for it in fields:
+            self.assertTrue(it.pop("Description").startswith((begins, "find pictures with the same Exif, IPTC and XMP metadata")), it)
+        self.assertEqual({it.pop("Package"): it for it in fields}, self.FIELDS)
+        self.assertEqual((source["Source"], source["Section"], source["Rules-Requires-Root"]), ("exifnorm", "graphics", "no"))
+        self.assertEqual(source["Build-Depends"], "debhelper-compat (= 13), dh-python, python3:any")
+        self.assertEqual(text_of("debian", "source", "format"), "3.0 (quilt)\n")
+
+    def test_licence_is_that_of_the_sources(self) -> None:
+        licence = re.sub(r"^ \.?", "", text_of("debian", "copyright"), flags=re.MULTILINE).partition("License: Expat\n")[2].partition("\nLicense:")[0]
+        self.assertEqual(licence.split(), text_of("LICENSE-MIT").partition("authors\n")[2].split())
+        self.assertIn("Copyright: 2026 the exifnorm authors\nLicense: Expat or Apache-2.0\n", text_of("debian", "copyright"))
+
     def setUp(self) -> None:
         lists = [(it.stem, it) for it in sorted((TOP / "debian").glob("*.install"))] + [("nobody", TOP / "debian/not-installed")]
         self.patterns = [(package, line) for package, it in lists for line in it.read_text().splitlines() if line and line[0] != "#"]
@@ -634,6 +674,45 @@ class Papers(unittest.TestCase):
         self.assertEqual({it for it in variables if not re.search(rf"\b{it}\b", page)}, set())
         for target in re.findall(r"^#   make (\w+)", makefile, re.MULTILINE):
             self.assertTrue(target == "check" or f"make {target}" in page, target)
+
+
+class Components(unittest.TestCase):
+    """What packaging/components.py finds of crates that are written here."""
+
+    def setUp(self) -> None:
+        self.kit = Path(tempfile.mkdtemp(dir=ROOM))
+        mit = f"MIT\n\n{components.MIT_BEGINS.replace(' ', chr(10), 2)}, ..."
+        for name, files in {"both": {"LICENSE-APACHE": "", "LICENSE-MIT": mit}, "one": {"LICENSE": mit}, "other": {"LICENSE": "no"}, "none": {},
+                            "std": {}, "std_io": {}}.items():  # fmt: skip
+            (self.kit / "rattle" / name).mkdir(parents=True)
+            for file, text in {**files, "README.md": f"A port of the Rust crate `{name}` 1.2.3."}.items():
+                (self.kit / "rattle" / name / file).write_text(text)
+        for below in ("one.rlib/below/both", "std.rlib/below/std_io"):
+            (self.kit / "rlibs" / below).mkdir(parents=True)
+
+    def test_licences_and_versions(self) -> None:
+        found = [components.crate_of(self.kit, it) for it in ("both", "one", "other", "none")]
+        self.assertEqual([it.licence for it in found], ["Apache-2.0 OR MIT", "MIT", "NOASSERTION", "NOASSERTION"])
+        self.assertEqual([it.version for it in found], ["1.2.3"] * 4)
+        (self.kit / "rattle" / "one" / "README.md").unlink()
+        self.assertEqual(components.crate_of(self.kit, "one").version, "NOASSERTION")
+
+    def test_crates_below(self) -> None:
+        table = {"px_cli": ["px_low", "one"], "px_c": ["px_low"], "px_low": ["px_lower"], "px_lower": ["other"], "px_apart": ["none"]}
+        self.assertEqual(components.below(("px_cli", "px_c"), table), {"px_low", "px_lower", "one", "other"})
+        self.assertEqual(components.kit_crates(self.kit, {"one", "other"}), {"one", "both", "other", "std", "std_io"})
+
+    def test_document(self) -> None:
+        found = components.document("7.8.9", 86_400, [components.crate_of(self.kit, "one")])
+        self.assertEqual([(it["name"], it["versionInfo"]) for it in found["packages"]], [("exifnorm", "7.8.9"), ("one", "1.2.3")])
+        self.assertEqual((found["name"], found["creationInfo"]["created"]), ("exifnorm-7.8.9", "1970-01-02T00:00:00Z"))
+        self.assertIn("7.8.9-86400", found["documentNamespace"])
+        ways = [(it["spdxElementId"], it["relationshipType"], it["relatedSpdxElement"]) for it in found["relationships"]]
+        self.assertEqual(ways, [("SPDXRef-DOCUMENT", "DESCRIBES", "SPDXRef-exifnorm"), ("SPDXRef-exifnorm", "STATIC_LINK", "SPDXRef-one")])
+
+    def test_examples_of_the_modules(self) -> None:
+        for it in (command, components, dist_info, grammar):
+            examples(it)
 
 
 class Versions(unittest.TestCase):
