@@ -27,7 +27,7 @@ sys.path.insert(0, str(Path(__file__).resolve().parent.parent))
 
 import paths
 from counting import run_module
-from installed import DEBIAN_PYTHON, EXAMPLES, TOP, VERSION, modules, run, tree
+from installed import DEBIAN_PYTHON, EXAMPLES, FILE, TOP, VERSION, Tree, modules, run, tree
 
 BLOCK = bytes.fromhex("4d4d002a00000008 0001 0112 0003 00000001 00060000 00000000")
 SYSTEM_PATH = "/usr/sbin:/usr/bin:/sbin:/bin"
@@ -176,6 +176,7 @@ class Wheel(unittest.TestCase):
 class Debian(unittest.TestCase):
     """The Debian packages."""
 
+    maxDiff = None
     NAMES = ("exifnorm", "exifnorm-pictures", "libexifnorm-dev", "libexifnorm1", "python3-exifnorm")
 
     @classmethod
@@ -230,6 +231,24 @@ class Debian(unittest.TestCase):
         for name, file in self.files.items():
             architecture = "all" if name in ("exifnorm-pictures", "python3-exifnorm") else run("dpkg", "--print-architecture").strip()
             self.assertEqual(file.name, f"{name}_{VERSION}-1_{architecture}.deb")
+
+    def test_files_and_modes(self) -> None:
+        """All packages together have what install writes, but for the list of uninstall, the licences and the link of the Python package;
+        and each has the papers that Debian requires."""
+        found = {}
+        for name in self.NAMES:
+            (self.room / "content" / name).mkdir(parents=True)
+            run("dpkg-deb", "-x", self.files[name], self.room / "content" / name)
+            files = {it: mode for it, mode in tree(self.room / "content" / name).items() if not it.endswith("/")}
+            self.assertEqual(set(files) & set(found), set(), name)
+            found.update(files)
+        papers = ("changelog.Debian.gz", "changelog.gz", "copyright")
+        expected = {f"usr/share/doc/{name}/{it}": FILE for name in self.NAMES for it in papers}
+        for name, mode in Tree(Path("/"), "/usr", DEBIAN_PYTHON).expected().items():
+            moved = re.sub(r"^usr/lib/(lib|pkgconfig)", rf"{self.libraries}/\1", name).replace("site-functions", "vendor-completions")
+            if not re.search(r"/$|LICENSE-|CHANGELOG|share/exifnorm/installed|exifnorm/libexifnorm", moved):
+                expected[f"{moved}.gz" if "/man/" in moved else moved] = mode
+        self.assertEqual(found, expected)
 
     def test_lintian_has_no_error_and_no_warning(self) -> None:
         """Except for the Debian bug that a first upload closes."""
