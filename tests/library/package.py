@@ -26,6 +26,7 @@ import tracemalloc
 from concurrent.futures import ThreadPoolExecutor
 from pathlib import Path
 from typing import Any, Callable, Dict, Iterator, List
+from unittest import mock
 
 sys.dont_write_bytecode = True
 sys.path.insert(0, str(Path(__file__).resolve().parent.parent))
@@ -38,8 +39,8 @@ sys.path.insert(0, PACKAGES)
 
 import exifnorm
 import made_by_tools
-from counting import Counter
-from exifnorm import _library, _listings
+from counting import Counter, examples
+from exifnorm import _calls, _captions, _errors, _fields, _forms, _library, _listings, _reading
 from kinds import small_kinds
 from meanings import LABELS, LIMIT, LONG, SHORT, Exif, Layout, Record, Value, laid
 from reading import Fault, said
@@ -150,6 +151,8 @@ def captions_once(counter: Counter) -> None:
         found = [(it.label, it.data) for it in exifnorm.captions(Record(datasets * repeats).spelled())]
         expected = {(label, label.encode()): repeats for label in labels.values()}
         counter.check(f"each label {repeats} times", {it: found.count(it) for it in found} == expected, found)
+    zeros = exifnorm.captions(laid(Exif({0x013B: Value(2, b"two\0\0")}), Layout("<")))
+    counter.check("a text with two zeros loses one", [it.text for it in zeros] == ["two\0"], zeros)
     texts = {0x010E: Value(2, b"d\xc3\xa9\0"), 0x013B: Value(129, b"\xc3\xa9\0"), 0x8298: Value(2, b"no zero")}
     record = Record([(1, 90, b"\x1b%G"), (2, 120, b"\xc3\xa9"), (2, 5, b"\xff")])
     found = exifnorm.captions(laid(Exif(texts, record=record), Layout("<")))
@@ -240,6 +243,18 @@ def blocks_of_no_bytes(counter: Counter) -> None:
             counter.check(f"{call.__name__} of {empty!r}", came == ("Refused", "UnknownKind", 0, None), came)
         came = outcome(exifnorm.same, empty, ONE), outcome(exifnorm.same, ONE, empty)
         counter.check(f"same of {empty!r}", came == (("Refused", "UnknownKind", 0, 1), ("Refused", "UnknownKind", 0, 2)), came)
+
+
+def an_object_without_an_address(counter: Counter) -> None:
+    """An object of no bytes may have none (PyBuffer_FillInfo in Python's C API); exifnorm.h allows no pointer that is NULL."""
+    with mock.patch.object(_calls, "_get_view", lambda *_: 0), mock.patch.object(_calls, "_release", lambda _: None):
+        at, length = _calls._over_bytes(bytearray(), lambda at, length: (at.value, length))
+    counter.check("its address", at and length == 0, (at, length))
+
+
+def examples_of_the_modules(counter: Counter) -> None:
+    for it in (exifnorm, _calls, _captions, _errors, _fields, _forms, _library, _listings, _reading):
+        counter.run(it.__name__, lambda it=it: examples(it))
 
 
 def names_and_arguments(counter: Counter) -> None:
@@ -558,6 +573,8 @@ TESTS = (
     ways_to_give_a_block,
     what_is_no_block,
     blocks_of_no_bytes,
+    an_object_without_an_address,
+    examples_of_the_modules,
     names_and_arguments,
     exceptions,
     objects,

@@ -99,6 +99,25 @@ class Documents(WithPictures):
                 self.assertEqual(failed, 0)
         self.assertGreater(len(modules), 20)
 
+    @needs("exiftool")
+    def test_the_examples_of_the_manual_page(self):
+        """In a folder in place of /archive; between the two runs a picture is edited."""
+        text = read(os.path.join(TOP, "docs", "exifnorm-pictures.1")).decode()
+        shown = text.partition(".SH EXAMPLES\n.nf\n")[2].partition(".fi\n")[0].replace("\\-", "-")
+        self.make_two_folders("archive", "after")
+        printed = []
+        for number, line in enumerate(shown.splitlines()):
+            if number == 1:
+                shutil.copy(self.path("after", "first.jpg"), self.path("archive", "first.jpg"))
+            ran = subprocess.run(["bash", "-o", "pipefail", "-c", line.replace("/archive", self.path("archive"))], cwd=self.folder,
+                                 capture_output=True, env=Studio.environment())  # fmt: skip
+            self.assertEqual(ran.returncode, 1 if "pictures changed" in line else 0, (line, ran.stderr))
+            printed.append(ran.stdout.decode())
+        self.assertEqual(len(printed), 5)
+        self.assertIn("main:Copyright", printed[2])
+        self.assertIn("main:Copyright", read(self.path("report.html")).decode())
+        self.assertEqual(printed[4].count('"label"'), 4, "three artists and a copyright")
+
     def test_manual_page(self):
         text = read(os.path.join(TOP, "docs", "exifnorm-pictures.1")).decode()
         help_ = subprocess.run([sys.executable, "-m", "exifnorm_pictures", "--help"], capture_output=True, env=Studio.environment())

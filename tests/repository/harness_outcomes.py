@@ -1,10 +1,12 @@
-"""Tests counting.py over tests of every outcome, program.py over programs of every outcome, and the judgement of run.py over a program
-that is wrong in one way: the built program, with something changed around it."""
+"""Tests counting.py over tests of every outcome, program.py over programs of every outcome, the judgement of run.py over a program that
+is wrong in one way: the built program, with something changed around it, and tests/pictures/run.py over tests of every outcome."""
 
 import contextlib
 import io
 import itertools
 import os
+import shutil
+import subprocess
 import sys
 import tempfile
 import types
@@ -16,7 +18,7 @@ from unittest import mock
 
 import counting
 from cases import Case, Sweep, read_all
-from paths import CASES, TOP
+from paths import CASES, TESTS, TOP
 from program import Outcome, run
 from run import Parts, all_of, complaints_of, judge_files, judge_sweep, run_titles
 
@@ -274,6 +276,61 @@ class Wrong(Room):
         for command in ("check", "show", "captions"):
             wrong = self.program(f'[ "$1" = {command} ] && echo; exec \'{PROGRAM}\' "$@"')
             self.assertEqual(len(judge_files(wrong, [ONE] * 4, ("", "check", "show", "captions"))), 1, command)
+
+
+# Tests of exifnorm-pictures, of each outcome, and a command in its place.
+PICTURES = """import unittest
+from studio import WithPictures, tool
+
+class Of(WithPictures):
+    def test_good(self):
+        self.assertEqual(self.asked("x", status=3), ["a line"])
+        self.assertEqual(self.complaint, "why\\n")
+        self.assertEqual(tool(self.folder, "echo", "a"), b"a\\n")
+
+    def test_another_status(self):
+        self.asked("x")
+
+    def test_error(self):
+        raise KeyError("a name")
+
+    def test_two_subtests(self):
+        for number in (1, 2):
+            with self.subTest(number):
+                self.assertEqual(number, 3)
+
+    def test_tool_that_fails(self):
+        tool(self.folder, "false")
+
+    def test_skipped(self):
+        self.skipTest("no tool")
+"""
+COMMAND = 'import sys\nprint("a line")\nprint("why", file=sys.stderr)\nsys.exit(3)\n'
+
+
+class Pictures(Room):
+    """What tests/pictures/run.py counts."""
+
+    def ran(self, only: str) -> Tuple[int, List[str]]:
+        words = [sys.executable, self.folder / "tests" / "pictures" / "run.py", "/bin/true", "--only", only]
+        done = subprocess.run(words, capture_output=True, text=True, check=False, timeout=300)
+        return done.returncode, done.stdout.splitlines()
+
+    def test_each_outcome(self):
+        tests, package = self.folder / "tests" / "pictures", self.folder / "python" / "exifnorm_pictures"
+        for it in (tests, package):
+            it.mkdir(parents=True)
+        for name in ("run.py", "studio.py"):
+            shutil.copy(TESTS / "pictures" / name, tests)
+        (tests / "made_blocks.py").write_text("BLOCKS, with_exif, with_iptc = {}, None, None\n", encoding="utf-8")
+        (tests / "test_of.py").write_text(PICTURES, encoding="utf-8")
+        (package / "__main__.py").write_text(COMMAND, encoding="utf-8")
+        self.assertEqual(self.ran("test_good"), (0, ["1 passed, 0 failed"]))
+        for name in ("test_another_status", "test_error", "test_two_subtests", "test_tool_that_fails"):
+            status, lines = self.ran(name)
+            self.assertEqual((status, lines[0].partition(" (")[0], lines[-1]), (1, f"failed: Of.{name}", "0 passed, 1 failed"), name)
+        self.assertEqual(self.ran("test_skipped"), (0, ["skipped: Of.test_skipped: no tool", "0 passed, 0 failed"]))
+        self.assertEqual(self.ran("")[1][-1], "1 passed, 4 failed")
 
 
 class Titles(unittest.TestCase):

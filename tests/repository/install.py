@@ -91,6 +91,11 @@ class Files(unittest.TestCase):
         version = run(DEBIAN_PYTHON, "-c", "import sys; print('%d.%d' % sys.version_info[:2])").strip()
         self.assertIn(f"out/stage/usr/local/lib/python{version}/dist-packages", said)
 
+    def test_the_default_prefix_is_that_of_local_programs(self) -> None:
+        """As in the GNU coding standards, and in the README."""
+        self.assertIn("'out/stage/usr/local/bin'", run("make", "-n", "stage"))
+        self.assertIn("make install PREFIX=/usr/local ", text_of("README.md"))
+
     def test_no_file_names_the_folder_that_it_was_staged_in(self) -> None:
         for name in tree(USR.root):
             path = USR.root / name
@@ -368,7 +373,9 @@ class Python(unittest.TestCase):
     def test_metadata(self) -> None:
         found = email.message_from_string((USR.module_folder / f"exifnorm-{VERSION}.dist-info/METADATA").read_text(encoding="utf-8"))
         self.assertEqual((found["Name"], found["Version"], found["License"]), ("exifnorm", VERSION, "MIT OR Apache-2.0"))
-        self.assertRegex(found["Requires-Python"], r"^>=3\.\d+$")
+        self.assertEqual(found["Requires-Python"], ">=3.9", "the oldest Python in which the packages run")
+        installer = (USR.module_folder / f"exifnorm-{VERSION}.dist-info/INSTALLER").read_text(encoding="utf-8")
+        self.assertEqual(installer, "make\n", "pip leaves alone what another program installed (PEP 376)")
         self.assertIn("Typing :: Typed", found.get_all("Classifier"))
 
     def test_metadata_lists_the_command(self) -> None:

@@ -260,6 +260,8 @@ class Interface(unittest.TestCase):
             ("promises_the_same_as_its_page", "tests/library/library.py", "ulimit -s 256", "ulimit -s 512"),
             ("promises_the_same_as_its_page", "tests/library/calls.c", "STACK = 256 ", "STACK = 512 "),
             ("promises_the_same_as_its_page", header, "at most twice", "at most three times"),
+            ("promises_the_same_as_its_page", header, "same is 1 if", "same is 0 if"),
+            ("promises_the_same_as_its_page", page, "to 1 if two", "to 0 if two"),
             ("promises_the_same_as_its_page", page, "2 * block_length", "block_length"),
             ("has_one_version", "crates/px_engine/src/version.rt", 'VERSION: &str = "', 'VERSION: &str = "9'),
             ("has_one_version", "python/pyproject.toml", 'version = "1', 'version = "2'),

@@ -1,0 +1,158 @@
+"""Single functions of exifnorm_pictures: at limits, orders and names that no picture of the other tests reaches."""
+
+import hashlib
+import io
+import os
+import shutil
+import sys
+import unittest
+import zlib
+from unittest import mock
+
+from made_files import chunk, exif, page, png, tiff
+from studio import TOP, WithPictures, read, write
+
+sys.path.insert(0, os.path.join(TOP, "python"))
+
+from exifnorm_pictures import explain, extraction, index, listing, mend, others, tools  # noqa: E402
+from exifnorm_pictures.catalogue import Catalogue  # noqa: E402
+from exifnorm_pictures.formats import png as png_  # noqa: E402
+from exifnorm_pictures.formats.found import Broken  # noqa: E402
+from exifnorm_pictures.kept import Entry  # noqa: E402
+from exifnorm_pictures.listing import Field  # noqa: E402
+
+
+class Indexed(WithPictures):
+    alone = True  # it replaces functions that other tests call
+
+    def test_files_of_the_catalogue(self):
+        """SQLite's documentation of temporary files names these three endings."""
+        os.symlink(self.folder, self.path("link"))
+        for name in (self.path("c"), self.path("link", "c")):
+            expected = {os.fsencode(self.path("c") + it) for it in ("", "-wal", "-shm", "-journal")}
+            self.assertLessEqual(expected, set(index._own_files(name)))
+
+    def test_names_at_the_ends_of_the_alphabet(self):
+        """Each of them is below its folder, and no name of the folders beside it."""
+        names = [b"\x01", b" ", b"~", b"\x7f", "é".encode(), b"\xff", b"z/\xff"]
+        with Catalogue(self.path("c"), make=True) as made:
+            run = made.begin_run("2000-01-01T00:00:00Z")
+            made.put(run, [Entry(b"/a/" + it, b"/a", problem="NoPicture") for it in names])
+            made.put(run, [Entry(it, b"/", problem="NoPicture") for it in (b"/a", b"/a0", b"/a!/b", b"/a0/b", b"/ab/c", b"/\xff")])
+            self.assertEqual([path for _, path, _ in made.below(b"/a")], sorted(b"/a/" + it for it in names))
+
+    def test_slow_pictures_are_committed_one_by_one(self):
+        os.mkdir(self.path("p"))
+        for name in ("a", "b", "c"):
+            write(self.path("p", name), b"")
+        with Catalogue(self.path("c"), make=True) as made:
+
+            def looked(found, _):
+                for number, it in enumerate(found):
+                    self.assertEqual(made.base.execute("SELECT count(*) FROM pictures").fetchone(), (number,))
+                    yield Entry(it.path, it.root, it.stamp, problem="NoPicture")
+
+            with mock.patch.object(index, "LONGEST_WAIT", -1):
+                index.index(index.Asked([os.fsencode(self.path("p"))], quiet=True, look=looked), made)
+
+    def test_a_folder_that_cannot_be_read_hides_no_other(self):
+        for name in ("ab", "a"):
+            os.mkdir(self.path(name))
+            write(self.path(name, "1.jpg"), b"")
+        with Catalogue(self.path("c"), make=True) as made:
+            asked = index.Asked([os.fsencode(self.folder)], quiet=True)
+            index.index(asked, made)
+            for name in ("ab", "a"):
+                os.remove(self.path(name, "1.jpg"))
+            real = os.scandir
+
+            def refused(folder):
+                if folder == os.fsencode(self.path("a")):
+                    raise PermissionError(13, "Permission denied")
+                return real(folder)
+
+            with mock.patch.object(os, "scandir", refused):
+                index.index(asked, made)
+            found = dict(made.rows("SELECT path, problem FROM pictures", (), lambda row: (os.path.relpath(os.fsdecode(row[0]), self.folder), row[1])))
+        self.assertEqual((found["a/1.jpg"], found["ab/1.jpg"]), ("NoPicture", "Vanished"))
+
+
+class Extracted(WithPictures):
+    alone = True
+
+    def test_raw_files_by_their_names(self):
+        for name in (b"a.NEF", b"a.dng", b"A.Cr2", b"/x.y/a.ARW"):
+            self.assertTrue(extraction._RAW_NAME.search(name), name)
+        for name in (b"a.tif", b"nef", b"a.nef.tif", b"a.nef\n", b"anef"):
+            self.assertFalse(extraction._RAW_NAME.search(name), name)
+
+    def test_what_exiftool_does_not_extract_has_a_digest(self):
+        """Up to a length, and with --whole at any length."""
+        answer = {"SourceFile": "a", "A:FileType": "GIF", "A:MIMEType": "image/gif"}
+        with mock.patch.object(others.session, "ask", lambda *_: answer), mock.patch.object(others, "MOST", 3):
+            for octets, whole, is_known in ((b"abc", False, True), (b"abcd", False, False), (b"abcd", True, True)):
+                found = others.by_others(b"a", io.BytesIO(octets), whole, "")
+                expected = hashlib.sha256(octets).hexdigest() if is_known else ""
+                self.assertEqual([(it.what, it.digest) for it in found.not_read], [("what ExifTool does not extract from a GIF file", expected)])
+
+    def test_an_output_without_end(self):
+        with mock.patch.object(tools, "MOST", 100_000), mock.patch.object(tools, "_limit", 10.0):
+            with self.assertRaisesRegex(tools.Failed, "^yes wrote more than 100,000 bytes about one file$"):
+                tools.run([shutil.which("yes")])
+
+    def test_a_damaged_chunk(self):
+        good = png(chunk(b"eXIf", exif(b"Abc")))
+        at = good.index(b"eXIf")
+        self.assertEqual(len(png_.read(io.BytesIO(good)).found), 1)
+        for place in (at, at + 10, at + 4 + len(exif(b"Abc"))):
+            damaged = bytearray(good)
+            damaged[place] ^= 0x20
+            if place == at:  # another kind, which is not read
+                self.assertEqual(png_.read(io.BytesIO(bytes(damaged))).found, [])
+            else:
+                with self.assertRaisesRegex(Broken, "check sum"):
+                    png_.read(io.BytesIO(bytes(damaged)))
+
+
+class Listed(unittest.TestCase):
+    def test_a_thumbnail_is_after_its_fields(self):
+        """As in the listing (docs/FORMAT.md, 7)."""
+        names = [("iptc", "2:25"), ("thumb", "strip"), ("thumb", "jpeg"), ("thumb", "ffff"), ("thumb", "0112"), ("gps", "0001"), ("main", "010f"),
+                 ("iptc", "2:5"), ("exif", "9003")]  # fmt: skip
+        found = listing.changes([], [Field(where, key, "SHORT", 1, "1") for where, key in names])
+        self.assertEqual(
+            [it.name for it in found],
+            ["main:Make", "exif:DateTimeOriginal", "gps:GPSLatitudeRef", "thumb:Orientation", "thumb:Tag ffff", "thumb:JPEG thumbnail",
+             "thumb:Strip", "iptc:ObjectName", "iptc:Keywords"],  # fmt: skip
+        )
+
+    def test_texts_with_a_character_set(self):
+        """UserComment, GPSProcessingMethod and GPSAreaInformation begin with eight bytes for it (CIPA DC-008, 4.6.6 and 4.6.7)."""
+        text = b"ASCII\0\0\0GPS"
+        for where, key, is_one in (("exif", "9286", True), ("gps", "001b", True), ("gps", "001c", True), ("exif", "001b", False), ("gps", "001d", False)):
+            self.assertEqual(listing.shown_value(where, key, text) == 'ascii "GPS"', is_one, (where, key))
+
+    def test_the_entry_before_a_doubled_one(self):
+        block = tiff(page((0x010F, 2, b"Ab\0\0"), (0x010F, 2, b"Cd\0\0")))
+        found = explain.explain("exif", block)
+        self.assertEqual(found.judgement.cause, "Doubled")
+        self.assertTrue(any(it.startswith("Before it stands entry") or it.startswith("Before it stands Make") for it in found.here), found.here)
+
+
+class Mended(WithPictures):
+    alone = True
+
+    def test_values_that_any_writer_changes(self):
+        """Offsets, padding and the digest of the record are no values of a picture."""
+        lines = b"[IFD0] Make : Abc\n[IFD0] StripOffsets : 8\n[ExifIFD] Padding : 1\n[Photoshop] IPTCDigest : 00ff\n[IFD1] Make  :  Abc\n"
+        with mock.patch.object(tools, "exiftool", lambda *words: list(words)), mock.patch.object(tools, "run", lambda _: tools.Done(0, lines)):
+            self.assertEqual(sorted(mend._printed("a")), ["[IFD0] Make : Abc", "[IFD1] Make : Abc"])
+
+    def test_a_link_in_the_way(self):
+        """Also one that leads nowhere is a file that is there."""
+        write(self.path("a.jpg"), b"")
+        os.symlink("nowhere", self.path("out.jpg"))
+        with mock.patch.object(tools, "needed", lambda _: ""), mock.patch.object(mend, "blocks_of", lambda _: self.fail("it is read")):
+            with self.assertRaisesRegex(mend.NotWritten, "there already"):
+                mend.mend(os.fsencode(self.path("a.jpg")), os.fsencode(self.path("out.jpg")), self.folder)
+        self.assertEqual((os.readlink(self.path("out.jpg")), read(self.path("a.jpg"))), ("nowhere", b""))
