@@ -10,52 +10,24 @@ use std::marker::Model;
 // The greatest number of bytes in the buffer.
 const CAPACITY: usize = 8192;
 
-// So many bytes are buffered in an array of their own: clearing the whole capacity takes longer than the rest of a
-// call for a small block.
-const FEW: usize = 1024;
-
-// The bytes, in an array of the whole capacity.
-fn widened(bytes: &[u8]) -> [u8; CAPACITY]
-    requires { length bytes.now ≤ 8192 }
-    ensures { take (length bytes.now) result ≡ bytes.now }
-{
-    let mut all = [0; CAPACITY];
-    all[..bytes.len()].copy_from_slice(bytes);
-    all
-}
-
-// The buffered bytes and those after them, in an array of the whole capacity.
-#[inline(never)]
-fn joined(buffered: &[u8], bytes: &[u8]) -> [u8; CAPACITY]
-    requires { Fits buffered.now bytes.now }
-    ensures { take (length buffered.now + length bytes.now) result ≡ buffered.now ++ bytes.now }
-{
-    let end = buffered.len() + bytes.len();
-    let mut all = widened(buffered);
-    all[buffered.len()..end].copy_from_slice(bytes);
-    all
-}
-
 /// An output buffer of up to 8,192 bytes: the writer gets many small parts in a few large writes. Contracts
 /// see it as the list of the buffered bytes. It is on the stack and allocates nothing.
 ///
 /// Dropping it loses the buffered bytes: call `send` first.
 #[derive(Drop)]
 pub struct Pending {
-    few: [u8; FEW],
-    // All buffered bytes, after they were once more than `FEW`.
-    many: Option<[u8; CAPACITY]>,
+    space: [u8; CAPACITY],
     held: usize,
 }
 
 impl Model for Pending {
-    ghost use Rattle.std.specs.Prelude.{◌≤◌, List, ℕ, length, take, unwrap_or};
+    ghost use Rattle.std.specs.Prelude.{◌≤◌, List, ℕ, length, take};
 
     ghost Value = { List ℕ };
 
-    ghost view = { λ p. take p.held (unwrap_or p.many p.few) };
+    ghost view = { λ p. take p.held p.space };
 
-    ghost invariant = { λ p. (p.held ≤ length (unwrap_or p.many p.few)) × (length (unwrap_or p.many p.few) ≤ 8192) };
+    ghost invariant = { λ p. p.held ≤ 8192 };
 }
 
 impl Pending {
@@ -65,8 +37,7 @@ impl Pending {
         ensures { result ≡ [] }
     {
         Pending {
-            few: [0; FEW],
-            many: None,
+            space: [0; CAPACITY],
             held: 0,
         }
     }
@@ -85,16 +56,7 @@ impl Pending {
         ensures { self.new ≡ self.old ++ bytes.now }
     {
         let end = self.held + bytes.len();
-        match &mut self.many {
-            Some(many) => many[self.held..end].copy_from_slice(bytes),
-            None => {
-                if end > FEW {
-                    self.many = Some(joined(&self.few[..self.held], bytes));
-                } else {
-                    self.few[self.held..end].copy_from_slice(bytes);
-                }
-            }
-        }
+        self.space[self.held..end].copy_from_slice(bytes);
         self.held = end;
     }
 
@@ -107,10 +69,7 @@ impl Pending {
         ensures none { OnOk result (self.new ≡ []) }
         ensures idle { self.old ≡ [] → IsOk result × (writer.new ≡ writer.old) }
     {
-        match &self.many {
-            Some(many) => write_whole(writer, &many[..self.held])?,
-            None => write_whole(writer, &self.few[..self.held])?,
-        }
+        write_whole(writer, &self.space[..self.held])?;
         self.held = 0;
         Ok(())
     }
