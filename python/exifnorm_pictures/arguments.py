@@ -6,10 +6,10 @@ import argparse
 import sys
 from typing import IO, Callable, NoReturn, Optional, Tuple
 
-from . import tools
 from .blocks import KIND_OF
+from .ends import REFUSED_WORDS
 
-REFUSED_WORDS = 3
+SECONDS = 60.0  # that a program may take for one file
 
 _STATUSES = """Statuses:
   0    success (index: also if pictures are refused, which the catalogue records)
@@ -102,8 +102,8 @@ def _name(text: str) -> str:
 
 
 def _limit_arguments(it: argparse.ArgumentParser) -> None:
-    it.add_argument("--limit", type=_seconds, default=tools.SECONDS, metavar="SECONDS",
-                    help=f"time limit of ExifTool for a file ({tools.SECONDS:g})")  # fmt: skip
+    it.add_argument("--limit", type=_seconds, default=SECONDS, metavar="SECONDS",
+                    help=f"time limit of ExifTool for a file ({SECONDS:g})")  # fmt: skip
 
 
 def _looking_arguments(it: argparse.ArgumentParser) -> None:

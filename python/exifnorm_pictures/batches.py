@@ -3,16 +3,43 @@ any object for them. So several processes are hardly slowed by the one that writ
 
 from __future__ import annotations
 
+import argparse
 import contextlib
+import os
 import sqlite3
 from collections import Counter
-from typing import Callable, List, NamedTuple, Optional, Sequence
+from dataclasses import dataclass
+from typing import Callable, List, NamedTuple, Optional, Sequence, Union
 
+from .arguments import SECONDS
 from .catalogue import KEPT_BEFORE, make_rows, put_rows
 from .kept import Entry
 from .walk import Found
 
+LONGEST_WAIT = 2.0  # seconds until results are committed, if pictures are slow
+
 Lines = Callable[[Entry], List[str]]  # the lines that are printed about a picture
+
+
+@dataclass(frozen=True)
+class How:
+    """How pictures are looked at."""
+
+    jobs: int = 0  # processes; 0 for as many as there are processors
+    whole: bool = False  # every byte of a JPEG, not only its head and tail
+    seconds: float = SECONDS  # that a program may take for one file
+    room: str = ""  # a folder for temporary files
+    lines: Optional[Lines] = None  # makes the lines that are printed about a picture
+
+    @classmethod
+    def asked(cls, asked: argparse.Namespace, room: str, lines: Optional[Lines] = None) -> "How":
+        """As the arguments of a command have it."""
+        return cls(asked.jobs, asked.whole, asked.limit, room, lines)
+
+    @property
+    def processes(self) -> int:
+        """The number of processes."""
+        return self.jobs or len(os.sched_getaffinity(0))
 
 
 class Batch(NamedTuple):
@@ -23,6 +50,9 @@ class Batch(NamedTuple):
     lines: List[str]
     unread: List[Entry]  # which have no row: if they were known before, their earlier results stay
     left: Sequence[Found]  # the pictures after them, which were not looked at yet
+
+
+Result = Union[Entry, Batch]
 
 
 def batch(file: str, entries: Sequence[Entry], left: Sequence[Found], lines: Optional[Lines]) -> Batch:

@@ -10,11 +10,11 @@ import contextlib
 import os
 import sqlite3
 import stat
-import urllib.parse
 import zlib
 from typing import Callable, Dict, Iterable, Iterator, List, NamedTuple, Optional, Sequence, Tuple, TypeVar
 
 from .blocks import Block
+from .ends import Failure
 from .formats.found import NotRead
 from .kept import Entry, Picture, Stamp, block_of_row, digests, has, not_read_of_row, picture_of_row
 from .listing import Field, unpacked
@@ -104,7 +104,7 @@ Run = Tuple[str, Optional[str], Optional[str], Optional[str]]  # when it began a
 Made = TypeVar("Made")
 
 
-class NoCatalogue(Exception):
+class NoCatalogue(Failure):
     """The file is missing, is no catalogue of this version, or is damaged."""
 
 
@@ -153,13 +153,17 @@ def _check_head(name: str, make: bool) -> None:
         raise NoCatalogue(f"{name} is a catalogue of a later release (version {version}, here {VERSION})")
 
 
+_PLAIN = b"/-._~0123456789ABCDEFGHIJKLMNOPQRSTUVWXYZabcdefghijklmnopqrstuvwxyz"  # bytes of a path that stay as they are in a URI
+
+
 def address(name: str, mode: str = "ro") -> str:
     """The file as a URI, which SQLite can't take for anything else.
 
-    >>> address("/a b?c")
-    'file:/a%20b%3Fc?mode=ro'
+    >>> address("/a b?c/\u20ac")
+    'file:/a%20b%3Fc/%E2%82%AC?mode=ro'
     """
-    return f"file:{urllib.parse.quote(os.fsencode(os.path.abspath(name)))}?mode={mode}"
+    octets = os.fsencode(os.path.abspath(name))
+    return f"file:{''.join(chr(it) if it in _PLAIN else f'%{it:02X}' for it in octets)}?mode={mode}"
 
 
 class Catalogue:

@@ -12,9 +12,9 @@ from dataclasses import replace
 from typing import Any, Dict, Iterator, List, Optional, Sequence
 
 from . import looking, tools
+from .batches import How
 from .index import Look
 from .kept import Entry, Stamp
-from .looking import How
 from .walk import Found
 
 try:

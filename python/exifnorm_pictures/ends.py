@@ -10,6 +10,7 @@ from types import FrameType
 from typing import IO, Iterator, List, Optional, Set
 
 SIGNALS = (signal.SIGTERM, signal.SIGHUP)
+REFUSED_WORDS, FAILED = 3, 4  # statuses
 
 
 class Stopped(BaseException):
@@ -20,7 +21,13 @@ class Stopped(BaseException):
         self.number = number
 
 
-class ClosedOutput(Exception):
+class Failure(Exception):
+    """An error whose text is for people. It ends the command with `status`."""
+
+    status = FAILED
+
+
+class ClosedOutput(Failure):
     """Standard output is closed, so nothing can be printed."""
 
 
@@ -82,6 +89,13 @@ def drop(stream: Optional[IO[str]]) -> None:
             stream.flush()
     except (OSError, ValueError):
         pass
+
+
+def end_children() -> None:
+    """Ends all processes that look at pictures, with their programs, which the system ends with them."""
+    multiprocessing = sys.modules.get("multiprocessing")  # imported only where there are several processes
+    for it in multiprocessing.active_children() if multiprocessing else ():
+        it.kill()
 
 
 def say(text: str) -> None:

@@ -7,11 +7,9 @@ import re
 import stat
 
 from .formats import jpeg, png, tiff, webp
-from .formats.found import Blocks, Broken, LeftToOthers
+from .formats.found import PROBLEMS, Blocks, Broken, LeftToOthers
 from .formats.streams import File
-from .others import PROBLEMS, add_trailers, by_others
-
-__all__ = ["PROBLEMS", "blocks_of"]
+from .others import add_trailers, by_others
 
 
 def blocks_of(path: bytes, whole: bool = False) -> Blocks:

@@ -9,12 +9,11 @@ from dataclasses import dataclass, field
 from datetime import datetime, timezone
 from typing import Callable, Dict, Iterable, Iterator, List, Optional, Sequence, Set, Tuple
 
-from . import looking, tools
-from .batches import Batch
+from . import tools
+from .batches import LONGEST_WAIT, Batch, How, Result
 from .catalogue import Catalogue, Known
-from .extraction import PROBLEMS
+from .formats.found import PROBLEMS
 from .kept import Entry
-from .looking import LONGEST_WAIT, How, Result
 from .moves import Departed
 from .progress import Progress
 from .walk import Found, Unlisted, below
@@ -28,6 +27,12 @@ Say = Callable[[str], None]
 Look = Callable[[Sequence[Found], How], Iterator[Result]]
 
 
+def _looked(work: Sequence[Found], how: How) -> Iterator[Result]:
+    from . import looking  # the readers take long to import, and in most runs nothing has changed
+
+    return looking.looked(work, how)
+
+
 @dataclass
 class Asked:
     """The arguments and the progress of a run."""
@@ -37,7 +42,7 @@ class Asked:
     quiet: bool = False
     how: How = How()
     say: Optional[Say] = None  # prints a line about a picture that was looked at, once it is committed
-    look: Look = looking.looked
+    look: Look = _looked
 
 
 @dataclass

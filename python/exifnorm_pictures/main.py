@@ -2,35 +2,32 @@
 
 from __future__ import annotations
 
-import argparse
 import gc
-import sqlite3
+import importlib
 import sys
-from typing import Callable, Dict, Optional, Sequence
+from typing import Optional, Sequence
 
-import exifnorm
+from . import ends
+from .arguments import parser
+from .ends import FAILED
+from .texts import reason, shown_path
 
-from . import archives, ends, looking, single, tools
-from .catalogue import NoCatalogue
-from .arguments import REFUSED_WORDS, parser
-from .texts import shown_path
-from .walk import BadList, reason
-from .writing import NotReplaced
-
-FAILED, STOPPED = 4, 130
+STOPPED = 130
 COLLECTED = 50_000  # objects after which Python looks for rings of objects: what a picture needs makes none, so mostly it looks in vain
 
-_CALLS: Dict[str, Callable[[argparse.Namespace], int]] = {
-    "index": archives.index_,
-    "merge": archives.merge_,
-    "same": archives.same,
-    "changed": archives.changed_,
-    "report": archives.report_,
-    "show": single.show,
-    "captions": single.captions,
-    "explain": single.explain_,
-    "mend": single.mend_,
+# The function of each command, with its module: importing the modules of all commands would take longer than most commands do.
+_CALLS = {
+    "index": ("archives", "index_"),
+    "merge": ("archives", "merge_"),
+    "same": ("grouping", "same"),
+    "changed": ("states", "changed_"),
+    "report": ("states", "report_"),
+    "show": ("single", "show"),
+    "captions": ("single", "captions"),
+    "explain": ("single", "explain_"),
+    "mend": ("single", "mend_"),
 }
+_OTHERS = (("exifnorm", "LibraryMissing"), ("sqlite3", "Error"))  # errors of other packages whose texts are for people
 
 
 def main(words: Optional[Sequence[str]] = None) -> int:
@@ -38,15 +35,13 @@ def main(words: Optional[Sequence[str]] = None) -> int:
     try:
         ends.ready_streams()
         ends.heed_signals()
-        gc.freeze()
-        gc.set_threshold(COLLECTED)
         status = _run(words)
         sys.stdout.flush()
         return status
     except ends.ClosedOutput as error:
-        return _failed(str(error))
+        return _failed(str(error), error.status)
     except ends.Stopped as stopped:
-        looking.end_children()
+        ends.end_children()
         ends.drop(sys.stdout)
         ends.end_by(stopped.number)
         return 128 + stopped.number
@@ -57,20 +52,35 @@ def main(words: Optional[Sequence[str]] = None) -> int:
 def _run(words: Optional[Sequence[str]]) -> int:
     try:
         asked = parser().parse_args(words)
-        return _CALLS[asked.command](asked)
-    except BadList as error:
-        return _failed(str(error), REFUSED_WORDS)
-    except (tools.Missing, tools.Failed, NoCatalogue, NotReplaced, exifnorm.LibraryMissing, sqlite3.Error) as error:
-        return _failed(str(error))
-    except OSError as error:  # without a name it is of standard output: processes that can't be started are `tools.Failed`
-        return _output_failed(error) if error.filename is None else _failed(f"{shown_path(error.filename)}: {reason(error)}")
+        module, function = _CALLS[asked.command]
+        call = getattr(importlib.import_module(f".{module}", __package__), function)
+        gc.freeze()
+        gc.set_threshold(COLLECTED)
+        return int(call(asked))
     except KeyboardInterrupt:
         ends.say("exifnorm-pictures: stopped; the same command goes on from there")
         return STOPPED
     except MemoryError:
         return _failed("out of memory")
     except Exception as error:
+        return _failed_by(error)
+
+
+def _failed_by(error: Exception) -> int:
+    if isinstance(error, ends.Failure):
+        return _failed(str(error), error.status)
+    if _is_expected(error):
+        return _failed(str(error))
+    if not isinstance(error, OSError):
         return _failed(f"an internal error, please report it: {type(error).__name__}: {error}")
+    if error.filename is None:  # of standard output: a process that can't be started is `tools.Failed`
+        return _output_failed(error)
+    return _failed(f"{shown_path(error.filename)}: {reason(error)}")
+
+
+def _is_expected(error: Exception) -> bool:
+    """Whether an error is one of `_OTHERS`. It can't be if its package wasn't imported."""
+    return any(module in sys.modules and isinstance(error, getattr(sys.modules[module], name)) for module, name in _OTHERS)
 
 
 def _failed(text: str, status: int = FAILED) -> int:

@@ -14,8 +14,8 @@ from . import tools, writing
 from .engine import judge_all
 from .extraction import blocks_of
 from .formats.found import Blocks
+from .texts import reason
 from .verdicts import ACCEPTED
-from .walk import reason
 
 COPY, NONE = "copy", "none"
 STEPS = ("touch", "exiv2", "rebuild")

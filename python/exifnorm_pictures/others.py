@@ -11,20 +11,8 @@ import shutil
 from typing import Dict
 
 from . import session, tools
-from .formats.found import EXIF, EXIFTOOL, EXIV2, IPTC, XMP, Blocks, NotRead
+from .formats.found import EXIF, EXIFTOOL, EXIV2, IPTC, PROBLEMS, XMP, Blocks, NotRead
 from .formats.streams import Stream, digest_of, size_of
-
-# The problems that may be reported instead of blocks, each with its meaning for people.
-PROBLEMS = {
-    "Vanished": "there is no such file any more",
-    "Unreadable": "the file can't be read",
-    "NoPicture": "the file is no picture that ExifTool knows",
-    "SeveralBlocks": "a CR3 file holds several Exif blocks (CMT1 to CMT4), and ExifTool gives the first alone: two different"
-    " pictures could seem to be the same",
-    "BigTIFF": "a BigTIFF, whose offsets have eight bytes, is not read",
-    "NeedsExiv2": "ExifTool gives no Exif block of raw files; exiv2 does, and it isn't installed (package exiv2)",
-    "ToolFailed": "the program that extracts blocks failed on this file",
-}
 
 MOST = 16_777_216  # greatest length in bytes of a file that is digested although not everything was requested
 

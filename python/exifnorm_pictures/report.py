@@ -18,7 +18,7 @@ from .blocks import KIND_OF, WORDS
 from .catalogue import Catalogue, Run
 from .causes import CAUSES
 from .changed import Compared, Equal
-from .extraction import PROBLEMS
+from .formats.found import PROBLEMS
 from .kept import Picture, has
 from .page_style import STYLE
 from .texts import Members, path_members, shown_path

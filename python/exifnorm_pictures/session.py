@@ -11,7 +11,6 @@ import os
 import re
 import subprocess
 import threading
-from multiprocessing import util
 from typing import Dict, List, Optional, Sequence
 
 from . import rooms, tools
@@ -107,7 +106,6 @@ def begin(room: str) -> None:
     _Own.session, _Own.pid = None, os.getpid()
     _Own.room = os.path.join(room, str(_Own.pid))
     os.makedirs(_Own.room, exist_ok=True)
-    util.Finalize(None, finish, exitpriority=10)  # the processes of a pool don't run atexit
 
 
 def room() -> str:

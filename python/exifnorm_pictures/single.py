@@ -15,9 +15,8 @@ from .formats.found import EXIF, IPTC, NAMES, PROGRAMS, XMP, Blocks, Found
 from .listing import readable as listed
 from .listing import unpacked
 from .lines import block_members, from_list, named, tell
-from .texts import Members, path_members, shown_path
+from .texts import Members, path_members, reason, shown_path
 from .verdicts import ACCEPTED
-from .walk import reason
 from .arguments import parser
 
 DONE, LOST, REFUSED, FAILED = 0, 1, 2, 4

@@ -40,6 +40,11 @@ def shown_path(path: Union[bytes, str]) -> str:
     return escaped(os.fsdecode(path))
 
 
+def reason(error: OSError) -> str:
+    """Why the system refused something, as a message has it."""
+    return (error.strerror or type(error).__name__).lower()
+
+
 def path_members(path: bytes) -> Members:
     """The members of a JSON object for a path: `path`, and `path_hex` if the name is no UTF-8."""
     try:

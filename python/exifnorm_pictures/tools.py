@@ -16,17 +16,18 @@ import time
 from typing import Callable, List, NamedTuple, Optional, Set
 
 from . import ends
-from .walk import reason
+from .arguments import SECONDS
+from .ends import Failure
+from .texts import reason
 
 PACKAGES = {"exiftool": "libimage-exiftool-perl", "exiv2": "exiv2"}
-SECONDS = 60.0  # that a program may take for one file
 MOST = 256 << 20  # greatest length in bytes of one output
 
 _PIECE = 1 << 20
 _PR_SET_PDEATHSIG = 1
 
 
-class Missing(Exception):
+class Missing(Failure):
     """A program isn't installed. The text names Debian's package."""
 
     def __init__(self, program: str) -> None:
@@ -36,7 +37,7 @@ class Missing(Exception):
         )
 
 
-class Failed(Exception):
+class Failed(Failure):
     """A program ended early, took too long, or printed something unexpected. The text describes which."""
 
 

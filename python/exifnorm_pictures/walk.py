@@ -7,7 +7,9 @@ import stat
 import sys
 from typing import BinaryIO, Callable, Collection, Iterable, Iterator, List, NamedTuple, Optional
 
+from .ends import REFUSED_WORDS, Failure
 from .kept import Stamp
+from .texts import reason
 
 
 class Found(NamedTuple):
@@ -25,8 +27,10 @@ class Unlisted(NamedTuple):
     reason: str
 
 
-class BadList(ValueError):
+class BadList(Failure):
     """A list of names that can't be used."""
+
+    status = REFUSED_WORDS
 
 
 Tell = Callable[[Unlisted], None]
@@ -82,11 +86,6 @@ def _stamp(it: "os.DirEntry[bytes]") -> Optional[Stamp]:
         return Stamp.of(it.stat())
     except OSError:
         return None
-
-
-def reason(error: OSError) -> str:
-    """Why the system refused something, as a message has it."""
-    return (error.strerror or type(error).__name__).lower()
 
 
 def listed(name: str, by_nul: bool, stdin: Optional[BinaryIO] = None) -> List[bytes]:

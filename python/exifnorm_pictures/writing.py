@@ -11,12 +11,13 @@ import shutil
 import stat
 from typing import BinaryIO, Callable, Iterator, Optional, Tuple
 
-from .walk import reason
+from .ends import Failure
+from .texts import reason
 
 Write = Callable[[BinaryIO], None]
 
 
-class NotReplaced(Exception):
+class NotReplaced(Failure):
     """A file exists and must not be replaced. The text is the reason."""
 
 

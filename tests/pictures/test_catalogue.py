@@ -282,7 +282,7 @@ class Processes(WithPictures):
     def indexed(self, before):
         """The states of a run with this text before it, and what it leaves in its folder for temporary files."""
         text = (
-            "import collections, json, os\nfrom exifnorm_pictures import extraction, index, looking\n"
+            "import collections, json, os\nfrom exifnorm_pictures import extraction, index, looking, processes\n"
             "from exifnorm_pictures.catalogue import Catalogue\nfrom exifnorm_pictures.lines import entry_lines\n"
             f"{before}\nlines = []\nos.mkdir('room')\n"
             "how = looking.How(jobs=2, room=os.path.abspath('room'), lines=entry_lines)\n"
@@ -302,7 +302,7 @@ class Processes(WithPictures):
 
     def test_slow_pictures(self):
         """A process returns what it has after some time; another or the same one looks at the others."""
-        self.assertEqual(self.indexed("looking.LONGEST_WAIT = 0"), [{"accepted": 100}, [], []])
+        self.assertEqual(self.indexed("processes.LONGEST_WAIT = 0"), [{"accepted": 100}, [], []])
         self.assertEqual(self.paths(), sorted(os.listdir(self.path("p"))))
 
     def test_a_picture_that_ends_the_process(self):
@@ -320,7 +320,7 @@ class Processes(WithPictures):
     def test_what_a_process_that_died_left(self):
         """Rows that no result names are removed before their pictures are looked at again: in a long run they would fill the disk."""
         ending = (
-            "import time\nread, by_each = extraction.blocks_of, looking._one_by_one\n"
+            "import time\nread, by_each = extraction.blocks_of, processes._one_by_one\n"
             "def blocks_of(path, *more):\n"
             "    if path.endswith(b'00.jpg') and not os.path.exists('died'):\n"
             "        while not os.path.exists('room/rows-1'): time.sleep(0.001)\n"  # the other process's
@@ -329,7 +329,7 @@ class Processes(WithPictures):
             "def one_by_one(*words):\n"
             "    with open('seen', 'a') as file: file.write(' '.join(os.listdir('room')) + '\\n')\n"
             "    return by_each(*words)\n"
-            "extraction.blocks_of, looking._one_by_one = blocks_of, one_by_one"
+            "extraction.blocks_of, processes._one_by_one = blocks_of, one_by_one"
         )
         self.assertEqual(self.indexed(ending), [{"accepted": 100}, [], []])
         seen = read(self.path("seen")).decode().splitlines()
@@ -340,10 +340,10 @@ class Processes(WithPictures):
         for wait, number in ((2, 5), (0, 25)):
             with self.subTest(number):
                 failing = (
-                    f"looking.LONGEST_WAIT = {wait}\nsubmit, calls = looking.ProcessPoolExecutor.submit, []\n"
+                    f"processes.LONGEST_WAIT = {wait}\nsubmit, calls = processes.ProcessPoolExecutor.submit, []\n"
                     "def submitted(*words):\n    calls.append(1)\n"
-                    f"    if len(calls) == {number}: raise looking.BrokenProcessPool('it ended')\n"
-                    "    return submit(*words)\nlooking.ProcessPoolExecutor.submit = submitted\n"
+                    f"    if len(calls) == {number}: raise processes.BrokenProcessPool('it ended')\n"
+                    "    return submit(*words)\nprocesses.ProcessPoolExecutor.submit = submitted\n"
                     "import shutil\nshutil.rmtree('room', True)\nos.path.exists('c') and os.unlink('c')"
                 )
                 self.assertEqual(self.indexed(failing)[:2], [{"accepted": 100}, []])

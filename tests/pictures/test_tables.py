@@ -305,7 +305,7 @@ class EqualChanges(unittest.TestCase):
 class Statuses(unittest.TestCase):
     def test_of_changed(self):
         """The greatest status of all results; 1 is a difference that is known, and nothing else."""
-        from exifnorm_pictures.archives import status_of
+        from exifnorm_pictures.states import status_of
 
         expected = {"same": 0, "refused, the same bytes": 0, "unreadable, the same bytes": 0, "different": 1, "only MakerNote differs": 1,
                "moved": 1, "missing before": 1, "missing after": 1, "refused": 2, "unreadable": 2, "not wholly read": 2, "not read": 4}  # fmt: skip

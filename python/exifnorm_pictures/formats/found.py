@@ -11,6 +11,17 @@ NAMES = {EXIF: "Exif", IPTC: "IPTC", XMP: "XMP"}
 OWN, EXIFTOOL, EXIV2 = "own", "exiftool", "exiv2"  # which program extracted a block
 PROGRAMS = {EXIFTOOL: "ExifTool", EXIV2: "exiv2"}
 
+# The problems that may be reported instead of blocks, each with its meaning for people.
+PROBLEMS = {
+    "Vanished": "there is no such file any more",
+    "Unreadable": "the file can't be read",
+    "NoPicture": "the file is no picture that ExifTool knows",
+    "SeveralBlocks": "a CR3 file holds several Exif blocks (CMT1 to CMT4), and ExifTool gives the first alone: two different"
+    " pictures could seem to be the same",
+    "BigTIFF": "a BigTIFF, whose offsets have eight bytes, is not read",
+    "NeedsExiv2": "ExifTool gives no Exif block of raw files; exiv2 does, and it isn't installed (package exiv2)",
+    "ToolFailed": "the program that extracts blocks failed on this file",
+}
 
 _ORDINALS = ("first", "second", "third", "fourth", "fifth", "sixth", "seventh", "eighth", "ninth")
 
@@ -66,7 +77,7 @@ class NotRead(NamedTuple):
 class Blocks:
     """The blocks and unread parts of a file, in the order of the file.
 
-    `problem` is one of `extraction.PROBLEMS` if the file could not be read at all; it then has no block.
+    `problem` is one of `PROBLEMS` if the file could not be read at all; it then has no block.
     """
 
     found: List[Found] = field(default_factory=list)

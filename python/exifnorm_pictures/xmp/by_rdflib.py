@@ -2,7 +2,6 @@
 
 from __future__ import annotations
 
-import logging
 from typing import Any, Dict, List, Set, Tuple
 from xml.etree import ElementTree
 
@@ -18,6 +17,8 @@ def statements(root: ElementTree.Element) -> Statements:
         import rdflib
     except ImportError:
         raise Unreadable("NeedsRdflib") from None
+    import logging  # which rdflib has imported
+
     logging.getLogger("rdflib").setLevel(logging.CRITICAL + 1)
     rdflib.NORMALIZE_LITERALS = False
     graph = rdflib.Graph()
