@@ -225,6 +225,25 @@ class Scale(WithPictures):
         self.assertLess(own[1] - own[0], 50)
         self.assertLess(own[1], 300)
 
+    # Modules
+
+    def test_modules_that_a_command_imports(self):
+        """What few commands need isn't imported by the others: most runs end sooner than all modules are imported."""
+        self.pictures("p", 2)
+        self.asked("index", "p", "--catalogue", "c", "--quiet")
+        call = "import sys; from exifnorm_pictures.main import main; main(sys.argv[1:]); print(*sys.modules, file=sys.stderr)"
+        own = [f"exifnorm_pictures.{it}" for it in ("extraction", "mend", "explain", "changed", "report", "processes")]
+        watched = {"exifnorm", "html", "logging", "multiprocessing", "subprocess", "urllib", "xml", *own}
+        for words, needed in ((["same", "--catalogue", "c"], set()), (["index", "p", "--catalogue", "c", "--quiet"], {"subprocess"}),
+                              (["merge", "c", "--catalogue", "d"], {"subprocess"}),
+                              (["changed", "c", "c"], {"subprocess", "exifnorm_pictures.changed"}),
+                              (["show", "p/0000.jpg"], watched - {"multiprocessing", "urllib", "html", "logging", *own[3:]})):  # fmt: skip
+            with self.subTest(words[0]):
+                done = run([sys.executable, "-S", "-c", call, *words], self.folder)
+                imported = set(done.stderr.decode().split())
+                self.assertIn("exifnorm_pictures.main", imported)
+                self.assertEqual(watched & imported - needed, set(), done.stdout)
+
     # Files and processes
 
     def test_a_second_run_opens_no_picture(self):
