@@ -25,7 +25,8 @@ A file that can't be read, is gone, is no picture or has no block is reported in
 at. In names, control characters and undecodable bytes are escaped. With --json each line is one object; it has the name as
 "path", and also as "path_hex" if the name is no UTF-8.
 
-ExifTool reads the formats that have no reader here (Debian: libimage-exiftool-perl)."""
+Two Exif blocks, or two IPTC records, mean the same if their normal forms are equal, which is proved. XMP is compared by its
+statements, which is tested, and not proved. ExifTool reads the formats that have no reader here (Debian: libimage-exiftool-perl)."""
 
 
 class _Parser(argparse.ArgumentParser):

@@ -284,6 +284,7 @@ class Words(WithPictures):
             text = "\n".join(self.asked(*words))
             self.assertIn("Statuses:", text)
             self.assertIn("130", text)
+            self.assertIn("XMP is compared by its statements, which is tested, and not proved", " ".join(text.split()))
 
     def without(self, *programs):
         """How the command is run where these programs alone are installed."""
