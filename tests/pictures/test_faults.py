@@ -312,6 +312,21 @@ class Catalogues(WithPictures):
         self.asked("index", "p", "--catalogue", "c", "--quiet")
         self.assertEqual(read(self.path("c"))[18:20], b"\1\1", "no write-ahead log is needed to read it")
 
+    def test_one_that_another_program_has_locked(self):
+        """SQLite waits for it; then the command ends, and the catalogue is as it was."""
+        self.asked("index", "p", "--catalogue", "c", "--quiet")
+        call = ("import sqlite3, sys; from exifnorm_pictures.main import main; connect = sqlite3.connect\n"
+                "sqlite3.connect = lambda *words, **more: connect(*words, **{**more, 'timeout': 0.1})\nsys.exit(main(sys.argv[1:]))")  # fmt: skip
+        other = sqlite3.connect(self.path("c"), isolation_level=None)
+        self.addCleanup(other.close)
+        other.execute("BEGIN EXCLUSIVE")
+        for words in (["index", "p", "--catalogue", "c", "--quiet"], ["same", "--catalogue", "c"], ["report", "--catalogue", "c", "--json"]):
+            with self.subTest(words[0]):
+                done = run([sys.executable, "-c", call, *words], self.folder)
+                self.assertEqual((done.returncode, done.stdout, done.stderr), (4, b"", b"exifnorm-pictures: c: database is locked\n"))
+        other.execute("ROLLBACK")
+        self.assertEqual(self.asked("index", "p", "--catalogue", "c", "--quiet"), ["1 unchanged"])
+
     def test_two_first_runs_at_once(self):
         words = [sys.executable, "-m", "exifnorm_pictures", "index", "p", "--catalogue", "c", "--quiet"]
         started = [subprocess.Popen(words, cwd=self.folder, env=Studio.environment(), stderr=subprocess.PIPE) for _ in range(4)]
