@@ -11,13 +11,11 @@ import os
 import sqlite3
 import stat
 import zlib
-from typing import Callable, Dict, Iterable, Iterator, List, NamedTuple, Optional, Sequence, Tuple, TypeVar
+from typing import Callable, Iterable, Iterator, List, NamedTuple, Optional, Sequence, Tuple, TypeVar
 
-from .blocks import Block
 from .ends import Failure
 from .formats.found import NotRead
-from .kept import Entry, Picture, Stamp, block_of_row, digests, has, not_read_of_row, picture_of_row
-from .listing import Field, unpacked
+from .kept import Entry, Picture, Stamp, digests, has, not_read_of_row, picture_of_row
 
 APPLICATION = 0x45584E50  # 'EXNP', which distinguishes a catalogue from other SQLite files
 VERSION = 2
@@ -41,14 +39,14 @@ CREATE TABLE pictures (
     changed INTEGER,                -- the same of the last change of the file's status (ctime)
     inode INTEGER,
     type TEXT NOT NULL,             -- the format: JPEG, PNG .., or ExifTool's word
-    extractor TEXT NOT NULL,        -- which reader answered: own, exiftool
+    extractor TEXT NOT NULL,        -- which program extracted the blocks: own, exiftool
     problem TEXT,                   -- why there are no blocks: Vanished, Moved, Unreadable, NoPicture, ToolFailed ..
     detail TEXT NOT NULL,
-    exif TEXT,                      -- what all blocks of a kind say: SHA-256; empty: no such block; NULL: refused or not known
+    exif TEXT,                      -- SHA-256 of what all blocks of a kind mean; empty: no such block; NULL: refused or not known
     iptc TEXT,
     xmp TEXT,
     not_read TEXT,                  -- SHA-256 of what was not read; empty: all was read; NULL: it can't be compared
-    exif_octets TEXT NOT NULL,      -- SHA-256 of the blocks of a kind as they stand; empty where there is none
+    exif_octets TEXT NOT NULL,      -- SHA-256 of the blocks of a kind as they are in the file; empty if there is none
     iptc_octets TEXT NOT NULL,
     xmp_octets TEXT NOT NULL,
     run INTEGER NOT NULL REFERENCES runs(id)
@@ -58,15 +56,15 @@ CREATE TABLE blocks (
     number INTEGER NOT NULL,        -- the order in the file
     kind TEXT NOT NULL,             -- exif, iptc, xmp
     name TEXT NOT NULL,             -- Exif, IPTC, XMP; of further blocks a name of their own
-    source TEXT NOT NULL,           -- where it is in the file
-    extractor TEXT NOT NULL,
-    status TEXT NOT NULL,           -- accepted, refused, too long, failed
-    digest TEXT,                    -- SHA-256 of the normal form, of an accepted block alone
-    cause TEXT,                     -- of a refused block: docs/FORMAT.md, section 5
+    source TEXT NOT NULL,           -- its position in the file
+    extractor TEXT NOT NULL,        -- own, exiftool, exiv2
+    status TEXT NOT NULL,           -- accepted, refused, unreadable, too long, failed
+    digest TEXT,                    -- SHA-256 of the normal form, or of the statements of XMP; only of an accepted block
+    cause TEXT,                     -- of a block that isn't accepted: docs/FORMAT.md, section 5, or a cause of XMP
     place INTEGER,
     length INTEGER NOT NULL,        -- bytes of the block
-    octets TEXT NOT NULL,           -- SHA-256 of the block as it stands
-    fields BLOB,                    -- what it says, field by field: JSON, compressed by zlib where it is long
+    octets TEXT NOT NULL,           -- SHA-256 of the block as it is in the file
+    fields BLOB,                    -- its fields: JSON, compressed by zlib if it is long
     PRIMARY KEY (picture, number)
 ) WITHOUT ROWID;
 CREATE TABLE not_read (
@@ -342,10 +340,6 @@ class Catalogue:
         where = f"WHERE path IN {only}" if only else ""
         yield from self.rows(f"SELECT {PICTURE_COLUMNS} FROM pictures {where} ORDER BY path", (), picture_of_row)
 
-    def blocks_of(self, picture: Picture) -> List[Block]:
-        """A picture's blocks, in the order of the file, without their fields."""
-        return list(self.rows(f"SELECT {BLOCK_COLUMNS} FROM blocks WHERE picture = ? ORDER BY number", (picture.id,), block_of_row))
-
     def not_read_of(self, picture: Picture) -> List[NotRead]:
         """The parts of a picture that were not read."""
         query = "SELECT what, digest FROM not_read WHERE picture = ? ORDER BY number"
@@ -357,11 +351,6 @@ class Catalogue:
             self.base.execute("CREATE TEMP TABLE chosen (path BLOB PRIMARY KEY) WITHOUT ROWID")
             self.base.executemany("INSERT OR IGNORE INTO chosen VALUES (?)", ((it,) for it in paths))
         return "temp.chosen"
-
-    def fields_of(self, picture: Picture, block: Block) -> List[Field]:
-        """The fields of one block; none if they aren't kept."""
-        query = "SELECT fields FROM blocks WHERE picture = ? AND number = ?"
-        return next(self.rows(query, (picture.id, block.number), lambda row: unpacked(row[0]) if row[0] else []), [])
 
     def roots(self) -> List[bytes]:
         """Each folder that was indexed."""
@@ -407,8 +396,3 @@ def root_of_row(row: Tuple[bytes]) -> bytes:
 
 def _known(row: Tuple[int, Optional[int], int, int, int, Optional[str]]) -> Known:
     return Known(row[0], None if row[1] is None else Stamp(*row[1:5]), row[5])
-
-
-def counted(catalogue: Catalogue, query: str, values: Sequence[object] = ()) -> Dict[str, int]:
-    """The rows of a query as a table: the first column is the name, the second the count."""
-    return {str(name): int(count) for name, count in catalogue.rows(query, values)}

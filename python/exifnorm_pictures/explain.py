@@ -15,8 +15,8 @@ from .texts import Members
 from .verdicts import ACCEPTED, REFUSED
 
 _OTHER_FILES = (
-    (b"\xff\xd8\xff", "This is a whole JPEG; cut the block out: exiftool -b -Exif PICTURE"),
-    (b"\x89PNG", "This is a whole PNG; cut the block out: exiftool -b -Exif PICTURE"),
+    (b"\xff\xd8\xff", "This is a whole JPEG; give it without --block."),
+    (b"\x89PNG", "This is a whole PNG; give it without --block."),
     (b"8BIM", "These are Photoshop resources; the IPTC record inside: exiftool -b -IPTC PICTURE"),
     (b"Photoshop 3.0", "These are Photoshop resources; the IPTC record inside: exiftool -b -IPTC PICTURE"),
     (b"II+\0", "This is a BigTIFF, whose offsets have eight bytes; it is not read."),
@@ -96,7 +96,7 @@ def _beginning(layout: Layout, cause: str, place: int) -> List[str]:
 def _data_set(layout: Layout, cause: str, place: int) -> List[str]:
     block = layout.block
     before = block.rfind(b"\x1c", 0, place)
-    found = [f"The record has {len(block):,} bytes; at {place} stands {block[place : place + 8].hex(' ') or 'nothing'}."]
+    found = [f"The record has {len(block):,} bytes; at {place} is {block[place : place + 8].hex(' ') or 'nothing'}."]
     if block[place : place + 1] == b"\x1c" and place + 3 <= len(block):
         found.append(f"The DataSet is {block[place + 1]}:{block[place + 2]}.")
     elif before >= 0 and before + 3 <= len(block):
@@ -129,7 +129,7 @@ def _directory(layout: Layout, cause: str, place: int) -> List[str]:
     end = at + 2 + 12 * count + 4
     words = f"The directory at {at} has {count} entries and would end at {end}; the block has {len(layout.block)} bytes."
     if cause == "DirectoryOutside" and 0 < end - len(layout.block) <= 4:
-        words += f" Only the offset behind the last entry is missing ({end - len(layout.block)} bytes of 4)."
+        words += f" Only the offset after the last entry is missing ({end - len(layout.block)} bytes of 4)."
     return found + [words]
 
 
@@ -147,8 +147,8 @@ def _entry_line(layout: Layout, place: int) -> List[str]:
     it = layout.entries.get(place)
     if it is None:
         words = {4: "the header's offset of the main directory"}.get(place, "the offset of the next directory")
-        return [f"At {place} stands {words}."]
-    return [f"At {place} stands entry {it.number}: {it.label}, {it.form}, last field {it.last}."]
+        return [f"At {place} is {words}."]
+    return [f"At {place} is entry {it.number}: {it.label}, {it.form}, last field {it.last}."]
 
 
 _PIXELS = (0x0111, 0x0144, 0x014A)  # StripOffsets, TileOffsets, SubIFDs
@@ -163,7 +163,7 @@ def _entry(layout: Layout, cause: str, place: int) -> List[str]:
         found.append("This seems to be a whole TIFF picture: give it without --block, and each of its pages is taken as a block.")
     before = layout.entries.get(place - 12)
     if cause in ("Unsorted", "Doubled") and before is not None:
-        found.append(f"Before it stands {before.label}, {before.form}, last field {before.last}.")
+        found.append(f"Before it is {before.label}, {before.form}, last field {before.last}.")
     if cause == "ValueOutside":
         found.append(f"Its value would end at {it.last + it.size}; the block has {len(layout.block)} bytes.")
     if cause == "ThumbnailOutside":

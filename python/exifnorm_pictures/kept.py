@@ -4,7 +4,7 @@ from __future__ import annotations
 
 import hashlib
 import os
-from dataclasses import dataclass, field
+from dataclasses import dataclass
 from typing import Any, Dict, Iterable, List, NamedTuple, Optional, Sequence, Tuple
 
 from .blocks import KIND_OF, KINDS, Block
@@ -138,7 +138,7 @@ def has(kind: type, *values: object) -> None:
     """Raises `ValueError` if a value of a row isn't of this type."""
     for it in values:
         if not isinstance(it, kind):
-            raise ValueError(f"{it!r} stands where a value of another kind must stand")
+            raise ValueError(f"{it!r} is a value of another type")
 
 
 def picture_of_row(row: Tuple[Any, ...]) -> Picture:

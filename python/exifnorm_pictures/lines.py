@@ -9,7 +9,6 @@ from typing import List, Optional, Sequence, Set
 
 from .blocks import WORDS, Block
 from .kept import Entry
-from .formats.found import NAMES
 from .texts import Members, path_members, shown_path
 from .verdicts import ACCEPTED
 from .walk import BadList, listed
@@ -42,7 +41,7 @@ def named(asked: argparse.Namespace, names: Sequence[str]) -> List[bytes]:
     if not found and not asked.files_from:
         parser().error(f"{asked.command}: no name was given")
     if any(b"\0" in it for it in found):
-        raise BadList("a name holds a NUL")
+        raise BadList("a name contains a NUL")
     return found
 
 
@@ -89,8 +88,3 @@ def block_members(it: Block) -> Members:
     """A block as a JSON object."""
     known = {"kind": WORDS[it.kind], "name": it.name, "status": it.status, "digest": it.digest, "cause": it.cause, "place": it.place}
     return {**{name: value for name, value in known.items() if value is not None}, "length": it.length}
-
-
-def kind_members(kind: str) -> Members:
-    """The member for a kind of block, by the word that people know."""
-    return {"kind": WORDS[kind]} if kind in NAMES else {"kind": kind}

@@ -202,10 +202,6 @@ class Change(NamedTuple):
     before: Optional[str]
     after: Optional[str]
 
-    @property
-    def sign(self) -> str:
-        return "+" if self.before is None else "-" if self.after is None else "~"
-
 
 MAKER_NOTE = ("exif", "927c")
 

@@ -21,8 +21,8 @@ COPY, NONE = "copy", "none"
 STEPS = ("touch", "exiv2", "rebuild")
 STEP_WORDS = {
     COPY: "nothing was to be mended: a plain copy",
-    "touch": "ExifTool added a field and took it away",
-    "exiv2": "exiv2 added a field and took it away",
+    "touch": "ExifTool added a field and removed it",
+    "exiv2": "exiv2 added a field and removed it",
     "rebuild": "ExifTool wrote all tags that it knows into a new block",
     NONE: "no remedy helped",
 }

@@ -1,24 +1,11 @@
-"""`show` and `captions`: the fields of a picture, as lines that people can read and `diff` can compare."""
+"""`captions`: the texts of a picture, each decoded as it is declared, or with a guess."""
 
 from __future__ import annotations
 
 from typing import Iterator, Optional, Tuple
 
 from . import engine
-from .listing import fields, readable
 from .texts import Members, escaped
-
-
-def shown(kind: str, block: bytes) -> Iterator[str]:
-    """The readable listing of an accepted block."""
-    yield from readable(fields(engine.listing(block)), kind)
-
-
-def shown_members(kind: str, block: bytes) -> Members:
-    """The listing as a JSON object."""
-    found = fields(engine.listing(block))
-    keys = ("directory", "key", "type", "count", "value")
-    return {"kind": kind, "fields": [{"name": it.name, **dict(zip(keys, it))} for it in found]}
 
 
 def read_text(data: bytes, declared: Optional[str]) -> Tuple[str, str]:

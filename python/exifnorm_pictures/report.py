@@ -17,7 +17,7 @@ from . import changed, groups
 from .blocks import KIND_OF, WORDS
 from .catalogue import Catalogue, Run
 from .causes import CAUSES
-from .changed import Compared, Equal
+from .changed import Equal
 from .formats.found import PROBLEMS
 from .kept import Picture, has
 from .page_style import STYLE

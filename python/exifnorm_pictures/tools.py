@@ -32,7 +32,7 @@ class Missing(Failure):
 
     def __init__(self, program: str) -> None:
         super().__init__(
-            f"{program} isn't installed, and without it no block can be cut out of a picture."
+            f"{program} isn't installed, and without it no block of this picture can be extracted."
             f" In Debian: apt-get install {PACKAGES.get(program, program)}"
         )
 

@@ -98,5 +98,5 @@ def listed(name: str, by_nul: bool, stdin: Optional[BinaryIO] = None) -> List[by
         with open(name, "rb") as file:
             octets = file.read()
     if not by_nul and b"\0" in octets:
-        raise BadList(f"the list {name} holds a NUL: are its names ended by NUL, as -0 says?")
+        raise BadList(f"the list {name} contains a NUL: if its names end with NUL, give -0")
     return [it for it in octets.split(b"\0" if by_nul else b"\n") if it]

@@ -16,7 +16,7 @@ PROBLEMS = {
     "Vanished": "there is no such file any more",
     "Unreadable": "the file can't be read",
     "NoPicture": "the file is no picture that ExifTool knows",
-    "SeveralBlocks": "a CR3 file holds several Exif blocks (CMT1 to CMT4), and ExifTool gives the first alone: two different"
+    "SeveralBlocks": "a CR3 file has several Exif blocks (CMT1 to CMT4), and ExifTool extracts only the first: two different"
     " pictures could seem to be the same",
     "BigTIFF": "a BigTIFF, whose offsets have eight bytes, is not read",
     "NeedsExiv2": "ExifTool gives no Exif block of raw files; exiv2 does, and it isn't installed (package exiv2)",

@@ -7,6 +7,7 @@ Not compared, because they contain no Exif, IPTC or XMP: text chunks with other 
 from __future__ import annotations
 
 import zlib
+
 from . import photoshop
 from .found import EXIF, IPTC, XMP, Blocks, Broken, NotRead
 from .streams import Stream, digest_of, is_blank, read_at, size_of

@@ -4,6 +4,7 @@ and some end the name XMP by a zero byte."""
 from __future__ import annotations
 
 import struct
+
 from .found import EXIF, XMP, Blocks, Broken, NotRead
 from .streams import Stream, digest_of, is_blank, read_at, size_of
 

@@ -4,7 +4,7 @@ from __future__ import annotations
 
 import functools
 import re
-from typing import Dict, List, Tuple
+from typing import Dict, List
 from xml.etree.ElementTree import Element
 
 from .packets import Unreadable
