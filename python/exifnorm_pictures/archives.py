@@ -10,14 +10,11 @@ from . import rooms, writing
 from .batches import How
 from .catalogue import Catalogue, NoCatalogue, head_is_ours
 from .index import Asked, index
-from .lines import entry_json, entry_lines, named, tell
+from .lines import entry_json, entry_lines, named, output
 from .merge import merge
 
 DONE, FAILED = 0, 4
 FAILURES = ("Unreadable", "ToolFailed", "NeedsExifTool", "NeedsExiv2")
-
-
-# index
 
 
 def index_(asked: argparse.Namespace) -> int:
@@ -36,7 +33,7 @@ def index_(asked: argparse.Namespace) -> int:
             wanted.look = cluster.looker(asked.scheduler, asked.elsewhere, names)
         counts = index(wanted, catalogue)
     summary = ", ".join(f"{count} {state}" for state, count in sorted(counts.items(), key=lambda it: (-it[1], it[0]))) or "no file"
-    tell(asked, [summary], {"counts": dict(counts)})
+    output(asked, [summary], {"counts": dict(counts)})
     return FAILED if any(counts[it] for it in FAILURES) else DONE
 
 
@@ -56,5 +53,5 @@ def merge_(asked: argparse.Namespace) -> int:
     """Joins catalogues."""
     with Catalogue(asked.catalogue, make=True) as catalogue:
         count = merge(catalogue, asked.catalogues)
-    tell(asked, [f"{count} pictures"], {"pictures": count})
+    output(asked, [f"{count} pictures"], {"pictures": count})
     return DONE

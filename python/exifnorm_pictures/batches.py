@@ -1,5 +1,5 @@
-"""The results for some pictures as rows of a file: the process that looked at them makes it, and the catalogue takes the rows over without
-any object for them. So several processes are hardly slowed by the one that writes."""
+"""How pictures are looked at, and the results for some of them as rows of a file: the process that looked at them makes it, and the
+catalogue takes the rows over without any object for them. So several processes are hardly slowed by the one that writes."""
 
 from __future__ import annotations
 

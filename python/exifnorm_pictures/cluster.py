@@ -1,7 +1,7 @@
 """`index --scheduler`: the workers of a Dask cluster look at the pictures (Debian: python3-distributed).
 
 The workers get names relative to the folder, which may be mounted elsewhere there, and return the results: no picture is
-transferred, and workers write no file. Only this process writes the catalogue.
+transferred, and workers write only temporary files. Only this process writes the catalogue.
 """
 
 from __future__ import annotations

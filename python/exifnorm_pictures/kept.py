@@ -142,7 +142,7 @@ def has(kind: type, *values: object) -> None:
 
 
 def picture_of_row(row: Tuple[Any, ...]) -> Picture:
-    """A picture of a row `id, path, root, problem, detail, size, modified, inode, not_read`, its meaning by KINDS, and its octets."""
+    """A picture of a row in the order of `catalogue.PICTURE_COLUMNS`."""
     number, path, root, kind, extractor, problem, detail, size, modified, inode, unread, *by_kind = row
     has(int, number, *(it for it in (size, modified, inode) if it is not None))
     has(bytes, path, root)
@@ -152,7 +152,7 @@ def picture_of_row(row: Tuple[Any, ...]) -> Picture:
 
 
 def block_of_row(row: Tuple[Any, ...]) -> Block:
-    """A block of a row `number, kind, name, source, extractor, status, digest, cause, place, length, octets`."""
+    """A block of a row in the order of `catalogue.BLOCK_COLUMNS`."""
     number, kind, name, source, extractor, status, digest, cause, place, length, octets = row
     has(str, kind, name, source, extractor, status, octets, *(it for it in (digest, cause) if it is not None))
     has(int, number, length, *(it for it in (place,) if it is not None))

@@ -15,7 +15,7 @@ from .walk import BadList, listed
 from .arguments import parser
 
 
-def tell(asked: argparse.Namespace, lines: Sequence[str], members: Members) -> None:
+def output(asked: argparse.Namespace, lines: Sequence[str], members: Members) -> None:
     """Prints some lines, or with --json the object."""
     if asked.json:
         print(json.dumps(members))

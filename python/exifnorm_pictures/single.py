@@ -14,7 +14,7 @@ from .engine import judge_all
 from .formats.found import EXIF, IPTC, NAMES, PROGRAMS, XMP, Blocks, Found
 from .listing import readable as listed
 from .listing import unpacked
-from .lines import block_members, from_list, named, tell
+from .lines import block_members, from_list, named, output
 from .texts import Members, path_members, reason, shown_path
 from .verdicts import ACCEPTED
 from .arguments import parser
@@ -66,7 +66,7 @@ def _one(asked: argparse.Namespace, name: bytes, head: List[str], say: Say, refu
     blocks = _blocks(asked, name)
     names = path_members(name)
     if blocks.problem:
-        tell(asked, [*head, f"{blocks.problem}: {blocks.detail}"], {**names, "problem": blocks.problem, "detail": blocks.detail})
+        output(asked, [*head, f"{blocks.problem}: {blocks.detail}"], {**names, "problem": blocks.problem, "detail": blocks.detail})
         return FAILED
     worst = DONE
     data = {it.name: it for it in blocks.found}
@@ -75,13 +75,13 @@ def _one(asked: argparse.Namespace, name: bytes, head: List[str], say: Say, refu
             worst = REFUSED
         lines, members = say(data[it.name], it) if it.status == ACCEPTED or refused_too else _refused(it)
         if lines or (asked.json and members):
-            tell(asked, [*head, *lines], {**names, "name": it.name, **members})
+            output(asked, [*head, *lines], {**names, "name": it.name, **members})
             head = []
     if not blocks.found:
-        tell(asked, [*head, "no Exif, IPTC or XMP block"], {**names, "kind": None})
+        output(asked, [*head, "no Exif, IPTC or XMP block"], {**names, "kind": None})
     if blocks.not_read:
         what = [it.what for it in blocks.not_read]
-        tell(asked, [f"not wholly read: {', '.join(what)}"], {**names, "not_read": what})
+        output(asked, [f"not wholly read: {', '.join(what)}"], {**names, "not_read": what})
     return worst
 
 
@@ -95,7 +95,7 @@ def _kinds(members: Members) -> Members:
 
 
 def show(asked: argparse.Namespace) -> int:
-    """Lists the fields or captions of pictures."""
+    """Lists the fields of pictures."""
 
     def say(_: Found, it: Block) -> Said:
         fields = unpacked(it.kept) if it.kept else []
@@ -154,9 +154,9 @@ def _mend_one(asked: argparse.Namespace, picture: bytes, out: bytes, room: str) 
     except (mend.NotWritten, tools.Failed) as error:
         problem = "NotWritten" if isinstance(error, mend.NotWritten) else "ToolFailed"
         line = f"{shown_path(picture)}: {shown_path(out)} isn't written: {error}"
-        tell(asked, [line], {**path_members(picture), "problem": problem, "detail": str(error)})
+        output(asked, [line], {**path_members(picture), "problem": problem, "detail": str(error)})
         return FAILED
-    tell(asked, _mended_lines(picture, found), _mended_members(picture, found))
+    output(asked, _mended_lines(picture, found), _mended_members(picture, found))
     return FAILED if found.problem else REFUSED if found.step == mend.NONE else LOST if found.lost else DONE
 
 

@@ -16,7 +16,7 @@ from .batches import How
 from .blocks import WORDS
 from .catalogue import Catalogue, NoCatalogue
 from .index import Asked, index
-from .lines import chosen_paths, closed_folder, from_list, tell
+from .lines import chosen_paths, closed_folder, from_list, output
 from .texts import Members, path_members, shown_path
 
 DONE, DIFFERENT, OPEN, FAILED = 0, 1, 2, 4
@@ -43,7 +43,7 @@ def changed_(asked: argparse.Namespace) -> int:
         if equal is not None:
             _print_equal(equal)
     summary = ", ".join(f"{counts[it]} {it}" for it in changes.RESULTS if counts[it]) or "no picture"
-    tell(asked, [summary], {"counts": dict(counts)})
+    output(asked, [summary], {"counts": dict(counts)})
     return status_of(counts)
 
 

@@ -33,14 +33,14 @@ class BadList(Failure):
     status = REFUSED_WORDS
 
 
-Tell = Callable[[Unlisted], None]
+OnUnlisted = Callable[[Unlisted], None]
 
 
-def below(names: Iterable[bytes], unlisted: Tell, leave_out: Collection[bytes] = ()) -> Iterator[Found]:
+def below(names: Iterable[bytes], unlisted: OnUnlisted, leave_out: Collection[bytes] = ()) -> Iterator[Found]:
     """Each file of the arguments, and all files below each folder, in the order of their names.
 
     Paths are absolute. Links to folders aren't followed. Hidden files and folders are included; the files of `leave_out` are not.
-    A folder that can't be read, and a name without a file, are added to `unlisted`, and the other files are still returned.
+    A folder that can't be read, and a name without a file, are passed to `unlisted`, and the other files are still returned.
     """
     for name in names:
         top = os.path.abspath(name)
@@ -58,7 +58,7 @@ def below(names: Iterable[bytes], unlisted: Tell, leave_out: Collection[bytes] =
             yield Found(top, os.path.dirname(top), Stamp.of(now))
 
 
-def _below(top: bytes, unlisted: Tell, leave_out: Collection[bytes]) -> Iterator[Found]:
+def _below(top: bytes, unlisted: OnUnlisted, leave_out: Collection[bytes]) -> Iterator[Found]:
     waiting = [top]
     while waiting:
         folder = waiting.pop()
