@@ -93,6 +93,20 @@ class Tools(WithPictures):
         self.assertIn("a.nef: ToolFailed: exiv2 took longer than 5 seconds", lines[0])
 
     @needs("exiftool")
+    def test_each_wrong_result_of_exiv2_costs_one_file(self):
+        """It ends, is killed, or writes a file or a folder without a block: each raw picture gives a line."""
+        for name in ("a.nef", "bad.nef"):
+            write(self.path(name), b"II*\0\x08\0\0\0\0\0\0\0\0\0")
+        for fault in ("exit 3", "kill -9 $$", 'echo garbage > "$4/picture.exv"', 'mkdir "$4/picture.exv"', "true"):
+            with self.subTest(fault):
+                text = f'#!/bin/sh\n[ "$1" = --version ] && echo exiv2 0.27.6 && exit\n{fault}\n'
+                lines = self.asked("index", "a.nef", "bad.nef", "--catalogue", "c", "--again", "--quiet", "--json", status=4,
+                                   **self.fake("exiv2", text))  # fmt: skip
+                found = [json.loads(it) for it in lines]
+                expected = [("ToolFailed", "exiv2 extracted no Exif block from this file")] * 2
+                self.assertEqual([(it["problem"], it["detail"]) for it in found[:-1]], expected)
+
+    @needs("exiftool")
     def test_no_configuration_file_is_read(self):
         write(self.path("a.gif"), GIF[:-1] + b"!\xff\x0bXMP DataXMP" + b"<x:xmpmeta/>" + bytes([1, *range(255, -1, -1), 0]) + b";")
         write(self.path(".ExifTool_config"), b'die "a configuration file was read\\n";')

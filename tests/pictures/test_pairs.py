@@ -361,6 +361,18 @@ class Others(Pairs):
         words = self.not_same(fotostation(K), fotostation(L))
         self.assertIn("IPTC is different", words)
 
+    def test_iptc_in_a_trailer_with_a_directory(self):
+        """AFCP: a head and an end of twelve bytes, and in between an entry for each part, whose offset counts from the file's beginning."""
+
+        def afcp(record):
+            start = len(jpeg())
+            entry_ = b"IPTC" + struct.pack(">II", len(record), start + 24)
+            return jpeg(behind=b"AXS!" + struct.pack(">HHI", 0x100, 1, 0) + entry_ + record + b"AXS!" + struct.pack(">II", start, 0))
+
+        words = self.not_same(afcp(K), afcp(L))
+        self.assertIn("IPTC is different", words)
+        self.assertIn("not wholly read: AFCP trailer of", words)
+
 
 class Explained(WithPictures):
     """`explain` names tiled, pyramid and Big TIFFs, and why a packet is unreadable."""
