@@ -43,12 +43,21 @@ class Cluster(WithPictures):
         self.started("distributed.cli.dask_scheduler", "--host", "127.0.0.1", "--port", "0", "--no-dashboard", "--scheduler-file", told,
                      DASK_DISTRIBUTED__SCHEDULER__ALLOWED_FAILURES=more.pop("failures", "3"))  # fmt: skip
         ends = time.monotonic() + PATIENCE
-        while not os.path.exists(told) and time.monotonic() < ends:
+        while not self.is_written(told) and time.monotonic() < ends:
             time.sleep(0.1)
         self.started("distributed.cli.dask_worker", "--scheduler-file", told, "--nthreads", "2", "--no-dashboard",
                      "--local-directory", self.path("worker"), **more)  # fmt: skip
         with open(told) as file:
             return json.load(file)["address"]
+
+    def is_written(self, name):
+        """Whether a file is there with its JSON: the scheduler makes it before it writes to it."""
+        try:
+            with open(name) as file:
+                json.load(file)
+        except (FileNotFoundError, ValueError):
+            return False
+        return True
 
     def index(self, *words, status=0):
         done = run([self.python, "-m", "exifnorm_pictures", "index", *words, "--catalogue", "c", "--quiet"], self.folder, seconds=240)
