@@ -447,6 +447,12 @@ class Kinds(WithPictures):
         found = [json.loads(it) for it in self.asked("same", "--catalogue", "c", "--json")]
         names = [[os.path.basename(it["path"]) for it in one["pictures"]] for one in found]
         self.assertEqual(names, [["b.jpg", "d.jpg", "e.jpg"], ["a.jpg", "c.jpg"]])
+        os.remove(self.path("p", "e.jpg"))
+        os.rename(self.path("p", "c.jpg"), self.path("p", "z.jpg"))  # of one size, that with the first name comes first
+        self.asked("index", "p", "--catalogue", "d", "--quiet")
+        found = [json.loads(it) for it in self.asked("same", "--catalogue", "d", "--json")]
+        names = [[os.path.basename(it["path"]) for it in one["pictures"]] for one in found]
+        self.assertEqual(names, [["a.jpg", "z.jpg"], ["b.jpg", "d.jpg"]])
 
     def test_fields_of_a_second_block(self):
         one, other = (SMALL_JPEG[:2] + with_exif(SMALL_JPEG, block([MAKE]))[2:-len(SMALL_JPEG) + 2] + it[2:] for it in (ONE, OTHER))

@@ -76,6 +76,12 @@ class Tools(WithPictures):
                 self.assertEqual([found[it].get("problem") for it in ("a.gif", "bad.gif", "c.gif")], [None, "ToolFailed", None])
                 self.assertIn(words, found["bad.gif"]["detail"])
 
+    def test_a_file_at_which_a_program_failed_is_looked_at_again(self):
+        self.pictures()
+        self.asked("index", "p", "--catalogue", "c", "--quiet", status=4, **self.fake("exiftool", FAKE % "exit 3"))
+        mended = self.fake("exiftool", FAKE.replace("*/bad*)", "x)") % ":")
+        self.assertEqual(self.asked("index", "p", "--catalogue", "c", "--quiet", **mended)[-1], "2 unchanged, 1 no block")
+
     def test_one_that_hangs_at_its_version(self):
         self.pictures()
         environment = self.fake("exiftool", "#!/bin/sh\nexec sleep 1000\n")
@@ -258,7 +264,7 @@ class Catalogues(WithPictures):
             self.assertIn("no regular file", self.complaint)
 
     def test_other_versions(self):
-        for version, words in ((1, "an earlier release"), (99, "a later release")):
+        for version, words in ((1, "an earlier release"), (3, "a later release"), (99, "a later release")):
             self.asked("index", "p", "--catalogue", f"v{version}", "--quiet")
             self.database(f"v{version}", f"PRAGMA user_version = {version}")
             self.refused(f"v{version}", words)
@@ -504,6 +510,7 @@ class Arguments(WithPictures):
         write(self.path("a.jpg"), GOOD)
         lines = self.asked("show", "a.jpg", "./a.jpg")
         self.assertEqual([it for it in lines if it.startswith("==")], ["== a.jpg", "== ./a.jpg"])
+        self.assertEqual(self.asked("show", "a.jpg", "a.jpg"), self.asked("show", "a.jpg"), "one that is given twice is shown once")
 
     def test_a_name_that_leads_nowhere(self):
         lines = self.asked("index", "typo", "--catalogue", "c", "--quiet", status=4)

@@ -3,23 +3,82 @@
 import hashlib
 import io
 import os
+import re
 import shutil
 import sys
+import tempfile
 import unittest
 import zlib
 from unittest import mock
 
 from made_files import chunk, exif, page, png, tiff
-from studio import TOP, WithPictures, read, write
+from studio import TOP, WithPictures, needs, read, tool, write
 
 sys.path.insert(0, os.path.join(TOP, "python"))
 
-from exifnorm_pictures import explain, extraction, index, listing, mend, others, tools  # noqa: E402
+from exifnorm_pictures import explain, extraction, index, listing, mend, names, others, texts, tools, walk  # noqa: E402
 from exifnorm_pictures.catalogue import Catalogue  # noqa: E402
 from exifnorm_pictures.formats import png as png_  # noqa: E402
 from exifnorm_pictures.formats.found import Broken  # noqa: E402
 from exifnorm_pictures.kept import Entry  # noqa: E402
 from exifnorm_pictures.listing import Field  # noqa: E402
+
+
+# Names of the standards that ExifTool doesn't use: by TIFF 6.0, CIPA DC-008 and IPTC-NAA IIM 4.2.
+STANDARD = {
+    "main": "00fe NewSubfileType 00ff SubfileType 0101 ImageLength 0107 Threshholding 0132 DateTime 014a SubIFDs 0201 JPEGInterchangeFormat "
+            "0202 JPEGInterchangeFormatLength 02bc XMP 83bb IPTC 8649 PhotoshopResources 8769 ExifIFDPointer 8773 ICCProfile "
+            "8825 GPSInfoIFDPointer c4a5 PrintImageMatching",
+    "exif": "8827 PhotographicSensitivity 8828 OECF 9004 DateTimeDigitized 9204 ExposureBiasValue 927c MakerNote 9400 Temperature "
+            "a002 PixelXDimension a003 PixelYDimension a005 InteroperabilityIFDPointer a405 FocalLengthIn35mmFilm a430 CameraOwnerName "
+            "a431 BodySerialNumber a432 LensSpecification a436 ImageTitle a437 Photographer a438 ImageEditor a439 CameraFirmware "
+            "a43a RAWDevelopingSoftware a43b ImageEditingSoftware a43c MetadataEditingSoftware a461 SourceImageNumberOfCompositeImage "
+            "a462 SourceExposureTimesOfCompositeImage",
+    "gps": "",
+    "interop": "0001 InteroperabilityIndex 0002 InteroperabilityVersion 1002 RelatedImageLength",
+    "iptc": "1:0 ModelVersion 1:22 FileFormatVersion 1:100 UNO 2:0 RecordVersion 2:20 SupplementalCategory 2:200 ObjectDataPreviewFileFormat "
+            "2:201 ObjectDataPreviewFileFormatVersion 2:202 ObjectDataPreviewData",
+}  # fmt: skip
+# The names of ExifTool's tables with these tags, and what is before the number of a tag there.
+GROUPS = {"Exif::Main": ("main", "exif", "interop"), "GPS::Main": ("gps",), "IPTC::EnvelopeRecord": ("1",), "IPTC::ApplicationRecord": ("2",)}
+
+
+class Names(unittest.TestCase):
+    @needs("exiftool")
+    def test_each_name_is_exiftools_or_the_standards(self):
+        known = {}
+        for group in ("EXIF", "GPS", "IPTC"):
+            listed = tool(TOP, "exiftool", "-listx", f"-{group}:All").decode()
+            for table, body in re.findall(r"<table name='([^']+)'.*?>(.*?)</table>", listed, re.S):
+                for number, name in re.findall(r"<tag id='(\d+)' name='([^']+)'", body):
+                    for where in GROUPS.get(table, ()):
+                        key = ("iptc", f"{where}:{number}") if where.isdigit() else (where, f"{int(number):04x}")
+                        known.setdefault(key, set()).add(name.replace("-", "").lower())
+        for where, own in (("main", names._TIFF), ("exif", names._EXIF), ("gps", names._GPS), ("interop", names._INTEROP), ("iptc", names._IIM)):
+            words = STANDARD[where].split()
+            standard = dict(zip(words[0::2], words[1::2]))
+            for key, name in own.items():
+                if key in standard:
+                    self.assertEqual(name, standard.pop(key), (where, key))
+                else:
+                    self.assertIn(name.replace("-", "").lower(), known.get((where, key), ()), (where, key))
+            self.assertEqual(standard, {}, where)
+
+    def test_characters_are_escaped_as_python_does(self):
+        for number in (*range(0x3000), *range(0xE000, 0xE010), *range(0xFFF0, 0x10010), *range(0xE0000, 0xE0200), 0x10FFFF):
+            character = chr(number)
+            expected = character if character.isprintable() and character != "\\" else character.encode("unicode_escape").decode()
+            self.assertEqual(texts.escaped(f"a{character}"), f"a{expected}")
+
+    def test_files_in_the_order_of_their_names(self):
+        """First those of a folder, then those of each folder in it; a catalogue is none, also where it is named by itself."""
+        with tempfile.TemporaryDirectory() as folder:
+            for name in ("b/2", "b/1", "a/z/1", "a/b", "c", "A"):
+                os.makedirs(os.path.dirname(os.path.join(folder, name)), exist_ok=True)
+                write(os.path.join(folder, name), b"")
+            left_out = os.fsencode(os.path.join(folder, "c"))
+            found = [os.fsdecode(it.path) for it in walk.below([os.fsencode(folder), left_out], self.fail, (left_out,))]
+        self.assertEqual([os.path.relpath(it, folder) for it in found], ["A", "a/b", "a/z/1", "b/1", "b/2"])
 
 
 class Indexed(WithPictures):
