@@ -1,5 +1,7 @@
 """Single functions of exifnorm_pictures: at limits, orders and names that no picture of the other tests reaches."""
 
+import argparse
+import contextlib
 import hashlib
 import io
 import os
@@ -16,8 +18,8 @@ from studio import TOP, WithPictures, needs, read, tool, write
 
 sys.path.insert(0, os.path.join(TOP, "python"))
 
-from exifnorm_pictures import explain, extraction, index, listing, mend, names, others, texts, tools, walk  # noqa: E402
-from exifnorm_pictures.catalogue import Catalogue  # noqa: E402
+from exifnorm_pictures import explain, extraction, index, listing, main, mend, names, others, single, texts, tools, walk  # noqa: E402
+from exifnorm_pictures.catalogue import Catalogue, NoCatalogue  # noqa: E402
 from exifnorm_pictures.formats import png as png_  # noqa: E402
 from exifnorm_pictures.formats.found import Broken  # noqa: E402
 from exifnorm_pictures.kept import Entry  # noqa: E402
@@ -198,6 +200,24 @@ class Listed(unittest.TestCase):
         self.assertTrue(any(it.startswith("Before it is Make") for it in found.here), found.here)
 
 
+class Ended(unittest.TestCase):
+    alone = True
+
+    def test_each_failure_has_its_line_and_status(self):
+        for why, status, line in (
+            (MemoryError(), 4, "out of memory"),
+            (KeyboardInterrupt(), 130, "stopped; the same command goes on from there"),
+            (walk.BadList("a list"), 3, "a list"),
+            (NoCatalogue("a catalogue"), 4, "a catalogue"),
+            (tools.Failed("a program"), 4, "a program"),
+            (OSError(28, "No space left on device", "a"), 4, "[Errno 28] No space left on device: 'a'"),
+            (KeyError("a name"), 4, "an internal error, please report it: KeyError: 'a name'"),
+        ):
+            lines = []
+            with mock.patch.dict(main._CALLS, same=mock.Mock(side_effect=why)), mock.patch.object(main.ends, "say", lines.append):
+                self.assertEqual((main._run(["same", "--catalogue", "c"]), lines), (status, [f"exifnorm-pictures: {line}"]))
+
+
 class Mended(WithPictures):
     alone = True
 
@@ -206,6 +226,18 @@ class Mended(WithPictures):
         lines = b"[IFD0] Make : Abc\n[IFD0] StripOffsets : 8\n[ExifIFD] Padding : 1\n[Photoshop] IPTCDigest : 00ff\n[IFD1] Make  :  Abc\n"
         with mock.patch.object(tools, "exiftool", lambda *words: list(words)), mock.patch.object(tools, "run", lambda _: tools.Done(0, lines)):
             self.assertEqual(sorted(mend._printed("a")), ["[IFD0] Make : Abc", "[IFD1] Make : Abc"])
+
+    def test_statuses(self):
+        """Those of `mend --help`; the greatest counts."""
+        ends = {"copy": (mend.Mended("copy", {}), 0), "touch": (mend.Mended("touch", {}), 0), "lost": (mend.Mended("rebuild", {}, ["a"]), 1),
+                "none": (mend.Mended("none", {}), 2), "problem": (mend.Mended("none", {}, problem="NoPicture"), 4)}  # fmt: skip
+        asked = argparse.Namespace(json=False)
+        for name, (found, status) in ends.items():
+            with mock.patch.object(mend, "mend", lambda *_, found=found: found), contextlib.redirect_stdout(io.StringIO()):
+                self.assertEqual(single._mend_one(asked, b"a", b"b", ""), status, name)
+        for why in (mend.NotWritten("no"), tools.Failed("no")):
+            with mock.patch.object(mend, "mend", mock.Mock(side_effect=why)), contextlib.redirect_stdout(io.StringIO()):
+                self.assertEqual(single._mend_one(asked, b"a", b"b", ""), 4, why)
 
     def test_a_link_in_the_way(self):
         """Also one that leads nowhere is a file that is there."""

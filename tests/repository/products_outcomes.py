@@ -1,4 +1,4 @@
-"""Tests the tests: that library.py, interface.py, package.py, fuzz.py and documents.py find the mistakes of a wrong library, a wrong
+"""Tests the tests: that library.py, costs.py, interface.py, package.py, fuzz.py and documents.py find the mistakes of a wrong library, a wrong
 package, a wrong header and wrong documents.
 
 self_tests.py runs these. The library is the one in out/lib; tests/library/fuzz/wrong.c makes the wrong ones over it.
@@ -19,6 +19,7 @@ from pathlib import Path
 from typing import Any, Callable, List
 from unittest import mock
 
+import costs
 import documents
 import fuzz
 import interface
@@ -28,6 +29,7 @@ from answers import NAMES, all_answers, write_jobs
 from blocks import Blocks
 from counting import Counter, SkipTest
 from fuzz import Report
+from meanings import Record
 from paths import TESTS, TOP
 
 PROGRAM = TOP / "crates" / "px_cli" / "out" / "px_cli"
@@ -204,11 +206,46 @@ class Package(unittest.TestCase):
         self.assertEqual(len(self.failed("fields", lambda it: it[1:], self.package.fields_of_each_kind)), kinds)
         self.assertEqual(len(self.failed("normal", lambda it: it + b"\0", self.package.fields_of_each_kind)), kinds)
 
+    def test_what_is_no_block(self):
+        """A call that takes anything is found for each thing that is no block, and where it gets nothing or bytes that are apart."""
+        with mock.patch.object(self.package.exifnorm, "same", lambda *_: ("a result",)):
+            self.assertEqual(len(printed_by(self.package.what_is_no_block)), 7 + 2)
+
     def test_an_exception_is_compared_with_its_values(self):
         def fails() -> None:
             raise ValueError("a", 3)
 
         self.assertEqual(self.package.outcome(fails), ("ValueError", "a", 3))
+
+
+class Limits(unittest.TestCase):
+    """costs.py with a library that takes as much as these functions return."""
+
+    def setUp(self) -> None:
+        room = tempfile.TemporaryDirectory()
+        self.addCleanup(room.cleanup)
+        self.it = costs.Costs([], "", room.name)
+
+    def test_memory_of_strips(self):
+        """An eighth of the block, and 3 % more (docs/PROOFS.md has the bound of each strip)."""
+        for bytes_, is_well in ((10_000 * 1.03, True), (12_000 * 1.03, False)):
+            with mock.patch.object(costs, "strips", lambda *_: bytes(80_000)), mock.patch.object(self.it, "_memory", lambda _: bytes_):
+                with contextlib.nullcontext() if is_well else self.assertRaisesRegex(AssertionError, "of strips"):
+                    self.it.are_small_for_strips()
+
+    def test_memory_of_a_record(self):
+        """24 bytes for each DataSet, and four for each group if there are more than 64; twice the text."""
+        few, many = (Record([(2, 25, b"a")] * count) for count in (64, 65))
+        found = [costs.memory_of_record(call, it) for it in (few, many) for call in ("check", "normalise", "compare")]
+        self.assertEqual(found, [0, 64 * 24, 2 * 64 * 24, 0, 65 * 24 + 4 * 65536, 2 * 65 * 24 + 4 * 65536])
+        self.assertEqual(costs.memory_of_record("captions", few), 64 * 24 + 2 * len(few.captions()))
+
+    def test_instructions_of_another_order(self):
+        for times, is_well in ((1.29, True), (1.31, False)):
+            counts = {b"a": 10_000, b"b": 10_000 * times}
+            with mock.patch.object(self.it, "_instructions", lambda _, block: counts[block]), mock.patch.object(costs.shutil, "which", lambda _: "is there"):
+                with contextlib.nullcontext() if is_well else self.assertRaisesRegex(AssertionError, "times the instructions"):
+                    self.it._keep_to_instructions({"usual": b"a", "other": b"b"}, {"check": costs.SAME})
 
 
 class Interface(unittest.TestCase):
