@@ -140,6 +140,8 @@ class Interface:
         for text in (header(), page):
             require(re.findall(r"stack of (\d+) KiB", text) == ["256"], "another size of the stack")
         require("ulimit -s 256 &&" in callers and "STACK = 256 * 1024 " in callers, "the callers of the tests have another stack")
+        names = [set(re.findall(r"\bEXIFNORM_[A-Z_]+\b", it)) for it in (page, header())]
+        require(names[0] <= names[1], f"the page names {names[0] - names[1]}")
         require("same is 1 if they mean the same, else 0." in header(), "other numbers for the same meaning in the header")
         require("to 1 if two blocks mean the same, and otherwise to 0." in page, "other numbers for the same meaning in the page")
         require("at most twice as many bytes as its block" in header() and "\n.I 2 * block_length\n" in page, "another size of a form")

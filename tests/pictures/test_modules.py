@@ -21,8 +21,8 @@ sys.path.insert(0, os.path.join(TOP, "python"))
 from exifnorm_pictures import explain, extraction, index, listing, main, mend, names, others, single, texts, tools, walk  # noqa: E402
 from exifnorm_pictures.catalogue import Catalogue, NoCatalogue  # noqa: E402
 from exifnorm_pictures.formats import png as png_  # noqa: E402
-from exifnorm_pictures.formats.found import Broken  # noqa: E402
-from exifnorm_pictures.kept import Entry  # noqa: E402
+from exifnorm_pictures.formats.found import Broken, NotRead  # noqa: E402
+from exifnorm_pictures.kept import Entry, digests  # noqa: E402
 from exifnorm_pictures.listing import Field  # noqa: E402
 
 
@@ -173,6 +173,17 @@ class Extracted(WithPictures):
             else:
                 with self.assertRaisesRegex(Broken, "check sum"):
                     png_.read(io.BytesIO(bytes(damaged)))
+
+
+class Parts(unittest.TestCase):
+    def test_what_was_not_read(self):
+        """Its digest is that of the names and of the bytes, in the order of the file; without the bytes there is none."""
+        parts = [NotRead("a trailer", "1" * 64), NotRead("a chunk", "2" * 64)]
+        others_ = [parts[::-1], parts[:1], [parts[0], NotRead("a chunk", "3" * 64)], [parts[0], NotRead("a trailer", "2" * 64)], []]
+        found = [digests(Entry(b"/a", b"/", not_read=tuple(it)))[3] for it in (parts, *others_)]
+        self.assertEqual((len(set(found)), found[-1]), (6, ""))
+        self.assertEqual(digests(Entry(b"/a", b"/", not_read=tuple(parts)))[3], found[0])
+        self.assertIsNone(digests(Entry(b"/a", b"/", not_read=(parts[0], NotRead("a chunk", ""))))[3])
 
 
 class Listed(unittest.TestCase):

@@ -19,6 +19,7 @@ from unittest import mock
 import faults
 import growths
 import installed
+import open_files
 import paths
 import sources
 import streams
@@ -93,6 +94,31 @@ class OpenFiles(unittest.TestCase):
         words = [sys.executable, paths.TESTS / "program" / "open_files.py", "/bin/true"]
         ran = subprocess.run(words, env={**os.environ, "TEST_ONLY": ""}, capture_output=True, text=True, check=False, timeout=300)
         self.assertEqual((ran.returncode, ran.stdout.splitlines()[-1]), (1, "0 passed, 13 failed"))
+
+    def test_each_part_of_a_result_is_looked_at(self):
+        """How many checks of each test find another status, no output, and files that have a byte more."""
+        real = open_files.run
+
+        def appended(folder: Path, words: list, *rest, **how) -> tuple:
+            came = real(folder, words, *rest, **how)
+            for it in (folder / "one", folder / "OUT"):
+                it.write_bytes(it.read_bytes() + b"x" if it.exists() else b"x")
+            return came
+
+        for run, least in (
+            (lambda *them, **how: (99, real(*them, **how)[1]), (4, 1, 2, 3, 3)),
+            (lambda *them, **how: (real(*them, **how)[0], b""), (4, 1, 0, 0, 3)),
+            (appended, (3, 1, 2, 3, 0)),
+            (real, (0, 0, 0, 0, 0)),
+        ):
+            with mock.patch.object(open_files, "run", run), mock.patch.object(open_files, "PROGRAM", str(REAL)):
+                for test, expected in zip((open_files.a_file_that_can_not_be_duplicated, open_files.a_file_without_a_status,
+                                           open_files.files_with_one_number_in_common, open_files.an_out_that_was_longer,
+                                           open_files.more_arguments_than_any_command_takes), least):  # fmt: skip
+                    counter = Counter(only="")
+                    with contextlib.redirect_stdout(io.StringIO()):
+                        test(counter)
+                    self.assertEqual(counter.failed, expected, (test.__name__, least))
 
 
 def outcome(status=4, output=WRITE + b"\n", complaints=b"", trace="", **files) -> Outcome:

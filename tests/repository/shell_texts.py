@@ -354,6 +354,12 @@ class Examples(unittest.TestCase):
         self.assertEqual(shown.replace("\\e", "\\").replace("\\-", "-"), (EXAMPLES / "compare.c").read_text(encoding="utf-8"))
 
 
+    def test_each_line_without_a_result_is_one_of_the_page(self) -> None:
+        """By FORMAT, 8, and the tests of failures."""
+        found = re.findall(r"^((?:failed|refused): [A-Z]\w+)$", page_of("exifnorm"), re.M)
+        self.assertEqual(found, ["refused: NormalTooLong", "failed: ReadFailed", "failed: WriteFailed", "failed: OutOfMemory"])
+
+
 class FirstLine(unittest.TestCase):
     """The first line of exifnorm-pictures, of which every Linux reads 127 bytes."""
 
