@@ -60,18 +60,30 @@ class Streams(unittest.TestCase):
                     found = self.found(test, Path(room))
                     self.assertGreater(found.count(False), len(found) // 2)
 
-    def test_each_part_of_a_result_is_looked_at(self):
-        for name, (code, least) in LITTLE_WRONG.items():
-            with tempfile.TemporaryDirectory() as room:
-                program = Path(room, "program")
-                program.write_text(f"#!/bin/sh\nreal='{REAL}'\n{code}\n")
-                for it in (program, Path(room)):
-                    it.chmod(0o755)
-                for test, expected in zip(streams.TESTS, least):
-                    with self.subTest(name, test=test.__name__):
-                        (folder := Path(room, test.__name__)).mkdir()
-                        self.assertGreaterEqual(self.found(test, folder, str(program)).count(False), expected)
-                self.assertEqual(len(least), len(streams.TESTS))
+    def test_another_status_is_found(self):
+        self.see_found("another status")
+
+    def test_no_output_is_found(self):
+        self.see_found("no output")
+
+    def test_a_byte_more_in_each_file_is_found(self):
+        self.see_found("a byte more in each file")
+
+    def test_other_files_with_these_bytes_are_found(self):
+        self.see_found("other files with these bytes")
+
+    def see_found(self, name: str) -> None:
+        code, least = LITTLE_WRONG[name]
+        self.assertEqual(len(least), len(streams.TESTS))
+        with tempfile.TemporaryDirectory() as room:
+            program = Path(room, "program")
+            program.write_text(f"#!/bin/sh\nreal='{REAL}'\n{code}\n")
+            for it in (program, Path(room)):
+                it.chmod(0o755)
+            for test, expected in zip(streams.TESTS, least):
+                with self.subTest(name, test=test.__name__):
+                    (folder := Path(room, test.__name__)).mkdir()
+                    self.assertGreaterEqual(self.found(test, folder, str(program)).count(False), expected)
 
     def found(self, test, folder: Path, program: str = "/bin/true") -> list:
         """What a test finds, up to the file that it misses."""
