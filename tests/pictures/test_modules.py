@@ -13,12 +13,13 @@ import unittest
 import zlib
 from unittest import mock
 
+from made_blocks import BLOCKS, with_exif
 from made_files import chunk, exif, page, png, tiff
-from studio import TOP, WithPictures, needs, read, tool, write
+from studio import SMALL_JPEG, TOP, WithPictures, needs, read, tool, write
 
 sys.path.insert(0, os.path.join(TOP, "python"))
 
-from exifnorm_pictures import explain, extraction, index, listing, main, mend, names, others, single, texts, tools, walk  # noqa: E402
+from exifnorm_pictures import explain, extraction, index, listing, main, mend, names, others, readable, single, texts, tools, walk  # noqa: E402
 from exifnorm_pictures.catalogue import Catalogue, NoCatalogue  # noqa: E402
 from exifnorm_pictures.formats import png as png_  # noqa: E402
 from exifnorm_pictures.formats.found import Broken, NotRead  # noqa: E402
@@ -71,6 +72,13 @@ class Names(unittest.TestCase):
             character = chr(number)
             expected = character if character.isprintable() and character != "\\" else character.encode("unicode_escape").decode()
             self.assertEqual(texts.escaped(f"a{character}"), f"a{expected}")
+
+    def test_texts_whose_encoding_is_not_declared(self):
+        """Windows-1252 has signs where Latin-1 has control characters, and five bytes without one (RFC 1345 and Unicode's table CP1252)."""
+        for octets, text in ((b"\x80\x93a\x94\x9f", "€“a”Ÿ"), (b"\xe9\x81\x8d\x8f\x90\x9d", "é\\x81\\x8d\\x8f\\x90\\x9d"), (b"\xff\0", "ÿ")):
+            self.assertEqual(readable.read_text(octets, None), (text, "not UTF-8; guessed: Windows-1252"))
+        self.assertEqual(readable.read_text(b"a\0\0", None), ("a\0", ""))
+        self.assertEqual(readable.read_text(b"\xff", "declared"), ("declared", ""))
 
     def test_files_in_the_order_of_their_names(self):
         """First those of a folder, then those of each folder in it; a catalogue is none, also where it is named by itself."""
@@ -173,6 +181,15 @@ class Extracted(WithPictures):
             else:
                 with self.assertRaisesRegex(Broken, "check sum"):
                     png_.read(io.BytesIO(bytes(damaged)))
+
+
+class LeftOut(WithPictures):
+    def test_how_many_are_in_no_group(self):
+        os.mkdir(self.path("p"))
+        for count, words in ((1, "1 picture in no group"), (2, "2 pictures in no group")):
+            write(self.path("p", f"{count}.jpg"), with_exif(SMALL_JPEG, BLOCKS["Loop"]))
+            self.asked("index", "p", "--catalogue", "c", "--quiet")
+            self.assertEqual([it.partition(":")[0] for it in self.asked("same", "--catalogue", "c")], [words])
 
 
 class Parts(unittest.TestCase):
