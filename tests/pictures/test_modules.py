@@ -19,7 +19,7 @@ from studio import SMALL_JPEG, TOP, WithPictures, needs, read, tool, write
 
 sys.path.insert(0, os.path.join(TOP, "python"))
 
-from exifnorm_pictures import explain, extraction, index, listing, main, mend, names, others, readable, single, texts, tools, walk  # noqa: E402
+from exifnorm_pictures import archives, changed, explain, extraction, index, listing, main, mend, names, others, readable, single, texts, tools, walk  # noqa: E402
 from exifnorm_pictures.catalogue import Catalogue, NoCatalogue  # noqa: E402
 from exifnorm_pictures.formats import png as png_  # noqa: E402
 from exifnorm_pictures.formats.found import Broken, NotRead  # noqa: E402
@@ -201,6 +201,19 @@ class Parts(unittest.TestCase):
         self.assertEqual((len(set(found)), found[-1]), (6, ""))
         self.assertEqual(digests(Entry(b"/a", b"/", not_read=tuple(parts)))[3], found[0])
         self.assertIsNone(digests(Entry(b"/a", b"/", not_read=(parts[0], NotRead("a chunk", ""))))[3])
+
+
+class Printed(unittest.TestCase):
+    def test_a_picture_that_moved(self):
+        moved = changed.Compared(b"a.jpg", changed.MOVED, moved_to=b"b/\xff.jpg")
+        self.assertEqual(archives._said(moved), [False, "moved to b/\\xff.jpg", []])
+        different = changed.Compared(b"a.jpg", changed.DIFFERENT, "Exif is different", [listing.Change("main:Make", None, '"a"')])
+        self.assertEqual(archives._said(different), [True, "different (Exif is different)", ['+ main:Make: - -> "a"']])
+
+    def test_a_page_begins_with_its_type(self):
+        """In letters of either kind (HTML, 13.1.1)."""
+        for head, is_one in ((b"<!DOCTYPE html>", True), (b"<!doctype HTML>", True), (b"<!DOCTYPE htm", False), (b" <!DOCTYPE html>", False), (b"", False)):
+            self.assertEqual(archives._is_page(head), is_one, head)
 
 
 class Listed(unittest.TestCase):
