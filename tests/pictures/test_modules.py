@@ -4,6 +4,7 @@ import argparse
 import contextlib
 import hashlib
 import io
+import json
 import os
 import re
 import shutil
@@ -14,12 +15,14 @@ import zlib
 from unittest import mock
 
 from made_blocks import BLOCKS, with_exif
-from made_files import chunk, exif, page, png, tiff
+from made_files import chunk, exif, page, png, tiff, title
 from studio import SMALL_JPEG, TOP, WithPictures, needs, read, tool, write
 
 sys.path.insert(0, os.path.join(TOP, "python"))
 
-from exifnorm_pictures import archives, changed, explain, extraction, index, listing, main, mend, names, others, readable, single, texts, tools, walk  # noqa: E402
+from exifnorm_pictures import (  # noqa: E402
+    archives, changed, engine, explain, extraction, index, listing, main, mend, names, others, readable, single, texts, tools, walk,
+)  # fmt: skip
 from exifnorm_pictures.catalogue import Catalogue, NoCatalogue  # noqa: E402
 from exifnorm_pictures.formats import png as png_  # noqa: E402
 from exifnorm_pictures.formats.found import Broken, NotRead  # noqa: E402
@@ -163,6 +166,18 @@ class Extracted(WithPictures):
                 found = others.by_others(b"a", io.BytesIO(octets), whole, "")
                 expected = hashlib.sha256(octets).hexdigest() if is_known else ""
                 self.assertEqual([(it.what, it.digest) for it in found.not_read], [("what ExifTool does not extract from a GIF file", expected)])
+
+    def test_a_form_that_is_too_long(self):
+        with mock.patch.object(engine.exifnorm, "normal", mock.Mock(side_effect=engine.exifnorm.NormalTooLong)):
+            found = engine.judge("exif", b"abc")
+        self.assertEqual((found.status, found.digest, found.cause, found.place, found.length), ("too long", None, "NormalTooLong", None, 3))
+
+    @needs("exiftool")
+    def test_two_packets_that_exiftool_extracts(self):
+        packets = [b"!\xff\x0bXMP DataXMP" + title(it) + bytes([1, *range(255, -1, -1), 0]) for it in ("one", "two")]
+        write(self.path("a.gif"), b"GIF89a\x01\0\x01\0\0\0\0" + b"".join(packets) + b";")
+        found = json.loads(self.asked("index", "a.gif", "--catalogue", "c", "--quiet", "--json")[0])
+        self.assertEqual([(it["kind"], it["name"]) for it in found["blocks"]], [("xmp", "XMP"), ("xmp", "second XMP")])
 
     def test_an_output_without_end(self):
         with mock.patch.object(tools, "MOST", 100_000), mock.patch.object(tools, "_limit", 10.0):
