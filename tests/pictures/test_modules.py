@@ -249,6 +249,14 @@ class Listed(unittest.TestCase):
         for where, key, is_one in (("exif", "9286", True), ("gps", "001b", True), ("gps", "001c", True), ("exif", "001b", False), ("gps", "001d", False)):
             self.assertEqual(listing.shown_value(where, key, text) == 'ascii "GPS"', is_one, (where, key))
 
+    def test_a_next_offset_that_is_missing(self):
+        whole = bytes.fromhex("4d4d002a00000008 0001 0112 0003 00000001 00060000 00000000")
+        for cut in range(1, 7):
+            found = explain.explain("exif", whole[:-cut])
+            self.assertEqual(found.judgement.cause, "DirectoryOutside")
+            words = f"Only the offset behind the last entry is missing ({cut} bytes of 4)."
+            self.assertEqual(any(it.endswith(words) for it in found.here), cut <= 4, found.here)
+
     def test_the_entry_before_a_doubled_one(self):
         block = tiff(page((0x010F, 2, b"Ab\0\0"), (0x010F, 2, b"Cd\0\0")))
         found = explain.explain("exif", block)
