@@ -11,7 +11,7 @@ import shutil
 import sys
 import tempfile
 import unittest
-import zlib
+from collections import Counter
 from unittest import mock
 
 from made_blocks import BLOCKS, with_exif
@@ -21,7 +21,7 @@ from studio import SMALL_JPEG, TOP, WithPictures, needs, read, tool, write
 sys.path.insert(0, os.path.join(TOP, "python"))
 
 from exifnorm_pictures import (  # noqa: E402
-    archives, changed, engine, explain, extraction, index, listing, main, mend, names, others, readable, single, texts, tools, walk,
+    archives, changed, engine, explain, extraction, index, listing, main, mend, names, others, readable, report, single, texts, tools, walk,
 )  # fmt: skip
 from exifnorm_pictures.catalogue import Catalogue, NoCatalogue  # noqa: E402
 from exifnorm_pictures.formats import png as png_  # noqa: E402
@@ -229,6 +229,30 @@ class Printed(unittest.TestCase):
         """In letters of either kind (HTML, 13.1.1)."""
         for head, is_one in ((b"<!DOCTYPE html>", True), (b"<!doctype HTML>", True), (b"<!DOCTYPE htm", False), (b" <!DOCTYPE html>", False), (b"", False)):
             self.assertEqual(archives._is_page(head), is_one, head)
+
+
+class Pieces(unittest.TestCase):
+    """Pieces of the report's page."""
+
+    def test_what_is_left_out_is_counted(self):
+        found = report.Gathered(groups=[(20, "Exif is the same", [b"/no such picture"] * report.MOST_OF_GROUP)], all_groups=(50, 300))
+        page = report._groups(found)
+        self.assertIn(f".. and {20 - report.MOST_OF_GROUP} more pictures, which --json lists", page)
+        self.assertIn(f".. and {50 - report.MOST_GROUPS} more groups, which --json lists", page)
+
+    def test_its_head(self):
+        head = report._head(report.Gathered(total=1234, runs=[("a", "b", "1.1", "2.2"), ("c", "d", "12.57", "0.27")], roots=[b"/<a>"]), 'A "title"')
+        for it in ("1,234 files below /&lt;a&gt; &middot;", "&middot; ExifTool 12.57</p>", "<title>A &quot;title&quot;</title>"):
+            self.assertIn(it, head)
+
+    def test_the_bar_of_states(self):
+        """Its parts are side by side, and together 1,000 wide."""
+        bar = report._share(report.Gathered(total=4, states=Counter({"accepted": 3, "refused": 1})))
+        self.assertEqual(re.findall(r'class="(\w+)" x="([\d.]+)" width="([\d.]+)"', bar), [("good", "0.0", "750.0"), ("bad", "750.0", "250.0")])
+
+    def test_a_long_value(self):
+        text = "".join(chr(0x61 + number % 26) for number in range(301))
+        self.assertEqual([report._value(it) for it in (text[:300], text)], [f"<code>{text[:300]}</code>", f"<code>{text[:300]} ..</code>"])
 
 
 class Listed(unittest.TestCase):
