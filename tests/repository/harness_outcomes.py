@@ -279,14 +279,13 @@ class Wrong(Room):
 
 
 # Tests of exifnorm-pictures, of each outcome, and a command in its place.
-PICTURES = """import unittest
-from studio import WithPictures, tool
+PICTURES = """import studio
 
-class Of(WithPictures):
+class Of(studio.WithPictures):
     def test_good(self):
         self.assertEqual(self.asked("x", status=3), ["a line"])
         self.assertEqual(self.complaint, "why\\n")
-        self.assertEqual(tool(self.folder, "echo", "a"), b"a\\n")
+        self.assertEqual(studio.tool(self.folder, "echo", "a"), b"a\\n")
 
     def test_another_status(self):
         self.asked("x")
@@ -300,7 +299,7 @@ class Of(WithPictures):
                 self.assertEqual(number, 3)
 
     def test_tool_that_fails(self):
-        tool(self.folder, "false")
+        studio.tool(self.folder, "false")
 
     def test_skipped(self):
         self.skipTest("no tool")

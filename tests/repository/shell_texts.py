@@ -316,8 +316,8 @@ class Examples(unittest.TestCase):
         self.folder = Path(room.name)
         (self.folder / "bin").mkdir()
         (self.folder / "bin" / "exifnorm").symlink_to(TOP / "exifnorm")
-        (self.folder / "bin" / "exiftool").write_text(EXIFTOOL)
-        (self.folder / "bin" / "exiftool").chmod(0o755)
+        (self.folder / "bin/exiftool").write_text(EXIFTOOL)
+        (self.folder / "bin/exiftool").chmod(0o755)
         for name, octets in {"picture.jpg": TURNED, "before": ONE, "after": TURNED, "record": RECORD}.items():
             (self.folder / name).write_bytes(octets)
 
@@ -328,7 +328,7 @@ class Examples(unittest.TestCase):
     def test_each_command_of_the_page(self) -> None:
         shown = page_of("exifnorm").partition(".SH EXAMPLES\n")[2].partition(".SH ")[0]
         found = [(it, self.printed(it)) for it in re.findall(r"^    (.*)$", shown, re.M)]
-        self.assertEqual([it.split()[0] for it, _ in found], ["exiftool", "exifnorm", "exifnorm", "exifnorm"])
+        self.assertEqual([it.split()[0] for it, _ in found], "exiftool exifnorm exifnorm exifnorm".split())
         self.assertEqual([it for _, it in found], ["", LISTING, f"{sha256(ONE).hexdigest()}  -\n", "same\nnothing changed\n"])
         self.assertEqual(self.printed(f"cp record after; {found[-1][0]}", status=1), "different\n")
 
