@@ -21,7 +21,7 @@ from studio import SMALL_JPEG, TOP, WithPictures, needs, read, tool, write
 sys.path.insert(0, os.path.join(TOP, "python"))
 
 from exifnorm_pictures import (  # noqa: E402
-    archives, changed, engine, explain, extraction, index, listing, main, mend, names, others, readable, report, single, texts, tools, walk,
+    changed, engine, explain, extraction, index, listing, main, mend, names, others, readable, report, single, states, texts, tools, walk,
 )  # fmt: skip
 from exifnorm_pictures.catalogue import Catalogue, NoCatalogue  # noqa: E402
 from exifnorm_pictures.formats import png as png_  # noqa: E402
@@ -221,14 +221,14 @@ class Parts(unittest.TestCase):
 class Printed(unittest.TestCase):
     def test_a_picture_that_moved(self):
         moved = changed.Compared(b"a.jpg", changed.MOVED, moved_to=b"b/\xff.jpg")
-        self.assertEqual(archives._said(moved), [False, "moved to b/\\xff.jpg", []])
+        self.assertEqual(states._said(moved), [False, "moved to b/\\xff.jpg", []])
         different = changed.Compared(b"a.jpg", changed.DIFFERENT, "Exif is different", [listing.Change("main:Make", None, '"a"')])
-        self.assertEqual(archives._said(different), [True, "different (Exif is different)", ['+ main:Make: - -> "a"']])
+        self.assertEqual(states._said(different), [True, "different (Exif is different)", ['+ main:Make: - -> "a"']])
 
     def test_a_page_begins_with_its_type(self):
         """In letters of either kind (HTML, 13.1.1)."""
         for head, is_one in ((b"<!DOCTYPE html>", True), (b"<!doctype HTML>", True), (b"<!DOCTYPE htm", False), (b" <!DOCTYPE html>", False), (b"", False)):
-            self.assertEqual(archives._is_page(head), is_one, head)
+            self.assertEqual(states._is_page(head), is_one, head)
 
 
 class Pieces(unittest.TestCase):
