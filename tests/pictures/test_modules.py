@@ -278,7 +278,7 @@ class Listed(unittest.TestCase):
         for cut in range(1, 7):
             found = explain.explain("exif", whole[:-cut])
             self.assertEqual(found.judgement.cause, "DirectoryOutside")
-            words = f"Only the offset behind the last entry is missing ({cut} bytes of 4)."
+            words = f"Only the offset after the last entry is missing ({cut} bytes of 4)."
             self.assertEqual(any(it.endswith(words) for it in found.here), cut <= 4, found.here)
 
     def test_the_entry_before_a_doubled_one(self):
