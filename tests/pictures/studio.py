@@ -82,13 +82,16 @@ class Studio:
 
     @classmethod
     def once(cls, name, make):
-        """A folder that is made by the first test that needs it; tests leave it as it is."""
+        """A folder that is made by the first test that needs it; tests leave it as it is. If that fails, only the first has the reason."""
         with cls._lock:
             if name not in cls._made:
+                cls._made[name] = None
                 folder = os.path.join(cls.room, name)
                 os.mkdir(folder)
                 make(folder)
                 cls._made[name] = folder
+        if cls._made[name] is None:
+            raise AssertionError(f"the folder {name!r} could not be made: another test has the reason")
         return cls._made[name]
 
 
@@ -111,8 +114,8 @@ def read(path):
 
 
 def tool(folder, *words):
-    """Runs a tool that has to do its work."""
-    done = run(list(words), folder)
+    """Runs a tool that has to do its work, also on a busy machine."""
+    done = run(list(words), folder, seconds=900)
     if done.returncode:
         raise AssertionError(f"{words}: {done.returncode} {done.stderr.decode(errors='replace')}")
     return done.stdout

@@ -21,7 +21,7 @@ from studio import SMALL_JPEG, TOP, WithPictures, needs, read, tool, write
 sys.path.insert(0, os.path.join(TOP, "python"))
 
 from exifnorm_pictures import (  # noqa: E402
-    changed, engine, explain, extraction, index, listing, main, mend, names, others, readable, report, single, states, texts, tools, walk,
+    changed, engine, explain, extraction, grouping, index, listing, main, mend, names, others, readable, report, single, states, texts, tools, walk,
 )  # fmt: skip
 from exifnorm_pictures.catalogue import Catalogue, NoCatalogue  # noqa: E402
 from exifnorm_pictures.formats import png as png_  # noqa: E402
@@ -298,11 +298,11 @@ class Ended(unittest.TestCase):
             (walk.BadList("a list"), 3, "a list"),
             (NoCatalogue("a catalogue"), 4, "a catalogue"),
             (tools.Failed("a program"), 4, "a program"),
-            (OSError(28, "No space left on device", "a"), 4, "[Errno 28] No space left on device: 'a'"),
+            (OSError(28, "No space left on device", "a"), 4, "a: no space left on device"),
             (KeyError("a name"), 4, "an internal error, please report it: KeyError: 'a name'"),
         ):
             lines = []
-            with mock.patch.dict(main._CALLS, same=mock.Mock(side_effect=why)), mock.patch.object(main.ends, "say", lines.append):
+            with mock.patch.object(grouping, "same", side_effect=why), mock.patch.object(main.ends, "say", lines.append):
                 self.assertEqual((main._run(["same", "--catalogue", "c"]), lines), (status, [f"exifnorm-pictures: {line}"]))
 
 

@@ -303,6 +303,12 @@ class Of(studio.WithPictures):
 
     def test_skipped(self):
         self.skipTest("no tool")
+
+    def test_folder(self):
+        studio.Studio.once("a", lambda it: studio.tool(it, "false"))
+
+    def test_folder_of_another(self):
+        self.test_folder()
 """
 COMMAND = 'import sys\nprint("a line")\nprint("why", file=sys.stderr)\nsys.exit(3)\n'
 
@@ -329,7 +335,10 @@ class Pictures(Room):
             status, lines = self.ran(name)
             self.assertEqual((status, lines[0].partition(" (")[0], lines[-1]), (1, f"failed: Of.{name}", "0 passed, 1 failed"), name)
         self.assertEqual(self.ran("test_skipped"), (0, ["skipped: Of.test_skipped: no tool", "0 passed, 0 failed"]))
-        self.assertEqual(self.ran("")[1][-1], "1 passed, 4 failed")
+        lines = self.ran("test_folder")[1]
+        reasons = [it for it in lines if it.startswith("AssertionError: ")]
+        self.assertEqual([it.partition(" could not")[0] for it in sorted(reasons)], ["AssertionError: ('false',): 1 ", "AssertionError: the folder 'a'"])
+        self.assertEqual(self.ran("")[1][-1], "1 passed, 6 failed")
 
 
 class Titles(unittest.TestCase):
