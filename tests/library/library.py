@@ -166,7 +166,7 @@ class Installed:
         found = files_below(self.prefix)
         require(set(wanted.split()) < found, f"there is no {set(wanted.split()) - found}")
         package = [it for it in found if it.endswith("exifnorm/__init__.py")]
-        require(len(package) == 1 and not [it for it in found if it.endswith(".pyc")], f"the package stands in {package}")
+        require(len(package) == 1 and not [it for it in found if it.endswith(".pyc")], f"the package is in {package}")
         self.packages = os.path.join(self.prefix, os.path.dirname(os.path.dirname(package[0])))
 
     def has_the_proved_program(self):

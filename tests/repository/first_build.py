@@ -206,7 +206,7 @@ def the_launcher_proves_builds_and_runs(user: FromNothing, gate: Gate) -> None:
     require((ran.returncode, ran.stdout) == (0, "one: a b\n"), ran)
     require("proving px_bytes (1 of 4, 3 left)" in ran.stderr, ran.stderr)
     require(all((user.top / f"out/proved/px_{it}.made-from").exists() for it in ("bytes", "one", "two", "cli")), "what was built isn't kept")
-    require("logic=proved" in (user.top / "out/build-px_bytes.log").read_text(encoding="utf-8"), "nothing tells of a proof")
+    require("logic=proved" in (user.top / "out/build-px_bytes.log").read_text(encoding="utf-8"), "the log has no proof")
 
 
 def the_gate_proves_each_crate_once_and_builds(user: FromNothing, gate: Gate) -> None:
