@@ -15,7 +15,8 @@ from kinds import ORIENTATION, Kind, OfStrips, bad_orders, many_datasets, random
 from meanings import RATIONAL, Exif, Layout, Record, Value, laid
 
 HERE = os.path.dirname(os.path.abspath(__file__))
-ITEM, FEW, COUNTERS = 24, 64, 4 * 65536  # bytes of a DataSet; more DataSets than this are sorted, with four bytes for each group
+# The bytes of a DataSet; more DataSets than this are sorted, in a second list or with four bytes for each group.
+ITEM, FEW, COUNTERS = 24, 64, 4 * 65536
 SMALL, SLACK = 1024, 1.03  # bytes of small lists; 3 % more than is allocated now
 LONG = 300_000  # DataSets
 SAME, SORTED = 1.3, 3.0  # how often the instructions of the usual order an unusual one takes, and one that has to be sorted
@@ -28,13 +29,14 @@ def require(is_so: bool, what: object) -> None:
 
 
 def memory_of_record(call: str, record: Record) -> int:
-    """The bytes that a call takes for an IIM block: one list of exactly its DataSets, and counters while it is sorted. A text is made in a
-    list of its own, which may double. Nothing is kept of a block that is only checked."""
+    """The bytes that a call takes for an IIM block: one list of exactly its DataSets, and a second one or counters while it is sorted. A
+    text is made in a list of its own, which may double. Nothing is kept of a block that is only checked."""
     count = len(record.datasets)
     if call == "check":
         return 0
     text = 2 * len({"show": record.listing, "captions": record.captions}.get(call, str)())
-    return (2 if call == "compare" else 1) * ITEM * count + (COUNTERS if count > FEW else 0) + text
+    sorting = min(COUNTERS, ITEM * count) if count > FEW else 0
+    return (2 if call == "compare" else 1) * ITEM * count + sorting + text
 
 
 def strips(order: int, count: int) -> bytes:
@@ -88,9 +90,10 @@ class Costs:
         self._keep_to_instructions(blocks, {"check": 1.0, "normalise": SORTED, "captions": SORTED, "compare": SORTED})
 
     def are_like_the_usual_order_of_few_groups(self) -> None:
-        names = sorted(Random(1).sample(list(orders.ascending(orders.ALL)), FEW))
-        blocks = {"usual": iim(names), "descending": iim(names[::-1]), "random": iim(Random(2).sample(names, FEW))}
-        self._keep_to_instructions(blocks, {"check": 1.0, "normalise": SORTED})
+        for count in (FEW, FEW + 1, 1000, COUNTERS // ITEM, COUNTERS // ITEM + 1):
+            names = sorted(Random(1).sample(list(orders.ascending(orders.ALL)), count))
+            blocks = {"usual": iim(names), "descending": iim(names[::-1]), "random": iim(Random(2).sample(names, count))}
+            self._keep_to_instructions(blocks, {"check": 1.0, "normalise": SORTED})
 
     def are_like_the_usual_order_of_random_records(self) -> None:
         names = list(orders.random(200_000))

@@ -16,7 +16,7 @@ CHUNK = 65536  # the most that one read requests
 DOUBLES, MOST = 1 << 20, LIMIT + 7  # up to here the list that a file is read into doubles; the most that is read of a file
 WORDS, CALLS = 48 * 1024, 140  # the most that reading the arguments takes: bytes, and calls for memory
 SMALL = 1024  # the most that small lists take
-FEW, COUNTERS = 64, 4 * 65536  # more DataSets than this are sorted with a counter of four bytes for each group
+FEW, COUNTERS = 64, 4 * 65536  # more DataSets than this are sorted, in a second list or with four bytes for each group
 LARGE, TIMES = 1 << 20, 6.3  # for a file of this size or more a run allocates at most so many times its bytes
 # a run takes at most a tenth of this, also on a busy machine; one that goes through all its data again and again takes far more
 SPENT, BYTES_A_MILLISECOND = 300, 8000
@@ -59,13 +59,13 @@ def memory_of(keeps, size):
     the capacity that is needed. Nothing is kept of strips, and of an IIM block that is only checked. If the meaning isn't known, the
     file may be nothing but DataSets of five bytes.
 
-    >>> memory_of(Keeps(datasets=65), 325).asked - memory_of(Keeps(datasets=64), 320).asked - ITEM == COUNTERS
-    True
+    >>> [memory_of(Keeps(datasets=count), 5 * count).asked - memory_of(Keeps(), 0).asked - ITEM * count for count in (64, 65, 20_000)]
+    [0, 1560, 262144]
     """
     keeps = keeps or Keeps(datasets=size // 5, is_exif=True)
     marks = size // 8 if keeps.is_exif else 0
-    counters = COUNTERS if keeps.datasets > FEW else 0
-    asked = marks + FIELD * keeps.fields + ITEM * keeps.datasets + counters + SMALL
+    sorting = min(COUNTERS, ITEM * keeps.datasets) if keeps.datasets > FEW else 0
+    asked = marks + FIELD * keeps.fields + ITEM * keeps.datasets + sorting + SMALL
     return Cost(calls=20, asked=asked, capacity=asked)
 
 
@@ -133,7 +133,7 @@ def most_in_memory(sizes, told):
 def limits_of(case, outcome):
     """The most that a run may cost. A file is read by a buffer of one size, into a growing list. Its judgement and its meaning take memory
     too (`memory_of`), and the arguments do before that. A normal form and a text take none. They are one write if they fit into the
-    output buffer; otherwise any two writes together have more bytes than the buffer."""
+    output buffer; otherwise any two writes together have more bytes than the buffer, and a case may name a lower number."""
     sizes = sizes_read(case)
     read = [reading(it) for it in sizes]
     sent = bytes_sent(case, outcome)
@@ -145,7 +145,7 @@ def limits_of(case, outcome):
         asked=with_slack(CHUNK * len(sizes) + SMALL + sum(it.asked for it in read + meant) + words),
         held=max(words, most_in_memory(sizes, held)),
         reads=sum(it // CHUNK + 2 for it in sizes) if not case.input else sum(sizes) + 2,  # a pipe may give one byte at a time
-        writes=(1 if sent <= ROOM else 2 * sent // ROOM + 2) + (outcome.status == 4),  # a write that failed, and the line
+        writes=(case.most_writes or (1 if sent <= ROOM else 2 * sent // ROOM + 2)) + (outcome.status == 4),  # one that failed, and the line
         spent=SPENT + sum(sizes) // BYTES_A_MILLISECOND,
         failed=0,
     )

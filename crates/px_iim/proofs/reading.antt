@@ -10,3 +10,5 @@ pub mod Parts
 pub mod Walked
 pub mod Filled
 pub mod Refusals
+pub mod Moved
+pub mod Gathered

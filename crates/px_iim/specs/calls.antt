@@ -3,4 +3,5 @@ pub mod View
 pub mod Reading
 pub mod Runs
 pub mod Filling
+pub mod Digits
 pub mod Heads

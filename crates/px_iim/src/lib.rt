@@ -21,6 +21,7 @@
 #![tactic(auto)]
 
 mod dataset;
+mod digits;
 mod group;
 mod head;
 mod iim;

@@ -11,6 +11,7 @@ ghost use Rattle.px_iim.specs.Check.{iim_checks};
 ghost use Rattle.px_iim.specs.calls.Reading.{RefusesIim};
 
 use crate::dataset::{dataset_at, is_end, read_dataset, rest};
+use crate::digits::read_by_digits;
 use crate::iim::Iim;
 use crate::ordered::read_ordered;
 use crate::sorting::read_sorted;
@@ -55,11 +56,15 @@ fn read_groups<'a>(memory: &mut Memory, bytes: &'a [u8]) -> Result<Iim<'a>, Refu
     if seen.is_few() {
         return read_put(memory, bytes, seen.count);
     }
+    if seen.is_short() {
+        return Ok(read_by_digits(memory, bytes, seen.count)?);
+    }
     Ok(read_sorted(memory, bytes, seen.count, seen.keys)?)
 }
 
 /// The record of a block of DataSets. IIM 4.2, chapter 1. Its data are borrowed from the block. Allocates the
-/// record's list, and counters if more than 64 DataSets are out of order.
+/// record's list. If more than 64 DataSets are out of order, it also allocates a second list of them, or counters
+/// for their groups, whichever is smaller.
 ///
 /// `Content`: the first check that fails. `TooLong` at `LIMIT`: the block has more octets than that. Then, for
 /// each DataSet: `NoMarker`: it doesn't begin with `1C`; `DataSetCut`: fewer than five octets are left;
@@ -76,8 +81,8 @@ pub fn read_iim<'a>(alloc: Global, bytes: &'a [u8]) -> Result<Iim<'a>, Refusal>
 }
 
 /// Like `read_iim`, with the caller's memory: it returns `OutOfMemory` exactly if an allocation failed in this
-/// call. It requests at most 24 bytes for each five octets of the block, and 262,144 for the counters; for a
-/// block that is refused, it requests nothing.
+/// call. It requests at most 24 bytes for each five octets of the block, and 262,144 for sorting; for a block
+/// that is refused, it requests nothing.
 pub fn read_iim_in<'a>(memory: &mut Memory, bytes: &'a [u8]) -> Result<Iim<'a>, Refusal>
     ensures judged { Judges result (iim_checks bytes.now) (SaysIim bytes.now) }
     ensures computed { IfOk result (λ i. iim_of bytes.now ≡ Some i) }

@@ -34,6 +34,14 @@ impl Overview {
     {
         self.count <= FEW
     }
+
+    // Whether a list of the DataSets takes no more memory than a counter for each key: six counters are as large as
+    // a DataSet.
+    pub(crate) fn is_short(&self) -> bool
+        ensures { result ≡ true → 6 * self.now.count ≤ self.now.keys }
+    {
+        self.count <= self.keys / 6
+    }
 }
 
 // The smallest bound that is at least `keys` and greater than `key`.

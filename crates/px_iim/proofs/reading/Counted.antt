@@ -1,5 +1,5 @@
 -- The number of DataSets of a record.
-use Rattle.std.proofs.Common.{◌≡◌, ℕ, ◌+◌, ◌≤◌, true, false, inl, inr, Option, Some, None, option_map, List, [], ◌∷◌, length, drop}
+use Rattle.std.proofs.Common.{◌≡◌, ℕ, ◌+◌, ◌≤◌, inl, inr, Option, Some, None, option_map, List, [], ◌∷◌, length, drop}
 use Rattle.std.proofs.Common.{flat_map, sym, ap, ◌∙◌, arith, length-append}
 use Rattle.std.proofs.lemmas.Bool.{cases_Bool}
 use Rattle.px_iim.specs.declared.dataset.Found.{Found}

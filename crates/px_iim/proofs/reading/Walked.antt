@@ -64,8 +64,8 @@ rest_is x at f r front all h = elim (cases_Bool (is_end (drop (at + f.size) x)))
   | inr e ↦ some_rest front all (found_view f) (datasets (drop at x)) (datasets (drop (at + f.size) x)) (said_more x at f r e) h
 ]
 
-pub none_counted : (n : ℕ) (counts : List ℕ) → counts ≡ replicate n 0 → Counts n [] counts
-none_counted n counts e k l = ap (λ (xs : List ℕ). get_or xs k 0) e ∙ get_or-replicate n k 0 0 l
+pub none_counted : (key : DataSet → ℕ) (n : ℕ) (counts : List ℕ) → counts ≡ replicate n 0 → Counts key n [] counts
+none_counted key n counts e k l = ap (λ (xs : List ℕ). get_or xs k 0) e ∙ get_or-replicate n k 0 0 l
 
 one_of : (P : DataSet → Type 0) (front rest : List DataSet) (d : DataSet) → AllByRecursion P (front ++ d ∷ rest) → P d
 one_of P [] rest d a = a.0

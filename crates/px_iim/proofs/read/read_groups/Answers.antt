@@ -1,9 +1,15 @@
-use Rattle.std.proofs.Common.{◌≡◌, [], ap, ◌∙◌, option_map, arith, Result, Ok, Err, IfErr}
+use Rattle.std.proofs.Common.{◌≡◌, ◌≤◌, ◌<◌, ℕ, List, [], ap, ◌∙◌, option_map, arith, Result, Ok, Err, IfErr}
+use Rattle.std.specs.List.{AllByRecursion}
 use Rattle.px_bytes.specs.declared.Refusal.{Refusal}
 use Rattle.px_bytes.specs.declared.Refusal.TheVariants.{Content, OutOfMemory}
 use Rattle.px_bytes.specs.Lacking.{Taken}
 use Rattle.px_iim.specs.Asking.{RefusesFirst}
+use Rattle.px_iim.specs.DataSet.{DataSet}
 use Rattle.px_iim.specs.Group.{gather}
+use Rattle.px_iim.specs.calls.Runs.{key_of}
+use Rattle.px_iim.specs.calls.Digits.{digit_in}
+use Rattle.px_iim.specs.declared.digits.Digit.TheVariants.{Record}
+use Rattle.px_iim.proofs.reading.Sorted.{all_weaker}
 use Rattle.px_iim.proofs.reading.Counted.{count_gather}
 use Rattle.px_iim.proofs.reading.Steps.{iim_of_within}
 use Rattle.px_iim.proofs.reading.Walked.{datasets_is}
@@ -30,6 +36,17 @@ read_sorted-requires-clause-said c =
     let (none, read) = c.in_ok-seen.ensures.judged in
     let (ds, s, n, a, w, o) = read in
     (ds, s, n, a, w)
+
+-- a record number is a byte, since the key is below 65,536
+record_below : (keys : ℕ) (ds : List DataSet) → keys ≤ 65536 → AllByRecursion (λ d. key_of d < keys) ds
+    → AllByRecursion (λ d. digit_in Record d < 256) ds
+record_below keys ds l a = all_weaker (λ d. key_of d < keys) (λ d. digit_in Record d < 256) (λ d h. omega (arith, l, h)) ds a
+
+pub read_by_digits-requires-clause-said : goal.read_by_digits-requires-clause-said
+read_by_digits-requires-clause-said c =
+    let (none, read) = c.in_ok-seen.ensures.judged in
+    let (ds, s, n, a, w, o) = read in
+    (ds, s, n, record_below _ ds c.in_ok-seen.ensures.few.1 a, w)
 
 -- out of memory isn't a refusal of the block
 not_refused : {A : Type 0} (r : Result A Refusal) (old new : Taken) → IfErr r (λ e. e ≡ OutOfMemory) → RefusesFirst r old new
