@@ -35,7 +35,7 @@ use px_engine::VERSION;
 use statuses::{DONE, NO_MEMORY, REFUSED, SECOND_REFUSED, TOO_LITTLE_ROOM, TOO_LONG};
 use std::alloc::Global;
 
-/// Stores the kind of the block in a file in `kind`: 1 for Exif, 2 for IIM. Allocates the meaning of an Exif
+/// Stores the kind of the block in a file in `kind`: 1 for Exif, 2 for IIM. Allocates the fields of an Exif
 /// block.
 ///
 /// `REFUSED`: the file has no meaning, and `fault` is its block's first fault. `NO_MEMORY`: an allocation

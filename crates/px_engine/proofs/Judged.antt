@@ -1,5 +1,7 @@
 -- The meanings of blocks and files, from the results of reading them.
-use Rattle.std.proofs.Common.{◌≡◌, ◌<◌, ℕ, Option, Some, None, List, length, Err, refl, sym, subst, arith}
+use Rattle.std.proofs.Common.{◌≡◌, ◌<◌, ℕ, Option, Some, None, List, length, Result, Ok, Err, refl, sym, subst, arith}
+use Rattle.std.specs.Prelude.{IfOk}
+use Rattle.px_bytes.specs.Numbers.{AreBytes}
 use Rattle.px_bytes.specs.declared.Cause.{Cause}
 use Rattle.px_bytes.specs.declared.Cause.TheVariants.{TooLong}
 use Rattle.px_bytes.specs.declared.Refusal.{Refusal}
@@ -10,12 +12,17 @@ use Rattle.px_bytes.specs.Reading.{ReadsUpTo, ConsumesAtMost}
 use Rattle.px_iim.specs.Group.{Record, IsRecord}
 use Rattle.px_iim.specs.Record.{SaysIim}
 use Rattle.px_iim.specs.lemmas.BoundLaws as iim
+use Rattle.px_meaning.specs.Tree.{Meaning}
+use Rattle.px_meaning.specs.Says.{SaysExif}
+use Rattle.px_meaning.specs.Fits.{Fits}
+use Rattle.px_layout.specs.Laws.{NormalBound}
 use Rattle.px_tree.specs.FaultLaws as tree_laws
 use Rattle.px_engine.specs.declared.kinds.BlockKind.TheVariants as kind
-use Rattle.px_engine.specs.Files.{Said, Iim, FirstIn}
+use Rattle.px_engine.specs.Files.{Said, Exif, Iim, FirstIn}
 use Rattle.px_engine.specs.declared.faults.Fault.{Fault}
 use Rattle.px_engine.specs.declared.faults.Fault.TheVariants.{Refused, NormalTooLong, OutOfMemory, ReadFailed, WriteFailed}
 use Rattle.px_engine.specs.Input.{most_read, IsSaidIn, IsFaultyIn, IsSaid, IsFaulty, IsRefused, IsUnsaid, IsReadFault, LacksFault}
+use Rattle.px_engine.specs.calls.Kinds.{SaysKind}
 use Rattle.px_engine.specs.Runs.{KnownSaid, Stops}
 use Rattle.px_engine.specs.calls.Faults.{refused}
 use Rattle.px_engine.specs.lemmas.FileLaws as file
@@ -25,6 +32,14 @@ use Rattle.px_engine.specs.Laws.{taken}
 
 pub iim_said : (b : List ℕ) (i : Record) → SaysIim b i → IsRecord i → IsSaidIn kind.Iim b (Iim i)
 iim_said b i x r = record { says = x; fits = r; bounded = iim.normal_bound b i x }
+
+pub exif_judged : {X : Type 0} (b block : List ℕ) → block ≡ b → NormalBound → AreBytes b → (r : Result X Refusal)
+    → IfOk r (λ x. (m : Meaning) × SaysExif block m × Fits m) → IfOk r (λ x. SaysKind kind.Exif b)
+exif_judged b block is bound bytes (Ok x) h =
+    let (m, t, f) = h in
+    let s = subst (λ z. SaysExif z m) is t in
+    (Exif m, record { says = s; fits = f; bounded = bound b m bytes s }, refl)
+exif_judged b block is bound bytes (Err e) h = tt
 
 pub exif_long : (b : List ℕ) → tree_laws.FaultsTell → limit < length b → IsFaultyIn kind.Exif b TooLong limit
 exif_long b tell l =

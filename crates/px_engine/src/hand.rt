@@ -16,7 +16,7 @@ use crate::texts::{caption_text, listing};
 use px_bytes::Memory;
 use std::alloc::Global;
 
-/// The kind of block in a file that has a meaning. Allocates the meaning of an Exif block, nothing for a
+/// The kind of block in a file that has a meaning. Allocates the fields of an Exif block, nothing for a
 /// block of DataSets, and no copy of the file. `Refused`: the first fault of the block. `OutOfMemory`: an
 /// allocation failed.
 pub fn check_of_in(memory: &mut Memory, file: &[u8]) -> Result<BlockKind, Fault>

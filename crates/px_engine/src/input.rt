@@ -19,7 +19,7 @@ use crate::kinds::{BlockKind, block_of, kind_of};
 use crate::meanings::Said;
 use px_bytes::{Block, LIMIT, Memory, Refusal, Source, read_up_to_in};
 use px_iim::{Iim, judge_iim, read_iim_in};
-use px_tree::{Meaning, read_block_in};
+use px_tree::{Meaning, judge_block_in, read_block_in};
 use std::alloc::Global;
 
 /// Reads to the reader's end, or the first `LIMIT` + 7 bytes, one more than the longest block and the six
@@ -97,16 +97,19 @@ fn read_record<'a>(memory: &mut Memory, bytes: &'a [u8]) -> Result<Iim<'a>, Refu
     read_iim_in(memory, bytes)
 }
 
-// Judges a block as an Exif block.
+// Judges a block as an Exif block, and keeps nothing of it.
 fn judge_exif(memory: &mut Memory, bytes: &[u8]) -> Result<(), Refusal>
     ensures said { IfOk result (λ u. SaysKind kind.Exif bytes.now) }
     ensures refused { IfErr result (IsRefusedIn kind.Exif bytes.now memory.new.refusals) }
     ensures memory { LacksBlock result memory.old memory.new }
     ensures asked { AsksAtMost (block_request (length bytes.now)) memory.old memory.new }
 {
-    let meaning = read_exif(memory, bytes)?;
-    drop(meaning);
-    Ok(())
+    px_layout::laws::normal_bound();
+    px_tree::fault_laws::faults_tell();
+    match Block::new(bytes) {
+        Ok(block) => judge_block_in(memory, block),
+        Err(cause) => Err(cause.at(LIMIT)),
+    }
 }
 
 // Judges a block as a block of DataSets, and keeps nothing of it.
@@ -131,7 +134,7 @@ fn judge_block(memory: &mut Memory, kind: BlockKind, bytes: &[u8]) -> Result<(),
     }
 }
 
-// The kind of the block in a file that has a meaning. Allocates the meaning of an Exif block.
+// The kind of the block in a file that has a meaning. Allocates the fields of an Exif block.
 pub(crate) fn judge_any_in(memory: &mut Memory, file: &[u8]) -> Result<BlockKind, Refusal>
     ensures kind { IfOk result (IsKindOf file.now) }
     ensures refused { IfErr result (IsRefused file.now memory.new.refusals) }

@@ -4,3 +4,4 @@ pub mod Footprint
 pub mod Fresh
 pub mod Judged
 pub mod Assembled
+pub mod Started

@@ -9,6 +9,9 @@ ghost use Rattle.px_tree.specs.Checks.{same_bytes, begins_header, order_of, head
 use px_bytes::{Cause, Order, Refusal};
 use px_meaning::magic_of;
 
+// The first byte of a header for the order with the least byte first; the other header has another.
+const FIRST_OF_LEAST: u8 = 0x49;
+
 // Whether the first bytes, up to four, begin a header of this byte order.
 fn begins(block: &[u8], order: Order) -> bool
     ensures { result ≡ same_bytes (take 4 block.now) (take (length block.now) (magic order)) }
@@ -25,8 +28,8 @@ fn is_begun(block: &[u8]) -> bool
     if block.is_empty() {
         return false;
     }
-    if begins(block, Order::Least) {
-        return true;
+    if block[0] == FIRST_OF_LEAST {
+        return begins(block, Order::Least);
     }
     begins(block, Order::Most)
 }
@@ -53,7 +56,7 @@ pub fn order_in(block: &[u8]) -> Order
     ensures told { order_of block.now ≡ Some result }
     ensures bytes { AreBytes block.now }
 {
-    if begins(block, Order::Least) {
+    if block[0] == FIRST_OF_LEAST {
         return Order::Least;
     }
     Order::Most

@@ -21,6 +21,7 @@ mod entry_values;
 pub mod fault_laws;
 mod field_reading;
 mod header;
+mod judging;
 mod links;
 mod read;
 mod records;
@@ -31,6 +32,7 @@ mod thumbnail;
 mod tree;
 mod uses;
 
+pub use judging::judge_block_in;
 pub use px_meaning::{
     Dir, ExifPart, Fields, Meaning, Role, StripRun, Strips, Thumb, fits, laws, magic_of,
     needs_place, same_meaning, table_len,

@@ -1,7 +1,11 @@
 // Reads a whole block: its header, its directories, the thumbnail's bytes, and the record.
-ghost use Rattle.std.specs.Prelude.{◌≡◌, ◌≤◌, ℕ, length, IfOk, IfErr, option_map};
+ghost use Rattle.std.specs.Prelude.{◌≡◌, ◌≤◌, ℕ, length, IfOk, IfErr, None, option_map};
+ghost use Rattle.std.specs.List.{AllByRecursion};
 ghost use Rattle.px_bytes.specs.Parts.{limit};
-ghost use Rattle.px_bytes.specs.Checks.{LacksBlock, Judges};
+ghost use Rattle.px_bytes.specs.Checks.{LacksBlock, Judges, first_false};
+ghost use Rattle.px_iim.specs.Asking.{iim_request};
+ghost use Rattle.px_meaning.specs.Directory.{entries_at};
+ghost use Rattle.px_meaning.specs.Entry.{IsEntry};
 ghost use Rattle.px_meaning.specs.Fits.{Fits};
 ghost use Rattle.px_meaning.specs.Says.{meaning, SaysExif};
 ghost use Rattle.px_meaning.specs.calls.Seen.{exif_of, meaning_of};
@@ -9,15 +13,17 @@ ghost use Rattle.px_tree.specs.Checks.{tree_checks};
 ghost use Rattle.px_tree.specs.Refused.{IsRefused};
 ghost use Rattle.px_bytes.specs.Lacking.{AsksAtMost};
 ghost use Rattle.px_tree.specs.Asking.{exif_request};
+ghost use Rattle.px_tree.specs.calls.ReadTree.{IsReadMain, IsAlone};
 
-use crate::claiming::claim_range;
 use crate::header::{judge_header, order_in};
 use crate::records::read_record;
 use crate::tables::Directory;
 use crate::thumbnail::read_thumb;
-use crate::tree::{Directories, MainDirectory, read_dirs};
+use crate::tree::{
+    Directories, MainDirectory, is_alone, main_directory_of, read_main, read_others,
+};
 use px_bytes::{Block, Memory, Order, Ranges, Refusal};
-use px_meaning::{ExifPart, Fields, Meaning};
+use px_meaning::{Dir, ExifPart, Fields, Meaning};
 use std::alloc::Global;
 
 // The fields of a directory, if the block has it.
@@ -41,6 +47,35 @@ fn exif_in<'a>(exif: Option<Fields<'a>>, interop: Option<Fields<'a>>) -> Option<
     }
 }
 
+// The meaning of a block that passes all checks and has the main directory alone.
+fn read_alone<'a>(
+    memory: &mut Memory,
+    block: &'a [u8],
+    order: Order,
+    main: Directory<'a>,
+) -> Result<Meaning<'a>, Refusal>
+    requires bounded { length block.now ≤ limit }
+    requires read { IsReadMain block.now order main }
+    requires each { AllByRecursion (IsEntry block.now order Dir.Main) (entries_at block.now order main.at) }
+    requires alone { IsAlone block.now order }
+    requires passed { first_false (tree_checks block.now order) ≡ None }
+    ensures judged { Judges result (tree_checks block.now order)
+        (λ m. meaning_of m ≡ meaning block.now order) }
+    ensures memory { LacksBlock result memory.old memory.new }
+    ensures asked { AsksAtMost (iim_request (length block.now)) memory.old memory.new }
+{
+    let main = main_directory_of(main);
+    let iptc = read_record(memory, block, order, &main)?;
+    let MainDirectory { fields, .. } = main;
+    Ok(Meaning {
+        main: fields,
+        iptc,
+        exif: None,
+        gps: None,
+        thumb: None,
+    })
+}
+
 // The meaning of a block that has a header.
 fn read_tree<'a>(memory: &mut Memory, block: &'a [u8], order: Order) -> Result<Meaning<'a>, Refusal>
     requires least { 8 ≤ length block.now }
@@ -51,8 +86,12 @@ fn read_tree<'a>(memory: &mut Memory, block: &'a [u8], order: Order) -> Result<M
     ensures asked { AsksAtMost (exif_request (length block.now)) memory.old memory.new }
 {
     let mut held = Ranges::with_room_in(memory, block.len() as u32)?;
-    claim_range(memory, &mut held, 0, 0, 8)?;
-    let directories = read_dirs(memory, block, order, &mut held)?;
+    let main = read_main(memory, block, order, &mut held)?;
+    if is_alone(block, order, &main) {
+        drop(held);
+        return read_alone(memory, block, order, main);
+    }
+    let directories = read_others(memory, block, order, &mut held, main)?;
     let Directories {
         main,
         exif,

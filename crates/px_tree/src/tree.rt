@@ -1,19 +1,20 @@
 // Reads the directories of a block, in the order main, Exif, Interoperability, GPS, thumbnail. CIPA DC-008
 // 4.6.3 and 4.5.5.
-ghost use Rattle.std.specs.Prelude.{◌≡◌, ◌≤◌, ◌++◌, List, [], length, option_map, option_and_then, IfSome, IfOk};
+ghost use Rattle.std.specs.Prelude.{◌≡◌, ◌≤◌, ◌++◌, List, [], ◌∷◌, length, option_map, option_and_then, Some, None, true, IfSome, IfOk};
 ghost use Rattle.px_bytes.specs.Parts.{limit};
 ghost use Rattle.px_bytes.specs.Range.{Range, Agrees};
 ghost use Rattle.px_bytes.specs.Checks.{LacksBlock, Judges};
 ghost use Rattle.px_meaning.specs.Entry.{next, table};
-ghost use Rattle.px_meaning.specs.Directory.{dirs, dir_at, fields_at, unless_zero};
+ghost use Rattle.px_meaning.specs.Directory.{main_at, dir_at, fields_at, unless_zero};
 ghost use Rattle.px_meaning.specs.Footprint.{ranges_at};
 ghost use Rattle.px_tree.specs.Checks.{checks_at, dirs_checks, dirs_held};
 ghost use Rattle.px_tree.specs.calls.Reading.{HasTable};
 ghost use Rattle.px_tree.specs.calls.Uses.{link_as};
 ghost use Rattle.px_tree.specs.calls.Linked.{Names, IsRead, offsets_of, next_place};
-ghost use Rattle.px_tree.specs.calls.ReadTree.{SeenTree};
+ghost use Rattle.px_tree.specs.calls.ReadTree.{main_checks, main_held, others, IsReadMain, SeenTree};
 ghost use Rattle.px_tree.specs.calls.Paying.{Pays, StaysBelow};
 
+use crate::claiming::claim_range;
 use crate::links::{Found, Link, next_link};
 use crate::source::Source;
 use crate::tables::{Directory, read_directory};
@@ -118,7 +119,7 @@ fn link_to_main(block: &[u8], order: Order) -> Link
 }
 
 // The part of the main directory that is kept.
-fn main_directory_of<'a>(main: Directory<'a>) -> MainDirectory<'a>
+pub fn main_directory_of<'a>(main: Directory<'a>) -> MainDirectory<'a>
     ensures fields { result.fields ≡ main.entry.fields }
     ensures at { result.at ≡ main.entry.at }
     ensures iptc { result.iptc ≡ main.entry.uses.iptc }
@@ -136,33 +137,77 @@ fn main_directory_of<'a>(main: Directory<'a>) -> MainDirectory<'a>
     }
 }
 
-// Reads the directories of a block that has a header.
-pub fn read_dirs<'a>(
+// Claims the header of a block, and reads the main directory.
+pub fn read_main<'a>(
     memory: &mut Memory,
     block: &'a [u8],
     order: Order,
     held: &mut Ranges,
+) -> Result<Directory<'a>, Refusal>
+    requires least { 8 ≤ length block.now }
+    requires bounded { length block.now ≤ limit }
+    requires none { held.old ≡ [] }
+    ensures judged { Judges result (main_checks block.now order)
+        (λ t. IsReadMain block.now order t × Agrees (main_held block.now order) held.new) }
+    ensures memory { LacksBlock result memory.old memory.new }
+    ensures asked { Pays (length block.now) 0 result memory.old memory.new held.old held.new }
+    ensures below { StaysBelow (length block.now) held.old held.new }
+{
+    claim_range(memory, held, 0, 0, 8)?;
+    let source = Source {
+        block,
+        order,
+        dir: Dir::Main,
+    };
+    read_directory(memory, &source, held, &[], link_to_main(block, order))
+}
+
+// Whether no pointer of the main directory leads to another directory.
+pub fn is_alone(block: &[u8], order: Order, main: &Directory) -> bool
+    requires bounded { length block.now ≤ limit }
+    requires stands { HasTable block.now order main.now.at main.now.count }
+    ensures exif { result ≡ true → main.now.uses.exif ≡ None }
+    ensures gps { result ≡ true → main.now.uses.gps ≡ None }
+    ensures next { result ≡ true → None ≡ unless_zero (next order (table block.now order main.now.at)) }
+{
+    match (
+        main.uses.exif,
+        main.uses.gps,
+        link_after(block, order, main),
+    ) {
+        (None, None, None) => true,
+        _ => false,
+    }
+}
+
+// Reads the directories after the main directory. A caller that needs only some of them then moves only these.
+#[inline(always)]
+pub fn read_others<'a>(
+    memory: &mut Memory,
+    block: &'a [u8],
+    order: Order,
+    held: &mut Ranges,
+    main: Directory<'a>,
 ) -> Result<Directories<'a>, Refusal>
     requires least { 8 ≤ length block.now }
     requires bounded { length block.now ≤ limit }
+    requires read { IsReadMain block.now order main }
     ensures judged { (taken : List Range) → Agrees taken held.old →
-        Judges result (dirs_checks block.now order [] taken dirs)
+        Judges result (dirs_checks block.now order (main_at block.now order ∷ []) taken others)
         (λ t. SeenTree block.now order t
-        × Agrees (dirs_held block.now order taken dirs) held.new) }
+        × Agrees (dirs_held block.now order taken others) held.new) }
     ensures memory { LacksBlock result memory.old memory.new }
     ensures asked { Pays (length block.now) 0 result memory.old memory.new held.old held.new }
     ensures below { StaysBelow (length block.now) held.old held.new }
 {
     let main_link = link_to_main(block, order);
+    let exif_link = link_to_exif(&main);
+    let read = [Some(main_link)];
     let mut source = Source {
         block,
         order,
-        dir: Dir::Main,
+        dir: Dir::Exif,
     };
-    let main = read_directory(memory, &source, held, &[], main_link)?;
-    let exif_link = link_to_exif(&main);
-    let read = [Some(main_link)];
-    source.dir = Dir::Exif;
     let exif = read_linked(memory, &source, held, &read, exif_link)?;
     let interop_link = link_to_interop(&exif);
     let read = [exif_link, Some(main_link)];

@@ -1,6 +1,6 @@
 -- What the result for a whole block implies.
 use Rattle.std.proofs.Common.{◌≡◌, ℕ, ◌≤◌, List, Option, Some, None, Result, Ok, Err, refl, length, sym, ap, ◌∙◌, subst, arith}
-use Rattle.std.specs.Prelude.{IfOk, IfErr}
+use Rattle.std.specs.Prelude.{IfOk, IfErr, ⊤}
 use Rattle.px_bytes.specs.declared.Order.{Order}
 use Rattle.px_bytes.specs.declared.Cause.{Cause}
 use Rattle.px_bytes.specs.declared.Refusal.{Refusal}
@@ -66,6 +66,13 @@ module _ (b : List ℕ) (o : Order) (headed : first_false (header_checks b) ≡ 
       let e : Some o ≡ Some s.order = sym ordered ∙ order_told b s.order s.is_block.begins in
       let q : o ≡ s.order = cc in
       record { order = s.order; is_block = s.is_block; says = ap (meaning b) q }
+
+  -- a judgement of the tree is one of the block
+  module _ {M : Type 0} where
+    pub tree_judged : (r : Result M Refusal) → AreBytes b → Judges r (tree_checks b o) (λ _. ⊤)
+        → IfOk r (λ _. (m : said.Meaning) × SaysExif b m × Fits m)
+    tree_judged (Ok x) a j = let s = tree_says j.0 in (meaning b o, s, said_fits b (meaning b o) a s)
+    tree_judged (Err e) a j = tt
 
   -- the result for the tree is that for the block
   module _ {M : Type 0} (see : M → said.Meaning) where

@@ -4,7 +4,7 @@ use Rattle.std.specs.Prelude.{IfSome, option_and_then, unwrap_or}
 use Rattle.px_bytes.specs.declared.Order.{Order}
 use Rattle.px_bytes.specs.declared.Refusal.{Refusal}
 use Rattle.px_bytes.specs.Range.{Range, Agrees}
-use Rattle.px_bytes.specs.Checks.{first_false, Refuses}
+use Rattle.px_bytes.specs.Checks.{Check, first_false, Refuses}
 use Rattle.px_bytes.specs.lemmas.CheckLaws.{first_false_true, Refuses_more, Refuses_same}
 use Rattle.px_meaning.specs.declared.Dir.{Dir}
 use Rattle.px_meaning.specs.declared.Dir.TheVariants.{Main, Exif, Interop, Gps, Thumb}
@@ -14,11 +14,12 @@ use Rattle.px_tree.specs.declared.tables.Directory.{Directory}
 use Rattle.px_tree.specs.declared.tree.MainDirectory.{MainDirectory}
 use Rattle.px_meaning.specs.Roles.{exif_tag, gps_tag, interop_tag, record_tag}
 use Rattle.px_meaning.specs.Entry.{Entry, fields, next, table, offset}
-use Rattle.px_meaning.specs.Directory.{dirs, dir_at, main_at, fields_at, is_pointer, pointer, entries_at, unless_zero}
+use Rattle.px_meaning.specs.Directory.{dir_at, main_at, fields_at, is_pointer, pointer, entries_at, unless_zero}
 use Rattle.px_meaning.specs.Footprint.{dir_ranges, listed, ranges_at}
 use Rattle.px_tree.specs.Checks.{named_at, pointer_place, dir_checks, checks_at, dirs_checks, dirs_held}
 use Rattle.px_tree.specs.calls.Uses.{Sees, link_as, has_tag}
 use Rattle.px_tree.specs.calls.Linked.{AreUsesAt, IsRead, Names, offsets_of, next_place}
+use Rattle.px_tree.specs.calls.ReadTree.{others}
 
 module _ (b : List ℕ) (o : Order) (d : Dir) where
   -- one that a link names
@@ -35,26 +36,35 @@ module _ (b : List ℕ) (o : Order) (d : Dir) where
     pub some_fields : fields_at b o d ≡ Some (fields b o d link.at)
     some_fields = ap (λ (x : Option ℕ). option_map (fields b o d) x) (sym n.leads)
 
--- ---- the directories, one after another
+-- ---- the directories after the main directory, one after another
 module _ (b : List ℕ) (o : Order) (taken : List Range) where
+  abbrev all_checks : List Check
+  all_checks = dirs_checks b o (main_at b o ∷ []) taken others
+
   -- after the directories of the links, the checks of those left have the first fault of all, and in the end the same ranges are claimed
   pub record DirsSoFar (earlier : List (Option Link)) (ds : List Dir) (held : List (ℕ × ℕ)) : Type 0 where
     pub now : List Range
     pub agrees : Agrees now held
-    pub faults : first_false (dirs_checks b o (offsets_of earlier) now ds) ≡ first_false (dirs_checks b o [] taken dirs)
-    pub ends : dirs_held b o now ds ≡ dirs_held b o taken dirs
+    pub faults : first_false (dirs_checks b o (offsets_of earlier) now ds) ≡ first_false all_checks
+    pub ends : dirs_held b o now ds ≡ dirs_held b o taken others
 
-  pub dirs_start : (held : List (ℕ × ℕ)) → Agrees taken held → DirsSoFar [] dirs held
-  dirs_start held a = record { now = taken; agrees = a; faults = refl; ends = refl }
+  pub dirs_start : (link : Link) → link.at ≡ main_at b o → (held : List (ℕ × ℕ)) → Agrees taken held
+      → DirsSoFar (Some link ∷ []) others held
+  dirs_start link at held a = record {
+    now = taken;
+    agrees = a;
+    faults = ap (λ (n : ℕ). first_false (dirs_checks b o (n ∷ []) taken others)) at;
+    ends = refl;
+  }
 
   module _ (earlier : List (Option Link)) (d : Dir) (ds : List Dir) (held : List (ℕ × ℕ)) (s : DirsSoFar earlier (d ∷ ds) held) where
     behind : List ℕ
     behind = option_to_list (dir_at b o d) ++ offsets_of earlier
 
     pub dirs_refuse : (r : Refusal) → Refuses r (checks_at b o (offsets_of earlier) s.now d (dir_at b o d))
-        → Refuses r (dirs_checks b o [] taken dirs)
+        → Refuses r all_checks
     unfolding behind
-    dirs_refuse r h = Refuses_same r (dirs_checks b o (offsets_of earlier) s.now (d ∷ ds)) (dirs_checks b o [] taken dirs) s.faults
+    dirs_refuse r h = Refuses_same r (dirs_checks b o (offsets_of earlier) s.now (d ∷ ds)) all_checks s.faults
         (Refuses_more r (checks_at b o (offsets_of earlier) s.now d (dir_at b o d)) (dirs_checks b o behind (ranges_at b o d ++ s.now) ds)
         h)
 
@@ -76,10 +86,10 @@ module _ (b : List ℕ) (o : Order) (taken : List Range) where
 
   -- in the end
   pub dirs_clean : (earlier : List (Option Link)) (held : List (ℕ × ℕ)) → DirsSoFar earlier [] held
-      → first_false (dirs_checks b o [] taken dirs) ≡ None
+      → first_false all_checks ≡ None
   dirs_clean earlier held s = sym s.faults
 
-  pub dirs_end : (earlier : List (Option Link)) (held : List (ℕ × ℕ)) → DirsSoFar earlier [] held → Agrees (dirs_held b o taken dirs) held
+  pub dirs_end : (earlier : List (Option Link)) (held : List (ℕ × ℕ)) → DirsSoFar earlier [] held → Agrees (dirs_held b o taken others) held
   dirs_end earlier held s = subst (λ (rs : List Range). Agrees rs held) s.ends s.agrees
 
 -- ---- the links

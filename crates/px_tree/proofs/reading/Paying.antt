@@ -57,6 +57,12 @@ pub pays_wider : {X : Type 0} (n m more : ℕ) (r : Result X Refusal) (old new :
 pays_wider n m more (Ok x) old new held now l p = p
 pays_wider n m more (Err e) old new held now l p = omega arith
 
+-- a call after one that passed
+pub pays_after : {X : Type 0} (n : ℕ) (r : Result X Refusal) (old then new : Taken) (held now last : List (ℕ × ℕ))
+    → then.asked + paid held ≤ old.asked + paid now + 0 → Pays n 0 r then new now last → Pays n 0 r old new held last
+pays_after n (Ok x) old then new held now last p q = omega arith
+pays_after n (Err e) old then new held now last p q = omega arith
+
 pub paid_most : (held : List (ℕ × ℕ)) (n : ℕ) → extent held ≤ n → paid held ≤ fields_request n + mark_bytes n
 unfolding paid extent
 paid_most held n below = omega arith

@@ -84,7 +84,7 @@ module _ (b : List ℕ) (o : Order) where
 
   -- ---- the meaning
 
-  abbrev whole : Fields → Option Iim → Option ExifPart → Option Fields → Option Thumbnail → Meaning
+  abbrev pub whole : Fields → Option Iim → Option ExifPart → Option Fields → Option Thumbnail → Meaning
   whole f i e g t = record { main = f; iptc = i; exif = e; gps = g; thumb = t }
 
   abbrev with_interop : Option Fields → Fields → ExifPart

@@ -1,7 +1,16 @@
-use Rattle.std.proofs.Common.{refl}
-use Rattle.px_meaning.specs.calls.Seen.{meaning_of}
-use Rattle.px_engine.specs.Files as said
+use Rattle.std.proofs.Common.{sym, subst}
+use Rattle.px_bytes.specs.Parts.{limit}
+use Rattle.px_engine.specs.declared.kinds.BlockKind.TheVariants as kind
+use Rattle.px_engine.specs.Input.{IsFaultyIn}
+use Rattle.px_engine.proofs.Judged.{exif_judged, exif_long}
 use Rattle.px_engine.proofs.input.judge_exif.Goals as goal
 
-pub returns-clause-said : goal.returns-clause-said
-returns-clause-said c = (said.Exif (meaning_of c.in_ok-meaning.meaning), c.in_ok-meaning.ensures.said, refl)
+pub returns-in-Ok-clause-said : goal.returns-in-Ok-clause-said
+returns-in-Ok-clause-said c =
+    exif_judged c.args.bytes.now c.in-Ok.block c.in-Ok.ensures.0 c.normal_bound.ensures (λ k. (c.type_inv.bytes k).fits)
+    c.judge_block_in.result c.judge_block_in.ensures.said
+
+pub returns-in-Err-clause-refused : goal.returns-in-Err-clause-refused
+returns-in-Err-clause-refused c =
+    rw c.at.ensures (subst (λ z. IsFaultyIn kind.Exif c.args.bytes.now z limit) (sym c.in-Err.ensures.0)
+    (exif_long c.args.bytes.now c.faults_tell.ensures c.in-Err.ensures.1))

@@ -1,0 +1,53 @@
+// Judges a whole block, and keeps nothing of it.
+ghost use Rattle.std.specs.Prelude.{◌≤◌, length, IfOk, IfErr, ⊤};
+ghost use Rattle.px_bytes.specs.Parts.{limit};
+ghost use Rattle.px_bytes.specs.Checks.{LacksBlock, Judges};
+ghost use Rattle.px_bytes.specs.Lacking.{AsksAtMost};
+ghost use Rattle.px_meaning.specs.Tree as said;
+ghost use Rattle.px_meaning.specs.Fits.{Fits};
+ghost use Rattle.px_meaning.specs.Says.{SaysExif};
+ghost use Rattle.px_tree.specs.Checks.{tree_checks};
+ghost use Rattle.px_tree.specs.Refused.{IsRefused};
+ghost use Rattle.px_tree.specs.Asking.{exif_request};
+
+use crate::header::{judge_header, order_in};
+use crate::thumbnail::read_thumb;
+use crate::tree::{Directories, is_alone, read_main, read_others};
+use px_bytes::{Block, Memory, Order, Ranges, Refusal};
+
+// Judges a block that has a header. Most blocks of a few bytes have one directory: their check ends with it.
+fn judge_tree(memory: &mut Memory, block: &[u8], order: Order) -> Result<(), Refusal>
+    requires least { 8 ≤ length block.now }
+    requires bounded { length block.now ≤ limit }
+    ensures judged { Judges result (tree_checks block.now order) (λ _. ⊤) }
+    ensures memory { LacksBlock result memory.old memory.new }
+    ensures asked { AsksAtMost (exif_request (length block.now)) memory.old memory.new }
+{
+    let mut held = Ranges::with_room_in(memory, block.len() as u32)?;
+    let main = read_main(memory, block, order, &mut held)?;
+    if is_alone(block, order, &main) {
+        return Ok(());
+    }
+    let directories = read_others(memory, block, order, &mut held, main)?;
+    let Directories { thumb, .. } = directories;
+    let thumb = read_thumb(memory, block, order, &mut held, thumb)?;
+    drop(thumb);
+    Ok(())
+}
+
+/// Judges a block as `read_block_in` does, without the record and the meaning: whether it has a meaning, or its
+/// first fault.
+///
+/// Allocates the fields and the claimed ranges while it judges, and at most what `read_block_in` requests. The cost
+/// is linear in the block's length. `Content` and `OutOfMemory`: as for `read_block_in`.
+pub fn judge_block_in(memory: &mut Memory, block: Block) -> Result<(), Refusal>
+    ensures said { IfOk result (λ _. (m : said.Meaning) × SaysExif block.entry m × Fits m) }
+    ensures refused { IfErr result (IsRefused block.entry memory.new.refusals) }
+    ensures memory { LacksBlock result memory.old memory.new }
+    ensures asked { AsksAtMost (exif_request (length block.entry)) memory.old memory.new }
+{
+    let bytes = block.bytes();
+    judge_header(bytes)?;
+    let order = order_in(bytes);
+    judge_tree(memory, bytes, order)
+}
