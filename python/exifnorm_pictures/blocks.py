@@ -28,7 +28,6 @@ class Block(NamedTuple):
     length: int
     octets: str  # SHA-256 of its bytes, which distinguishes a copied block from one that was written again
     kept: Optional[bytes] = None  # its fields in the form of `listing.packed`, if they were requested
-    number: int = 0
 
     def row(self) -> Tuple[Any, ...]:
         """The block as a row of the catalogue, with its fields."""

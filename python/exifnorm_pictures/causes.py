@@ -399,8 +399,7 @@ def _wrapped(text: str) -> str:
 
 
 def _filled(paragraph: str) -> str:
-    ends = (paragraph[: len(paragraph) - len(paragraph.lstrip("\n"))], paragraph[len(paragraph.rstrip("\n")) :])
-    return ends[0] + " ".join(paragraph.split()) + ends[1]
+    return " ".join(paragraph.split())
 
 
 if __name__ == "__main__":

@@ -156,4 +156,4 @@ def block_of_row(row: Tuple[Any, ...]) -> Block:
     number, kind, name, source, extractor, status, digest, cause, place, length, octets = row
     has(str, kind, name, source, extractor, status, octets, *(it for it in (digest, cause) if it is not None))
     has(int, number, length, *(it for it in (place,) if it is not None))
-    return Block(KIND_OF[kind], name, source, extractor, status, digest, cause, place, length, octets, number=number)
+    return Block(KIND_OF[kind], name, source, extractor, status, digest, cause, place, length, octets)
