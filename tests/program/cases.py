@@ -30,6 +30,7 @@ class Case:
     absent: list = field(default_factory=list)  # files that must not be there afterwards
     refuses_growths: bool = False
     keeps: object = None  # what a reader keeps of each of its files (`Keeps`), if that is known
+    most_writes: int = 0  # the most writes of its run, if they are fewer than those of a full output buffer
 
     @property
     def out(self):

@@ -25,7 +25,7 @@ from changed import changed
 from counting import reason
 from growths import complaints_under_refusals, every, sample
 from kinds import Kind, large_kinds, small_kinds
-from meanings import LIMIT, Record
+from meanings import LIMIT, SHORT, UNDEFINED, Exif, Layout, Record, Value, laid
 from program import run
 from reading import CAUSES, Fault, said
 from shims import NoShim, make_shim
@@ -162,6 +162,19 @@ def cases_of_causes():
         yield Case(f"the block of {cause}", words=["check", "a"], files={"a": block}, status=2, output=f"refused: {cause} at {place}\n".encode())
 
 
+def cases_of_long_values():
+    """A value of 16 MB goes out in pieces of 16 KiB if its bytes are swapped, and whole if they are not."""
+    for name, value, most in (
+        ("SHORTs in the other byte order", Value(SHORT, [it % 65_521 for it in range(8_000_000)]), 1_100),
+        ("bytes", Value(UNDEFINED, bytes(16_000_000)), 4),
+    ):
+        meaning = Exif({0x9999: value})
+        files, form = {"a": laid(meaning, Layout("<"))}, meaning.normal()
+        how = {"files": files, "keeps": [kept_of(meaning)], "most_writes": most}
+        yield Case(f"16 MB of {name}, by the filter", input_from="a", output=form, **how)
+        yield Case(f"16 MB of {name}, by normalise", words=["normalise", "a", "OUT"], output=b"", left={"OUT": form}, **how)
+
+
 class Parts:
     """The parts of the tests, each with its title and its tests as pairs of a name and a call that returns what is wrong."""
 
@@ -185,6 +198,7 @@ class Parts:
         yield "devices that move one byte in a call, and fail once", self.moving_and_failing(counted)
         if not self.only or "large" in self.only:
             yield "large blocks, and what they cost", (it for kind in large_kinds() for it in self.costing(named(kind)))
+            yield "the writes of a long value", self.costing(cases_of_long_values())
         if not self.only:
             # a program that the library doesn't reach would pass in silence
             seen = [] if sum(self.refused) else ["no run met a refused growth, so the library that refuses them is not in use"]
