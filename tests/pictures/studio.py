@@ -75,10 +75,12 @@ class Studio:
 
     @classmethod
     def environment(cls, **more):
+        """The variables of a command, whose output is buffered as it is for users, also where that of the tests isn't."""
         path = os.path.join(cls.room, "bin") + os.pathsep + os.environ.get("PATH", "")
         python = os.path.join(TOP, "python") + os.pathsep + os.environ.get("PYTHONPATH", "")
         own = {"PATH": path, "PYTHONPATH": python, "PYTHONDONTWRITEBYTECODE": "1", "TMPDIR": cls.room}
-        return {**os.environ, **own, **more}
+        others = {name: it for name, it in os.environ.items() if name != "PYTHONUNBUFFERED"}
+        return {**others, **own, **more}
 
     @classmethod
     def once(cls, name, make):

@@ -5,11 +5,23 @@ import os
 import shutil
 import sqlite3
 import subprocess
+import sys
+import tempfile
 import time
+import unittest
 from contextlib import ExitStack
+from types import SimpleNamespace
+from unittest import mock
 
 from made_blocks import MAKE, block, with_exif
-from studio import SMALL_JPEG, Studio, WithPictures, interpreter_with, needs, run, write
+from studio import SMALL_JPEG, TOP, Studio, WithPictures, interpreter_with, needs, run, write
+
+sys.path.insert(0, os.path.join(TOP, "python"))
+
+from exifnorm_pictures import cluster, tools  # noqa: E402
+from exifnorm_pictures.batches import How  # noqa: E402
+from exifnorm_pictures.kept import Entry, Stamp  # noqa: E402
+from exifnorm_pictures.walk import Found  # noqa: E402
 
 GIF = b"GIF89a\x01\0\x01\0\0\0\0;"
 GOOD = with_exif(SMALL_JPEG, block([MAKE]))
@@ -106,3 +118,157 @@ class Cluster(WithPictures):
         done = run([self.python, "-m", "exifnorm_pictures", "index", "p", "there", "--catalogue", "c", "--scheduler", "tcp://127.0.0.1:9",
                     "--elsewhere", "/x"], self.folder)  # fmt: skip
         self.assertEqual((done.returncode, done.stderr), (4, b"exifnorm-pictures: --elsewhere is the path of one folder: give one FOLDER\n"))
+
+
+FAR = "tcp://127.0.0.1:9"
+
+
+class Task:
+    """A task of a cluster: what it returns, or raises."""
+
+    def __init__(self, outcome):
+        self.outcome = outcome
+
+    def result(self):
+        if isinstance(self.outcome, Exception):
+            raise self.outcome
+        return self.outcome
+
+
+class Near:
+    """A cluster in this process, in place of Dask's package: its client notes each call, and its tasks end in the order of their calls."""
+
+    def __init__(self, outcomes=(), workers=1):
+        self.outcomes, self.workers, self.calls, self.waits = list(outcomes), workers, [], []
+
+    def Client(self, scheduler, timeout):  # noqa: N802 (the name in Dask's package)
+        self.calls.append((scheduler, timeout))
+        if isinstance(self.workers, Exception):
+            raise self.workers
+        return self
+
+    def __enter__(self):
+        return self
+
+    def __exit__(self, *_):
+        self.calls.append("closed")
+
+    def submit(self, function, root, names, how, pure, retries):
+        self.calls.append((root, names, how.room, how.seconds, pure, retries))
+        return Task(self.outcomes.pop(0) if self.outcomes else function(root, names, how))
+
+    def scheduler_info(self):
+        return {"workers": {} if not self.workers else {"one": 1}}
+
+    def wait(self, tasks, timeout, return_when):
+        self.waits.append((len(tasks), timeout, return_when))
+        if not self.workers or self.outcomes[:1] == ["slow"]:
+            self.outcomes[:1] = []
+            raise TimeoutError
+        return SimpleNamespace(done={tasks[0]})
+
+
+class Killed(Exception):
+    """In place of Dask's KilledWorker."""
+
+
+class Closed(Exception):
+    """In place of Dask's CommClosedError."""
+
+
+def found(name, root=b"/p", size=1):
+    return Found(os.path.join(root, name), root, Stamp(size, 2, 3, 4))
+
+
+def entry(it, **more):
+    return Entry(it.path, it.root, it.stamp, **more)
+
+
+class Tasks(unittest.TestCase):
+    """What goes to a cluster and what is made of its results, without a cluster."""
+
+    alone = True  # it replaces functions that other tests call
+    maxDiff = None
+
+    def looked(self, near, work, elsewhere=None, seconds=60.0):
+        """The results for some files, each looked at as if it were a GIF."""
+        with mock.patch.multiple(cluster, create=True, distributed=near, KilledWorker=Killed, CommClosedError=Closed), \
+             mock.patch.object(cluster.looking, "look", lambda it, whole: Entry(it.path, it.root, it.stamp, "GIF" if whole else "JPEG")), \
+             mock.patch.object(cluster.tools, "set_limit") as limit:  # fmt: skip
+            looker = cluster.looker(FAR, elsewhere, [b"/"])
+            result = list(looker(work, How(seconds=seconds, room="/tmp/room", whole=True)))
+        self.limits = limit.mock_calls
+        return result
+
+    def test_tasks_have_pictures_of_one_folder(self):
+        work = [found(b"%d" % it) for it in range(130)] + [found(b"x", b"/q"), found(b"s/y")]
+        near = Near()
+        result = self.looked(near, work)
+        self.assertEqual(near.calls[0], (FAR, 60.0))
+        heads = [(root, len(names), names[0], names[-1], *more) for root, names, *more in near.calls[1:-1]]
+        rest = ["", 60.0, False, 2]
+        self.assertEqual(heads, [(b"/p", 64, b"0", b"63", *rest), (b"/p", 64, b"64", b"127", *rest), (b"/p", 2, b"128", b"129", *rest),
+                                 (b"/q", 1, b"x", b"x", *rest), (b"/p", 1, b"s/y", b"s/y", *rest)])  # fmt: skip
+        self.assertEqual(near.calls[-1], "closed")
+        self.assertEqual(near.waits, [(number, 2.0, "FIRST_COMPLETED") for number in (5, 4, 3, 2, 1)])
+        self.assertEqual(self.limits, [mock.call(60.0)] * 5)
+        # there are no such files here, so they have no marks there
+        self.assertEqual(result, [Entry(it.path, it.root, None, "GIF") for it in work])
+        self.assertEqual((self.looked(near, []), len(near.calls)), ([], 7))
+
+    def test_the_same_folder_at_another_path(self):
+        with tempfile.TemporaryDirectory() as folder:
+            write(os.path.join(folder, "a"), b"1234")
+            near = Near()
+            result = self.looked(near, [found(b"a", size=4), found(b"b"), found(b"a", size=5)], folder, 0.5)
+        self.assertEqual(near.calls, [(FAR, 1.0), (os.fsencode(folder), [b"a", b"b", b"a"], "", 0.5, False, 2), "closed"])
+        self.assertEqual(result, [entry(found(b"a", size=4), type="GIF"), Entry(b"/p/b", b"/p", None, "GIF"), Entry(b"/p/a", b"/p", None, "GIF")])
+
+    def test_results_of_workers(self):
+        work = [found(b"a"), found(b"b"), found(b"c")]
+        outcome = [Entry(b"/there/a", b"/there", None, problem="Vanished", detail="gone"), Entry(b"/there/b", b"/there", Stamp(1, 9, 9, 9), "PNG"),
+                   Entry(b"/there/c", b"/there", Stamp(2, 2, 3, 4), problem="NoPicture", detail="no")]  # fmt: skip
+        missing = Entry(b"/p/a", b"/p", None, problem="Unreadable", detail="the worker has no such file: '/there/a'")
+        self.assertEqual(self.looked(Near([outcome]), work),
+                         [missing, entry(work[1], type="PNG"), Entry(b"/p/c", b"/p", None, problem="NoPicture", detail="no")])  # fmt: skip
+        why = "the worker failed: ValueError: no package"
+        self.assertEqual(self.looked(Near([ValueError("no package")]), work), [entry(it, problem="ToolFailed", detail=why) for it in work])
+
+    def test_pictures_at_which_workers_died(self):
+        """Each gets a task of its own, of which no other runs at the same time."""
+        work = [*(found(b"%d" % it) for it in range(64)), found(b"a", b"/q")]
+        near = Near([Killed(), Killed(), Killed()])
+        result = self.looked(near, work)
+        died = "the workers that looked at it died"
+        self.assertEqual(result[:2], [entry(work[64], problem="ToolFailed", detail=died), entry(work[63], problem="ToolFailed", detail=died)])
+        self.assertEqual([it.path for it in result[2:]], [it.path for it in work[62::-1]])
+        self.assertEqual([it.type for it in result[2:]], ["GIF"] * 63)
+        self.assertEqual([it[0] for it in near.waits], [2] + [1] * 65)
+
+    def test_a_cluster_without_workers(self):
+        """It may take as long as a program may take for one file; while there are workers, it may take any time."""
+        near, now = Near(workers=0), iter([0.0, 7.9, 8.0, 8.1])
+        with mock.patch.object(cluster.time, "monotonic", lambda: next(now)):
+            with self.assertRaisesRegex(tools.Failed, f"^the cluster {FAR} has no worker$"):
+                self.looked(near, [found(b"a")], seconds=8.0)
+        self.assertEqual(len(near.waits), 3)
+        near, now = Near([[], "slow", "slow", "slow"]), iter([0.0, 9.0, 99.0, 999.0])
+        with mock.patch.object(cluster.time, "monotonic", lambda: next(now)):
+            self.assertEqual(self.looked(near, [found(b"a")], seconds=8.0), [])
+        self.assertEqual((len(near.waits), list(now)), (4, []))
+
+    def test_a_cluster_that_cannot_be_reached(self):
+        for why in (OSError("Timed out"), Closed("Timed out")):
+            with self.assertRaisesRegex(tools.Failed, f"^the cluster {FAR} failed: Timed out$"):
+                self.looked(Near(workers=why), [found(b"a")])
+
+    def test_what_is_missing(self):
+        with mock.patch.object(cluster, "distributed", None):
+            with self.assertRaisesRegex(tools.Failed, "^--scheduler needs Dask's distributed. In Debian: apt-get install python3-distributed$"):
+                cluster.looker(FAR, None, [b"/"])
+        with mock.patch.object(cluster, "distributed", Near()), tempfile.NamedTemporaryFile() as file:
+            for names in ([b"/", b"/"], [], [os.fsencode(file.name)]):
+                self.assertTrue(cluster.looker(FAR, None, names))
+                with self.assertRaisesRegex(tools.Failed, "^--elsewhere is the path of one folder: give one FOLDER$"):
+                    cluster.looker(FAR, "/there", names)
+            self.assertTrue(cluster.looker(FAR, "/there", [b"/"]))

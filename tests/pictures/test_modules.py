@@ -8,6 +8,7 @@ import json
 import os
 import re
 import shutil
+import sqlite3
 import sys
 import tempfile
 import unittest
@@ -28,6 +29,7 @@ from exifnorm_pictures.formats import png as png_  # noqa: E402
 from exifnorm_pictures.formats.found import Broken, NotRead  # noqa: E402
 from exifnorm_pictures.kept import Entry, digests  # noqa: E402
 from exifnorm_pictures.listing import Field  # noqa: E402
+from exifnorm_pictures.xmp import names as short_names  # noqa: E402
 
 
 # Names of the standards that ExifTool doesn't use: by TIFF 6.0, CIPA DC-008 and IPTC-NAA IIM 4.2.
@@ -47,6 +49,23 @@ STANDARD = {
 }  # fmt: skip
 # The names of ExifTool's tables with these tags, and what is before the number of a tag there.
 GROUPS = {"Exif::Main": ("main", "exif", "interop"), "GPS::Main": ("gps",), "IPTC::EnvelopeRecord": ("1",), "IPTC::ApplicationRecord": ("2",)}
+# A tag of each namespace that ExifTool writes; and those that it doesn't write, by XMP part 1 (8) and 3 (1.1.3.1), and by exiv2's table.
+IN_SPACES = """dc:Title xmp:Label xmpRights:Marked=true xmpMM:DocumentID xmpBJ:JobRefName xmpTPg:NPages=1 xmpMM:DerivedFromDocumentID xmpMM:HistoryAction
+xmpTPg:MaxPageSizeW=1 xmpMM:VersionsVersion mwg-rs:RegionAreaX=1 xmpDM:Album pdf:Keywords photoshop:City crs:Version lr:HierarchicalSubject
+exif:UserComment aux:Lens tiff:Make exifEX:LensMake iptcCore:Location iptcExt:Event plus:ImageCreatorName mwg-kw:HierarchicalKeywords1
+digiKam:TagsList GPano:StitchingSoftware GCamera:BurstID""".split()
+OTHER_SPACES = {"xmpG": "http://ns.adobe.com/xap/1.0/g/", "xmpGImg": "http://ns.adobe.com/xap/1.0/g/img/", "xmpNote": "http://ns.adobe.com/xmp/note/",
+                "xmpidq": "http://ns.adobe.com/xmp/Identifier/qual/1.0/", "MicrosoftPhoto": "http://ns.microsoft.com/photo/1.0/"}  # fmt: skip
+
+
+class Prefixes(WithPictures):
+    @needs("exiftool")
+    def test_each_prefix_is_exiftools_or_the_standards(self):
+        words = [f"-XMP-{it}" if "=" in it else f"-XMP-{it}=a" for it in IN_SPACES]
+        tool(self.folder, "exiftool", "-config", "", "-q", "-q", "-m", *words, "a.xmp")
+        written = dict(re.findall(r"xmlns:([\w-]+)='([^']+)'", read(self.path("a.xmp")).decode()))
+        self.assertEqual(written.pop("x"), "adobe:ns:meta/")
+        self.assertEqual({prefix: uri for uri, prefix in short_names._SPACES.items()}, {**written, **OTHER_SPACES})
 
 
 class Names(unittest.TestCase):
@@ -239,6 +258,8 @@ class Pieces(unittest.TestCase):
         page = report._groups(found)
         self.assertIn(f".. and {20 - report.MOST_OF_GROUP} more pictures, which --json lists", page)
         self.assertIn(f".. and {50 - report.MOST_GROUPS} more groups, which --json lists", page)
+        self.assertEqual([report._more(count, 12, "files") for count in (0, 11, 12)], ["", "", ""])
+        self.assertEqual(report._more(1013, 12, "files"), '<p class="note">.. and 1,001 more files, which --json lists</p>')
 
     def test_its_head(self):
         head = report._head(report.Gathered(total=1234, runs=[("a", "b", "1.1", "2.2"), ("c", "d", "12.57", "0.27")], roots=[b"/<a>"]), 'A "title"')
@@ -304,6 +325,23 @@ class Ended(unittest.TestCase):
             lines = []
             with mock.patch.object(grouping, "same", side_effect=why), mock.patch.object(main.ends, "say", lines.append):
                 self.assertEqual((main._run(["same", "--catalogue", "c"]), lines), (status, [f"exifnorm-pictures: {line}"]))
+
+
+    def test_errors_of_other_packages(self):
+        """Their texts are for people, but only a package that was imported has them: most commands don't need all."""
+        import exifnorm
+
+        for why, line, modules in (
+            (sqlite3.OperationalError("disk I/O error"), "disk I/O error", ()), (exifnorm.LibraryMissing("no library"), "no library", ()),
+            (KeyError("a"), "an internal error, please report it: KeyError: 'a'", ("sqlite3",)),
+            (ValueError("b"), "an internal error, please report it: ValueError: b", ()),
+            (PermissionError(13, "Permission denied", b"/a\xff"), "/a\\xff: permission denied", ("exifnorm", "sqlite3")),
+        ):  # fmt: skip
+            lines = []
+            with mock.patch.dict(sys.modules), mock.patch.object(main.ends, "say", lines.append):
+                for it in modules:
+                    del sys.modules[it]
+                self.assertEqual((main._failed_by(why), lines), (4, [f"exifnorm-pictures: {line}"]))
 
 
 class Mended(WithPictures):

@@ -1,7 +1,9 @@
 """Catalogues that are made row by row, without pictures: how each column is compared, paired and counted."""
 
+import contextlib
 import hashlib
 import os
+import re
 import sys
 import tempfile
 import unittest
@@ -14,7 +16,7 @@ sys.path[:0] = [os.path.join(TOP, "python"), os.path.join(TOP, "tests", "blocks"
 
 import kinds  # noqa: E402
 
-from exifnorm_pictures import changed, groups, report  # noqa: E402
+from exifnorm_pictures import changed, groups, pairing, report  # noqa: E402
 from exifnorm_pictures.catalogue import Catalogue, NoCatalogue  # noqa: E402
 from exifnorm_pictures.formats.found import EXIF, IPTC, NAMES, XMP, NotRead  # noqa: E402
 from exifnorm_pictures.kept import Block, Entry, Stamp  # noqa: E402
@@ -146,6 +148,9 @@ class Tables(WithPictures):
         self.assertEqual(self.compared(before, before)[1], {"same": 2})
         self.assertEqual(self.compared(before, [picture("a"), picture("c", {EXIF: "c"}, root="/c")])[1],
                          {"same": 1, "missing after": 1, "missing before": 1})  # fmt: skip
+        for one, other, counts in ((before, [picture("a", {EXIF: "c"}, number=77, root="/other")], {"missing after": 2, "missing before": 1}),
+                                   ([picture("a", {EXIF: "c"}, number=77, root="/other")], before, {"missing after": 1, "missing before": 2})):  # fmt: skip
+            self.assertEqual(self.compared(one, other)[1], counts)
         self.assertEqual(self.compared([picture("a", root="/")], [picture("a", root="/x")])[1], {"same": 1})
         self.assertEqual(self.compared([], [picture("a")])[1], {"missing before": 1})
         odd = [picture("a\udcff'\n;", root="/\udc80 x'")]
@@ -157,6 +162,27 @@ class Tables(WithPictures):
             both[side].base.execute("UPDATE pictures SET path = CAST(path AS TEXT)")
             with self.assertRaisesRegex(NoCatalogue, f"{side}{side} is damaged"):
                 list(changed.changed(*both, Counter()))
+
+    def test_all_is_read_of_one_moment(self):
+        """What others write meanwhile counts in the next comparison."""
+        sides = [self.catalogue(name, picture("p", number=1)) for name in ("before", "after")]
+        with contextlib.closing(pairing.Pairs(*sides)) as pairs:
+            for it in sides:
+                it.base.execute("UPDATE pictures SET exif = ?", (it.name,))
+                it.put(1, [picture("new", number=2)])
+            self.assertEqual((list(pairs.differing()), list(pairs.came()), pairs.count()), ([], [], 1))
+        with contextlib.closing(pairing.Pairs(*sides)) as pairs:
+            self.assertEqual(([it.name for it in pairs.differing()], list(pairs.came()), pairs.count()), ([b"p"], [], 2))
+
+    def test_an_error_of_sqlite_while_rows_are_paired(self):
+        """It names both catalogues, as either may be damaged."""
+        sides = [self.catalogue(name, picture("p", {EXIF: name})) for name in ("before", "after")]
+        names = f"{re.escape(self.path('before'))} or {re.escape(self.path('after'))}"
+        for call, table in ((lambda it: list(it.differing()), "moved"), (lambda it: list(it.came()), "alone_after"), (pairing.Pairs.count, "chosen")):
+            with contextlib.closing(pairing.Pairs(*sides, only={b"p"})) as pairs:
+                pairs.base.execute(f"DROP TABLE main.{table}")
+                with self.assertRaisesRegex(NoCatalogue, rf"^{names}: no such table: (main\.)?{table}$"):
+                    call(pairs)
 
     def test_groups_and_what_is_in_none(self):
         made = self.catalogue("c", *(picture(it) for it in "abc"), *(picture(it, {**BASE, XMP: "other"}) for it in "de"),
@@ -195,6 +221,254 @@ class Tables(WithPictures):
         self.assertEqual((chosen.total, dict(chosen.causes)), (2, {"Overlap": 1, "DataSetCut": 1}))
 
 
+def with_fields(kind, name, text, fields, by="own"):
+    """An accepted block with these fields, by this program."""
+    return block_of(kind, text)._replace(name=name, extractor=by, kept=packed(fields))
+
+
+def make(text):
+    return Field("main", "010f", "ASCII", 4, f'"{text}"')
+
+
+def note(text):
+    return Field("exif", "927c", "UNDEFINED", 4, text)
+
+
+class Details(WithPictures):
+    """All that is known of a picture that was compared."""
+
+    catalogue = Tables.catalogue
+    maxDiff = None
+
+    def compared(self, before, after):
+        """The result, note and fields of one picture with these blocks, and the results of its kinds."""
+        number = len(os.listdir(self.folder))
+        sides = []
+        for name, blocks in (("before", before), ("after", after)):
+            it = blocks if isinstance(blocks, Entry) else picture("p", number=1)._replace(blocks=tuple(blocks))
+            by = "own" if isinstance(blocks, Entry) or all(one.extractor == "own" for one in it.blocks) else "exiftool"
+            sides.append(self.catalogue(f"{name}{number}", it._replace(extractor=by)))
+        (found,) = changed.changed(*sides, Counter(), every=True)
+        return found.result, found.note, [tuple(it) for it in found.changes], [it.result for it in found.verdicts]
+
+    def test_programs_that_extracted_blocks(self):
+        one, two = with_fields(EXIF, "Exif", "a", [make("a")], "exiv2"), with_fields(IPTC, "IPTC", "b", [make("b")], "exiftool")
+        own, other = with_fields(EXIF, "Exif", "a", [make("a")]), with_fields(IPTC, "IPTC", "c", [make("c")])
+        for before, after, expected in (
+            ([own, two], [own, two], "; extracted by ExifTool"), ([one, two], [own], "; extracted by ExifTool; extracted by exiv2; no IPTC after"),
+            ([own], [one], "; extracted by exiv2"), ([own, other], [own, other], ""), ([own, other], [own, two], "; extracted by ExifTool"),
+        ):  # fmt: skip
+            result, found, _, _ = self.compared(before, after)
+            self.assertEqual("; ".join(["", *found.split("; ")[1:]]) if "; " in found else "", expected, (before, after))
+
+    def test_fields_of_several_blocks(self):
+        first, second = with_fields(EXIF, "Exif", "a", [make("a"), make("z")]), with_fields(EXIF, "second Exif", "b", [make("b")])
+        other = with_fields(EXIF, "second Exif", "c", [make("c"), note("1")])
+        self.assertEqual(self.compared([first, second], [first, other]), (
+            "different", "Exif is different, no IPTC and no XMP",
+            [("second Exif: main:Make", '"b"', '"c"'), ("second Exif: exif:MakerNote", None, "undefined[4] 1")], ["different", "absent", "absent"]))  # fmt: skip
+        self.assertEqual(self.compared([first], [first, second]), (
+            "different", "Exif is different, no IPTC and no XMP; no second Exif before", [("second Exif: main:Make", None, '"b"')],
+            ["different", "absent", "absent"]))  # fmt: skip
+        self.assertEqual(self.compared([first, second], [first])[:3], (
+            "different", "Exif is different, no IPTC and no XMP; no second Exif after", [("second Exif: main:Make", '"b"', None)]))  # fmt: skip
+
+    def test_only_the_maker_note(self):
+        """Of Exif alone, and if nothing else differs."""
+
+        def exif(text, *fields):
+            return with_fields(EXIF, "Exif", text, fields)
+
+        record, other = with_fields(IPTC, "IPTC", "b", [make("b")]), with_fields(IPTC, "IPTC", "c", [make("c")])
+        one, two, three = exif("1", make("a"), note("1")), exif("2", make("a"), note("2")), exif("3", make("b"), note("2"))
+        only, different = "only MakerNote differs", "different"
+        for before, after, expected in (
+            ([one], [two], only), ([one, record], [two, record], only), ([one], [three], different), ([one, record], [two, other], different),
+            ([one], [exif("4", make("a"))], only), ([one, record], [two], different), ([one], [], different), ([exif("5", make("a"))], [exif("6", make("a"))], different),
+            ([one, record], [two, block_of(IPTC, "!DataSetCut")], only),
+        ):  # fmt: skip
+            self.assertEqual(self.compared(before, after)[0], expected, (before, after))
+        refused = "Exif is different, IPTC is refused, no XMP; IPTC: before accepted, after DataSetCut at 7"
+        self.assertEqual(self.compared([one, record], [two, block_of(IPTC, "!DataSetCut")])[1], refused)
+
+    def test_refused_blocks(self):
+        bad, worse, good = block_of(EXIF, "!Overlap"), block_of(EXIF, "!Doubled")._replace(place=None), with_fields(EXIF, "Exif", "a", [make("a")])
+        for before, after, expected in (
+            ([bad], [worse], "Exif is refused, no IPTC and no XMP; Exif: before Overlap at 7, after Doubled"),
+            ([bad], [bad], "Exif is refused in the same bytes, no IPTC and no XMP; Exif: Overlap at 7"),
+            ([good], [bad], "Exif is refused, no IPTC and no XMP; Exif: before accepted, after Overlap at 7"),
+            ([], [bad], "Exif is refused, no IPTC and no XMP; Exif: after Overlap at 7"), ([bad], [], "Exif is refused, no IPTC and no XMP; Exif: before Overlap at 7"),
+        ):  # fmt: skip
+            self.assertEqual(self.compared(before, after)[1], expected)
+
+    def test_files_with_a_problem(self):
+        none, bad, good = picture("p", problem="NoPicture"), picture("p", problem="Unreadable"), picture("p")
+        for before, after, expected in (
+            (none, none, ("same", "no picture")), (none, bad, ("not read", "before: NoPicture, after: Unreadable")), (good, bad, ("not read", "after: Unreadable")),
+            (bad, good, ("not read", "before: Unreadable")), (bad, bad, ("not read", "before: Unreadable, after: Unreadable")),
+        ):  # fmt: skip
+            self.assertEqual(self.compared(before, after), (*expected, [], []))
+
+
+class Reported(WithPictures):
+    """A report of two catalogues, as wholes."""
+
+    alone = True  # it replaces limits
+    catalogue = Tables.catalogue
+    maxDiff = None
+
+    def setUp(self):
+        super().setUp()
+        old = [picture(it) for it in ("b1", "b2", "different", "gone", "moves")]
+        now = [picture("b1", {**BASE, EXIF: "B"}), picture("b2", {**BASE, EXIF: "B"}), picture("different", {**BASE, EXIF: "D", IPTC: "!DataSetCut"}),
+               picture("x/moves", number=int(digest("moves")[:8], 16)), picture("no", problem="NoPicture"), picture("new"),
+               picture("r\udcff", {EXIF: "!Overlap", XMP: "!NoRDF"}, [UNKNOWN, NotRead("a chunk", "3" * 64)]), picture("u", problem="Unreadable"),
+               picture("zero", {}), picture("part", {EXIF: "P"}, [KNOWN])]  # fmt: skip
+        made = self.catalogue("now", *now)
+        made.set_versions(1, "12.57", "0.27.6")
+        made.end_run(1, "2000-01-01T00:00:09Z")
+        self.about = report.About(made, self.catalogue("old", *old))
+
+    def test_a_page(self):
+        found = report.gather(self.about)
+        same = "Exif, IPTC and XMP are the same in the same bytes"
+        self.assertEqual(vars(found) | {"problems": [it.path for it in found.problems], "changed": [vars(it) for it in found.changed]}, {
+            "total": 10, "states": {"accepted": 5, "refused": 2, "NoPicture": 1, "Unreadable": 1, "no block": 1},
+            "causes": {"DataSetCut": 1, "Overlap": 1, "NoRDF": 1},
+            "refused": {"DataSetCut": [report.Refused(b"/a/different", IPTC, "IPTC", "DataSetCut", 7)],
+                        "Overlap": [report.Refused(b"/a/r\xff", EXIF, "Exif", "Overlap", 7)],
+                        "NoRDF": [report.Refused(b"/a/r\xff", XMP, "XMP", "NoRDF", 7)]},
+            "parts": {"trailer": 2, "a chunk": 1}, "unread": 2, "problems": [b"/a/u", b"/a/no"], "all_problems": 2,
+            "groups": [(2, same, [b"/a/b1", b"/a/b2"]), (2, same, [b"/a/new", b"/a/x/moves"])], "all_groups": (2, 4),
+            "results": {"different": 3, "missing after": 1, "moved": 1, "missing before": 6},
+            "changed": [
+                {"result": "different", "note": "IPTC and XMP are the same, Exif is different", "lines": [["main:Make", '"e"', '"B"']], "count": 2,
+                 "names": [b"b1", b"b2"]},
+                {"result": "different", "note": "XMP is the same, Exif is different, IPTC is refused; IPTC: before accepted, after DataSetCut at 7",
+                 "lines": [["main:Make", '"e"', '"D"']], "count": 1, "names": [b"different"]},
+                {"result": "moved", "note": "to x/moves", "lines": [], "count": 1, "names": [b"moves"]},
+                {"result": "missing before", "note": "", "lines": [], "count": 6, "names": [b"new", b"no", b"part", b"r\xff", b"u", b"zero"]},
+                {"result": "missing after", "note": "", "lines": [], "count": 1, "names": [b"gone"]},
+            ],
+            "all_changed": 5, "fields": {"main:Make": 3}, "since": True, "runs": [("2000-01-01T00:00:00Z", "2000-01-01T00:00:09Z", "12.57", "0.27.6")],
+            "roots": [b"/a"]})  # fmt: skip
+
+    def test_objects(self):
+        self.assertEqual(list(report.members(self.about)), [
+            {"pictures": 10, "states": {"accepted": 5, "refused": 2, "NoPicture": 1, "Unreadable": 1, "no block": 1},
+             "causes": {"DataSetCut": 1, "Overlap": 1, "NoRDF": 1}},
+            *({"same": [{"path": one}, {"path": other}], "said": "Exif, IPTC and XMP are the same in the same bytes", "same_bytes": True, "wholly_read": True}
+              for one, other in (("/a/b1", "/a/b2"), ("/a/new", "/a/x/moves"))),
+            *({"changed": {"path": it}, "result": "different", "note": "IPTC and XMP are the same, Exif is different",
+               "fields": [{"name": "main:Make", "before": '"e"', "after": '"B"'}]} for it in ("b1", "b2")),
+            {"changed": {"path": "different"}, "result": "different",
+             "note": "XMP is the same, Exif is different, IPTC is refused; IPTC: before accepted, after DataSetCut at 7",
+             "fields": [{"name": "main:Make", "before": '"e"', "after": '"D"'}]},
+            {"changed": {"path": "gone"}, "result": "missing after", "note": "", "fields": []},
+            {"changed": {"path": "moves"}, "result": "moved", "note": "", "moved_to": {"path": "x/moves"}, "fields": []},
+            *({"changed": {"path": it}, "result": "missing before", "note": "", "fields": []} for it in ("new", "no", "part")),
+            {"changed": {"path": "r\\xff", "path_hex": "72ff"}, "result": "missing before", "note": "", "fields": []},
+            *({"changed": {"path": it}, "result": "missing before", "note": "", "fields": []} for it in ("u", "zero")),
+            {"results": {"different": 3, "missing after": 1, "moved": 1, "missing before": 6}, "fields": {"main:Make": 3}},
+            {"refused": {"path": "/a/different"}, "kind": "iptc", "name": "IPTC", "cause": "DataSetCut", "refusal": "DataSetCut at 7"},
+            {"refused": {"path": "/a/r\\xff", "path_hex": "2f612f72ff"}, "kind": "exif", "name": "Exif", "cause": "Overlap", "refusal": "Overlap at 7"},
+            {"refused": {"path": "/a/r\\xff", "path_hex": "2f612f72ff"}, "kind": "xmp", "name": "XMP", "cause": "NoRDF", "refusal": "NoRDF at 7"},
+            {"problem": "NoPicture", "path": "/a/no", "detail": "why"}, {"not_read": ["trailer"], "path": "/a/part"},
+            {"not_read": ["trailer", "a chunk"], "path": "/a/r\\xff", "path_hex": "2f612f72ff"},
+            {"problem": "Unreadable", "path": "/a/u", "detail": "why"},
+        ])  # fmt: skip
+
+    def test_chosen_pictures(self):
+        """Their counts, groups, refusals and unread parts alone."""
+        about = report.About(self.about.catalogue, None, {b"/a/b1", b"/a/b2", b"/a/new", b"/a/r\xff", b"/a/no"})
+        found = report.gather(about)
+        self.assertEqual((found.total, dict(found.causes), dict(found.parts), found.unread, found.all_groups, found.all_problems, found.since),
+                         (5, {"Overlap": 1, "NoRDF": 1}, {"trailer": 1, "a chunk": 1}, 1, (1, 2), 1, False))  # fmt: skip
+        kinds = [next(iter(it)) for it in report.members(about)]
+        self.assertEqual(kinds, ["pictures", "same", "refused", "refused", "problem", "not_read"])
+        self.assertEqual(next(report.members(about))["pictures"], 5)
+
+    def test_the_first_of_each_list(self):
+        """Pictures that can't be read come before those that are none."""
+        rows = [picture(f"n{it}", problem="NoPicture") for it in range(3)] + [picture(f"u{it}", problem="Unreadable") for it in range(3)]
+        rows += [picture(f"o{it}", {EXIF: "!Overlap"}) for it in range(3)] + [picture(f"g{it}{more}", {EXIF: f"g{it}"}) for it in range(3) for more in "abc"]
+        old = [picture(f"g{it}{more}", {EXIF: f"old{it}"}) for it in range(3) for more in "abc"]
+        limits = {"MOST_CHANGES": 2, "MOST_REFUSED": 2, "MOST_GROUPS": 2, "MOST_OF_GROUP": 2, "MOST_NAMES": 2}
+        with mock.patch.multiple(report, **limits):
+            found = report.gather(report.About(self.catalogue("many", *rows), self.catalogue("before", *old)))
+        self.assertEqual(([it.path for it in found.problems], found.all_problems), ([b"/a/u0", b"/a/u1"], 6))
+        self.assertEqual(([it.path for it in found.refused["Overlap"]], dict(found.causes)), ([b"/a/o0", b"/a/o1"], {"Overlap": 3}))
+        self.assertEqual(([it[::2] for it in found.groups], found.all_groups), ([(3, [b"/a/g0a", b"/a/g0b"]), (3, [b"/a/g1a", b"/a/g1b"])], (3, 9)))
+        self.assertEqual(([(it.count, it.names) for it in found.changed], found.all_changed), ([(3, [b"g0a", b"g0b"]), (3, [b"g1a", b"g1b"])], 4))
+        with mock.patch.multiple(report, **limits, MOST_FIELDS=2):
+            self.assertEqual([it.path for it in report.gather(report.About(self.catalogue("few", *rows[:4]))).problems], [b"/a/u0", b"/a/n0"])
+
+
+# The tables, each with its columns: the name, the type, whether it must have a value, and its number in the primary key
+COLUMNS = {
+    "runs": "id INTEGER 0 1, started TEXT 1 0, ended TEXT 0 0, exiftool TEXT 0 0, exiv2 TEXT 0 0",
+    "pictures": "id INTEGER 0 1, path BLOB 1 0, root BLOB 1 0, size INTEGER 0 0, modified INTEGER 0 0, changed INTEGER 0 0, inode INTEGER 0 0,"
+                " type TEXT 1 0, extractor TEXT 1 0, problem TEXT 0 0, detail TEXT 1 0, exif TEXT 0 0, iptc TEXT 0 0, xmp TEXT 0 0, not_read TEXT 0 0,"
+                " exif_octets TEXT 1 0, iptc_octets TEXT 1 0, xmp_octets TEXT 1 0, run INTEGER 1 0",
+    "blocks": "picture INTEGER 1 1, number INTEGER 1 2, kind TEXT 1 0, name TEXT 1 0, source TEXT 1 0, extractor TEXT 1 0, status TEXT 1 0,"
+              " digest TEXT 0 0, cause TEXT 0 0, place INTEGER 0 0, length INTEGER 1 0, octets TEXT 1 0, fields BLOB 0 0",
+    "not_read": "picture INTEGER 1 1, number INTEGER 1 2, what TEXT 1 0, digest TEXT 1 0",
+}  # fmt: skip
+
+
+class File(WithPictures):
+    """The catalogue as a file of SQLite."""
+
+    def test_tables(self):
+        with Catalogue(self.path("c"), make=True) as made:
+            for table, columns in COLUMNS.items():
+                found = [f"{name} {kind} {needed} {key}" for _, name, kind, needed, _, key in made.base.execute(f"PRAGMA table_info({table})")]
+                self.assertEqual(found, columns.split(", "))
+            texts = {name: " ".join(text.split()) for name, text in made.base.execute("SELECT name, sql FROM sqlite_master WHERE sql IS NOT NULL")}
+            self.assertEqual(set(texts), {*COLUMNS, "pictures_by_content"})
+            self.assertEqual(texts["pictures_by_content"],
+                             "CREATE INDEX pictures_by_content ON pictures (exif, iptc, xmp, not_read) WHERE problem IS NULL")  # fmt: skip
+            for name in ("blocks", "not_read"):
+                self.assertIn("picture INTEGER NOT NULL REFERENCES pictures(id) ON DELETE CASCADE,", texts[name])
+                self.assertTrue(texts[name].endswith(" PRIMARY KEY (picture, number) ) WITHOUT ROWID"), name)
+            self.assertIn("path BLOB NOT NULL UNIQUE,", texts["pictures"])
+            self.assertTrue(texts["pictures"].endswith("run INTEGER NOT NULL REFERENCES runs(id) )"))
+
+    def settings(self, made):
+        names = ("application_id", "user_version", "foreign_keys", "journal_mode", "synchronous", "cache_size", "busy_timeout")
+        return [made.base.execute(f"PRAGMA {it}").fetchone()[0] for it in names]
+
+    def test_settings(self):
+        """A write-ahead log, of which each transaction is on the disk before it counts; when it is closed, all is in one file."""
+        name = self.path("a b?c=%41#")
+        with Catalogue(name, make=True) as made:
+            self.assertEqual(self.settings(made), [0x45584E50, 2, 1, "wal", 2, -32000, 60_000])
+            made.begin_run("2000-01-01T00:00:00Z")
+            self.assertEqual(sorted(os.listdir(self.folder)), sorted(os.path.basename(name) + it for it in ("", "-shm", "-wal")))
+        with open(name, "rb") as file:
+            head = file.read(100)
+        self.assertEqual((head[18:20], head[60:64], head[68:72], os.listdir(self.folder)), (b"\1\1", b"\0\0\0\2", b"EXNP", [os.path.basename(name)]))
+        with Catalogue(name) as made:
+            self.assertEqual(self.settings(made)[:4] + self.settings(made)[6:], [0x45584E50, 2, 1, "delete", 60_000])
+            with self.assertRaisesRegex(NoCatalogue, "attempt to write a readonly database$"):
+                made.begin_run("2000-01-01T00:00:00Z")
+        with Catalogue(name, make=True) as made:
+            self.assertEqual(made.runs(), [("2000-01-01T00:00:00Z", None, None, None)])
+
+    def test_one_that_others_read_is_closed_soon(self):
+        with Catalogue(self.path("c"), make=True) as made:
+            made.begin_run("2000-01-01T00:00:00Z")
+            other = Catalogue(self.path("c"))
+            self.addCleanup(other.close)
+            with other.reading():
+                self.assertEqual(len(other.runs()), 1)
+                statements = []
+                made.base.set_trace_callback(statements.append)
+                made.close()
+        self.assertEqual(statements, ["PRAGMA busy_timeout = 200", "PRAGMA journal_mode = DELETE"])
+        self.assertIn("c-wal", os.listdir(self.folder))
+
+
 class Marks(WithPictures):
     def test_a_file_that_is_written_to_meanwhile(self):
         """It has no marks in the catalogue, so that the next run looks at it again."""
@@ -228,6 +502,8 @@ class Marks(WithPictures):
 
 class Remedies(WithPictures):
     """Which remedy `mend` takes, by what each one loses and adds; here each writes some lines as its printed values."""
+
+    alone = True  # it replaces functions that other tests call
 
     def best(self, **made):
         from exifnorm_pictures import mend

@@ -56,6 +56,15 @@ class Packets(unittest.TestCase):
         for inside in ("<xmp:s rdf:parseType='Resource'><xmp:b>2</xmp:b><xmp:a>1</xmp:a></xmp:s>", "<xmp:s xmp:a='1' xmp:b='2'/>"):
             self.assertEqual(said(xmp(inside)), said(one))
 
+    def test_descriptions_of_one_subject(self):
+        """Several descriptions in a packet are of the same picture, named or not (XMP part 1, 7.4); with two names they are of two."""
+        both = said(xmp("<dc:title>two</dc:title><dc:format>one</dc:format>"))
+        none, one, other = " rdf:about=''", " rdf:about='u:1'", " rdf:about='u:2'"
+        for first, second, expected in ((one, "", both), ("", one, both), (none, one, both), (one, one, both), ("", "", both), (one, other, None)):
+            packet = (f"<rdf:RDF {SPACES}><rdf:Description{first}><dc:format>one</dc:format></rdf:Description>"
+                      f"<rdf:Description{second}><dc:title>two</dc:title></rdf:Description></rdf:RDF>").encode()  # fmt: skip
+            self.assertEqual((cause(packet), expected and said(packet)), (None, expected) if expected else ("SeveralSubjects", None))
+
     def test_what_means_something(self):
         packets_ = [
             title("one"), title("One"), title(" one"), xmp("<dc:title>one</dc:title>"), xmp("<xmp:format>one</xmp:format>"),
@@ -76,10 +85,33 @@ class Packets(unittest.TestCase):
             "<xmp:d><rdf:Description rdf:about='http://x/' xmp:a='7'/></xmp:d>", "<xmp:d><rdf:Description rdf:about='' xmp:a='7'/></xmp:d>",
             "<xmp:d rdf:parseType='Literal'>1</xmp:d>", "<xmp:d rdf:nodeID='n'/>", "<xmp:d rdf:datatype='http://t/'>1</xmp:d>", "text",
             "<xmp:d rdf:resource='relative'/>", "<xmp:d><rdf:Description/>text</xmp:d>", "<xmp:d xml:lang='!'>1</xmp:d>",
+            *(f"<xmp:d rdf:resource='{it}'/>" for it in ("http://x/ y", "http://x/&lt;y&gt;", "http://x/\\", "http://x/^", "1:x", "-a:x", ":x", "a_b:x", "")),
+            *(f"<xmp:d xml:lang='{it}'>1</xmp:d>" for it in ("en_US", "123", "abcdefghi", "en-", "-en", "en--us", "en-abcdefghi", "d\u00e9")),
             "<dc:format>one</dc:format>text", "<xmp:d><rdf:Bag><rdf:li>1</rdf:li>text</rdf:Bag></xmp:d>",
         ):  # fmt: skip
             with self.assertRaises(reader.Unusual, msg=inside):
                 reader.statements(rdf.rdf_of(xmp(inside)))
+
+    def test_usual_forms_are_read_without_rdflib(self):
+        """URIs (RFC 3986, 3 and 4.3) and languages (RFC 5646, 2.1) of any kind, in the nodes that writers use."""
+        from exifnorm_pictures.xmp import packets as rdf, reader, tree
+
+        def value(inside):
+            (found,) = reader.statements(rdf.rdf_of(xmp(inside)))
+            return found.value
+
+        for uri in ("http://x/", "HTTP://x/%20?a=b#c", "urn:uuid:1-2", "a1+.-b:", "mailto:a@b"):
+            self.assertEqual(value(f"<xmp:d rdf:resource='{uri}'/>"), tree.Resource(uri))
+        for language in ("", "x-default", "i-klingon", "a", "de", "DE-de-1996", "zh-Hant", "abcdefgh-12345678"):
+            self.assertEqual(value(f"<xmp:d xml:lang='{language}'>1</xmp:d>"), tree.Literal("1", language.lower()))
+        for kind in ("Bag", "Seq", "Alt"):
+            expected = [tree.Statement(tree.TYPE, tree.Resource(tree.RDF + kind)), tree.Statement(tree.RDF + "_1", tree.Literal("1"))]
+            self.assertEqual(value(f"<xmp:d>\n <rdf:{kind}> <rdf:li>1</rdf:li>\t</rdf:{kind}>\n</xmp:d>"), tree.Node(tuple(expected)))
+        (typed,) = value("<xmp:d><rdf:Description rdf:type='http://t/'/></xmp:d>").statements
+        self.assertEqual(typed, tree.Statement(tree.TYPE, tree.Resource("http://t/")))  # RDF/XML, 7.2.11: the URI of a type
+        inner = "<rdf:Description xml:lang='de'><xmp:a xml:lang=''>1</xmp:a><xmp:b>2</xmp:b></rdf:Description>"
+        (one, two) = value(f"<xmp:d xml:lang='en'>{inner}</xmp:d>").statements
+        self.assertEqual((one.value, two.value), (tree.Literal("1"), tree.Literal("2", "de")))
 
     def test_how_deep_elements_may_be_nested(self):
         """Arrays in arrays: 100 elements that are nested in one another are read, 102 are not."""
@@ -97,6 +129,7 @@ class Packets(unittest.TestCase):
         asking = xmp("<dc:format>one</dc:format>", f"note:HasExtendedXMP='{name}'")
         both = xmp("<dc:title>two</dc:title><dc:format>one</dc:format>")
         self.assertEqual(said(asking, {name: more}), said(both))
+        self.assertEqual(said(asking.replace(name.encode(), name.lower().encode()), {name: more}), said(both))  # RFC 4648, 8: in letters of either kind
         self.assertEqual(cause(asking), "ExtensionMissing")
         self.assertEqual(cause(asking, {name: more + b" "}), "ExtensionDamaged")
 

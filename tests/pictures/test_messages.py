@@ -1,0 +1,499 @@
+"""Arguments, progress and messages, written out here: whole texts of the command line."""
+
+import argparse
+import contextlib
+import io
+import json
+import os
+import re
+import shutil
+import sqlite3
+import sys
+import unittest
+from types import SimpleNamespace
+from unittest import mock
+
+from studio import TOP, WithPictures, read, write
+
+sys.path.insert(0, os.path.join(TOP, "python"))
+
+from exifnorm_pictures import (  # noqa: E402
+    archives, arguments, ends, extraction, kept, lines, looking, main, merge, processes, progress, report, session, states, tools, walk, writing, xmp,
+)  # fmt: skip
+from exifnorm_pictures.batches import How  # noqa: E402
+from exifnorm_pictures.blocks import Block  # noqa: E402
+from exifnorm_pictures.catalogue import Catalogue, NoCatalogue  # noqa: E402
+from exifnorm_pictures.formats.found import PROBLEMS, NotRead  # noqa: E402
+from exifnorm_pictures.kept import Entry, Stamp  # noqa: E402
+from exifnorm_pictures.walk import Found  # noqa: E402
+
+DESCRIPTION = (
+    "Compares the Exif, IPTC and XMP metadata of many pictures: finds pictures that mean the same, lists changed pictures with their fields,"
+    " and explains and mends refused ones."
+)
+END = """Statuses:
+  0    success (index: also if pictures are refused, which the catalogue records)
+  1    different (changed: something differs, was moved or is missing; mend: the copy differs in a printed value)
+  2    not comparable (changed, show, captions, explain: a block is refused or unreadable, or a part of a picture wasn't
+       read; mend: no remedy worked)
+  3    bad arguments
+  4    a file, a folder, a program, a stream or the catalogue failed; the other pictures were still looked at
+  130  stopped by the keyboard; reported results are kept, and the same command continues from there
+If several apply, the status is the greatest of them. SIGTERM and SIGHUP end the command by that signal.
+
+A file that can't be read, is gone, is no picture or has no block is reported in a line, and the other files are still looked
+at. In names, control characters and undecodable bytes are escaped. With --json each line is one object; it has the name as
+"path", and also as "path_hex" if the name is no UTF-8.
+
+Two Exif blocks, or two IPTC records, mean the same if their normal forms are equal, which is proved. XMP is compared by its
+statements, which is tested, and not proved. ExifTool reads the formats that have no reader here (Debian: libimage-exiftool-perl)."""
+
+# Each command: what it does, and its arguments with their help, in order. `!` marks one that is required.
+COMMON = ["--json", "print one JSON object for each line"]
+LISTS = ["--files-from LIST", "read names from the file LIST, - for standard input: one for each line",
+         "-0 --null", "the names in LIST end with NUL, as from find -print0"]  # fmt: skip
+LIMIT = ["--limit SECONDS", "time limit of ExifTool for a file (60)"]
+LOOKING = [*LIMIT, "--whole", "read every byte of a JPEG, not only its head and tail"]
+MANY = [*LOOKING, "--jobs N", "processes that look at pictures (as many as processors)", "--quiet", "no progress on standard error"]
+PICTURES = ["PICTURE *", None, "--block", "each PICTURE is a block that was extracted before", *LOOKING, *COMMON, *LISTS]
+COMMANDS = {
+    "index": ("look at all new and changed pictures, and keep their metadata in a catalogue", [
+        "FOLDER *", "a folder, with all below it, or a picture", "--catalogue FILE !", "the catalogue; created if it is missing",
+        "--keep-old OLD", "first copy the catalogue to OLD, for changed and report --since",
+        "--again", "look at all pictures, even if they haven't changed",
+        "--scheduler tcp://HOST:PORT", "look at the pictures on the workers of this Dask cluster",
+        "--elsewhere PATH", "the path of FOLDER on the workers", *MANY, *COMMON, *LISTS]),
+    "merge": ("join catalogues of several folders or machines", [
+        "CATALOGUE + !", "a catalogue; the last one with a picture counts",
+        "--catalogue ALL !", "the catalogue to write; created if it is missing", *COMMON]),
+    "same": ("list groups of pictures that mean the same", [
+        "--catalogue FILE !", None, "--kind {all,exif,iptc,xmp}", "the blocks that must mean the same (all)", *COMMON, *LISTS]),
+    "changed": ("list the differences between two catalogues or folders, with the fields", [
+        "BEFORE !", "a catalogue or a folder", "AFTER !", "a catalogue or a folder",
+        "--all", "also list pictures that mean the same, or are refused in the same bytes", *MANY, *COMMON, *LISTS]),
+    "show": ("print the fields of pictures", PICTURES),
+    "captions": ("print captions, names, keywords and rights of pictures", PICTURES),
+    "explain": ("explain why a block is refused, and name remedies", PICTURES),
+    "report": ("write one page about a catalogue", [
+        "--catalogue FILE !", None, "--since OLD", "an older catalogue: also list the changes", "--html PAGE", "the page to write",
+        "--title", "the page's title", *LIMIT, *COMMON, *LISTS]),
+    "mend": ("write a copy of a picture whose block is accepted", [
+        "PICTURE OUT + !", "the picture and the copy; with --files-from only a folder OUT", *LIMIT, *COMMON, *LISTS]),
+}  # fmt: skip
+
+# The values of the arguments of the shortest calls.
+DEFAULTS = {"version": None, "json": False, "files_from": None, "null": False}
+LOOKED = {"limit": 60.0, "whole": False}
+ALL_OF_THEM = {**LOOKED, "jobs": 0, "quiet": False}
+SHORTEST = {
+    "index --catalogue c": {"folders": [], "catalogue": "c", "keep_old": None, "again": False, "scheduler": None, "elsewhere": None, **ALL_OF_THEM},
+    "same --catalogue c": {"catalogue": "c", "kind": "all"},
+    "changed a b": {"before": "a", "after": "b", "all": False, **ALL_OF_THEM},
+    "show": {"pictures": [], "block": False, **LOOKED},
+    "report --catalogue c": {"catalogue": "c", "since": None, "html": None, "title": "Pictures and their metadata", "limit": 60.0},
+    "mend a": {"names": ["a"], "limit": 60.0},
+}
+
+
+def rows(parser):
+    """The arguments of a command and their help."""
+    for it in parser._actions:
+        if it.dest != "help":
+            words = [*it.option_strings, it.metavar or (f"{{{','.join(it.choices)}}}" if it.choices else ""), str(it.nargs or "") if it.nargs != 0 else ""]
+            yield from (" ".join([*filter(None, words), *["!"] * (it.required and it.nargs != "*")]), it.help)
+
+
+class CommandLine(unittest.TestCase):
+    alone = True  # it replaces standard error
+    maxDiff = None
+
+    def test_all_of_them(self):
+        """With all texts of --help."""
+        whole = arguments.parser()
+        self.assertEqual((whole.prog, whole.description, whole.epilog), ("exifnorm-pictures", DESCRIPTION, END))
+        commands = whole._subparsers._group_actions[0]
+        self.assertEqual([(it.dest, it.help) for it in commands._choices_actions], [(name, does) for name, (does, _) in COMMANDS.items()])
+        for name, (does, expected) in COMMANDS.items():
+            it = commands.choices[name]
+            self.assertEqual((it.description, it.epilog), (does[0].upper() + does[1:] + ".", END), name)
+            self.assertIn(END, it.format_help(), "its lines stay as they are")
+            self.assertEqual(list(rows(it)), expected, name)
+        self.assertIn(f"{END}\n", whole.format_help())
+        self.assertEqual([it.help for it in whole._actions if it.option_strings == ["--version"]], ["the version"])
+
+    def test_their_values(self):
+        for words, expected in SHORTEST.items():
+            found = vars(arguments.parser().parse_args(words.split()))
+            self.assertEqual(found, {"command": words.split()[0], **DEFAULTS, **expected})
+        self.assertEqual(vars(arguments.parser().parse_args(["merge", "a", "b", "--catalogue", "c"])),
+                         {"command": "merge", "catalogues": ["a", "b"], "catalogue": "c", "version": None, "json": False})  # fmt: skip
+        given = "index f g --catalogue c --keep-old o --again --scheduler s --elsewhere e --limit 0.5 --whole --jobs 1 --quiet --json --files-from - -0"
+        expected = {"command": "index", "folders": ["f", "g"], "catalogue": "c", "keep_old": "o", "again": True, "scheduler": "s", "elsewhere": "e",
+                    "limit": 0.5, "whole": True, "jobs": 1, "quiet": True, "json": True, "files_from": "-", "null": True, "version": None}  # fmt: skip
+        self.assertEqual(vars(arguments.parser().parse_args(given.split())), expected)
+
+    def refused(self, *words):
+        """What is printed about refused arguments, and the status."""
+        with contextlib.redirect_stderr(io.StringIO()) as printed, self.assertRaises(SystemExit) as ended:
+            arguments.parser().parse_args(words)
+        usage, last = re.fullmatch(r"(?s)usage: (exifnorm-pictures[ \w]*).*\n(.*)\n", printed.getvalue()).groups()
+        self.assertEqual((ended.exception.code, last.partition(":")[0]), (3, usage.strip()))
+        return last.partition(": ")[2]
+
+    def test_what_is_refused(self):
+        for words, message in (
+            (("changed", "a", "b", "--jobs", "0"), "argument --jobs: 0 is less than 1"),
+            (("changed", "a", "b", "--jobs=-1"), "argument --jobs: -1 is less than 1"),
+            (("mend", "a", "b", "--limit", "0"), "argument --limit: 0 is no number of seconds"),
+            (("mend", "a", "b", "--limit", "1e6"), "argument --limit: 1e6 is no number of seconds"),
+            (("mend", "a", "b", "--limit", "nan"), "argument --limit: nan is no number of seconds"),
+            (("mend", "a", ""), "argument PICTURE OUT: a name is empty"),
+            (("changed", "", "b"), "argument BEFORE: a name is empty"),
+            (("changed", "a", "b\0"), "argument AFTER: a name is empty"),
+            (("show", ""), "argument PICTURE: a name is empty"),
+            (("merge", "", "--catalogue", "c"), "argument CATALOGUE: a name is empty"),
+            (("index", "", "--catalogue", "c"), "argument FOLDER: a name is empty"),
+            *((("index", f"--{it}", ""), f"argument --{it}: a name is empty") for it in ("catalogue", "keep-old", "elsewhere")),
+            *((("report", f"--{it}", ""), f"argument --{it}: a name is empty") for it in ("catalogue", "since", "html")),
+            (("same", "--catalogue", ""), "argument --catalogue: a name is empty"),
+            (("merge", "a", "--catalogue", ""), "argument --catalogue: a name is empty"),
+        ):  # fmt: skip
+            self.assertEqual(self.refused(*words), message, words)
+        self.assertEqual(arguments.parser().parse_args(["mend", "a", "b", "--limit", "999999"]).limit, 999999.0)
+
+
+class Stream(io.StringIO):
+    """Standard error, on a terminal or elsewhere; it can be closed by its reader."""
+
+    def __init__(self, on_terminal=False):
+        super().__init__()
+        self.on_terminal, self.has_reader, self.flushed = on_terminal, True, 0
+
+    def isatty(self):
+        return self.on_terminal
+
+    def write(self, text):
+        if not self.has_reader:
+            raise BrokenPipeError(32, "Broken pipe")
+        return super().write(text)
+
+    def flush(self):
+        self.flushed += 1
+
+
+class Progress(unittest.TestCase):
+    alone = True  # it replaces the clock
+
+    def shown(self, stream, steps, total=3000, **more):
+        """What is printed of some counts, each at its time after the beginning."""
+        with mock.patch.object(progress.time, "monotonic", lambda: 100.0):
+            it = progress.Progress(total, stream, **more)
+        for seconds, count in steps:
+            with mock.patch.object(progress.time, "monotonic", lambda seconds=seconds: 100.0 + seconds):
+                it.done(count)
+        return stream.getvalue()
+
+    def test_lines(self):
+        """At most one a second, and the last one."""
+        steps = [(1.0, 10), (1.9, 20), (2.0, 500), (2.9, 600), (4.0, 2000), (4.1, 3000)]
+        self.assertEqual(self.shown(Stream(), steps),
+                         "10 of 3000 pictures, 10 a second, 4 min 59 s left\n500 of 3000 pictures, 250 a second, 10 s left\n"
+                         "2000 of 3000 pictures, 500 a second, 2 s left\n3000 of 3000 pictures, 732 a second\n")  # fmt: skip
+
+    def test_a_line_that_changes(self):
+        """On a terminal five times a second; the end of the line comes with the last one."""
+        stream = Stream(on_terminal=True)
+        steps = [(1.0, 0), (1.19, 20), (1.2001, 600), (10000.0, 3000)]
+        self.assertEqual(self.shown(stream, steps), "\r\x1b[K0 of 3000 pictures, 0 a second\r\x1b[K600 of 3000 pictures, 500 a second, 5 s left"
+                                                    "\r\x1b[K3000 of 3000 pictures, 0 a second\n")  # fmt: skip
+        self.assertEqual(stream.flushed, 3)
+
+    def test_nothing(self):
+        self.assertEqual(self.shown(Stream(), [(5.0, 10)], quiet=True), "")
+        self.assertEqual(self.shown(Stream(), [(5.0, 0)], total=0), "")
+        self.assertEqual(self.shown(Stream(), [(0.0, 3000)]), "3000 of 3000 pictures, 3000000 a second\n")
+
+    def test_a_reader_that_has_gone(self):
+        stream = Stream()
+        stream.has_reader = False
+        with mock.patch.object(progress, "drop") as dropped:
+            it = progress.Progress(2, stream)
+            it.done(2)
+            stream.has_reader = True
+            it.done(2)
+        self.assertEqual((stream.getvalue(), dropped.mock_calls), ("", [mock.call(stream)]))
+        with contextlib.redirect_stderr(Stream()) as stderr:
+            progress.Progress(1).done(1)
+        self.assertRegex(stderr.getvalue(), r"^1 of 1 pictures, \d+ a second\n$")
+
+
+def header(version, application=0x45584E50, start=b"SQLite format 3\0"):
+    """The first 100 bytes of a SQLite file (its documentation, 1.3)."""
+    return start.ljust(60, b"\0") + version.to_bytes(4, "big") + bytes(4) + application.to_bytes(4, "big") + bytes(28)
+
+
+EARLIER = (" is a catalogue of an earlier release (version 1, here 2), whose answers were about fewer blocks. Make a new one: exifnorm-pictures"
+           " index FOLDER --catalogue NEW")  # fmt: skip
+
+
+class Messages(WithPictures):
+    """The texts of errors."""
+
+    alone = True  # it replaces functions that other tests call
+
+    def raised(self, kind, call, *words):
+        with self.assertRaises(kind) as caught:
+            call(*words)
+        return str(caught.exception)
+
+    def test_of_catalogues(self):
+        name = self.path("c")
+        self.assertEqual(self.raised(NoCatalogue, Catalogue, ""), "the catalogue's name is empty")
+        self.assertEqual(self.raised(NoCatalogue, Catalogue, name), f"there is no catalogue {name}")
+        self.assertEqual(self.raised(NoCatalogue, Catalogue, self.folder), f"{self.folder} is no catalogue: it is no regular file")
+        other = f"{name} is no catalogue"
+        for octets, text in ((b"", other), (b"abc", other), (header(1), name + EARLIER), (header(2)[:70], other), (header(2, 0x45584E51), other),
+                             (header(3), f"{name} is a catalogue of a later release (version 3, here 2)"), (header(2, start=b"SQLite format 3 "), other)):  # fmt: skip
+            write(name, octets)
+            self.assertEqual(self.raised(NoCatalogue, Catalogue, name), text)
+            if octets:
+                self.assertEqual(self.raised(NoCatalogue, Catalogue, name, True), text)
+            self.assertEqual((read(name), os.listdir(self.folder)), (octets, ["c"]))
+        self.assertEqual(self.raised(NoCatalogue, archives.index_, argparse.Namespace(folders=[""], files_from=None, catalogue=name)), "a name is empty")
+        os.remove(name)
+        with Catalogue(name, make=True) as made:
+            self.assertEqual(self.raised(NoCatalogue, merge.merge, made, [name]), f"{name} is the catalogue to be written")
+            self.assertEqual(str(made.failure(sqlite3.OperationalError("disk I/O error"))), f"{name}: disk I/O error")
+            self.assertEqual(str(made.failure(ValueError("no text"))), f"{name} is damaged: no text")
+        self.assertEqual(self.raised(ValueError, kept.has, int, 1, "a"), "'a' is a value of another type")
+
+    def test_of_names(self):
+        write(self.path("list"), b"a\0b\0")
+        text = f"the list {self.path('list')} contains a NUL: if its names end with NUL, give -0"
+        self.assertEqual(self.raised(walk.BadList, walk.listed, self.path("list"), False), text)
+        self.assertEqual(walk.listed(self.path("list"), True), [b"a", b"b"])
+        self.assertEqual(walk.listed("-", False, io.BytesIO(b"a\n\nb")), [b"a", b"b"])
+        with mock.patch.object(sys, "stdin", None):
+            self.assertEqual(self.raised(walk.BadList, walk.listed, "-", False), "standard input is closed")
+            self.assertEqual(walk.listed("-", True, io.BytesIO(b"a\nb\0\0c")), [b"a\nb", b"c"])
+        asked = argparse.Namespace(files_from=None, null=False, command="show")
+        self.assertEqual(self.raised(walk.BadList, lines.named, asked, ["a\0b"]), "a name contains a NUL")
+        with contextlib.redirect_stderr(io.StringIO()) as printed, self.assertRaises(SystemExit) as ended:
+            lines.named(asked, [])
+        self.assertEqual((printed.getvalue().splitlines()[-1], ended.exception.code), ("exifnorm-pictures: show: no name was given", 3))
+        asked = argparse.Namespace(files_from=self.path("list"), null=True)
+        self.assertEqual(lines.named(asked, ["x", "y"]), [b"x", b"y", b"a", b"b"])
+        self.assertEqual(lines.chosen_paths(asked), {os.path.abspath(b"a"), os.path.abspath(b"b")})
+        with contextlib.redirect_stderr(io.StringIO()) as printed, self.assertRaises(SystemExit) as ended:
+            states.report_(argparse.Namespace(html=None, json=False))
+        self.assertEqual((printed.getvalue().splitlines()[-1], ended.exception.code), ("exifnorm-pictures: report: give --html PAGE, --json, or both", 3))
+
+    def test_of_files_that_are_not_replaced(self):
+        os.mkdir(self.path("folder"))
+        for name in ("other", "catalogue", "page", "empty"):
+            write(self.path(name), b"" if name == "empty" else name.encode())
+        os.symlink("catalogue", self.path("link"))
+        kept_ = (self.path("nothing"), self.path("catalogue"))
+
+        def replace(name):
+            writing.replace(os.fsencode(self.path(name)), lambda file: file.write(b"new"), lambda head: head == b"page", kept_)
+
+        for name, text in (("folder", "it is there, and is no regular file"), ("other", "it is there, and is a file of another kind"),
+                           ("catalogue", f"it is the catalogue {self.path('catalogue')}"), ("link", f"it is the catalogue {self.path('catalogue')}"),
+                           ("nothing/page", "no such file or directory")):  # fmt: skip
+            self.assertEqual(self.raised(writing.NotReplaced, replace, name), text)
+        for name in ("page", "empty", "new"):
+            replace(name)
+            self.assertEqual(read(self.path(name)), b"new")
+        self.assertEqual(sorted(os.listdir(self.folder)), ["catalogue", "empty", "folder", "link", "new", "other", "page"])
+        self.assertEqual([read(self.path(it)) for it in ("other", "catalogue")], [b"other", b"catalogue"])
+
+    def test_of_programs(self):
+        missing = "{} isn't installed, and without it no block of this picture can be extracted. In Debian: apt-get install {}"
+        for program, package in (("exiftool", "libimage-exiftool-perl"), ("exiv2", "exiv2"), ("another", "another")):
+            self.assertEqual(str(tools.Missing(program)), missing.format(program, package))
+        self.assertEqual(self.raised(tools.Missing, tools.needed, "no such program"), missing.format("no such program", "no such program"))
+        self.assertEqual(self.raised(tools.Failed, tools.start, [self.path("nothing")]), "nothing can't be started: no such file or directory")
+        with mock.patch.object(tools, "_limit", 0.05):
+            self.assertEqual(self.raised(tools.Failed, tools.run, [shutil.which("sleep"), "60"]), "sleep took longer than 0.05 seconds")
+        with mock.patch.object(processes, "ProcessPoolExecutor", mock.Mock(side_effect=OSError(11, "Resource temporarily unavailable"))):
+            self.assertEqual(self.raised(tools.Failed, processes._pool, How(), 2), "a further process can't be started: resource temporarily unavailable")
+
+    def test_of_exiftools_output(self):
+        head = "ExifTool's answer isn't understood: "
+        for octets, text in ((b"[{]", "it is no JSON"), (b"[" * 100_000, "it is no JSON"), (b"{}", "it isn't one object"), (b"[]", "it isn't one object"),
+                             (b"[{},{}]", "it isn't one object"), (b'["a"]', "it isn't one object"), (b"[{}]", "it is about another file"),
+                             (b'[{"SourceFile": "b"}]', "it is about another file"), (b'[{"SourceFile": "a", "b": []}]', "a value is neither a text nor a number"),
+                             (b'[{"SourceFile": "a", "b": null}]', "a value is neither a text nor a number")):  # fmt: skip
+            self.assertEqual(self.raised(tools.Failed, session._members, octets, b"a"), head + text)
+        self.assertEqual(session._members(b'[{"SourceFile": "a", "b": 1, "c": "d", "e": 0.50}]', b"a"), {"b": "1", "c": "d", "e": "0.50"})
+        self.assertEqual(session._members(b" \n", b"a"), {})
+        self.assertEqual(self.raised(tools.Failed, session.octets, "base64:abc"), head + "a block is no base64")
+        self.assertEqual(self.raised(tools.Failed, session.octets, "base64:ab=="[:-1] + "!"), head + "a block is no base64")
+        self.assertEqual([session.octets(it) for it in ("base64:YWI=", "text:base64:", "a\ud800")], [b"ab", b"base64:", b"a\xed\xa0\x80"])
+        self.assertEqual(session.values({"EXIF:Make": "a", "Copy1:EXIF:Make": "b", "Makes": "c", "Make": "d"}, "Make"), ["a", "b", "d"])
+
+    def test_of_exiftools_end(self):
+        os.mkdir(self.path("room"))
+        for script, text in (("exit 3", "ExifTool ended with status 3 at this file"), ("exec >&-; sleep 60", "ExifTool ended with status 0 at this file")):
+            write(self.path("exiftool"), f"#!/bin/sh\nread line\n{script}\n".encode())
+            os.chmod(self.path("exiftool"), 0o755)
+            with mock.patch.object(tools, "needed", lambda _: self.path("exiftool")):
+                it = session.Session(self.path("room"))
+                self.assertEqual(self.raised(tools.Failed, it.ask, b"a", []), text)
+                it.close()
+        with mock.patch.object(tools, "needed", lambda _: shutil.which("true")):
+            it = session.Session(self.path("room"))
+            it.process.wait()
+            self.assertEqual(self.raised(tools.Failed, it.ask, b"a", ["x" * 100_000]), "ExifTool ended before it was asked")
+            it.close()
+
+    def test_of_files(self):
+        found = Found(b"/a", b"/", Stamp(1, 2, 3, 4))
+        at, rest = Entry(b"/a", b"/", None), {"digests": (None, None, None, None, "", "", "")}
+        marked = at._replace(stamp=found.stamp)
+        for why, expected in (
+            (tools.Failed("exiv2 failed"), marked._replace(problem="ToolFailed", detail="exiv2 failed", extractor="own", **rest)),
+            (OSError(13, "Permission denied"), at._replace(problem="Unreadable", detail="permission denied")),
+            (tools.Missing("exiftool"), marked._replace(problem="NeedsExifTool", detail=str(tools.Missing("exiftool")), extractor="own", **rest)),
+            (KeyError("a"), marked._replace(problem="ToolFailed", detail="it could not be read: KeyError: 'a'", extractor="own", **rest)),
+        ):
+            with mock.patch.object(looking.extraction, "blocks_of", mock.Mock(side_effect=why)):
+                self.assertEqual(looking.look(found, False), expected)
+        self.assertEqual(self.raised(OSError, extraction._opened, os.fsencode(self.folder)), "it is no regular file")
+        for name, problem, detail in ((self.folder, "Unreadable", "it is no regular file"), (self.path("a"), "Vanished", "there is no such file any more")):
+            it = extraction.blocks_of(os.fsencode(name))
+            self.assertEqual((it.problem, it.detail, it.found, it.not_read), (problem, detail, [], []))
+
+    def test_streams_that_are_closed(self):
+        """Each gets /dev/null, so that no file gets its number; without standard output nothing can be done."""
+        for closed, fails in (((), False), ((0,), False), ((0, 2), False), ((1,), True), ((0, 1, 2), True)):
+            asked, opened = [], []
+
+            def fstat(number, closed=closed, asked=asked):
+                asked.append(number)
+                if number in closed:
+                    raise OSError(9, "Bad file descriptor")
+
+            system = SimpleNamespace(fstat=fstat, open=lambda *words, opened=opened: opened.append(words), devnull="/dev/null", O_RDWR=os.O_RDWR)
+            with mock.patch.object(ends, "os", system), mock.patch.object(sys, "stdout", mock.Mock()) as stdout:
+                if fails:
+                    self.assertEqual(self.raised(ends.ClosedOutput, ends.ready_streams), "standard output is closed")
+                else:
+                    ends.ready_streams()
+                    self.assertEqual(stdout.mock_calls, [mock.call.reconfigure(encoding="utf-8", errors="backslashreplace")])
+            self.assertEqual((asked, opened), ([0, 1, 2], [("/dev/null", os.O_RDWR)] * len(closed)))
+        with mock.patch.object(sys, "stderr", None):
+            ends.ready_streams()
+            self.assertEqual((sys.stderr.name, sys.stderr.mode), ("/dev/null", "w"))
+            sys.stderr.close()
+
+    def test_of_the_end(self):
+        printed = []
+        with mock.patch.object(main.ends, "say", printed.append), mock.patch.object(main.ends, "drop") as dropped:
+            self.assertEqual(main._output_failed(OSError(28, "No space left on device")), 4)
+            self.assertEqual(main._output_failed(BrokenPipeError(32, "Broken pipe")), 4)
+            self.assertEqual(dropped.mock_calls, [mock.call(sys.stdout)] * 2)
+        self.assertEqual(printed, ["exifnorm-pictures: standard output: no space left on device"])
+        with mock.patch.object(sys, "stdout", None):
+            self.assertEqual(self.raised(ends.ClosedOutput, ends.ready_streams), "standard output is closed")
+        with contextlib.redirect_stderr(io.StringIO()) as printed:
+            ends.say("a text")
+        self.assertEqual(printed.getvalue(), "a text\n")
+        broken = Stream()
+        broken.has_reader = False
+        with contextlib.redirect_stderr(broken), mock.patch.object(ends, "drop") as dropped:
+            ends.say("a text")
+        self.assertEqual(dropped.mock_calls, [mock.call(broken)])
+
+
+class OfPictures(unittest.TestCase):
+    """A picture that was looked at, in lines and as an object."""
+
+    maxDiff = None
+
+    def test_each_result(self):
+        digest, octets = "d" * 64, "0" * 64
+        good = Block("iim", "IPTC", "somewhere", "own", "accepted", digest, None, None, 7, octets)
+        refused = Block("exif", "second Exif", "somewhere", "own", "refused", None, "Overlap", 34, 100, octets)
+        at_0, packet = refused._replace(name="Exif", place=0), Block("xmp", "XMP", "somewhere", "own", "unreadable", None, "NoRDF", None, 9, octets)
+        failed, long = (refused._replace(status=one, cause=cause, place=None) for one, cause in (("failed", "OutOfMemory"), ("too long", "NormalTooLong")))
+        parts = (NotRead("a trailer", ""), NotRead("a chunk", "1" * 64))
+        common = {"kind": "exif", "name": "second Exif", "length": 100}
+        for more, printed, members in (
+            ({}, [], {"blocks": [], "not_read": []}),
+            ({"blocks": (good,)}, [], {"blocks": [{"kind": "iptc", "name": "IPTC", "status": "accepted", "digest": digest, "length": 7}], "not_read": []}),
+            ({"problem": "NoPicture", "detail": "text"}, [], {"problem": "NoPicture", "detail": "text", "blocks": [], "not_read": []}),
+            ({"problem": "Unreadable", "detail": "why"}, ["Unreadable: why"], {"problem": "Unreadable", "detail": "why", "blocks": [], "not_read": []}),
+            ({"not_read": parts}, ["not wholly read: a trailer, a chunk"], {"blocks": [], "not_read": ["a trailer", "a chunk"]}),
+            ({"blocks": (at_0, good, packet), "not_read": parts[:1]},
+             ["Exif: refused: Overlap at 0", "XMP: refused: NoRDF", "not wholly read: a trailer"],
+             {"blocks": [{**common, "name": "Exif", "status": "refused", "cause": "Overlap", "place": 0},
+                         {"kind": "iptc", "name": "IPTC", "status": "accepted", "digest": digest, "length": 7},
+                         {"kind": "xmp", "name": "XMP", "status": "unreadable", "cause": "NoRDF", "length": 9}], "not_read": ["a trailer"]}),
+            ({"blocks": (failed, long)}, ["second Exif: failed: OutOfMemory", "second Exif: refused: NormalTooLong"],
+             {"blocks": [{**common, "status": "failed", "cause": "OutOfMemory"}, {**common, "status": "too long", "cause": "NormalTooLong"}], "not_read": []}),
+        ):  # fmt: skip
+            it = Entry(b"/a\n\xff", b"/", type="JPEG")._replace(**more)
+            self.assertEqual(lines.entry_lines(it), [f"/a\\n\\xff: {line}" for line in printed])
+            expected = {"path": "/a\\n\\xff", "path_hex": "2f610aff", "type": "JPEG", **members}
+            self.assertEqual([json.loads(line) for line in lines.entry_json(it)], [expected])
+
+    def test_a_folder_that_cannot_be_read(self):
+        """It is in no folder of a catalogue; a file that can't be read has its own row."""
+        it = Entry(b"/a\n/b", b"", problem="Unreadable", detail="permission denied")
+        self.assertEqual(lines.closed_folder(it), ["the folder /a\\n/b can't be read: permission denied"])
+        self.assertEqual(lines.closed_folder(it._replace(root=b"/a")), [])
+
+
+class TextsInTables(unittest.TestCase):
+    """Tables of texts, as wholes."""
+
+    def test_problems(self):
+        self.assertEqual(PROBLEMS, {
+            "Vanished": "there is no such file any more",
+            "Unreadable": "the file can't be read",
+            "NoPicture": "the file is no picture that ExifTool knows",
+            "SeveralBlocks": "a CR3 file has several Exif blocks (CMT1 to CMT4), and ExifTool extracts only the first: two different pictures could seem"
+                             " to be the same",
+            "BigTIFF": "a BigTIFF, whose offsets have eight bytes, is not read",
+            "NeedsExiv2": "ExifTool gives no Exif block of raw files; exiv2 does, and it isn't installed (package exiv2)",
+            "ToolFailed": "the program that extracts blocks failed on this file",
+        })  # fmt: skip
+
+    def test_states_in_a_report(self):
+        self.assertEqual(report.STATE_WORDS, {
+            "accepted": "accepted: all blocks say something",
+            "refused": "with a block that is refused or unreadable",
+            "no block": "without an Exif, IPTC or XMP block",
+            "NoPicture": "no picture",
+            "Unreadable": "not readable",
+            "Vanished": "gone since an earlier run",
+            "Moved": "moved since an earlier run",
+            "SeveralBlocks": "with several Exif blocks (CR3)",
+            "BigTIFF": "BigTIFF, which is not read",
+            "NeedsExiv2": "raw, and exiv2 is not installed",
+            "NeedsExifTool": "of another format, and ExifTool is not installed",
+            "ToolFailed": "at which a program failed",
+        })  # fmt: skip
+
+    def test_causes_of_packets(self):
+        self.assertEqual(xmp.CAUSES, {
+            "TooLong": f"The packet has more than {16 << 20:,} bytes or more than 500,000 tags.",
+            "NotText": "The packet is no text in UTF-8, UTF-16 or UTF-32, or declares another encoding.",
+            "DocumentType": "The packet has a document type declaration, which XMP does not allow.",
+            "NotWellFormed": "The packet is not well-formed XML.",
+            "NoRDF": "The packet is not x:xmpmeta around one rdf:RDF, nor rdf:RDF by itself.",
+            "TooDeep": "More than 100 elements are nested in one another.",
+            "NotRDF": "What is inside rdf:RDF does not follow the syntax of RDF/XML.",
+            "SeveralSubjects": "The packet makes statements about several subjects.",
+            "Shared": "A node of the packet has several names or leads back to itself.",
+            "ExtensionMissing": "The packet names extended XMP that is not there.",
+            "ExtensionNotNamed": "There is extended XMP that no packet names.",
+            "ExtensionDamaged": "The extended XMP is not the one that the packet names, by its MD5.",
+            "NeedsRdflib": "The packet has a rare form of RDF/XML, for which the Python package rdflib is needed (package python3-rdflib).",
+        })  # fmt: skip
+
+
+if __name__ == "__main__":
+    unittest.main()

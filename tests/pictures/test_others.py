@@ -1,0 +1,151 @@
+"""What is made of the output of ExifTool and exiv2, without running them."""
+
+import hashlib
+import io
+import os
+import sys
+import unittest
+from unittest import mock
+
+from studio import TOP, WithPictures, write
+
+sys.path.insert(0, os.path.join(TOP, "python"))
+
+from exifnorm_pictures import extraction, others, session, tools  # noqa: E402
+from exifnorm_pictures.formats.found import PROBLEMS, Blocks, NotRead  # noqa: E402
+
+ASKED = ("-EXIF:Exif", "-IPTC:IPTC", "-XMP:XMP", "-FileType#", "-MIMEType#", "-Error#")
+# Files in the structure of TIFF, by ExifTool's list of file types
+RAW = "TIFF DNG NEF NRW CR2 ARW ARQ SR2 SRF SRW ORF PEF RW2 RWL 3FR IIQ ERF MEF MOS DCR KDC K25 GPR FFF RAW".split()
+
+
+def seen(blocks):
+    return [(it.kind, it.name, it.data, it.where, it.extractor) for it in blocks.found]
+
+
+class Answers(unittest.TestCase):
+    maxDiff = None
+
+    def test_blocks(self):
+        found = others._blocks({"EXIF": "base64:TU0=", "IPTC": "abc", "Copy1:IPTC": "def", "XMP": "<x>", "FileType": "PSD",
+                                "MIMEType": "image/vnd"})  # fmt: skip
+        self.assertEqual(seen(found), [("exif", "Exif", b"MM", "PSD file", "exiftool"), ("iim", "IPTC", b"abc", "PSD file", "exiftool"),
+                                       ("iim", "second IPTC", b"def", "PSD file", "exiftool"), ("xmp", "XMP", b"<x>", "PSD file", "exiftool")])  # fmt: skip
+        self.assertEqual((found.type, found.extractor, found.problem, found.not_read), ("PSD", "exiftool", None, []))
+
+    def test_without_blocks(self):
+        several = PROBLEMS["SeveralBlocks"]
+        for answer, expected in (
+            ({"FileType": "GIF", "MIMEType": "image/gif"}, ("GIF", None, "")),
+            ({"FileType": "TXT", "MIMEType": "text/plain"}, ("TXT", "NoPicture", "TXT (text/plain)")),
+            ({"FileType": "TXT", "MIMEType": "text/image/"}, ("TXT", "NoPicture", "TXT (text/image/)")),
+            ({"Error": "File is empty"}, ("", "NoPicture", "File is empty")), ({}, ("", "NoPicture", "the file is no picture that ExifTool knows")),
+            ({"Error": "Error opening file"}, ("", "Unreadable", "Error opening file")),
+            ({"Error": "Unknown Error opening"}, ("", "NoPicture", "Unknown Error opening")),
+            ({"FileType": "TXT", "MIMEType": "text/plain", "Error": "odd"}, ("TXT", "NoPicture", "odd")),
+            *(({"FileType": it, "MIMEType": "image/x", "EXIF": "MM"}, (it, "SeveralBlocks", several)) for it in ("CR3", "CRX", "CRM")),
+        ):  # fmt: skip
+            found = others._blocks(answer)
+            self.assertEqual((found.type, found.problem, found.detail, found.found, found.extractor), (*expected, [], "exiftool"), answer)
+        found = others._blocks({"FileType": "PDF", "MIMEType": "application/pdf", "XMP": "<x>"})
+        self.assertEqual((found.problem, len(found.found)), (None, 1))
+
+
+    def test_names_of_raw_pictures(self):
+        """In letters of either kind; files in the structure of TIFF with another name are read here."""
+        for it in RAW[1:]:
+            for name in (it, it.lower()):
+                self.assertTrue(extraction._RAW_NAME.search(f"/a.b/c.{name}".encode()), name)
+                self.assertFalse(extraction._RAW_NAME.search(f"/a.b/c.{name[:-1]}".encode()), name)
+
+
+class Files(WithPictures):
+    """A file that has no reader here, or that is broken."""
+
+    alone = True  # it replaces functions that other tests call
+    maxDiff = None
+
+    def read(self, answers, octets=b"abc", whole=False, why="", has_exiv2=True, run=None):
+        """The result for a file of which ExifTool prints these objects, and what is asked."""
+        self.asked, answers = [], list(answers)
+        os.makedirs(self.path("room"), exist_ok=True)
+
+        def ask(path, words):
+            self.asked.append((path, words))
+            return answers.pop(0)
+
+        with mock.patch.multiple(session, ask=ask, room=lambda: self.path("room")), \
+             mock.patch.multiple(tools, is_there=lambda it: has_exiv2 and it == "exiv2", needed=lambda it: f"/bin/{it}", run=run or self.fail):  # fmt: skip
+            return others.by_others(b"a.x", io.BytesIO(octets), whole, why)
+
+    def test_what_is_not_extracted(self):
+        answer = {"FileType": "GIF", "MIMEType": "image/gif", "XMP": "<x>"}
+        digest = hashlib.sha256(b"abc").hexdigest()
+        what = "what ExifTool does not extract from a GIF file"
+        for most, whole, why, expected in ((3, False, "", (what, digest)), (2, False, "", (what, "")), (2, True, "", (what, digest)),
+                                           (3, False, "broken: no marker at 2", (f"{what} (broken: no marker at 2)", digest))):  # fmt: skip
+            with mock.patch.object(others, "MOST", most):
+                found = self.read([answer], whole=whole, why=why)
+            self.assertEqual(([tuple(it) for it in found.not_read], self.asked), ([expected], [(b"a.x", ASKED)]))
+            self.assertEqual(seen(found), [("xmp", "XMP", b"<x>", "GIF file", "exiftool")])
+        found = self.read([{"FileType": "TXT", "MIMEType": "text/plain"}])
+        self.assertEqual((found.problem, found.not_read), ("NoPicture", []))
+        self.assertEqual(others.MOST, 16 << 20)
+
+    def test_raw_pictures(self):
+        """exiv2 extracts their Exif block into a file, from which ExifTool takes it."""
+        calls = []
+
+        def run(words, folder):
+            calls.append((words, folder, os.readlink(words[-1]), os.listdir(folder)))
+            write(os.path.join(folder, "picture.exv"), b"")
+
+        folder = self.path("room", "exiv2")
+        for kind in RAW:
+            calls.clear()
+            link = os.path.join(folder, f"picture.{kind.lower()}")
+            found = self.read([{"FileType": kind, "MIMEType": "image/x"}, {"EXIF": "MM*", "Copy1:EXIF": "other"}], run=run)
+            self.assertEqual(calls, [(["/bin/exiv2", "-q", "-ee", "-l", folder, link], folder, os.path.abspath("a.x"), [os.path.basename(link)])])
+            self.assertEqual(self.asked, [(b"a.x", ASKED), (os.fsencode(os.path.join(folder, "picture.exv")), ("-EXIF:Exif",))])
+            self.assertEqual(seen(found), [("exif", "Exif", b"MM*", f"{kind} file", "exiv2")])
+            self.assertEqual((found.extractor, found.problem, len(found.not_read)), ("exiftool", None, 1))
+        self.assertEqual(others._TIFF_TYPES, set(RAW))
+        found = self.read([{"FileType": "NEF", "MIMEType": "image/x", "EXIF": "II*"}])
+        self.assertEqual(seen(found), [("exif", "Exif", b"II*", "NEF file", "exiftool")])
+
+    def test_raw_pictures_without_a_block(self):
+        answer = {"FileType": "NEF", "MIMEType": "image/x"}
+        failed = ("ToolFailed", "exiv2 extracted no Exif block from this file", [])
+        found = self.read([answer], run=lambda *_: None)
+        self.assertEqual((found.problem, found.detail, found.found), failed)
+        found = self.read([answer, {"SourceFile": "x"}], run=lambda words, folder: write(os.path.join(folder, "picture.exv"), b""))
+        self.assertEqual((found.problem, found.detail, found.found), failed)
+        found = self.read([answer], has_exiv2=False)
+        self.assertEqual((found.problem, found.detail, found.found), ("NeedsExiv2", PROBLEMS["NeedsExiv2"], []))
+
+    def test_trailers(self):
+        """What ExifTool finds and the file's reader didn't; an Exif block of a trailer is none of the picture."""
+        answer = {"EXIF": "MM", "IPTC": "known", "Copy1:IPTC": "new", "XMP": "<x>"}
+
+        def added(ask):
+            blocks = Blocks(type="JPEG")
+            blocks.add("iim", b"known", "APP13 segment at 2")
+            with mock.patch.object(session, "ask", ask):
+                others.add_trailers(blocks, b"a.jpg")
+            return blocks
+
+        calls = []
+        blocks = added(lambda *words: calls.append(words) or answer)
+        self.assertEqual(calls, [(b"a.jpg", ASKED)])
+        self.assertEqual(seen(blocks), [("iim", "IPTC", b"known", "APP13 segment at 2", "own"), ("iim", "second IPTC", b"new", "trailer", "exiftool"),
+                                        ("xmp", "XMP", b"<x>", "trailer", "exiftool")])  # fmt: skip
+        self.assertEqual((blocks.extractor, blocks.not_read), ("exiftool", []))
+        blocks = added(lambda *_: {"IPTC": "known"})
+        self.assertEqual((blocks.extractor, len(blocks.found)), ("own", 1))
+        for why in (tools.Missing("exiftool"), tools.Failed("exiftool took longer than 1 seconds")):
+            blocks = added(mock.Mock(side_effect=why))
+            self.assertEqual((blocks.not_read, len(blocks.found)), ([NotRead("blocks of the trailer, for which ExifTool is needed", "")], 1))
+
+
+if __name__ == "__main__":
+    unittest.main()

@@ -1,0 +1,393 @@
+"""Small functions at their limits: how values are shown, how results are put into words, and how work is divided."""
+
+import contextlib
+import hashlib
+import os
+import sqlite3
+import sys
+import unittest
+from types import SimpleNamespace
+from unittest import mock
+
+from made_files import xmp as packet_of
+from studio import TOP, WithPictures, write
+
+sys.path.insert(0, os.path.join(TOP, "python"))
+
+from exifnorm_pictures import batches, kept, listing, moves, processes, session, texts, thumbnails, tools, verdicts, walk, xmp  # noqa: E402
+from exifnorm_pictures.formats.found import Blocks, NotRead  # noqa: E402
+from exifnorm_pictures.kept import Entry, Stamp  # noqa: E402
+from exifnorm_pictures.verdicts import Side, Verdict  # noqa: E402
+from exifnorm_pictures.walk import Found  # noqa: E402
+
+
+def digits(octets, count=32):
+    return hashlib.sha256(octets).hexdigest()[:count]
+
+
+class Shown(unittest.TestCase):
+    """Values as they are shown in a line."""
+
+    def test_octets(self):
+        many = bytes(range(200, 233))
+        for octets, text in (
+            (b"", '""'), (b"\0", '""'), (b"abc", '"abc"'), (b"abc\0", '"abc"'), (b"abc\0\0", "0x6162630000"), (b'a"b\\', r'"a\"b\\"'),
+            (b"a\n\t\r", '"a\\n\\t\\r"'), (b"a\x1b", "0x611b"), (b"\xc3\xbc", '"\u00fc"'), (b"\xfc", "0xfc"), (b"x" * 400, f'"{"x" * 400}"'),
+            (b"x" * 401, f"0x{'78' * 8}.. sha256:{digits(b'x' * 401)}"), (("\u00fc" * 400).encode(), f'"{chr(0xFC) * 400}"'),
+            (many[:32], f"0x{many[:32].hex()}"), (many, f"0x{many[:8].hex()}.. sha256:{digits(many)}"), (many[:32] + b"\0", f"0x{many[:8].hex()}.. sha256:{digits(many[:32] + bytes(1))}"),
+            (chr(0x10000).encode() * 400, f'"{chr(0x10000) * 400}"'),
+        ):  # fmt: skip
+            self.assertEqual(listing.shown_octets(octets), text, octets)
+
+    def test_numbers(self):
+        for text in ("1", "1 " * 79 + "12"):
+            self.assertEqual(listing.shown_numbers(text), text)
+        text = "1 " * 79 + "123"
+        self.assertEqual(listing.shown_numbers(text), f"{'1 ' * 30}.. sha256:{digits(text.encode())}")
+        self.assertEqual(listing.shown_picture(b"abc"), f"sha256:{digits(b'abc')}")
+        self.assertEqual(listing.shortened(f"0x00.. sha256:{digits(b'abc')}"), f"0x00.. sha256:{digits(b'abc', 12)}")
+        self.assertEqual(listing.shortened("sha256:0123456789ab"), "sha256:0123456789ab")
+
+    def test_texts_in_other_forms(self):
+        wide = "a\u00fc".encode("utf-16-le")
+        for where, key, octets, text in (
+            ("main", "9c9b", wide, 'utf-16 "a\u00fc"'), ("main", "9c9f", wide + b"\0\0", 'utf-16 "a\u00fc"'), ("main", "9c9c", b'a\0"\0\\\0\n\0', 'utf-16 "a\\"\\\\\\n"'),
+            ("exif", "9c9b", wide, listing.shown_octets(wide)), ("main", "9ca0", wide, listing.shown_octets(wide)), ("main", "9c9d", b"a\0b", "0x610062"),
+            ("main", "9c9e", b"\0\0", "0x0000"), ("main", "9c9e", b"\1\0", "0x0100"), ("main", "9c9e", b"a\0" * 400, f'utf-16 "{"a" * 400}"'),
+            ("main", "9c9e", b"a\0" * 401, f"0x{'6100' * 4}.. sha256:{digits(b'aX'.replace(b'X', bytes(1)) * 401)}"),
+            ("exif", "9286", b"ASCII\0\0\0", 'ascii ""'), ("exif", "9286", b"ASCII\0\0\0a\0", "0x4153434949000000" "6100"), ("gps", "001b", b"ASCII\0\0\0a", 'ascii "a"'),
+            ("exif", "9286", b"ASCII\0\0 a", "0x41534349490000" "2061"), ("exif", "9286", b"UNICODE\0a", "0x554e49434f444500" "61"),
+        ):  # fmt: skip
+            self.assertEqual(listing.shown_value(where, key, octets), text, (where, key, octets))
+
+    def test_values_in_a_list_of_changes(self):
+        """The values of a repeated field are one list; numbers have their type, and texts don't."""
+        def field(kind, count, text, where="xmp", key="dc:a"):
+            return listing.Field(where, key, kind, count, text)
+
+        for fields, text in (
+            ([field("ASCII", 2, '"a"')], '"a"'), ([field("octets", 1, '"a"'), field("octets", 1, '"b"')], '"a", "b"'), ([field("text", 1, '"a"')], '"a"'),
+            ([field("URI", 1, "<http://a/>")], "<http://a/>"), ([field("SHORT", 2, "1 2")], "short[2] 1 2"), ([field("Bag", 1, 'Bag["a"]')], 'bag[1] Bag["a"]'),
+            ([field("structure", 1, '{dc:a="1"}')], 'structure[1] {dc:a="1"}'),
+            ([field("UNDEFINED", 99, f"0x00.. sha256:{digits(b'abc')}")], f"undefined[99] 0x00.. sha256:{digits(b'abc', 12)}"),
+        ):  # fmt: skip
+            self.assertEqual(listing.changes(fields, []), [("xmp:dc:a", text, None)])
+            self.assertEqual(listing.changes([], fields), [("xmp:dc:a", None, text)])
+            self.assertEqual(listing.changes(fields, fields), [])
+        other = [field("ASCII", 2, '"a"', "exif", "927c"), field("SHORT", 1, "1", "main", "0112")]
+        self.assertEqual([listing.only_maker_note(*it) for it in ((other, other[1:]), (other, other), (other, other[:1]))], [True, False, False])
+
+    def test_a_thumbnail(self):
+        self.assertEqual(listing.thumbnail("exif\n[thumb]\njpeg 2: ffd8\n"), b"\xff\xd8")
+        self.assertIsNone(listing.thumbnail("exif\n[thumb]\nstrip 2: ffd8\n"))
+
+    def test_names_of_files(self):
+        self.assertEqual(texts.escaped("\ud800\x7f\x85\u2028\U000e0001\udc80\udcff\ud7ff\\\r\n\t"), "\\ud800\\x7f\\x85\\u2028\\U000e0001\\x80\\xff\\ud7ff\\\\\\r\\n\\t")
+        self.assertEqual([texts.reason(it) for it in (OSError(2, "No Such File"), OSError(), PermissionError())], ["no such file", "oserror", "permissionerror"])
+        self.assertEqual([texts.path_members(it) for it in ("\u00fc\n".encode(), b"\xfc")], [{"path": "\u00fc\n"}, {"path": "\\xfc", "path_hex": "fc"}])
+
+    def test_xmp(self):
+        def shown(inside, attributes=""):
+            found = xmp.statements(packet_of(inside, attributes), {}, set())
+            return [(it.key, it.type, it.elements, it.shown) for it in xmp.fields(found)]
+
+        lists = "".join(f"<dc:{name}><rdf:{kind}><rdf:li>b</rdf:li><rdf:li xml:lang='DE'>a</rdf:li></rdf:{kind}></dc:{name}>"
+                        for name, kind in (("subject", "Bag"), ("creator", "Seq"), ("title", "Alt")))  # fmt: skip
+        self.assertEqual(shown(lists), [("dc:creator", "Seq", 2, 'Seq["b", "a"@de]'), ("dc:subject", "Bag", 2, 'Bag["b", "a"@de]'),
+                                        ("dc:title", "Alt", 2, 'Alt["b", "a"@de]')])  # fmt: skip
+        self.assertEqual(shown("<xmp:x rdf:resource='http://a/'/><xmp:y rdf:parseType='Resource'><dc:b>1</dc:b><dc:a>2\"</dc:a></xmp:y>", "xmp:z='&#10;'"), [
+            ("xmp:x", "URI", 1, "<http://a/>"), ("xmp:y", "structure", 2, '{dc:a="2\\"", dc:b="1"}'), ("xmp:z", "text", 1, '"\\n"')])  # fmt: skip
+        self.assertEqual(shown("<dc:a>2</dc:a><dc:a>1</dc:a><dc:a>1</dc:a>"), [("dc:a", "text", 2, '"1", "2"')])
+        self.assertEqual(shown("", "dc:a='" + "x" * 398 + "'")[0][3], f'"{"x" * 398}"')
+        long = "x" * 399
+        self.assertEqual(shown("", f"dc:a='{long}'")[0][3], f'"{long[:59]}.. sha256:' + digits(f'"0:0:{long}'.encode()))
+        eleven = "".join(f"<rdf:li>{number}</rdf:li>" for number in range(11))
+        self.assertEqual(shown(f"<dc:a><rdf:Seq>{eleven}</rdf:Seq></dc:a>")[0][3], "Seq[" + ", ".join(f'"{number}"' for number in range(11)) + "]")
+
+
+class Results(unittest.TestCase):
+    """Results of comparisons, in words."""
+
+    def test_sentences(self):
+        exif, iptc, xmp_ = "exif", "iim", "xmp"
+        for found, parts, text in (
+            ([(exif, "same", True), (iptc, "same", False), (xmp_, "same", False)], (), "Exif, IPTC and XMP are the same"),
+            ([(exif, "same", True), (iptc, "different", False), (xmp_, "same", False)], (), "Exif and XMP are the same, IPTC is different"),
+            ([(exif, "refused", True), (iptc, "refused", False), (xmp_, "unreadable", False)], (),
+             "IPTC is refused, Exif is refused in the same bytes, XMP is unreadable"),
+            ([(exif, "refused", True), (iptc, "refused", True), (xmp_, "unreadable", True)], (),
+             "Exif and IPTC are refused in the same bytes, XMP is unreadable in the same bytes"),
+            ([(exif, "absent", False), (iptc, "absent", False), (xmp_, "absent", False)], ("a", "b"), "no Exif and no IPTC and no XMP; not wholly read: a, b"),
+        ):  # fmt: skip
+            self.assertEqual(verdicts.sentence([Verdict(*it) for it in found], parts), text)
+
+    def test_words(self):
+        same, other, refused, unreadable = Verdict("exif", "same"), Verdict("exif", "different"), Verdict("iim", "refused"), Verdict("xmp", "unreadable")
+        refused_same, unreadable_same = Verdict("iim", "refused", True), Verdict("xmp", "unreadable", True)
+        for found, parts, word in (
+            ([same], (), "same"), ([], (), "same"), ([same], ("a",), "not wholly read"), ([same, other, refused], ("a",), "different"),
+            ([same, refused, unreadable], ("a",), "refused"), ([same, unreadable, refused_same], ("a",), "unreadable"),
+            ([same, refused_same, unreadable_same], ("a",), "not wholly read"), ([same, refused_same, unreadable_same], (), "refused, the same bytes"),
+            ([same, unreadable_same], (), "unreadable, the same bytes"),
+        ):  # fmt: skip
+            self.assertEqual(verdicts.result(found, parts), word)
+
+    def test_sides(self):
+        def block(name, status="accepted", text="d", octets="o", kind="exif"):
+            return SimpleNamespace(kind=kind, name=name, status=status, digest=text, octets=octets)
+
+        self.assertEqual(verdicts.side_of([]), Side("absent", "", ""))
+        self.assertEqual(verdicts.side_of([block("Exif")]), Side("accepted", "d", "o"))
+        self.assertEqual(verdicts.side_of([block("Exif", "refused", None)]), Side("refused", "", "o"))
+        self.assertEqual(verdicts.side_of([block("XMP", "too long", None, kind="xmp")]), Side("unreadable", "", "o"))
+        both = [block("Exif"), block("second Exif", text="e", octets="p")]
+        octets = hashlib.sha256(b"Exif: o\nsecond Exif: p").hexdigest()
+        self.assertEqual(verdicts.side_of(both), Side("accepted", hashlib.sha256(b"Exif: d\nsecond Exif: e").hexdigest(), octets))
+        self.assertEqual(verdicts.side_of([both[0], block("second Exif", "failed", None, "p")]), Side("refused", "", octets))
+        self.assertEqual(verdicts.side("xmp", [*both, block("XMP", kind="xmp", text="x", octets="y")]), Side("accepted", "x", "y"))
+
+    def test_parts(self):
+        known, other, unknown = NotRead("b", "1"), NotRead("a", "2"), NotRead("c", "")
+        for one, two, expected in (([known], [known], []), ([known, known], [known], ["b"]), ([known, other], [other, known], []), ([unknown], [unknown], ["c"]),
+                                   ([known, unknown], [other], ["a", "b", "c"]), ([NotRead("b", "3")], [known], ["b"])):  # fmt: skip
+            self.assertEqual(verdicts.left_open(one, two), expected)
+
+    def test_new_names(self):
+        self.assertEqual(moves.best([], b"/a"), None)
+        self.assertEqual(moves.best([b"/b/x", b"/c/a", b"/d/a"], b"/e/a"), b"/c/a")
+        self.assertEqual(moves.best([b"/b/x", b"/c/y"], b"/e/a"), b"/b/x")
+        for words, key in (((["a", "", ""], "", 1), ("a", "", "", "", 1)), ((["", "", ""], "", 1), None), ((["a", "", ""], None, 1), None),
+                           ((["a", "", ""], "p", None), None), ((["", "", "a"], "p", 0), ("", "", "a", "p", 0))):  # fmt: skip
+            self.assertEqual(moves.content_key(*words), key)
+
+    def test_marks(self):
+        """Of 64 bits with a sign."""
+        def of(*marks):
+            return tuple(Stamp.of(SimpleNamespace(**dict(zip(("st_size", "st_mtime_ns", "st_ctime_ns", "st_ino"), marks)))))
+
+        least, greatest = -(1 << 63), (1 << 63) - 1
+        self.assertEqual(of(1, 2, 3, 4), (1, 2, 3, 4))
+        self.assertEqual(of(0, least, greatest, greatest + 1), (0, least, greatest, least))
+        self.assertEqual(of(0, least - 1, greatest, (1 << 64) - 1), (0, greatest, greatest, -1))
+
+
+class Work(WithPictures):
+    """How work is divided, and what a process makes of its part."""
+
+    alone = True  # it replaces functions that other tests call
+
+    def chunks(self, count, jobs):
+        taken = []
+
+        def by_processes(chunks, how, files, unfinished):
+            taken.extend((len(it), next(files)) for it in chunks)
+            return iter(())
+
+        with mock.patch.object(processes, "_by_processes", by_processes):
+            list(processes.looked([Found(b"%d" % it, b"/", None) for it in range(count)], batches.How(jobs=jobs, room="/room")))
+        self.assertEqual([it[1] for it in taken], [f"/room/rows-{number}" for number in range(len(taken))])
+        return [it[0] for it in taken]
+
+    def test_chunks(self):
+        """Eight for each process, but of eight pictures at least and 500 at most."""
+        self.assertEqual(self.chunks(1000, 2), [62] * 16 + [8])
+        self.assertEqual(self.chunks(100, 4), [8] * 12 + [4])
+        self.assertEqual(self.chunks(10_000, 1), [500] * 20)
+        self.assertEqual(self.chunks(0, 1), [])
+        self.assertEqual(batches.How(jobs=3).processes, 3)
+        self.assertEqual(batches.How().processes, len(os.sched_getaffinity(0)))
+
+    def test_processes_begin_while_signals_are_held(self):
+        """The first task starts them: one that starts later could miss a signal, or get one that it doesn't handle."""
+        steps = []
+
+        @contextlib.contextmanager
+        def held():
+            steps.append("held")
+            yield {1}
+            steps.append("released")
+
+        def made(*words, **more):
+            steps.append((words, more.pop("mp_context").get_start_method(), more))
+            return SimpleNamespace(submit=steps.append)
+
+        how = batches.How()
+        with mock.patch.object(processes.ends, "signals_held", held), mock.patch.object(processes, "ProcessPoolExecutor", made):
+            processes._pool(how, 3)
+        self.assertEqual(steps, ["held", ((3,), "fork", {"initializer": processes._begin, "initargs": (how, os.getpid(), {1})}), os.getpid, "released"])
+
+    def test_a_part_that_takes_long(self):
+        found = [Found(b"/%d" % it, b"/", None) for it in range(4)]
+        times = iter([0.0, 1.9, 2.0, 2.1])
+        with mock.patch.object(processes, "look", lambda it, whole: Entry(it.path, it.root, problem="NoPicture" if whole else "Vanished")), \
+             mock.patch.object(processes.time, "monotonic", lambda: next(times)):  # fmt: skip
+            it = processes.look_at_some(processes.Task(found, self.path("rows")), batches.How(whole=True))
+        self.assertEqual((it.file, it.states, it.lines, it.unread, it.left), (self.path("rows"), {"NoPicture": 3}, [], [], found[3:]))
+
+    def test_rows_of_a_part(self):
+        """Those that can't be read have none: if they were known before, their earlier results stay."""
+        entries = [Entry(b"/a", b"/", Stamp(1, 2, 3, 4), "JPEG", "own"), Entry(b"/b", b"/", problem="Unreadable", detail="why"),
+                   Entry(b"/c", b"/", problem="Vanished"), Entry(b"/d", b"/", problem="NoPicture", detail="d")]  # fmt: skip
+        it = batches.batch(self.path("rows"), entries, [Found(b"/e", b"/", None)], lambda it: [os.fsdecode(it.path), it.detail])
+        self.assertEqual(it, (self.path("rows"), {"no block": 1, "Unreadable": 1, "Vanished": 1, "NoPicture": 1},
+                              ["/a", "", "/b", "why", "/c", "", "/d", "d"], entries[1:3], [Found(b"/e", b"/", None)]))  # fmt: skip
+        base = sqlite3.connect(self.path("rows"))
+        self.addCleanup(base.close)
+        self.assertEqual(base.execute("SELECT id, path, size, inode, problem, detail, run FROM pictures").fetchall(),
+                         [(1, b"/a", 1, 4, None, "", 0), (2, b"/d", None, None, "NoPicture", "d", 0)])  # fmt: skip
+        self.assertEqual(batches.batch(self.path("more"), entries[:1], [], None).lines, [])
+        self.assertEqual(kept.state_of(None, []), "no block")
+
+
+class Walked(WithPictures):
+    """The files of a command."""
+
+    alone = True
+
+    def test_files_and_links(self):
+        """A link to a file is that file; a link to a folder isn't followed; a link to nothing has no marks."""
+        for name in ("d/b/1", "d/.a/2", "d/3", "other/4"):
+            os.makedirs(os.path.dirname(self.path(name)), exist_ok=True)
+            write(self.path(name), name.encode())
+        for name, to in (("d/file", "3"), ("d/folder", "../other"), ("d/none", "nothing"), ("d/self", "self")):
+            os.symlink(to, self.path(name))
+        unlisted = []
+        names = [os.fsencode(self.path(it)) for it in ("d", "other/4", "nothing", "d/none", "d/3/x", "d/folder", "d/b/../3")]
+        found = list(walk.below(names, unlisted.append, [names[1], os.fsencode(self.path("d", "b", "1"))]))
+        size = {"d/3": 3, "d/file": 3, "d/.a/2": 6, "d/folder/4": 7}
+        expected = [("d/3", "d"), ("d/file", "d"), ("d/none", "d"), ("d/self", "d"), ("d/.a/2", "d"), ("d/none", "d"), ("d/folder/4", "d/folder"), ("d/3", "d")]
+        self.assertEqual([(os.path.relpath(os.fsdecode(it.path), self.folder), os.path.relpath(os.fsdecode(it.root), self.folder), it.stamp and it.stamp.size)
+                          for it in found], [(name, root, size.get(name)) for name, root in expected])  # fmt: skip
+        self.assertEqual(found[0].stamp, Stamp.of(os.stat(self.path("d", "3"))))
+        self.assertEqual(unlisted, [walk.Unlisted(names[2], "no such file or directory"), walk.Unlisted(names[4], "not a directory")])
+
+    def test_what_cannot_be_listed(self):
+        os.makedirs(self.path("d", "b"))
+        write(self.path("d", "c"), b"")
+        unlisted = []
+        real = os.scandir
+        refused = os.fsencode(self.path("d", "b"))
+
+        def scan(folder):
+            if folder == refused:
+                raise PermissionError(13, "Permission denied")
+            return real(folder)
+
+        with mock.patch.object(os, "scandir", scan):
+            found = list(walk.below([os.fsencode(self.path("d"))], unlisted.append))
+        self.assertEqual(([os.path.basename(it.path) for it in found], unlisted), ([b"c"], [walk.Unlisted(refused, "permission denied")]))
+
+
+class Sessions(WithPictures):
+    """What ExifTool is asked."""
+
+    alone = True
+
+    def test_its_arguments(self):
+        calls, lines = [], []
+        stdin = SimpleNamespace(write=lines.append)
+
+        def start(words, folder, stdin):
+            calls.append((words, folder, stdin))
+            return SimpleNamespace(stdin=pipe, poll=lambda: None)
+
+        pipe, answers = stdin, [b'[{"SourceFile": "/a/b.jpg", "EXIF": "x"}]\n{done 1}\n', b"{done 2}\n", b'[{"SourceFile": "./link.Jpg"}]{done 3}\n']
+        with mock.patch.multiple(tools, start=start, needed=lambda it: it, read_until=lambda _, complete: self.complete(answers.pop(0), complete)):
+            it = session.Session(self.folder)
+            self.assertEqual(it.ask(b"/a/b.jpg", ("-EXIF:Exif", "-XMP")), {"EXIF": "x"})
+            self.assertEqual(it.ask(b"/a/c", ()), {})
+            self.assertEqual(it.ask(b"/a/ d.Jpg", ()), {})
+        self.assertEqual(calls, [(["exiftool", "-config", "", "-stay_open", "True", "-@", "-"], self.folder, -1)])
+        common = [b"-q", b"-q", b"-m", b"-json", b"-a", b"-G4", b"-b", b"-api", b"Filter=s/^(base64|text):/text:$1:/"]
+        self.assertEqual([it.split(b"\n") for it in lines], [
+            [*common, b"-EXIF:Exif", b"-XMP", b"/a/b.jpg", b"-echo3", b"{done 1}", b"-execute", b""], [*common, b"/a/c", b"-echo3", b"{done 2}", b"-execute", b""],
+            [*common, b"./link.Jpg", b"-echo3", b"{done 3}", b"-execute", b""]])  # fmt: skip
+
+    def complete(self, octets, complete):
+        """An output, which is complete with its last byte and not before."""
+        self.assertEqual([complete(bytearray(octets[:-1])), complete(bytearray(octets))], [False, True])
+        return octets
+
+    def test_names_that_exiftool_could_misread(self):
+        with mock.patch.multiple(tools, start=lambda *_, **__: None, needed=lambda it: it):
+            it = session.Session(self.folder)
+        for path in (b"/a/b.jpg", b"/A_z0-9./+,@%~()="):
+            self.assertEqual((it._handed_over(path), os.listdir(self.folder)), (path, []))
+        for path, link in ((b"/a b.jpg", "link.jpg"), (b"/a#", "link"), ("/\u00fc.x".encode(), "link.x"), (b"/a\n.tif", "link.tif"), (b"/a .abcdefgh", "link.abcdefgh"),
+                           (b"/a .abcdefghi", "link"), (b"/*.jpg\n", "link"), (b"/\xff.A1", "link.A1")):  # fmt: skip
+            self.assertEqual(it._handed_over(path), b"./" + link.encode())
+            self.assertEqual(os.readlink(os.fsencode(self.path(link))), path)
+            self.assertEqual(it._handed_over(path), b"./" + link.encode(), "the link is made again")
+        with mock.patch.object(os, "getcwdb", lambda: b"/x"):  # names are relative to this process's folder, and not to ExifTool's
+            self.assertEqual(it._handed_over(b"a/../b.jpg"), b"/x/b.jpg")
+            self.assertEqual(it._handed_over(b"-c d.jpg"), b"./link.jpg")
+        self.assertEqual(os.readlink(os.fsencode(self.path("link.jpg"))), b"/x/-c d.jpg")
+
+    def test_how_a_program_is_started(self):
+        """In a session of its own, in the C locale, without standard error; it ends with this process, and gets the signals that this one gets."""
+        calls = []
+        with mock.patch.object(tools.subprocess, "Popen", lambda words, **more: calls.append((words, more))):
+            tools.start(["a", "b"], "/", stdin=-3)
+        (words, more), pipe, nowhere = calls[0], -1, -3
+        begin = more.pop("preexec_fn")
+        environment = more.pop("env")
+        self.assertEqual((words, more), (["a", "b"], {"stdin": nowhere, "stdout": pipe, "stderr": nowhere, "bufsize": 0, "cwd": "/", "start_new_session": True}))
+        self.assertEqual(environment, {**os.environ, "LC_ALL": "C"})
+        with mock.patch.object(tools, "_libc") as libc, mock.patch.object(tools.signal, "pthread_sigmask") as mask:
+            begin()
+        self.assertEqual(libc.mock_calls, [mock.call.prctl(1, 9)])  # PR_SET_PDEATHSIG, SIGKILL
+        self.assertEqual(mask.mock_calls, [mock.call(tools.signal.SIG_SETMASK, tools.signal.pthread_sigmask(tools.signal.SIG_BLOCK, ()))])
+
+    def test_versions(self):
+        for program, printed, expected in (("exiftool", b"12.57\n", "12.57"), ("exiv2", b"exiv2 0.27.6\nmore 1\n", "0.27.6"), ("exiv2", b"", None),
+                                           ("exiv2", b"\n1\n", None), ("exiv2", b"a \xff\n", "\ufffd")):  # fmt: skip
+            calls = []
+            with mock.patch.multiple(tools, is_there=lambda _: True, needed=lambda it: it, run=lambda words: calls.append(words) or tools.Done(0, printed)):
+                self.assertEqual(tools.version.__wrapped__(program), expected)
+            self.assertEqual(calls, [["exiftool", "-config", "", "-ver"] if program == "exiftool" else ["exiv2", "--version"]])
+        with mock.patch.object(tools, "is_there", lambda _: False):
+            self.assertIsNone(tools.version.__wrapped__("exiv2"))
+
+
+class Small(WithPictures):
+    """Small pictures of a report."""
+
+    alone = True
+
+    def small(self, *files, embedded=None):
+        names = []
+        for number, octets in enumerate(files):
+            names.append(os.fsencode(self.path(f"{number}")))
+            write(self.path(f"{number}"), octets)
+        listings = {b"MM": f"exif\n[thumb]\njpeg 3: {(embedded or b'').hex()}\n"}
+        blocks = Blocks()
+        blocks.add("exif", b"MM", "")
+        with mock.patch.object(thumbnails.engine, "listing", listings.__getitem__), \
+             mock.patch.object(thumbnails.extraction, "blocks_of", lambda _: blocks if embedded else Blocks()):  # fmt: skip
+            found = thumbnails.small_pictures([*names, names[0]])
+        return {os.path.basename(os.fsdecode(name)): uri for name, uri in found.items()}
+
+    def test_kinds(self):
+        self.assertEqual(self.small(b"\xff\xd8\xffa", b"\x89PNG\r\n\x1a\n", b"GIF89", b"GIF", b"", b"\xff\xd8"), {
+            "0": "data:image/jpeg;base64,/9j/YQ==", "1": "data:image/png;base64,iVBORw0KGgo=", "2": "data:image/gif;base64,R0lGODk="})  # fmt: skip
+        self.assertEqual(self.small(b"GIF89", b"GIF8", embedded=b"\xff\xd8\xff"), {"0": "data:image/jpeg;base64,/9j/", "1": "data:image/jpeg;base64,/9j/"})
+        self.assertEqual(self.small(b"GIF89", embedded=b"abc"), {})
+
+    def test_lengths(self):
+        long = b"GIF8" + bytes(32_764)
+        self.assertEqual(list(self.small(long, long + b"1", b"GIF8")), ["0", "2"])
+        self.assertEqual((thumbnails.LARGEST, thumbnails.MOST), (32_768, 2_000_000))
+        with mock.patch.object(thumbnails, "MOST", 9):
+            self.assertEqual(list(self.small(b"GIF89", b"GIF89", b"GIF8", b"GIF8")), ["0", "2"])
+
+    def test_what_cannot_be_read(self):
+        for why in (tools.Missing("exiftool"), tools.Failed("failed")):
+            with mock.patch.object(thumbnails.extraction, "blocks_of", mock.Mock(side_effect=why)):
+                self.assertEqual(thumbnails.small_pictures([b"/no such picture"]), {})
+        for why in (thumbnails.exifnorm.Refused("Overlap", 1), thumbnails.exifnorm.NormalTooLong(), MemoryError()):
+            with mock.patch.object(thumbnails.engine, "listing", mock.Mock(side_effect=why)):
+                self.assertIsNone(thumbnails._embedded(b"MM"))
+
+
+if __name__ == "__main__":
+    unittest.main()

@@ -1,0 +1,295 @@
+"""`mend` and the temporary folders of a run: each program that is called with its arguments, each line, and each file that stays."""
+
+import argparse
+import contextlib
+import fcntl
+import io
+import json
+import os
+import stat
+import sys
+import tempfile
+import unittest
+from unittest import mock
+
+from studio import TOP, WithPictures, read, write
+
+sys.path.insert(0, os.path.join(TOP, "python"))
+
+from exifnorm_pictures import mend, rooms, single, tools  # noqa: E402
+from exifnorm_pictures.formats.found import Blocks  # noqa: E402
+
+READ = 2_140_000_000  # when the picture was read: in the future, so that reading it changes nothing
+EXIFTOOL = ["exiftool", "-config", ""]
+WRITING = [*EXIFTOOL, "-q", "-q", "-m", "-overwrite_original"]
+ASKING = [*EXIFTOOL, "-q", "-q", "-m", "-s", "-IFD0:PageName", "-IFD0:DocumentName", "-IFD0:HostComputer", "p"]
+RECORD = [*EXIFTOOL, "-q", "-q", "-m", "-b", "-IPTC", "p"]
+EXIV2 = ["exiv2", "-q", "-Q", "m", "-M"]
+
+
+class Steps(unittest.TestCase):
+    """The remedies of `mend`, with the arguments that docs/REFUSALS.md shows."""
+
+    alone = True  # it replaces functions that other tests call
+
+    def called(self, step, *ends, there=True):
+        """What a step calls, if its programs end like this, and its result."""
+        ends, calls = list(ends), []
+
+        def run(words):
+            calls.append(words)
+            return tools.Done(*ends.pop(0))
+
+        with mock.patch.multiple(tools, run=run, needed=lambda it: it, is_there=lambda it: there and it == "exiv2"):
+            result = step("p")
+        self.assertEqual(ends, [], "fewer programs are called")
+        return calls, result
+
+    def test_touch(self):
+        adding, taking = [*WRITING, "-IFD0:PageName=zz", "p"], [*WRITING, "-IFD0:PageName=", "p"]
+        record = "IPTC:SubjectReference{}=exifnorm:01000000:mend"
+        none, some = (0, b""), (0, b"\x1c\2\0\0\2\0\4")
+        self.assertEqual(self.called(mend._touch, none, none, none, none), ([ASKING, RECORD, adding, taking], True))
+        both = [[*WRITING, "-IFD0:PageName=zz", "-" + record.format("+"), "p"], [*WRITING, "-IFD0:PageName=", "-" + record.format("-"), "p"]]
+        self.assertEqual(self.called(mend._touch, none, some, none, none), ([ASKING, RECORD, *both], True))
+        self.assertEqual(self.called(mend._touch, none, none, (1, b"")), ([ASKING, RECORD, adding], False))
+        self.assertEqual(self.called(mend._touch, none, none, none, (1, b"")), ([ASKING, RECORD, adding, taking], False))
+        every = (0, b"PageName : a\nDocumentName : b\nHostComputer : c\n")
+        self.assertEqual(self.called(mend._touch, every), ([ASKING], False))
+
+    def test_exiv2(self):
+        adding, taking = [*EXIV2, "set Exif.Image.PageName Ascii zz", "p"], [*EXIV2, "del Exif.Image.PageName", "p"]
+        none, every = (0, b""), (0, b"PageName : a\nDocumentName : b\nHostComputer : c\n")
+        self.assertEqual(self.called(mend._by_exiv2, none, none, none), ([ASKING, adding, taking], True))
+        self.assertEqual(self.called(mend._by_exiv2, none, (1, b"")), ([ASKING, adding], False))
+        self.assertEqual(self.called(mend._by_exiv2, none, none, (1, b"")), ([ASKING, adding, taking], False))
+        self.assertEqual(self.called(mend._by_exiv2, none, there=False), ([ASKING], False))
+        self.assertEqual(self.called(mend._by_exiv2, every), ([ASKING], False))
+
+    def test_rebuild(self):
+        words = [*WRITING, "-all=", "-tagsfromfile", "@", "-all:all", "-unsafe", "p"]
+        for status, result in ((0, True), (1, False)):
+            self.assertEqual(self.called(mend._rebuild, (status, b"")), ([words], result))
+        self.assertEqual(list(mend._REMEDIES.items()), [("touch", mend._touch), ("exiv2", mend._by_exiv2), ("rebuild", mend._rebuild)])
+
+    def test_a_field_that_is_free(self):
+        for printed, expected in ((b"", "PageName"), (b"DocumentName : PageName\n", "PageName"), (b"PageName  : x\n", "DocumentName"),
+                                  (b"PageName: x\nDocumentName:y\n", "HostComputer"), (b"\xff : x\nPageName : HostComputer", "DocumentName")):  # fmt: skip
+            self.assertEqual(self.called(mend._free_field, (0, printed)), ([ASKING], expected))
+
+    def test_values_that_are_compared(self):
+        words = [*EXIFTOOL, "-q", "-q", "-m", "-a", "-u", "-s", "-G1", "-x", "System:all", "-x", "File:all", "-x", "Composite:all", "-x", "ExifTool:all",
+                 "-x", "JFIF:all", "p"]  # fmt: skip
+        lines = (b"[IFD0] Make      : A  b\n\n[IFD0] Make : A b\n[IFD1] ThumbnailOffset : 8\n[IFD1] Thumb : (Binary data 9 bytes, use -b option to extract)\n"
+                 b"[M] Start Of : 1\n[M] Started : \xff\n[E] Padding : 1\n[P] IPTCDigest : 0\n")  # fmt: skip
+        calls, found = self.called(mend._printed, (0, lines))
+        self.assertEqual(calls, [words])
+        self.assertEqual(dict(found), {"[IFD0] Make : A b": 2, "[IFD1] Thumb : (Binary data 9 bytes": 1, "[M] Started : \\xff": 1})
+
+
+class Copies(WithPictures):
+    """The copy that `mend` writes."""
+
+    alone = True
+    GOOD, BAD = Blocks(type="JPEG"), {"Exif": "refused: Overlap at 34"}
+
+    def mended(self, name="a.jpg", refusals=({"Exif": "refused: Overlap at 34"}, {}), remedy=None, blocks=None, out="out.jpg"):
+        """The result for a picture whose blocks are judged like this, at first and after each remedy, and the names that are used."""
+        self.used, refusals = [], list(refusals)
+
+        def read_blocks(path):
+            self.used.append(os.fsdecode(os.path.basename(path)))
+            return blocks or self.GOOD
+
+        def touch(path):
+            write(path, read(path) + b"+")
+            return True
+
+        if not os.path.exists(self.path(name)):
+            write(self.path(name), b"a picture")
+            os.utime(self.path(name), (READ, 20))
+            os.chmod(self.path(name), 0o640)
+        changed = {"blocks_of": read_blocks, "_refusals": lambda _: refusals.pop(0), "_printed": lambda _: mend.Counter("ab"),
+                   "_REMEDIES": {it: remedy or touch for it in mend.STEPS}}  # fmt: skip
+        os.makedirs(self.path("room"), exist_ok=True)
+        with mock.patch.multiple(mend, **changed), mock.patch.object(tools, "needed", lambda it: it):
+            return mend.mend(os.fsencode(self.path(name)), os.fsencode(self.path(out)), self.path("room"))
+
+    def test_what_is_written(self):
+        """The copy has the mode and times of the picture, which stays as it is; nothing else stays."""
+        self.assertEqual(self.mended(), mend.Mended("touch", self.BAD))
+        self.assertEqual((read(self.path("out.jpg")), read(self.path("a.jpg"))), (b"a picture+", b"a picture"))
+        now = os.stat(self.path("out.jpg"))
+        self.assertEqual((stat.S_IMODE(now.st_mode), now.st_mtime, now.st_atime), (0o640, 20, READ))
+        self.assertEqual((sorted(os.listdir(self.folder)), os.listdir(self.path("room"))), (["a.jpg", "out.jpg", "room"], []))
+        self.assertEqual(self.used, ["a.jpg", "touch.jpg"])
+
+    def test_a_plain_copy(self):
+        self.assertEqual(self.mended(refusals=[{}]), mend.Mended("copy", {}))
+        now = os.stat(self.path("out.jpg"))
+        self.assertEqual((read(self.path("out.jpg")), stat.S_IMODE(now.st_mode), now.st_mtime), (b"a picture", 0o640, 20))
+
+    def test_without_a_copy(self):
+        self.assertEqual(self.mended(refusals=[self.BAD, self.BAD, self.BAD, self.BAD]), mend.Mended("none", self.BAD))
+        self.assertEqual(self.used, ["a.jpg", "touch.jpg", "exiv2.jpg", "rebuild.jpg"])
+        self.assertEqual(self.mended(remedy=lambda _: False), mend.Mended("none", self.BAD))
+        gone = Blocks(problem="NoPicture", detail="text/plain")
+        self.assertEqual(self.mended(blocks=gone), mend.Mended("none", {}, problem="NoPicture: text/plain"))
+        self.assertEqual(sorted(os.listdir(self.folder)), ["a.jpg", "room"])
+
+    def test_endings_of_names(self):
+        """ExifTool and exiv2 look at them, so they are kept if they are short and plain."""
+        for name, ending in (("b.Jp2", ".Jp2"), ("b", ""), ("b.abcdefgh", ".abcdefgh"), ("b.abcdefghi", ""), ("b.a-b", ""), ("b.\u00e9", ""), ("b.c.d", ".d"),
+                             ("b.jpg\n", "")):  # fmt: skip
+            self.mended(name, out=f"out{ending}-{len(name)}{name[-1:]}.x")
+            self.assertEqual(self.used[1], f"touch{ending}", name)
+
+    def test_what_cannot_be_written(self):
+        write(self.path("there"), b"")
+        for out, why in (("there", "^the copy is there already$"), ("nothing/out", "^no such file or directory$")):
+            with self.assertRaisesRegex(mend.NotWritten, why):
+                self.mended(out=out)
+
+        def appeared(*_, **__):
+            raise FileExistsError(17, "File exists")
+
+        with mock.patch.object(mend.writing, "copy_new", appeared), self.assertRaisesRegex(mend.NotWritten, "^the copy is there already$"):
+            self.mended()
+
+
+class Lines(WithPictures):
+    """What `mend` prints."""
+
+    alone = True
+    maxDiff = None
+
+    def test_each_result(self):
+        one = {"Exif": "refused: Overlap at 34"}
+        two = {**one, "IPTC": "refused: DataSetCut at 0"}
+        for found, lines, members in (
+            (mend.Mended("none", {}, problem="NoPicture: text"), ["a\\n: NoPicture: text"],
+             {"step": "none", "before": {}, "lost": [], "gained": [], "problem": "NoPicture: text"}),
+            (mend.Mended("copy", {}), ["a\\n: nothing was to be mended: a plain copy"], {"step": "copy", "before": {}, "lost": [], "gained": []}),
+            (mend.Mended("touch", one), ["a\\n: Exif refused: Overlap at 34: ExifTool added a field and removed it", "  0 printed values lost or changed"],
+             {"step": "touch", "before": one, "lost": [], "gained": []}),
+            (mend.Mended("exiv2", two, [], ["[IFD0] A : b"]),
+             ["a\\n: Exif refused: Overlap at 34; IPTC refused: DataSetCut at 0: exiv2 added a field and removed it",
+              "  0 printed values lost or changed", "  + [IFD0] A : b"],
+             {"step": "exiv2", "before": two, "lost": [], "gained": ["[IFD0] A : b"]}),
+            (mend.Mended("rebuild", one, ["x", "y"], ["z"]),
+             ["a\\n: Exif refused: Overlap at 34: ExifTool wrote all tags that it knows into a new block", "  2 printed values lost or changed",
+              "  - x", "  - y", "  + z"], {"step": "rebuild", "before": one, "lost": ["x", "y"], "gained": ["z"]}),
+            (mend.Mended("none", one), ["a\\n: Exif refused: Overlap at 34: no remedy helped"], {"step": "none", "before": one, "lost": [], "gained": []}),
+        ):  # fmt: skip
+            self.assertEqual(single._mended_lines(b"a\n", found), lines)
+            self.assertEqual(single._mended_members(b"a\n", found), {"path": "a\n", **members})
+
+    def printed(self, why, as_json):
+        with mock.patch.object(mend, "mend", mock.Mock(side_effect=why)), contextlib.redirect_stdout(io.StringIO()) as lines:
+            self.assertEqual(single._mend_one(argparse.Namespace(json=as_json), b"a\xff", b"b\n", ""), 4)
+        return lines.getvalue()
+
+    def test_what_is_not_written(self):
+        for why, word in ((mend.NotWritten("no space left"), "NotWritten"), (tools.Failed("exiftool took longer than 1 seconds"), "ToolFailed")):
+            self.assertEqual(self.printed(why, False), f"a\\xff: b\\n isn't written: {why}\n")
+            self.assertEqual(json.loads(self.printed(why, True)), {"path": "a\\xff", "path_hex": "61ff", "problem": word, "detail": str(why)})
+
+    def pairs(self, names, files_from=None, given=()):
+        with mock.patch.object(single, "from_list", lambda _: list(given)):
+            return list(single._pairs(argparse.Namespace(names=names, files_from=files_from)))
+
+    def test_pictures_and_their_copies(self):
+        os.mkdir(self.path("out"))
+        write(self.path("file"), b"")
+        out = os.fsencode(self.path("out"))
+        self.assertEqual(self.pairs(["a", "b"]), [(b"a", b"b")])
+        self.assertEqual(self.pairs([self.path("out")], "-", [b"x/a.jpg", b"/y/b.jpg"]), [(b"x/a.jpg", out + b"/a.jpg"), (b"/y/b.jpg", out + b"/b.jpg")])
+        for names, files_from, message in (
+            (["a"], None, "mend: give PICTURE and OUT"), (["a", "b", "c"], None, "mend: give PICTURE and OUT"),
+            (["a", "b"], "-", "mend: with --files-from give the folder OUT alone, which must be there"),
+            ([self.path("file")], "-", "mend: with --files-from give the folder OUT alone, which must be there"),
+        ):  # fmt: skip
+            with contextlib.redirect_stderr(io.StringIO()) as lines, self.assertRaises(SystemExit) as ended:
+                self.pairs(names, files_from, [b"x"])
+            self.assertEqual((lines.getvalue().splitlines()[-1], ended.exception.code), (f"exifnorm-pictures: {message}", 3))
+
+
+class Folders(WithPictures):
+    """Temporary folders, in TMPDIR."""
+
+    alone = True
+
+    def setUp(self):
+        super().setUp()
+        own = mock.patch.object(tempfile, "tempdir", self.folder)
+        own.start()
+        self.addCleanup(own.stop)
+
+    def folder_of_a_run(self, name, lock="lock"):
+        os.mkdir(self.path(name))
+        write(self.path(name, "data"), b"1")
+        write(self.path(name, lock), b"")
+        return self.path(name)
+
+    def test_a_run_has_one_with_a_lock(self):
+        before = len(os.listdir("/proc/self/fd"))
+        with rooms.room() as name:
+            self.assertEqual(os.path.dirname(name), self.folder)
+            self.assertRegex(os.path.basename(name), "^exifnorm-")
+            self.assertEqual(os.listdir(name), ["lock"])
+            self.assertEqual(stat.S_IMODE(os.stat(os.path.join(name, "lock")).st_mode), 0o600)
+            write(os.path.join(name, "data"), b"1")
+            with rooms.room() as other:  # another run, which leaves this one as it is
+                self.assertEqual(sorted(os.listdir(self.folder)), sorted(map(os.path.basename, (name, other))))
+            self.assertEqual(sorted(os.listdir(name)), ["data", "lock"])
+            with open(os.path.join(name, "lock")) as file, self.assertRaises(BlockingIOError):
+                fcntl.flock(file, fcntl.LOCK_EX | fcntl.LOCK_NB)
+        self.assertEqual((os.listdir(self.folder), len(os.listdir("/proc/self/fd"))), ([], before))
+        with self.assertRaises(KeyError), rooms.room():
+            raise KeyError
+        self.assertEqual((os.listdir(self.folder), len(os.listdir("/proc/self/fd"))), ([], before))
+
+    def test_the_lock_has_its_name_after_it_is_locked(self):
+        """Or else another run could take the folder for one of a run that was killed."""
+        steps = []
+        real = {"flock": fcntl.flock, "rename": os.rename}
+
+        def noted(name):
+            def call(*words):
+                steps.append((name, *sorted(os.listdir(os.path.join(self.folder, os.listdir(self.folder)[0])))))
+                return real[name](*words)
+
+            return call
+
+        with mock.patch.object(rooms.fcntl, "flock", noted("flock")), mock.patch.object(rooms.os, "rename", noted("rename")):
+            with rooms.room():
+                self.assertEqual(steps, [("flock", "new"), ("rename", "new")])
+
+    def test_those_of_runs_that_were_killed(self):
+        """They are removed if they are this user's, and if no process has their lock."""
+        self.folder_of_a_run("exifnorm-killed")
+        self.folder_of_a_run("exifnorm-killed-2")
+        self.folder_of_a_run("exifnorm-without", "new")
+        self.folder_of_a_run("exifnor-other")
+        self.folder_of_a_run("another")
+        write(self.path("exifnorm-file"), b"")
+        os.symlink("another", self.path("exifnorm-link"))
+        os.symlink("../another/lock", os.path.join(self.folder_of_a_run("exifnorm-linked", "data2"), "lock"))
+        alive = self.folder_of_a_run("exifnorm-alive")
+        with open(os.path.join(alive, "lock")) as file:
+            fcntl.flock(file, fcntl.LOCK_EX)
+            with mock.patch.object(rooms.os, "geteuid", lambda: os.getuid() + 1), rooms.room():
+                self.assertTrue(os.path.exists(self.path("exifnorm-killed")), "it is another user's")
+            with rooms.room() as name:
+                kept = ["another", "exifnor-other", "exifnorm-alive", "exifnorm-file", "exifnorm-link", "exifnorm-linked", "exifnorm-without"]
+                self.assertEqual(sorted(os.listdir(self.folder)), sorted([*kept, os.path.basename(name)]))
+        for it in ("another", "exifnor-other", "exifnorm-alive", "exifnorm-linked", "exifnorm-without"):
+            self.assertEqual(len(os.listdir(self.path(it))), 3 if it == "exifnorm-linked" else 2, it)
+
+    def test_a_folder_that_cannot_be_listed(self):
+        with mock.patch.object(rooms.os, "scandir", mock.Mock(side_effect=PermissionError)), rooms.room() as name:
+            self.assertTrue(os.path.isdir(name))
+
+
+if __name__ == "__main__":
+    unittest.main()

@@ -1,0 +1,242 @@
+"""Single values: those of another type in a catalogue, byte offsets and folders at an end, and each byte that may be before a block."""
+
+import hashlib
+import io
+import os
+import subprocess
+import sys
+import unittest
+import zlib
+from collections import Counter
+from unittest import mock
+
+from made_blocks import segment
+from made_files import exif, jpeg, xmp
+from studio import HERE, TOP, WithPictures, interpreter_with, needs, run
+
+sys.path.insert(0, os.path.join(TOP, "python"))
+
+from exifnorm_pictures import batches, changed, ends, engine, index  # noqa: E402
+from exifnorm_pictures.blocks import Block  # noqa: E402
+from exifnorm_pictures.catalogue import BLOCK_COLUMNS, Catalogue, NoCatalogue  # noqa: E402
+from exifnorm_pictures.formats import found as found_, jpeg as jpeg_  # noqa: E402
+from exifnorm_pictures.formats.found import EXIF, PROBLEMS, NotRead  # noqa: E402
+from exifnorm_pictures.kept import Entry, Stamp, block_of_row  # noqa: E402
+
+# The columns of each table by the type of their values. A value of another type in SQL, as SQLite keeps it in such a column.
+COLUMNS = {
+    "pictures": {"bytes": "path root", "text": "type extractor problem detail exif iptc xmp not_read exif_octets iptc_octets xmp_octets",
+                 "number": "size modified inode"},
+    "blocks": {"text": "kind name source extractor status digest cause octets", "number": "number place length"},
+    "not_read": {"text": "what digest"},
+}  # fmt: skip
+WRONG = {"bytes": ("'a'", "7"), "text": ("x'00'",), "number": ("'a'", "x'00'", "1.5")}
+MEANT = {"'a'": "a", "7": 7, "x'00'": b"\0", "1.5": 1.5}
+
+
+class RowsOfCatalogues(WithPictures):
+    def catalogue(self, *names, name="c"):
+        made = Catalogue(self.path(name), make=True)
+        self.addCleanup(made.close)
+        block = Block(EXIF, "Exif", "somewhere", "own", "refused", None, "Overlap", 34, 100, "0" * 64)
+        made.put(made.begin_run("2000-01-01T00:00:00Z"),
+                 [Entry(it, b"/", Stamp(1, 2, 3, 4), "JPEG", blocks=(block,), not_read=(NotRead("a part", "1" * 64),)) for it in names])  # fmt: skip
+        return made
+
+    def test_values_of_another_type(self):
+        """In each column: the catalogue is damaged, and the message has the value."""
+        made = self.catalogue(b"/p")
+
+        def read():
+            for it in made.pictures():
+                made.not_read_of(it)
+            return list(made.rows(f"SELECT {BLOCK_COLUMNS} FROM blocks", (), block_of_row))
+
+        self.assertEqual([it.refusal for it in read()], ["Overlap at 34"])
+        wrong = [(table, column, value) for table, kinds in COLUMNS.items() for kind, columns in kinds.items()
+                 for column in columns.split() for value in WRONG[kind]]  # fmt: skip
+        for table, column, value in wrong:
+            made.base.execute("BEGIN")
+            made.base.execute(f"UPDATE {table} SET {column} = {value}")
+            with self.assertRaises(NoCatalogue, msg=(table, column, value)) as raised:
+                read()
+            self.assertEqual(str(raised.exception), f"{made.name} is damaged: {MEANT[value]!r} is a value of another type", (table, column))
+            made.base.execute("ROLLBACK")
+        self.assertEqual([it.refusal for it in read()], ["Overlap at 34"])
+
+    def test_fields_that_cannot_be_read(self):
+        """They are neither a list in JSON nor one that zlib compressed, or are a list of something else."""
+        sides = [self.catalogue(b"/p", name=name) for name in ("before", "after")]
+        text = "CAST('{}' AS BLOB)".format
+        good = [text('[["main", "010f", "ASCII", 4, "abc"]]'), text('[["main", "010f", "ASCII", 4, "xyz"]]')]
+        wrong = ("x'0011'", "7", "'text'", text("["), text("[1]"), text('[["main"]]'), text("[" * 100_000), f"x'{zlib.compress(bytes([255])).hex()}'")
+        for side, fields in [(side, fields) for side in (0, 1) for fields in wrong]:
+            for it, digest, value in zip(sides, "ab", good):
+                it.base.execute(f"UPDATE blocks SET status = 'accepted', cause = NULL, place = NULL, digest = '{digest}', fields = {value}")
+                it.base.execute(f"UPDATE pictures SET exif = '{digest}'")
+            found = [(it.result, it.changes) for it in changed.changed(*sides, Counter())]
+            self.assertEqual(found, [("different", [("main:Make", "abc", "xyz")])])
+            sides[side].base.execute(f"UPDATE blocks SET fields = {fields}")
+            with self.assertRaises(NoCatalogue, msg=(side, fields[:40])) as raised:
+                list(changed.changed(*sides, Counter()))
+            self.assertTrue(str(raised.exception).startswith(f"{sides[side].name} is damaged: "), raised.exception)
+
+    def test_versions_and_ends_of_runs(self):
+        """Each is that of one run."""
+        made = self.catalogue()
+        later = made.begin_run("2001-02-03T04:05:06Z")
+        made.set_versions(later, "12.57", "0.27.6")
+        made.end_run(later, "2001-02-03T04:05:07Z")
+        last = made.begin_run("2002-01-01T00:00:00Z")
+        made.set_versions(last, "13.00", None)
+        self.assertEqual(made.runs(), [("2000-01-01T00:00:00Z", None, None, None), ("2001-02-03T04:05:06Z", "2001-02-03T04:05:07Z", "12.57", "0.27.6"),
+                                       ("2002-01-01T00:00:00Z", None, "13.00", None)])  # fmt: skip
+
+    def test_a_copy_that_cannot_be_made(self):
+        made = self.catalogue()
+        with self.assertRaises(NoCatalogue) as raised:
+            made.copy_to(self.path("missing", "old"))
+        self.assertEqual(str(raised.exception), f"{made.name}: unable to open database file")
+
+    def test_what_is_below_the_root(self):
+        """Each path but the root itself, also if a folder is given with a slash at its end."""
+        paths = [b"/\x01", b"/a", b"/a/b", b"/a/b/c", b"/a0", b"/\xff"]
+        made = self.catalogue(*paths)
+        for folder, expected in ((b"/", paths), (b"//", paths), (b"/a", [b"/a/b", b"/a/b/c"]), (b"/a/", [b"/a/b", b"/a/b/c"])):
+            self.assertEqual([path for _, path, _ in made.below(folder)], expected, folder)
+
+
+class SingleBlocks(unittest.TestCase):
+    def test_lines_about_one(self):
+        """The last column is as `exifnorm check` prints it (docs/FORMAT.md, section 8). A byte offset may be 0."""
+        for status, cause, place, refusal, line in (
+            ("accepted", None, None, "None", "ok exif"), ("refused", "Overlap", 34, "Overlap at 34", "refused: Overlap at 34"),
+            ("refused", "UnknownKind", 0, "UnknownKind at 0", "refused: UnknownKind at 0"), ("unreadable", "NoRDF", None, "NoRDF", "unreadable: NoRDF"),
+            ("too long", "NormalTooLong", None, "NormalTooLong", "refused: NormalTooLong"),
+            ("failed", "OutOfMemory", None, "OutOfMemory", "failed: OutOfMemory"),
+        ):  # fmt: skip
+            it = Block(EXIF, "Exif", "somewhere", "own", status, None, cause, place, 9, "0" * 64)
+            self.assertEqual((it.refusal, it.line), (refusal, line))
+
+    def test_blocks_of_a_kind(self):
+        some = found_.Blocks()
+        for kind, data, part in ((EXIF, b"1", ""), (found_.XMP, b"2", ""), (EXIF, b"3", ""), (EXIF, b"4", "page 2")):
+            some.add(kind, data, "somewhere", part)
+        self.assertEqual([[it.data for it in some.of_kind(kind)] for kind in (EXIF, found_.IPTC, found_.XMP)], [[b"1", b"3", b"4"], [], [b"2"]])
+
+    def test_extensions_of_packets(self):
+        """The first one of a name is read with its packet, which has the MD5 of its bytes; each further one in other bytes is reported."""
+        more, plain = xmp("<dc:title>two</dc:title>"), xmp("<dc:format>one</dc:format>")
+        name = hashlib.md5(more).hexdigest().upper()
+        asking = xmp("<dc:format>one</dc:format>", f"note:HasExtendedXMP='{name}'")
+        read, damaged, missing = (("XMP", "accepted", None), *(("XMP", "unreadable", it) for it in ("ExtensionDamaged", "ExtensionMissing")))
+        first, second = (f"{it}extended XMP" for it in ("", "second "))
+        for packet, pieces, expected in (
+            (asking, [more], [read]), (asking, [more, more], [read]), (asking, [more, b"other"], [read, (second, "unreadable", "ExtensionNotNamed")]),
+            (asking, [b"other", more], [damaged, (second, "unreadable", "ExtensionNotNamed")]), (asking, [], [missing]),
+            (plain, [more], [read, (first, "unreadable", "ExtensionNotNamed")]),
+        ):  # fmt: skip
+            some = found_.Blocks()
+            some.add(found_.XMP, packet, "somewhere")
+            some.found += [found_.Found(found_.XMP, data, it, "somewhere", extends=name) for it, data in zip((first, second), pieces)]
+            judged = engine.judge_all(some)
+            self.assertEqual([(it.name, it.status, it.cause) for it in judged], expected)
+            used = pieces[0] if packet == asking and pieces else b""
+            self.assertEqual(judged[0].octets, hashlib.sha256(packet + used).hexdigest())
+
+    def test_bytes_around_the_word_exif(self):
+        """ExifTool reads a segment that begins with `.{0,4}Exif\\0`, where a dot is any byte, and takes the block from the second byte after it."""
+        one = exif(b"Abc")
+        octets = [bytes([it]) for it in range(256)]
+        for head in (*(it + b"Exif\0\0" for it in octets), *(b"Exif\0" + it for it in octets), *(it * 4 + b"eXIF\0" + it for it in octets)):
+            found = jpeg_.read(io.BytesIO(jpeg(segment(0xE1, head + one))))
+            self.assertEqual([(it.kind, it.name, it.data) for it in found.found], [("exif", "Exif", one)], head)
+            self.assertEqual(found.not_read, [], head)
+
+    def test_segments_that_begin_as_kodaks(self):
+        """Kodak's `Meta` is in APP3, by ExifTool's table of segments. What begins so in others is something else."""
+        for head in (b"Meta\0\0", b"META\0\0", b"Exif\0\0"):
+            data = head + b"abc"
+            for marker in [it for it in range(0xE0, 0xF0) if it not in (0xE1, 0xED)]:
+                found = jpeg_.read(io.BytesIO(jpeg(segment(marker, data))))
+                self.assertEqual((found.found, found.not_read), ([], [NotRead.of("APP3 segment Meta", data)] if marker == 0xE3 else []), marker)
+
+
+class LookedAtAgain(unittest.TestCase):
+    alone = True  # it replaces a function that other tests call
+
+    def test_problems_that_may_be_solved(self):
+        """Although a file is the same: those of the system, and those of a program that was installed since."""
+        others = {"Vanished", "Moved", "Unreadable", "ToolFailed"}
+        for there, expected in (((), others), (("exiftool",), others | {"NeedsExifTool"}), (("exiv2",), others | {"NeedsExiv2"})):
+            with mock.patch.object(index.tools, "is_there", there.__contains__):
+                found = {it for it in (None, *PROBLEMS, "Moved", "NeedsExifTool") if index._worth_another(it)}
+            self.assertEqual(found, expected, there)
+
+
+class Processors(unittest.TestCase):
+    alone = True  # it replaces a function that other tests call
+
+    def test_how_many_processes_look_at_pictures(self):
+        """As many as there are processors that this process may use, or as many as are asked for."""
+        with mock.patch.object(batches.os, "sched_getaffinity", lambda number: set(range(7)) if number == 0 else set()):
+            self.assertEqual([batches.How(jobs).processes for jobs in (0, 1, 3, 100)], [7, 1, 3, 100])
+
+    def test_processes_are_killed(self):
+        """By SIGKILL, which none can ignore; where there never were several, multiprocessing isn't imported."""
+        children = [mock.Mock(), mock.Mock()]
+        with mock.patch.dict(sys.modules, {"multiprocessing": mock.Mock(active_children=lambda: children)}):
+            ends.end_children()
+        self.assertEqual([it.mock_calls for it in children], [[mock.call.kill()]] * 2)
+        with mock.patch.dict(sys.modules):
+            sys.modules.pop("multiprocessing", None)
+            ends.end_children()
+            self.assertNotIn("multiprocessing", sys.modules)
+
+
+class Closed(WithPictures):
+    def by_itself(self, text):
+        """What a Python program prints, in this folder."""
+        done = run([sys.executable, "-c", text], self.folder, seconds=120)
+        self.assertEqual((done.returncode, done.stderr), (0, b""))
+        return done.stdout.decode().splitlines()
+
+    def test_signals_that_are_ignored(self):
+        """nohup ignores SIGHUP for a command (POSIX): it stays ignored."""
+        for ignored in ("SIGHUP", "SIGTERM"):
+            text = (
+                "import signal\nfrom exifnorm_pictures import ends\n"
+                f"for it in ends.SIGNALS: signal.signal(it, signal.SIG_IGN if it.name == '{ignored}' else signal.SIG_DFL)\n"
+                "ends.heed_signals()\nprint(*[it.name for it in ends.SIGNALS if signal.getsignal(it) == signal.SIG_IGN])\n"
+                "print(*[it.name for it in ends.SIGNALS if signal.getsignal(it) == signal.SIG_DFL])"
+            )
+            self.assertEqual(self.by_itself(text), [ignored, ""])
+
+    def test_files_that_are_not_read(self):
+        """One that became a pipe after a look at it, and one whose first bytes can't be read."""
+        with open(self.path("a.jpg"), "wb") as file:
+            file.write(jpeg())
+        os.mkfifo(self.path("pipe"))
+        text = (
+            "import os\nfrom exifnorm_pictures import extraction\n"
+            "def count(): return len(os.listdir('/proc/self/fd'))\n"
+            "def fails(*_): raise OSError(5, 'Input/output error')\n"
+            "opened, before = os.open, count()\nos.open = lambda path, *more: opened('pipe', *more)\n"
+            "print(extraction.blocks_of(b'a.jpg').detail, count() - before)\n"
+            "os.open, os.pread = opened, fails\nprint(extraction.blocks_of(b'a.jpg').detail, count() - before)\n"
+        )
+        self.assertEqual(self.by_itself(text), ["it is no regular file 0", "input/output error 0"])
+
+
+@needs("rdflib")
+class Languages(unittest.TestCase):
+    def test_of_packets_that_rdflib_reads(self):
+        """Upper and lower case mean the same (RFC 5646, 2.1.1), and languages differ."""
+        packets = [xmp(f"<xmp:d rdf:datatype='http://t/'>1</xmp:d><dc:format{it}>one</dc:format>").decode()
+                   for it in (" xml:lang='en-GB'", " xml:lang='EN-gb'", " xml:lang='en-gb'", " xml:lang='en'", "")]  # fmt: skip
+        call = "import sys; from test_xmp import said; print(*[said(it.encode()) for it in sys.argv[1:]])"
+        environment = {**os.environ, "PYTHONPATH": os.pathsep.join([HERE, os.path.join(TOP, "python")]), "PYTHONDONTWRITEBYTECODE": "1"}
+        done = subprocess.run([interpreter_with("rdflib"), "-c", call, *packets], capture_output=True, env=environment)
+        self.assertEqual(done.stderr, b"")
+        digests = done.stdout.split()
+        self.assertEqual([digests.index(it) for it in digests], [0, 0, 0, 3, 4])
