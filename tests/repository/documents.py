@@ -30,6 +30,7 @@ sys.path.insert(0, str(paths.TOP / "packaging"))
 
 import header
 import named
+import pages
 import rules
 import watching
 from blocks import Blocks
@@ -234,20 +235,37 @@ class Listed(unittest.TestCase):
             ("docs/FORMAT.md", r"^\| (\d+) \|", listed),
             ("docs/exifnorm.1", r"^\.B (\d+)$", text_of("docs/exifnorm.1")),
         ):
-            self.assertEqual(set(re.findall(row, text, re.M)), statuses, name)
+            found = re.findall(row, text, re.M)
+            self.assertEqual((set(found), found), (statuses, sorted(found)), name)
+
+    def test_the_arguments_of_the_format_are_those_of_the_page(self):
+        rows = re.findall(r"^\| `([^`]+)` \| [^|]+ \|$", text_of("docs/FORMAT.md").split("\n| Arguments | Result |\n")[1].split("\n\n")[0], re.M)
+        tags = re.findall(r"^\.TP\n(.*)$", text_of("docs/exifnorm.1").split(".SH COMMANDS\n")[1].split(".SH OUTPUT\n")[0], re.M)
+        self.assertEqual(rows, list(map(pages.plain, tags)))
+        self.assertEqual(len(rows), 7)
 
     def test_figures_are_those_of_the_tests(self):
         laws = len(re.findall(r"^    LAW\(", text_of("tests/library/fuzz/laws.h"), re.M))
         mistakes = len(re.findall(r"^    MISTAKE\(", text_of("tests/library/fuzz/wrong.c"), re.M))
+        blocks = re.search(r"^BLOCKS, SEED = (\w+)", text_of("tests/library/fuzz.py"), re.M)[1]
+        millions = {"2_000_000": "two", "4_000_000": "four", "8_000_000": "eight"}[blocks]
         for name, text in (
             ("docs/FUZZING.md", f"It checks {laws} laws"),
             ("docs/FUZZING.md", f"one of {mistakes} mistakes"),
+            ("docs/FUZZING.md", f"a short run: {millions} million blocks"),
             ("SECURITY.md", f"at most {watching.TIMES} times the input"),
             ("bench/README.md", f"to {watching.TIMES} times the input"),
             ("docs/FORMAT.md", f"`LIMIT` = {LIMIT:,} bytes"),
             ("docs/exifnorm.1", f"its normal form is longer than {LIMIT:,} bytes."),
         ):
             self.assertIn(text, text_of(name), name)
+
+    def test_packages_of_debian_are_those_of_the_parts(self):
+        known = set(re.findall(r"\S+", " ".join(re.findall(r"^Packages: (.*)$", text_of("tests/parts.txt"), re.M))))
+        lists = re.findall(r"Debian's ((?:`[^`]+`(?:,| and)? ?)+)", "".join(map(text_of, DOCUMENTS)))
+        named_there = re.findall(r"`([^`]+)`", "".join(lists))
+        self.assertEqual([it for it in named_there if it not in known], [])
+        self.assertGreater(len(named_there), 2)
 
     def test_what_must_be_read_has_so_many_lines(self):
         rows = re.findall(r"^\| (px_\w+) \| ([^|]*) \| (\d+) \|$", text_of("docs/PROOFS.md"), re.M)
@@ -299,6 +317,7 @@ class Written(unittest.TestCase):
     def test_examples(self):
         examples(header)
         examples(named)
+        examples(pages)
         examples(rules)
         examples(sys.modules[__name__])
 
@@ -343,6 +362,19 @@ class Written(unittest.TestCase):
             plain = [not re.match(r"$|[#|>!]|- |\d+\. |    ", it) for it in lines]
             self.assertEqual([it for it, one, next_one in zip(lines, plain, plain[1:]) if one and next_one], [], path.name)
 
+    def test_tables_are_whole(self):
+        """A row of titles, a line of hyphens, and rows with as many cells; the first cell is nowhere empty."""
+        tables = 0
+        for path in named.DOCUMENTS:
+            text = re.sub(r"^```.*?^```$", "", path.read_text(encoding="utf-8"), flags=re.M | re.S)
+            for table in re.findall(r"(?:^\|.*\n)+", text, re.M):
+                titles, line, *rows = [re.sub(r"`[^`]*`", "code", it) for it in table.splitlines()]
+                self.assertRegex(line, r"^(?:\|---)+\|$", f"{path.name}: {titles}")
+                self.assertEqual([it for it in (titles, *rows) if it.count("|") != line.count("|") or re.match(r"\|\s*\||\|---", it)], [], path.name)
+                self.assertTrue(rows, path.name)
+                tables += 1
+        self.assertGreater(tables, 20)
+
     def test_links_lead_to_files(self):
         for name in DOCUMENTS:
             for target in re.findall(r"\]\(([^)#]+)[^)]*\)", text_of(name)):
@@ -379,7 +411,7 @@ def main(words):
     global PROGRAM, LIBRARY
     PROGRAM, LIBRARY = map(os.path.abspath, words)
     load = unittest.defaultTestLoader.loadTestsFromModule
-    return run_suite(unittest.TestSuite(map(load, (sys.modules[__name__], named, rules))))
+    return run_suite(unittest.TestSuite(map(load, (sys.modules[__name__], named, pages, rules))))
 
 
 if __name__ == "__main__":

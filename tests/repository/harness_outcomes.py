@@ -122,6 +122,10 @@ class Counting(unittest.TestCase):
             status, lines = self.counted(Passes(name), Passes("passes"))
             self.assertEqual((status, lines), (0, [f"skipped: Passes.{name}: no tool", "1 passed, 0 failed, 1 skipped"]))
 
+    def test_a_script_whose_tests_are_all_skipped_ends_well(self):
+        """Whether they may be skipped is decided by ./test."""
+        self.assertEqual(self.counted(Passes("skips")), (0, ["skipped: Passes.skips: no tool", "0 passed, 0 failed, 1 skipped"]))
+
     def test_no_test_is_a_failure(self):
         self.assertEqual(self.counted(), (1, ["FAILED: no test ran", "0 passed, 1 failed"]))
 
@@ -265,6 +269,16 @@ class Wrong(Room):
             self.assertNotEqual(judge_sweep(str(PROGRAM), Sweep("", [ONE] * 5, **wrong)), [], wrong)
         self.assertNotEqual(judge_sweep(str(PROGRAM), Sweep("", [ONE, ONE[:-1]], normal=ONE)), [])
 
+    def test_forms_of_a_sweep(self):
+        """A program is judged by the forms of the blocks too: this one fails only for blocks that begin with MM, as each form does."""
+        turned = bytes.fromhex("49492A0008000000 0100 1201030001000000 01000000 00000000")
+        sweep = Sweep("", [turned] * 2, normal=ONE, accepted=2)
+        self.assertEqual(judge_sweep(str(PROGRAM), sweep), [])
+        copy = f"'{self.folder}/input'"
+        wrong = self.program(f"cat >{copy}; [ \"$(head -c 2 {copy})\" = MM ] && exit 5; exec '{PROGRAM}' <{copy}")
+        self.assertEqual(judge_files(wrong, [turned]), [])
+        self.assertNotEqual(judge_sweep(wrong, sweep), [])
+
     def test_what_a_sweep_tries(self):
         sizes = {name: len(sweep.blocks) for name, sweep in self.cases.items() if isinstance(sweep, Sweep)}
         self.assertEqual(sizes["every cut of one SHORT"], len(ONE))
@@ -356,6 +370,7 @@ class Titles(unittest.TestCase):
         "devices that move one byte in a call": 480,
         "devices that move one byte in a call, and fail once": 10,
         "large blocks, and what they cost": 9,
+        "the writes of a long value": 4,
         "the libraries that are preloaded": 1,
     }
 

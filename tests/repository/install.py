@@ -8,6 +8,7 @@ The program and the library have to be built: `make`. Each test that fails has a
 
 from __future__ import annotations
 
+import dataclasses
 import email
 import os
 import re
@@ -627,10 +628,11 @@ class DebianLists(unittest.TestCase):
     def test_fields_of_each_package(self) -> None:
         source, *found = (email.message_from_string(it) for it in text_of("debian", "control").split("\n\n"))
         fields = [{name: " ".join(value.split()) for name, value in it.items()} for it in found]
-        begins = "normal form of Exif and IPTC metadata blocks"
-        for it in fields:
-            self.assertTrue(it.pop("Description").startswith((begins, "find pictures with the same Exif, IPTC and XMP metadata")), it)
-        self.assertEqual({it.pop("Package"): it for it in fields}, self.FIELDS)
+        synopses = [it["Description"].partition("\n")[0] for it in found]
+        block = "normal form of Exif and IPTC metadata blocks"
+        blocks = [block, f"{block} - shared library", f"{block} - development files", f"{block} - Python package"]
+        self.assertEqual(synopses, [*blocks, "find pictures with the same Exif, IPTC and XMP metadata"])
+        self.assertEqual({it.pop("Package"): it for it in fields if it.pop("Description")}, self.FIELDS)
         self.assertEqual((source["Source"], source["Section"], source["Rules-Requires-Root"]), ("exifnorm", "graphics", "no"))
         self.assertEqual(source["Build-Depends"], "debhelper-compat (= 13), dh-python, python3:any")
         self.assertEqual(text_of("debian", "source", "format"), "3.0 (quilt)\n")
@@ -710,12 +712,27 @@ class Components(unittest.TestCase):
         self.assertEqual(components.kit_crates(self.kit, {"one", "other"}), {"one", "both", "other", "std", "std_io"})
 
     def test_document(self) -> None:
-        found = components.document("7.8.9", 86_400, [components.crate_of(self.kit, "one")])
-        self.assertEqual([(it["name"], it["versionInfo"]) for it in found["packages"]], [("exifnorm", "7.8.9"), ("one", "1.2.3")])
-        self.assertEqual((found["name"], found["creationInfo"]["created"]), ("exifnorm-7.8.9", "1970-01-02T00:00:00Z"))
-        self.assertIn("7.8.9-86400", found["documentNamespace"])
-        ways = [(it["spdxElementId"], it["relationshipType"], it["relatedSpdxElement"]) for it in found["relationships"]]
-        self.assertEqual(ways, [("SPDXRef-DOCUMENT", "DESCRIBES", "SPDXRef-exifnorm"), ("SPDXRef-exifnorm", "STATIC_LINK", "SPDXRef-one")])
+        """The whole document, with the members that SPDX 2.3 requires, and no statement on what nobody has examined."""
+        unknown = {"downloadLocation": "NOASSERTION", "filesAnalyzed": False, "copyrightText": "NOASSERTION"}
+        both = [{"licenseConcluded": it, "licenseDeclared": it, **unknown} for it in ("MIT OR Apache-2.0", "MIT")]
+        expected = {
+            "spdxVersion": "SPDX-2.3",
+            "dataLicense": "CC0-1.0",
+            "SPDXID": "SPDXRef-DOCUMENT",
+            "name": "exifnorm-7.8.9",
+            "documentNamespace": "https://spdx.org/spdxdocs/exifnorm-7.8.9-86400",
+            "creationInfo": {"created": "1970-01-02T00:00:00Z", "creators": ["Tool: exifnorm packaging/components.py"]},
+            "packages": [
+                {"SPDXID": "SPDXRef-exifnorm", "name": "exifnorm", "versionInfo": "7.8.9", **both[0]},
+                {"SPDXID": "SPDXRef-one-more", "name": "one_more", "versionInfo": "1.2.3", **both[1]},
+            ],
+            "relationships": [
+                {"spdxElementId": "SPDXRef-DOCUMENT", "relationshipType": "DESCRIBES", "relatedSpdxElement": "SPDXRef-exifnorm"},
+                {"spdxElementId": "SPDXRef-exifnorm", "relationshipType": "STATIC_LINK", "relatedSpdxElement": "SPDXRef-one-more"},
+            ],
+        }
+        crate = dataclasses.replace(components.crate_of(self.kit, "one"), name="one_more")
+        self.assertEqual(components.document("7.8.9", 86_400, [crate]), expected)
 
     def test_examples_of_the_modules(self) -> None:
         for it in (command, components, dist_info, grammar):

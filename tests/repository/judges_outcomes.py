@@ -229,6 +229,12 @@ class Runs(unittest.TestCase):
 
         return self.failed(faults.kills, ended)
 
+    def test_each_run_has_its_name(self):
+        """A line on a failure names the run by all its arguments."""
+        expected = """check one\ncheck loop\nshow record\ncaptions record\ncompare one turned\ncompare record loop\nnormalise turned OUT
+normalise record OUT\nnormalise loop OUT\nnormalise record NEW\ncheck absent\nthe filter < record\nthe filter < loop\n--version"""
+        self.assertEqual([it.name for it in faults.runs()], expected.split("\n"))
+
     def test_a_kill_leaves_what_was_or_a_prefix(self):
         self.assertEqual(self.killed(), 0)
         for wrong in ({"status": 0}, {"status": -signal.SIGTERM}, {"OUT": b"x"}, {"one": b""}, {"more": b""}):
@@ -351,6 +357,15 @@ class Sources(unittest.TestCase):
         for text, wrong in ((sources.RUN, 0), (f"more(); {sources.RUN}", 1)):
             with mock.patch.object(sources, "crates", return_value=[("px_cli", [("crates/px_cli/src/run.rt", "run_words", True, [], text)])]):
                 self.assertEqual(len(sources.the_run_is_two_lines()), wrong)
+
+    def test_picture_tests_that_disturb_others(self):
+        with tempfile.TemporaryDirectory() as room, mock.patch.object(sources, "TOP", room):
+            (path := Path(room, "tests", "pictures", "test_one.py")).parent.mkdir(parents=True)
+            for text, wrong in (("    alone = True\n", 0), ("    is_alone = True\n", 1), ("", 1)):
+                path.write_text(f"class One:\n{text}    def test(self):\n        with mock.patch(1):\n            pass\n", encoding="utf-8")
+                self.assertEqual(len(sources.picture_tests_that_share_nothing()), wrong, text)
+            path.write_text("class One:\n    pass\n", encoding="utf-8")
+            self.assertEqual(sources.picture_tests_that_share_nothing(), ["no class of tests replaces anything"])
 
 
 class Trees(unittest.TestCase):

@@ -291,6 +291,8 @@ NOT_PROVED = {
 
 
 def a_crate_counts_as_proved_by_its_verdict_alone(room: Room) -> None:
+    whole = "logic=proved functions=1 axioms=2 target=x86_64 cpu=any sum=1f native=nat logic-built=trusted libraries-built=trusted statements=1\n"
+    require(build_rules.verdict.refused_verdict(whole) == "", "a verdict with all that a proof may rest on")
     room.call()
     says = room.folder / "says-px_iim"
     for i, (text, why) in enumerate(NOT_PROVED.items()):
@@ -305,10 +307,23 @@ def a_crate_counts_as_proved_by_its_verdict_alone(room: Room) -> None:
     require(room.call("a").stdout == "one: a\n", room.log())
 
 
-def a_compiler_is_asked_for_contracts_that_no_call_can_meet(room: Room) -> None:
-    room.call()
-    asked = (room.folder / "asked").read_text().splitlines()
-    require(len(asked) == 4 and all("--empty-contracts" in it.split() for it in asked), asked)
+def called(crate: str, used: str, made: str, *more: str) -> str:
+    """How the toolchain's own command calls the compiler for a crate. It asks for contracts that no call can meet."""
+    externs = [f"--extern {it}={'PROVED' if it.startswith('px_') else 'KIT/rlibs'}/{it}.rlib" for it in ["std", *used.split()]]
+    words = ["build --crate-name", crate, "src/main.rt" if crate == "px_cli" else "src/lib.rt", *externs]
+    words += ["-L dependency=KIT/rlibs -L dependency=PROVED --antt-project KIT/rattle/logic/antt-project.json --logic-built KIT/logic_built"]
+    return " ".join([*words, f"--jobs 4 --links {crate}= --empty-contracts -o PROVED/making/{made}", *more])
+
+
+def a_compiler_is_called_as_the_toolchain_calls_it(room: Room) -> None:
+    small = Room(room.folder / "small", "px_low: byteorder\npx_c staticlib: px_low\npx_cli: px_low clap\n")
+    require(small.prove("px_c").returncode == 0 and small.call("a").stdout == "one: a\n", small.log())
+    asked = (small.folder / "asked").read_text().replace(f"{small.top}/out/proved", "PROVED").replace(f"{small.folder}/kit", "KIT")
+    native = "--toolchain KIT/toolchain --backend llvm"
+    expected = [called("px_low", "byteorder", "px_low.rlib", "--statements"),
+                called("px_c", "px_low", "libpx_c.a", f"{native} --crate-type staticlib"),
+                called("px_cli", "px_low clap", "px_cli.o", native)]  # fmt: skip
+    require(asked.splitlines() == expected, asked)
 
 
 def changed_handles_are_refused(room: Room) -> None:
@@ -579,7 +594,7 @@ TESTS = [
     a_toolchain_that_fails_is_named,
     a_proof_that_fails_after_a_good_build_is_not_taken,
     a_crate_counts_as_proved_by_its_verdict_alone,
-    a_compiler_is_asked_for_contracts_that_no_call_can_meet,
+    a_compiler_is_called_as_the_toolchain_calls_it,
     changed_handles_are_refused,
     links_among_the_sources_are_refused,
     a_program_that_does_not_start_is_never_installed,

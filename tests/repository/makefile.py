@@ -122,6 +122,13 @@ def another_toolchain_builds_the_library_again(room: Room) -> None:
     require(all(holds(room, it, "toolchain 2") and holds(room, it, "own two") for it in LIBRARIES[:2]), "the library is the old one")
 
 
+def flags_of_the_caller_are_passed_to_the_linker(room: Room) -> None:
+    """As distributions do."""
+    room = made(room)
+    require(make(room, "LDFLAGS=-Wl,--build-id=0x0123456789abcdef").returncode == 0, room.log())
+    require(bytes.fromhex("0123456789abcdef") in (room.top / "out/lib/libexifnorm.so.1").read_bytes(), "the linker had other flags")
+
+
 def another_makefile_links_the_library_again(room: Room) -> None:
     room = made(room)
     make(room)
@@ -207,6 +214,7 @@ TESTS = [
     a_changed_program_source_is_in_the_program,
     a_changed_header_is_copied,
     another_toolchain_builds_the_library_again,
+    flags_of_the_caller_are_passed_to_the_linker,
     another_makefile_links_the_library_again,
     a_proof_that_fails_fails_make,
     a_library_that_is_half_made_is_made_again,

@@ -238,11 +238,12 @@ def see_pass(copies: Copies, part: str, only: str) -> None:
 
 
 def names(mistakes: Sequence[Mistake]) -> List[Tuple[str, str]]:
-    """Each part, with the names of all its tests that mistakes have; a part of which one needs all is run whole."""
+    """Each part, with the names of all its tests that mistakes have; a part of which one needs all is run whole. A text that contains
+    another one is left out: its tests have both in their names, and would be required twice."""
     only: Dict[str, set] = {}
     for it in mistakes:
         only.setdefault(it.part, set()).update(it.only.split("|"))
-    return [(part, "" if "" in texts else "|".join(sorted(texts))) for part, texts in sorted(only.items())]
+    return [(part, "|".join(sorted(it for it in texts if not any(other in it for other in texts - {it})))) for part, texts in sorted(only.items())]
 
 
 def try_all(counter: Counter, copies: Copies, mistakes: Sequence[Mistake]) -> None:

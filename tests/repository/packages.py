@@ -146,7 +146,7 @@ class Wheel(unittest.TestCase):
 
     def test_has_no_module_of_an_earlier_build(self) -> None:
         copy = copy_built(ROOM / "earlier")
-        stale = copy / "python/exifnorm/stale.py"
+        stale, before = copy / "python/exifnorm/stale.py", set((copy / "out").iterdir())
         stale.write_text('"""Gone."""\n')
         (folder := ROOM / "later").mkdir()
         self.build(copy / "python", folder)
@@ -154,6 +154,7 @@ class Wheel(unittest.TestCase):
         self.build(copy / "python", folder)
         with zipfile.ZipFile(folder / self.file.name) as it:
             self.assertEqual(sorted(it.namelist()), self.names)
+        self.assertEqual(set((copy / "out").iterdir()) - before, {copy / "out/wheel"}, "it builds elsewhere")
 
     def test_same_date_gives_the_same_bytes(self) -> None:
         found = set()

@@ -234,11 +234,27 @@ class Limits(unittest.TestCase):
                     self.it.are_small_for_strips()
 
     def test_memory_of_a_record(self):
-        """24 bytes for each DataSet, and four for each group if there are more than 64; twice the text."""
-        few, many = (Record([(2, 25, b"a")] * count) for count in (64, 65))
-        found = [costs.memory_of_record(call, it) for it in (few, many) for call in ("check", "normalise", "compare")]
-        self.assertEqual(found, [0, 64 * 24, 2 * 64 * 24, 0, 65 * 24 + 4 * 65536, 2 * 65 * 24 + 4 * 65536])
+        """24 bytes for each DataSet; of more than 64, as many again for a second list, or four for each group if that is less; twice the text."""
+        few, more, many = (Record([(2, 25, b"a")] * count) for count in (64, 65, 20_000))
+        found = [costs.memory_of_record(call, it) for it in (few, more, many) for call in ("check", "normalise", "compare")]
+        expected = [64 * 24, 2 * 64 * 24], [2 * 65 * 24, 3 * 65 * 24], [20_000 * 24 + 4 * 65_536, 2 * 20_000 * 24 + 4 * 65_536]
+        self.assertEqual(found, [it for both in expected for it in (0, *both)])
         self.assertEqual(costs.memory_of_record("captions", few), 64 * 24 + 2 * len(few.captions()))
+
+    def test_each_order_has_its_limits(self):
+        """How many times the instructions of the usual order another one may take: once where it is only read, three times where it is sorted."""
+        sorts = {"check": 1.0, "normalise": 3.0, "captions": 3.0, "compare": 3.0}
+        few = [({"usual", "descending", "random"}, {"check": 1.0, "normalise": 3.0})] * 5
+        seen = []
+        patches = {"strips": lambda *_: b"", "iim": lambda _: b"", "laid": lambda *_: b""}
+        with mock.patch.multiple(costs, **patches), mock.patch.object(self.it, "_keep_to_instructions", lambda blocks, most: seen.append((set(blocks), most))):
+            for name in ("values", "strips", "groups", "few_groups", "random_records"):
+                getattr(self.it, f"are_like_the_usual_order_of_{name}")()
+        self.assertEqual(seen, [
+            ({"usual", "shuffled"}, {"check": 1.3, "normalise": 1.3}),
+            ({"usual", "descending", "random"}, {"check": 3.2, "normalise": 1.3, "compare": 1.7}),
+            ({"usual", "descending", "random"}, sorts), *few, ({"usual", "random"}, sorts),
+        ])  # fmt: skip
 
     def test_instructions_of_another_order(self):
         for times, is_well in ((1.29, True), (1.31, False)):

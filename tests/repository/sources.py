@@ -7,6 +7,7 @@ only where an allocation failed. Only a few listed functions make memory otherwi
 compiled code, programs and static libraries by their text. The last line is 'N passed, N failed'.
 """
 
+import ast
 import glob
 import os
 import re
@@ -259,6 +260,23 @@ def public_lemmas_are_cited():
         if name not in WORD.findall(rest) and not any({name, path.stem} <= words[it] for it in words if it != path)]
 
 
+# What a test changes for all others that run in the same process.
+SHARED = ("mock.patch", "contextlib.redirect_std", "os.umask(", "os.chdir(")
+
+
+def picture_tests_that_share_nothing():
+    """Reports classes of picture tests that replace what others use, and don't run by themselves: they have no `alone = True`."""
+    wrong, seen = [], 0
+    for path in sorted(Path(TOP, "tests", "pictures").glob("test_*.py")):
+        text = path.read_text(encoding="utf-8")
+        for it in (it for it in ast.parse(text).body if isinstance(it, ast.ClassDef)):
+            own = ast.get_source_segment(text, it)
+            if any(word in own for word in SHARED):
+                seen += 1
+                wrong += [] if re.search(r"^    alone = True\b", own, re.M) else [f"{path.name}: {it.name} doesn't run by itself"]
+    return wrong + (["no class of tests replaces anything"] if not seen else [])
+
+
 TESTS = (
     the_examples_are_right,
     one_line_over_their_variants,
@@ -271,6 +289,7 @@ TESTS = (
     short_lines,
     lemmas_name_their_subject,
     public_lemmas_are_cited,
+    picture_tests_that_share_nothing,
 )
 
 
