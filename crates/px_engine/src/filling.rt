@@ -3,8 +3,15 @@ ghost use Rattle.std.specs.Prelude.{◌≡◌};
 
 use px_bytes::{Device, Failed, Sink};
 
-// A writer that fills a slice. Each call takes as many bytes as fit, and fails only if the slice is full. It
-// allocates nothing.
+// The most bytes that a call takes, unless it has `MANY`: the C library copies more of them by an instruction that
+// takes longer.
+const AT_ONCE: usize = 8192;
+
+// From so many bytes on a call takes all that fit.
+const MANY: usize = 65_536;
+
+// A writer that fills a slice. Each call takes bytes as long as there is space, and fails only if the slice is
+// full. It allocates nothing.
 #[derive(Drop)]
 pub(crate) struct Filling<'a> {
     room: &'a mut [u8],
@@ -55,7 +62,12 @@ impl<'a> Sink for Filling<'a> {
             self.refusals += 1;
             return Err(Failed);
         }
-        let n = buf.len().min(self.room.len() - self.held);
+        let fitting = buf.len().min(self.room.len() - self.held);
+        let n = if fitting < MANY {
+            fitting.min(AT_ONCE)
+        } else {
+            fitting
+        };
         let end = self.held + n;
         self.room[self.held..end].copy_from_slice(&buf[..n]);
         self.held = end;
