@@ -144,6 +144,18 @@ class SingleBlocks(unittest.TestCase):
             used = pieces[0] if packet == asking and pieces else b""
             self.assertEqual(judged[0].octets, hashlib.sha256(packet + used).hexdigest())
 
+    def test_several_extensions_of_a_packet(self):
+        """Their bytes count in the order of their names, so that each run finds the same digest."""
+        pieces = {hashlib.md5(it).hexdigest().upper(): it for it in (xmp(f"<dc:title>{number}</dc:title>") for number in range(8))}
+        notes = "".join(f"<note:HasExtendedXMP>{it}</note:HasExtendedXMP>" for it in pieces)
+        packet = xmp(notes)
+        some = found_.Blocks()
+        some.add(found_.XMP, packet, "somewhere")
+        some.found += [found_.Found(found_.XMP, data, "extended XMP", "somewhere", extends=it) for it, data in pieces.items()]
+        judged = engine.judge_all(some)
+        self.assertEqual([(it.status, it.cause) for it in judged], [("accepted", None)])
+        self.assertEqual(judged[0].octets, hashlib.sha256(packet + b"".join(pieces[it] for it in sorted(pieces))).hexdigest())
+
     def test_bytes_around_the_word_exif(self):
         """ExifTool reads a segment that begins with `.{0,4}Exif\\0`, where a dot is any byte, and takes the block from the second byte after it."""
         one = exif(b"Abc")

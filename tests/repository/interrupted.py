@@ -48,7 +48,7 @@ def small(room: Room, name: str) -> Room:
 
 def at_each_step(room: Room, how: str, begin) -> None:
     """Builds with a fault at the first change of a file, then at the second, and so on. The next call must then be right."""
-    made = small(room, how)
+    made, failed = small(room, how), 0
     for step in range(1, 200):
         text = f"text {step}"
         begin(made, text)
@@ -56,6 +56,7 @@ def at_each_step(room: Room, how: str, begin) -> None:
         ran = made.call("a")
         require((ran.returncode, ran.stdout) in ((0, f"{text}: a\n"), (70, ""), (-9, "")), (step, ran))
         require(how != "kill" or ran.returncode != 70, (step, ran))
+        failed += ran.returncode != 0
         (made.folder / "fault").write_text("no 0")
         if step % 2:
             made.main.write_text(f"{text}, edited")
@@ -63,6 +64,7 @@ def at_each_step(room: Room, how: str, begin) -> None:
         again = made.call("a")
         require((again.returncode, again.stdout) == (0, f"{text}: a\n"), (step, ran, again))
         if ran.returncode == 0 and step > 20:
+            require(failed > 15, f"{failed} calls of {step} failed")
             return
     raise AssertionError("a build that ends was not seen")
 

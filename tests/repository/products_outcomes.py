@@ -15,6 +15,7 @@ import subprocess
 import sys
 import tempfile
 import unittest
+from concurrent.futures import ThreadPoolExecutor
 from pathlib import Path
 from typing import Any, Callable, List
 from unittest import mock
@@ -127,6 +128,36 @@ class Library(unittest.TestCase):
         for mistake in ("OTHER_KIND", "NEXT_CAUSE", "FORM_LESS_A_BIT", "ALWAYS_SAME", "SECOND_IS_FIRST", "LISTING_EMPTY", "CAPTIONS_UNLABELLED"):
             with self.subTest(mistake):
                 self.assertNotEqual(self.in_python(mistake, script, self.jobs), 0)
+
+    def printed_with_package(self, file: str, old: str, new: str) -> str:
+        """What python_calls.py prints for the right library and a package with this mistake."""
+        package = Path(tempfile.mkdtemp(dir=self.folder)) / "exifnorm"
+        shutil.copytree(TOP / "python" / "exifnorm", package, ignore=shutil.ignore_patterns("__pycache__"))
+        text = (package / file).read_text(encoding="utf-8")
+        self.assertEqual(text.count(old), 1, old)
+        (package / file).write_text(text.replace(old, new), encoding="utf-8")
+        environment = {**os.environ, "EXIFNORM_LIBRARY": str(RIGHT), "PYTHONDONTWRITEBYTECODE": "1", "PYTHONPATH": str(package.parent)}
+        words = [sys.executable, TESTS / "library" / "python_calls.py", self.jobs]
+        ran = subprocess.run(words, env=environment, capture_output=True, text=True, timeout=300)
+        self.assertEqual(ran.returncode, 1, (old, ran.stdout, ran.stderr))
+        return ran.stdout
+
+    def test_each_wrong_package_in_python(self):
+        """Each test of python_calls.py that isn't about a single block finds a mistake of its own."""
+        in_threads = "return b'' if __import__('threading').active_count() > 1 else"
+        mistakes = {
+            "where there is no memory:": ("_calls.py", "raise MemoryError\n", "raise OSError\n"),
+            "of a missing library it is said:": ("_library.py", "there is no such file", "no file"),
+            "doctests of exifnorm._errors failed: 1": ("_errors.py", "    UnknownKind, 0, None", "    UnknownKind, 1, None"),
+            "another comparison": ("_calls.py", "2 if status == Status.SECOND_REFUSED else 1", "1"),
+            "another normal form in threads": ("_calls.py", "return _form(block, len(block)) if", f"{in_threads} _form(block, len(block)) if"),
+            "what is no UTF-8": ("_captions.py", "return data.decode(encoding)", 'return data.decode(encoding, "replace")'),
+            "other fields of a thumbnail": ("_forms.py", "parts if tag == _STRIPS else parts[0]", "parts[0]"),
+            "a refusal, pickled": ("_errors.py", "{where} in block {self.side}", "{where} of block {self.side}"),
+        }
+        with ThreadPoolExecutor(4) as pool:
+            for text, printed in zip(mistakes, pool.map(lambda it: self.printed_with_package(*it), mistakes.values())):
+                self.assertIn(text, printed)
 
     def test_each_byte_with_a_wrong_library(self):
         """And that each worked block is one of those whose bytes are tried."""
