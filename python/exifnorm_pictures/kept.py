@@ -79,7 +79,6 @@ class Picture:
     unread: Optional[str]  # the digest of all unread parts; empty: all was read; None: they can't be compared
     said: Tuple[Optional[str], ...]  # by KINDS: the digest of the meaning, empty without a block, None if it isn't known
     octets: Tuple[str, ...]  # by KINDS: the digest of the blocks' bytes, empty without a block
-    file: Optional[Tuple[int, int, int]] = None  # size, modified and inode, which a renamed file keeps
 
     @property
     def state(self) -> str:
@@ -147,8 +146,7 @@ def picture_of_row(row: Tuple[Any, ...]) -> Picture:
     has(int, number, *(it for it in (size, modified, inode) if it is not None))
     has(bytes, path, root)
     has(str, kind, extractor, detail, *by_kind[3:], *(it for it in (problem, unread, *by_kind[:3]) if it is not None))
-    file = None if size is None else (size, modified, inode)
-    return Picture(number, path, root, kind, extractor, problem, detail, size, unread, tuple(by_kind[:3]), tuple(by_kind[3:]), file)
+    return Picture(number, path, root, kind, extractor, problem, detail, size, unread, tuple(by_kind[:3]), tuple(by_kind[3:]))
 
 
 def block_of_row(row: Tuple[Any, ...]) -> Block:

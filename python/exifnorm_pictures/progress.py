@@ -12,8 +12,8 @@ from .ends import drop
 def duration(seconds: float) -> str:
     """A time as text.
 
-    >>> duration(4.2), duration(75), duration(3725), duration(200000)
-    ('5 s', '1 min 15 s', '1 h 2 min', '55 h 33 min')
+    >>> duration(4.2), duration(60), duration(75), duration(3600), duration(200000)
+    ('5 s', '1 min 0 s', '1 min 15 s', '1 h 0 min', '55 h 33 min')
     """
     whole = int(seconds + 0.999)
     if whole < 60:

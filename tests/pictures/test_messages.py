@@ -330,6 +330,7 @@ class Messages(WithPictures):
         self.assertEqual(session._members(b" \n", b"a"), {})
         self.assertEqual(self.raised(tools.Failed, session.octets, "base64:abc"), head + "a block is no base64")
         self.assertEqual(self.raised(tools.Failed, session.octets, "base64:ab=="[:-1] + "!"), head + "a block is no base64")
+        self.assertEqual(self.raised(tools.Failed, session.octets, "base64:HA*I="), head + "a block is no base64")
         self.assertEqual([session.octets(it) for it in ("base64:YWI=", "text:base64:", "a\ud800")], [b"ab", b"base64:", b"a\xed\xa0\x80"])
         self.assertEqual(session.values({"EXIF:Make": "a", "Copy1:EXIF:Make": "b", "Makes": "c", "Make": "d"}, "Make"), ["a", "b", "d"])
 

@@ -98,12 +98,14 @@ class Readers(unittest.TestCase):
         third, _ = extension(b"ABCDEFGH", 4, b"c" * 32)
         short = segment(0xE1, EXTENSION_HEAD + b"c" * 39)
         wrong = segment(0xE1, EXTENSION_HEAD + b"a" * 32 + struct.pack(">II", 9, 4) + b"5678")
-        octets = jpeg(one[0], short, two[1], two[0], wrong, third[1], two[0], one[1])
-        found = self.seen(octets, [("xmp", "extended XMP", "APP1 segment at 2", b"12345678"),
-                                   ("xmp", "second extended XMP", f"APP1 segment at {2 + len(one[0] + short)}", b"abcdefgh")],
+        empty = segment(0xE1, EXTENSION_HEAD + b"d" * 32 + bytes(8))
+        parts = [one[0], short, two[1], two[0], wrong, third[1], two[0], one[1], empty]
+        found = self.seen(jpeg(*parts), [("xmp", "extended XMP", "APP1 segment at 2", b"12345678"),
+                                         ("xmp", "second extended XMP", f"APP1 segment at {2 + len(one[0] + short)}", b"abcdefgh"),
+                                         ("xmp", "fourth extended XMP", f"APP1 segment at {2 + len(b''.join(parts[:-1]))}", b"")],
                           [("piece of extended XMP that does not fit the others", it[4:]) for it in (short, wrong, two[0])]
                           + [("third extended XMP, of which pieces are missing or overlap", b"EFGH")])  # fmt: skip
-        self.assertEqual([it.extends for it in found.found], ["A" * 32, "B" * 32])
+        self.assertEqual([it.extends for it in found.found], ["A" * 32, "B" * 32, "D" * 32])
 
     def test_pictures_of_an_index(self):
         further = jpeg(app1(B), segment(0xE1, b"other"), app13(resource(0x0423, b"more") + b"rest"))

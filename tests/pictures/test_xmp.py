@@ -123,6 +123,20 @@ class Packets(unittest.TestCase):
         self.assertEqual([cause(nested(it)) for it in (6, 98, 100)], [None, None, None])
         self.assertEqual([cause(nested(it)) for it in (102, 104, 400)], ["TooDeep"] * 3)
 
+    def test_digests_that_catalogues_keep(self):
+        """Each version has to find the same digest, so that a catalogue of an earlier one stays right."""
+
+        def digest(*lines):
+            return hashlib.sha256("".join(f"{len(it)}:{it}" for it in sorted(lines)).encode()).hexdigest()
+
+        def line(name, value):
+            return f"{len(name)}:{name}{value}"
+
+        rdf, dc = "http://www.w3.org/1999/02/22-rdf-syntax-ns#", "http://purl.org/dc/elements/1.1/"
+        bag = digest(line(f"{rdf}type", f"<{rdf}Bag"), line("member", '"0:0:a'), line("member", '"2:de0:b'))
+        packet = xmp("<dc:format>one</dc:format><dc:subject><rdf:Bag><rdf:li>a</rdf:li><rdf:li xml:lang='de'>b</rdf:li></rdf:Bag></dc:subject>")
+        self.assertEqual(said(packet), digest(line(f"{dc}format", '"0:0:one'), line(f"{dc}subject", f"_{bag}")))
+
     def test_extended(self):
         more = xmp("<dc:title>two</dc:title>")
         name = hashlib.md5(more).hexdigest().upper()
