@@ -97,7 +97,7 @@ uint32_t exifnorm_check(const unsigned char *block, size_t block_length, /* the 
                         struct exifnorm_fault *fault);                   /* is set to the cause of a refusal */
 
 /* Writes the block's normal form to the beginning of out. A form has at most twice as many bytes as its block. It is written
- * directly into out: only the meaning of the block is allocated, which takes no more memory than exifnorm_check takes.
+ * directly into out: only the meaning of the block is allocated.
  *
  *   DONE             out begins with the form; written is its length. The rest of out is unchanged.
  *   REFUSED          fault is set.

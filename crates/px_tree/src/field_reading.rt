@@ -1,6 +1,6 @@
 // Reads the fields of a directory from its entries. TIFF 6.0 section 2, "IFD Entry" and "Value/Offset".
 ghost use Rattle.std.specs.Prelude.{◌≡◌, ◌≤◌, ◌<◌, ◌+◌, ◌*◌, ◌++◌, List, length, filter_map, option_map, option_to_list, Some, None, IfOk};
-ghost use Rattle.std.specs.Prelude.{IfErr};
+ghost use Rattle.std.specs.Prelude.{IfErr, true, []};
 ghost use Rattle.std.specs.List.{AllByRecursion};
 ghost use Rattle.px_bytes.specs.declared.Refusal.TheVariants.{OutOfMemory};
 ghost use Rattle.px_bytes.specs.Parts.{limit, part};
@@ -11,9 +11,9 @@ ghost use Rattle.px_meaning.specs.Entry.{entry, raw, entry_elements, widened_val
 ghost use Rattle.px_meaning.specs.Footprint.{placed_range};
 ghost use Rattle.px_tree.specs.Checks.{entries_checks};
 ghost use Rattle.px_meaning.specs.calls.Places.{tags};
-ghost use Rattle.px_tree.specs.calls.Reading.{IsHeld, is_whole, entries_from};
+ghost use Rattle.px_tree.specs.calls.Reading.{IsHeld, is_whole, if_kept, entries_from};
 ghost use Rattle.px_tree.specs.calls.Uses.{AreUses};
-ghost use Rattle.px_bytes.specs.Lacking.{AsksAtMost};
+ghost use Rattle.px_bytes.specs.Lacking.{Lacks, AsksAtMost};
 ghost use Rattle.px_meaning.specs.Asking.{field_bytes};
 ghost use Rattle.px_tree.specs.calls.Paying.{Pays, StaysBelow};
 
@@ -21,7 +21,7 @@ use crate::entries::{Head, Shape, judge_entry};
 use crate::entry_values::{raw_of, value_at};
 use crate::source::Source;
 use crate::uses::{Uses, keep_use, no_uses};
-use px_bytes::{Memory, Order, Ranges, Refusal};
+use px_bytes::{Memory, Order, Ranges, Refusal, Refused};
 use px_field::{Form, Value, read_whole};
 use px_meaning::{Fields, Role, says_record};
 
@@ -106,7 +106,7 @@ fn keep_any_field<'a>(
     }
 }
 
-// Keeps the field of an entry, if it is one. Most are plain.
+// Keeps the field of an entry, if it is one and fields are kept. Most are plain.
 fn keep_field<'a>(
     memory: &mut Memory,
     fields: &mut Fields<'a>,
@@ -120,11 +120,14 @@ fn keep_field<'a>(
     ensures kept { let b = source.now.block.now in let o = source.now.order in
         IfOk result (λ _. fields.new ≡ fields.old
         ++ option_to_list (option_map (λ v. (shape.head.tag, v))
-        (value_in b o (entry o (part b at 12)) shape.role shape.form))) }
+        (if_kept source.now.keeps_fields (value_in b o (entry o (part b at 12)) shape.role shape.form)))) }
     ensures err { IfErr result (λ e. e ≡ OutOfMemory) }
     ensures memory { LacksBlock result memory.old memory.new }
     ensures asked { AsksAtMost field_bytes memory.old memory.new }
 {
+    if !source.keeps_fields {
+        return Ok(());
+    }
     match shape.role {
         Role::Plain => {
             let value = value_at(source.block, source.order, at, shape.head, shape.form);
@@ -142,7 +145,23 @@ pub struct Entries<'a> {
     pub uses: Uses,
 }
 
-// Reads so many entries: judges each and claims its value.
+// No fields, with capacity for so many if fields are kept.
+fn empty_fields<'a>(
+    memory: &mut Memory,
+    keeps_fields: bool,
+    count: u16,
+) -> Result<Fields<'a>, Refused>
+    ensures none { IfOk result (λ f. f ≡ []) }
+    ensures memory { Lacks result memory.old memory.new }
+    ensures asked { AsksAtMost (count * field_bytes) memory.old memory.new }
+{
+    if !keeps_fields {
+        return Ok(Fields::new_in(memory));
+    }
+    Fields::with_room(memory, count)
+}
+
+// Reads so many entries: judges each, claims its value and keeps its field, if fields are kept.
 pub fn read_entries<'a>(
     memory: &mut Memory,
     source: &Source<'a>,
@@ -156,7 +175,7 @@ pub fn read_entries<'a>(
         let d = source.now.dir in let es = entries_from b o start count in
         (taken : List Range) → Agrees taken held.old →
         Judges result (entries_checks b o d taken start None es)
-        (λ v. (v.fields ≡ filter_map (field b o d) es)
+        (λ v. (source.now.keeps_fields ≡ true → v.fields ≡ filter_map (field b o d) es)
         × Agrees (filter_map (placed_range o) es ++ taken) held.new) }
     ensures uses { let b = source.now.block.now in let o = source.now.order in
         IfOk result (λ v. AreUses b o (entries_from b o start count) start v.uses) }
@@ -164,7 +183,7 @@ pub fn read_entries<'a>(
     ensures asked { Pays (length source.now.block.now) (2 * count * field_bytes) result memory.old memory.new held.old held.new }
     ensures below { StaysBelow (length source.now.block.now) held.old held.new }
 {
-    let mut fields = Fields::with_room(memory, count)?;
+    let mut fields = empty_fields(memory, source.keeps_fields, count)?;
     let mut uses = no_uses();
     let mut at = start;
     let mut before = None;

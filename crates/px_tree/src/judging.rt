@@ -11,9 +11,11 @@ ghost use Rattle.px_tree.specs.Refused.{IsRefused};
 ghost use Rattle.px_tree.specs.Asking.{exif_request};
 
 use crate::header::{judge_header, order_in};
+use crate::source::Source;
 use crate::thumbnail::read_thumb;
 use crate::tree::{Directories, is_alone, read_main, read_others};
 use px_bytes::{Block, Memory, Order, Ranges, Refusal};
+use px_meaning::Dir;
 
 // Judges a block that has a header. Most blocks of a few bytes have one directory: their check ends with it.
 fn judge_tree(memory: &mut Memory, block: &[u8], order: Order) -> Result<(), Refusal>
@@ -24,11 +26,17 @@ fn judge_tree(memory: &mut Memory, block: &[u8], order: Order) -> Result<(), Ref
     ensures asked { AsksAtMost (exif_request (length block.now)) memory.old memory.new }
 {
     let mut held = Ranges::with_room_in(memory, block.len() as u32)?;
-    let main = read_main(memory, block, order, &mut held)?;
+    let source = Source {
+        block,
+        order,
+        dir: Dir::Main,
+        keeps_fields: false,
+    };
+    let main = read_main(memory, &source, &mut held)?;
     if is_alone(block, order, &main) {
         return Ok(());
     }
-    let directories = read_others(memory, block, order, &mut held, main)?;
+    let directories = read_others(memory, &source, &mut held, main)?;
     let Directories { thumb, .. } = directories;
     let thumb = read_thumb(memory, block, order, &mut held, thumb)?;
     drop(thumb);
@@ -38,8 +46,8 @@ fn judge_tree(memory: &mut Memory, block: &[u8], order: Order) -> Result<(), Ref
 /// Judges a block as `read_block_in` does, without the record and the meaning: whether it has a meaning, or its
 /// first fault.
 ///
-/// Allocates the fields and the claimed ranges while it judges, and at most what `read_block_in` requests. The cost
-/// is linear in the block's length. `Content` and `OutOfMemory`: as for `read_block_in`.
+/// Allocates the claimed ranges and the fields of the thumbnail directory while it judges, and at most what
+/// `read_block_in` requests. The cost is linear in the block's length. `Content` and `OutOfMemory`: as for `read_block_in`.
 pub fn judge_block_in(memory: &mut Memory, block: Block) -> Result<(), Refusal>
     ensures said { IfOk result (λ _. (m : said.Meaning) × SaysExif block.entry m × Fits m) }
     ensures refused { IfErr result (IsRefused block.entry memory.new.refusals) }

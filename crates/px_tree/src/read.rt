@@ -1,5 +1,5 @@
 // Reads a whole block: its header, its directories, the thumbnail's bytes, and the record.
-ghost use Rattle.std.specs.Prelude.{◌≡◌, ◌≤◌, ℕ, length, IfOk, IfErr, None, option_map};
+ghost use Rattle.std.specs.Prelude.{◌≡◌, ◌≤◌, ℕ, length, true, IfOk, IfErr, None, option_map};
 ghost use Rattle.std.specs.List.{AllByRecursion};
 ghost use Rattle.px_bytes.specs.Parts.{limit};
 ghost use Rattle.px_bytes.specs.Checks.{LacksBlock, Judges, first_false};
@@ -17,6 +17,7 @@ ghost use Rattle.px_tree.specs.calls.ReadTree.{IsReadMain, IsAlone};
 
 use crate::header::{judge_header, order_in};
 use crate::records::read_record;
+use crate::source::Source;
 use crate::tables::Directory;
 use crate::thumbnail::read_thumb;
 use crate::tree::{
@@ -55,7 +56,7 @@ fn read_alone<'a>(
     main: Directory<'a>,
 ) -> Result<Meaning<'a>, Refusal>
     requires bounded { length block.now ≤ limit }
-    requires read { IsReadMain block.now order main }
+    requires read { IsReadMain block.now order true main }
     requires each { AllByRecursion (IsEntry block.now order Dir.Main) (entries_at block.now order main.at) }
     requires alone { IsAlone block.now order }
     requires passed { first_false (tree_checks block.now order) ≡ None }
@@ -86,12 +87,18 @@ fn read_tree<'a>(memory: &mut Memory, block: &'a [u8], order: Order) -> Result<M
     ensures asked { AsksAtMost (exif_request (length block.now)) memory.old memory.new }
 {
     let mut held = Ranges::with_room_in(memory, block.len() as u32)?;
-    let main = read_main(memory, block, order, &mut held)?;
+    let source = Source {
+        block,
+        order,
+        dir: Dir::Main,
+        keeps_fields: true,
+    };
+    let main = read_main(memory, &source, &mut held)?;
     if is_alone(block, order, &main) {
         drop(held);
         return read_alone(memory, block, order, main);
     }
-    let directories = read_others(memory, block, order, &mut held, main)?;
+    let directories = read_others(memory, &source, &mut held, main)?;
     let Directories {
         main,
         exif,

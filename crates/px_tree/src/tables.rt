@@ -1,5 +1,5 @@
 // Reads one directory. TIFF 6.0 section 2, "Image File Directory".
-ghost use Rattle.std.specs.Prelude.{◌≡◌, ◌≤◌, ◌+◌, ◌*◌, ◌++◌, List, ◌∷◌, length, IfOk};
+ghost use Rattle.std.specs.Prelude.{◌≡◌, ◌≤◌, ◌+◌, ◌*◌, ◌++◌, List, ◌∷◌, length, true, IfOk};
 ghost use Rattle.px_bytes.specs.Parts.{limit};
 ghost use Rattle.px_bytes.specs.Range.{Range, range, Agrees};
 ghost use Rattle.px_bytes.specs.Checks.{LacksBlock, Judges};
@@ -21,7 +21,7 @@ use crate::uses::Uses;
 use px_bytes::{Cause, Memory, Ranges, Refusal};
 use px_meaning::{Fields, number16, table_len};
 
-// A directory: its fields, its entries with a special use, its offset and its number of entries.
+// A directory: its fields if they are kept, its entries with a special use, its offset and its number of entries.
 #[derive(Drop)]
 pub struct Directory<'a> {
     pub fields: Fields<'a>,
@@ -70,7 +70,7 @@ fn open_table(
     Ok(count)
 }
 
-// Reads the directory at a pointer.
+// Reads the directory at a pointer. Without its fields if none are kept.
 pub fn read_directory<'a>(
     memory: &mut Memory,
     source: &Source<'a>,
@@ -83,7 +83,7 @@ pub fn read_directory<'a>(
         let d = source.now.dir in
         (taken : List Range) → Agrees taken held.old →
         Judges result (dir_checks b o (offsets_of earlier.now) taken link.place d link.at)
-        (λ t. (t.fields ≡ fields b o d link.at)
+        (λ t. (source.now.keeps_fields ≡ true → t.fields ≡ fields b o d link.at)
         × Agrees (dir_ranges b o link.at ++ taken) held.new) }
     ensures there { let b = source.now.block.now in let o = source.now.order in
         IfOk result (λ t. (t.at ≡ link.at) × HasTable b o t.at t.count) }

@@ -4,6 +4,7 @@ ghost use Rattle.std.specs.Prelude.{◌≡◌, ◌≤◌, ◌++◌, List, [], �
 ghost use Rattle.px_bytes.specs.Parts.{limit};
 ghost use Rattle.px_bytes.specs.Range.{Range, Agrees};
 ghost use Rattle.px_bytes.specs.Checks.{LacksBlock, Judges};
+ghost use Rattle.px_meaning.specs.declared.Dir.TheVariants.{Main};
 ghost use Rattle.px_meaning.specs.Entry.{next, table};
 ghost use Rattle.px_meaning.specs.Directory.{main_at, dir_at, fields_at, unless_zero};
 ghost use Rattle.px_meaning.specs.Footprint.{ranges_at};
@@ -55,7 +56,7 @@ fn read_linked<'a>(
         let d = source.now.dir in
         (taken : List Range) → Agrees taken held.old →
         Judges result (checks_at b o (offsets_of earlier.now) taken d (dir_at b o d))
-        (λ t. (option_map (λ t. t.fields) t ≡ fields_at b o d)
+        (λ t. (source.now.keeps_fields ≡ true → option_map (λ t. t.fields) t ≡ fields_at b o d)
         × Agrees (ranges_at b o d ++ taken) held.new) }
     ensures there { IfOk result
         (λ t. IsRead source.now.block.now source.now.order source.now.dir t) }
@@ -140,26 +141,23 @@ pub fn main_directory_of<'a>(main: Directory<'a>) -> MainDirectory<'a>
 // Claims the header of a block, and reads the main directory.
 pub fn read_main<'a>(
     memory: &mut Memory,
-    block: &'a [u8],
-    order: Order,
+    source: &Source<'a>,
     held: &mut Ranges,
 ) -> Result<Directory<'a>, Refusal>
-    requires least { 8 ≤ length block.now }
-    requires bounded { length block.now ≤ limit }
+    requires least { 8 ≤ length source.now.block.now }
+    requires bounded { length source.now.block.now ≤ limit }
+    requires main { source.now.dir ≡ Main }
     requires none { held.old ≡ [] }
-    ensures judged { Judges result (main_checks block.now order)
-        (λ t. IsReadMain block.now order t × Agrees (main_held block.now order) held.new) }
+    ensures judged { let b = source.now.block.now in let o = source.now.order in
+        Judges result (main_checks b o)
+        (λ t. IsReadMain b o source.now.keeps_fields t × Agrees (main_held b o) held.new) }
     ensures memory { LacksBlock result memory.old memory.new }
-    ensures asked { Pays (length block.now) 0 result memory.old memory.new held.old held.new }
-    ensures below { StaysBelow (length block.now) held.old held.new }
+    ensures asked { Pays (length source.now.block.now) 0 result memory.old memory.new held.old held.new }
+    ensures below { StaysBelow (length source.now.block.now) held.old held.new }
 {
     claim_range(memory, held, 0, 0, 8)?;
-    let source = Source {
-        block,
-        order,
-        dir: Dir::Main,
-    };
-    read_directory(memory, &source, held, &[], link_to_main(block, order))
+    let link = link_to_main(source.block, source.order);
+    read_directory(memory, source, held, &[], link)
 }
 
 // Whether no pointer of the main directory leads to another directory.
@@ -181,25 +179,27 @@ pub fn is_alone(block: &[u8], order: Order, main: &Directory) -> bool
 }
 
 // Reads the directories after the main directory. A caller that needs only some of them then moves only these.
+// The fields of the thumbnail directory are always kept: they are part of the thumbnail, which is read later.
 #[inline(always)]
 pub fn read_others<'a>(
     memory: &mut Memory,
-    block: &'a [u8],
-    order: Order,
+    source: &Source<'a>,
     held: &mut Ranges,
     main: Directory<'a>,
 ) -> Result<Directories<'a>, Refusal>
-    requires least { 8 ≤ length block.now }
-    requires bounded { length block.now ≤ limit }
-    requires read { IsReadMain block.now order main }
-    ensures judged { (taken : List Range) → Agrees taken held.old →
-        Judges result (dirs_checks block.now order (main_at block.now order ∷ []) taken others)
-        (λ t. SeenTree block.now order t
-        × Agrees (dirs_held block.now order taken others) held.new) }
+    requires least { 8 ≤ length source.now.block.now }
+    requires bounded { length source.now.block.now ≤ limit }
+    requires read { IsReadMain source.now.block.now source.now.order source.now.keeps_fields main }
+    ensures judged { let b = source.now.block.now in let o = source.now.order in
+        (taken : List Range) → Agrees taken held.old →
+        Judges result (dirs_checks b o (main_at b o ∷ []) taken others)
+        (λ t. SeenTree b o source.now.keeps_fields t × Agrees (dirs_held b o taken others) held.new) }
     ensures memory { LacksBlock result memory.old memory.new }
-    ensures asked { Pays (length block.now) 0 result memory.old memory.new held.old held.new }
-    ensures below { StaysBelow (length block.now) held.old held.new }
+    ensures asked { Pays (length source.now.block.now) 0 result memory.old memory.new held.old held.new }
+    ensures below { StaysBelow (length source.now.block.now) held.old held.new }
 {
+    let block = source.block;
+    let order = source.order;
     let main_link = link_to_main(block, order);
     let exif_link = link_to_exif(&main);
     let read = [Some(main_link)];
@@ -207,6 +207,7 @@ pub fn read_others<'a>(
         block,
         order,
         dir: Dir::Exif,
+        keeps_fields: source.keeps_fields,
     };
     let exif = read_linked(memory, &source, held, &read, exif_link)?;
     let interop_link = link_to_interop(&exif);
@@ -220,6 +221,7 @@ pub fn read_others<'a>(
     let thumb_link = link_after(block, order, &main);
     let read = [gps_link, interop_link, exif_link, Some(main_link)];
     source.dir = Dir::Thumb;
+    source.keeps_fields = true;
     let thumb = read_linked(memory, &source, held, &read, thumb_link)?;
     let main = main_directory_of(main);
     Ok(Directories {

@@ -1,6 +1,6 @@
 -- The main directory that was read, and the checks of the directories after it.
 use Rattle.std.proofs.Common.{◌≡◌, ◌++◌, ℕ, List, [], ◌∷◌, Option, Some, None, Result, Ok, Err, option_map, option_to_list}
-use Rattle.std.proofs.Common.{refl, sym, ap, ◌∙◌, subst}
+use Rattle.std.proofs.Common.{refl, sym, ap, ◌∙◌, subst, Bool, true}
 use Rattle.std.specs.Prelude.{IfOk, option_and_then}
 use Rattle.px_bytes.specs.declared.Order.{Order}
 use Rattle.px_bytes.specs.declared.Refusal.{Refusal}
@@ -37,13 +37,13 @@ module _ (b : List ℕ) (o : Order) where
   IsTableAt link t = (t.at ≡ link.at) × HasTable b o t.at t.count
 
   -- what reading the directory at the header's pointer gives
-  pub main_judged : (link : Link) → Names b o Main (Some link) → (r : Result Directory Refusal) (held : List (ℕ × ℕ))
+  pub main_judged : (keeps : Bool) (link : Link) → Names b o Main (Some link) → (r : Result Directory Refusal) (held : List (ℕ × ℕ))
       → Judges r (dir_checks b o [] (range 0 8 ∷ []) link.place Main link.at)
-      (λ t. (t.fields ≡ fields b o Main link.at) × HeldAt held link.at)
+      (λ t. (keeps ≡ true → t.fields ≡ fields b o Main link.at) × HeldAt held link.at)
       → IfOk r (IsTableAt link) → IfOk r (AreUsesAt b o)
-      → Judges r (main_checks b o) (λ t. IsReadMain b o t × Agrees (main_held b o) held)
+      → Judges r (main_checks b o) (λ t. IsReadMain b o keeps t × Agrees (main_held b o) held)
   unfolding named_at
-  main_judged link n (Ok t) held j there uses =
+  main_judged keeps link n (Ok t) held j there uses =
       let at = main_is b o link n in (
         subst (λ (p : ℕ). first_false (dir_checks b o [] (range 0 8 ∷ []) p Main (main_at b o)) ≡ None) n.place
             (subst (λ (a : ℕ). first_false (dir_checks b o [] (range 0 8 ∷ []) link.place Main a) ≡ None) at j.0),
@@ -52,12 +52,12 @@ module _ (b : List ℕ) (o : Order) where
             stands = there.0 ∙ at;
             table = there.1;
             uses = uses;
-            fields_are = j.1.0 ∙ ap (λ (a : ℕ). fields b o Main a) at;
+            fields_are = λ kept. j.1.0 kept ∙ ap (λ (a : ℕ). fields b o Main a) at;
           },
           subst (HeldAt held) at j.1.1,
         ),
       )
-  main_judged link n (Err e) held j there uses =
+  main_judged keeps link n (Err e) held j there uses =
       subst (λ (p : ℕ). Refuses e (dir_checks b o [] (range 0 8 ∷ []) p Main (main_at b o))) n.place
       (subst (λ (a : ℕ). Refuses e (dir_checks b o [] (range 0 8 ∷ []) link.place Main a)) (main_is b o link n) j)
 
@@ -99,10 +99,10 @@ module _ (b : List ℕ) (o : Order) where
     all_dirs_true h = ap first_false dirs_parts ∙ all_true (main_checks b o) of_others good h
 
     -- what reading all directories gives
-    pub whole_dirs : (t : Directories) (held : List (ℕ × ℕ))
-        → (first_false of_others ≡ None) × (SeenTree b o t × Agrees (dirs_held b o (main_held b o) others) held)
-        → (first_false (dirs_checks b o [] header dirs) ≡ None) × (SeenTree b o t × Agrees (dirs_held b o header dirs) held)
-    whole_dirs t held j = (all_dirs_true j.0, (j.1.0, subst (λ (rs : List Range). Agrees rs held) held_parts j.1.1))
+    pub whole_dirs : (keeps : Bool) (t : Directories) (held : List (ℕ × ℕ))
+        → (first_false of_others ≡ None) × (SeenTree b o keeps t × Agrees (dirs_held b o (main_held b o) others) held)
+        → (first_false (dirs_checks b o [] header dirs) ≡ None) × (SeenTree b o keeps t × Agrees (dirs_held b o header dirs) held)
+    whole_dirs keeps t held j = (all_dirs_true j.0, (j.1.0, subst (λ (rs : List Range). Agrees rs held) held_parts j.1.1))
 
     -- no check of another directory is left
     pub alone_dirs : IsAlone b o → first_false (dirs_checks b o [] header dirs) ≡ None
@@ -120,9 +120,9 @@ module _ (b : List ℕ) (o : Order) where
     alone_true a = tree_true b o None a.thumb (alone_dirs a) refl
 
   -- no pointer of the main directory leads to another
-  pub main_is_alone : (t : Directory) → IsReadMain b o t → t.uses.exif ≡ None → t.uses.gps ≡ None
+  pub main_is_alone : (keeps : Bool) (t : Directory) → IsReadMain b o keeps t → t.uses.exif ≡ None → t.uses.gps ≡ None
       → None ≡ unless_zero (next o (table b o t.at)) → IsAlone b o
-  main_is_alone t r exif gps end =
+  main_is_alone keeps t r exif gps end =
       let link = λ (x : Option Found) (e : x ≡ None). sym (ap (λ (y : Option Found). option_map link_as y) e) in
       record {
         exif = (names_exif b o None t.at r.stands t.uses.exif (link t.uses.exif exif) r.uses.exif).leads;

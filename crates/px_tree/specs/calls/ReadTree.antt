@@ -1,5 +1,5 @@
 -- The directories that were read.
-use Rattle.std.specs.Prelude.{◌≡◌, ℕ, ◌+◌, List, [], ◌∷◌, ◌++◌, None, option_map}
+use Rattle.std.specs.Prelude.{◌≡◌, ℕ, ◌+◌, Bool, true, List, [], ◌∷◌, ◌++◌, None, option_map}
 use Rattle.px_bytes.specs.declared.Order.{Order}
 use Rattle.px_bytes.specs.Range.{Range, range}
 use Rattle.px_bytes.specs.Checks.{Check}
@@ -26,12 +26,12 @@ main_checks b o = dir_checks b o [] (range 0 8 ∷ []) 4 Main (main_at b o)
 abbrev pub main_held : List ℕ → Order → List Range
 main_held b o = dir_ranges b o (main_at b o) ++ range 0 8 ∷ []
 
--- it was read: it has a table, its entries with a special use were kept, and its fields are its own
-pub record IsReadMain (b : List ℕ) (o : Order) (t : Directory) : Type 0 where
+-- it was read: it has a table, its entries with a special use were kept, and so were its fields, if fields are kept
+pub record IsReadMain (b : List ℕ) (o : Order) (keeps : Bool) (t : Directory) : Type 0 where
   pub stands : t.at ≡ main_at b o
   pub table : HasTable b o t.at t.count
   pub uses : AreUsesAt b o t
-  pub fields_are : t.fields ≡ fields b o Main (main_at b o)
+  pub fields_are : keeps ≡ true → t.fields ≡ fields b o Main (main_at b o)
 
 -- the block has no other: none of its pointers leads to one
 pub record IsAlone (b : List ℕ) (o : Order) : Type 0 where
@@ -45,12 +45,12 @@ pub record IsAlone (b : List ℕ) (o : Order) : Type 0 where
 abbrev pub others : List Dir
 others = Exif ∷ Interop ∷ Gps ∷ Thumb ∷ []
 
--- each directory is seen as its fields; those of which more is read are at their offsets
-pub record SeenTree (b : List ℕ) (o : Order) (t : Directories) : Type 0 where
-  pub main : t.main.fields ≡ fields b o Main (main_at b o)
-  pub exif : option_map (λ t. t.fields) t.exif ≡ fields_at b o Exif
-  pub interop : option_map (λ t. t.fields) t.interop ≡ fields_at b o Interop
-  pub gps : option_map (λ t. t.fields) t.gps ≡ fields_at b o Gps
+-- each directory is seen as its fields, if fields are kept; those of which more is read are at their offsets
+pub record SeenTree (b : List ℕ) (o : Order) (keeps : Bool) (t : Directories) : Type 0 where
+  pub main : keeps ≡ true → t.main.fields ≡ fields b o Main (main_at b o)
+  pub exif : keeps ≡ true → option_map (λ t. t.fields) t.exif ≡ fields_at b o Exif
+  pub interop : keeps ≡ true → option_map (λ t. t.fields) t.interop ≡ fields_at b o Interop
+  pub gps : keeps ≡ true → option_map (λ t. t.fields) t.gps ≡ fields_at b o Gps
   pub thumb : option_map (λ t. t.fields) t.thumb ≡ fields_at b o Thumb
   pub main_stands : t.main.at ≡ main_at b o
   pub main_found : Sees b o (entries_at b o t.main.at) (t.main.at + 2) (has_tag record_tag) t.main.iptc

@@ -9,6 +9,7 @@ use Rattle.px_bytes.specs.Checks.{Check, check}
 use Rattle.px_field.specs.declared.Form.{Form}
 use Rattle.px_field.specs.declared.Form.TheVariants.{Short, Long}
 use Rattle.px_field.specs.Forms.{form_of, size}
+use Rattle.px_field.specs.Values.{Value}
 use Rattle.px_tree.specs.declared.entries.Head.{Head}
 use Rattle.px_tree.specs.declared.entries.Shape.{Shape}
 use Rattle.px_meaning.specs.declared.Dir.{Dir}
@@ -46,6 +47,10 @@ is_whole _ = false
 abbrev pub Follows : Option ℕ → ℕ → Type 0
 Follows None t = ⊤
 Follows (Some u) t = u < t
+
+-- a value, if fields are kept
+abbrev pub if_kept : Bool → Option Value → Option Value
+if_kept keeps x = if keeps then x else None
 
 -- the fields' tags are below each tag that follows
 abbrev pub Precede : Option ℕ → Fields → Type 0

@@ -1,5 +1,5 @@
 use Rattle.std.proofs.Common.{refl, ◌≡◌, ◌<◌, ◌+◌, ◌-◌, ◌++◌, ℕ, suc, Option, None, filter_map, option_map, option_to_list, sym, ap, subst}
-use Rattle.std.proofs.Common.{◌∙◌, arith, append-nil, append_assoc}
+use Rattle.std.proofs.Common.{◌∙◌, arith, append-nil, append_assoc, Bool}
 use Rattle.std.proofs.lemmas.Result.{err_from_is_err_and}
 use Rattle.std.specs.List.{AllByRecursion}
 use Rattle.px_bytes.specs.Parts.{part}
@@ -8,7 +8,7 @@ use Rattle.px_field.specs.Values.{Value}
 use Rattle.px_meaning.specs.Tree.{Fields}
 use Rattle.px_meaning.specs.Entry.{entry, field, value_in, Rising}
 use Rattle.px_meaning.specs.calls.Places.{tags}
-use Rattle.px_tree.specs.calls.Reading.{entries_from}
+use Rattle.px_tree.specs.calls.Reading.{entries_from, if_kept}
 use Rattle.px_tree.proofs.reading.Kept.{rising_kept, precede_kept}
 use Rattle.px_tree.proofs.reading.KeptUses.{UsesSoFar, uses_start, uses_step, uses_end}
 use Rattle.px_tree.proofs.reading.Loop.{SoFar, so_far_start, so_far_step, so_far_refuses, so_far_end, fields_step, field_is}
@@ -25,7 +25,7 @@ loop-init c =
       place = omega arith;
       rising = subst (λ (l : Fields). Rising (tags l)) (sym c.in_ok-fields.ensures.none) tt;
       precede = λ t _. subst (λ (l : Fields). AllByRecursion (λ s. s < t) (tags l)) (sym c.in_ok-fields.ensures.none) tt;
-      fields = ap (λ (l : Fields). l ++ filter_map (field b o d) (es (c.args.count - 0))) c.in_ok-fields.ensures.none
+      fields = λ _. ap (λ (l : Fields). l ++ filter_map (field b o d) (es (c.args.count - 0))) c.in_ok-fields.ensures.none
           ∙ ap (λ (k : ℕ). filter_map (field b o d) (es k)) n;
       judged = λ taken a. subst (λ (k : ℕ). SoFar b o d taken (es c.args.count) c.args.start c.args.held.now c.args.start None k) (sym n)
           (so_far_start b o d taken c.args.start c.args.count c.args.held.now a);
@@ -69,7 +69,8 @@ loop-preserved c =
     let shape = c.in_ok-shape.ensures.shape in
     let rest = filter_map (field b o d) (entries_from b o (c.loop.at + 12) (c.args.count - (c.loop.counter + 1))) in
     let e = entry o (part b c.loop.at 12) in
-    let x = value_in b o e s.role s.form in
+    let v = value_in b o e s.role s.form in
+    let x = if_kept c.args.source.now.keeps_fields v in
     let kept = c.in_ok-keep_field.ensures.kept in
     let asked_before = c.loop.invariant.asked in
     let asked_shape = c.in_ok-shape.ensures.asked in
@@ -81,12 +82,13 @@ loop-preserved c =
       place = omega arith;
       rising = rising_kept c.loop.fields _ s.head.tag x kept c.loop.invariant.rising below;
       precede = precede_kept c.loop.fields _ s.head.tag x kept below;
-      fields =
+      fields = λ keeps.
           ap (λ (l : Fields). l ++ rest) (kept ∙ ap (λ (y : Option (ℕ × Value)). c.loop.fields ++ option_to_list y)
-          (ap (λ (t : ℕ). option_map (λ (v : Value). (t, v)) x) shape.head.tag ∙ sym (field_is b o d s e shape)))
+          (ap (λ (k : Bool). option_map (λ (v : Value). (s.head.tag, v)) (if_kept k v)) keeps
+          ∙ ap (λ (t : ℕ). option_map (λ (v : Value). (t, v)) v) shape.head.tag ∙ sym (field_is b o d s e shape)))
           ∙ append_assoc c.loop.fields (option_to_list (field b o d e)) rest
           ∙ ap (λ (l : Fields). c.loop.fields ++ l) (sym (fields_step b o d c.loop.at _ _ step))
-          ∙ c.loop.invariant.fields;
+          ∙ c.loop.invariant.fields keeps;
       judged = λ taken a.
           let w = c.loop.invariant.judged taken a in
           let k = c.in_ok-shape.ensures.judged w.now w.agrees in
@@ -107,8 +109,8 @@ returns-clause-judged c = λ taken a.
     let end = so_far_end b o d taken _ _ _ _ _ _ none (c.loop.invariant.judged taken a) in (
       end.0,
       (
-        sym (append-nil c.loop.fields) ∙ ap (λ (k : ℕ). c.loop.fields ++ filter_map (field b o d) (entries_from b o c.loop.at k))
-            (sym none) ∙ c.loop.invariant.fields,
+        λ keeps. sym (append-nil c.loop.fields) ∙ ap (λ (k : ℕ). c.loop.fields ++ filter_map (field b o d) (entries_from b o c.loop.at k))
+            (sym none) ∙ c.loop.invariant.fields keeps,
         end.1,
       ),
     )

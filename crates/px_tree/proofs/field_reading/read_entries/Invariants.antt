@@ -1,4 +1,4 @@
-use Rattle.std.proofs.Common.{◌≡◌, ◌≤◌, ◌+◌, ◌-◌, ◌*◌, ◌++◌, List, filter_map, length}
+use Rattle.std.proofs.Common.{◌≡◌, ◌≤◌, ◌+◌, ◌-◌, ◌*◌, ◌++◌, List, filter_map, length, true}
 use Rattle.px_bytes.specs.Range.{Range, Agrees}
 use Rattle.px_meaning.specs.Entry.{field, Rising}
 use Rattle.px_meaning.specs.calls.Places.{tags}
@@ -14,7 +14,7 @@ invariant-loop l = record {
   place : l.at ≡ l.start + 12 * l.counter;
   rising : Rising (tags l.fields);
   precede : Precede l.before l.fields;
-  fields : l.fields ++ filter_map (field l.source.block.now l.source.order l.source.dir)
+  fields : l.source.keeps_fields ≡ true → l.fields ++ filter_map (field l.source.block.now l.source.order l.source.dir)
       (entries_from l.source.block.now l.source.order l.at (l.count - l.counter))
       ≡ filter_map (field l.source.block.now l.source.order l.source.dir)
       (entries_from l.source.block.now l.source.order l.start l.count);

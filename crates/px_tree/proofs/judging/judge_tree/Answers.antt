@@ -20,7 +20,7 @@ returns-then-is_alone-clause-judged c =
     let m = c.in_ok-main.ensures.judged in
     let is = c.if-is_alone.true in
     let alone = c.is_alone.ensures in
-    (alone_true b o m.0 (main_is_alone b o _ m.1.0 (alone.exif is) (alone.gps is) (alone.next is)), tt)
+    (alone_true b o m.0 (main_is_alone b o _ _ m.1.0 (alone.exif is) (alone.gps is) (alone.next is)), tt)
 
 pub read_others-requires-clause-read : goal.read_others-requires-clause-read
 read_others-requires-clause-read c = c.in_ok-main.ensures.judged.1.0
@@ -43,7 +43,7 @@ read_thumb-requires-clause-read c =
     let b = c.args.block.now in
     let o = c.args.order in
     let m = c.in_ok-main.ensures.judged in
-    let d = whole_dirs b o m.0 _ _ (c.in_ok-directories.ensures.judged (main_held b o) m.1.1) in
+    let d = whole_dirs b o m.0 _ _ _ (c.in_ok-directories.ensures.judged (main_held b o) m.1.1) in
     thumb_read b o c.in_ok-directories.directories.thumb d.1.0.thumb_read d.1.0.thumb (all_in_order b o d.0).1.1.1.1.0
 
 pub returns-in_err-thumb-clause-judged : goal.returns-in_err-thumb-clause-judged
@@ -52,7 +52,7 @@ returns-in_err-thumb-clause-judged c =
     let b = c.args.block.now in
     let o = c.args.order in
     let m = c.in_ok-main.ensures.judged in
-    let d = whole_dirs b o m.0 _ _ (c.in_ok-directories.ensures.judged (main_held b o) m.1.1) in
+    let d = whole_dirs b o m.0 _ _ _ (c.in_ok-directories.ensures.judged (main_held b o) m.1.1) in
     rw (p.1, p.2) (thumb_refuses_tree b o (option_map (λ (t : Directory). t.at) c.in_ok-directories.directories.thumb)
     d.1.0.thumb_read.stands d.0 c.in_err-thumb.field-0.0
     (c.in_err-thumb.ensures.judged (dirs_held b o (range 0 8 ∷ []) dirs) d.1.1))
@@ -98,7 +98,7 @@ returns-clause-judged c =
     let b = c.args.block.now in
     let o = c.args.order in
     let m = c.in_ok-main.ensures.judged in
-    let d = whole_dirs b o m.0 _ _ (c.in_ok-directories.ensures.judged (main_held b o) m.1.1) in
+    let d = whole_dirs b o m.0 _ _ _ (c.in_ok-directories.ensures.judged (main_held b o) m.1.1) in
     let t = c.in_ok-thumb.ensures.judged (dirs_held b o (range 0 8 ∷ []) dirs) d.1.1 in
     let a = option_map (λ (t : Directory). t.at) c.in_ok-directories.directories.thumb in
     (tree_true b o a d.1.0.thumb_read.stands d.0 t.0, tt)

@@ -1,4 +1,4 @@
-use Rattle.std.proofs.Common.{◌≡◌, ℕ, List, ap, ◌∙◌, sym, subst}
+use Rattle.std.proofs.Common.{◌≡◌, ℕ, List, ap, ◌∙◌, sym, subst, refl}
 use Rattle.std.specs.List.{AllByRecursion}
 use Rattle.px_meaning.specs.declared.Dir.TheVariants.{Main}
 use Rattle.px_meaning.specs.Entry.{IsEntry}
@@ -24,7 +24,7 @@ returns-clause-judged c =
     let o = c.args.order in (
       c.requires.passed,
       alone_meaning b o c.requires.alone _ c.in_ok-iptc.iptc
-          (c.main_directory_of-main.ensures.fields ∙ c.requires.read.fields_are)
+          (c.main_directory_of-main.ensures.fields ∙ c.requires.read.fields_are refl)
           (c.in_ok-iptc.ensures.ok
           ∙ ap (λ (n : ℕ). record_at b o n) (c.main_directory_of-main.ensures.at ∙ c.requires.read.stands)),
     )

@@ -1,4 +1,4 @@
-use Rattle.std.proofs.Common.{◌∷◌, [], option_map, ap, ◌∙◌, ℕ, length, arith}
+use Rattle.std.proofs.Common.{◌∷◌, [], option_map, ap, ◌∙◌, ℕ, length, refl, arith}
 use Rattle.std.proofs.lemmas.Result.{err_from_is_err_and}
 use Rattle.px_bytes.specs.Range.{range}
 use Rattle.px_tree.specs.declared.tables.Directory.{Directory}
@@ -21,7 +21,7 @@ pub read_alone-requires-clause-alone : goal.read_alone-requires-clause-alone
 read_alone-requires-clause-alone c =
     let is = c.if-is_alone.true in
     let alone = c.is_alone.ensures in
-    main_is_alone c.args.block.now c.args.order _ c.in_ok-main.ensures.judged.1.0 (alone.exif is) (alone.gps is) (alone.next is)
+    main_is_alone c.args.block.now c.args.order _ _ c.in_ok-main.ensures.judged.1.0 (alone.exif is) (alone.gps is) (alone.next is)
 
 pub read_alone-requires-clause-each : goal.read_alone-requires-clause-each
 read_alone-requires-clause-each c =
@@ -30,7 +30,7 @@ read_alone-requires-clause-each c =
     let m = c.in_ok-main.ensures.judged in
     let is = c.if-is_alone.true in
     let alone = c.is_alone.ensures in
-    let only = main_is_alone b o _ m.1.0 (alone.exif is) (alone.gps is) (alone.next is) in
+    let only = main_is_alone b o _ _ m.1.0 (alone.exif is) (alone.gps is) (alone.next is) in
     main_each b o _ m.1.0.stands (all_in_order b o (alone_dirs b o m.0 only)).0
 
 pub read_alone-requires-clause-passed : goal.read_alone-requires-clause-passed
@@ -40,7 +40,7 @@ read_alone-requires-clause-passed c =
     let m = c.in_ok-main.ensures.judged in
     let is = c.if-is_alone.true in
     let alone = c.is_alone.ensures in
-    alone_true b o m.0 (main_is_alone b o _ m.1.0 (alone.exif is) (alone.gps is) (alone.next is))
+    alone_true b o m.0 (main_is_alone b o _ _ m.1.0 (alone.exif is) (alone.gps is) (alone.next is))
 
 pub read_others-requires-clause-read : goal.read_others-requires-clause-read
 read_others-requires-clause-read c = c.in_ok-main.ensures.judged.1.0
@@ -63,7 +63,7 @@ read_thumb-requires-clause-read c =
     let b = c.args.block.now in
     let o = c.args.order in
     let m = c.in_ok-main.ensures.judged in
-    let d = whole_dirs b o m.0 _ _ (c.in_ok-directories.ensures.judged (main_held b o) m.1.1) in
+    let d = whole_dirs b o m.0 _ _ _ (c.in_ok-directories.ensures.judged (main_held b o) m.1.1) in
     thumb_read b o c.in_ok-directories.directories.thumb d.1.0.thumb_read d.1.0.thumb (all_in_order b o d.0).1.1.1.1.0
 
 pub returns-in_err-thumb-clause-judged : goal.returns-in_err-thumb-clause-judged
@@ -72,7 +72,7 @@ returns-in_err-thumb-clause-judged c =
     let b = c.args.block.now in
     let o = c.args.order in
     let m = c.in_ok-main.ensures.judged in
-    let d = whole_dirs b o m.0 _ _ (c.in_ok-directories.ensures.judged (main_held b o) m.1.1) in
+    let d = whole_dirs b o m.0 _ _ _ (c.in_ok-directories.ensures.judged (main_held b o) m.1.1) in
     rw (p.1, p.2) (thumb_refuses_tree b o (option_map (λ (t : Directory). t.at) c.in_ok-directories.directories.thumb)
     d.1.0.thumb_read.stands d.0 c.in_err-thumb.field-0.0
     (c.in_err-thumb.ensures.judged (dirs_held b o (range 0 8 ∷ []) dirs) d.1.1))
@@ -87,7 +87,7 @@ read_record-requires-clause-each c =
     let b = c.args.block.now in
     let o = c.args.order in
     let m = c.in_ok-main.ensures.judged in
-    let d = whole_dirs b o m.0 _ _ (c.in_ok-directories.ensures.judged (main_held b o) m.1.1) in
+    let d = whole_dirs b o m.0 _ _ _ (c.in_ok-directories.ensures.judged (main_held b o) m.1.1) in
     main_each b o c.in_ok-directories.directories.main.at d.1.0.main_stands (all_in_order b o d.0).0
 
 pub returns-clause-judged : goal.returns-clause-judged
@@ -95,18 +95,18 @@ returns-clause-judged c =
     let b = c.args.block.now in
     let o = c.args.order in
     let m = c.in_ok-main.ensures.judged in
-    let d = whole_dirs b o m.0 _ _ (c.in_ok-directories.ensures.judged (main_held b o) m.1.1) in
+    let d = whole_dirs b o m.0 _ _ _ (c.in_ok-directories.ensures.judged (main_held b o) m.1.1) in
     let seen = d.1.0 in
     let t = c.in_ok-thumb.ensures.judged (dirs_held b o (range 0 8 ∷ []) dirs) d.1.1 in
     let a = option_map (λ (t : Directory). t.at) c.in_ok-directories.directories.thumb in (
       tree_true b o a seen.thumb_read.stands d.0 t.0,
       meaning_is b o _ _ _ _ _ c.fields_in.result c.fields_in-2.result a
-          seen.main
+          (seen.main refl)
           (c.in_ok-iptc.ensures.ok ∙ ap (λ (n : ℕ). record_at b o n) seen.main_stands)
           c.exif_in.ensures
-          (c.fields_in.ensures ∙ seen.exif)
-          (c.fields_in-2.ensures ∙ seen.interop)
-          (c.fields_in-3.ensures ∙ seen.gps)
+          (c.fields_in.ensures ∙ seen.exif refl)
+          (c.fields_in-2.ensures ∙ seen.interop refl)
+          (c.fields_in-3.ensures ∙ seen.gps refl)
           t.1
           seen.thumb_read.stands,
     )

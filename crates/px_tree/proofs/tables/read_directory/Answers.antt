@@ -56,7 +56,7 @@ returns-clause-judged c = λ taken a.
           ∙ all_true (opening_checks b o es taken l.place l.at) (entries_checks b o d (table_range b o l.at ∷ taken) (l.at + 2)
           None (entries_at b o l.at)) k.0 (ap first_false (entries_checks_is b o l.at n t d taken) ∙ j.0),
       (
-        j.1.0 ∙ sym (fields_is b o l.at n t d),
+        λ keeps. j.1.0 keeps ∙ sym (fields_is b o l.at n t d),
         ranges_is b o l.at n t taken _ j.1.1,
       ),
     )

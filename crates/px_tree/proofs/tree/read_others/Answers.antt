@@ -1,4 +1,4 @@
-use Rattle.std.proofs.Common.{◌∷◌, [], Some, ◌∙◌}
+use Rattle.std.proofs.Common.{◌∷◌, [], Some, ◌∙◌, refl}
 use Rattle.std.proofs.lemmas.Result.{err_from_is_err_and}
 use Rattle.px_meaning.specs.declared.Dir.TheVariants.{Exif, Interop, Gps, Thumb}
 use Rattle.px_tree.proofs.reading.Named.{dirs_start, dirs_step, dirs_refuse, dirs_clean, dirs_end, names_exif, names_gps, names_interop}
@@ -11,8 +11,8 @@ link_after-thumb_link-requires-clause-stands c = c.requires.read.table
 
 pub read_linked-requires-clause-named : goal.read_linked-requires-clause-named
 read_linked-requires-clause-named c =
-    let b = c.args.block.now in
-    let o = c.args.order in
+    let b = c.args.source.now.block.now in
+    let o = c.args.source.now.order in
     let lm = c.link_to_main-main_link.result in
     let nm = c.link_to_main-main_link.ensures in
     let me = c.requires.read.stands in
@@ -20,8 +20,8 @@ read_linked-requires-clause-named c =
 
 pub read_linked-requires-2-clause-named : goal.read_linked-requires-2-clause-named
 read_linked-requires-2-clause-named c =
-    let b = c.args.block.now in
-    let o = c.args.order in
+    let b = c.args.source.now.block.now in
+    let o = c.args.source.now.order in
     let lm = c.link_to_main-main_link.result in
     let nm = c.link_to_main-main_link.ensures in
     let me = c.requires.read.stands in
@@ -29,8 +29,8 @@ read_linked-requires-2-clause-named c =
 
 pub read_linked-requires-3-clause-named : goal.read_linked-requires-3-clause-named
 read_linked-requires-3-clause-named c =
-    let b = c.args.block.now in
-    let o = c.args.order in
+    let b = c.args.source.now.block.now in
+    let o = c.args.source.now.order in
     let lm = c.link_to_main-main_link.result in
     let nm = c.link_to_main-main_link.ensures in
     let me = c.requires.read.stands in
@@ -38,8 +38,8 @@ read_linked-requires-3-clause-named c =
 
 pub read_linked-requires-4-clause-named : goal.read_linked-requires-4-clause-named
 read_linked-requires-4-clause-named c =
-    let b = c.args.block.now in
-    let o = c.args.order in
+    let b = c.args.source.now.block.now in
+    let o = c.args.source.now.order in
     let lm = c.link_to_main-main_link.result in
     let nm = c.link_to_main-main_link.ensures in
     let me = c.requires.read.stands in
@@ -48,8 +48,8 @@ read_linked-requires-4-clause-named c =
 pub returns-in_err-exif-clause-judged : goal.returns-in_err-exif-clause-judged
 returns-in_err-exif-clause-judged c = λ taken a.
     let p = err_from_is_err_and c.from_residual.result c.from_residual.ensures.1 in
-    let b = c.args.block.now in
-    let o = c.args.order in
+    let b = c.args.source.now.block.now in
+    let o = c.args.source.now.order in
     let lm = c.link_to_main-main_link.result in
     let nm = c.link_to_main-main_link.ensures in
     let me = c.requires.read.stands in
@@ -60,8 +60,8 @@ returns-in_err-exif-clause-judged c = λ taken a.
 pub returns-in_err-interop-clause-judged : goal.returns-in_err-interop-clause-judged
 returns-in_err-interop-clause-judged c = λ taken a.
     let p = err_from_is_err_and c.from_residual-in_err-interop.result c.from_residual-in_err-interop.ensures.1 in
-    let b = c.args.block.now in
-    let o = c.args.order in
+    let b = c.args.source.now.block.now in
+    let o = c.args.source.now.order in
     let lm = c.link_to_main-main_link.result in
     let nm = c.link_to_main-main_link.ensures in
     let me = c.requires.read.stands in
@@ -75,8 +75,8 @@ returns-in_err-interop-clause-judged c = λ taken a.
 pub returns-in_err-gps-clause-judged : goal.returns-in_err-gps-clause-judged
 returns-in_err-gps-clause-judged c = λ taken a.
     let p = err_from_is_err_and c.from_residual-in_err-gps.result c.from_residual-in_err-gps.ensures.1 in
-    let b = c.args.block.now in
-    let o = c.args.order in
+    let b = c.args.source.now.block.now in
+    let o = c.args.source.now.order in
     let lm = c.link_to_main-main_link.result in
     let nm = c.link_to_main-main_link.ensures in
     let me = c.requires.read.stands in
@@ -94,8 +94,8 @@ returns-in_err-gps-clause-judged c = λ taken a.
 pub returns-in_err-thumb-clause-judged : goal.returns-in_err-thumb-clause-judged
 returns-in_err-thumb-clause-judged c = λ taken a.
     let p = err_from_is_err_and c.from_residual-in_err-thumb.result c.from_residual-in_err-thumb.ensures.1 in
-    let b = c.args.block.now in
-    let o = c.args.order in
+    let b = c.args.source.now.block.now in
+    let o = c.args.source.now.order in
     let lm = c.link_to_main-main_link.result in
     let nm = c.link_to_main-main_link.ensures in
     let me = c.requires.read.stands in
@@ -117,8 +117,8 @@ returns-in_err-thumb-clause-judged c = λ taken a.
 
 pub returns-clause-judged : goal.returns-clause-judged
 returns-clause-judged c = λ taken a.
-    let b = c.args.block.now in
-    let o = c.args.order in
+    let b = c.args.source.now.block.now in
+    let o = c.args.source.now.order in
     let lm = c.link_to_main-main_link.result in
     let nm = c.link_to_main-main_link.ensures in
     let me = c.requires.read.stands in
@@ -142,11 +142,11 @@ returns-clause-judged c = λ taken a.
       dirs_clean b o taken _ _ s5,
       (
         record {
-          main = c.main_directory_of-main.ensures.fields ∙ c.requires.read.fields_are;
+          main = λ keeps. c.main_directory_of-main.ensures.fields ∙ c.requires.read.fields_are keeps;
           exif = j1.1.0;
           interop = j2.1.0;
           gps = j3.1.0;
-          thumb = j4.1.0;
+          thumb = j4.1.0 refl;
           main_stands = c.main_directory_of-main.ensures.at ∙ me;
           main_found = main_directory_found b o c.main_directory_of-main.result c.args.main
               c.main_directory_of-main.ensures.at c.main_directory_of-main.ensures.iptc c.requires.read.uses;
