@@ -5,3 +5,4 @@ pub mod Told
 pub mod Printed
 pub mod Room
 pub mod Asked
+pub mod Puts

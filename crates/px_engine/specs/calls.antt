@@ -5,3 +5,4 @@ pub mod Second
 pub mod Seen
 pub mod Ends
 pub mod Kinds
+pub mod Putting

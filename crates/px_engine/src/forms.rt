@@ -146,8 +146,9 @@ fn fill_record(iim: &Iim, room: &mut [u8])
     let _ = send_record(iim, &mut writer);
 }
 
-// Writes the normal form of an Exif block to the start of `out`. None if it is longer than `LIMIT`.
-fn put_exif(m: &Meaning, out: &mut [u8]) -> Option<Given>
+// Writes the normal form of an Exif block to the start of `out`. None if it is longer than `LIMIT`. It allocates
+// nothing.
+pub(crate) fn put_exif(m: &Meaning, out: &mut [u8]) -> Option<Given>
     requires { Fits (meaning_of m.now) }
     ensures { PutsShort result (normal_exif (meaning_of m.now)) out.old out.new }
 {
@@ -162,8 +163,8 @@ fn put_exif(m: &Meaning, out: &mut [u8]) -> Option<Given>
     Some(Given::Whole(len))
 }
 
-// Writes the normal form of a record to the start of `out`. None if it is longer than `LIMIT`.
-fn put_record(iim: &Iim, out: &mut [u8]) -> Option<Given>
+// Writes the normal form of a record to the start of `out`. None if it is longer than `LIMIT`. It allocates nothing.
+pub(crate) fn put_record(iim: &Iim, out: &mut [u8]) -> Option<Given>
     ensures { PutsShort result (normal_iim iim.now) out.old out.new }
 {
     let len = normal_len(iim).unwrap_or(LIMIT + 1) as usize;
@@ -175,16 +176,4 @@ fn put_record(iim: &Iim, out: &mut [u8]) -> Option<Given>
     }
     fill_record(iim, &mut out[..len]);
     Some(Given::Whole(len))
-}
-
-// Writes the normal form of what a file means to the start of `out`. None if it is longer than `LIMIT`. It
-// allocates nothing.
-pub(crate) fn put_form_of(said: &Said, out: &mut [u8]) -> Option<Given>
-    requires { CanBeWritten (said_of said.now) }
-    ensures { PutsShort result (normal (said_of said.now)) out.old out.new }
-{
-    match said {
-        Said::Exif(meaning) => put_exif(meaning, out),
-        Said::Iim(iim) => put_record(iim, out),
-    }
 }

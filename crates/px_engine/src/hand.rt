@@ -1,24 +1,26 @@
 // Files in memory: checked, normalised, compared and printed without a copy of their bytes.
 ghost use Rattle.std.specs.Prelude.{◌≡◌, ◌+◌, ℕ, length, IfOk, IfErr, OnErr};
 ghost use Rattle.px_bytes.specs.Lacking.{AsksAtMost};
+ghost use Rattle.px_engine.specs.declared.kinds.BlockKind.TheVariants as kind;
 ghost use Rattle.px_engine.specs.Asking.{block_request, form_request, AsksForText};
 ghost use Rattle.px_engine.specs.Input.{IsUnsaid, LacksRun, LacksPair};
 ghost use Rattle.px_engine.specs.Hand.{IsKindOf, PutsForm, SaysSame, IsUnsaidAt, IsFormOf, IsUnwritten};
 ghost use Rattle.px_engine.specs.Prints.{caption_text, listing, IsTextOf};
 ghost use Rattle.px_engine.specs.Files.{Said as AnySaid};
+ghost use Rattle.px_engine.specs.calls.Putting.{given_of, PutsBlock, IsUnput};
 
 use crate::faults::{CompareFault, Fault, Side};
-use crate::forms::{Given, form_of, put_form_of};
-use crate::input::judge_any_in;
+use crate::forms::{Given, form_of, put_exif, put_record};
+use crate::input::{judge_any_in, read_exif, read_record};
 use crate::judging::{judge, judge_side, same_second};
-use crate::kinds::BlockKind;
+use crate::kinds::{BlockKind, block_of, kind_of};
 use crate::texts::{caption_text, listing};
 use px_bytes::Memory;
 use std::alloc::Global;
 
-/// The kind of block in a file that has a meaning. Allocates the fields of an Exif block, nothing for a
-/// block of DataSets, and no copy of the file. `Refused`: the first fault of the block. `OutOfMemory`: an
-/// allocation failed.
+/// The kind of block in a file that has a meaning. Allocates a bit for each byte of an Exif block, and the
+/// fields of its thumbnail directory; nothing for a block of DataSets, and no copy of the file. `Refused`: the
+/// first fault of the block. `OutOfMemory`: an allocation failed.
 pub fn check_of_in(memory: &mut Memory, file: &[u8]) -> Result<BlockKind, Fault>
     ensures kind { IfOk result (IsKindOf file.now) }
     ensures unsaid { IfErr result (IsUnsaid file.now memory.new.refusals) }
@@ -60,6 +62,45 @@ pub fn normal_form(alloc: Global, file: &[u8]) -> Result<Vec<u8>, Fault>
     normal_form_in(&mut Memory::new(alloc), file)
 }
 
+// The result of a run, from whether the form is no longer than `LIMIT`.
+fn given_of(put: Option<Given>) -> Result<Given, Fault>
+    ensures { result ≡ given_of put }
+{
+    match put {
+        Some(given) => Ok(given),
+        None => Err(Fault::NormalTooLong),
+    }
+}
+
+// Writes the normal form of an Exif block to the start of `out` if it fits. The meaning has hundreds of bytes, so
+// it is not moved out of the result.
+fn put_exif_in(memory: &mut Memory, block: &[u8], out: &mut [u8]) -> Result<Given, Fault>
+    ensures put { IfOk result (λ given. PutsBlock kind.Exif block.now given out.old out.new) }
+    ensures unput { IfErr result (IsUnput kind.Exif block.now memory.new.refusals) }
+    ensures kept { OnErr result (out.new ≡ out.old) }
+    ensures memory { LacksRun result memory.old memory.new }
+    ensures asked { AsksAtMost (block_request (length block.now)) memory.old memory.new }
+{
+    match &read_exif(memory, block) {
+        Ok(meaning) => given_of(put_exif(meaning, out)),
+        Err(refusal) => Err(Fault::from(*refusal)),
+    }
+}
+
+// Writes the normal form of a record to the start of `out` if it fits.
+fn put_record_in(memory: &mut Memory, block: &[u8], out: &mut [u8]) -> Result<Given, Fault>
+    ensures put { IfOk result (λ given. PutsBlock kind.Iim block.now given out.old out.new) }
+    ensures unput { IfErr result (IsUnput kind.Iim block.now memory.new.refusals) }
+    ensures kept { OnErr result (out.new ≡ out.old) }
+    ensures memory { LacksRun result memory.old memory.new }
+    ensures asked { AsksAtMost (block_request (length block.now)) memory.old memory.new }
+{
+    match &read_record(memory, block) {
+        Ok(iim) => given_of(put_record(iim, out)),
+        Err(refusal) => Err(Fault::from(*refusal)),
+    }
+}
+
 /// Writes the normal form of a file to the start of `out` if it fits. Allocates the meaning, but no copy of
 /// the file. On an error `out` is unchanged. `Refused`: the first fault of the block. `NormalTooLong`: the
 /// form is longer than `LIMIT`. `OutOfMemory`: an allocation failed.
@@ -70,10 +111,10 @@ pub fn put_form_in(memory: &mut Memory, file: &[u8], out: &mut [u8]) -> Result<G
     ensures memory { LacksRun result memory.old memory.new }
     ensures asked { AsksAtMost (block_request (length file.now)) memory.old memory.new }
 {
-    let said = judge(memory, file)?;
-    match put_form_of(&said, out) {
-        Some(given) => Ok(given),
-        None => Err(Fault::NormalTooLong),
+    let block = block_of(file);
+    match kind_of(file) {
+        BlockKind::Exif => put_exif_in(memory, block, out),
+        BlockKind::Iim => put_record_in(memory, block, out),
     }
 }
 

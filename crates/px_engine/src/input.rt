@@ -70,7 +70,7 @@ pub(crate) fn read_side<R: Source>(
 }
 
 // The meaning of an Exif block.
-fn read_exif<'a>(memory: &mut Memory, bytes: &'a [u8]) -> Result<Meaning<'a>, Refusal>
+pub(crate) fn read_exif<'a>(memory: &mut Memory, bytes: &'a [u8]) -> Result<Meaning<'a>, Refusal>
     ensures said { IfOk result (λ m. IsSaidIn kind.Exif bytes.now (said.Exif (meaning_of m))) }
     ensures refused { IfErr result (IsRefusedIn kind.Exif bytes.now memory.new.refusals) }
     ensures memory { LacksBlock result memory.old memory.new }
@@ -88,7 +88,7 @@ fn read_exif<'a>(memory: &mut Memory, bytes: &'a [u8]) -> Result<Meaning<'a>, Re
 }
 
 // The meaning of a block of DataSets.
-fn read_record<'a>(memory: &mut Memory, bytes: &'a [u8]) -> Result<Iim<'a>, Refusal>
+pub(crate) fn read_record<'a>(memory: &mut Memory, bytes: &'a [u8]) -> Result<Iim<'a>, Refusal>
     ensures said { IfOk result (λ i. IsSaidIn kind.Iim bytes.now (said.Iim i)) }
     ensures refused { IfErr result (IsRefusedIn kind.Iim bytes.now memory.new.refusals) }
     ensures memory { LacksBlock result memory.old memory.new }
@@ -134,7 +134,7 @@ fn judge_block(memory: &mut Memory, kind: BlockKind, bytes: &[u8]) -> Result<(),
     }
 }
 
-// The kind of the block in a file that has a meaning. Allocates the fields of an Exif block.
+// The kind of the block in a file that has a meaning. Allocates what `judge_block_in` does for an Exif block.
 pub(crate) fn judge_any_in(memory: &mut Memory, file: &[u8]) -> Result<BlockKind, Refusal>
     ensures kind { IfOk result (IsKindOf file.now) }
     ensures refused { IfErr result (IsRefused file.now memory.new.refusals) }
