@@ -108,7 +108,6 @@ def say_why(why: BaseException) -> None:
     is_known = type(why).__name__ == "NotBuilt" or isinstance(why, (OSError, subprocess.SubprocessError))
     with contextlib.suppress(OSError, AttributeError):
         sys.stderr.write(f"exifnorm: {why}\n" if is_known else traceback.format_exc())
-        sys.stderr.flush()
 
 
 def main() -> int:

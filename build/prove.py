@@ -53,7 +53,6 @@ def say(what: str) -> None:
     """Writes a line to standard error. A build doesn't end if nobody can read it."""
     with contextlib.suppress(OSError, AttributeError):  # a full disk, a closed pipe; closed from the start
         sys.stderr.write(f"exifnorm: {what}\n")
-        sys.stderr.flush()
 
 
 def places() -> int:

@@ -79,7 +79,6 @@ def options_of(text: str) -> Iterator[Option]:
     """
     for line in re.sub(r"\n +(?=[^ -])", "  ", "\n".join(section(text, OPTIONS))).splitlines():
         heads, _, words = line.strip().partition("  ")
-        heads = re.sub(r"\{[^}]*\}", lambda it: it[0].replace(", ", ","), heads)
         parts = [it.split(" ", 1) for it in re.split(r", (?=-)", heads)]
         value = "".join(it[1] for it in parts[-1:] if len(it) > 1).strip("<>")
         yield Option([it[0] for it in parts], value, words.strip())

@@ -12,7 +12,7 @@ from .engine import judge, judge_packet
 from .formats.found import XMP
 from .layout import EntryAt, Layout, Part, hexadecimal
 from .texts import Members
-from .verdicts import ACCEPTED, REFUSED
+from .verdicts import REFUSED
 
 _OTHER_FILES = (
     (b"\xff\xd8\xff", "This is a whole JPEG; give it without --block."),
@@ -66,9 +66,7 @@ def explain(kind: str, block: bytes) -> Explanation:
     judgement = judge(kind, block)
     cause = CAUSES.get(judgement.cause or "") if judgement.status == REFUSED else None
     if cause is None or judgement.place is None:
-        if judgement.status != ACCEPTED:
-            return Explanation(kind, judgement, cause)
-        return Explanation(kind, judgement)
+        return Explanation(kind, judgement, cause)
     layout = Layout(block)
     here = _FACTS[cause.facts](layout, cause.name, judgement.place)
     return Explanation(kind, judgement, cause, here, hexadecimal(layout.block, judgement.place))
