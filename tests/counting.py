@@ -11,6 +11,7 @@ skipped, and its status is 0 only if something ran and nothing failed. A script 
 
 A script of unittest ends with `sys.exit(run_module(sys.modules[__name__]))` in place of `unittest.main()`. With TEST_ONLY=TEXT in
 the environment a script runs only the tests whose name has that text, and with TEST_ONLY='ONE|ANOTHER' those that have one of them.
+The line before the last one has the number of the checks that the tests made, if there are some (checks.py): `N checks`.
 """
 
 import doctest
@@ -21,6 +22,8 @@ import unittest
 from types import ModuleType
 from typing import Any, Callable, Iterable, Optional, Tuple
 from unittest import SkipTest, mock
+
+import checks
 
 
 class Counter:
@@ -43,7 +46,7 @@ class Counter:
     def __init__(self, only: Optional[str] = None) -> None:
         """With `only` it runs and collects nothing but the tests whose name has that text."""
         self.only = os.environ.get("TEST_ONLY", "") if only is None else only
-        self.passed = self.failed = self.skipped = 0
+        self.passed = self.failed = self.skipped = self.checks = 0
         self._lock = threading.Lock()
 
     def asks(self, name: str) -> bool:
@@ -63,6 +66,7 @@ class Counter:
         with self._lock:
             self.passed, self.failed = self.passed + other.passed, self.failed + other.failed
             self.skipped += other.skipped
+            self.checks += other.checks
 
     def check(self, name: str, holds: Any, why: Any = "") -> bool:
         """Counts one test, which passed if `holds` is true, and returns whether it did."""
@@ -102,18 +106,27 @@ class Counter:
 
     def _call(self, name: str, test: Callable[[], Any]) -> bool:
         """Whether a call returns. An exception counts as a test that was skipped or failed."""
+        made = checks.Made()
         try:
-            test()
+            with made:
+                test()
         except SkipTest as why:
             self.skip(name, str(why))
         except (Exception, SystemExit) as why:
             self.check(name, False, reason(why))
         else:
             return True
+        finally:
+            self.count_checks(made)
         return False
 
+    def count_checks(self, made: checks.Made) -> None:
+        """Counts the checks that a test made."""
+        with self._lock:
+            self.checks += made.number
+
     def finish(self) -> int:
-        """Prints the last line, and returns the exit status.
+        """Prints the number of checks and the last line, and returns the exit status.
 
         >>> Counter().finish()
         FAILED: no test ran
@@ -123,18 +136,20 @@ class Counter:
         if self.total == 0:
             self.failed = 1
             print("FAILED: no test ran")
+        if self.checks:
+            print(f"{self.checks} checks")
         print(f"{self.passed} passed, {self.failed} failed" + (f", {self.skipped} skipped" if self.skipped else ""), flush=True)
         return 1 if self.failed else 0
 
 
 def reason(why: BaseException) -> str:
-    """One line on an exception: its message, and the innermost line that raised it, outside unittest.
+    """One line on an exception: its message, and the innermost line that raised it, outside unittest and checks.py.
 
     >>> reason(KeyError("a name"))
     "KeyError: 'a name'"
     """
     said = str(why) if isinstance(why, AssertionError) and str(why) else f"{type(why).__name__}: {why}"
-    frames = [it for it in traceback.extract_tb(why.__traceback__) if "/unittest/" not in it.filename]
+    frames = [it for it in traceback.extract_tb(why.__traceback__) if "/unittest/" not in it.filename and it.filename != checks.__file__]
     return f"{said} ({frames[-1].filename.rpartition('/')[2]}:{frames[-1].lineno})" if frames else said
 
 
@@ -145,6 +160,7 @@ def examples(module: ModuleType) -> None:
         found = doctest.testmod(module)
     assert found.attempted, f"{module.__name__} has no example"
     assert not found.failed, f"{found.failed} of {found.attempted} examples of {module.__name__} are wrong"
+    checks.count(found.attempted)
 
 
 def run_tests(tests: Iterable[Callable[[Counter], Any]]) -> int:
@@ -163,13 +179,17 @@ class Outcomes(unittest.TestResult):
         self.counter = counter
         self._faults: Optional[list] = None  # of the test that runs
         self._skips: list = []
+        self._made = checks.Made()
 
     def startTest(self, test: unittest.TestCase) -> None:
         super().startTest(test)
         self._faults, self._skips = [], []
+        self._made.begin()
 
     def stopTest(self, test: unittest.TestCase) -> None:
         super().stopTest(test)
+        self._made.end()
+        self.counter.count_checks(self._made)
         faults, skips, self._faults, self._skips = self._faults, self._skips, None, []
         if faults:
             self.counter.check(name_of(test), False, "; ".join(faults))

@@ -23,8 +23,9 @@ sys.dont_write_bytecode = True
 sys.path.insert(0, str(Path(__file__).resolve().parent.parent))
 
 from paths import TESTS, TOP
+from checks import require
 from counting import Counter
-from library import need, require, run, tests_of
+from library import need, run, tests_of
 
 PEERS = TOP / "bench" / "peers"
 STRICT = ["-Wall", "-Wextra", "-Werror", "-fsyntax-only", f"-I{TOP / 'crates' / 'px_c' / 'include'}"]

@@ -10,9 +10,10 @@ from random import Random
 from typing import Dict, Iterable
 
 import orders
+from checks import require
 from counting import SkipTest
 from kinds import ORIENTATION, Kind, OfStrips, bad_orders, many_datasets, random_records
-from meanings import RATIONAL, Exif, Layout, Record, Value, laid
+from meanings import RATIONAL, SHORT, Exif, Layout, Record, Value, laid
 
 HERE = os.path.dirname(os.path.abspath(__file__))
 # The bytes of a DataSet; more DataSets than this are sorted, in a second list or with four bytes for each group.
@@ -21,11 +22,6 @@ SMALL, SLACK = 1024, 1.03  # bytes of small lists; 3 % more than is allocated no
 LONG = 300_000  # DataSets
 SAME, SORTED = 1.3, 3.0  # how often the instructions of the usual order an unusual one takes, and one that has to be sorted
 OCTETS = b"octets 1"
-
-
-def require(is_so: bool, what: object) -> None:
-    if not is_so:
-        raise AssertionError(what)
 
 
 def memory_of_record(call: str, record: Record) -> int:
@@ -71,8 +67,13 @@ class Costs:
         for order in (1, -1, 0):
             self._write(strips(order, 400_000))
             for call in ("check", "normalise", "captions", "compare"):
-                took, size = self._memory(call), os.path.getsize(self._block)
-                require(took <= SLACK * (size / 8 + SMALL), f"{call} of strips in order {order} takes {took / size:.3f} of the block")
+                self._keep_to_a_bit_a_byte(call, f"strips in order {order}")
+
+    def are_small_for_fields_that_are_checked(self) -> None:
+        """A check keeps no field of these directories."""
+        fields = {tag: Value(SHORT, [1]) for tag in range(0x1000, 0x2000)}
+        self._write(laid(Exif(fields, exif=fields, interop=fields, gps=fields), Layout("<")))
+        self._keep_to_a_bit_a_byte("check", "fields")
 
     def are_like_the_usual_order_of_values(self) -> None:
         fields = Exif({tag: Value(RATIONAL, [(tag, 7)]) for tag in range(0x1000, 0x3000)})
@@ -108,6 +109,10 @@ class Costs:
     def _memory(self, call: str) -> int:
         """The most bytes that a call has allocated at once."""
         return int(subprocess.run([self._program, call, self._block], capture_output=True, text=True, check=True).stdout)
+
+    def _keep_to_a_bit_a_byte(self, call: str, what: str) -> None:
+        took, size = self._memory(call), os.path.getsize(self._block)
+        require(took <= SLACK * (size / 8 + SMALL), f"{call} of {what} takes {took / size:.3f} of the block")
 
     def _keep_to_memory(self, kind: Kind) -> None:
         self._write(kind.blocks[0])

@@ -19,8 +19,9 @@ sys.path.insert(0, str(Path(__file__).resolve().parent.parent))
 
 import paths
 from answers import NAMES
+from checks import require
 from counting import Counter
-from library import EXPORTS, HEADER, PARTS, TOP, require, need, run, tests_of, text_of
+from library import EXPORTS, HEADER, PARTS, TOP, need, run, tests_of, text_of
 from meanings import LIMIT
 
 STRICT = ["-Wall", "-Wextra", "-pedantic", "-Werror", "-Wundef", "-Wstrict-prototypes", f"-I{HEADER}"]
@@ -81,6 +82,8 @@ MEANINGS = {
     "TOO_LITTLE_ROOM": "is too short",
     "SECOND_REFUSED": "The first of two blocks is valid, and the second ",
 }
+# The names that ctypes has for the types of the header on this machine, where pointers to bytes are passed without a type.
+IN_PYTHON = {"uint32_t": "c_uint", "size_t": "c_ulong", "size_t *": "LP_c_ulong", "char *": "c_void_p"}
 CHECKS = 3159  # those of edges.c: raise the number with each new one
 
 
@@ -154,6 +157,16 @@ class Interface:
 
     def has_the_prototypes_of_its_page(self):
         require(prototypes(header()) == page_prototypes(), f"the header has {prototypes(header())}, and the page {page_prototypes()}")
+
+    def is_declared_in_python_by_its_prototypes(self):
+        """Other arguments of calls are converted before, and need no types."""
+        lines = "[print(it, call.restype.__name__, *(of.__name__ for of in call.argtypes or ())) for it in c.CALLS for call in [getattr(c.library(), it)]]"
+        declared = dict(it.split(" ", 1) for it in self.python(f"from exifnorm import _library as c\n{lines}").splitlines())
+        expected = {name: IN_PYTHON["uint32_t"] for name in EXPORTS}
+        for name in ("exifnorm_cause_name", "exifnorm_version"):
+            parameters = re.search(r"\((.*)\)", prototypes(header())[name])[1].split(", ")
+            expected[name] = " ".join([expected[name], *(IN_PYTHON[re.sub(r"\w+$", "", it).strip()] for it in parameters)])
+        require(declared == expected, f"Python has {declared}")
 
     def has_a_header_with_the_numbers_of_the_sources(self):
         """The header can be included twice, and gives its names the numbers of the sources in Rattle."""

@@ -21,6 +21,7 @@ sys.path.insert(0, str(Path(__file__).resolve().parent.parent))
 
 import paths
 from answers import all_answers, blocks_of_cases, write_jobs
+from checks import count, require
 from costs import Costs
 from counting import Counter, SkipTest
 
@@ -38,7 +39,7 @@ WORKED = 1_074  # bytes of the blocks of each_byte.py, over which every value is
 
 
 class Failed(Exception):
-    """The reason why a test failed."""
+    """A command failed."""
 
 
 def text_of(*path):
@@ -62,11 +63,6 @@ def run(*words, folder=TOP, seconds=900, **environment):
     if ran.returncode:
         raise Failed(f"{' '.join(words)[:200]} ended with status {ran.returncode}: {said[-2000:].strip()}")
     return said
-
-
-def require(holds, why):
-    if not holds:
-        raise Failed(why)
 
 
 def need(tool):
@@ -118,13 +114,17 @@ class Library:
                 write_jobs(path, *all_answers(self.program, folder, some))
 
     def judges_each_small_block_in_c(self):
-        run(self.calls, "once", self.small)
+        self._judge(self.calls, "once", self.small)
 
     def judges_each_large_block_in_c(self):
-        run("sh", "-c", 'ulimit -s 256 && exec "$@"', "sh", self.calls, "once", self.large)  # the stack size in exifnorm.h
+        self._judge("sh", "-c", 'ulimit -s 256 && exec "$@"', "sh", self.calls, "once", self.large)  # the stack size in exifnorm.h
 
     def judges_in_sixteen_threads_in_c(self):
-        run(self.calls, "threads", self.small)
+        self._judge(self.calls, "threads", self.small)
+
+    def _judge(self, *words):
+        """Counts the calls in the last line of calls.c as checks."""
+        count(int(re.search(r"(\d+) calls\n$", run(*words))[1]))
 
     def judges_where_allocations_fail(self):
         run(self.refusing, "refused", self.small)
@@ -135,7 +135,8 @@ class Library:
 
     def judges_each_block_in_python(self):
         for jobs in (self.small, self.large):
-            self.python(os.path.join(PARTS, "python_calls.py"), jobs)
+            said = self.python(os.path.join(PARTS, "python_calls.py"), jobs)
+            count(int(re.search(r"(\d+) blocks\n$", said)[1]))
 
     def judges_each_value_of_each_byte_in_python(self):
         said = self.python(os.path.join(PARTS, "each_byte.py"))

@@ -11,6 +11,7 @@ which don't use the library. It needs cc besides Python 3.
 import array
 import contextlib
 import ctypes
+import functools
 import gc
 import hashlib
 import inspect
@@ -47,15 +48,17 @@ from reading import Fault, said
 
 ROOM = ""  # a folder for this run
 REAL = ""  # the built library
-WATCHED = ""  # the one of library/watched.c
 CALLS = ("check", "normalise", "compare", "show", "captions", "cause_name", "version")
 OF_BLOCK = (exifnorm.kind, exifnorm.normal, exifnorm.digest, exifnorm.show, exifnorm.fields, exifnorm.captions)
 ONE = bytes.fromhex("4d4d002a00000008 0001 0112 0003 00000001 00060000 00000000")
 LOOP = ONE[:-4] + bytes.fromhex("00000008")
 CAPTION = b"\x1c\x02\x78\x00\x04Vase"
-# numbers of RowsPerStrip, which take two bytes here, and four in the form: its form is too long
-NUMBERS = [*range(1000), *bytes(LIMIT // 4)]
-LONG_FORM = laid(Exif({0x0116: Value(SHORT, NUMBERS)}), Layout("<"))
+
+
+@functools.lru_cache(maxsize=None)
+def long_form() -> bytes:
+    """A block whose form is too long: numbers of RowsPerStrip take two bytes here, and four in the form."""
+    return laid(Exif({0x0116: Value(SHORT, [*range(1000), *bytes(LIMIT // 4)])}), Layout("<"))
 
 
 def outcome(call: Callable, *arguments: Any) -> Any:
@@ -131,14 +134,14 @@ def fields_that_are_nearly_others(counter: Counter) -> None:
 
 
 def forms_that_are_too_long(counter: Counter) -> None:
-    counter.check("its kind", exifnorm.kind(LONG_FORM) == "exif")
-    counter.check("its form", outcome(exifnorm.normal, LONG_FORM) == ("NormalTooLong",))
-    counter.check("its digest", outcome(exifnorm.digest, LONG_FORM) == ("NormalTooLong",))
+    counter.check("its kind", exifnorm.kind(long_form()) == "exif")
+    counter.check("its form", outcome(exifnorm.normal, long_form()) == ("NormalTooLong",))
+    counter.check("its digest", outcome(exifnorm.digest, long_form()) == ("NormalTooLong",))
     counter.check("what is said of it", str(exifnorm.NormalTooLong()) == f"the normal form is longer than {LIMIT} bytes")
-    expected = [exifnorm.Field("main", 0x0116, "WHOLE", tuple(NUMBERS))]
-    counter.check("its fields", exifnorm.fields(LONG_FORM) == expected)
-    counter.check("its captions", exifnorm.captions(LONG_FORM) == [])
-    counter.check("it means the same as itself", exifnorm.same(LONG_FORM, LONG_FORM) is True)
+    expected = [exifnorm.Field("main", 0x0116, "WHOLE", (*range(1000), *bytes(LIMIT // 4)))]
+    counter.check("its fields", exifnorm.fields(long_form()) == expected)
+    counter.check("its captions", exifnorm.captions(long_form()) == [])
+    counter.check("it means the same as itself", exifnorm.same(long_form(), long_form()) is True)
     counter.check("a block that is too long", outcome(exifnorm.kind, ONE + bytes(LIMIT)) == ("Refused", "TooLong", LIMIT, None))
     counter.check("a block that is just long enough", exifnorm.kind(ONE + bytes(LIMIT - len(ONE))) == "exif")
 
@@ -190,6 +193,8 @@ def digests(counter: Counter) -> None:
         counter.check(algorithm, exifnorm.digest(CAPTION, algorithm) == expected == exifnorm.digest(CAPTION, algorithm=algorithm))
     for algorithm in ("no such", "shake_128"):
         counter.check(algorithm, outcome(exifnorm.digest, CAPTION, algorithm)[0] == "ValueError", outcome(exifnorm.digest, CAPTION, algorithm))
+    came = outcome(exifnorm.digest, CAPTION, "shake_256")
+    counter.check("what is said of a digest without a length", came == ("ValueError", "digests of shake_256 have no length of their own"), came)
 
 
 # ---- arguments
@@ -345,12 +350,12 @@ def copied_packages(name: str, *library: str) -> str:
 
 def places_of_the_library(counter: Counter) -> None:
     real, own = exifnorm.version(), {"VERSION": "9.9.9"}
-    alone, beside, broken = copied_packages("alone"), copied_packages("beside", WATCHED), copied_packages("broken", __file__)
+    alone, beside, broken = copied_packages("alone"), copied_packages("beside", watched_library()), copied_packages("broken", __file__)
     system = {"LD_LIBRARY_PATH": os.path.dirname(REAL)}
     for name, packages, environment, expected in (
-        ("the variable's file", alone, {"EXIFNORM_LIBRARY": WATCHED}, "9.9.9"),
+        ("the variable's file", alone, {"EXIFNORM_LIBRARY": watched_library()}, "9.9.9"),
         ("the variable's file before the one beside", beside, {"EXIFNORM_LIBRARY": REAL}, real),
-        ("the variable's file before the system's", alone, {"EXIFNORM_LIBRARY": WATCHED, **system}, "9.9.9"),
+        ("the variable's file before the system's", alone, {"EXIFNORM_LIBRARY": watched_library(), **system}, "9.9.9"),
         ("the file beside the package", beside, {}, "9.9.9"),
         ("the file beside before the system's", beside, system, "9.9.9"),
         ("an empty variable", beside, {"EXIFNORM_LIBRARY": ""}, "9.9.9"),
@@ -386,18 +391,30 @@ calls = exifnorm.kind, exifnorm.normal, exifnorm.digest, exifnorm.show, exifnorm
 print(json.dumps([*(outcome(it, b"ab") for it in calls), outcome(exifnorm.same, b"a", b"b")]))
 """
     for status, expected in ((1, "AssertionError"), (2, "Refused"), (3, "NormalTooLong"), (4, "MemoryError"), (6, "Refused"), (7, "AssertionError")):
-        came = told(code, EXIFNORM_LIBRARY=WATCHED, STATUS=str(status))
+        came = told(code, EXIFNORM_LIBRARY=watched_library(), STATUS=str(status))
         counter.check(f"status {status}", came == json.dumps([expected] * 7), came)
+    came = told("import exifnorm\ntry: exifnorm.kind(b'')\nexcept AssertionError as why: print(why)", EXIFNORM_LIBRARY=watched_library(), STATUS="7")
+    counter.check("what is said of an unknown status", came == "libexifnorm answered the status 7", came)
 
 
 # ---- costs
+
+
+@functools.lru_cache(maxsize=None)
+def watched_library() -> str:
+    """The library of library/watched.c, which is built when a test first needs it."""
+    path = os.path.join(ROOM, "watched.so")
+    header = os.path.join(TOP, "crates", "px_c", "include")
+    words = ["cc", "-std=c99", "-Wall", "-Wextra", "-Werror", "-O1", "-shared", "-fPIC", "-I", header, "-o", path]
+    subprocess.run([*words, str(paths.TESTS / "library" / "watched.c"), "-ldl", "-lpthread"], check=True)
+    return path
 
 
 class Watch:
     """The counts of the library in front of the built one."""
 
     def __init__(self) -> None:
-        self.library = ctypes.CDLL(WATCHED)
+        self.library = ctypes.CDLL(watched_library())
         self.calls = (ctypes.c_ulong * len(CALLS)).in_dll(self.library, "watched_calls")
 
     def number(self, name: str) -> int:
@@ -414,7 +431,7 @@ class Watch:
 def watched(**environment: str) -> Iterator[Watch]:
     """Lets the package call the library that counts."""
     kept = {name: os.environ.get(name) for name in ("EXIFNORM_LIBRARY", *environment)}
-    os.environ.update(EXIFNORM_LIBRARY=WATCHED, **environment)
+    os.environ.update(EXIFNORM_LIBRARY=watched_library(), **environment)
     _library.library.cache_clear()
     try:
         yield Watch()
@@ -446,16 +463,17 @@ def calls_of_the_library(counter: Counter) -> None:
             ("show of a large block", {"show": 1}, exifnorm.show, large),
             ("captions", {"captions": 1}, exifnorm.captions, CAPTION),
             ("captions that are longer than expected", {"captions": 2}, exifnorm.captions, escaped),
+            ("captions that are longer than the kept buffer", {"captions": 2}, exifnorm.captions, Record([(2, 120, bytes(24_000))]).spelled()),
             ("fields", {"normalise": 1}, exifnorm.fields, ONE),
             ("fields with a record", {"normalise": 1, "check": 1}, exifnorm.fields, record),
-            ("fields of a form that is too long", {"normalise": 1, "show": 1}, exifnorm.fields, LONG_FORM),
+            ("fields of a form that is too long", {"normalise": 1, "show": 1}, exifnorm.fields, long_form()),
             ("version", {"version": 1}, exifnorm.version),
         ):
             came = watch.of(call, *arguments)
             counter.check(f"calls of {name}", came == expected, came)
         exifnorm.normal(large)
         counter.check("the room of a form", watch.number("room") <= 2 * len(large) + 1, watch.number("room"))
-        outcome(exifnorm.normal, LONG_FORM)
+        outcome(exifnorm.normal, long_form())
         counter.check("the most room of a form", watch.number("room") <= LIMIT + 1, watch.number("room"))
         exifnorm.captions(escaped)
         counter.check("the room of captions, the second time", watch.number("room") == len(said(escaped).captions()), watch.number("room"))
@@ -510,7 +528,7 @@ def bytes_of_the_calls(counter: Counter) -> None:
 def what_is_given_back(counter: Counter) -> None:
     """After a call, also after a failed one, the block can be changed and freed, and nothing stays allocated."""
     calls = [(call, block) for block in (bytearray(ONE), bytearray(LOOP)) for call in OF_BLOCK]
-    for call, block in [*calls, (exifnorm.normal, bytearray(LONG_FORM))]:
+    for call, block in [*calls, (exifnorm.normal, bytearray(long_form()))]:
         outcome(call, block)
         outcome(exifnorm.same, block, block)
         came = outcome(lambda block=block: block.append(0) or block.pop())
@@ -589,22 +607,13 @@ TESTS = (
 )
 
 
-def make_watched(folder: str) -> str:
-    path = os.path.join(folder, "watched.so")
-    header = os.path.join(TOP, "crates", "px_c", "include")
-    words = ["cc", "-std=c99", "-Wall", "-Wextra", "-Werror", "-O1", "-shared", "-fPIC", "-I", header, "-o", path]
-    subprocess.run([*words, str(paths.TESTS / "library" / "watched.c"), "-ldl", "-lpthread"], check=True)
-    return path
-
-
 def main(words: List[str]) -> int:
-    global ROOM, REAL, WATCHED
+    global ROOM, REAL
     if len(words) != 1:
         sys.exit(__doc__)
     counter, REAL = Counter(), os.path.join(os.path.abspath(words[0]), "libexifnorm.so.1")
     os.environ.update(EXIFNORM_LIBRARY=REAL, RIGHT=REAL)
     with tempfile.TemporaryDirectory() as ROOM:
-        WATCHED = make_watched(ROOM)
         for test in TESTS:
             counter.collect(test.__name__, test)
     return counter.finish()

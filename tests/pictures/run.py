@@ -4,54 +4,22 @@
   tests/pictures/run.py [PROGRAM] [--only TEXT]
 
 PROGRAM is the built program (crates/px_cli/out/px_cli). The library is that of out/lib, or the one that EXIFNORM_LIBRARY names.
-Tests of tools that aren't installed are skipped, each with a line. The last line is 'N passed, M failed', and the status is 0 only
-where nothing failed.
+Tests of tools that aren't installed are skipped, each with a line. counting.py describes the last lines and the status.
 """
 
 import argparse
+import fnmatch
 import os
 import sys
-import threading
-import time
-import traceback
 import unittest
 from concurrent.futures import ThreadPoolExecutor
 
 sys.dont_write_bytecode = True
 HERE = os.path.dirname(os.path.abspath(__file__))
-sys.path[:0] = [HERE, os.path.join(os.path.dirname(os.path.dirname(HERE)), "python")]
+sys.path[:0] = [HERE, os.path.dirname(HERE), os.path.join(os.path.dirname(os.path.dirname(HERE)), "python")]
 
-from studio import Studio  # noqa: E402
-
-
-class Outcome(unittest.TestResult):
-    """The outcome of one test."""
-
-    def __init__(self):
-        super().__init__()
-        self.complaints = []
-
-    def addFailure(self, test, err):
-        self.complaints.append("".join(traceback.format_exception(*err)[-1:]))
-        self.complaints.append("".join(traceback.format_tb(err[2])[-2:]))
-
-    addError = addFailure
-
-    def addSubTest(self, test, subtest, err):
-        if err is not None:
-            self.complaints.append(f"{subtest}: " + "".join(traceback.format_exception(*err)[-1:]))
-
-
-def cases(suite):
-    for it in suite:
-        if isinstance(it, unittest.TestSuite):
-            yield from cases(it)
-        else:
-            yield it
-
-
-def name_of(test):
-    return ".".join(test.id().split(".")[-2:]) if hasattr(test, "id") else str(test)
+from counting import Counter, Outcomes, name_of, tests_in
+from studio import Studio
 
 
 def main():
@@ -66,36 +34,27 @@ def main():
         Studio.close()
 
 
+def modules_with(texts):
+    """The modules that may have a test whose name has one of these texts: the class and the method that it has are in the source."""
+    for name in sorted(fnmatch.filter(os.listdir(HERE), "test_*.py")):
+        with open(os.path.join(HERE, name), encoding="utf-8") as file:
+            source = file.read()
+        if any(all(it in source for it in text.split(".")) for text in texts):
+            yield name
+
+
 def run_all(only):
-    loader = unittest.TestLoader()
-    found = [it for it in cases(loader.discover(HERE, "test_*.py")) if any(text in name_of(it) for text in only.split("|"))]
-    told = threading.Lock()
-    counts = {"passed": 0, "failed": 0}
-    skipped = []
-
-    def judge(test):
-        outcome = Outcome()
-        began = time.monotonic()
-        test.run(outcome)
-        with told:
-            skipped.extend(f"skipped: {name_of(test)}: {why}" for _, why in outcome.skipped)
-            if outcome.complaints:
-                counts["failed"] += 1
-                print(f"failed: {name_of(test)} ({time.monotonic() - began:.1f} s)\n" + "\n".join(outcome.complaints), flush=True)
-            elif not outcome.skipped:
-                counts["passed"] += 1
-
+    counter, loader = Counter(only), unittest.TestLoader()
+    suites = [loader.discover(HERE, it) for it in modules_with(only.split("|"))]
+    found = [it for suite in suites for it in tests_in(suite) if counter.asks(name_of(it))]
     # what is measured runs by itself, after all others
     together = [it for it in found if not getattr(it, "alone", False)]
     with ThreadPoolExecutor(min(4, os.cpu_count() or 1)) as pool:
-        list(pool.map(judge, together))
+        list(pool.map(lambda it: it.run(Outcomes(counter)), together))
     for it in found:
         if getattr(it, "alone", False):
-            judge(it)
-    for line in sorted(skipped):
-        print(line)
-    print(f"{counts['passed']} passed, {counts['failed']} failed")
-    return 1 if counts["failed"] else 0
+            it.run(Outcomes(counter))
+    return counter.finish()
 
 
 if __name__ == "__main__":

@@ -29,17 +29,19 @@ PROGRAMS = {"exiftool": "libimage-exiftool-perl", "exiv2": "exiv2", "convert": "
 MODULES = {"piexif": "python3-piexif", "distributed": "python3-distributed", "PIL": "python3-pil", "rdflib": "python3-rdflib"}
 
 
-# looks for a module without running it, which takes a second with some
-IS_THERE = "import importlib.util, sys; sys.exit(importlib.util.find_spec(sys.argv[1]) is None)"
+# looks for modules without running them, which takes a second with some
+ARE_THERE = "import importlib.util, sys; print(*(it for it in sys.argv[1:] if importlib.util.find_spec(it)))"
 
 
 @functools.lru_cache(maxsize=None)
+def modules_of(python):
+    """Those of MODULES that a Python has."""
+    return subprocess.run([python, "-c", ARE_THERE, *MODULES], stdout=subprocess.PIPE, text=True).stdout.split() if os.path.exists(python) else []
+
+
 def interpreter_with(module):
     """A Python that has a module: this one, or Debian's."""
-    for python in (sys.executable, "/usr/bin/python3"):
-        if os.path.exists(python) and not subprocess.run([python, "-c", IS_THERE, module]).returncode:
-            return python
-    return None
+    return next((it for it in (sys.executable, "/usr/bin/python3") if module in modules_of(it)), None)
 
 
 class Studio:

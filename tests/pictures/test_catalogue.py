@@ -454,6 +454,15 @@ class Kinds(WithPictures):
         names = [[os.path.basename(it["path"]) for it in one["pictures"]] for one in found]
         self.assertEqual(names, [["a.jpg", "z.jpg"], ["b.jpg", "d.jpg"]])
 
+    def test_fields_of_all_kinds(self):
+        from made_files import app1, app1_xmp, app13, exif, iim, jpeg, resource, title
+
+        texts = ((b"Abc", b"one", "eins"), (b"Xyz", b"two", "zwei"))
+        one, other = (jpeg(app1(exif(make)), app13(resource(0x0404, iim(word))), app1_xmp(title(german))) for make, word, german in texts)
+        found = self.compared(one, other)
+        self.assertEqual(found["kinds"], dict.fromkeys(("exif", "iptc", "xmp"), "different"))
+        self.assertCountEqual([(it["before"], it["after"]) for it in found["fields"]], [('"Abc"', '"Xyz"'), ('"one"', '"two"'), ('"eins"', '"zwei"')])
+
     def test_fields_of_a_second_block(self):
         one, other = (SMALL_JPEG[:2] + with_exif(SMALL_JPEG, block([MAKE]))[2:-len(SMALL_JPEG) + 2] + it[2:] for it in (ONE, OTHER))
         found = self.compared(one, other)

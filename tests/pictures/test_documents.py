@@ -98,6 +98,9 @@ class Documents(WithPictures):
                 failed, _ = doctest.testmod(importlib.import_module(name), verbose=False)
                 self.assertEqual(failed, 0)
         self.assertGreater(len(modules), 20)
+        public = {name: it for name, it in sys.modules.items() if name.startswith("exifnorm") and hasattr(it, "__all__")}
+        self.assertEqual({name: [word for word in it.__all__ if not hasattr(it, word)] for name, it in public.items()}, dict.fromkeys(public, []))
+        self.assertIn("exifnorm_pictures.formats.tiff", public)
 
     @needs("exiftool")
     def test_the_examples_of_the_manual_page(self):

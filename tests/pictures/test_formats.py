@@ -10,6 +10,7 @@ import sys
 import unittest
 import zlib
 
+from checks import uncounted
 from made_blocks import ASCII, LONG, segment
 from made_files import (
     app1, app1_xmp, app13, chunk, exif, extension, iim, jpeg, mpf, page, png, png_xmp, profile, resource, tiff, title, webp, xmp,
@@ -389,6 +390,7 @@ class Damaged(unittest.TestCase):
         print(f"{4 * self.COUNT:,} damaged files: {answers}", flush=True)
         self.assertGreater(min(answers["read"], answers["broken"]), self.COUNT // 4)
 
+    @uncounted  # as many as the readers find
     def check(self, octets, found):
         sources = None
         for it in found.found:
@@ -414,6 +416,26 @@ class Damaged(unittest.TestCase):
                 if tag in (0x8769, 0x8825, 0xA005) and (kind, number) == (4, 1) and below < len(data):
                     tables.append(below)
         self.assertTrue(is_made_of(data[last:], [octets]), octets)
+
+    def test_which_tails_are_read_from_their_end(self):
+        """Those with the marks and tables that may be between scans (T.81, Table B.1 and B.2.1), and with no other marker."""
+        from exifnorm_pictures.formats import jpeg_tail
+
+        class Counted(io.BytesIO):
+            count = 0
+
+            def read(self, size=-1):
+                found = super().read(size)
+                self.count += len(found)
+                return found
+
+        plain = set()
+        for marker in range(0xC0, 0xFF):
+            octets = bytes(70_000) + b"\xff" + bytes([marker]) + b"\0\4ab" + bytes(100) + b"\xff\xd9"
+            stream = Counted(octets)
+            jpeg_tail.tail(stream, 0, len(octets), False)
+            plain |= {marker} if stream.count <= 65_537 else set()
+        self.assertEqual(plain, {0xC4, 0xCC, 0xDA, 0xDB, 0xDD, *range(0xD0, 0xD8)})  # DHT, DAC, SOS, DQT, DRI, RST
 
     def test_markers_beside_a_plain_search(self):
         from exifnorm_pictures.formats import jpeg_tail
@@ -536,8 +558,9 @@ class Opened(WithPictures):
             self.assertEqual(extraction.blocks_of(os.fsencode(self.path(name))).problem, problem)
 
     def by_itself(self, text):
-        """The output of a Python program about this folder, which must end soon."""
-        done = run([sys.executable, "-c", "import os, sys\nfrom exifnorm_pictures import extraction\n" + text], self.folder, seconds=30)
+        """The output of a Python program about this folder, which must end soon: after three seconds of processor time it is ended."""
+        begin = "import os, resource, sys\nresource.setrlimit(resource.RLIMIT_CPU, (3, 3))\nfrom exifnorm_pictures import extraction\n"
+        done = run([sys.executable, "-c", begin + text], self.folder, seconds=15)
         self.assertEqual(done.returncode, 0, done.stderr)
         return done.stdout.decode().split()
 

@@ -1,18 +1,24 @@
 """docs/exifnorm-pictures.1 beside the command: options, statuses, and the facts that the page states, each with the value in the program."""
 
+import contextlib
+import hashlib
+import json
 import os
 import re
+import shutil
 import signal
+import sqlite3
 import sys
 import unittest
 from unittest import mock
 
-from studio import TOP, WithPictures, read
+from made_blocks import BLOCKS, with_exif, with_iptc
+from studio import SMALL_JPEG, TOP, WithPictures, read, write
 
 sys.path.insert(0, os.path.join(TOP, "python"))
 
 from exifnorm_pictures import (  # noqa: E402
-    arguments, batches, changed, ends, extraction, lines, main, mend, others, pairing, report, states, texts, tools, xmp,
+    arguments, batches, changed, ends, extraction, lines, main, mend, moves, others, pairing, report, states, texts, tools, xmp,
 )  # fmt: skip
 from exifnorm_pictures.catalogue import Catalogue  # noqa: E402
 from exifnorm_pictures.formats.found import PROBLEMS, NotRead  # noqa: E402
@@ -143,6 +149,9 @@ class Manual(WithPictures):
              [True, False, False]),
             ("first copies the catalogue to OLD, which may replace an earlier catalogue and no other file", None, None),
             ("The page has the counts and the first hundreds of each list; --json has all.", (report.MOST_CHANGES, report.MOST_GROUPS), (300, 40)),
+            ("needs exiftool (in Debian the package libimage-exiftool-perl) for formats that it doesn't read itself and for mend,"
+             " exiv2 for raw files and the second remedy", mend.STEPS[1], "exiv2"),
+            ("of several, one with the same name counts first.", moves.best([b"/a/one", b"/a/two"], b"/b/two"), b"/a/two"),
             ("OUT must not exist. The copy of an accepted picture is a plain copy.", mend.STEP_WORDS["copy"], "nothing was to be mended: a plain copy"),
             ("is ended, and the file gives a line ('ToolFailed'). The programs read no configuration file.", call, ["exiftool", "-config", "", "-ver"]),
             ("After SIGTERM and SIGHUP the command removes its temporary files", ends.SIGNALS, (signal.SIGTERM, signal.SIGHUP)),
@@ -155,6 +164,91 @@ class Manual(WithPictures):
         quoted = set(re.findall(r"'([A-Z][a-z]+[A-Z]?[a-z]+)'", page))
         self.assertEqual(quoted, {"Vanished", "Moved", "ToolFailed"})
         self.assertLessEqual(quoted - {"Moved"}, set(PROBLEMS))
+
+
+class Stated(WithPictures):
+    """Sentences of the page, each with what a command does."""
+
+    def setUp(self):
+        super().setUp()
+        self.page = " ".join(map(printed, sections().values()))
+        os.mkdir(self.path("p"))
+        one, self.other = (with_iptc(SMALL_JPEG, b"\x1c\x02\x78\0\x03" + it) for it in (b"one", b"two"))
+        for name, octets in {"a.jpg": one, "b.jpg": one, "bare.jpg": SMALL_JPEG, "no.txt": b"text", "refused.jpg": with_exif(SMALL_JPEG, BLOCKS["Loop"])}.items():
+            write(self.path("p", name), octets)
+
+    def compare(self, *facts):
+        for words, found, expected in facts:
+            self.assertIn(words, self.page)
+            self.assertEqual(found, expected, words)
+
+    def states(self, catalogue):
+        """The problem or the caption's digest of each picture in a catalogue."""
+        query = "SELECT path, COALESCE(problem, iptc, '') FROM pictures"
+        with contextlib.closing(sqlite3.connect(self.path(catalogue))) as base:
+            return {os.path.basename(os.fsdecode(path)): state for path, state in base.execute(query)}
+
+    def test_catalogues(self):
+        index = ("index", "p", "--catalogue")
+        said = self.asked(*index, "c")
+        progress, digests = self.complaint, self.states("c")
+        os.rename(self.path("p", "a.jpg"), self.path("p", "new.jpg"))
+        os.remove(self.path("p", "no.txt"))
+        self.asked(*index, "c", "--quiet")
+        gone = {name: it for name, it in self.states("c").items() if name in ("a.jpg", "no.txt")}
+        write(self.path("p", "b.jpg"), self.other)
+        self.asked(*index, "d", "--quiet")
+        merged = []
+        for order in ("cd", "dc"):
+            self.asked("merge", *order, "--catalogue", f"all-{order}")
+            merged.append(self.states(f"all-{order}")["b.jpg"] == digests["b.jpg"])
+        self.compare(
+            ("Progress, with the remaining time, goes to standard error.", ("5 of 5 pictures" in progress, [it for it in said if "of 5 pictures" in it]), (True, [])),
+            ("the catalogue, a SQLite file; it is created if it doesn't exist.", read(self.path("c"))[:16], b"SQLite format 3\0"),
+            ("A file that no longer exists is stored as 'Vanished'; it is stored as 'Moved' if a new file is the same file or has the same blocks.", gone,
+             {"a.jpg": "Moved", "no.txt": "Vanished"}),
+            ("Joins catalogues in the one that --catalogue names. If several have the same picture, the last one counts.", merged, [False, True]),
+        )  # fmt: skip
+
+    def test_changes(self):
+        shutil.copytree(self.path("p"), self.path("q"))
+        for name in ("a.jpg", "b.jpg"):
+            write(self.path("q", name), self.other)
+        found = [json.loads(it) for it in self.asked("changed", "p", "q", "--json", status=1)]
+        every = [json.loads(it) for it in self.asked("changed", "p", "q", "--json", "--all", status=1)]
+        lines = self.asked("changed", "p", "q", status=1)
+        self.compare(
+            ("Pictures with equal changes are listed together.", [it for it in lines if "two" in it],
+             ['  ~ iptc:CaptionAbstract: "one" -> "two" in 2 pictures']),
+            ("With --all unchanged pictures are listed too.", (len(every) - len(found), {os.path.basename(it["path"]) for it in found if "path" in it}),
+             (3, {"a.jpg", "b.jpg"})),
+            ("Prints one JSON object a line.", {type(it) for it in every}, {dict}),
+            ("same, changed and report then compare these pictures alone; changed takes paths below the folder, or full paths.",
+             [self.asked("changed", "p", "q", "--files-from", "-", given=os.fsencode(f"{it}\n"), status=1)[-1] for it in ("a.jpg", self.path("p", "a.jpg"))],
+             ["1 different"] * 2),
+        )  # fmt: skip
+
+    def test_pictures(self):
+        names = [self.path("p", it) for it in ("absent.jpg", "no.txt", "bare.jpg")]
+        each = self.asked("show", *names, status=4)
+        greatest = [self.asked("show", self.path("p", it), self.path("p", "refused.jpg"), status=status) and status for it, status in (("a.jpg", 2), ("absent", 4))]
+        listed = self.asked("captions", "--files-from", "-", given=os.fsencode(self.path("p", "a.jpg\n")))
+        os.chmod(self.path("p", "a.jpg"), 0o640)
+        os.utime(self.path("p", "a.jpg"), ns=(10**18, 10**18))
+        self.asked("mend", self.path("p", "a.jpg"), "copy.jpg")
+        kept = [(it.st_mode, it.st_mtime_ns) for it in map(os.stat, (self.path("p", "a.jpg"), self.path("copy.jpg")))]
+        write(self.path("latin"), b"\x1c\x02\x78\0\x06Z\xfcrich")
+        write(self.path("long"), bytes.fromhex("4d4d002a00000008 0001 9999 0007 000000c8 0000001a 00000000") + bytes(200))
+        self.compare(
+            ("If no character set is declared, a guess follows the text.", [re.split(r" +\(.*guess", it)[0] for it in self.asked("captions", "--block", "latin")], ["caption: Z\u00fcrich"]),
+            ("A long value is shown as its length and the first digits of its SHA-256.",
+             re.findall(r"\[(\d+)\] .*sha256:([0-9a-f]+)$", self.asked("show", "--block", "long")[-1]), [("200", hashlib.sha256(bytes(200)).hexdigest()[:12])]),
+            ("A file that can't be read, that no longer exists, that is no picture or has no block gives a line of its own.",
+             [it.partition(":")[0] for it in each if not it.startswith("== ")], ["Vanished", "NoPicture", "no Exif, IPTC or XMP block"]),
+            ("The greatest of those that apply.", greatest, [2, 4]),
+            ("Reads names from the file LIST, one a line, or from standard input if LIST is -.", listed, self.asked("captions", self.path("p", "a.jpg"))),
+            ("The copy has the mode and times of the picture.", kept[1], kept[0]),
+        )  # fmt: skip
 
 
 if __name__ == "__main__":

@@ -1,8 +1,10 @@
 """What is made of the output of ExifTool and exiv2, without running them."""
 
+import contextlib
 import hashlib
 import io
 import os
+import struct
 import sys
 import unittest
 from unittest import mock
@@ -12,7 +14,7 @@ from studio import TOP, WithPictures, write
 sys.path.insert(0, os.path.join(TOP, "python"))
 
 from exifnorm_pictures import extraction, others, session, tools  # noqa: E402
-from exifnorm_pictures.formats.found import PROBLEMS, Blocks, NotRead  # noqa: E402
+from exifnorm_pictures.formats.found import PROBLEMS, Blocks, LeftToOthers, NotRead  # noqa: E402
 
 ASKED = ("-EXIF:Exif", "-IPTC:IPTC", "-XMP:XMP", "-FileType#", "-MIMEType#", "-Error#")
 # Files in the structure of TIFF, by ExifTool's list of file types
@@ -57,6 +59,9 @@ class Answers(unittest.TestCase):
             for name in (it, it.lower()):
                 self.assertTrue(extraction._RAW_NAME.search(f"/a.b/c.{name}".encode()), name)
                 self.assertFalse(extraction._RAW_NAME.search(f"/a.b/c.{name[:-1]}".encode()), name)
+        for name, head, is_left in (("c.nef", b"II*\0", True), ("c.gif", b"GIF8", True), ("c.tif", b"II*\0", False), ("c.nef", b"MM\0+", False)):
+            with self.subTest(name, head=head), self.assertRaises(LeftToOthers) if is_left else contextlib.nullcontext():
+                extraction._read(io.BytesIO(head + struct.pack("<IH", 8, 0) + bytes(8)), name.encode(), False)
 
 
 class Files(WithPictures):

@@ -168,6 +168,7 @@ class Results(unittest.TestCase):
         least, greatest = -(1 << 63), (1 << 63) - 1
         self.assertEqual(of(1, 2, 3, 4), (1, 2, 3, 4))
         self.assertEqual(of(0, least, greatest, greatest + 1), (0, least, greatest, least))
+        self.assertEqual(of(0, least - 1, 0, 0), (0, greatest, 0, 0))
         self.assertEqual(of(0, least - 1, greatest, (1 << 64) - 1), (0, greatest, greatest, -1))
 
 
@@ -322,6 +323,23 @@ class Sessions(WithPictures):
             self.assertEqual(it._handed_over(b"a/../b.jpg"), b"/x/b.jpg")
             self.assertEqual(it._handed_over(b"-c d.jpg"), b"./link.jpg")
         self.assertEqual(os.readlink(os.fsencode(self.path("link.jpg"))), b"/x/-c d.jpg")
+
+    def test_one_exiftool_for_many_files(self):
+        """It is started for the first, and again only after it ended or failed; then it is closed."""
+        own = {"session": None, "pid": os.getpid(), "room": self.folder}
+        with mock.patch.multiple(session._Own, **own), mock.patch.object(session, "Session") as made:
+            here, counts = made.return_value, lambda: (made.call_count, made.return_value.close.call_count)
+            here.process.poll.return_value = None
+            self.assertEqual([session.ask(it, ()) for it in (b"a", b"b", b"c")], [here.ask.return_value] * 3)
+            self.assertEqual((made.call_args, counts()), (mock.call(self.folder), (1, 0)))
+            here.process.poll.return_value = 1
+            session.ask(b"d", ())
+            self.assertEqual(counts(), (2, 1))
+            here.process.poll.return_value, here.ask.side_effect = None, tools.Failed("it ended")
+            self.assertRaises(tools.Failed, session.ask, b"e", ())
+            self.assertEqual((counts(), session._Own.session), ((2, 2), None))
+            session.finish()
+            self.assertEqual(counts(), (2, 2))
 
     def test_how_a_program_is_started(self):
         """In a session of its own, in the C locale, without standard error; it ends with this process, and gets the signals that this one gets."""

@@ -261,6 +261,8 @@ class Readers(unittest.TestCase):
             ("Leaf's IFD of page 1", ""), *left(("bytes behind the Photoshop resources in the tag 8649 of page 1", b"rest"),
                                                 ("Photoshop's layers of page 1", b"layers"), ("trailer of 7 bytes", b"\0behind"))])  # fmt: skip
         self.assertEqual((found.type, found_in(tiff(page())).not_read), ("TIFF", []))
+        for length, names in ((4, []), (5, ["Photoshop's layers of page 1"])):  # four bytes are in the entry, and so in the block
+            self.assertEqual([it.what for it in found_in(tiff(page((0x935C, 7, b"x" * length)))).not_read], names)
 
     def test_entries_that_lead_to_pixels(self):
         """By TIFF 6.0, sections 8, 15 and 22, and Technical Note 1; each is left out and named."""

@@ -16,7 +16,7 @@ from studio import TOP, WithPictures, read, write
 
 sys.path.insert(0, os.path.join(TOP, "python"))
 
-from exifnorm_pictures import mend, rooms, single, tools  # noqa: E402
+from exifnorm_pictures import archives, mend, rooms, single, tools  # noqa: E402
 from exifnorm_pictures.formats.found import Blocks  # noqa: E402
 
 READ = 2_140_000_000  # when the picture was read: in the future, so that reading it changes nothing
@@ -149,6 +149,7 @@ class Copies(WithPictures):
         for out, why in (("there", "^the copy is there already$"), ("nothing/out", "^no such file or directory$")):
             with self.assertRaisesRegex(mend.NotWritten, why):
                 self.mended(out=out)
+            self.assertEqual(bool(self.used), out != "there", "no picture is read if its copy is there already")
 
         def appeared(*_, **__):
             raise FileExistsError(17, "File exists")
@@ -212,6 +213,20 @@ class Lines(WithPictures):
             with contextlib.redirect_stderr(io.StringIO()) as lines, self.assertRaises(SystemExit) as ended:
                 self.pairs(names, files_from, [b"x"])
             self.assertEqual((lines.getvalue().splitlines()[-1], ended.exception.code), (f"exifnorm-pictures: {message}", 3))
+
+
+class Problems(unittest.TestCase):
+    """A picture that ExifTool has to read, and can't."""
+
+    alone = True
+
+    def test_a_program_that_fails_or_is_missing(self):
+        missing = tools.Missing("exiftool")
+        for raised, problem in ((tools.Failed("it ended"), "ToolFailed"), (missing, "NeedsExifTool")):
+            with mock.patch.object(single.extraction, "blocks_of", mock.Mock(side_effect=raised)):
+                found = single._blocks(argparse.Namespace(block=False, whole=False), b"a.gif")
+            self.assertEqual((found.problem, found.detail, found.found), (problem, str(raised), []))
+            self.assertIn(problem, archives.FAILURES)
 
 
 class Folders(WithPictures):

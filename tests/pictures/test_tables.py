@@ -131,6 +131,11 @@ class Tables(WithPictures):
         after = [picture("a/q", {EXIF: "1"}, number=1), picture("c/p", {EXIF: "1"})._replace(stamp=Stamp(1, 7, 7, 7))]
         self.assertEqual(self.compared(before[:1], after)[0], {"a/p": "a/q", "c/p": "missing before"})
 
+    def test_the_same_name_comes_before_another_of_the_same_meaning(self):
+        before = [picture(name, {EXIF: "1"})._replace(stamp=Stamp(1, number, 0, number)) for number, name in enumerate(("a/p", "b/q"))]
+        after = [picture(name, {EXIF: "1"})._replace(stamp=Stamp(1, number, 0, number)) for number, name in ((7, "c/q"), (8, "d/p"))]
+        self.assertEqual(self.compared(before, after)[0], {"a/p": "d/p", "b/q": "c/q"})
+
     def test_chosen_pictures(self):
         before = [picture(it, {EXIF: it}) for it in ("a", "b", "c", "gone")]
         after = [picture(it, {EXIF: text}, root="/other/folder") for it, text in zip(("a", "b", "c", "new"), ("a", "B", "C", "n"))]
@@ -162,6 +167,11 @@ class Tables(WithPictures):
             both[side].base.execute("UPDATE pictures SET path = CAST(path AS TEXT)")
             with self.assertRaisesRegex(NoCatalogue, f"{side}{side} is damaged"):
                 list(changed.changed(*both, Counter()))
+        both = [self.catalogue(f"same{it}", picture("p")) for it in (0, 1)]
+        for it in both:
+            it.base.execute("UPDATE pictures SET path = CAST(path AS TEXT)")
+        with self.assertRaisesRegex(NoCatalogue, "same0 is damaged"):
+            list(changed.changed(*both, Counter()))
 
     def test_all_is_read_of_one_moment(self):
         """What others write meanwhile counts in the next comparison."""
@@ -281,11 +291,12 @@ class Details(WithPictures):
 
         record, other = with_fields(IPTC, "IPTC", "b", [make("b")]), with_fields(IPTC, "IPTC", "c", [make("c")])
         one, two, three = exif("1", make("a"), note("1")), exif("2", make("a"), note("2")), exif("3", make("b"), note("2"))
+        second, another = (with_fields(EXIF, "second Exif", text, [note(text)]) for text in "xy")
         only, different = "only MakerNote differs", "different"
         for before, after, expected in (
             ([one], [two], only), ([one, record], [two, record], only), ([one], [three], different), ([one, record], [two, other], different),
             ([one], [exif("4", make("a"))], only), ([one, record], [two], different), ([one], [], different), ([exif("5", make("a"))], [exif("6", make("a"))], different),
-            ([one, record], [two, block_of(IPTC, "!DataSetCut")], only),
+            ([one, record], [two, block_of(IPTC, "!DataSetCut")], only), ([one, second], [three, another], different),
         ):  # fmt: skip
             self.assertEqual(self.compared(before, after)[0], expected, (before, after))
         refused = "Exif is different, IPTC is refused, no XMP; IPTC: before accepted, after DataSetCut at 7"

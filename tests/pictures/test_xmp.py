@@ -87,6 +87,8 @@ class Packets(unittest.TestCase):
             "<xmp:d rdf:resource='relative'/>", "<xmp:d><rdf:Description/>text</xmp:d>", "<xmp:d xml:lang='!'>1</xmp:d>",
             *(f"<xmp:d rdf:resource='{it}'/>" for it in ("http://x/ y", "http://x/&lt;y&gt;", "http://x/\\", "http://x/^", "1:x", "-a:x", ":x", "a_b:x", "")),
             *(f"<xmp:d xml:lang='{it}'>1</xmp:d>" for it in ("en_US", "123", "abcdefghi", "en-", "-en", "en--us", "en-abcdefghi", "d\u00e9")),
+            *(f"<xmp:d rdf:{it} xmp:a='1'/>" for it in ("ID='i'", "nodeID='n'", "type='http://t/'", "resource='http://x/'", "parseType='Resource'")),
+            "<rdf:_1>1</rdf:_1>", "<q:d xmlns:q='http://x/ y'>1</q:d>", "<q:d xmlns:q='http://x/^'>1</q:d>", "<d>1</d>",
             "<dc:format>one</dc:format>text", "<xmp:d><rdf:Bag><rdf:li>1</rdf:li>text</rdf:Bag></xmp:d>",
         ):  # fmt: skip
             with self.assertRaises(reader.Unusual, msg=inside):
@@ -112,6 +114,13 @@ class Packets(unittest.TestCase):
         inner = "<rdf:Description xml:lang='de'><xmp:a xml:lang=''>1</xmp:a><xmp:b>2</xmp:b></rdf:Description>"
         (one, two) = value(f"<xmp:d xml:lang='en'>{inner}</xmp:d>").statements
         self.assertEqual((one.value, two.value), (tree.Literal("1"), tree.Literal("2", "de")))
+
+    def test_how_long_a_packet_may_be(self):
+        """By the text of the cause, bytes and tags up to these numbers are read."""
+        with_tags = [xmp(f"<dc:format><![CDATA[{'<' * (500_000 - title('one').count(b'<') - 1 + more)}]]></dc:format>") for more in (0, 1)]
+        self.assertEqual([it.count(b"<") for it in with_tags], [500_000, 500_001])
+        with_bytes = [title("one").ljust((16 << 20) + more) for more in (0, 1)]
+        self.assertEqual([cause(it) for it in (*with_tags, *with_bytes)], [None, "TooLong"] * 2)
 
     def test_how_deep_elements_may_be_nested(self):
         """Arrays in arrays: 100 elements that are nested in one another are read, 102 are not."""

@@ -22,7 +22,8 @@ import crates
 import machine
 import prove
 import verdict
-from room import SIGNALS, Room, require, runs, tick, wait_until
+from checks import require
+from room import SIGNALS, Room, runs, tick, wait_until
 from store import Store
 
 LEVELS = "px_low: byteorder\npx_middle: px_low\npx_high staticlib: px_middle\npx_aside: px_low\n"
@@ -160,18 +161,18 @@ def a_product_that_was_put_without_its_note_is_not_taken(room: Room) -> None:
     with mock.patch("store.time.time_ns", side_effect=KeyboardInterrupt), contextlib.suppress(KeyboardInterrupt):
         store.put("px_cli", made, store.expected("px_cli"))
     room.main.write_text("one")
-    require(room.call("a").stdout == "one: a\n" and room.builds() == 2, room.log())
+    require((room.call("a").stdout, room.builds()) == ("one: a\n", 2), room.log())
 
 
 def only_what_was_changed_and_what_depends_on_it_is_proved_again(room: Room) -> None:
     room.call()
     room.forget()
     (room.top / "crates/px_iim/proofs/Answers.antt").write_text("two")
-    require(room.call("a").stdout == "one: a\n" and room.built() == ["px_iim", "px_cli"], room.log())
+    require((room.call("a").stdout, room.built()) == ("one: a\n", ["px_iim", "px_cli"]), room.log())
     room.forget()
     (room.top / "out/proved/px_bytes.rlib").unlink()  # another px_bytes: what was built over the old one is not good over it
     room.main.write_text("two")
-    require(room.call("a").stdout == "two: a\n" and len(room.built()) == 4, room.log())
+    require((room.call("a").stdout, len(room.built())) == ("two: a\n", 4), room.log())
 
 
 def what_depends_on_a_crate_that_another_build_proved_again_is_proved_again(room: Room) -> None:
@@ -227,19 +228,50 @@ def add_to_an_old_library(room: Room, library: Path) -> None:
     more.touch()
 
 
-def nothing_counts_as_just_proved_that_is_not_of_the_last_run(room: Room) -> None:
+def see_nothing_counts(room: Room, cases: dict) -> None:
+    """After each of these changes px_high doesn't count as just proved."""
+    for what, change in cases.items():
+        (room.top / "crates/px_low/src/lib.rt").write_text("one")
+        (library_of(room).parent / "stamp").unlink(missing_ok=True)
+        room.is_proved()
+        require(is_proved(room, "px_high"), f"nothing counts before {what}")
+        change()
+        require(not is_proved(room, "px_high"), what)
+
+
+def library_of(room: Room) -> Path:
+    return room.top / "crates/px_middle/out/rlib/px_middle.rlib"
+
+
+def nothing_counts_as_just_proved_over_a_library_of_another_run(room: Room) -> None:
     room = levels(room)
-    library = room.top / "crates/px_middle/out/rlib/px_middle.rlib"
-    ahead = room.rt.stat().st_mtime + 86_400
-    cases = {
-        "no mark": lambda: room.mark.unlink(),
-        "a mark without sums": lambda: room.mark.write_text(""),
-        "a mark of fewer crates": lambda: room.mark.write_text(room.mark.read_text().rpartition("px_aside")[0]),
+    library = library_of(room)
+    see_nothing_counts(room, {
         "a library of before": lambda: os.utime(library, (10**9, 10**9)),
         "a library with a folder of before": lambda: [(library / "old").mkdir(), os.utime(library / "old", (10**9, 10**9))],
         "a library with files of before": lambda: add_to_an_old_library(room, library),
         "a library without files": lambda: [(library / it).unlink() for it in ("checked", "kept")],
         "a library of another command": lambda: (library.parent / "stamp").touch(),
+    })  # fmt: skip
+
+
+def nothing_counts_as_just_proved_by_the_mark_of_another_run(room: Room) -> None:
+    room = levels(room)
+    ahead = room.rt.stat().st_mtime + 86_400
+    see_nothing_counts(room, {
+        "no mark": lambda: room.mark.unlink(),
+        "a mark without sums": lambda: room.mark.write_text(""),
+        "a mark of fewer crates": lambda: room.mark.write_text(room.mark.read_text().rpartition("px_aside")[0]),
+        "an edit after the clock was set back": lambda: [
+            (room.top / "crates/px_low/src/lib.rt").write_text("two"),
+            *(os.utime(it, (ahead, ahead)) for it in (room.mark, *room.top.glob("crates/*/out/rlib/*/checked"))),
+        ],
+    })  # fmt: skip
+
+
+def nothing_counts_as_just_proved_with_what_was_touched_since(room: Room) -> None:
+    room = levels(room)
+    see_nothing_counts(room, {
         "a list of crates that was touched": lambda: (room.top / "crates.txt").touch(),
         "another toolchain": lambda: (room.folder / "version").write_text("toolchain 2\n"),
         "another command": lambda: room.rt.touch(),
@@ -248,18 +280,7 @@ def nothing_counts_as_just_proved_that_is_not_of_the_last_run(room: Room) -> Non
             *((room.top / "crates/px_low/src/lib.rt").write_text(it) for it in ("two", "one")),
             os.utime(room.top / "crates/px_low/src/lib.rt", (10**9, 10**9)),
         ],
-        "an edit after the clock was set back": lambda: [
-            (room.top / "crates/px_low/src/lib.rt").write_text("two"),
-            *(os.utime(it, (ahead, ahead)) for it in (room.mark, *room.top.glob("crates/*/out/rlib/*/checked"))),
-        ],
-    }
-    for what, change in cases.items():
-        (room.top / "crates/px_low/src/lib.rt").write_text("one")
-        (library.parent / "stamp").unlink(missing_ok=True)
-        room.is_proved()
-        require(is_proved(room, "px_high"), f"nothing counts before {what}")
-        change()
-        require(not is_proved(room, "px_high"), what)
+    })  # fmt: skip
 
 
 def no_program_is_taken_that_is_not_of_the_last_proof(room: Room) -> None:
@@ -285,7 +306,7 @@ def what_is_built_is_not_taken_again_from_the_gate(room: Room) -> None:
     room.is_proved()
     room.call()
     require(room.prove("px_other").returncode == 0, room.log())
-    require(room.call("a").stdout == "proved: a\n" and room.built() == ["px_other"], room.log())
+    require((room.call("a").stdout, room.built()) == ("proved: a\n", ["px_other"]), room.log())
     require(store_of(room).is_current("px_cli"), "libraries below the program were taken anew")
 
 
@@ -354,7 +375,7 @@ def no_more_are_proved_at_once_than_memory_allows(room: Room) -> None:
         wait_until(lambda many=many, expected=expected: sum(it[0] == "begin" for it in many.log()) >= expected, many.log())
         require("px_f" in [it[2] for it in many.log()], "another waits for px_f, so it is among the first")
         many.let_go(*(f"px_{it}" for it in names + "fg"))
-        require(started.communicate(timeout=300)[0] == "one: a\n" and len(many.built()) == 8, many.log())
+        require((started.communicate(timeout=300)[0], len(many.built())) == ("one: a\n", 8), many.log())
         require(most_at_once(many.log()) == expected, many.log())
         jobs = {it.split("--jobs ")[1].split()[0] for it in (many.folder / "asked").read_text().splitlines()}
         require(jobs == {str(min(4, processors))}, jobs)
@@ -453,7 +474,7 @@ def one_build_at_a_time(room: Room) -> None:
     require(len(room.log()) == 1, room.log())
     room.let_go("px_bytes")
     require([it.communicate(timeout=300)[0] for it in started] == [f"one: {it}\n" for it in range(5)], said)
-    require(room.builds() == 1 and len(room.built()) == 4, room.log())
+    require((room.builds(), len(room.built())) == (1, 4), room.log())
     require([it.returncode for it in started] == [0] * 5, started)
 
 
@@ -493,6 +514,18 @@ print("it goes on")"""
     require(of_build(code) == "the build was stopped\nit goes on\n", "a second signal is taken")
 
 
+def a_compiler_leads_a_group_with_older_pythons_too(_: Room) -> None:
+    for version in ((3, 9), (3, 11)):
+        code = f"import os, subprocess, sys; sys.version_info = {version}; import compiler; it = subprocess.Popen(['sleep', '100'], **compiler.GROUP)\n"
+        require(of_build(code + "print(os.getpgid(it.pid) == it.pid); it.kill()") == "True\n", version)
+
+
+def the_scripts_write_nothing_beside_themselves(room: Room) -> None:
+    for name, *words in (("prove.py", "px_none"), ("gate.py",), ("launch.py",)):
+        ran = room.call(str(room.top / "build" / name), *words, program=sys.executable)
+        require(not (room.top / "build/__pycache__").exists(), (name, ran))
+
+
 def what_a_build_wrote_is_never_too_new_for_a_look(_: Room) -> None:
     code = """import launch
 launch.time.time_ns = lambda: 5 * 10**9
@@ -516,6 +549,8 @@ TESTS = [
     a_program_that_does_not_end_does_not_start,
     only_processors_that_it_may_use_are_counted,
     a_second_signal_does_not_end_a_stop,
+    a_compiler_leads_a_group_with_older_pythons_too,
+    the_scripts_write_nothing_beside_themselves,
     what_a_build_wrote_is_never_too_new_for_a_look,
     the_examples_are_right,
     whatever_a_crate_is_made_from_is_in_the_sum,
@@ -527,7 +562,9 @@ TESTS = [
     nothing_is_written_where_all_is_built,
     a_crate_of_another_name_is_an_error,
     nothing_counts_as_just_proved_after_a_change,
-    nothing_counts_as_just_proved_that_is_not_of_the_last_run,
+    nothing_counts_as_just_proved_over_a_library_of_another_run,
+    nothing_counts_as_just_proved_by_the_mark_of_another_run,
+    nothing_counts_as_just_proved_with_what_was_touched_since,
     no_program_is_taken_that_is_not_of_the_last_proof,
     what_is_built_is_not_taken_again_from_the_gate,
     how_many_are_proved_at_once,

@@ -20,6 +20,7 @@ import tempfile
 import tokenize
 import unittest
 from pathlib import Path
+from unittest import mock
 
 sys.dont_write_bytecode = True
 sys.path.insert(0, str(Path(__file__).resolve().parent.parent))
@@ -32,8 +33,10 @@ import header
 import named
 import pages
 import rules
+import stated
 import watching
 from blocks import Blocks
+from checks import uncounted
 from counting import examples, run_suite
 from meanings import LIMIT
 
@@ -217,6 +220,15 @@ class Listed(unittest.TestCase):
     def test_the_headers_list_of_causes_is_made_from_the_source(self):
         self.assertEqual(subprocess.run([sys.executable, os.path.join(TOP, "packaging", "header.py"), "--check"]).returncode, 0)
 
+    def test_a_changed_list_of_causes_is_made_again(self):
+        made = text_of(HEADER)
+        with tempfile.TemporaryDirectory() as folder, mock.patch.object(header, "HEADER", Path(folder, "exifnorm.h")) as path:
+            path.write_text(made.replace("two ranges share a byte", "two ranges touch"), encoding="utf-8")
+            self.assertEqual([header.main(["--check"]), header.main([]), header.main(["--check"])], [1, 0, 0])
+            self.assertEqual(path.read_text(encoding="utf-8"), made)
+            path.write_text(made.replace("The causes of a refusal", "The reasons"), encoding="utf-8")
+            self.assertRaisesRegex(SystemExit, "^the header has no list of causes$", header.main, [])
+
     def test_commands_are_the_same_wherever_they_are_listed(self):
         helped = subprocess.run([PROGRAM, "--help"], capture_output=True, text=True).stdout
         names = re.findall(r"^  (\w+)  +\w", helped.split("Commands:")[1].split("Options:")[0], re.M)
@@ -267,6 +279,7 @@ class Listed(unittest.TestCase):
         self.assertEqual([it for it in named_there if it not in known], [])
         self.assertGreater(len(named_there), 2)
 
+    @uncounted
     def test_what_must_be_read_has_so_many_lines(self):
         rows = re.findall(r"^\| (px_\w+) \| ([^|]*) \| (\d+) \|$", text_of("docs/PROOFS.md"), re.M)
         code = {("px_bytes", "src/memory.rt"), ("px_bytes", "src/devices.rt"), ("px_cli", "src/files.rt")}
@@ -278,6 +291,7 @@ class Listed(unittest.TestCase):
             self.assertTrue(set(names) == known or {(crate, it) for it in names} <= code, (crate, names, known))
             self.assertEqual(sum(text_of(f"crates/{crate}/{it}").count("\n") for it in names), int(lines), crate)
 
+    @uncounted
     def test_what_must_be_read_comes_in_order(self):
         """A definition follows those that it uses."""
         seen = set()
@@ -288,6 +302,7 @@ class Listed(unittest.TestCase):
                 self.assertLessEqual(used, seen, f"{crate}: {name}")
                 seen.add((crate, name))
 
+    @uncounted
     def test_what_must_be_read_uses_no_words_of_single_calls(self):
         files = sorted(Path(TOP, "crates").glob("px_*/specs/[A-Z]*.antt"))
         self.assertGreater(len(files), 40)
@@ -342,6 +357,7 @@ class Written(unittest.TestCase):
             text = re.sub(r"^    .*$", "", prose(name), flags=re.M).partition("| Don't write |")[0]
             self.assertEqual(old.findall(text), [], name)
 
+    @uncounted
     def test_comments_have_the_terms_of_the_field(self):
         """Comments of sources have none of these words either, but for those that have a sense of their own there."""
         old = re.compile(rf"\b(?:{'|'.join(set(old_words()) - ORDINARY)})\b", re.I)
@@ -362,6 +378,7 @@ class Written(unittest.TestCase):
             plain = [not re.match(r"$|[#|>!]|- |\d+\. |    ", it) for it in lines]
             self.assertEqual([it for it, one, next_one in zip(lines, plain, plain[1:]) if one and next_one], [], path.name)
 
+    @uncounted
     def test_tables_are_whole(self):
         """A row of titles, a line of hyphens, and rows with as many cells; the first cell is nowhere empty."""
         tables = 0
@@ -375,6 +392,7 @@ class Written(unittest.TestCase):
                 tables += 1
         self.assertGreater(tables, 20)
 
+    @uncounted
     def test_links_lead_to_files(self):
         for name in DOCUMENTS:
             for target in re.findall(r"\]\(([^)#]+)[^)]*\)", text_of(name)):
@@ -410,8 +428,9 @@ def main(words):
         sys.exit(__doc__)
     global PROGRAM, LIBRARY
     PROGRAM, LIBRARY = map(os.path.abspath, words)
+    stated.PROGRAM, stated.LIBRARY = Path(PROGRAM), Path(LIBRARY)
     load = unittest.defaultTestLoader.loadTestsFromModule
-    return run_suite(unittest.TestSuite(map(load, (sys.modules[__name__], named, pages, rules))))
+    return run_suite(unittest.TestSuite(map(load, (sys.modules[__name__], named, pages, rules, stated))))
 
 
 if __name__ == "__main__":

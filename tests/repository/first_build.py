@@ -13,6 +13,7 @@ import uuid
 from concurrent.futures import ThreadPoolExecutor
 from pathlib import Path
 
+from checks import require
 from counting import Counter, reason
 from paths import TOP
 
@@ -194,11 +195,6 @@ def again(gate: Gate) -> subprocess.CompletedProcess:
     copy.top = gate.top.with_name("again")
     shutil.copytree(gate.top, copy.top, ignore=shutil.ignore_patterns("out"))
     return copy.call("./test")
-
-
-def require(is_so: bool, what: object) -> None:
-    if not is_so:
-        raise AssertionError(what)
 
 
 def the_launcher_proves_builds_and_runs(user: FromNothing, gate: Gate) -> None:

@@ -35,6 +35,10 @@ parallel: parallel
 sqlite3: sqlite3
 """
 
+# The packages of which scripts use something else than such commands.
+OTHER_PACKAGES = """bash binutils debhelper dh-python exif exiv2 libclang-rt-14-dev libiptcdata0-dev python3 python3-distributed
+python3-piexif python3-pil python3-pip python3-rdflib python3-setuptools python3-wheel"""
+
 
 @dataclass
 class Ended:
@@ -82,9 +86,10 @@ class Gate(Folder):
     """The last line and the status of ./test, by how its parts end."""
 
     def test_a_good_part(self):
-        ended = self.ran(self.part("echo 3 passed, 0 failed"))
-        self.assertEqual((ended.status, ended.last), (0, "3 passed, 0 failed"), ended.printed)
-        self.assertNotIn("raise", ended.printed)
+        for count in ("3", "29", "1004"):
+            ended = self.ran(self.part(f"echo {count} passed, 0 failed", count))
+            self.assertEqual((ended.status, ended.last), (0, f"{count} passed, 0 failed"), ended.printed)
+            self.assertNotIn("raise", ended.printed)
 
     def test_a_part_with_more_tests_than_the_list_says(self):
         ended = self.ran(self.part("echo 10 passed, 0 failed"))
@@ -129,6 +134,29 @@ class Gate(Folder):
 
     def test_a_part_with_fewer_tests_than_the_list_says(self):
         self.fails(self.part("echo 2 passed, 0 failed"), "2 passed, 1 failed", "a counted 2 tests, and tests/parts.txt says 3")
+
+    def test_a_part_with_as_many_checks_as_the_list_says(self):
+        ended = self.ran(self.part("echo 7 checks; echo 3 passed, 0 failed", more="Checks: 7\n"))
+        self.assertEqual((ended.status, ended.last), (0, "3 passed, 0 failed"), ended.printed)
+        self.assertNotIn("raise", ended.printed)
+
+    def test_a_part_with_other_checks_than_the_list_says(self):
+        for command, more, why in (
+            ("echo 6 checks", "Checks: 7\n", "a made 6 checks, and tests/parts.txt says 7"),
+            ("echo", "Checks: 7\n", "a made 0 checks, and tests/parts.txt says 7"),
+            ("echo 7 checks; echo", "Checks: 7\n", "a made 0 checks, and tests/parts.txt says 7"),
+            ("echo 7 checks", "", "a made 7 checks, and tests/parts.txt has no number of them"),
+        ):
+            self.fails(self.part(f"{command}; echo 3 passed, 0 failed", more=more), "3 passed, 1 failed", why)
+        ended = self.ran(self.part("echo 8 checks; echo 3 passed, 0 failed", more="Checks: 7\n"))
+        self.assertEqual((ended.status, ended.last), (0, "3 passed, 0 failed"), ended.printed)
+        self.assertIn("a made 8 checks: raise its number in tests/parts.txt, 7", ended.printed)
+
+    def test_checks_are_not_compared_where_a_test_fails_or_is_skipped(self):
+        ended = self.ran(self.part("echo 6 checks; echo 3 passed, 1 failed; false", more="Checks: 7\n"))
+        self.assertEqual((ended.status, ended.last), (1, "3 passed, 1 failed"), ended.printed)
+        ended = self.ran(self.part("echo 6 checks; echo 2 passed, 0 failed, 1 skipped", more="Checks: 7\n"))
+        self.assertEqual((ended.status, ended.last), (0, "2 passed, 0 failed, 1 skipped"), ended.printed)
 
     def test_a_count_of_failures_and_a_good_status(self):
         self.fails(self.part("echo 3 passed, 2 failed"), "3 passed, 3 failed", "a ended with status 0, though its last line counts failures")
@@ -178,6 +206,7 @@ class Gate(Folder):
     def test_a_part_that_is_asked_for_and_not_listed(self):
         self.fails(self.part("echo 3 passed, 0 failed"), "0 passed, 1 failed", "has no part b", TEST_PARTS="a b")
         self.fails(self.part("echo 3 passed, 0 failed", name="abc"), "0 passed, 1 failed", "has no part ab", TEST_PARTS="ab")
+        self.fails(self.part("echo 3 passed, 0 failed"), "0 passed, 1 failed", "has no part --help", TEST_PARTS="--help")
 
     def test_a_list_without_a_part(self):
         for listed in ("", "# Part: a\n", "part: a\n"):
@@ -189,8 +218,10 @@ class Gate(Folder):
             good.replace("Command", "Comand"),
             good.replace("Least", "least"),
             *(good.replace("Least: 3", f"Least: {it}") for it in ("0", "-1", "some", "")),
+            *(good.replace("Least: 3", f"Least: 3\nChecks: {it}") for it in ("0", "-1", "some", "")),
             good.rstrip("\n") + "\n" + self.part("echo 4 passed, 0 failed", name="b").removeprefix("# a comment\n"),
             good + good,
+            good + "Part: a\n",
         ):
             ended = self.ran(listed)
             self.assertEqual((ended.status, ended.last[:9]), (1, "0 passed,"), listed + ended.printed)
@@ -232,6 +263,14 @@ class Gate(Folder):
         started.send_signal(signal.SIGTERM)
         self.assertNotEqual(started.wait(600), 0)
         os.killpg(started.pid, signal.SIGKILL)
+        self.assertEqual(list((self.folder / "temporary").iterdir()), [])
+
+    def test_a_file_that_is_created_while_the_others_are_removed(self):
+        (self.folder / "temporary").mkdir()
+        self.command("rm", f'[ -e {self.folder}/tried ] && exec {shutil.which("rm")} "$@"; touch {self.folder}/tried; exit 1')
+        ended = self.ran(self.part("echo 3 passed, 0 failed"), TMPDIR=str(self.folder / "temporary"))
+        self.assertEqual((ended.status, ended.last), (0, "3 passed, 0 failed"), ended.printed)
+        self.assertTrue((self.folder / "tried").exists())
         self.assertEqual(list((self.folder / "temporary").iterdir()), [])
 
     def test_no_list(self):
@@ -299,7 +338,7 @@ class Listed(unittest.TestCase):
     def test_each_part_has_its_lines(self):
         for part in self.parts():
             self.assertLessEqual({"Part", "Command", "Least", "Packages"}, set(part), part)
-            self.assertLessEqual(set(part), {"Part", "Command", "Least", "Packages", "Beside"}, part)
+            self.assertLessEqual(set(part), {"Part", "Command", "Least", "Checks", "Packages", "Beside"}, part)
         names = [it["Part"] for it in self.parts()]
         self.assertEqual(names[0], "rt")
         self.assertLessEqual({"build", "program", "tests", "sources", "launcher", "streams", "library", "documents", "pictures"}, set(names))
@@ -326,6 +365,11 @@ class Listed(unittest.TestCase):
                     self.assertIn(package, " ".join(part["Packages"]).split(), f"{part['Part']} calls {command}")
         self.assertGreaterEqual(wanted, 50)
 
+    def test_the_names_of_all_packages(self):
+        """apt-get installs none of them if there is no package of one name."""
+        found = {name for part in self.parts() for it in part["Packages"] for name in it.split()}
+        self.assertEqual(found, {*OTHER_PACKAGES.split(), *(it.partition(":")[0] for it in COMMANDS.splitlines())})
+
     def test_the_part_rt_counts_each_crate_and_each_wrong_body(self):
         """`rt ci` counts one test for each crate, and one for each edit that must fail."""
         crates = [it for it in (TOP / "crates.txt").read_text().splitlines() if ":" in it.partition("#")[0]]
@@ -335,26 +379,27 @@ class Listed(unittest.TestCase):
 
     def test_the_gate_installs_these_packages_and_runs_all(self):
         """.ci/run with an apt-get that writes down how it was called, as an ordinary user and as root."""
-        for user, fails, expected in (("1000", "", []), ("0", "", ["update", "a b"]), ("0", "a b", ["update", "a b", "a", "b"]),
+        all_of, one, other = (f"install -y --no-install-recommends {it}" for it in ("a b", "a", "b"))
+        for user, fails, expected in (("1000", "", []), ("0", "", ["update", all_of]), ("0", all_of, ["update", all_of, one, other]),
                                       ("0", "update", ["update"])):  # fmt: skip
             with self.subTest(user=user, fails=fails), tempfile.TemporaryDirectory() as room:
                 called = self.gate(Path(room), user, fails)
-                self.assertEqual(called, [*expected, "test "])
+                self.assertEqual(called, [*(f"noninteractive {it}" for it in expected), "test "])
 
     def gate(self, room: Path, user: str, fails: str) -> list:
-        """What .ci/run calls, in order: the packages of each apt-get, and ./test with its arguments."""
+        """What .ci/run calls, in order: apt-get with its arguments, which must ask nobody, and ./test with its own."""
         for name in (".ci", "bin"):
             (room / name).mkdir()
         shutil.copy(TOP / ".ci" / "run", room / ".ci" / "run")
-        skip = "while [ $# -gt 1 ]; do case $1 in install|-*) shift ;; *) break ;; esac; done"
         fakes = {
-            "bin/apt-get": f'{skip}\necho "$*" >>"{room}/called"; [ "$*" != "{fails}" ]',
+            "bin/apt-get": f'echo "$DEBIAN_FRONTEND $*" >>"{room}/called"; [ "$*" != "{fails}" ]',
             "bin/id": f"echo {user}",
             "test": f'if [ "$*" = --packages ]; then echo a b; else echo "test $*" >>"{room}/called"; exit 7; fi',
         }
         for name, text in fakes.items():
             (room / name).write_text(f"#!/bin/sh\n{text}\n")
             (room / name).chmod(0o755)
-        ran = subprocess.run([room / ".ci" / "run"], cwd="/", env={**os.environ, "PATH": f"{room}/bin:{os.environ['PATH']}"})
+        environment = {**os.environ, "PATH": f"{room}/bin:{os.environ['PATH']}", "DEBIAN_FRONTEND": "dialog"}
+        ran = subprocess.run([room / ".ci" / "run"], cwd="/", env=environment)
         self.assertEqual(ran.returncode, 7, "the status of ./test is that of the gate")
         return (room / "called").read_text().splitlines()

@@ -16,6 +16,7 @@ from pathlib import Path
 from typing import List, Tuple
 from unittest import mock
 
+import checks
 import counting
 from cases import Case, Sweep, read_all
 from paths import CASES, TESTS, TOP
@@ -71,6 +72,26 @@ class Passes(unittest.TestCase):
             self.skipTest("no tool")
 
 
+class Checks(unittest.TestCase):
+    """Tests that make checks."""
+
+    def three(self):
+        with self.assertRaises(ValueError):
+            int("a")
+        self.assertEqual({1: ["a"]}, dict([(1, ["a"])]))  # it calls other assertions
+        self.assertIn(1, [1])
+
+    def three_in_subtests(self):
+        for number in range(3):
+            with self.subTest(number):
+                self.assertLess(number, 3)
+
+    def one_of_three(self):
+        with checks.Made():
+            self.three()
+        checks.require(True)
+
+
 class IsNotSetUp(unittest.TestCase):
     """A class whose tests cannot begin."""
 
@@ -109,7 +130,7 @@ class Counting(unittest.TestCase):
         ):
             status, lines = self.counted(Fails(name), Passes("passes"))
             self.assertEqual((status, lines[-1]), (1, "1 passed, 1 failed"), lines)
-            self.assertEqual(len(lines), 2, lines)
+            self.assertEqual([it for it in lines[1:-1] if not it.endswith(" checks")], [], lines)
             self.assertTrue(lines[0].startswith(f"FAILED Fails.{name}: ") and why in lines[0], lines)
 
     def test_a_class_that_cannot_be_set_up_fails(self):
@@ -157,11 +178,36 @@ class Counting(unittest.TestCase):
                 ended = counting.run_tests(tests)
             self.assertEqual((ended, printed.getvalue().splitlines()[-1]), (status, last))
 
+    def test_checks_are_counted(self):
+        for names, made in ((["three"], 3), (["three_in_subtests"], 3), (["one_of_three"], 1), (["three", "one_of_three"], 4)):
+            self.assertEqual(self.counted(*map(Checks, names)), (0, [f"{made} checks", f"{len(names)} passed, 0 failed"]))
+
+    def test_checks_of_functions_are_counted(self):
+        """Also those of a test within a test, once."""
+
+        def outer(counter):
+            checks.require(True)
+            counter.run("inner", lambda: [checks.require(it) for it in (1, 2)])
+            counter.check("another", True)
+
+        with contextlib.redirect_stdout(io.StringIO()) as printed:
+            counting.run_tests([outer, outer])
+        self.assertEqual(printed.getvalue().splitlines(), ["6 checks", "4 passed, 0 failed"])
+
+    def test_a_required_check_that_fails_is_named(self):
+        with contextlib.redirect_stdout(io.StringIO()) as printed:
+            counting.run_tests([lambda counter: checks.require(False, "a reason")])
+        self.assertEqual(printed.getvalue().splitlines()[1:], ["1 checks", "0 passed, 1 failed"])
+        self.assertRegex(printed.getvalue(), r"^FAILED <lambda>: a reason \(harness_outcomes.py:\d+\)\n")
+
     def test_examples(self):
         for text, holds in ((">>> 1 + 1\n2\n", True), (">>> 1 + 1\n3\n", False), ("no example", False)):
             module = types.ModuleType("a_module", text)
             with contextlib.redirect_stdout(io.StringIO()), contextlib.nullcontext() if holds else self.assertRaises(AssertionError):
                 counting.examples(module)
+        with checks.Made() as made:
+            counting.examples(types.ModuleType("a_module", ">>> 1 + 1\n2\n>>> 1 + 2\n3\n"))
+        self.assertEqual(made.number, 2)
 
     def test_only_some(self):
         counter = counting.Counter(only="this")
@@ -222,11 +268,14 @@ class Programs(Room):
 class Wrong(Room):
     """The output of run.py for the built program with something changed around it."""
 
-    cases = {it.name: it for it in read_all(CASES)}
     refused = "a caption after the six bytes of a JPEG segment, by check"
     shown = "a FLOAT, an SRATIONAL and two SSHORTs, by show"
     normalised = "a caption with three zero octets after it, by normalise"
     filtered = "own form of one SHORT, through standard input"
+
+    @classmethod
+    def setUpClass(cls) -> None:
+        cls.cases = {it.name: it for it in read_all(CASES)}
 
     def judged(self, name: str, text: str) -> list:
         case = self.cases[name]
@@ -286,10 +335,11 @@ class Wrong(Room):
         self.assertGreaterEqual(sum(sizes.values()), 11380)
 
     def test_files_by_each_command(self):
-        self.assertEqual(judge_files(str(PROGRAM), [ONE] * 4, ("", "check", "show", "captions")), [])
-        for command in ("check", "show", "captions"):
-            wrong = self.program(f'[ "$1" = {command} ] && echo; exec \'{PROGRAM}\' "$@"')
-            self.assertEqual(len(judge_files(wrong, [ONE] * 4, ("", "check", "show", "captions"))), 1, command)
+        commands = ("", "check", "show", "captions")
+        self.assertEqual(judge_files(str(PROGRAM), [ONE] * 4, commands), [])
+        for command in commands:
+            wrong = self.program(f'[ "$1" = "{command}" ] && echo; exec \'{PROGRAM}\' "$@"')
+            self.assertEqual(len(judge_files(wrong, [ONE] * 4, commands)), 1, command)
 
 
 # Tests of exifnorm-pictures, of each outcome, and a command in its place.
@@ -323,6 +373,12 @@ class Of(studio.WithPictures):
 
     def test_folder_of_another(self):
         self.test_folder()
+
+class Alone(studio.unittest.TestCase):
+    alone = True
+
+    def test_by_itself(self):
+        self.assertTrue(self.alone)
 """
 COMMAND = 'import sys\nprint("a line")\nprint("why", file=sys.stderr)\nsys.exit(3)\n'
 
@@ -330,29 +386,41 @@ COMMAND = 'import sys\nprint("a line")\nprint("why", file=sys.stderr)\nsys.exit(
 class Pictures(Room):
     """What tests/pictures/run.py counts."""
 
-    def ran(self, only: str) -> Tuple[int, List[str]]:
-        words = [sys.executable, self.folder / "tests" / "pictures" / "run.py", "/bin/true", "--only", only]
-        done = subprocess.run(words, capture_output=True, text=True, check=False, timeout=300)
-        return done.returncode, done.stdout.splitlines()
-
-    def test_each_outcome(self):
+    def setUp(self) -> None:
+        super().setUp()
         tests, package = self.folder / "tests" / "pictures", self.folder / "python" / "exifnorm_pictures"
         for it in (tests, package):
             it.mkdir(parents=True)
         for name in ("run.py", "studio.py"):
             shutil.copy(TESTS / "pictures" / name, tests)
+        for name in ("counting.py", "checks.py"):
+            shutil.copy(TESTS / name, self.folder / "tests")
         (tests / "made_blocks.py").write_text("BLOCKS, with_exif, with_iptc = {}, None, None\n", encoding="utf-8")
         (tests / "test_of.py").write_text(PICTURES, encoding="utf-8")
+        (tests / "test_others.py").write_text("print('it is loaded, though no test of it is to run')\n", encoding="utf-8")
         (package / "__main__.py").write_text(COMMAND, encoding="utf-8")
-        self.assertEqual(self.ran("test_good"), (0, ["1 passed, 0 failed"]))
+
+    def ran(self, only: str) -> Tuple[int, List[str]]:
+        words = [sys.executable, self.folder / "tests" / "pictures" / "run.py", "/bin/true", "--only", only]
+        done = subprocess.run(words, capture_output=True, text=True, check=False, timeout=300)
+        return done.returncode, done.stdout.splitlines()
+
+    def test_good_and_skipped_ones(self):
+        for only in ("test_good", "Of.test_g", "good|nothing"):
+            self.assertEqual(self.ran(only), (0, ["4 checks", "1 passed, 0 failed"]))
+        self.assertEqual(self.ran("test_by_itself"), (0, ["1 checks", "1 passed, 0 failed"]))
+        self.assertEqual(self.ran("test_skipped"), (0, ["skipped: Of.test_skipped: no tool", "0 passed, 0 failed, 1 skipped"]))
+        self.assertEqual(self.ran("")[1][-1], "2 passed, 6 failed, 1 skipped")
+
+    def test_each_failure(self):
         for name in ("test_another_status", "test_error", "test_two_subtests", "test_tool_that_fails"):
             status, lines = self.ran(name)
-            self.assertEqual((status, lines[0].partition(" (")[0], lines[-1]), (1, f"failed: Of.{name}", "0 passed, 1 failed"), name)
-        self.assertEqual(self.ran("test_skipped"), (0, ["skipped: Of.test_skipped: no tool", "0 passed, 0 failed"]))
+            self.assertEqual((status, lines[0].partition(": ")[0], lines[-1]), (1, f"FAILED Of.{name}", "0 passed, 1 failed"), name)
+
+    def test_a_folder_that_cannot_be_made(self):
         lines = self.ran("test_folder")[1]
-        reasons = [it for it in lines if it.startswith("AssertionError: ")]
-        self.assertEqual([it.partition(" could not")[0] for it in sorted(reasons)], ["AssertionError: ('false',): 1 ", "AssertionError: the folder 'a'"])
-        self.assertEqual(self.ran("")[1][-1], "1 passed, 6 failed")
+        reasons = [it.partition(": ")[2].partition(" (studio")[0].partition(" could not")[0] for it in lines if it.startswith("FAILED ")]
+        self.assertEqual(sorted(reasons), ["('false',): 1 ", "the folder 'a'"])
 
 
 class Titles(unittest.TestCase):
@@ -369,16 +437,21 @@ class Titles(unittest.TestCase):
         "devices that fail once": 286,
         "devices that move one byte in a call": 480,
         "devices that move one byte in a call, and fail once": 10,
-        "large blocks, and what they cost": 9,
-        "the writes of a long value": 4,
         "the libraries that are preloaded": 1,
     }
+    least_of_large = {"large blocks, and what they cost": 9, "the writes of a long value": 4}
+
+    def counted(self, least: dict) -> dict:
+        """The tests of each title, up to its number here."""
+        with tempfile.TemporaryDirectory() as folder:
+            found = Parts("/bin/true", read_all(CASES), "", folder).all()
+            return {title: len(list(itertools.islice(tests, least.get(title, 0)))) for title, tests in found}
 
     def test_each_title_has_its_tests(self):
-        with tempfile.TemporaryDirectory() as folder:
-            titles = {title: len(list(itertools.islice(tests, self.least[title])))
-                      for title, tests in Parts("/bin/true", read_all(CASES), "", folder).all()}  # fmt: skip
-        self.assertEqual(titles, self.least)
+        self.assertEqual(self.counted(self.least), {**self.least, **dict.fromkeys(self.least_of_large, 0)})
+
+    def test_each_title_of_large_blocks(self):
+        self.assertEqual(self.counted(self.least_of_large), {**dict.fromkeys(self.least, 0), **self.least_of_large})
 
     def test_each_test_is_counted_as_it_ends(self):
         printed, failures = io.StringIO(), []

@@ -26,7 +26,7 @@ sys.path.insert(0, str(Path(__file__).resolve().parent.parent))
 import paths
 import shell_texts
 from counting import examples, run_suite
-from installed import DEBIAN_PYTHON, EXAMPLES, FILE, TOP, VERSION, Tree, run, tree, with_folders
+from installed import DEBIAN_PYTHON, EXAMPLES, FILE, TOP, VERSION, Tree, modules, run, tree, with_folders
 
 sys.path.insert(0, str(TOP / "packaging"))
 
@@ -40,6 +40,17 @@ BLOCK = bytes.fromhex("4d4d002a00000008 0001 0112 0003 00000001 00060000 0000000
 STRICT = ["-std=c99", "-Wall", "-Wextra", "-pedantic", "-Werror"]
 HEADER = (TOP / "crates/px_c/include/exifnorm.h").read_text(encoding="utf-8")
 CALLS = sorted(set(re.findall(r"\b(exifnorm_\w+)\(", HEADER)))
+# The lines of exifnorm.pc, by pc(5).
+CONFIG = """prefix=PREFIX
+libdir=${prefix}/lib
+includedir=${prefix}/include
+
+Name: exifnorm
+Description: The normal form of Exif and IPTC metadata blocks
+Version: VERSION
+Libs: -L${libdir} -lexifnorm
+Cflags: -I${includedir}
+"""
 
 
 def text_of(*path: str) -> str:
@@ -83,6 +94,25 @@ class Files(unittest.TestCase):
 
     def test_files_and_modes_for_another_python_prefix_and_umask(self) -> None:
         self.assertEqual(tree(OTHER.root), OTHER.expected())
+
+    def test_names_of_folders_may_have_spaces(self) -> None:
+        here = Tree(ROOM / "a folder", "/a prefix", DEBIAN_PYTHON)
+        here.make("install")
+        self.assertEqual(tree(here.root), here.expected())
+        here.make("uninstall")
+        self.assertEqual(tree(here.root), {})
+
+    def test_a_step_that_fails_ends_the_installation(self) -> None:
+        """Also if those after it would succeed."""
+        packages = " ".join(sorted({str(Path(it).parent) for it in modules()}))
+        for word in ("pages=docs/nothing.1 docs/exifnorm.1", f"packages=nothing {packages}", "program=/bin/false"):
+            run("make", "stage", f"stage={ROOM}/failed", word, status=2)
+
+    def test_variables_of_the_callers_environment_change_nothing(self) -> None:
+        """Only those of make's command line do."""
+        wrong = {it: "wrong" for it in re.findall(r"^([A-Za-z_]+) =", text_of("Makefile"), re.MULTILINE)}
+        self.assertLessEqual({"DESTDIR", "INTERPRETER", "PREFIX", "PYTHON", "STRIP", "stage"}, set(wrong))
+        self.assertEqual(run("make", "-n", "stage", "uninstall", **wrong), run("make", "-n", "stage", "uninstall"))
 
     def test_debians_python_looks_there_for_packages(self) -> None:
         self.assertEqual(USR.packages, "/usr/lib/python3/dist-packages")
@@ -267,7 +297,7 @@ class Libraries(unittest.TestCase):
             self.assertEqual(self.pkg_config(it, "--modversion"), [VERSION])
             self.assertEqual(self.pkg_config(it, "--variable=libdir"), [str(it.at("lib"))])
             text = it.at("lib/pkgconfig/exifnorm.pc").read_text(encoding="utf-8")
-            self.assertIn(f"prefix={it.prefix}\nlibdir=${{prefix}}/lib\nincludedir=${{prefix}}/include\n", text)
+            self.assertEqual(text, CONFIG.replace("PREFIX", it.prefix).replace("VERSION", VERSION))
 
     def test_a_program_is_built_by_the_line_of_the_manual_page(self) -> None:
         line = re.search(r"^\.B (cc .*)$", text_of("docs", "exifnorm.3"), re.MULTILINE)[1].replace("\\-", "-")
@@ -637,6 +667,15 @@ class DebianLists(unittest.TestCase):
         self.assertEqual(source["Build-Depends"], "debhelper-compat (= 13), dh-python, python3:any")
         self.assertEqual(text_of("debian", "source", "format"), "3.0 (quilt)\n")
 
+    def test_descriptions_use_the_words_of_the_documents(self) -> None:
+        """So a word that is wrong by a letter is found."""
+        pages = [*TOP.glob("*.md"), *TOP.glob("docs/*.md"), *TOP.glob("docs/*.[13]")]
+        known = {word for it in pages for word in re.findall(r"[A-Za-z]+", it.read_text(encoding="utf-8"))} | {"objects", "static"}
+        texts = [(email.message_from_string(it)["Description"] or "").partition("\n")[2] for it in text_of("debian", "control").split("\n\n")]
+        words = set(re.findall(r"[A-Za-z]+", " ".join(texts)))
+        self.assertGreater(len(words), 60)
+        self.assertEqual(words - known, set())
+
     def test_licence_is_that_of_the_sources(self) -> None:
         licence = re.sub(r"^ \.?", "", text_of("debian", "copyright"), flags=re.MULTILINE).partition("License: Expat\n")[2].partition("\nLicense:")[0]
         self.assertEqual(licence.split(), text_of("LICENSE-MIT").partition("authors\n")[2].split())
@@ -666,6 +705,7 @@ class DebianLists(unittest.TestCase):
     def test_the_symbols_are_the_calls_of_the_header(self) -> None:
         found = re.findall(r"^ (\S+)@EXIFNORM_1 (\S+)$", text_of("debian", "libexifnorm1.symbols"), re.MULTILINE)
         self.assertEqual(sorted(name for name, _ in found), ["EXIFNORM_1", *CALLS])
+        self.assertLessEqual({version for _, version in found}, set(re.findall(r"^## (\S+)$", text_of("CHANGELOG.md"), re.MULTILINE)))
 
 
 class Papers(unittest.TestCase):

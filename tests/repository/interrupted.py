@@ -6,8 +6,10 @@ tests/repository/launcher.py runs these.
 import os
 import shutil
 import sys
+from typing import Callable
 
-from room import Room, require
+from checks import require, uncounted
+from room import Room
 
 # Runs build/launch.py, and at its Nth change of a file kills it, or lets that change and all later ones fail as on a full disk.
 FAULTY = """import errno, os, runpy, signal, sys
@@ -46,6 +48,7 @@ def small(room: Room, name: str) -> Room:
     return made
 
 
+@uncounted  # as many as the build has steps
 def at_each_step(room: Room, how: str, begin) -> None:
     """Builds with a fault at the first change of a file, then at the second, and so on. The next call must then be right."""
     made, failed = small(room, how), 0
@@ -79,20 +82,25 @@ def after_an_edit(room: Room, text: str) -> None:
     (room.top / "crates/px_bytes/src/lib.rt").write_text(text)
 
 
-def a_first_build_that_is_killed_at_any_step_leaves_nothing_wrong(room: Room) -> None:
-    at_each_step(room, "kill", from_nothing)
+def with_faults(how: str, begin: Callable[[Room, str], None]) -> Callable[[Room], None]:
+    """The test of a fault at each step of a build."""
+
+    def test(room: Room) -> None:
+        at_each_step(room, how, begin)
+
+    test.__name__ = f"a_fault_at_each_step_{how}_{begin.__name__}"
+    return test
 
 
-def a_later_build_that_is_killed_at_any_step_leaves_nothing_wrong(room: Room) -> None:
-    at_each_step(room, "kill", after_an_edit)
-
-
-def a_full_disk_at_any_step_of_a_first_build_is_an_error(room: Room) -> None:
-    at_each_step(room, "full", from_nothing)
-
-
-def a_full_disk_at_any_step_of_a_later_build_is_an_error(room: Room) -> None:
-    at_each_step(room, "full", after_an_edit)
+def a_full_disk_ends_no_call_where_all_is_built(room: Room) -> None:
+    """Only what the quick check compares would be written, and the next call can do that."""
+    made = small(room, "built")
+    made.settle()
+    (made.top / "out/looked").unlink()
+    (made.folder / "fault").write_text("full 1")
+    ran = made.call("a")
+    require((ran.returncode, ran.stdout, ran.stderr) == (0, "one: a\n", ""), ran)
+    require(not (made.top / "out/looked").exists(), "it was written")
 
 
 def a_file_that_cannot_grow_is_an_error(room: Room) -> None:
@@ -123,7 +131,7 @@ def what_is_left_behind_is_no_obstacle(room: Room) -> None:
     ran = room.call("a")
     require(ran.returncode == 70 and "exifnorm" in ran.stderr, ran)
     (room.top / "out/exifnorm").rmdir()
-    require(room.call("a").stdout == "one: a\n" and len(room.built()) == 4, room.log())
+    require((room.call("a").stdout, len(room.built())) == ("one: a\n", 4), room.log())
     require(not (proved / "making").exists(), "half of a build is left")
 
 
@@ -134,10 +142,8 @@ def a_lock_that_cannot_be_taken_ends_the_call(room: Room) -> None:
 
 
 TESTS = [
-    a_first_build_that_is_killed_at_any_step_leaves_nothing_wrong,
-    a_later_build_that_is_killed_at_any_step_leaves_nothing_wrong,
-    a_full_disk_at_any_step_of_a_first_build_is_an_error,
-    a_full_disk_at_any_step_of_a_later_build_is_an_error,
+    *(with_faults(how, begin) for how in ("kill", "full") for begin in (from_nothing, after_an_edit)),
+    a_full_disk_ends_no_call_where_all_is_built,
     a_file_that_cannot_grow_is_an_error,
     what_is_left_behind_is_no_obstacle,
     a_lock_that_cannot_be_taken_ends_the_call,

@@ -3,13 +3,16 @@
 tests/repository/launcher.py runs these. Installing is tested by tests/repository/install.py. They need make, cc, ld, objcopy and ar.
 """
 
+import os
 import shutil
 import subprocess
 
-from room import HANDLES, TOP, Room, require
+from checks import require
+from room import HANDLES, TOP, Room
 
 CRATES = "px_bytes: byteorder\npx_engine: px_bytes\npx_aside: px_bytes\npx_cli: px_engine\npx_c staticlib: px_bytes px_engine\n"
 LIBRARIES = ["libexifnorm.a", "libexifnorm.so.1", "exifnorm.h"]
+TARGETS = ["all", "program", "library", "check", "stage", "install", "uninstall", "wheel", "dist", "FORCE"]
 
 
 def made(room: Room) -> Room:
@@ -24,13 +27,15 @@ def made(room: Room) -> Room:
     (it.folder / "kit/c").mkdir()
     own_code(it, "one")
     it.command(it.top / "test", "#!/bin/sh\nexit \"$(cat status)\"\n")
+    for name in TARGETS:
+        (it.top / name).touch()  # a file of this name is no reason to do nothing
     return it
 
 
-def own_code(room: Room, text: str) -> None:
+def own_code(room: Room, text: str, more: str = "") -> None:
     """The code of the toolchain that the library is linked with."""
     folder = room.folder / "kit/c"
-    (folder / "own.c").write_text(f'const char exifnorm_own[] = "own {text}";\nconst char of_the_toolchain[] = "own";\n')
+    (folder / "own.c").write_text(f'const char exifnorm_own[] = "own {text}";\nconst char of_the_toolchain[] = "own";\n{more}')
     subprocess.run(["cc", "-c", "-o", "own.o", "own.c"], cwd=folder, check=True)
     (folder / "liblibc_c.a").unlink(missing_ok=True)
     subprocess.run(["ar", "rc", "liblibc_c.a", "own.o"], cwd=folder, check=True)
@@ -44,6 +49,10 @@ def built(room: Room) -> dict:
     """The time of the last write of each file that make builds, and its content."""
     paths = [*(room.top / "out/lib").iterdir(), room.top / "out/proved/libpx_c.a", room.top / "out/exifnorm"]
     return {it.name: (it.stat().st_mtime_ns, it.read_bytes()) for it in paths}
+
+
+def contents(files: dict) -> dict:
+    return {name: data for name, (_, data) in files.items()}
 
 
 def holds(room: Room, name: str, text: str) -> bool:
@@ -108,6 +117,7 @@ def a_changed_program_source_is_in_the_program(room: Room) -> None:
 
 def a_changed_header_is_copied(room: Room) -> None:
     room = made(room)
+    require(make(room, "out/lib/exifnorm.h").returncode == 0 and holds(room, "exifnorm.h", "one"), "it is not copied before the library is built")
     make(room)
     (room.top / "crates/px_c/include/exifnorm.h").write_text("/* two */\n")
     require(make(room, "library").returncode == 0 and holds(room, "exifnorm.h", "two"), "the header is the old one")
@@ -127,6 +137,15 @@ def flags_of_the_caller_are_passed_to_the_linker(room: Room) -> None:
     room = made(room)
     require(make(room, "LDFLAGS=-Wl,--build-id=0x0123456789abcdef").returncode == 0, room.log())
     require(bytes.fromhex("0123456789abcdef") in (room.top / "out/lib/libexifnorm.so.1").read_bytes(), "the linker had other flags")
+    (room.top / "out/lib/libexifnorm.so.1").unlink()
+    require(make(room, "library", "CC=false").returncode != 0, "another compiler links it")
+
+
+def a_library_that_needs_what_is_nowhere_is_an_error(room: Room) -> None:
+    room = made(room)
+    own_code(room, "one", "void nowhere(void);\nvoid exifnorm_more(void) { nowhere(); }\n")
+    ran = make(room, "library")
+    require((ran.returncode, "nowhere" in ran.stderr) == (2, True), ran)
 
 
 def another_makefile_links_the_library_again(room: Room) -> None:
@@ -173,7 +192,12 @@ def a_library_that_is_half_made_is_made_again(room: Room) -> None:
         require(ran.returncode != 0, (tool, ran))
         broken.unlink()
         require(make(room, "library").returncode == 0, tool)
-        require({name: it[1] for name, it in built(room).items()} == {name: it[1] for name, it in whole.items()}, f"{target} is half made")
+        require(contents(built(room)) == contents(whole), f"{target} is half made")
+    for name in (*LIBRARIES, "libexifnorm.so"):
+        (room.top / "out/lib" / name).unlink()
+        (room.top / "out/lib" / name).write_text("half")
+        os.utime(room.top / "out/lib" / name, (10**9, 10**9))
+    require(make(room, "library").returncode == 0 and contents(built(room)) == contents(whole), "what another left is kept")
 
 
 def the_archive_and_the_library_show_their_calls_alone(room: Room) -> None:
@@ -191,11 +215,18 @@ def the_program_that_make_built_is_installed(room: Room) -> None:
     make(room)
     room.proved.parent.mkdir()
     room.proved.write_text("what an earlier ./test left")
-    (target := room.top / "stage/usr/local/bin").mkdir(parents=True)
-    lines = make(room, "-n", "stage", "stage=stage").stdout.splitlines()
+    (target := room.top / "staged/usr/local/bin").mkdir(parents=True)
+    lines = make(room, "-n", "stage", "stage=staged").stdout.splitlines()
     (line,) = (it for it in lines if it.startswith("install ") and it.endswith("/bin/exifnorm'"))
     ran = room.call("-c", line, program="/bin/sh", cwd=room.top)
     require(ran.returncode == 0 and (target / "exifnorm").read_bytes() == (room.top / "out/exifnorm").read_bytes(), (line, ran))
+
+
+def uninstall_and_dist_are_done_whatever_files_there_are(room: Room) -> None:
+    room = made(room)
+    for target in ("uninstall", "dist"):
+        ran = make(room, "-n", target)
+        require("python3 packaging/" in ran.stdout, ran)
 
 
 def make_check_ends_as_the_tests_do(room: Room) -> None:
@@ -215,10 +246,12 @@ TESTS = [
     a_changed_header_is_copied,
     another_toolchain_builds_the_library_again,
     flags_of_the_caller_are_passed_to_the_linker,
+    a_library_that_needs_what_is_nowhere_is_an_error,
     another_makefile_links_the_library_again,
     a_proof_that_fails_fails_make,
     a_library_that_is_half_made_is_made_again,
     the_archive_and_the_library_show_their_calls_alone,
     the_program_that_make_built_is_installed,
+    uninstall_and_dist_are_done_whatever_files_there_are,
     make_check_ends_as_the_tests_do,
 ]

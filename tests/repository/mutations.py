@@ -1,7 +1,7 @@
 #!/usr/bin/env python3
 """Plants mistakes, one at a time, and sees that a test fails of each.
 
-  tests/repository/mutations.py PROGRAM [--only TEXT]
+  tests/repository/mutations.py PROGRAM [--only TEXT] [--workers NUMBER]
 
 mutations/README.md describes the tables of mistakes. Each mistake is planted in a copy of the tree and of the build, and its tests are run
 there. They must fail; without the mistake they must pass. The last line is 'N passed, N failed'.
@@ -30,6 +30,7 @@ from counting import Counter
 
 SECONDS = 3600  # the most that a run may take, also on a very busy machine: a longer one shows nothing
 PROGRAM = "crates/px_cli/out/px_cli"
+MODULES = ("build", "packaging", "python", "tests")  # folders of Python modules
 NEEDED, ALLOWED = {"file", "old", "new", "part", "why"}, {"only"}
 NO_TEST = "FAILED: no test ran"
 COUNT = re.compile(r"(\d+) passed, (\d+) failed(?:, (\d+) skipped)?")
@@ -124,25 +125,29 @@ def copy_tree(top: Path, program: Path, target: Path) -> None:
     shutil.copy2(program, target / PROGRAM)
 
 
+def compile_modules(tree: Path) -> None:
+    """Compiles the modules of a tree, so that not every run compiles those that it imports. Python takes a compiled module only if the
+    hash of its source is still the same: a mistake in it counts."""
+    words = [sys.executable, "-m", "compileall", "-q", "--invalidation-mode", "checked-hash", *(it for it in MODULES if (tree / it).is_dir())]
+    subprocess.run(words, cwd=tree, capture_output=True, check=False)  # one that can't be compiled fails the tests that import it
+
+
 def can_be_apart() -> bool:
     """Whether a run can be kept from writing outside its folder, as root can be. Other users can't write there."""
     with tempfile.TemporaryDirectory() as room:
         return os.getuid() == 0 and shutil.which("unshare") is not None and not subprocess.run([*APART, room, "true"], capture_output=True).returncode
 
 
-def state(path: Path) -> Tuple[int, ...]:
+def state(path: "str | Path") -> Tuple[int, ...]:
     """What changes of a file with each write, which no program can set back, and the mode alone of a folder."""
-    it = path.lstat()
+    it = os.lstat(path)
     return (it.st_mode,) if stat.S_ISDIR(it.st_mode) else (it.st_mode, it.st_ino, it.st_size, it.st_mtime_ns, it.st_ctime_ns)
 
 
 def states(folder: Path) -> Dict[str, Tuple[int, ...]]:
     """The state of each file and folder below a folder, each folder before what is in it."""
-    found = {}
-    for top, folders, files in os.walk(folder):
-        for it in (*folders, *files):
-            found[os.path.join(top, it)[len(str(folder)) + 1 :]] = state(Path(top, it))
-    return found
+    found = [os.path.join(top, it) for top, folders, files in os.walk(folder) for it in (*folders, *files)]
+    return {it[len(str(folder)) + 1 :]: state(it) for it in found}
 
 
 def remove(path: Path) -> None:
@@ -165,14 +170,17 @@ class Copy:
         found = states(self.tree)
         for name in found.keys() - self.states.keys():
             remove(self.tree / name)
-        for name in [it for it in self.states if found.get(it) != self.states[it]]:
+        changed = [it for it in self.states if found.get(it) != self.states[it]]
+        for name in changed:
             here, seed = self.tree / name, self.seed / name
             remove(here)
             if seed.is_dir() and not seed.is_symlink():
                 subprocess.run(["cp", "-a", seed, here], check=True)
             elif not os.path.lexists(here):
                 shutil.copy2(seed, here, follow_symlinks=False)
-        self.states = states(self.tree)
+        if any((self.tree / it).is_dir() for it in changed):  # with all that is in it
+            self.states = states(self.tree)
+        self.states.update({it: state(self.tree / it) for it in changed})
 
 
 class Copies:
@@ -246,29 +254,32 @@ def names(mistakes: Sequence[Mistake]) -> List[Tuple[str, str]]:
     return [(part, "|".join(sorted(it for it in texts if not any(other in it for other in texts - {it})))) for part, texts in sorted(only.items())]
 
 
-def try_all(counter: Counter, copies: Copies, mistakes: Sequence[Mistake]) -> None:
-    """Runs the tests without a mistake, all those of a part at once, and with each, several at a time."""
-    with ThreadPoolExecutor(os.cpu_count()) as pool:
+def try_all(counter: Counter, copies: Copies, mistakes: Sequence[Mistake], workers: int) -> None:
+    """Runs the tests without a mistake, all those of a part at once, and with each, so many at a time."""
+    with ThreadPoolExecutor(workers) as pool:
         waits = [pool.submit(counter.run, f"{part}, without a mistake", lambda it=(part, only): see_pass(copies, *it)) for part, only in names(mistakes)]
         waits += [pool.submit(counter.run, f"{it.file}: {it.why}", lambda it=it: see_fail(copies, it)) for it in mistakes]
         for it in waits:
             it.result()
 
 
-def try_tables(counter: Counter, program: Path, only: str, room: Path) -> None:
-    copy_tree(paths.TOP, program, for_all_users(room) / "seed")
+def try_tables(counter: Counter, asked: argparse.Namespace, room: Path) -> None:
+    copy_tree(paths.TOP, Path(asked.program).resolve(), for_all_users(room) / "seed")
+    compile_modules(room / "seed")
     copies = Copies(room / "seed", room)
-    try_all(counter, copies, [it for it in read_all(paths.TESTS / "repository" / "mutations", copies.parts) if only in f"{it.file}: {it.why}"])
+    found = [it for it in read_all(paths.TESTS / "repository" / "mutations", copies.parts) if asked.only in f"{it.file}: {it.why}"]
+    try_all(counter, copies, found, asked.workers)
 
 
 def main(words: Sequence[str]) -> int:
     parser = argparse.ArgumentParser(description=__doc__, formatter_class=argparse.RawDescriptionHelpFormatter)
     parser.add_argument("program", help="the built program")
     parser.add_argument("--only", default="", metavar="TEXT", help="only the mistakes whose file or reason has TEXT")
+    parser.add_argument("--workers", type=int, default=os.cpu_count(), metavar="NUMBER", help="how many runs at a time: one for each processor")
     asked = parser.parse_args(words)
     counter = Counter(only="")
     with tempfile.TemporaryDirectory(prefix="exifnorm-mutations-") as room:
-        counter.collect("the tables", lambda inner: try_tables(inner, Path(asked.program).resolve(), asked.only, Path(room)))
+        counter.collect("the tables", lambda inner: try_tables(inner, asked, Path(room)))
     return counter.finish()
 
 

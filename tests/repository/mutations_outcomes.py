@@ -11,10 +11,10 @@ import unittest
 from pathlib import Path
 from typing import Any, Tuple
 
-from mutations import COUNT, Copies, Copy, Mistake, Part, can_be_apart, names, parts, read_all, states
+from mutations import COUNT, Copies, Copy, Mistake, Part, can_be_apart, compile_modules, names, parts, read_all, states
 from paths import TESTS
 
-NEEDED = ("repository/mutations.py", "counting.py", "paths.py")
+NEEDED = ("repository/mutations.py", "checks.py", "counting.py", "paths.py")
 PARTS = """# Part: no part
 Part: compared
 Command: sh tests/compare.sh
@@ -149,6 +149,34 @@ class Judged(unittest.TestCase):
     def test_the_tests_of_a_part_are_run_at_once(self):
         listed = [Mistake("", "", "", part, "", only) for part, only in (("a", "x"), ("b", "y"), ("a", "w"), ("a", "x|x and more"), ("c", "z"), ("c", ""))]
         self.assertEqual(names(listed), [("a", "w|x"), ("b", "y"), ("c", "")])
+
+
+class Compiled(unittest.TestCase):
+    """The modules of a tree are compiled once, and a mistake in one still counts."""
+
+    def setUp(self) -> None:
+        room = tempfile.TemporaryDirectory()
+        self.addCleanup(room.cleanup)
+        self.source = Path(room.name, "tests", "some.py")
+        self.source.parent.mkdir()
+        self.source.write_text("print('old')\n")
+        self.source.with_name("wrong.py").write_text("no module\n")
+        compile_modules(Path(room.name))
+
+    def printed(self) -> str:
+        return subprocess.run([sys.executable, "-Bc", "import some"], cwd=self.source.parent, stdout=subprocess.PIPE, text=True, check=True).stdout
+
+    def test_a_source_of_the_same_size_and_time(self):
+        time = self.source.stat().st_mtime_ns
+        for text in ("old", "new"):
+            self.source.write_text(f"print('{text}')\n")
+            os.utime(self.source, ns=(time, time))
+            self.assertEqual(self.printed(), f"{text}\n")
+
+    def test_what_is_compiled_is_taken(self):
+        (compiled,) = self.source.parent.glob("__pycache__/*.pyc")
+        compiled.write_bytes(compiled.read_bytes().replace(b"old", b"own"))
+        self.assertEqual(self.printed(), "own\n")
 
 
 class Undone(unittest.TestCase):

@@ -160,6 +160,8 @@ class Wheel(unittest.TestCase):
         found = set()
         for name in ("one", "an other"):
             copy = copy_built(ROOM / "dated" / name)
+            (copy / "out/wheel").mkdir()
+            (copy / "out/wheel/exifnorm-0.9-py3-none-any.whl").touch()
             run("make", "wheel", f"PYTHON={DEBIAN_PYTHON}", folder=copy, mask=0o022)
             (wheel,) = (copy / "out/wheel").glob("*.whl")
             found.add(hashlib.sha256(wheel.read_bytes()).hexdigest())
@@ -340,11 +342,20 @@ class Archive(unittest.TestCase):
         cls.one, cls.other = (copy_built(ROOM / "dist" / it) / "out/dist" for it in ("one", "an other"))
         run("make", "dist", folder=cls.one.parent.parent)
         os.utime(cls.other.parent.parent / "README.md", (1, 1))
+        cls.leave_an_earlier_version(cls.other.parent.parent)
         run("make", "dist", folder=cls.other.parent.parent, mask=0o077, TZ="Asia/Tokyo", LC_ALL="C.UTF-8")
         with tarfile.open(cls.one / f"{cls.name}.tar.gz") as it:
             cls.members = it.getmembers()
             it.extractall(ROOM / "dist/unpacked")
         cls.top = ROOM / "dist/unpacked" / cls.name
+
+    @staticmethod
+    def leave_an_earlier_version(top: Path) -> None:
+        """Its archive, and its entry in the list of changes, which is below that of this version."""
+        (top / "out/dist").mkdir()
+        (top / "out/dist/exifnorm-0.9-linux.tar.gz").touch()
+        with open(top / "debian/changelog", "a", encoding="utf-8") as it:
+            it.write(f"\n{(TOP / 'debian/changelog').read_text(encoding='utf-8').replace(VERSION, '0.9').replace('2026', '2025')}")
 
     def test_two_builds_give_the_same_bytes(self) -> None:
         for name in (f"{self.name}.tar.gz", f"exifnorm-{VERSION}.spdx.json", "SHA256SUMS"):
@@ -358,6 +369,7 @@ class Archive(unittest.TestCase):
 
     def test_members_are_in_order_and_of_nobody(self) -> None:
         names = [it.name for it in self.members]
+        self.assertEqual(names, sorted(names, key=lambda it: it.split("/")))
         self.assertEqual(names[0], self.name)
         self.assertTrue(all(it == self.name or it.startswith(f"{self.name}/") for it in names))
         self.assertEqual({(it.uid, it.gid, it.uname, it.gname) for it in self.members}, {(0, 0, "", "")})
@@ -366,6 +378,10 @@ class Archive(unittest.TestCase):
         programs = {f"{self.name}/bin/exifnorm", f"{self.name}/bin/exifnorm-pictures"}
         self.assertEqual({it.name for it in self.members if it.isfile() and it.mode == 0o755}, programs)
         self.assertEqual({it.mode for it in self.members if it.isfile() and it.name not in programs}, {0o644})
+
+    def test_is_compressed_as_far_as_it_can_be(self) -> None:
+        """By RFC 1952 the third byte and those after it are the method, deflate, no name, no time, and the slowest way."""
+        self.assertEqual((self.one / f"{self.name}.tar.gz").read_bytes()[2:9], bytes([8, 0, 0, 0, 0, 0, 2]))
 
     def test_has_everything(self) -> None:
         found = {it.name.removeprefix(f"{self.name}/") for it in self.members if not it.isdir()}

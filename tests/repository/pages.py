@@ -8,6 +8,7 @@ from functools import lru_cache
 from typing import List
 
 import named
+from checks import uncounted
 from paths import TOP
 
 HEADER = "crates/px_c/include/exifnorm.h"
@@ -28,6 +29,8 @@ SHARED = (
     " that mean different things have different ones.",
     "No pointer may be NULL, even if a length is 0. Each must point to as many bytes as its length argument gives.",
     "The caller keeps ownership of all arguments.",
+    " must not overlap any other argument. The two blocks of ",
+    " may overlap or be the same",
     "What the description of a status doesn't name is unchanged.",
     "An allocation failed.",
     "Nothing is known of the block.",
@@ -100,6 +103,7 @@ class Pages(unittest.TestCase):
             alone = {it for it in words(text_of(name)) if counted()[it] == 1}
             self.assertEqual(alone - RARE, set(), f"{name}: a misspelled word, or one for RARE")
 
+    @uncounted
     def test_each_macro_has_its_lines(self):
         """A tag follows .TP, and a text follows a tag; nothing else is without a text, and no two names meet without a word between."""
         for name in PAGES:
@@ -118,12 +122,14 @@ class Pages(unittest.TestCase):
         example = text_of(PAGES[1]).partition(".SH EXAMPLES\n.nf\n")[2].partition(".fi\n")[0]
         self.assertEqual(example.replace("\\-", "-").replace("\\e", "\\"), text_of("tests/library/examples/compare.c"))
 
+    @uncounted
     def test_paragraphs_are_whole(self):
         for name in PAGES[:2]:
             for it in paragraphs(name):
                 self.assertRegex(it, rf"(?s)^(?:[A-Z]|{NAMES}|OUT|/dev).*(?:[.:]|exifnorm)$", name)
                 self.assertEqual(re.findall(rf"\. (?![A-Z]|{NAMES}).{{20}}|[\w,] (?:{STARTS}) [a-z].*", it), [], name)
 
+    @uncounted
     def test_comments_of_the_header_are_whole(self):
         for it in comments():
             self.assertRegex(it, rf"^[A-Z]|^{NAMES}" if it.endswith(".") else r"^(?:[a-z]|DataSets )")

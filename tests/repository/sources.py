@@ -260,6 +260,8 @@ def public_lemmas_are_cited():
         if name not in WORD.findall(rest) and not any({name, path.stem} <= words[it] for it in words if it != path)]
 
 
+CALL = ast.dump(ast.parse("subprocess.run", mode="eval").body)  # a command whose status is not looked at, if `check` isn't given
+
 # What a test changes for all others that run in the same process.
 SHARED = ("mock.patch", "contextlib.redirect_std", "os.umask(", "os.chdir(")
 
@@ -277,6 +279,49 @@ def picture_tests_that_share_nothing():
     return wrong + (["no class of tests replaces anything"] if not seen else [])
 
 
+def compared(node):
+    """The pairs of expressions that a comparison or an assertion of unittest compares."""
+    if isinstance(node, ast.Compare):
+        return list(zip([node.left, *node.comparators], node.comparators))
+    is_assertion = isinstance(node, ast.Call) and getattr(node.func, "attr", "").startswith("assert")
+    return [node.args[:2]] if is_assertion and len(node.args) > 1 else []
+
+
+def ends_early(node):
+    """Whether a statement of a block follows one that leaves the block."""
+    blocks = [it for it in (getattr(node, name, None) for name in ("body", "orelse", "finalbody")) if isinstance(it, list)]
+    return any(isinstance(it, (ast.Return, ast.Raise, ast.Continue, ast.Break)) for block in blocks for it in block[:-1])
+
+
+def empty_checks(text):
+    """What of a module checks nothing: its line, and why.
+
+    >>> list(empty_checks("a = b.c == b.c\\nself.assertEqual(a[0], a[0])\\nassert (a, 'why')\\nsubprocess.run(['false'])"))
+    [(1, 'a value and itself'), (2, 'a value and itself'), (3, 'a tuple is true'), (4, 'the status is not looked at')]
+    >>> list(empty_checks("for it in a:\\n    return\\n    check(it)"))
+    [(1, 'a statement is never reached')]
+    >>> list(empty_checks("assert a == b, 'why'\\nsubprocess.run(['true'], check=True)\\nfor it in a:\\n    return"))
+    []
+    """
+    for node in sorted((it for it in ast.walk(ast.parse(text)) if hasattr(it, "lineno")), key=lambda it: it.lineno):
+        if any(ast.dump(one) == ast.dump(other) for one, other in compared(node)):
+            yield node.lineno, "a value and itself"
+        if isinstance(node, ast.Assert) and isinstance(node.test, ast.Tuple):
+            yield node.lineno, "a tuple is true"
+        if ends_early(node):
+            yield node.lineno, "a statement is never reached"
+        if isinstance(node, ast.Expr) and isinstance(node.value, ast.Call) and ast.dump(node.value.func) == CALL:
+            if "check" not in {it.arg for it in node.value.keywords}:
+                yield node.lineno, "the status is not looked at"
+
+
+def each_check_can_fail():
+    """Reports checks of the tests that compare nothing, and checks after the end of their function."""
+    files = sorted(Path(TOP, "tests").rglob("*.py"))
+    wrong = [f"{path.relative_to(TOP)}:{line}: {why}" for path in files for line, why in empty_checks(path.read_text(encoding="utf-8"))]
+    return wrong + (["hardly a test was found"] if len(files) < 60 else [])
+
+
 TESTS = (
     the_examples_are_right,
     one_line_over_their_variants,
@@ -290,6 +335,7 @@ TESTS = (
     lemmas_name_their_subject,
     public_lemmas_are_cited,
     picture_tests_that_share_nothing,
+    each_check_can_fail,
 )
 
 
