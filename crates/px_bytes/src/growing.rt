@@ -3,7 +3,7 @@ ghost use Rattle.std.specs.Prelude.{◌≡◌, ◌<◌, ◌+◌, [], IfOk, IsErr
 ghost use Rattle.px_bytes.specs.Lacking.{Lacks, MayAsk, AsksAtMost};
 ghost use Rattle.px_bytes.specs.calls.Grown.{grown_bytes};
 
-use crate::devices::{Device, Failed, Sink};
+use crate::devices::{Device, Failed, Sink, Spell};
 use crate::memory::{Memory, Refused};
 use std::marker::Model;
 
@@ -101,6 +101,10 @@ impl Sink for Growing {
                 Err(Failed)
             }
         }
+    }
+
+    fn write_spelled<S: Spell>(&mut self, _: &S, _: usize) -> bool {
+        false
     }
 
     fn flush_all(&mut self) -> Result<(), Failed> {

@@ -35,10 +35,10 @@ mod whole;
 
 pub use blocks::{Block, LIMIT};
 pub use causes::{Cause, Refusal, WriteRefusal};
-pub use devices::{Device, Failed, Sink, Source, Watched};
+pub use devices::{Device, Failed, Sink, Source, Spell, Watched};
 pub use growing::Growing;
 pub use held::Ranges;
 pub use memory::{Memory, Refused};
 pub use numbers::{LeastFirst, MostFirst, Order, Spelling};
-pub use pending::Pending;
+pub use pending::{CAPACITY, Pending};
 pub use whole::{ReadFault, read_up_to, read_up_to_in, write_whole};

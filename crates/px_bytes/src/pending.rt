@@ -1,75 +1,101 @@
 // An output buffer in front of a writer.
 ghost use Rattle.std.specs.Prelude.{◌≡◌, ◌≤◌, ◌+◌, ◌++◌, [], ℕ, length, take, OnOk, IsOk};
 ghost use Rattle.px_bytes.specs.Devices.{CanFail, Counts, Writes};
-ghost use Rattle.px_bytes.specs.Waiting.{Fits, Puts, Waits};
+ghost use Rattle.px_bytes.specs.Waiting.{Fits, Puts, Waits, ◌⊕◌};
 
-use crate::devices::{Failed, Sink};
+use crate::devices::{Failed, Sink, Spell};
 use crate::whole::write_whole;
 use std::marker::Model;
 
-// The greatest number of bytes in the buffer.
-const CAPACITY: usize = 8192;
+/// How many bytes the usual output buffer has.
+pub const CAPACITY: usize = 8192;
 
-/// An output buffer of up to 8,192 bytes: the writer gets many small parts in a few large writes. Contracts
-/// see it as the list of the buffered bytes. It is on the stack and allocates nothing.
+/// An output buffer in a slice: the writer gets many small parts in a few large writes. Contracts see the
+/// buffered bytes and how many fit. It allocates nothing.
 ///
 /// Dropping it loses the buffered bytes: call `send` first.
 #[derive(Drop)]
-pub struct Pending {
-    space: [u8; CAPACITY],
+pub struct Pending<'a> {
+    space: &'a mut [u8],
     held: usize,
 }
 
-impl Model for Pending {
-    ghost use Rattle.std.specs.Prelude.{◌≤◌, List, ℕ, length, take};
+impl<'a> Model for Pending<'a> {
+    ghost use Rattle.std.specs.Prelude.{◌≤◌, length, take};
+    ghost use Rattle.px_bytes.specs.Waiting.{Held};
 
-    ghost Value = { List ℕ };
+    ghost Value = { Held };
 
-    ghost view = { λ p. take p.held p.space };
+    ghost view = { λ p. record { bytes = take p.held p.space.now; room = length p.space.now } };
 
-    ghost invariant = { λ p. p.held ≤ 8192 };
+    ghost invariant = { λ p. p.held ≤ length p.space.now };
 }
 
-impl Pending {
-    /// An empty buffer.
+impl<'a> Pending<'a> {
+    /// An empty buffer for 8,192 bytes.
     #[inline(always)]
-    pub fn new() -> Pending
-        ensures { result ≡ [] }
+    pub fn new(space: &'a mut [u8; CAPACITY]) -> Pending<'a>
+        ensures none { result.bytes ≡ [] }
+        ensures room { result.room ≡ 8192 }
     {
-        Pending {
-            space: [0; CAPACITY],
-            held: 0,
-        }
+        Pending::over(space)
     }
 
-    // How many more bytes fit.
-    fn free(&self) -> usize
-        ensures { result + length self.now ≡ 8192 }
+    /// An empty buffer for as many bytes as the slice has.
+    #[inline(always)]
+    pub fn over(space: &'a mut [u8]) -> Pending<'a>
+        ensures none { result.bytes ≡ [] }
+        ensures room { result.room ≡ length space.old }
     {
-        CAPACITY - self.held
+        Pending { space, held: 0 }
+    }
+
+    /// How many more bytes fit.
+    pub fn free(&self) -> usize
+        ensures { result + length self.now.bytes ≡ self.now.room }
+    {
+        self.space.len() - self.held
+    }
+
+    // The buffered bytes.
+    fn bytes(&self) -> &[u8]
+        ensures { result.now ≡ self.now.bytes }
+    {
+        &self.space[..self.held]
     }
 
     // Appends the bytes to the buffered ones.
     #[inline(always)]
     fn keep(&mut self, bytes: &[u8])
         requires { Fits self.old bytes.now }
-        ensures { self.new ≡ self.old ++ bytes.now }
+        ensures { self.new ≡ self.old ⊕ bytes.now }
     {
         let end = self.held + bytes.len();
         self.space[self.held..end].copy_from_slice(bytes);
         self.held = end;
     }
 
+    /// Appends the `count` bytes of what can write them into a slice, without another copy. They must fit.
+    pub fn put_spelled<S: Spell>(&mut self, spelled: &S, count: usize)
+        requires len { length (S.bytes spelled.now) ≡ count }
+        requires fits { Fits self.old (S.bytes spelled.now) }
+        ensures { self.new ≡ self.old ⊕ S.bytes spelled.now }
+    {
+        let after = self.held + count;
+        spelled.spell(&mut self.space[self.held..after]);
+        self.held = after;
+    }
+
     /// Writes the buffered bytes. Without any it calls nothing. It ends at the first call that fails: the
     /// writer has then taken a prefix of them, and the buffer's content is unspecified.
     pub fn send<W: Sink>(&mut self, writer: &mut W) -> Result<(), Failed>
         requires { CanFail (W.failed writer.old) }
-        ensures bytes { Writes result (W.bytes_taken writer.old) (W.bytes_taken writer.new) self.old }
+        ensures bytes { Writes result (W.bytes_taken writer.old) (W.bytes_taken writer.new) self.old.bytes }
         ensures count { Counts result (W.failed writer.old) (W.failed writer.new) }
-        ensures none { OnOk result (self.new ≡ []) }
-        ensures idle { self.old ≡ [] → IsOk result × (writer.new ≡ writer.old) }
+        ensures none { OnOk result (self.new ≡ record self.old { bytes = [] }) }
+        ensures idle { self.old.bytes ≡ [] → IsOk result × (writer.new ≡ writer.old) }
     {
-        write_whole(writer, &self.space[..self.held])?;
+        write_whole(writer, self.bytes())?;
         self.held = 0;
         Ok(())
     }
@@ -89,10 +115,9 @@ impl Pending {
         Ok(())
     }
 
-    /// Appends the bytes. If the buffered bytes and these are at most 8,192, it buffers them and doesn't call
-    /// the writer. Otherwise it writes the buffered bytes first, and writes parts longer than the buffer
-    /// directly. It ends at the first call that fails: the writer has then taken a prefix of the buffered
-    /// bytes followed by these.
+    /// Appends the bytes. If they fit into the buffer, it buffers them and doesn't call the writer. Otherwise it
+    /// writes the buffered bytes first, and writes parts longer than the buffer directly. It ends at the first
+    /// call that fails: the writer has then taken a prefix of the buffered bytes followed by these.
     #[inline(always)]
     pub fn put<W: Sink>(&mut self, writer: &mut W, bytes: &[u8]) -> Result<(), Failed>
         requires { CanFail (W.failed writer.old) }

@@ -1,5 +1,5 @@
 -- How much a block in a file requests, and a file that was read.
-use Rattle.std.proofs.Common.{◌≤◌, ◌+◌, ◌*◌, ◌/◌, ℕ, Bool, true, false, List, Option, Some, None, length, take, drop, min, ap}
+use Rattle.std.proofs.Common.{◌≤◌, ◌+◌, ◌*◌, ℕ, Bool, true, false, List, Option, Some, None, length, drop, ap}
 use Rattle.std.proofs.Common.{if◌then◌else◌, arith}
 use Rattle.std.proofs.lemmas.List.{length-drop, length-take}
 use Rattle.px_bytes.specs.Reading.{ReadsUpTo, readable}

@@ -1,5 +1,5 @@
 -- The result of writing a form into the caller's buffer, from the results of its parts.
-use Rattle.std.proofs.Common.{◌≡◌, ◌<◌, ℕ, Option, Some, None, List, length, Result, Ok, Err, IfOk, IfErr, OnErr, refl, sym, subst, arith}
+use Rattle.std.proofs.Common.{◌≡◌, ℕ, Option, Some, None, List, Result, Ok, Err, IfOk, IfErr, OnErr, refl, sym, subst, arith}
 use Rattle.px_engine.specs.declared.faults.Fault.{Fault}
 use Rattle.px_engine.specs.declared.faults.Fault.TheVariants.{Refused, NormalTooLong, OutOfMemory, ReadFailed, WriteFailed}
 use Rattle.px_engine.specs.declared.forms.Given.{Given}

@@ -1,7 +1,7 @@
 // A writer into a slice.
 ghost use Rattle.std.specs.Prelude.{◌≡◌};
 
-use px_bytes::{Device, Failed, Sink};
+use px_bytes::{Device, Failed, Sink, Spell};
 
 // The most bytes that a call takes, unless it has `MANY`: the C library copies more of them by an instruction that
 // takes longer.
@@ -74,6 +74,17 @@ impl<'a> Sink for Filling<'a> {
         // Failures are counted only once the slice is full, which this write may have made it.
         self.refusals = 0;
         Ok(n)
+    }
+
+    fn write_spelled<S: Spell>(&mut self, spelled: &S, count: usize) -> bool {
+        if self.held >= self.room.len() || count > self.room.len() - self.held {
+            return false;
+        }
+        let end = self.held + count;
+        spelled.spell(&mut self.room[self.held..end]);
+        self.held = end;
+        self.refusals = 0;
+        true
     }
 
     fn flush_all(&mut self) -> Result<(), Failed> {

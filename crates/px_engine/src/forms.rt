@@ -20,7 +20,7 @@ ghost use Rattle.px_engine.specs.calls.Seen.{said_of};
 use crate::faults::Fault;
 use crate::filling::Filling;
 use crate::meanings::Said;
-use px_bytes::{Failed, Growing, LIMIT, Memory, Pending, Sink, WriteRefusal};
+use px_bytes::{CAPACITY, Failed, Growing, LIMIT, Memory, Pending, Sink, WriteRefusal};
 use px_iim::{Iim, normal_len, put_iim, write_iim};
 use px_layout::{NormalForm, put_normal, write_normal_in};
 use px_tree::Meaning;
@@ -57,25 +57,52 @@ pub(crate) fn write_form<W: Sink>(said: &Said, writer: &mut W) -> Result<u64, Fa
     }
 }
 
+// The size of the output buffer for a form in memory that is no longer than this. The buffer is cleared each time,
+// so that of a short form is small.
+const SHORT: usize = 1024;
+
+// Writes the normal form of an Exif block, which is measured already, by an output buffer in that space.
+fn send_exif_by<W: Sink>(form: &NormalForm, writer: &mut W, space: &mut [u8]) -> Result<(), Failed>
+    requires few { CanFail (W.failed writer.old) }
+    requires form { IsForm form.now }
+    ensures { Sends result (over W.failed W.bytes_taken writer.old writer.new) (normal_exif (said_in form.now)) }
+{
+    let mut pending = Pending::over(space);
+    put_normal(&mut pending, writer, form)?;
+    pending.send(writer)
+}
+
 // Writes the normal form of an Exif block, which is measured already.
 fn send_exif<W: Sink>(form: &NormalForm, writer: &mut W) -> Result<(), Failed>
     requires few { CanFail (W.failed writer.old) }
     requires form { IsForm form.now }
     ensures { Sends result (over W.failed W.bytes_taken writer.old writer.new) (normal_exif (said_in form.now)) }
 {
-    let mut pending = Pending::new();
-    put_normal(&mut pending, writer, form)?;
-    pending.send(writer)
+    if form.len() <= SHORT as u64 {
+        return send_exif_by(form, writer, &mut [0; SHORT]);
+    }
+    send_exif_by(form, writer, &mut [0; CAPACITY])
 }
 
-// Writes the normal form of a record.
-fn send_record<W: Sink>(iim: &Iim, writer: &mut W) -> Result<(), Failed>
+// Writes the normal form of a record by an output buffer in that space.
+fn send_record_by<W: Sink>(iim: &Iim, writer: &mut W, space: &mut [u8]) -> Result<(), Failed>
     requires { CanFail (W.failed writer.old) }
     ensures { Sends result (over W.failed W.bytes_taken writer.old writer.new) (normal_iim iim.now) }
 {
-    let mut pending = Pending::new();
+    let mut pending = Pending::over(space);
     put_iim(&mut pending, writer, iim)?;
     pending.send(writer)
+}
+
+// Writes the normal form of a record, which has so many bytes.
+fn send_record<W: Sink>(iim: &Iim, writer: &mut W, len: usize) -> Result<(), Failed>
+    requires { CanFail (W.failed writer.old) }
+    ensures { Sends result (over W.failed W.bytes_taken writer.old writer.new) (normal_iim iim.now) }
+{
+    if len <= SHORT {
+        return send_record_by(iim, writer, &mut [0; SHORT]);
+    }
+    send_record_by(iim, writer, &mut [0; CAPACITY])
 }
 
 // The normal form of an Exif block.
@@ -108,7 +135,7 @@ fn iim_form(memory: &mut Memory, iim: &Iim) -> Result<Vec<u8>, Fault>
     }
     let mut writer = Growing::with_room_in(memory, len as usize)?;
     // If the allocation failed, `finish_in` reports it.
-    let _ = send_record(iim, &mut writer);
+    let _ = send_record(iim, &mut writer, len as usize);
     Ok(writer.finish_in(memory)?)
 }
 
@@ -142,8 +169,9 @@ fn fill_record(iim: &Iim, room: &mut [u8])
     requires { length room.old ≡ length (normal_iim iim.now) }
     ensures { room.new ≡ normal_iim iim.now }
 {
+    let len = room.len();
     let mut writer = Filling::new(room);
-    let _ = send_record(iim, &mut writer);
+    let _ = send_record(iim, &mut writer, len);
 }
 
 // Writes the normal form of an Exif block to the start of `out`. None if it is longer than `LIMIT`. It allocates

@@ -10,11 +10,15 @@ ghost use Rattle.px_engine.specs.calls.Seen.{said_of};
 
 use crate::faults::Fault;
 use crate::meanings::Said;
-use px_bytes::{Failed, Growing, Memory, Pending, Refused, Sink};
+use px_bytes::{CAPACITY, Failed, Growing, Memory, Pending, Refused, Sink};
 use px_text::{put_exif_captions, put_exif_listing, put_iim_captions, put_iim_listing};
 
 // Adds the listing to the output buffer.
-fn put_listing<W: Sink>(pending: &mut Pending, writer: &mut W, said: &Said) -> Result<(), Failed>
+fn put_listing<W: Sink>(
+    pending: &mut Pending<'_>,
+    writer: &mut W,
+    said: &Said,
+) -> Result<(), Failed>
     requires { CanFail (W.failed writer.old) }
     ensures { Adds result (over W.failed W.bytes_taken writer.old writer.new) pending.old pending.new (listing (said_of said.now)) }
 {
@@ -25,7 +29,11 @@ fn put_listing<W: Sink>(pending: &mut Pending, writer: &mut W, said: &Said) -> R
 }
 
 // Adds the captions to the output buffer.
-fn put_captions<W: Sink>(pending: &mut Pending, writer: &mut W, said: &Said) -> Result<(), Failed>
+fn put_captions<W: Sink>(
+    pending: &mut Pending<'_>,
+    writer: &mut W,
+    said: &Said,
+) -> Result<(), Failed>
     requires { CanFail (W.failed writer.old) }
     ensures { Adds result (over W.failed W.bytes_taken writer.old writer.new) pending.old pending.new
         (caption_text (said_of said.now)) }
@@ -37,9 +45,9 @@ fn put_captions<W: Sink>(pending: &mut Pending, writer: &mut W, said: &Said) -> 
 }
 
 // Writes the output buffer and flushes once.
-fn send_and_flush<W: Sink>(pending: &mut Pending, writer: &mut W) -> Result<(), Failed>
+fn send_and_flush<W: Sink>(pending: &mut Pending<'_>, writer: &mut W) -> Result<(), Failed>
     requires { CanFail (W.failed writer.old) }
-    ensures { Sends result (over W.failed W.bytes_taken writer.old writer.new) pending.old }
+    ensures { Sends result (over W.failed W.bytes_taken writer.old writer.new) pending.old.bytes }
 {
     pending.send(writer)?;
     writer.flush_all()
@@ -50,7 +58,8 @@ fn send_listing<W: Sink>(said: &Said, writer: &mut W) -> Result<(), Failed>
     requires { CanFail (W.failed writer.old) }
     ensures { Sends result (over W.failed W.bytes_taken writer.old writer.new) (listing (said_of said.now)) }
 {
-    let mut pending = Pending::new();
+    let mut space = [0; CAPACITY];
+    let mut pending = Pending::new(&mut space);
     put_listing(&mut pending, writer, said)?;
     send_and_flush(&mut pending, writer)
 }
@@ -60,7 +69,8 @@ fn send_captions<W: Sink>(said: &Said, writer: &mut W) -> Result<(), Failed>
     requires { CanFail (W.failed writer.old) }
     ensures { Sends result (over W.failed W.bytes_taken writer.old writer.new) (caption_text (said_of said.now)) }
 {
-    let mut pending = Pending::new();
+    let mut space = [0; CAPACITY];
+    let mut pending = Pending::new(&mut space);
     put_captions(&mut pending, writer, said)?;
     send_and_flush(&mut pending, writer)
 }

@@ -13,11 +13,11 @@ ghost use Rattle.px_iim.specs.calls.Heads.{Grows, AreShort};
 use crate::group::Item;
 use crate::head::head;
 use crate::iim::Iim;
-use px_bytes::{Failed, LIMIT, Memory, Pending, Refused, Sink, WriteRefusal};
+use px_bytes::{CAPACITY, Failed, LIMIT, Memory, Pending, Refused, Sink, WriteRefusal};
 use std::alloc::AllocError;
 
 fn put_item<W: Sink>(
-    pending: &mut Pending,
+    pending: &mut Pending<'_>,
     writer: &mut W,
     rec: u8,
     item: &Item,
@@ -32,7 +32,7 @@ fn put_item<W: Sink>(
 }
 
 fn put_group<W: Sink>(
-    pending: &mut Pending,
+    pending: &mut Pending<'_>,
     writer: &mut W,
     rec: u8,
     items: &[Item],
@@ -52,7 +52,7 @@ fn put_group<W: Sink>(
 /// 8,192 bytes, all are buffered, and the writer isn't called. It allocates nothing. It ends at the first
 /// call that fails: the writer has then taken a prefix of the buffered bytes and of the form after them. A
 /// record with a DataSet has a form of at least five bytes.
-pub fn put_iim<W: Sink>(pending: &mut Pending, writer: &mut W, iim: &Iim) -> Result<(), Failed>
+pub fn put_iim<W: Sink>(pending: &mut Pending<'_>, writer: &mut W, iim: &Iim) -> Result<(), Failed>
     requires { CanFail (W.failed writer.old) }
     ensures bytes { Adds result (over W.failed W.bytes_taken writer.old writer.new) pending.old pending.new (normal_iim iim.now) }
     ensures waits { Waits result writer.old writer.new pending.old pending.new (normal_iim iim.now) }
@@ -88,7 +88,8 @@ pub fn write_iim_part<W: Sink>(iim: &Iim, writer: &mut W) -> Result<u64, WriteRe
     if len > LIMIT {
         return Err(WriteRefusal::NormalTooLong);
     }
-    let mut pending = Pending::new();
+    let mut space = [0; CAPACITY];
+    let mut pending = Pending::new(&mut space);
     put_iim(&mut pending, writer, iim)?;
     pending.send(writer)?;
     Ok(u64::from(len))

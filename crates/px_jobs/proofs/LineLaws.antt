@@ -3,7 +3,7 @@ use Rattle.std.proofs.Common.{◌≡◌, ◌+◌, ◌++◌, ◌∙◌, ap, inl, 
 use Rattle.std.specs.Prelude.{⊤}
 use Rattle.std.specs.Io.KnownBytes.{Appends}
 use Rattle.px_bytes.specs.Devices.{AppendsPrefix, Device, Writes}
-use Rattle.px_bytes.specs.Waiting.{Owes, Puts}
+use Rattle.px_bytes.specs.Waiting.{Held, ◌⊕◌, Owes, Puts}
 use Rattle.px_bytes.specs.lemmas.WaitingLaws.{from_none, owed_all, owed_prefix, puts_both, puts_first}
 use Rattle.px_bytes.specs.lemmas.WriteLaws.{appends_kept, prefix_all}
 use Rattle.px_jobs.specs.Lines.{Tells}
@@ -14,39 +14,38 @@ abbrev pub device : ℕ → ℕ → Option (List ℕ) → Option (List ℕ) → 
 device failed failed_now old new = record { failed = failed; failed_now = failed_now; old = old; new = new }
 
 -- the first of two parts was added, and a call failed after it
-stops_behind : (a b c : Option (List ℕ)) (h i xs ys : List ℕ) → Owes a b i (h ++ xs) → AppendsPrefix b c (i ++ ys)
-    → AppendsPrefix a c (h ++ (xs ++ ys))
-stops_behind a b c h i xs ys p q = puts_both {A = ⊤} {E = ⊤} (Err tt) a b c h i [] xs ys p q
+stops_behind : (a b c : Option (List ℕ)) (h i : Held) (xs ys : List ℕ) → Owes a b i (h ⊕ xs) → AppendsPrefix b c (i.bytes ++ ys)
+    → AppendsPrefix a c (h.bytes ++ (xs ++ ys))
+stops_behind a b c h i xs ys p q = puts_both {A = ⊤} {E = ⊤} (Err tt) a b c h i i xs ys p q
 
-module _ (v w x y z : List ℕ) (a b c d e : Option (List ℕ)) (h i j k l : List ℕ) where
-  pub stops_first : AppendsPrefix a b (h ++ v) → AppendsPrefix a b (h ++ (v ++ (w ++ (x ++ (y ++ z)))))
+module _ (v w x y z : List ℕ) (a b c d e : Option (List ℕ)) (h i j k l : Held) where
+  pub stops_first : AppendsPrefix a b (h.bytes ++ v) → AppendsPrefix a b (h.bytes ++ (v ++ (w ++ (x ++ (y ++ z)))))
   stops_first p = puts_first a b h v (w ++ (x ++ (y ++ z))) p
 
-  module _ (one : Owes a b i (h ++ v)) where
-    pub stops_second : AppendsPrefix b c (i ++ w) → AppendsPrefix a c (h ++ (v ++ (w ++ (x ++ (y ++ z)))))
+  module _ (one : Owes a b i (h ⊕ v)) where
+    pub stops_second : AppendsPrefix b c (i.bytes ++ w) → AppendsPrefix a c (h.bytes ++ (v ++ (w ++ (x ++ (y ++ z)))))
     stops_second p = stops_behind a b c h i v (w ++ (x ++ (y ++ z))) one (puts_first b c i w (x ++ (y ++ z)) p)
 
-    module _ (two : Owes b c j (i ++ w)) where
-      pub stops_third : AppendsPrefix c d (j ++ x) → AppendsPrefix a d (h ++ (v ++ (w ++ (x ++ (y ++ z)))))
+    module _ (two : Owes b c j (i ⊕ w)) where
+      pub stops_third : AppendsPrefix c d (j.bytes ++ x) → AppendsPrefix a d (h.bytes ++ (v ++ (w ++ (x ++ (y ++ z)))))
       stops_third p = stops_behind a b d h i v (w ++ (x ++ (y ++ z))) one
           (stops_behind b c d i j w (x ++ (y ++ z)) two (puts_first c d j x (y ++ z) p))
 
-      module _ (three : Owes c d k (j ++ x)) where
-        pub stops_fourth : AppendsPrefix d e (k ++ y) → AppendsPrefix a e (h ++ (v ++ (w ++ (x ++ (y ++ z)))))
+      module _ (three : Owes c d k (j ⊕ x)) where
+        pub stops_fourth : AppendsPrefix d e (k.bytes ++ y) → AppendsPrefix a e (h.bytes ++ (v ++ (w ++ (x ++ (y ++ z)))))
         stops_fourth p = stops_behind a b e h i v (w ++ (x ++ (y ++ z))) one
             (stops_behind b c e i j w (x ++ (y ++ z)) two (stops_behind c d e j k x (y ++ z) three (puts_first d e k y z p)))
 
-        pub puts_all : {A E : Type 0} (r : Result A E) (f : Option (List ℕ)) (m : List ℕ) → Owes d e l (k ++ y) → Puts r e f l m z
+        pub puts_all : {A E : Type 0} (r : Result A E) (f : Option (List ℕ)) (m : Held) → Owes d e l (k ⊕ y) → Puts r e f l m z
             → Puts r a f h m (v ++ (w ++ (x ++ (y ++ z))))
         puts_all r f m four p = puts_both r a b f h i m v (w ++ (x ++ (y ++ z))) one
             (puts_both r b c f i j m w (x ++ (y ++ z)) two (puts_both r c d f j k m x (y ++ z) three (puts_both r d e f k l m y z four p)))
 
 -- the buffer was empty; the bytes were added, and the buffer was then written
-pub owes_written : {A E : Type 0} (r : Result A E) (a b c : Option (List ℕ)) (h k out : List ℕ) → h ≡ [] → Owes a b k (h ++ out)
-    → Writes r b c k
-    → Writes r a c out
-owes_written (Ok x) a b c h k out none p w = from_none (Appends a c) h out none (owed_all a b c k (h ++ out) p w)
-owes_written (Err x) a b c h k out none p w = from_none (AppendsPrefix a c) h out none (owed_prefix a b c k (h ++ out) p w)
+pub owes_written : {A E : Type 0} (r : Result A E) (a b c : Option (List ℕ)) (h k : Held) (out : List ℕ) → h.bytes ≡ []
+    → Owes a b k (h ⊕ out) → Writes r b c k.bytes → Writes r a c out
+owes_written (Ok x) a b c h k out none p w = from_none (Appends a c) h.bytes out none (owed_all a b c k (h ⊕ out) p w)
+owes_written (Err x) a b c h k out none p w = from_none (AppendsPrefix a c) h.bytes out none (owed_prefix a b c k (h ⊕ out) p w)
 
 -- a line that was written, and then a flush
 pub flushes_tells : (expected : ℕ) (line : List ℕ) (status failed mid now : ℕ) (old written new : Option (List ℕ)) → mid ≡ failed

@@ -7,7 +7,7 @@ ghost use Rattle.px_jobs.specs.Lines.{end_of, line_of, status_of, Tells, TellsFa
 ghost use Rattle.px_jobs.specs.calls.Flushing.{Flushes};
 
 use itoa::Buffer;
-use px_bytes::{Cause, Failed, Pending, Sink, write_whole};
+use px_bytes::{CAPACITY, Cause, Failed, Pending, Sink, write_whole};
 use px_engine::{Fault, Side};
 
 // The end of a line: for a comparison, the file that it is about.
@@ -23,7 +23,7 @@ fn ending(file: Option<Side>) -> &'static [u8]
 
 // Adds the line of a refusal to the output buffer.
 fn put_refusal<L: Sink>(
-    pending: &mut Pending,
+    pending: &mut Pending<'_>,
     lines: &mut L,
     cause: Cause,
     place: u32,
@@ -43,7 +43,7 @@ fn put_refusal<L: Sink>(
 
 // Adds a text and the end of its line.
 fn put_ended<L: Sink>(
-    pending: &mut Pending,
+    pending: &mut Pending<'_>,
     lines: &mut L,
     text: &[u8],
     file: Option<Side>,
@@ -57,7 +57,7 @@ fn put_ended<L: Sink>(
 
 // Adds the line of a fault.
 fn put_line<L: Sink>(
-    pending: &mut Pending,
+    pending: &mut Pending<'_>,
     lines: &mut L,
     fault: Fault,
     file: Option<Side>,
@@ -79,7 +79,8 @@ fn write_line<L: Sink>(lines: &mut L, fault: Fault, file: Option<Side>) -> Resul
     requires { CanFail (L.failed lines.old) }
     ensures { Sends result (over L.failed L.bytes_taken lines.old lines.new) (line_of fault file) }
 {
-    let mut pending = Pending::new();
+    let mut space = [0; CAPACITY];
+    let mut pending = Pending::new(&mut space);
     put_line(&mut pending, lines, fault, file)?;
     pending.send(lines)
 }
@@ -89,7 +90,8 @@ fn write_ended<L: Sink>(lines: &mut L, text: &[u8], file: Option<Side>) -> Resul
     requires { CanFail (L.failed lines.old) }
     ensures { Sends result (over L.failed L.bytes_taken lines.old lines.new) (text.now ++ end_of file) }
 {
-    let mut pending = Pending::new();
+    let mut space = [0; CAPACITY];
+    let mut pending = Pending::new(&mut space);
     put_ended(&mut pending, lines, text, file)?;
     pending.send(lines)
 }

@@ -2,7 +2,7 @@
 ghost use Rattle.std.specs.Prelude.{◌≡◌, ◌≤◌, ◌%◌, length, replicate, flat_map};
 ghost use Rattle.px_bytes.specs.Devices.{CanFail};
 ghost use Rattle.px_bytes.specs.Numbers.{spelling};
-ghost use Rattle.px_bytes.specs.Waiting.{AddsTo};
+ghost use Rattle.px_bytes.specs.Waiting.{AddsTo, Fits};
 ghost use Rattle.px_field.specs.Values.{spell, spelled};
 ghost use Rattle.px_meaning.specs.Fits.{Field};
 ghost use Rattle.px_layout.specs.Laid.{long_bytes};
@@ -10,12 +10,12 @@ ghost use Rattle.px_layout.specs.calls.Given.{head_bytes};
 ghost use Rattle.px_layout.specs.calls.Items.{item_of, entry_of, IsCounted};
 
 use crate::items::{Entry, Item};
-use px_bytes::{Failed, Order, Pending, Sink};
+use px_bytes::{Failed, Order, Pending, Sink, Spell};
 use px_field::Value;
 
 /// Puts a number of two bytes into the output buffer. Allocates nothing. `Err`: a call of the writer failed.
 pub fn put_short<W: Sink>(
-    pending: &mut Pending,
+    pending: &mut Pending<'_>,
     writer: &mut W,
     order: Order,
     n: u16,
@@ -30,7 +30,7 @@ pub fn put_short<W: Sink>(
 
 /// Puts a number of four bytes into the output buffer. Allocates nothing. `Err`: a call of the writer failed.
 pub fn put_long<W: Sink>(
-    pending: &mut Pending,
+    pending: &mut Pending<'_>,
     writer: &mut W,
     order: Order,
     n: u32,
@@ -46,7 +46,7 @@ pub fn put_long<W: Sink>(
 /// Puts `count` bytes of filler, at most four, into the output buffer. Allocates nothing. `Err`: a call of the
 /// writer failed.
 pub fn put_filler<W: Sink>(
-    pending: &mut Pending,
+    pending: &mut Pending<'_>,
     writer: &mut W,
     filler: u8,
     count: usize,
@@ -63,7 +63,7 @@ pub fn put_filler<W: Sink>(
 
 // Puts the 0 that pads an odd number of bytes.
 pub(crate) fn put_padding<W: Sink>(
-    pending: &mut Pending,
+    pending: &mut Pending<'_>,
     writer: &mut W,
     len: u64,
 ) -> Result<(), Failed>
@@ -75,7 +75,7 @@ pub(crate) fn put_padding<W: Sink>(
 
 // Puts the elements of a value, as many at a time as `piece` has space for.
 fn put_by_pieces<W: Sink>(
-    pending: &mut Pending,
+    pending: &mut Pending<'_>,
     writer: &mut W,
     order: Order,
     value: &Value,
@@ -99,7 +99,7 @@ fn put_by_pieces<W: Sink>(
 // Puts a value of eight bytes, such as one RATIONAL: the most common size of a placed value. Only one caller
 // has it in its loop.
 pub(crate) fn put_eight<W: Sink>(
-    pending: &mut Pending,
+    pending: &mut Pending<'_>,
     writer: &mut W,
     order: Order,
     value: &Value,
@@ -111,37 +111,57 @@ pub(crate) fn put_eight<W: Sink>(
     pending.put(writer, &value.spell_eight(order))
 }
 
-// The size of the buffer in which the bytes of a short value are swapped. It is zeroed for each value, so it is small.
-const FEW: usize = 64;
+// A value in a byte order.
+#[derive(Drop)]
+struct Ordered<'v, 'a> {
+    order: Order,
+    value: &'v Value<'a>,
+}
 
-// The size of that buffer for a longer value: larger, so that the value has few pieces.
+impl<'v, 'a> Spell for Ordered<'v, 'a> {
+    ghost use Rattle.px_field.specs.Values.{spelled};
+
+    ghost bytes = { λ o. spelled o.order o.value.now };
+
+    fn spell(&self, out: &mut [u8]) {
+        self.value.spell_all(self.order, out);
+    }
+}
+
+// The size of the buffer in which the bytes of a value are swapped if they don't fit into the output buffer. It is
+// cleared for each value.
 const MANY: usize = 1024;
 
-// From so many bytes on a value is put by pieces that are longer than the output buffer, which are written without
-// a copy into it.
+// From so many bytes on a value that doesn't fit is written without a copy into the output buffer.
 const LONG: u64 = 65_536;
 
-// The size of the buffer for such a value.
+// The size of the buffer in which the bytes of such a value are swapped, if the writer fills no slice: larger than
+// the usual output buffer, so that each piece is written directly.
 const DIRECT: usize = 16_384;
 
-// Puts the elements of a long value.
+// Puts the elements of a long value that doesn't fit into the output buffer.
 #[inline(never)]
 fn put_large<W: Sink>(
-    pending: &mut Pending,
+    pending: &mut Pending<'_>,
     writer: &mut W,
     order: Order,
     value: &Value,
 ) -> Result<(), Failed>
-    requires { CanFail (W.failed writer.old) }
+    requires few { CanFail (W.failed writer.old) }
+    requires long { ¬ Fits pending.old (spelled order value.now) }
     ensures { AddsTo W.failed W.bytes_taken result writer.old writer.new pending.old pending.new
         (flat_map (spell order) value.now.elements) }
 {
+    pending.send(writer)?;
+    if writer.write_spelled(&Ordered { order, value }, value.size() as usize) {
+        return Ok(());
+    }
     put_by_pieces(pending, writer, order, value, &mut [0; DIRECT])
 }
 
-// Puts the elements of a value.
+// Puts the elements of a value. Those that fit are swapped directly into the output buffer.
 fn put_elements<W: Sink>(
-    pending: &mut Pending,
+    pending: &mut Pending<'_>,
     writer: &mut W,
     order: Order,
     value: &Value,
@@ -150,10 +170,12 @@ fn put_elements<W: Sink>(
     ensures { AddsTo W.failed W.bytes_taken result writer.old writer.new pending.old pending.new
         (flat_map (spell order) value.now.elements) }
 {
-    if value.size() <= FEW as u64 {
-        return put_by_pieces(pending, writer, order, value, &mut [0; FEW]);
+    let size = value.size();
+    if size <= pending.free() as u64 {
+        pending.put_spelled(&Ordered { order, value }, size as usize);
+        return Ok(());
     }
-    if value.size() >= LONG {
+    if size >= LONG {
         return put_large(pending, writer, order, value);
     }
     put_by_pieces(pending, writer, order, value, &mut [0; MANY])
@@ -162,7 +184,7 @@ fn put_elements<W: Sink>(
 /// Puts a value into the output buffer. If its bytes were read in that byte order, they are put as they are.
 /// Allocates nothing. `Err`: a call of the writer failed, which ends the call.
 pub fn put_value<W: Sink>(
-    pending: &mut Pending,
+    pending: &mut Pending<'_>,
     writer: &mut W,
     order: Order,
     value: &Value,

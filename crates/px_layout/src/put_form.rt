@@ -28,7 +28,7 @@ use px_meaning::{Dir, needs_place};
 
 // Puts the value of an entry, padded.
 fn put_padded_item<W: Sink>(
-    pending: &mut Pending,
+    pending: &mut Pending<'_>,
     writer: &mut W,
     form: &NormalForm,
     dir: Dir,
@@ -49,7 +49,7 @@ fn put_padded_item<W: Sink>(
 
 // Puts the value of a field, padded.
 fn put_padded_field<W: Sink>(
-    pending: &mut Pending,
+    pending: &mut Pending<'_>,
     writer: &mut W,
     value: &Value,
 ) -> Result<(), Failed>
@@ -62,7 +62,7 @@ fn put_padded_field<W: Sink>(
 
 // Puts the value of a field, padded. Puts nothing if the value is in its entry.
 fn put_placed_field<W: Sink>(
-    pending: &mut Pending,
+    pending: &mut Pending<'_>,
     writer: &mut W,
     value: &Value,
 ) -> Result<(), Failed>
@@ -81,7 +81,7 @@ fn put_placed_field<W: Sink>(
 
 // Puts the value of an entry, padded. Puts nothing if the value is in its entry.
 fn put_any_placed<W: Sink>(
-    pending: &mut Pending,
+    pending: &mut Pending<'_>,
     writer: &mut W,
     form: &NormalForm,
     dir: Dir,
@@ -103,7 +103,7 @@ fn put_any_placed<W: Sink>(
 
 // The same. Most entries are fields, so these are put without a check for the other kinds of entries.
 fn put_placed<W: Sink>(
-    pending: &mut Pending,
+    pending: &mut Pending<'_>,
     writer: &mut W,
     form: &NormalForm,
     dir: Dir,
@@ -125,7 +125,7 @@ fn put_placed<W: Sink>(
 
 // Puts the placed values of a directory, by ascending tag.
 fn put_values<W: Sink>(
-    pending: &mut Pending,
+    pending: &mut Pending<'_>,
     writer: &mut W,
     form: &NormalForm,
     dir: Dir,
@@ -147,7 +147,7 @@ fn put_values<W: Sink>(
 
 // Puts a directory: its table, then its placed values.
 fn put_dir<W: Sink>(
-    pending: &mut Pending,
+    pending: &mut Pending<'_>,
     writer: &mut W,
     form: &NormalForm,
     dir: Dir,
@@ -167,7 +167,7 @@ fn put_dir<W: Sink>(
 
 // Puts a directory, if the meaning has it.
 fn put_any_dir<W: Sink>(
-    pending: &mut Pending,
+    pending: &mut Pending<'_>,
     writer: &mut W,
     form: &NormalForm,
     dir: Dir,
@@ -185,7 +185,11 @@ fn put_any_dir<W: Sink>(
 }
 
 // Puts all directories of the meaning, each with its placed values.
-fn put_dirs<W: Sink>(pending: &mut Pending, writer: &mut W, form: &NormalForm) -> Result<(), Failed>
+fn put_dirs<W: Sink>(
+    pending: &mut Pending<'_>,
+    writer: &mut W,
+    form: &NormalForm,
+) -> Result<(), Failed>
     requires few { CanFail (W.failed writer.old) }
     requires form { IsForm form.now }
     ensures { AddsTo W.failed W.bytes_taken result writer.old writer.new pending.old pending.new (flat_map
@@ -201,7 +205,7 @@ fn put_dirs<W: Sink>(pending: &mut Pending, writer: &mut W, form: &NormalForm) -
 
 // Puts all that follows the header: the directories, then the thumbnail's bytes.
 fn put_contents<W: Sink>(
-    pending: &mut Pending,
+    pending: &mut Pending<'_>,
     writer: &mut W,
     form: &NormalForm,
 ) -> Result<(), Failed>
@@ -217,7 +221,7 @@ fn put_contents<W: Sink>(
 // Puts the header and all that follows it.
 #[tactic(auto, unfolding(crate::specs::Normal::normal_exif))]
 fn put_block<W: Sink>(
-    pending: &mut Pending,
+    pending: &mut Pending<'_>,
     writer: &mut W,
     form: &NormalForm,
 ) -> Result<(), Failed>
@@ -233,7 +237,7 @@ fn put_block<W: Sink>(
 /// together, all of them stay in the buffer, and the writer isn't called. Allocates nothing. `Err`: a call of
 /// the writer failed, which ends the call; the writer has taken a prefix of the buffered bytes and the form.
 pub fn put_normal<W: Sink>(
-    pending: &mut Pending,
+    pending: &mut Pending<'_>,
     writer: &mut W,
     form: &NormalForm,
 ) -> Result<(), Failed>

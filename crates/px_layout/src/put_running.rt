@@ -91,7 +91,7 @@ fn encode_offsets(at: u32, strips: &Strips, start: usize, end: usize, into: &mut
 
 // Puts the byte offsets of strips, the first of which is at `at`.
 fn put_strip_offsets<W: Sink>(
-    pending: &mut Pending,
+    pending: &mut Pending<'_>,
     writer: &mut W,
     at: u32,
     strips: &Strips,
@@ -115,7 +115,7 @@ fn put_strip_offsets<W: Sink>(
 }
 
 fn put_any_offsets<W: Sink>(
-    pending: &mut Pending,
+    pending: &mut Pending<'_>,
     writer: &mut W,
     at: u32,
     strips: &Option<Strips>,
@@ -133,7 +133,7 @@ fn put_any_offsets<W: Sink>(
 
 // Puts the byte offsets of the thumbnail's strips.
 fn put_thumbnail_offsets<W: Sink>(
-    pending: &mut Pending,
+    pending: &mut Pending<'_>,
     writer: &mut W,
     form: &NormalForm,
 ) -> Result<(), Failed>
@@ -151,7 +151,7 @@ fn put_thumbnail_offsets<W: Sink>(
 // Puts the value of an entry.
 #[tactic(auto, unfolding(crate::specs::Laid::item_bytes))]
 pub(crate) fn put_item_value<W: Sink>(
-    pending: &mut Pending,
+    pending: &mut Pending<'_>,
     writer: &mut W,
     form: &NormalForm,
     item: Item,
@@ -209,7 +209,7 @@ fn field_with(tag: u16, value: &Value) -> [u8; 12]
 
 // Puts the entry of a field. `at` is the byte offset of its value, if that isn't in the entry.
 fn put_field_entry<W: Sink>(
-    pending: &mut Pending,
+    pending: &mut Pending<'_>,
     writer: &mut W,
     at: u32,
     tag: u16,
@@ -226,7 +226,7 @@ fn put_field_entry<W: Sink>(
 
 // Puts an entry whose value is in it, then the padding.
 fn put_near_entry<W: Sink>(
-    pending: &mut Pending,
+    pending: &mut Pending<'_>,
     writer: &mut W,
     form: &NormalForm,
     entry: &Entry,
@@ -247,7 +247,7 @@ fn put_near_entry<W: Sink>(
 
 // Puts an entry. `at` is the byte offset of its value, if that isn't in the entry.
 fn put_any_entry<W: Sink>(
-    pending: &mut Pending,
+    pending: &mut Pending<'_>,
     writer: &mut W,
     form: &NormalForm,
     at: u32,
@@ -268,7 +268,7 @@ fn put_any_entry<W: Sink>(
 
 // The same. Most entries are fields, so these are put without a check for the other kinds of entries.
 fn put_given_entry<W: Sink>(
-    pending: &mut Pending,
+    pending: &mut Pending<'_>,
     writer: &mut W,
     form: &NormalForm,
     at: u32,
@@ -302,7 +302,7 @@ fn next_at(at: u32, entry: &Entry) -> u32
 
 // Puts the entries of a directory.
 fn put_running_entries<W: Sink>(
-    pending: &mut Pending,
+    pending: &mut Pending<'_>,
     writer: &mut W,
     form: &NormalForm,
     dir: Dir,
@@ -325,7 +325,7 @@ fn put_running_entries<W: Sink>(
 
 // Puts the next offset of a directory: after the main directory comes the thumbnail directory.
 fn put_running_next<W: Sink>(
-    pending: &mut Pending,
+    pending: &mut Pending<'_>,
     writer: &mut W,
     form: &NormalForm,
     dir: Dir,
@@ -344,7 +344,7 @@ fn put_running_next<W: Sink>(
 
 // Puts the offset of the thumbnail directory; 0 if there is none.
 fn put_next_of_main<W: Sink>(
-    pending: &mut Pending,
+    pending: &mut Pending<'_>,
     writer: &mut W,
     form: &NormalForm,
 ) -> Result<(), Failed>
@@ -364,7 +364,7 @@ fn put_next_of_main<W: Sink>(
 
 // Puts the table of a directory.
 pub(crate) fn put_running_table<W: Sink>(
-    pending: &mut Pending,
+    pending: &mut Pending<'_>,
     writer: &mut W,
     form: &NormalForm,
     dir: Dir,
@@ -384,7 +384,7 @@ pub(crate) fn put_running_table<W: Sink>(
 
 // Puts the header, which the main directory follows directly.
 pub(crate) fn put_running_header<W: Sink>(
-    pending: &mut Pending,
+    pending: &mut Pending<'_>,
     writer: &mut W,
 ) -> Result<(), Failed>
     requires few { CanFail (W.failed writer.old) }

@@ -30,7 +30,7 @@ fn encode_lengths(order: Order, strips: &Strips, start: usize, end: usize, into:
 /// Puts the lengths of strips in bytes, each a LONG, into the output buffer. Allocates nothing. `Err`: a call
 /// of the writer failed, which ends the call.
 pub fn put_strip_lengths<W: Sink>(
-    pending: &mut Pending,
+    pending: &mut Pending<'_>,
     writer: &mut W,
     order: Order,
     strips: &Strips,

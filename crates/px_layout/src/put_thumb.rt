@@ -11,7 +11,11 @@ use crate::put::put_padding;
 use px_bytes::{Failed, Pending, Sink};
 use px_meaning::{Strips, Thumb};
 
-fn put_padded<W: Sink>(pending: &mut Pending, writer: &mut W, bytes: &[u8]) -> Result<(), Failed>
+fn put_padded<W: Sink>(
+    pending: &mut Pending<'_>,
+    writer: &mut W,
+    bytes: &[u8],
+) -> Result<(), Failed>
     requires { CanFail (W.failed writer.old) }
     ensures { AddsTo W.failed W.bytes_taken result writer.old writer.new pending.old pending.new (padded bytes.now) }
 {
@@ -19,7 +23,11 @@ fn put_padded<W: Sink>(pending: &mut Pending, writer: &mut W, bytes: &[u8]) -> R
     put_padding(pending, writer, bytes.len() as u64)
 }
 
-fn put_strips<W: Sink>(pending: &mut Pending, writer: &mut W, strips: &Strips) -> Result<(), Failed>
+fn put_strips<W: Sink>(
+    pending: &mut Pending<'_>,
+    writer: &mut W,
+    strips: &Strips,
+) -> Result<(), Failed>
     requires { CanFail (W.failed writer.old) }
     ensures { AddsTo W.failed W.bytes_taken result writer.old writer.new pending.old pending.new (flat_map
         (λ c. padded c.1) (strip_contents 0 strips.now)) }
@@ -34,7 +42,7 @@ fn put_strips<W: Sink>(pending: &mut Pending, writer: &mut W, strips: &Strips) -
 }
 
 fn put_all_strips<W: Sink>(
-    pending: &mut Pending,
+    pending: &mut Pending<'_>,
     writer: &mut W,
     strips: &Option<Strips>,
 ) -> Result<(), Failed>
@@ -49,7 +57,7 @@ fn put_all_strips<W: Sink>(
 }
 
 fn put_jpeg<W: Sink>(
-    pending: &mut Pending,
+    pending: &mut Pending<'_>,
     writer: &mut W,
     jpeg: Option<&[u8]>,
 ) -> Result<(), Failed>
@@ -63,7 +71,11 @@ fn put_jpeg<W: Sink>(
     }
 }
 
-fn put_parts<W: Sink>(pending: &mut Pending, writer: &mut W, thumb: &Thumb) -> Result<(), Failed>
+fn put_parts<W: Sink>(
+    pending: &mut Pending<'_>,
+    writer: &mut W,
+    thumb: &Thumb,
+) -> Result<(), Failed>
     requires { CanFail (W.failed writer.old) }
     ensures { AddsTo W.failed W.bytes_taken result writer.old writer.new pending.old pending.new (flat_map
         (λ c. padded c.1) (thumb_contents (Some (thumb_of thumb.now)))) }
@@ -75,7 +87,7 @@ fn put_parts<W: Sink>(pending: &mut Pending, writer: &mut W, thumb: &Thumb) -> R
 // Puts the JPEG and the strips, if there is a thumbnail.
 #[tactic(auto, unfolding(crate::specs::Laid::thumb_contents))]
 pub(crate) fn put_thumb<W: Sink>(
-    pending: &mut Pending,
+    pending: &mut Pending<'_>,
     writer: &mut W,
     thumb: &Option<Thumb>,
 ) -> Result<(), Failed>

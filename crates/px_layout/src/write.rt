@@ -8,7 +8,7 @@ ghost use Rattle.px_bytes.specs.Devices.{CanFail};
 
 use crate::form::NormalForm;
 use crate::put_form::put_normal;
-use px_bytes::{Pending, Sink, WriteRefusal};
+use px_bytes::{CAPACITY, Pending, Sink, WriteRefusal};
 use px_meaning::Meaning;
 use std::alloc::Global;
 
@@ -51,7 +51,8 @@ pub fn write_normal_in<W: Sink>(m: &Meaning, writer: &mut W) -> Result<u64, Writ
 {
     let form = NormalForm::new(m)?;
     let len = form.len();
-    let mut pending = Pending::new();
+    let mut space = [0; CAPACITY];
+    let mut pending = Pending::new(&mut space);
     put_normal(&mut pending, writer, &form)?;
     pending.send(writer)?;
     writer.flush_all()?;

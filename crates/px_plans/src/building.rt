@@ -19,7 +19,7 @@ ghost use Rattle.px_layout.specs.Plans.{Legal, place};
 use crate::layout::Layout;
 use crate::put_item::{place_of, put_item};
 use crate::put_table::{put_header, put_table};
-use px_bytes::{Failed, Growing, Memory, Pending, Refused, Sink};
+use px_bytes::{CAPACITY, Failed, Growing, Memory, Pending, Refused, Sink};
 use px_layout::{Chunk, Entries, Entry, Item, entries_in};
 use px_tree::{Dir, Strips, Thumb, needs_place};
 
@@ -44,7 +44,7 @@ pub(crate) enum Piece<'e, 'm, 'a> {
 }
 
 fn put_piece<W: Sink>(
-    pending: &mut Pending,
+    pending: &mut Pending<'_>,
     writer: &mut W,
     layout: &Layout,
     piece: Piece,
@@ -66,7 +66,8 @@ fn write_piece<W: Sink>(writer: &mut W, layout: &Layout, piece: Piece) -> Result
     ensures bytes { OnOk result (Appends (W.bytes_taken writer.old) (W.bytes_taken writer.new) (piece_bytes layout.now piece.entry)) }
     ensures count { Counts result (W.failed writer.old) (W.failed writer.new) }
 {
-    let mut pending = Pending::new();
+    let mut space = [0; CAPACITY];
+    let mut pending = Pending::new(&mut space);
     put_piece(&mut pending, writer, layout, piece)?;
     pending.send(writer)
 }

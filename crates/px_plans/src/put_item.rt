@@ -28,7 +28,7 @@ pub(crate) fn place_of(plan: &Plan, chunk: Chunk) -> u32
 
 // Adds the offset of a chunk in the layout's byte order.
 pub(crate) fn put_place<W: Sink>(
-    pending: &mut Pending,
+    pending: &mut Pending<'_>,
     writer: &mut W,
     layout: &Layout,
     chunk: Chunk,
@@ -42,7 +42,7 @@ pub(crate) fn put_place<W: Sink>(
 
 // Adds the offsets of the first strips.
 fn put_strip_offsets<W: Sink>(
-    pending: &mut Pending,
+    pending: &mut Pending<'_>,
     writer: &mut W,
     layout: &Layout,
     count: u32,
@@ -60,7 +60,7 @@ fn put_strip_offsets<W: Sink>(
 // Adds the value of an entry.
 #[tactic(auto, unfolding(px_layout::specs::Laid::item_bytes))]
 pub(crate) fn put_item<W: Sink>(
-    pending: &mut Pending,
+    pending: &mut Pending<'_>,
     writer: &mut W,
     layout: &Layout,
     item: Item,
@@ -85,7 +85,7 @@ pub(crate) fn put_item<W: Sink>(
 // Adds the last four bytes of an entry: its value and filler, or the value's offset.
 #[tactic(auto, unfolding(px_layout::specs::Laid::last_bytes))]
 fn put_last<W: Sink>(
-    pending: &mut Pending,
+    pending: &mut Pending<'_>,
     writer: &mut W,
     layout: &Layout,
     dir: Dir,
@@ -107,7 +107,7 @@ fn put_last<W: Sink>(
 
 // Adds an entry of a directory.
 pub(crate) fn put_entry<W: Sink>(
-    pending: &mut Pending,
+    pending: &mut Pending<'_>,
     writer: &mut W,
     layout: &Layout,
     dir: Dir,

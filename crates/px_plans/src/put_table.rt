@@ -11,7 +11,7 @@ use px_layout::{Chunk, Entries, put_filler, put_long, put_short};
 use px_tree::{Dir, magic_of};
 
 pub(crate) fn put_header<W: Sink>(
-    pending: &mut Pending,
+    pending: &mut Pending<'_>,
     writer: &mut W,
     layout: &Layout,
 ) -> Result<(), Failed>
@@ -24,7 +24,7 @@ pub(crate) fn put_header<W: Sink>(
 }
 
 fn put_entries<W: Sink>(
-    pending: &mut Pending,
+    pending: &mut Pending<'_>,
     writer: &mut W,
     layout: &Layout,
     dir: Dir,
@@ -43,7 +43,7 @@ fn put_entries<W: Sink>(
 
 // Adds the offset of the thumbnail directory, or 0 if there is none.
 fn put_next_of_main<W: Sink>(
-    pending: &mut Pending,
+    pending: &mut Pending<'_>,
     writer: &mut W,
     layout: &Layout,
 ) -> Result<(), Failed>
@@ -58,7 +58,7 @@ fn put_next_of_main<W: Sink>(
 
 // Adds the offset of the next directory.
 fn put_next<W: Sink>(
-    pending: &mut Pending,
+    pending: &mut Pending<'_>,
     writer: &mut W,
     layout: &Layout,
     dir: Dir,
@@ -75,7 +75,7 @@ fn put_next<W: Sink>(
 
 // Adds the table of a directory with fewer than 65,536 entries.
 pub(crate) fn put_table<W: Sink>(
-    pending: &mut Pending,
+    pending: &mut Pending<'_>,
     writer: &mut W,
     layout: &Layout,
     dir: Dir,

@@ -1,34 +1,35 @@
 -- Parts added one after another, by calls that may fail.
 use Rattle.std.proofs.Common.{◌≡◌, ◌≤◌, ◌+◌, ◌++◌, ◌∙◌, ℕ, List, [], ◌∷◌, length, take, Option, Result, sym, ap, subst, append_assoc}
-use Rattle.std.proofs.Common.{append-nil}
 use Rattle.std.specs.List.{flat_map}
 use Rattle.std.proofs.lemmas.List.{take_all}
 use Rattle.std.proofs.KnownBytes.{Appends-nil}
 use Rattle.px_bytes.specs.Devices.{AppendsPrefix, CanFail, Counts}
-use Rattle.px_bytes.specs.Waiting.{Owes, Puts}
+use Rattle.px_bytes.specs.Waiting.{Held, ◌⊕◌, Owes, Puts}
 use Rattle.px_bytes.specs.lemmas.WriteLaws.{prefix_first}
-use Rattle.px_bytes.specs.lemmas.WaitingLaws.{owes_more, owes_stop}
+use Rattle.px_bytes.specs.lemmas.WaitingLaws.{owes_more, owes_stop, held_append, held_nil}
 
 -- one part more
-pub owes_append : (a b c : Option (List ℕ)) (h k m xs ys : List ℕ) → Owes a b k (h ++ xs) → Owes b c m (k ++ ys)
-    → Owes a c m (h ++ (xs ++ ys))
-owes_append a b c h k m xs ys p q = subst (Owes a c m) (append_assoc h xs ys) (owes_more a b c k m (h ++ xs) ys p q)
+pub owes_append : (a b c : Option (List ℕ)) (h k m : Held) (xs ys : List ℕ) → Owes a b k (h ⊕ xs) → Owes b c m (k ⊕ ys)
+    → Owes a c m (h ⊕ (xs ++ ys))
+owes_append a b c h k m xs ys p q = subst (Owes a c m) (held_append h xs ys) (owes_more a b c k m (h ⊕ xs) ys p q)
 
 -- the last part failed
-pub owes_prefix : (a b c : Option (List ℕ)) (h k xs ys : List ℕ) → Owes a b k (h ++ xs) → AppendsPrefix b c (k ++ ys)
-    → AppendsPrefix a c (h ++ (xs ++ ys))
-owes_prefix a b c h k xs ys p q = subst (AppendsPrefix a c) (append_assoc h xs ys) (owes_stop a b c k (h ++ xs) ys p q)
+pub owes_prefix : (a b c : Option (List ℕ)) (h k : Held) (xs ys : List ℕ) → Owes a b k (h ⊕ xs) → AppendsPrefix b c (k.bytes ++ ys)
+    → AppendsPrefix a c (h.bytes ++ (xs ++ ys))
+owes_prefix a b c h k xs ys p q = subst (AppendsPrefix a c) (append_assoc h.bytes xs ys) (owes_stop a b c k (h ⊕ xs) ys p q)
 
 -- ---- the same bytes
 
-pub puts_as : {A E : Type 0} (r : Result A E) (a b : Option (List ℕ)) (h k xs ys : List ℕ) → xs ≡ ys → Puts r a b h k xs → Puts r a b h k ys
+pub puts_as : {A E : Type 0} (r : Result A E) (a b : Option (List ℕ)) (h k : Held) (xs ys : List ℕ) → xs ≡ ys → Puts r a b h k xs
+    → Puts r a b h k ys
 puts_as r a b h k xs ys e p = subst (λ (z : List ℕ). Puts r a b h k z) e p
 
-pub prefix_as : (a b : Option (List ℕ)) (h xs ys : List ℕ) → xs ≡ ys → AppendsPrefix a b (h ++ xs) → AppendsPrefix a b (h ++ ys)
-prefix_as a b h xs ys e p = subst (λ (z : List ℕ). AppendsPrefix a b (h ++ z)) e p
+pub prefix_as : (a b : Option (List ℕ)) (h : Held) (xs ys : List ℕ) → xs ≡ ys → AppendsPrefix a b (h.bytes ++ xs)
+    → AppendsPrefix a b (h.bytes ++ ys)
+prefix_as a b h xs ys e p = subst (λ (z : List ℕ). AppendsPrefix a b (h.bytes ++ z)) e p
 
-pub owes_as : (a b : Option (List ℕ)) (h k xs ys : List ℕ) → xs ≡ ys → Owes a b k (h ++ xs) → Owes a b k (h ++ ys)
-owes_as a b h k xs ys e p = subst (λ (z : List ℕ). Owes a b k (h ++ z)) e p
+pub owes_as : (a b : Option (List ℕ)) (h k : Held) (xs ys : List ℕ) → xs ≡ ys → Owes a b k (h ⊕ xs) → Owes a b k (h ⊕ ys)
+owes_as a b h k xs ys e p = subst (λ (z : List ℕ). Owes a b k (h ⊕ z)) e p
 
 -- ---- the count of failures, if none was counted so far
 
@@ -44,30 +45,31 @@ counts_from_eq r old now new e h = subst (λ (n : ℕ). Counts r n new) e h
 -- ---- a walk: the parts of the elements that are left make the rest
 
 -- the elements that are left begin with x
-module _ {X : Type 0} (f : X → List ℕ) (xs left : List X) (x : X) (step : xs ≡ x ∷ left) (all : List ℕ) where
-  rest_next : (out : List ℕ) → out ++ flat_map f xs ≡ all → out ++ f x ++ flat_map f left ≡ all
-  rest_next out e = append_assoc out (f x) (flat_map f left) ∙ ap (λ (ys : List X). out ++ flat_map f ys) (sym step) ∙ e
+module _ {X : Type 0} (f : X → List ℕ) (xs left : List X) (x : X) (step : xs ≡ x ∷ left) (all : Held) where
+  rest_next : (out : Held) → out ⊕ flat_map f xs ≡ all → out ⊕ f x ⊕ flat_map f left ≡ all
+  rest_next out e = held_append out (f x) (flat_map f left) ∙ ap (λ (ys : List X). out ⊕ flat_map f ys) (sym step) ∙ e
 
   -- x was put
-  pub walk_next : (a b c : Option (List ℕ)) (k m out : List ℕ) → Owes a b k out → out ++ flat_map f xs ≡ all → Owes b c m (k ++ f x)
-      → (now : List ℕ) × Owes a c m now × (now ++ flat_map f left ≡ all)
-  walk_next a b c k m out p e q = (out ++ f x, owes_more a b c k m out (f x) p q, rest_next out e)
+  pub walk_next : (a b c : Option (List ℕ)) (k m out : Held) → Owes a b k out → out ⊕ flat_map f xs ≡ all → Owes b c m (k ⊕ f x)
+      → (now : Held) × Owes a c m now × (now ⊕ flat_map f left ≡ all)
+  walk_next a b c k m out p e q = (out ⊕ f x, owes_more a b c k m out (f x) p q, rest_next out e)
 
   -- the put of x failed
-  pub walk_stop : (a b c : Option (List ℕ)) (k out : List ℕ) → Owes a b k out → out ++ flat_map f xs ≡ all → AppendsPrefix b c (k ++ f x)
-      → AppendsPrefix a c all
+  pub walk_stop : (a b c : Option (List ℕ)) (k out : Held) → Owes a b k out → out ⊕ flat_map f xs ≡ all → AppendsPrefix b c (k.bytes ++ f x)
+      → AppendsPrefix a c all.bytes
   walk_stop a b c k out p e q =
-      subst (AppendsPrefix a c) (rest_next out e) (prefix_first a c (out ++ f x) (flat_map f left) (owes_stop a b c k out (f x) p q))
+      subst (AppendsPrefix a c) (ap (λ (z : Held). z.bytes) (rest_next out e))
+      (prefix_first a c (out.bytes ++ f x) (flat_map f left) (owes_stop a b c k out (f x) p q))
 
 -- none is left
-pub walk_done : {X : Type 0} (f : X → List ℕ) (xs : List X) (out all : List ℕ) → xs ≡ [] → out ++ flat_map f xs ≡ all → out ≡ all
-walk_done {X} f xs out all none e = sym (append-nil out) ∙ ap (λ (ys : List X). out ++ flat_map f ys) (sym none) ∙ e
+pub walk_done : {X : Type 0} (f : X → List ℕ) (xs : List X) (out all : Held) → xs ≡ [] → out ⊕ flat_map f xs ≡ all → out ≡ all
+walk_done {X} f xs out all none e = held_nil out ∙ ap (λ (ys : List X). out ⊕ flat_map f ys) (sym none) ∙ e
 
 -- nothing was put
-pub none_yet : (a : Option (List ℕ)) (h xs : List ℕ) → xs ≡ [] → Owes a a h (h ++ xs)
-none_yet a h xs e = ([], Appends-nil a, sym (ap (λ (z : List ℕ). h ++ z) e ∙ append-nil h))
+pub none_yet : (a : Option (List ℕ)) (h : Held) (xs : List ℕ) → xs ≡ [] → Owes a a h (h ⊕ xs)
+none_yet a h xs e = ([], Appends-nil a, held_nil h ∙ ap (λ (z : List ℕ). h ⊕ z) (sym e))
 
 -- all was added, once every element was
-pub all_put : {X : Type 0} (f : X → List ℕ) (xs : List X) (i : ℕ) → length xs ≤ i → (a b : Option (List ℕ)) (h k : List ℕ)
-    → Owes a b k (h ++ flat_map f (take i xs)) → Owes a b k (h ++ flat_map f xs)
-all_put {X} f xs i most a b h k p = subst (λ (ys : List X). Owes a b k (h ++ flat_map f ys)) (take_all i xs most) p
+pub all_put : {X : Type 0} (f : X → List ℕ) (xs : List X) (i : ℕ) → length xs ≤ i → (a b : Option (List ℕ)) (h k : Held)
+    → Owes a b k (h ⊕ flat_map f (take i xs)) → Owes a b k (h ⊕ flat_map f xs)
+all_put {X} f xs i most a b h k p = subst (λ (ys : List X). Owes a b k (h ⊕ flat_map f ys)) (take_all i xs most) p

@@ -24,7 +24,7 @@ fn is_plain(byte: u8) -> bool
     0x20 <= byte && byte <= 0x7E && byte != 0x5C
 }
 
-fn put_byte<W: Sink>(pending: &mut Pending, writer: &mut W, byte: u8) -> Result<(), Failed>
+fn put_byte<W: Sink>(pending: &mut Pending<'_>, writer: &mut W, byte: u8) -> Result<(), Failed>
     requires { CanFail (W.failed writer.old) }
     ensures { Adds result (over W.failed W.bytes_taken writer.old writer.new) pending.old pending.new (escaped_byte byte) }
 {
@@ -36,7 +36,11 @@ fn put_byte<W: Sink>(pending: &mut Pending, writer: &mut W, byte: u8) -> Result<
 }
 
 // Adds bytes to the output buffer and escapes all that are not plain.
-fn put_escaped<W: Sink>(pending: &mut Pending, writer: &mut W, bytes: &[u8]) -> Result<(), Failed>
+fn put_escaped<W: Sink>(
+    pending: &mut Pending<'_>,
+    writer: &mut W,
+    bytes: &[u8],
+) -> Result<(), Failed>
     requires { CanFail (W.failed writer.old) }
     ensures { Adds result (over W.failed W.bytes_taken writer.old writer.new) pending.old pending.new (escaped bytes.now) }
 {
@@ -47,7 +51,11 @@ fn put_escaped<W: Sink>(pending: &mut Pending, writer: &mut W, bytes: &[u8]) -> 
 }
 
 #[tactic(auto, unfolding(crate::specs::Captions::caption_line))]
-fn put_line<W: Sink>(pending: &mut Pending, writer: &mut W, caption: Caption) -> Result<(), Failed>
+fn put_line<W: Sink>(
+    pending: &mut Pending<'_>,
+    writer: &mut W,
+    caption: Caption,
+) -> Result<(), Failed>
     requires { CanFail (W.failed writer.old) }
     ensures { Adds result (over W.failed W.bytes_taken writer.old writer.new) pending.old pending.new
         (caption_line (caption_view caption.entry)) }
@@ -58,7 +66,7 @@ fn put_line<W: Sink>(pending: &mut Pending, writer: &mut W, caption: Caption) ->
 }
 
 // Adds the line of a DataSet if it has a label.
-fn put_item<W: Sink>(pending: &mut Pending, writer: &mut W, item: &Item) -> Result<(), Failed>
+fn put_item<W: Sink>(pending: &mut Pending<'_>, writer: &mut W, item: &Item) -> Result<(), Failed>
     requires { CanFail (W.failed writer.old) }
     ensures { Adds result (over W.failed W.bytes_taken writer.old writer.new) pending.old pending.new
         (caption_lines (filter_map labelled (item_view item.now ∷ []))) }
@@ -77,7 +85,11 @@ fn put_item<W: Sink>(pending: &mut Pending, writer: &mut W, item: &Item) -> Resu
 }
 
 // Adds the lines of a group's DataSets that have a label.
-fn put_group<W: Sink>(pending: &mut Pending, writer: &mut W, items: &[Item]) -> Result<(), Failed>
+fn put_group<W: Sink>(
+    pending: &mut Pending<'_>,
+    writer: &mut W,
+    items: &[Item],
+) -> Result<(), Failed>
     requires { CanFail (W.failed writer.old) }
     ensures { Adds result (over W.failed W.bytes_taken writer.old writer.new) pending.old pending.new
         (caption_lines (filter_map labelled (map item_view items.now))) }
@@ -89,7 +101,7 @@ fn put_group<W: Sink>(pending: &mut Pending, writer: &mut W, items: &[Item]) -> 
 }
 
 // Adds the lines of a record's captions.
-fn put_groups<W: Sink>(pending: &mut Pending, writer: &mut W, iim: &Iim) -> Result<(), Failed>
+fn put_groups<W: Sink>(pending: &mut Pending<'_>, writer: &mut W, iim: &Iim) -> Result<(), Failed>
     requires { CanFail (W.failed writer.old) }
     ensures { Adds result (over W.failed W.bytes_taken writer.old writer.new) pending.old pending.new
         (caption_lines (iim_captions iim.now)) }
@@ -112,7 +124,7 @@ fn charset_line(declared: bool) -> &'static [u8]
 }
 
 // Adds the lines of a record.
-fn put_iim<W: Sink>(pending: &mut Pending, writer: &mut W, iim: &Iim) -> Result<(), Failed>
+fn put_iim<W: Sink>(pending: &mut Pending<'_>, writer: &mut W, iim: &Iim) -> Result<(), Failed>
     requires { CanFail (W.failed writer.old) }
     ensures { Adds result (over W.failed W.bytes_taken writer.old writer.new) pending.old pending.new (iim_lines iim.now) }
 {
@@ -122,7 +134,7 @@ fn put_iim<W: Sink>(pending: &mut Pending, writer: &mut W, iim: &Iim) -> Result<
 
 // Adds the lines of the record in a main directory.
 fn put_record<W: Sink>(
-    pending: &mut Pending,
+    pending: &mut Pending<'_>,
     writer: &mut W,
     iim: &Option<Iim>,
 ) -> Result<(), Failed>
@@ -137,7 +149,7 @@ fn put_record<W: Sink>(
 
 // Adds the line of the field with this tag if it is a text.
 fn put_text<W: Sink>(
-    pending: &mut Pending,
+    pending: &mut Pending<'_>,
     writer: &mut W,
     fields: &Fields,
     tag: u16,
@@ -157,7 +169,11 @@ fn put_text<W: Sink>(
 }
 
 // Adds the lines of a main directory.
-fn put_texts<W: Sink>(pending: &mut Pending, writer: &mut W, fields: &Fields) -> Result<(), Failed>
+fn put_texts<W: Sink>(
+    pending: &mut Pending<'_>,
+    writer: &mut W,
+    fields: &Fields,
+) -> Result<(), Failed>
     requires { CanFail (W.failed writer.old) }
     ensures { Adds result (over W.failed W.bytes_taken writer.old writer.new) pending.old pending.new
         (caption_lines (exif_captions fields.now)) }
@@ -174,7 +190,7 @@ fn put_texts<W: Sink>(pending: &mut Pending, writer: &mut W, fields: &Fields) ->
 /// nothing. It ends at the first call that fails: the writer has then taken a prefix of the buffered bytes
 /// and of these lines after them.
 pub fn put_exif_captions<W: Sink>(
-    pending: &mut Pending,
+    pending: &mut Pending<'_>,
     writer: &mut W,
     meaning: &Meaning,
 ) -> Result<(), Failed>
@@ -189,7 +205,7 @@ pub fn put_exif_captions<W: Sink>(
 
 /// Adds the captions of a record, like `put_exif_captions`.
 pub fn put_iim_captions<W: Sink>(
-    pending: &mut Pending,
+    pending: &mut Pending<'_>,
     writer: &mut W,
     iim: &Iim,
 ) -> Result<(), Failed>

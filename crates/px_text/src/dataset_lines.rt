@@ -12,7 +12,7 @@ use px_iim::{Iim, Item};
 
 #[tactic(auto, unfolding(crate::specs::Listing::dataset_line))]
 fn put_dataset<W: Sink>(
-    pending: &mut Pending,
+    pending: &mut Pending<'_>,
     writer: &mut W,
     rec: u8,
     item: &Item,
@@ -27,7 +27,7 @@ fn put_dataset<W: Sink>(
 }
 
 fn put_group<W: Sink>(
-    pending: &mut Pending,
+    pending: &mut Pending<'_>,
     writer: &mut W,
     rec: u8,
     items: &[Item],
@@ -44,7 +44,7 @@ fn put_group<W: Sink>(
 
 // Adds a line for each DataSet: the groups in ascending order, each list in its order.
 pub(crate) fn put_datasets<W: Sink>(
-    pending: &mut Pending,
+    pending: &mut Pending<'_>,
     writer: &mut W,
     iim: &Iim,
 ) -> Result<(), Failed>

@@ -46,7 +46,7 @@ fn type_word(kind: Kind) -> &'static [u8]
 }
 
 // Adds a number of two bytes in hexadecimal, most significant byte first.
-fn put_digits16<W: Sink>(pending: &mut Pending, writer: &mut W, n: u16) -> Result<(), Failed>
+fn put_digits16<W: Sink>(pending: &mut Pending<'_>, writer: &mut W, n: u16) -> Result<(), Failed>
     requires { CanFail (W.failed writer.old) }
     ensures { Adds result (over W.failed W.bytes_taken writer.old writer.new) pending.old pending.new
         (encode_lower (spelling Most 2 n)) }
@@ -57,7 +57,7 @@ fn put_digits16<W: Sink>(pending: &mut Pending, writer: &mut W, n: u16) -> Resul
 }
 
 // Adds a number of four bytes in the same way.
-fn put_digits32<W: Sink>(pending: &mut Pending, writer: &mut W, n: u32) -> Result<(), Failed>
+fn put_digits32<W: Sink>(pending: &mut Pending<'_>, writer: &mut W, n: u32) -> Result<(), Failed>
     requires { CanFail (W.failed writer.old) }
     ensures { Adds result (over W.failed W.bytes_taken writer.old writer.new) pending.old pending.new
         (encode_lower (spelling Most 4 n)) }
@@ -68,7 +68,7 @@ fn put_digits32<W: Sink>(pending: &mut Pending, writer: &mut W, n: u32) -> Resul
 }
 
 // Adds a number of eight bytes in the same way.
-fn put_digits64<W: Sink>(pending: &mut Pending, writer: &mut W, n: u64) -> Result<(), Failed>
+fn put_digits64<W: Sink>(pending: &mut Pending<'_>, writer: &mut W, n: u64) -> Result<(), Failed>
     requires { CanFail (W.failed writer.old) }
     ensures { Adds result (over W.failed W.bytes_taken writer.old writer.new) pending.old pending.new
         (encode_lower (spelling Most 8 n)) }
@@ -79,7 +79,7 @@ fn put_digits64<W: Sink>(pending: &mut Pending, writer: &mut W, n: u64) -> Resul
 }
 
 fn put_fraction<W: Sink, I: Integer>(
-    pending: &mut Pending,
+    pending: &mut Pending<'_>,
     writer: &mut W,
     numerator: I,
     denominator: I,
@@ -93,7 +93,7 @@ fn put_fraction<W: Sink, I: Integer>(
 }
 
 fn put_element<W: Sink>(
-    pending: &mut Pending,
+    pending: &mut Pending<'_>,
     writer: &mut W,
     element: Element,
 ) -> Result<(), Failed>
@@ -114,7 +114,11 @@ fn put_element<W: Sink>(
 }
 
 // Adds a space and an element.
-fn put_apart<W: Sink>(pending: &mut Pending, writer: &mut W, element: Element) -> Result<(), Failed>
+fn put_apart<W: Sink>(
+    pending: &mut Pending<'_>,
+    writer: &mut W,
+    element: Element,
+) -> Result<(), Failed>
     requires { CanFail (W.failed writer.old) }
     ensures { Adds result (over W.failed W.bytes_taken writer.old writer.new) pending.old pending.new
         (codes " " ++ element_text element) }
@@ -124,7 +128,11 @@ fn put_apart<W: Sink>(pending: &mut Pending, writer: &mut W, element: Element) -
 }
 
 // Adds a space and the element, for each element.
-fn put_elements<W: Sink>(pending: &mut Pending, writer: &mut W, value: &Value) -> Result<(), Failed>
+fn put_elements<W: Sink>(
+    pending: &mut Pending<'_>,
+    writer: &mut W,
+    value: &Value,
+) -> Result<(), Failed>
     requires { CanFail (W.failed writer.old) }
     ensures { Adds result (over W.failed W.bytes_taken writer.old writer.new) pending.old pending.new
         (flat_map (λ e. codes " " ++ element_text e) value.now.elements) }
@@ -136,7 +144,11 @@ fn put_elements<W: Sink>(pending: &mut Pending, writer: &mut W, value: &Value) -
 }
 
 // Adds a space and the elements, if there are any.
-fn put_value<W: Sink>(pending: &mut Pending, writer: &mut W, value: &Value) -> Result<(), Failed>
+fn put_value<W: Sink>(
+    pending: &mut Pending<'_>,
+    writer: &mut W,
+    value: &Value,
+) -> Result<(), Failed>
     requires { CanFail (W.failed writer.old) }
     ensures { Adds result (over W.failed W.bytes_taken writer.old writer.new) pending.old pending.new
         (shown_elements value.now.kind value.now.elements) }
@@ -149,7 +161,7 @@ fn put_value<W: Sink>(pending: &mut Pending, writer: &mut W, value: &Value) -> R
 
 // Adds the part of the line before the elements.
 fn put_head<W: Sink>(
-    pending: &mut Pending,
+    pending: &mut Pending<'_>,
     writer: &mut W,
     tag: u16,
     value: &Value,
@@ -166,7 +178,7 @@ fn put_head<W: Sink>(
 
 #[tactic(auto, unfolding(crate::specs::Listing::field_line))]
 fn put_field<W: Sink>(
-    pending: &mut Pending,
+    pending: &mut Pending<'_>,
     writer: &mut W,
     tag: u16,
     value: &Value,
@@ -182,7 +194,7 @@ fn put_field<W: Sink>(
 
 // Adds a line for each field, by ascending tag.
 pub(crate) fn put_fields<W: Sink>(
-    pending: &mut Pending,
+    pending: &mut Pending<'_>,
     writer: &mut W,
     fields: &Fields,
 ) -> Result<(), Failed>

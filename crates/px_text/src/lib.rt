@@ -6,7 +6,8 @@
 //! ```
 //! let iim = read_iim(rt.alloc(), b"\x1c\x02\x78\x00\x03abc")?;
 //! let mut writer = Watched::new(Vec::new(rt.alloc()));
-//! let mut pending = Pending::new();
+//! let mut space = [0; CAPACITY];
+//! let mut pending = Pending::new(&mut space);
 //! put_iim_listing(&mut pending, &mut writer, &iim)?; // iim, 2:120 3: 616263
 //! put_iim_captions(&mut pending, &mut writer, &iim)?; // iim, charset: not declared, caption: abc
 //! pending.send(&mut writer)?;

@@ -16,7 +16,7 @@ use px_meaning::{ExifPart, Fields, Meaning, Strips, Thumb};
 
 // Adds the record in the main directory: the number of its DataSets and the DataSets.
 fn put_record<W: Sink>(
-    pending: &mut Pending,
+    pending: &mut Pending<'_>,
     writer: &mut W,
     iim: &Option<Iim>,
 ) -> Result<(), Failed>
@@ -32,7 +32,7 @@ fn put_record<W: Sink>(
 
 // Adds a directory's name and its fields.
 fn put_titled<W: Sink>(
-    pending: &mut Pending,
+    pending: &mut Pending<'_>,
     writer: &mut W,
     name: &[u8],
     fields: &Fields,
@@ -47,7 +47,7 @@ fn put_titled<W: Sink>(
 
 // Adds a directory that has only fields.
 fn put_directory<W: Sink>(
-    pending: &mut Pending,
+    pending: &mut Pending<'_>,
     writer: &mut W,
     name: &[u8],
     fields: &Option<Fields>,
@@ -63,7 +63,7 @@ fn put_directory<W: Sink>(
 }
 
 fn put_exif<W: Sink>(
-    pending: &mut Pending,
+    pending: &mut Pending<'_>,
     writer: &mut W,
     exif: &Option<ExifPart>,
 ) -> Result<(), Failed>
@@ -80,7 +80,7 @@ fn put_exif<W: Sink>(
 
 // Adds a word and a part of the thumbnail.
 fn put_part<W: Sink>(
-    pending: &mut Pending,
+    pending: &mut Pending<'_>,
     writer: &mut W,
     word: &[u8],
     bytes: &[u8],
@@ -94,7 +94,7 @@ fn put_part<W: Sink>(
 }
 
 fn put_jpeg<W: Sink>(
-    pending: &mut Pending,
+    pending: &mut Pending<'_>,
     writer: &mut W,
     jpeg: Option<&[u8]>,
 ) -> Result<(), Failed>
@@ -109,7 +109,7 @@ fn put_jpeg<W: Sink>(
 }
 
 fn put_each_strip<W: Sink>(
-    pending: &mut Pending,
+    pending: &mut Pending<'_>,
     writer: &mut W,
     strips: &Strips,
 ) -> Result<(), Failed>
@@ -125,7 +125,7 @@ fn put_each_strip<W: Sink>(
 
 // Adds the number of strips and the strips.
 fn put_strips<W: Sink>(
-    pending: &mut Pending,
+    pending: &mut Pending<'_>,
     writer: &mut W,
     strips: &Option<Strips>,
 ) -> Result<(), Failed>
@@ -140,7 +140,7 @@ fn put_strips<W: Sink>(
 }
 
 fn put_thumb<W: Sink>(
-    pending: &mut Pending,
+    pending: &mut Pending<'_>,
     writer: &mut W,
     thumb: &Option<Thumb>,
 ) -> Result<(), Failed>
@@ -158,7 +158,7 @@ fn put_thumb<W: Sink>(
 
 // Adds the first line, and the main directory with its record.
 fn put_main<W: Sink>(
-    pending: &mut Pending,
+    pending: &mut Pending<'_>,
     writer: &mut W,
     fields: &Fields,
     iim: &Option<Iim>,
@@ -176,7 +176,7 @@ fn put_main<W: Sink>(
 /// buffered bytes and of this listing after them.
 #[tactic(auto, unfolding(crate::specs::Listing::exif_listing))]
 pub fn put_exif_listing<W: Sink>(
-    pending: &mut Pending,
+    pending: &mut Pending<'_>,
     writer: &mut W,
     meaning: &Meaning,
 ) -> Result<(), Failed>
@@ -193,7 +193,7 @@ pub fn put_exif_listing<W: Sink>(
 /// Adds the listing of a record, a line for each DataSet, like `put_exif_listing`.
 #[tactic(auto, unfolding(crate::specs::Listing::iim_listing))]
 pub fn put_iim_listing<W: Sink>(
-    pending: &mut Pending,
+    pending: &mut Pending<'_>,
     writer: &mut W,
     iim: &Iim,
 ) -> Result<(), Failed>

@@ -14,7 +14,7 @@ const PIECE: usize = 64;
 
 // Adds a number in decimal.
 pub(crate) fn put_decimal<W: Sink, I: Integer>(
-    pending: &mut Pending,
+    pending: &mut Pending<'_>,
     writer: &mut W,
     n: I,
 ) -> Result<(), Failed>
@@ -27,7 +27,7 @@ pub(crate) fn put_decimal<W: Sink, I: Integer>(
 
 // Adds a number in decimal and a word after it.
 pub(crate) fn put_ended<W: Sink, I: Integer>(
-    pending: &mut Pending,
+    pending: &mut Pending<'_>,
     writer: &mut W,
     n: I,
     after: &[u8],
@@ -41,7 +41,7 @@ pub(crate) fn put_ended<W: Sink, I: Integer>(
 
 // Adds a number in decimal between two words.
 pub(crate) fn put_number<W: Sink, I: Integer>(
-    pending: &mut Pending,
+    pending: &mut Pending<'_>,
     writer: &mut W,
     before: &[u8],
     n: I,
@@ -56,7 +56,7 @@ pub(crate) fn put_number<W: Sink, I: Integer>(
 }
 
 // Adds a few bytes in hexadecimal.
-fn put_piece<W: Sink>(pending: &mut Pending, writer: &mut W, piece: &[u8]) -> Result<(), Failed>
+fn put_piece<W: Sink>(pending: &mut Pending<'_>, writer: &mut W, piece: &[u8]) -> Result<(), Failed>
     requires few { CanFail (W.failed writer.old) }
     requires short { length piece.now ≤ 64 }
     ensures { Adds result (over W.failed W.bytes_taken writer.old writer.new) pending.old pending.new (encode_lower piece.now) }
@@ -71,7 +71,7 @@ fn put_piece<W: Sink>(pending: &mut Pending, writer: &mut W, piece: &[u8]) -> Re
 
 // Adds bytes in hexadecimal.
 pub(crate) fn put_hex<W: Sink>(
-    pending: &mut Pending,
+    pending: &mut Pending<'_>,
     writer: &mut W,
     bytes: &[u8],
 ) -> Result<(), Failed>
@@ -89,7 +89,7 @@ pub(crate) fn put_hex<W: Sink>(
 
 // Adds a space and bytes in hexadecimal, if there are any.
 pub(crate) fn put_shown<W: Sink>(
-    pending: &mut Pending,
+    pending: &mut Pending<'_>,
     writer: &mut W,
     bytes: &[u8],
 ) -> Result<(), Failed>
@@ -106,7 +106,7 @@ pub(crate) fn put_shown<W: Sink>(
 // Adds the number of bytes and the bytes, up to the end of the line.
 #[tactic(auto, unfolding(crate::specs::Words::sized_bytes))]
 pub(crate) fn put_sized<W: Sink>(
-    pending: &mut Pending,
+    pending: &mut Pending<'_>,
     writer: &mut W,
     bytes: &[u8],
 ) -> Result<(), Failed>

@@ -7,6 +7,7 @@ use Rattle.std.proofs.lemmas.Grind.{flat_map-append}
 use Rattle.std.proofs.lemmas.List.{take-take, take_at, take-append-drop}
 use Rattle.std.proofs.lemmas.Option.{slice_get-map, slice_get-get_or}
 use Rattle.px_bytes.specs.Parts.{limit}
+use Rattle.px_bytes.specs.Waiting.{Held}
 use Rattle.px_bytes.specs.lemmas.WaitingLaws.{HasPut, FailsPut, parts_more, put_both, fails_first, fails_second}
 use Rattle.px_iim.specs.Writing.{most, within as within_most}
 use Rattle.px_iim.specs.calls.Heads.{Grows, normal_head, AreShort}
@@ -94,9 +95,10 @@ module _ (i left : Record) (x : Group) (step : i ≡ x ∷ left) (all : List ℕ
   rest_next : (out : List ℕ) → out ++ normal_iim i ≡ all → out ++ normal_group x ++ normal_iim left ≡ all
   rest_next out e = append_assoc out (normal_group x) (normal_iim left) ∙ ap (λ (k : Record). out ++ normal_iim k) (sym step) ∙ e
 
-  module _ {W : Type 0} (taken : W → Option (List ℕ)) (a b c : W) (h k : List ℕ) where
+  module _ {W : Type 0} (taken : W → Option (List ℕ)) (a b c : W) (h k : Held) where
     -- x was put
-    pub put_next : (m parts : List ℕ) → HasPut taken a b h k parts → parts ++ normal_iim i ≡ all → HasPut taken b c k m (normal_group x)
+    pub put_next : (m : Held) (parts : List ℕ) → HasPut taken a b h k parts → parts ++ normal_iim i ≡ all
+        → HasPut taken b c k m (normal_group x)
         → (now : List ℕ) × HasPut taken a c h m now × (now ++ normal_iim left ≡ all)
     put_next m parts p e q = (parts ++ normal_group x, put_both taken a b c h k m parts (normal_group x) p q, rest_next parts e)
 

@@ -1,4 +1,4 @@
-use Rattle.std.proofs.Common.{ℕ, List, length, ◌+◌, ap, arith}
+use Rattle.std.proofs.Common.{ℕ, List, length, ap, arith}
 use Rattle.px_engine.proofs.Judged.{read_as}
 use Rattle.px_engine.proofs.Ended.{kind_of_checks}
 use Rattle.px_engine.specs.Asking.{block_request}

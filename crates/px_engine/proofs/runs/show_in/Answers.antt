@@ -1,4 +1,4 @@
-use Rattle.std.proofs.Common.{◌∙◌, ℕ, List, length, ◌+◌, ap, arith}
+use Rattle.std.proofs.Common.{◌∙◌, ℕ, List, length, ap, arith}
 use Rattle.std.proofs.lemmas.Result.{err_from_is_err_and}
 use Rattle.px_engine.specs.Prints.{listing}
 use Rattle.px_engine.specs.calls.Seen.{said_of}

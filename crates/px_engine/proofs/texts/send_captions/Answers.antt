@@ -12,13 +12,13 @@ returns-in_err-put_captions g c =
     let p = err_from_is_err_and c.from_residual.result c.from_residual.ensures.1 in
     rw p.1 (
       from_none (AppendsPrefix (g.W.Sink.bytes_taken c.args.writer.now) (g.W.Sink.bytes_taken c.put_captions.new.writer))
-          c.new-pending.result (caption_text (said_of c.args.said.now)) c.new-pending.ensures c.in_err-put_captions.ensures.0,
+          c.new-pending.result.bytes (caption_text (said_of c.args.said.now)) c.new-pending.ensures.none c.in_err-put_captions.ensures.0,
       search rules,
     )
 
 pub returns : goal.returns
 returns g c = (
   owes_written c.send_and_flush.result _ _ _ c.new-pending.result c.put_captions.new.pending (caption_text (said_of c.args.said.now))
-      c.new-pending.ensures c.in_ok-put_captions.ensures.0 c.send_and_flush.ensures.0,
+      c.new-pending.ensures.none c.in_ok-put_captions.ensures.0 c.send_and_flush.ensures.0,
   search rules,
 )

@@ -2,7 +2,7 @@ use Rattle.std.proofs.Common.{◌+◌, ℕ, length, arith, ◌∙◌, refl, ap}
 use Rattle.std.proofs.lemmas.Result.{err_from_is_err_and}
 use Rattle.px_bytes.specs.Devices.{AppendsPrefix}
 use Rattle.px_iim.specs.Record.{normal_iim}
-use Rattle.px_bytes.specs.Waiting.{Owes}
+use Rattle.std.specs.Io.KnownBytes.{Appends}
 use Rattle.px_bytes.specs.lemmas.WaitingLaws.{from_none, owed_prefix, owed_all}
 use Rattle.px_iim.proofs.writing.Writes.{within_most_number, not_counted}
 use Rattle.px_iim.proofs.write.write_iim_part.Goals as goal
@@ -22,8 +22,8 @@ returns-in_err-put_iim g c =
     c.unwrap_or-len.ensures c.if-len-gt-LIMIT.false in
     rw (p.1, p.2) (
       l.1,
-      from_none (AppendsPrefix (g.W.Sink.bytes_taken c.args.writer.now) (g.W.Sink.bytes_taken c.put_iim.new.writer)) c.new-pending.result
-          (normal_iim c.args.iim.now) c.new-pending.ensures c.in_err-put_iim.ensures.bytes.0,
+      from_none (AppendsPrefix (g.W.Sink.bytes_taken c.args.writer.now) (g.W.Sink.bytes_taken c.put_iim.new.writer))
+          c.new-pending.result.bytes (normal_iim c.args.iim.now) c.new-pending.ensures.none c.in_err-put_iim.ensures.bytes.0,
       c.in_err-put_iim.ensures.bytes.1,
     )
 
@@ -32,13 +32,11 @@ returns-in_err-send g c =
     let p = err_from_is_err_and c.from_residual-in_err-send.result c.from_residual-in_err-send.ensures.1 in
     let l = within_most_number c.normal_len.result (length (normal_iim c.args.iim.now)) c.unwrap_or-len.result c.normal_len.ensures
     c.unwrap_or-len.ensures c.if-len-gt-LIMIT.false in
-    let o : Owes (g.W.Sink.bytes_taken c.args.writer.now) (g.W.Sink.bytes_taken c.put_iim.new.writer) c.put_iim.new.pending
-    (normal_iim c.args.iim.now) =
-    from_none (Owes (g.W.Sink.bytes_taken c.args.writer.now) (g.W.Sink.bytes_taken c.put_iim.new.writer) c.put_iim.new.pending)
-    c.new-pending.result (normal_iim c.args.iim.now) c.new-pending.ensures c.in_ok-put_iim.ensures.bytes.0 in
     rw (p.1, p.2) (
       l.1,
-      owed_prefix _ _ _ _ _ o c.in_err-send.ensures.bytes,
+      from_none (AppendsPrefix (g.W.Sink.bytes_taken c.args.writer.now) (g.W.Sink.bytes_taken c.send.new.writer)) c.new-pending.result.bytes
+          (normal_iim c.args.iim.now) c.new-pending.ensures.none
+          (owed_prefix _ _ _ _ _ c.in_ok-put_iim.ensures.bytes.0 c.in_err-send.ensures.bytes),
       c.in_err-send.ensures.count
           ∙ ap (λ (n : ℕ). n + 1) c.in_ok-put_iim.ensures.bytes.1,
     )
@@ -46,12 +44,10 @@ returns-in_err-send g c =
 pub returns : goal.returns
 returns g c =
     let l = within_most_number c.normal_len.result (length (normal_iim c.args.iim.now)) c.unwrap_or-len.result c.normal_len.ensures
-    c.unwrap_or-len.ensures c.if-len-gt-LIMIT.false in
-    let o : Owes (g.W.Sink.bytes_taken c.args.writer.now) (g.W.Sink.bytes_taken c.put_iim.new.writer) c.put_iim.new.pending
-    (normal_iim c.args.iim.now) =
-    from_none (Owes (g.W.Sink.bytes_taken c.args.writer.now) (g.W.Sink.bytes_taken c.put_iim.new.writer) c.put_iim.new.pending)
-    c.new-pending.result (normal_iim c.args.iim.now) c.new-pending.ensures c.in_ok-put_iim.ensures.bytes.0 in (
-      owed_all _ _ _ _ _ o c.in_ok-send.ensures.bytes,
+    c.unwrap_or-len.ensures c.if-len-gt-LIMIT.false in (
+      from_none (Appends (g.W.Sink.bytes_taken c.args.writer.now) (g.W.Sink.bytes_taken c.send.new.writer)) c.new-pending.result.bytes
+          (normal_iim c.args.iim.now) c.new-pending.ensures.none
+          (owed_all _ _ _ _ _ c.in_ok-put_iim.ensures.bytes.0 c.in_ok-send.ensures.bytes),
       c.from.ensures ∙ l.0,
       omega (arith, c.from.ensures, l),
       c.in_ok-send.ensures.count

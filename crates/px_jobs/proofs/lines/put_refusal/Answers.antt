@@ -1,5 +1,5 @@
 use Rattle.std.proofs.Common.{rules}
-use Rattle.std.proofs.Common.{codes, []}
+use Rattle.std.proofs.Common.{codes}
 use Rattle.std.specs.Prelude.{decimal}
 use Rattle.std.proofs.lemmas.Result.{err_from_is_err_and}
 use Rattle.px_bytes.specs.Causes.{name_of}
@@ -13,7 +13,7 @@ returns-in_err-put g c =
     rw p.1 (
       stops_first (codes "refused: ") (name_of c.args.cause) (codes " at ") (decimal c.args.place) (end_of c.args.file) _ _
           (g.L.Sink.bytes_taken c.args.lines.now) (g.L.Sink.bytes_taken c.args.lines.now) (g.L.Sink.bytes_taken c.args.lines.now)
-          c.args.pending.now [] [] [] [] c.in_err-put.ensures.bytes,
+          c.args.pending.now c.args.pending.now c.args.pending.now c.args.pending.now c.args.pending.now c.in_err-put.ensures.bytes,
       search rules,
     )
 
@@ -22,7 +22,8 @@ returns-in_err-put-2 g c =
     let p = err_from_is_err_and c.from_residual-in_err-put-2.result c.from_residual-in_err-put-2.ensures.1 in
     rw p.1 (
       stops_second (codes "refused: ") (name_of c.args.cause) (codes " at ") (decimal c.args.place) (end_of c.args.file) _ _ _
-          (g.L.Sink.bytes_taken c.args.lines.now) (g.L.Sink.bytes_taken c.args.lines.now) c.args.pending.now _ [] [] []
+          (g.L.Sink.bytes_taken c.args.lines.now) (g.L.Sink.bytes_taken c.args.lines.now) c.args.pending.now _
+          c.args.pending.now c.args.pending.now c.args.pending.now
           c.in_ok-put.ensures.bytes (rw c.name.ensures at c.in_err-put-2.ensures.bytes),
       search rules,
     )
@@ -32,7 +33,7 @@ returns-in_err-put-3 g c =
     let p = err_from_is_err_and c.from_residual-in_err-put-3.result c.from_residual-in_err-put-3.ensures.1 in
     rw p.1 (
       stops_third (codes "refused: ") (name_of c.args.cause) (codes " at ") (decimal c.args.place) (end_of c.args.file) _ _ _ _
-          (g.L.Sink.bytes_taken c.args.lines.now) c.args.pending.now _ _ [] [] c.in_ok-put.ensures.bytes
+          (g.L.Sink.bytes_taken c.args.lines.now) c.args.pending.now _ _ c.args.pending.now c.args.pending.now c.in_ok-put.ensures.bytes
           (rw c.name.ensures at c.in_ok-put-2.ensures.bytes) c.in_err-put-3.ensures.bytes,
       search rules,
     )
@@ -42,7 +43,7 @@ returns-in_err-put-4 g c =
     let p = err_from_is_err_and c.from_residual-in_err-put-4.result c.from_residual-in_err-put-4.ensures.1 in
     rw p.1 (
       stops_fourth (codes "refused: ") (name_of c.args.cause) (codes " at ") (decimal c.args.place) (end_of c.args.file) _ _ _ _ _
-          c.args.pending.now _ _ _ [] c.in_ok-put.ensures.bytes (rw c.name.ensures at c.in_ok-put-2.ensures.bytes)
+          c.args.pending.now _ _ _ c.args.pending.now c.in_ok-put.ensures.bytes (rw c.name.ensures at c.in_ok-put-2.ensures.bytes)
           c.in_ok-put-3.ensures.bytes (rw (c.as_bytes.ensures.value, c.format.ensures.text) at c.in_err-put-4.ensures.bytes),
       search rules,
     )

@@ -12,13 +12,13 @@ returns-in_err-put_ended g c =
     let p = err_from_is_err_and c.from_residual.result c.from_residual.ensures.1 in
     rw p.1 (
       from_none (AppendsPrefix (g.L.Sink.bytes_taken c.args.lines.now) _) _ (c.args.text.now
-          ++ end_of c.args.file) c.new-pending.ensures c.in_err-put_ended.ensures.0,
+          ++ end_of c.args.file) c.new-pending.ensures.none c.in_err-put_ended.ensures.0,
       search rules,
     )
 
 pub returns : goal.returns
 returns g c = (
-  owes_written c.send.result _ _ _ c.new-pending.result _ (c.args.text.now ++ end_of c.args.file) c.new-pending.ensures
+  owes_written c.send.result _ _ _ c.new-pending.result _ (c.args.text.now ++ end_of c.args.file) c.new-pending.ensures.none
       c.in_ok-put_ended.ensures.0 c.send.ensures.bytes,
   search rules,
 )

@@ -15,7 +15,7 @@ returns-in_err-put_normal-clause-form g c =
     let p = err_from_is_err_and c.from_residual-in_err-put_normal.result c.from_residual-in_err-put_normal.ensures.1 in
     rw (p.1, p.2) (not_put (meaning_of c.args.m.now) (said_in c.in_ok-form.form) (g.W.Sink.bytes_taken c.args.writer.now)
     (g.W.Device.failed c.args.writer.now) c.new-pending.result c.in_ok-form.ensures.1 c.in_ok-form.ensures.2
-    c.new-pending.ensures
+    c.new-pending.ensures.none
     (g.W.Sink.bytes_taken c.put_normal.new.writer) _ c.in_err-put_normal.ensures.bytes.0 c.in_err-put_normal.ensures.bytes.1)
 
 pub returns-in_err-send-clause-form : goal.returns-in_err-send-clause-form
@@ -23,7 +23,7 @@ returns-in_err-send-clause-form g c =
     let p = err_from_is_err_and c.from_residual-in_err-send.result c.from_residual-in_err-send.ensures.1 in
     rw (p.1, p.2) (not_sent (meaning_of c.args.m.now) (said_in c.in_ok-form.form) (g.W.Sink.bytes_taken c.args.writer.now)
     (g.W.Device.failed c.args.writer.now) c.new-pending.result c.in_ok-form.ensures.1 c.in_ok-form.ensures.2
-    c.new-pending.ensures
+    c.new-pending.ensures.none
     (g.W.Sink.bytes_taken c.put_normal.new.writer) (g.W.Sink.bytes_taken c.send.new.writer) c.put_normal.new.pending _
     c.in_ok-put_normal.ensures.bytes.0 c.in_err-send.ensures.bytes (c.in_err-send.ensures.count
     ∙ ap (λ (n : ℕ). n + 1) c.in_ok-put_normal.ensures.bytes.1))
@@ -33,7 +33,7 @@ returns-in_err-flush_all-clause-form g c =
     let p = err_from_is_err_and c.from_residual-in_err-flush_all.result c.from_residual-in_err-flush_all.ensures.1 in
     rw (p.1, p.2) (not_flushed (meaning_of c.args.m.now) (said_in c.in_ok-form.form) (g.W.Sink.bytes_taken c.args.writer.now)
     (g.W.Device.failed c.args.writer.now) c.new-pending.result c.in_ok-form.ensures.1 c.in_ok-form.ensures.2
-    c.new-pending.ensures
+    c.new-pending.ensures.none
     (g.W.Sink.bytes_taken c.put_normal.new.writer) (g.W.Sink.bytes_taken c.send.new.writer) (g.W.Sink.bytes_taken c.flush_all.new.self)
     c.put_normal.new.pending _
     c.in_ok-put_normal.ensures.bytes.0 c.in_ok-send.ensures.bytes c.flush_all.ensures.bytes
@@ -43,7 +43,7 @@ pub returns-clause-form : goal.returns-clause-form
 returns-clause-form g c =
     normal_written (meaning_of c.args.m.now) (said_in c.in_ok-form.form) (g.W.Sink.bytes_taken c.args.writer.now)
     (g.W.Device.failed c.args.writer.now) c.new-pending.result c.in_ok-form.ensures.1 c.in_ok-form.ensures.2
-    c.new-pending.ensures
+    c.new-pending.ensures.none
     (g.W.Sink.bytes_taken c.put_normal.new.writer) (g.W.Sink.bytes_taken c.send.new.writer) (g.W.Sink.bytes_taken c.flush_all.new.self)
     c.put_normal.new.pending _ _
     c.len-len.ensures c.in_ok-put_normal.ensures.bytes.0 c.in_ok-send.ensures.bytes c.flush_all.ensures.bytes

@@ -1,12 +1,12 @@
-use Rattle.std.proofs.Common.{◌≡◌, ◌++◌, take}
-use Rattle.px_bytes.specs.Waiting.{Owes}
+use Rattle.std.proofs.Common.{◌≡◌, take}
+use Rattle.px_bytes.specs.Waiting.{◌⊕◌, Owes}
 use Rattle.px_text.specs.Captions.{escaped}
 use Rattle.px_text.proofs.caption_lines.put_escaped.Given as goal
 
 -- the parts so far were added, and no call failed
 abbrev pub invariant-loop-i : goal.invariant-loop-i
 invariant-loop-i g l = record {
-  owes : Owes (g.W.Sink.bytes_taken l.initial.writer) (g.W.Sink.bytes_taken l.writer) l.pending (l.initial.pending ++ escaped (take l.i
+  owes : Owes (g.W.Sink.bytes_taken l.initial.writer) (g.W.Sink.bytes_taken l.writer) l.pending (l.initial.pending ⊕ escaped (take l.i
       l.bytes));
   count : g.W.Device.failed l.writer ≡ g.W.Device.failed l.initial.writer;
 }

@@ -1,8 +1,8 @@
-use Rattle.std.proofs.Common.{◌≡◌, ◌∙◌, ◌++◌, ℕ, List, map, take, arith, subst, rules}
+use Rattle.std.proofs.Common.{◌≡◌, ◌∙◌, ℕ, List, map, take, arith, subst, rules}
 use Rattle.std.specs.List.{flat_map}
 use Rattle.std.proofs.lemmas.List.{take_all, length-map}
 use Rattle.std.proofs.lemmas.Result.{err_from_is_err_and}
-use Rattle.px_bytes.specs.Waiting.{Owes}
+use Rattle.px_bytes.specs.Waiting.{◌⊕◌, Owes}
 use Rattle.px_bytes.specs.lemmas.WaitingLaws.{owed_more, owed_stop}
 use Rattle.px_iim.specs.calls.View.{item_view}
 use Rattle.px_text.proofs.Chains.{owes_as, prefix_as}
@@ -37,6 +37,6 @@ returns g c =
     )) in (
       owes_as _ _ c.args.pending.now c.loop-item.pending _ _ (lines_items xs)
           (subst (λ (ys : List (ℕ × List ℕ)). Owes (g.W.Sink.bytes_taken c.args.writer.now) (g.W.Sink.bytes_taken c.loop-item.writer)
-          c.loop-item.pending (c.args.pending.now ++ flat_map item_lines ys)) all c.loop-item.invariant.owes),
+          c.loop-item.pending (c.args.pending.now ⊕ flat_map item_lines ys)) all c.loop-item.invariant.owes),
       search rules,
     )

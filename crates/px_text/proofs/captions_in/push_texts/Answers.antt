@@ -1,4 +1,4 @@
-use Rattle.std.proofs.Common.{map, length, ◌+◌, ◌∙◌, arith}
+use Rattle.std.proofs.Common.{map, ◌+◌, ◌∙◌, arith}
 use Rattle.std.proofs.lemmas.Option.{slice_get-get_or}
 use Rattle.px_text.specs.Captions.{tag_captions, caption_texts, exif_captions}
 use Rattle.px_text.specs.calls.CaptionView.{caption_view}

@@ -1,7 +1,7 @@
-use Rattle.std.proofs.Common.{◌++◌, [], ◌∙◌, refl, ap, subst, rules}
+use Rattle.std.proofs.Common.{[], ◌∙◌, refl, ap, subst, rules}
 use Rattle.std.proofs.KnownBytes.{Appends-nil}
 use Rattle.std.proofs.lemmas.Result.{err_from_is_err_and}
-use Rattle.px_bytes.specs.Waiting.{Owes}
+use Rattle.px_bytes.specs.Waiting.{◌⊕◌, Owes}
 use Rattle.px_iim.specs.Group.{Record}
 use Rattle.px_iim.specs.calls.View.{part_view}
 use Rattle.px_text.specs.Listing.{group_lines, dataset_lines}
@@ -16,7 +16,7 @@ loop-rec-init g c =
         c.args.pending.now,
         ([], Appends-nil (g.W.Sink.bytes_taken c.args.writer.now), refl),
         ap (λ (i : Record).
-            c.args.pending.now ++ dataset_lines i) all,
+            c.args.pending.now ⊕ dataset_lines i) all,
       );
       count = refl;
     }
