@@ -68,13 +68,23 @@ class Counter:
             self.skipped += other.skipped
             self.checks += other.checks
 
-    def check(self, name: str, holds: Any, why: Any = "") -> bool:
-        """Counts one test, which passed if `holds` is true, and returns whether it did."""
+    def check(self, name: str, holds: bool, why: Any = "") -> bool:
+        """Counts one test, which passed if `holds` is True, and returns it."""
         with self._lock:
-            self.passed, self.failed = self.passed + bool(holds), self.failed + (not holds)
+            self.passed, self.failed = self.passed + checks.truth(holds), self.failed + (not holds)
             if not holds:
                 print(f"FAILED {name}: {why}" if str(why) else f"FAILED {name}", flush=True)
-        return bool(holds)
+        return holds
+
+    def equal(self, name: str, found: Any, expected: Any) -> bool:
+        """Counts one test, which passed if the values are equal, and as many checks as two tuples have members.
+
+        >>> Counter().equal("two sums", (1 + 1, 2 + 2), (2, 5))
+        FAILED two sums: (2, 4), and not (2, 5)
+        False
+        """
+        checks.count(checks.members(found, expected))
+        return self.check(name, found == expected, checks.differ(found, expected))
 
     def skip(self, name: str, why: str) -> None:
         """Counts one test that cannot run here."""

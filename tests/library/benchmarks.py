@@ -23,7 +23,7 @@ sys.dont_write_bytecode = True
 sys.path.insert(0, str(Path(__file__).resolve().parent.parent))
 
 from paths import TESTS, TOP
-from checks import require
+from checks import require, require_equal
 from counting import Counter
 from library import need, run, tests_of
 
@@ -195,8 +195,8 @@ class Benchmarks:
             require((came := bench.share("index", "p")) == 0.25, came)
         pages, words = [], lambda it, *_: pages.append(it[-1]) or bench.Cost(next(times), 0, 0)
         with mock.patch.object(bench, "cost", words), mock.patch.object(bench.shutil, "which", lambda _: "is there"):
-            require((came := [bench.opening("/a"), bench.opening("/b")]) == [3.0, 0.0], came)
-        require(pages == [*["about:blank"] * 3, *["file:///a"] * 3, *["about:blank"] * 3, *["file:///b"] * 3], pages)
+            require_equal([bench.opening("/a"), bench.opening("/b")], [3.0, 0.0])
+        require_equal(pages, [*["about:blank"] * 3, *["file:///a"] * 3, *["about:blank"] * 3, *["file:///b"] * 3], pages)
         with mock.patch.object(bench.shutil, "which", lambda _: None):
             require(bench.opening("/a") is None, "Chromium is missing")
 

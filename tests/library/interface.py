@@ -19,7 +19,7 @@ sys.path.insert(0, str(Path(__file__).resolve().parent.parent))
 
 import paths
 from answers import NAMES
-from checks import require
+from checks import require, require_equal
 from counting import Counter
 from library import EXPORTS, HEADER, PARTS, TOP, need, run, tests_of, text_of
 from meanings import LIMIT
@@ -105,12 +105,14 @@ class Interface:
 
     def needs_the_c_library_alone(self):
         dynamic = run("readelf", "-dW", self.shared)
-        require(re.findall(r"\(NEEDED\).*\[(.*)\]", dynamic) == ["libc.so.6"], f"it needs {dynamic}")
-        require("SONAME" in dynamic and "[libexifnorm.so.1]" in dynamic, "it has another name")
-        require("BIND_NOW" in dynamic or re.search(r"FLAGS_1.*NOW", dynamic), "its symbols are looked up late")
+        require_equal(re.findall(r"\(NEEDED\).*\[(.*)\]", dynamic), ["libc.so.6"], f"it needs {dynamic}")
+        require("SONAME" in dynamic, "it has another name")
+        require("[libexifnorm.so.1]" in dynamic, "it has another name")
+        require("BIND_NOW" in dynamic or re.search(r"FLAGS_1.*NOW", dynamic) is not None, "its symbols are looked up late")
         segments = run("readelf", "-lW", self.shared)
         stack = [it for it in segments.split("\n") if "GNU_STACK" in it]
-        require(len(stack) == 1 and "RWE" not in stack[0], "its stack could be run")
+        require(len(stack) == 1, "its stack could be run")
+        require("RWE" not in stack[0], "its stack could be run")
         require("GNU_RELRO" in segments, "its tables could be written to")
 
     def has_one_set_of_numbers(self):
@@ -124,7 +126,7 @@ class Interface:
         code = f"from exifnorm import _calls as c; print(*(c._text(c.library().exifnorm_cause_name, i) for i in range(1, {len(NAMES) + 2})))"
         require(self.python(code).split() == NAMES, "the library names other causes")
         code = "from exifnorm import LIMIT, _library as it; print(LIMIT, it.NAME_ROOM, it.NAME)"
-        require(self.python(code).split() == [str(LIMIT), "32", "libexifnorm.so.1"], "other numbers in Python")
+        require_equal(self.python(code).split(), [str(LIMIT), "32", "libexifnorm.so.1"], "other numbers in Python")
 
     def describes_the_statuses_of_each_call(self):
         for name, statuses in DESCRIBED.items():
@@ -136,18 +138,20 @@ class Interface:
         parts = re.findall(r'^\.BR EXIFNORM_(\w+) " \(\d\)"\n((?:(?!\.TP|\.PP).*\n)+)', text_of("docs", "exifnorm.3"), re.M)
         in_page = {name: re.sub(r"^\.[BI]R? ", "", text, flags=re.M).replace("\n", " ") for name, text in parts}
         for told in (in_header, in_page):
-            require([it for it in MEANINGS if MEANINGS[it] not in told.get(it, "")] == [], f"other meanings: {told}")
+            require_equal([it for it in MEANINGS if MEANINGS[it] not in told.get(it, "")], [], f"other meanings: {told}")
 
     def promises_the_same_as_its_page(self):
         page, callers = text_of("docs", "exifnorm.3"), text_of("tests", "library", "library.py") + text_of("tests", "library", "calls.c")
         for text in (header(), page):
-            require(re.findall(r"stack of (\d+) KiB", text) == ["256"], "another size of the stack")
-        require("ulimit -s 256 &&" in callers and "STACK = 256 * 1024 " in callers, "the callers of the tests have another stack")
+            require_equal(re.findall(r"stack of (\d+) KiB", text), ["256"], "another size of the stack")
+        require("ulimit -s 256 &&" in callers, "the callers of the tests have another stack")
+        require("STACK = 256 * 1024 " in callers, "the callers of the tests have another stack")
         names = [set(re.findall(r"\bEXIFNORM_[A-Z_]+\b", it)) for it in (page, header())]
         require(names[0] <= names[1], f"the page names {names[0] - names[1]}")
         require("same is 1 if they mean the same, else 0." in header(), "other numbers for the same meaning in the header")
         require("to 1 if two blocks mean the same, and otherwise to 0." in page, "other numbers for the same meaning in the page")
-        require("at most twice as many bytes as its block" in header() and "\n.I 2 * block_length\n" in page, "another size of a form")
+        require("at most twice as many bytes as its block" in header(), "another size of a form")
+        require("\n.I 2 * block_length\n" in page, "another size of a form")
 
     def has_one_version(self):
         version = re.search(r'VERSION: &str = "(.*)";', text_of("crates", "px_engine", "src", "version.rt"))[1]

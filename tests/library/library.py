@@ -21,7 +21,7 @@ sys.path.insert(0, str(Path(__file__).resolve().parent.parent))
 
 import paths
 from answers import all_answers, blocks_of_cases, write_jobs
-from checks import count, require
+from checks import count, require, require_equal
 from costs import Costs
 from counting import Counter, SkipTest
 
@@ -136,7 +136,7 @@ class Library:
     def judges_each_block_in_python(self):
         for jobs in (self.small, self.large):
             said = self.python(os.path.join(PARTS, "python_calls.py"), jobs)
-            count(int(re.search(r"(\d+) blocks\n$", said)[1]))
+            count(int(re.search(r"(\d+) checks\n$", said)[1]))
 
     def judges_each_value_of_each_byte_in_python(self):
         said = self.python(os.path.join(PARTS, "each_byte.py"))
@@ -167,7 +167,8 @@ class Installed:
         found = files_below(self.prefix)
         require(set(wanted.split()) < found, f"there is no {set(wanted.split()) - found}")
         package = [it for it in found if it.endswith("exifnorm/__init__.py")]
-        require(len(package) == 1 and not [it for it in found if it.endswith(".pyc")], f"the package is in {package}")
+        require(len(package) == 1, f"the package is in {package}")
+        require(not [it for it in found if it.endswith(".pyc")], f"the package is in {package}")
         self.packages = os.path.join(self.prefix, os.path.dirname(os.path.dirname(package[0])))
 
     def has_the_proved_program(self):
@@ -188,7 +189,7 @@ class Installed:
         need("bash")
         code = 'source "$1" && COMP_WORDS=(exifnorm c) COMP_CWORD=1 && _exifnorm && echo "${COMPREPLY[@]}"'
         file = os.path.join(self.prefix, "share", "bash-completion", "completions", "exifnorm")
-        require(run("bash", "-c", code, "bash", file).split() == ["check", "captions", "compare"], "other words are completed")
+        require_equal(run("bash", "-c", code, "bash", file).split(), ["check", "captions", "compare"], "other words are completed")
 
     def runs_the_example_of_the_program(self):
         path = f"{self.prefix}/bin:{os.environ['PATH']}"
@@ -219,7 +220,8 @@ class Installed:
         words = [f"DESTDIR={self.stage}", "PREFIX=/usr", f"PYTHON={sys.executable}"]
         run("make", "install", *words)
         found = files_below(self.stage)
-        require(found and all(it.startswith("usr/") for it in found), f"files stand outside the prefix: {found}")
+        require(len(found) > 10, f"hardly a file is staged: {found}")
+        require_equal([it for it in found if not it.startswith("usr/")], [], "files are outside the prefix")
         config = os.path.join(self.stage, "usr", "lib", "pkgconfig", "exifnorm.pc")
         require(self.stage not in text_of(config), "the stage is named in exifnorm.pc")
         run("make", "uninstall", *words)

@@ -81,30 +81,32 @@ def blocks_of_tools(counter: Counter) -> None:
         meaning = said(made.block)
         form, name = meaning.normal(), f"{made.tool}, {made.kind}"
         counter.check(f"{name}: kind", exifnorm.kind(made.block) == made.kind)
-        counter.check(f"{name}: normal", exifnorm.normal(made.block) == form and type(exifnorm.normal(made.block)) is bytes)
+        counter.check(f"{name}: normal", exifnorm.normal(made.block) == form)
+        counter.check(f"{name}: normal, in bytes", type(exifnorm.normal(made.block)) is bytes)
         counter.check(f"{name}: digest", exifnorm.digest(made.block) == hashlib.sha256(form).hexdigest())
         counter.check(f"{name}: show", exifnorm.show(made.block) == meaning.listing())
         found = exifnorm.fields(made.block)
-        counter.check(f"{name}: fields", found == [exifnorm.Field(*it) for it in made.fields], found)
+        counter.equal(f"{name}: fields", found, [exifnorm.Field(*it) for it in made.fields])
         classes = {type(it) for it in found} | {type(it) for field in found if field.type.endswith("RATIONAL") for it in field.values}
-        counter.check(f"{name}: classes", classes <= {exifnorm.Field, exifnorm.Ratio} and type(found) is list, classes)
+        counter.check(f"{name}: classes", classes <= {exifnorm.Field, exifnorm.Ratio}, classes)
+        counter.check(f"{name}: fields, in a list", type(found) is list)
         texts = exifnorm.captions(made.block)
-        counter.check(f"{name}: captions", texts == [exifnorm.Caption(*it) for it in made.captions], texts)
-        counter.check(f"{name}: same", exifnorm.same(made.block, form) is True and exifnorm.same(form, ONE) is False)
+        counter.equal(f"{name}: captions", texts, [exifnorm.Caption(*it) for it in made.captions])
+        counter.equal(f"{name}: same", [exifnorm.same(made.block, form) is True, exifnorm.same(form, ONE) is False], [True, True])
 
 
 def refusals_of_tools(counter: Counter) -> None:
     for call in OF_BLOCK:
         came = outcome(call, made_by_tools.PIEXIF_REFUSED)
-        counter.check(f"{call.__name__} of a block that is refused", came == ("Refused", *made_by_tools.PIEXIF_FAULT, None), came)
+        counter.equal(f"{call.__name__} of a block that is refused", came, ("Refused", *made_by_tools.PIEXIF_FAULT, None))
 
 
 def fields_of_each_kind(counter: Counter) -> None:
     """The fields from the form are those of the expected listing, for blocks with each type, directory and thumbnail."""
     for kind in small_kinds():
         expected, form = _listings.fields_of_listing(kind.meaning.listing()), kind.meaning.normal()
-        counter.check(kind.name, all(exifnorm.fields(it) == expected for it in kind.blocks))
-        counter.check(f"{kind.name}: its form", all(exifnorm.normal(it) == form for it in kind.blocks))
+        counter.equal(kind.name, [exifnorm.fields(it) == expected for it in kind.blocks], [True] * len(kind.blocks))
+        counter.equal(f"{kind.name}: its form", [exifnorm.normal(it) == form for it in kind.blocks], [True] * len(kind.blocks))
 
 
 def fields_that_are_nearly_others(counter: Counter) -> None:
@@ -125,9 +127,9 @@ def fields_that_are_nearly_others(counter: Counter) -> None:
     counter.check("rows and heights", found == expected, found)
     for octets, form in ((b"\x1c\x02\x78\x00\x09Vase", 7), (CAPTION, 2), (b"", 7), (ONE, 7), (b"\x1c", 1)):
         found = exifnorm.fields(laid(Exif({0x83BB: Value(form, octets)}), Layout(">")))
-        counter.check(f"no record: {octets!r}", [it[:2] + it[3:] for it in found] == [("main", 0x83BB, octets)], found)
+        counter.equal(f"no record: {octets!r}", [it[:2] + it[3:] for it in found], [("main", 0x83BB, octets)])
     record = laid(Exif({0x83BB: Value(1, CAPTION + b"\0")}), Layout(">"))
-    counter.check("a record of type BYTE", exifnorm.fields(record) == [Field("record", 0x0278, "DATASET", b"Vase")])
+    counter.equal("a record of type BYTE", exifnorm.fields(record), [Field("record", 0x0278, "DATASET", b"Vase")])
     long = Record([(2, 120, bytes(40_000)), (2, 25, b"")])
     expected = [Field("record", 0x0219, "DATASET", b""), Field("record", 0x0278, "DATASET", bytes(40_000))]
     counter.check("a DataSet of 40,000 bytes", exifnorm.fields(long.spelled()) == expected)
@@ -135,14 +137,14 @@ def fields_that_are_nearly_others(counter: Counter) -> None:
 
 def forms_that_are_too_long(counter: Counter) -> None:
     counter.check("its kind", exifnorm.kind(long_form()) == "exif")
-    counter.check("its form", outcome(exifnorm.normal, long_form()) == ("NormalTooLong",))
-    counter.check("its digest", outcome(exifnorm.digest, long_form()) == ("NormalTooLong",))
+    counter.equal("its form", outcome(exifnorm.normal, long_form()), ("NormalTooLong",))
+    counter.equal("its digest", outcome(exifnorm.digest, long_form()), ("NormalTooLong",))
     counter.check("what is said of it", str(exifnorm.NormalTooLong()) == f"the normal form is longer than {LIMIT} bytes")
     expected = [exifnorm.Field("main", 0x0116, "WHOLE", (*range(1000), *bytes(LIMIT // 4)))]
     counter.check("its fields", exifnorm.fields(long_form()) == expected)
-    counter.check("its captions", exifnorm.captions(long_form()) == [])
+    counter.equal("its captions", exifnorm.captions(long_form()), [])
     counter.check("it means the same as itself", exifnorm.same(long_form(), long_form()) is True)
-    counter.check("a block that is too long", outcome(exifnorm.kind, ONE + bytes(LIMIT)) == ("Refused", "TooLong", LIMIT, None))
+    counter.equal("a block that is too long", outcome(exifnorm.kind, ONE + bytes(LIMIT)), ("Refused", "TooLong", LIMIT, None))
     counter.check("a block that is just long enough", exifnorm.kind(ONE + bytes(LIMIT - len(ONE))) == "exif")
 
 
@@ -155,7 +157,7 @@ def captions_once(counter: Counter) -> None:
         expected = {(label, label.encode()): repeats for label in labels.values()}
         counter.check(f"each label {repeats} times", {it: found.count(it) for it in found} == expected, found)
     zeros = exifnorm.captions(laid(Exif({0x013B: Value(2, b"two\0\0")}), Layout("<")))
-    counter.check("a text with two zeros loses one", [it.text for it in zeros] == ["two\0"], zeros)
+    counter.equal("a text with two zeros loses one", [it.text for it in zeros], ["two\0"])
     texts = {0x010E: Value(2, b"d\xc3\xa9\0"), 0x013B: Value(129, b"\xc3\xa9\0"), 0x8298: Value(2, b"no zero")}
     record = Record([(1, 90, b"\x1b%G"), (2, 120, b"\xc3\xa9"), (2, 5, b"\xff")])
     found = exifnorm.captions(laid(Exif(texts, record=record), Layout("<")))
@@ -169,10 +171,10 @@ def captions_once(counter: Counter) -> None:
     counter.check("texts and a record", found == [exifnorm.Caption(*it) for it in expected], found)
     others = Exif({0x013B: Value(2, b"\xc3\xa9\0")}, thumb={0x013B: Value(129, b"\xc3\xa9\0")})
     found = exifnorm.captions(laid(others, Layout("<")))
-    counter.check("a type of the thumbnail's directory", found == [exifnorm.Caption("artist", b"\xc3\xa9\0", None)], found)
+    counter.equal("a type of the thumbnail's directory", found, [exifnorm.Caption("artist", b"\xc3\xa9\0", None)])
     for octets in (bytes(range(256)), b"charset: a: b", b"", b"\\0a\n"):
         found = exifnorm.captions(Record([(2, 120, octets)]).spelled())
-        counter.check(f"a caption of {octets[:20]!r}", [(it.label, it.data) for it in found] == [("caption", octets)], found)
+        counter.equal(f"a caption of {octets[:20]!r}", [(it.label, it.data) for it in found], [("caption", octets)])
 
 
 def texts_about_the_size_of_the_kept_buffer(counter: Counter) -> None:
@@ -182,19 +184,19 @@ def texts_about_the_size_of_the_kept_buffer(counter: Counter) -> None:
         head = "iim\ncharset: not declared\n" + "byline-title: \n" * len(names)
         caption = length - len(head) - len("caption: \n")
         text = exifnorm._calls.captions_text(Record([*names, (2, 120, b"x" * caption)]).spelled())
-        expected = len(text) == length and sorted(text.splitlines()) == sorted(f"{head}caption: {'x' * caption}\n".splitlines()) and text[-1] == "\n"
-        counter.check(f"a text of {length} bytes", expected, (len(text), text[-40:]))
+        has_lines = sorted(text.splitlines()) == sorted(f"{head}caption: {'x' * caption}\n".splitlines())
+        counter.equal(f"a text of {length} bytes", (len(text), has_lines, text[-1]), (length, True, "\n"))
 
 
 def digests(counter: Counter) -> None:
     form = exifnorm.normal(CAPTION)
     for algorithm in ("sha256", "md5", "sha1", "sha512", "sha3_256", "blake2b"):
         expected = hashlib.new(algorithm, form).hexdigest()
-        counter.check(algorithm, exifnorm.digest(CAPTION, algorithm) == expected == exifnorm.digest(CAPTION, algorithm=algorithm))
+        counter.equal(algorithm, [exifnorm.digest(CAPTION, algorithm), exifnorm.digest(CAPTION, algorithm=algorithm)], [expected] * 2)
     for algorithm in ("no such", "shake_128"):
         counter.check(algorithm, outcome(exifnorm.digest, CAPTION, algorithm)[0] == "ValueError", outcome(exifnorm.digest, CAPTION, algorithm))
     came = outcome(exifnorm.digest, CAPTION, "shake_256")
-    counter.check("what is said of a digest without a length", came == ("ValueError", "digests of shake_256 have no length of their own"), came)
+    counter.equal("what is said of a digest without a length", came, ("ValueError", "digests of shake_256 have no length of their own"))
 
 
 # ---- arguments
@@ -224,8 +226,8 @@ def ways_to_give_a_block(counter: Counter) -> None:
     }
     for name, block in ways.items():
         came = [outcome(call, block) for call in OF_BLOCK]
-        counter.check(name, came == [call(ONE) for call in OF_BLOCK], came)
-        counter.check(f"{name}, compared", exifnorm.same(block, ONE) and exifnorm.same(ONE, block))
+        counter.equal(name, came, [call(ONE) for call in OF_BLOCK])
+        counter.equal(f"{name}, compared", [exifnorm.same(block, ONE), exifnorm.same(ONE, block)], [True, True])
 
 
 def what_is_no_block(counter: Counter) -> None:
@@ -234,7 +236,7 @@ def what_is_no_block(counter: Counter) -> None:
         for call in OF_BLOCK:
             counter.check(f"{call.__name__} of {name}", outcome(call, it)[0] == "TypeError", outcome(call, it))
         came = outcome(exifnorm.same, it, ONE), outcome(exifnorm.same, ONE, it)
-        counter.check(f"same of {name}", [it[0] for it in came] == ["TypeError"] * 2, came)
+        counter.equal(f"same of {name}", [it[0] for it in came], ["TypeError"] * 2)
     for call in (*OF_BLOCK, exifnorm.same):
         counter.check(f"{call.__name__} of nothing", outcome(call)[0] == "TypeError")
         came = outcome(call, memoryview(ONE * 2)[::2], ONE) if call is exifnorm.same else outcome(call, memoryview(ONE * 2)[::2])
@@ -245,16 +247,16 @@ def blocks_of_no_bytes(counter: Counter) -> None:
     for empty in (b"", bytearray(), memoryview(b""), array.array("B")):
         for call in OF_BLOCK:
             came = outcome(call, empty)
-            counter.check(f"{call.__name__} of {empty!r}", came == ("Refused", "UnknownKind", 0, None), came)
+            counter.equal(f"{call.__name__} of {empty!r}", came, ("Refused", "UnknownKind", 0, None))
         came = outcome(exifnorm.same, empty, ONE), outcome(exifnorm.same, ONE, empty)
-        counter.check(f"same of {empty!r}", came == (("Refused", "UnknownKind", 0, 1), ("Refused", "UnknownKind", 0, 2)), came)
+        counter.equal(f"same of {empty!r}", came, (("Refused", "UnknownKind", 0, 1), ("Refused", "UnknownKind", 0, 2)))
 
 
 def an_object_without_an_address(counter: Counter) -> None:
     """An object of no bytes may have none (PyBuffer_FillInfo in Python's C API); exifnorm.h allows no pointer that is NULL."""
     with mock.patch.object(_calls, "_get_view", lambda *_: 0), mock.patch.object(_calls, "_release", lambda _: None):
         at, length = _calls._over_bytes(bytearray(), lambda at, length: (at.value, length))
-    counter.check("its address", at and length == 0, (at, length))
+    counter.equal("its address", (bool(at), length), (True, 0))
 
 
 def examples_of_the_modules(counter: Counter) -> None:
@@ -279,7 +281,7 @@ def names_and_arguments(counter: Counter) -> None:
         found = inspect.signature(getattr(exifnorm, name)).parameters.values()
         told = " ".join(it.name if it.default is it.empty else f"{it.name}={it.default}" for it in found)
         counter.check(f"the arguments of {name}", told == words, told)
-        counter.check(f"the text of {name}", getattr(exifnorm, name).__doc__)
+        counter.check(f"the text of {name}", bool(getattr(exifnorm, name).__doc__))
     counter.check("the version", exifnorm.version() == exifnorm.__version__, exifnorm.version())
     statuses = {"DONE": 0, "REFUSED": 2, "TOO_LONG": 3, "NO_MEMORY": 4, "TOO_LITTLE_ROOM": 5, "SECOND_REFUSED": 6}
     counter.check("the statuses", {it.name: it.value for it in exifnorm.Status} == statuses)
@@ -300,23 +302,24 @@ def exceptions(counter: Counter) -> None:
         except exifnorm.Refused as why:
             came = (why.cause, why.place, why.side, str(why))
             again = pickle.loads(pickle.dumps(why))
-            counter.check(f"{expected[3]}, pickled", (again.cause, again.place, again.side, str(again)) == expected)
+            counter.equal(f"{expected[3]}, pickled", (again.cause, again.place, again.side, str(again)), expected)
         counter.check(expected[3], came == expected, came)
     try:
         exifnorm.kind(b"Exif\0\0" + LOOP)
     except exifnorm.Refused as why:
-        counter.check("a fault behind six bytes", (why.cause, why.place, why.side, str(why)) == ("Loop", 22, None, "Loop at 22"), why)
+        counter.equal("a fault behind six bytes", (why.cause, why.place, why.side, str(why)), ("Loop", 22, None, "Loop at 22"))
 
 
 def objects(counter: Counter) -> None:
     field = exifnorm.fields(ONE)[0]
     counter.check("a field's text", repr(field) == "Field(directory='main', tag=274, type='SHORT', values=(6,))", field)
-    counter.check("a field, pickled", pickle.loads(pickle.dumps(field)) == field and hash(field) == hash(exifnorm.fields(ONE)[0]))
+    counter.check("a field, pickled", pickle.loads(pickle.dumps(field)) == field)
+    counter.check("the hashes of two equal fields", hash(field) == hash(exifnorm.fields(ONE)[0]))
     caption = exifnorm.Caption("title", b"T", None)
     counter.check("a caption, pickled", pickle.loads(pickle.dumps(caption)) == caption)
     for it, name in ((field, "tag"), (caption, "label"), (exifnorm.Ratio(1, 2), "numerator")):
         counter.check(f"{type(it).__name__} can't be changed", outcome(setattr, it, name, 1)[0] in ("AttributeError", "FrozenInstanceError"))
-    counter.check("a ratio", (exifnorm.Ratio(1, 0).numerator, exifnorm.Ratio(1, 0).denominator) == (1, 0))
+    counter.equal("a ratio", (exifnorm.Ratio(1, 0).numerator, exifnorm.Ratio(1, 0).denominator), (1, 0))
 
 
 # ---- where the library is looked for
@@ -367,11 +370,12 @@ def places_of_the_library(counter: Counter) -> None:
     wrong = "/no/such/libexifnorm.so.1"
     for packages in (alone, beside):
         came = told(SAYS_VERSION, packages, EXIFNORM_LIBRARY=wrong, **system)
-        is_told = came.startswith("missing:") and f"tried: {wrong} (there is no such file). " in came
-        counter.check("a variable that names no file", is_told, came)
+        counter.check("a variable that names no file", came.startswith("missing:"), came)
+        counter.check("a variable that names no file: which", f"tried: {wrong} (there is no such file). " in came, came)
     came = told(SAYS_VERSION, broken, EXIFNORM_LIBRARY="")
-    counter.check("no place serves", came.startswith("missing:") and os.path.join(broken, "exifnorm", "libexifnorm.so.1") in came, came)
-    counter.check("no place serves: what to do", "; libexifnorm.so.1 (" in came and "EXIFNORM_LIBRARY" in came and "make install" in came, came)
+    counter.check("no place serves", came.startswith("missing:"), came)
+    for it in (os.path.join(broken, "exifnorm", "libexifnorm.so.1"), "; libexifnorm.so.1 (", "EXIFNORM_LIBRARY", "make install"):
+        counter.check(f"no place serves: {it.replace(ROOM, '')}", it in came, came)
     came = told(SAYS_VERSION, alone, EXIFNORM_LIBRARY="libc.so.6")
     counter.check("a library without the calls", "libc.so.6 (it has no exifnorm_check)" in came, came)
     code = "import exifnorm, os\ntry: exifnorm.version()\nexcept exifnorm.LibraryMissing: os.environ.pop('EXIFNORM_LIBRARY')\nprint(exifnorm.version())"
@@ -489,7 +493,7 @@ def loads(counter: Counter) -> None:
             exifnorm.kind(ONE), exifnorm.normal(ONE), exifnorm.fields(ONE), exifnorm.version()
     finally:
         _library.ctypes.CDLL = plain
-    counter.check("loads", opened == [REAL], opened)
+    counter.equal("loads", opened, [REAL])
 
 
 def bytes_that_are_taken(call: Callable, *arguments: Any) -> int:
@@ -548,7 +552,7 @@ def what_is_given_back(counter: Counter) -> None:
     grown = tracemalloc.get_traced_memory()[0] - first
     tracemalloc.stop()
     counter.check("memory after 7,200 calls", grown < 200_000, grown)
-    counter.check("references after them", (sys.getrefcount(ONE), sys.getrefcount(large)) == before)
+    counter.equal("references after them", (sys.getrefcount(ONE), sys.getrefcount(large)), before)
 
 
 # ---- threads

@@ -24,14 +24,22 @@ sys.dont_write_bytecode = True
 import exifnorm
 from answers import KINDS, NAMES, REFUSED, TOO_LONG, Answer, Pair
 
-FAILURES = []
+MADE = []  # whether each check passed
 LITTLE_MEMORY = "--little-memory"
 
 
 def require(holds, *what):
+    """One check."""
+    MADE.append(bool(holds))
     if not holds:
-        FAILURES.append(what)
         print(*what, flush=True)
+
+
+def require_equal(found, expected, *what):
+    """As many checks as the expected tuple or list has members."""
+    MADE.extend([found == expected] * len(expected))
+    if found != expected:
+        print(*what, found, flush=True)
 
 
 def read_jobs(path):
@@ -161,15 +169,15 @@ def try_threads(answers):
 
 def try_text_of_captions():
     record = b"\x1c\x02\x05\x00\x02\xc3\xbc"
-    require([it.text for it in exifnorm.captions(record)] == [None], "a text that nothing declares")
+    require_equal([it.text for it in exifnorm.captions(record)], [None], "a text that nothing declares")
     declared = b"\x1c\x01\x5a\x00\x03\x1b%G"
-    require([it.text for it in exifnorm.captions(declared + record)] == ["ü"], "a declared text")
-    require([it.text for it in exifnorm.captions(declared + record[:-1] + b"\x41")] == [None], "what is no UTF-8")
+    require_equal([it.text for it in exifnorm.captions(declared + record)], ["ü"], "a declared text")
+    require_equal([it.text for it in exifnorm.captions(declared + record[:-1] + b"\x41")], [None], "what is no UTF-8")
     for form, text in (("0002", None), ("0081", "Üre")):
         block = bytes.fromhex(f"4d4d002a00000008 0001 010e {form} 00000005 0000001a 00000000 c39c726500 00")
-        require([it.text for it in exifnorm.captions(block)] == [text], "the text of an Exif field of type", form)
+        require_equal([it.text for it in exifnorm.captions(block)], [text], "the text of an Exif field of type", form)
     plain = bytes.fromhex("4d4d002a00000008 0001 010e 0002 00000004 55726e00 00000000")
-    require([it.text for it in exifnorm.captions(plain)] == ["Urn"], "the text of an ASCII field")
+    require_equal([it.text for it in exifnorm.captions(plain)], ["Urn"], "the text of an ASCII field")
 
 
 def try_fields():
@@ -179,35 +187,31 @@ def try_fields():
     jpeg = "0201 0004 00000001 00000054  0202 0004 00000001 00000002"
     block = bytes.fromhex(f"{head} {strips} {jpeg} 00000000 414243 58 ffd8")
     Field = exifnorm.Field
-    require(
-        exifnorm.fields(block)
-        == [
-            Field("main", 0x0112, "SHORT", (1,)),
-            Field("thumb", 0x0201, "JPEG", b"\xff\xd8"),
-            Field("thumb", 0x0111, "STRIPS", (b"ABC", b"X")),
-        ],
-        "other fields of a thumbnail",
-        outcome(exifnorm.fields, block),
-    )
+    expected = [
+        Field("main", 0x0112, "SHORT", (1,)),
+        Field("thumb", 0x0201, "JPEG", b"\xff\xd8"),
+        Field("thumb", 0x0111, "STRIPS", (b"ABC", b"X")),
+    ]
+    require_equal(exifnorm.fields(block), expected, "other fields of a thumbnail")
 
 
 def try_objects():
     """Tests refusals in other processes, wrong arguments, and that a block isn't copied."""
     again = pickle.loads(pickle.dumps(exifnorm.Refused("Overlap", 22, 2)))
-    require((again.cause, again.place, again.side, str(again)) == ("Overlap", 22, 2, "Overlap at 22 in block 2"), "a refusal, pickled")
+    require_equal((again.cause, again.place, again.side, str(again)), ("Overlap", 22, 2, "Overlap at 22 in block 2"), "a refusal, pickled")
     for wrong, error in (("a text", TypeError), (None, TypeError), (memoryview(b"abcd")[::2], BufferError)):
         try:
-            exifnorm.kind(wrong)
-        except error:
-            continue
-        require(False, "no", error, "for", wrong)
+            came = exifnorm.kind(wrong)
+        except Exception as why:
+            came = type(why)
+        require(came is error, "no", error, "for", wrong)
     block = bytearray(b"\x1c\x02\x78\x00\x01a")
-    exifnorm.kind(block)
+    require(exifnorm.kind(block) == "iim", "the kind of a bytearray")
     block.append(0)  # a bytearray that a view still uses can't grow
     block = bytearray(b"\x1c\x02\x78\x00\x01a" + b"\x1c\x02\x78\x80\x04\x00\x98\x96\x80" + bytes(10_000_000))
     tracemalloc.start()
-    exifnorm.kind(block)
-    exifnorm.same(block, memoryview(block))
+    require(exifnorm.kind(block) == "iim", "the kind of a large bytearray")
+    require(exifnorm.same(block, memoryview(block)), "a large bytearray and itself")
     peak = tracemalloc.get_traced_memory()[1]
     tracemalloc.stop()
     require(peak < 1_000_000, "a block was copied", peak)
@@ -217,7 +221,7 @@ def try_memory():
     """Tests for MemoryError if the system has no more memory. It needs a process of its own: a process that has run threads has
     reserved memory for them, which no limit takes back."""
     ran = subprocess.run([sys.executable, "-B", os.path.abspath(__file__), LITTLE_MEMORY], capture_output=True, text=True, check=False)
-    require(ran.stdout == "MemoryError\n", "where there is no memory:", ran.stdout, ran.stderr)
+    require_equal((ran.returncode, ran.stdout), (0, "MemoryError\n"), "where there is no memory:", ran.stderr)
 
 
 def call_with_little_memory():
@@ -238,7 +242,9 @@ def try_missing(named, words):
     ran = subprocess.run(
         [sys.executable, "-B", "-c", code], env={**os.environ, "EXIFNORM_LIBRARY": named}, capture_output=True, text=True, check=False
     )
-    require(ran.returncode == 0 and all(it in ran.stdout for it in words), "of a missing library it is said:", ran.stdout, ran.stderr)
+    require(ran.returncode == 0, "of a missing library nothing is said:", ran.stderr)
+    for it in words:
+        require(it in ran.stdout, "of a missing library it is said:", ran.stdout)
 
 
 def run_doctests():
@@ -268,8 +274,8 @@ def main(path):
     try_missing(os.path.abspath(__file__), ["python_calls.py"])
     try_missing("libc.so.6", ["it has no exifnorm_check"])
     run_doctests()
-    print(f"{len(answers)} blocks")
-    return 1 if FAILURES else 0
+    print(f"{len(MADE)} checks")
+    return 0 if all(MADE) else 1
 
 
 if __name__ == "__main__":

@@ -26,6 +26,13 @@ _CONTENTS = (
 _NAMES = ("rdf:Bag", "rdf:Seq", "rdf:li", "dc:title", "xmp:a", "xmp:z", "rdf:Description", "xmp:d")
 
 
+def pieces():
+    """What packets are changed by, each as an element by itself."""
+    yield from (f"<r {SPACES} {it}/>" for it in _ATTRIBUTES)
+    yield from (f"<r {SPACES}>{it}</r>" for it in _CONTENTS)
+    yield from (f"<{it} {SPACES}/>" for it in _NAMES)
+
+
 def _with_attribute(packet, chance):
     places = [it.end() for it in re.finditer(r"<[a-zA-Z]+:\w+", packet)]
     at = chance.choice(places or [0])

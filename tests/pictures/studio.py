@@ -201,6 +201,8 @@ def many():
 
 def needs(*names):
     """Skips a test, by name, where a program or module isn't installed."""
+    if not {*names} <= {*PROGRAMS, *MODULES}:
+        raise KeyError(names)
     lacking = [f"{it} (package {PROGRAMS[it]})" for it in names if it in PROGRAMS and not shutil.which(it)]
     lacking += [f"{it} (package {MODULES[it]})" for it in names if it in MODULES and not interpreter_with(it)]
     return unittest.skipIf(lacking, "not installed: " + ", ".join(lacking))

@@ -59,7 +59,8 @@ class Archive(WithPictures):
         base = sqlite3.connect(self.path("c"))
         (first, *_), (started, ended, exiftool, exiv2) = base.execute("SELECT started, ended, exiftool, exiv2 FROM runs ORDER BY id")
         base.close()
-        self.assertTrue(first <= before <= started <= ended <= after, (first, before, started, ended, after))
+        moments = [first, before, started, ended, after]
+        self.assertEqual(moments, sorted(moments))
         self.assertEqual(exiftool, tool(self.folder, "exiftool", "-ver").decode().strip())
         self.assertEqual(exiv2, tool(self.folder, "exiv2", "--version").decode().split()[1])
 
@@ -535,5 +536,7 @@ class Json(WithPictures):
             with self.subTest(call[0]):
                 done = run(["exifnorm-pictures", *call, "--json"], self.folder)
                 found = [json.loads(it) for it in done.stdout.splitlines()]
-                self.assertTrue(found and all(isinstance(it, dict) for it in found), done)
+                self.assertNotEqual(found, [], done)
+                for it in found:
+                    self.assertIsInstance(it, dict, done)
                 self.assertTrue(any(keys[call[0]] in it for it in found), found)

@@ -268,7 +268,7 @@ class Tasks(unittest.TestCase):
                 cluster.looker(FAR, None, [b"/"])
         with mock.patch.object(cluster, "distributed", Near()), tempfile.NamedTemporaryFile() as file:
             for names in ([b"/", b"/"], [], [os.fsencode(file.name)]):
-                self.assertTrue(cluster.looker(FAR, None, names))
+                self.assertTrue(callable(cluster.looker(FAR, None, names)))
                 with self.assertRaisesRegex(tools.Failed, "^--elsewhere is the path of one folder: give one FOLDER$"):
                     cluster.looker(FAR, "/there", names)
-            self.assertTrue(cluster.looker(FAR, "/there", [b"/"]))
+            self.assertTrue(callable(cluster.looker(FAR, "/there", [b"/"])))

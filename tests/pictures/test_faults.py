@@ -243,7 +243,7 @@ class Catalogues(WithPictures):
                 self.assertIn(words, self.complaint)
                 self.assertEqual(len(self.complaint.splitlines()), 1)
         self.assertEqual(read(self.path(name)), before)
-        self.assertFalse([it for it in os.listdir(self.folder) if it.startswith(name + "-")])
+        self.assertEqual([it for it in os.listdir(self.folder) if it.startswith(name + "-")], [])
 
     def database(self, name, *statements):
         base = sqlite3.connect(self.path(name), isolation_level=None)

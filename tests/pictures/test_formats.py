@@ -10,7 +10,7 @@ import sys
 import unittest
 import zlib
 
-from checks import uncounted
+from checks import at_least
 from made_blocks import ASCII, LONG, segment
 from made_files import (
     app1, app1_xmp, app13, chunk, exif, extension, iim, jpeg, mpf, page, png, png_xmp, profile, resource, tiff, title, webp, xmp,
@@ -366,6 +366,7 @@ def is_made_of(data, sources):
 class Damaged(unittest.TestCase):
     COUNT = 2500  # of each format
 
+    @at_least(35_000)  # as many as the readers find
     def test_damaged_files(self):
         """10,000 files: a result or `Broken`, only bytes that are in the file, and few reads."""
         from exifnorm_pictures.formats.found import Broken, LeftToOthers
@@ -390,7 +391,6 @@ class Damaged(unittest.TestCase):
         print(f"{4 * self.COUNT:,} damaged files: {answers}", flush=True)
         self.assertGreater(min(answers["read"], answers["broken"]), self.COUNT // 4)
 
-    @uncounted  # as many as the readers find
     def check(self, octets, found):
         sources = None
         for it in found.found:

@@ -42,7 +42,8 @@ class Hostile(WithPictures):
         self.assertEqual({os.path.basename(it) for it in told}, set(NAMES))
         lines = self.asked("same", "--catalogue", "c")
         self.assertEqual(len(lines), 1 + len(NAMES))
-        self.assertTrue(all(it.isprintable() for it in lines), lines)
+        for it in lines:
+            self.assertTrue(it.isprintable(), lines)
         self.assertEqual([it.rpartition("/")[2] for it in lines if "back" in it], ["back\\\\slash.jpg"], "no two names look alike")
         self.asked("report", "--catalogue", "c", "--html", "r.html")
         page = read(self.path("r.html")).decode()

@@ -173,9 +173,9 @@ class Extracted(WithPictures):
 
     def test_raw_files_by_their_names(self):
         for name in (b"a.NEF", b"a.dng", b"A.Cr2", b"/x.y/a.ARW"):
-            self.assertTrue(extraction._RAW_NAME.search(name), name)
+            self.assertIsNotNone(extraction._RAW_NAME.search(name), name)
         for name in (b"a.tif", b"nef", b"a.nef.tif", b"a.nef\n", b"anef"):
-            self.assertFalse(extraction._RAW_NAME.search(name), name)
+            self.assertIsNone(extraction._RAW_NAME.search(name), name)
 
     def test_what_exiftool_does_not_extract_has_a_digest(self):
         """Up to a length, and with --whole at any length."""

@@ -57,8 +57,8 @@ class Answers(unittest.TestCase):
         """In letters of either kind; files in the structure of TIFF with another name are read here."""
         for it in RAW[1:]:
             for name in (it, it.lower()):
-                self.assertTrue(extraction._RAW_NAME.search(f"/a.b/c.{name}".encode()), name)
-                self.assertFalse(extraction._RAW_NAME.search(f"/a.b/c.{name[:-1]}".encode()), name)
+                self.assertIsNotNone(extraction._RAW_NAME.search(f"/a.b/c.{name}".encode()), name)
+                self.assertIsNone(extraction._RAW_NAME.search(f"/a.b/c.{name[:-1]}".encode()), name)
         for name, head, is_left in (("c.nef", b"II*\0", True), ("c.gif", b"GIF8", True), ("c.tif", b"II*\0", False), ("c.nef", b"MM\0+", False)):
             with self.subTest(name, head=head), self.assertRaises(LeftToOthers) if is_left else contextlib.nullcontext():
                 extraction._read(io.BytesIO(head + struct.pack("<IH", 8, 0) + bytes(8)), name.encode(), False)

@@ -112,6 +112,6 @@ class Report(WithPictures):
                    "--window-size=500,844", "--dump-dom"]  # fmt: skip
         seen = run([*browser, "file://" + self.path("measured.html")], self.folder, HOME=self.folder).stdout.decode()
         found = re.search(r"<title>(\d+) of (\d+)</title>", seen)
-        self.assertTrue(found, seen[:500])
+        self.assertIsNotNone(found, seen[:500])
         self.assertLessEqual(int(found[1]), int(found[2]))
         self.assertLessEqual(int(found[2]), 560, "the width at which the page is laid out for phones")

@@ -586,7 +586,8 @@ class EqualChanges(unittest.TestCase):
         self.assertEqual([said for said, _, _ in found if said != "to a place"], expected)
         self.assertEqual(found[0], ("change 0", 3, [b"0000", b"1200", b"2400"]))
         self.assertEqual(found[1], ("to a place", 1, [b"moved 0000"]))
-        self.assertTrue(all(count == len(names) for _, count, names in found))
+        for _, count, names in found:
+            self.assertEqual(count, len(names))
 
 
 class Statuses(unittest.TestCase):

@@ -6,9 +6,10 @@ import os
 import subprocess
 import sys
 import unittest
+from xml.etree import ElementTree
 
 from made_files import SPACES, title, xmp
-from packets import packets
+from packets import packets, pieces
 from studio import HERE, interpreter_with, needs
 
 LI = "<rdf:li>{}</rdf:li>"
@@ -224,6 +225,14 @@ class Harm(unittest.TestCase):
         path = os.pathsep.join([HERE, os.path.join(os.path.dirname(os.path.dirname(HERE)), "python")])
         done = subprocess.run([python, "-c", call], capture_output=True, env={**os.environ, "PYTHONPATH": path, "PYTHONDONTWRITEBYTECODE": "1"})
         self.assertEqual((done.stdout, done.stderr), (b"[]\n", b""))
+
+
+class Pieces(unittest.TestCase):
+    def test_what_random_packets_are_changed_by_is_well_formed(self):
+        """Or else every reader finds the same: that the packet is no XML."""
+        for it in pieces():
+            with self.subTest(it):
+                self.assertIsNotNone(ElementTree.fromstring(it))
 
 
 @needs("rdflib")

@@ -38,10 +38,13 @@ class Case:
         names = [it for it in self.words[1:] if it != "--"]
         return names[1] if self.words[:1] == ["normalise"] and len(names) == 2 else "OUT"
 
+    def dues(self):
+        """How many things are expected besides the status, and nothing on standard error."""
+        return (self.output is not None) + (self.lines is not None) + len(self.has) + len(self.left) + len(self.absent)
+
     def is_judged(self):
         """Whether more than the status is expected. If a device takes the output, status 4 already shows what was written."""
-        dues = (self.output, self.lines, self.has or None, self.left or None, self.absent or None)
-        return any(it is not None for it in dues) or (self.status == 4 and self.output_to != "")
+        return self.dues() > 0 or (self.status == 4 and self.output_to != "")
 
 
 @dataclass
@@ -61,6 +64,10 @@ class Sweep:
     blocks: list
     normal: object = None  # the one normal form of them all, where each must be accepted
     accepted: object = None  # how many of them have a meaning, if that is given
+
+    def dues(self):
+        """How many things are expected: a result for each block, and what is given of all of them."""
+        return len(self.blocks) + (self.normal is not None) + (self.accepted is not None)
 
 
 def fixed(line):

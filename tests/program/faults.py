@@ -273,7 +273,7 @@ def kills(bench: Bench, counter: Counter) -> None:
             asked = [f"--inject={it.name}:signal=SIGKILL:when={it.number}" for it in calls]
             left = set()
             for it, outcome in zip(asked, pool.map(lambda it: bench.run(run, (it,)), asked)):
-                counter.check(f"{run.name} {it}", outcome.status == -signal.SIGKILL and keeps_files(run, outcome.files), outcome)
+                counter.equal(f"{run.name} {it}", (outcome.status, keeps_files(run, outcome.files)), (-signal.SIGKILL, True))
                 left.add(outcome.files.get(run.words[2]))
             counter.check(f"{run.name}: before and behind the writes", len(left) > 1 or run.status == 2, left)
 
@@ -288,7 +288,7 @@ def cut_writes(bench: Bench, counter: Counter) -> None:
         for length in most:
             outcome = bench.run(Run(["normalise", name, "OUT"]), trace=False, limits=((resource.RLIMIT_FSIZE, max(length, 1)),))
             came = (outcome.status, outcome.output, outcome.files["OUT"])
-            counter.check(f"{name}: a write of {max(length, 1)} bytes", came == (4, WRITE + b"\n", form[: max(length, 1)]), came)
+            counter.equal(f"{name}: a write of {max(length, 1)} bytes", came, (4, WRITE + b"\n", form[: max(length, 1)]))
 
 
 # ---- little memory

@@ -304,16 +304,18 @@ def main():
     words = words.parse_args()
     program = os.path.abspath(words.program)
     resource.setrlimit(resource.RLIMIT_CORE, (0, 0))
-    passed, failed = 0, 1
+    passed, failed, cases = 0, 1, []
     try:
         if not os.access(program, os.X_OK):
             raise FileNotFoundError(f"there is no program {words.program}")
-        passed, failed = run_all(program, [it for it in read_all(paths.CASES) if words.only in it.name], words.only)
+        cases = [it for it in read_all(paths.CASES) if words.only in it.name]
+        passed, failed = run_all(program, cases, words.only)
         if passed + failed == 0:
             print("FAILED: nothing ran")
             failed = 1
     except (Misspelled, NoShim, OSError, ValueError, KeyError) as why:
         print(f"FAILED before the end: {why!r}")
+    print(f"{sum(it.dues() for it in cases)} checks")
     print(f"{passed} passed, {failed} failed")
     return 1 if failed else 0
 

@@ -22,7 +22,7 @@ import crates
 import machine
 import prove
 import verdict
-from checks import require
+from checks import require, require_equal
 from room import SIGNALS, Room, runs, tick, wait_until
 from store import Store
 
@@ -32,7 +32,8 @@ LEVELS = "px_low: byteorder\npx_middle: px_low\npx_high staticlib: px_middle\npx
 def the_examples_are_right(_: Room) -> None:
     for it in (crates, verdict):
         failed, ran = doctest.testmod(it)
-        require(failed == 0 and ran > 2, it.__name__)
+        require(failed == 0, it.__name__)
+        require(ran > 2, it.__name__)
 
 
 def levels(room: Room) -> Room:
@@ -135,20 +136,20 @@ def a_crate_is_good_over_the_very_libraries_that_it_was_built_over(room: Room) -
     os.rename(folder / "px_low.rlib", room.folder / "px_low.rlib")
     require(store_of(room).is_current("px_high"), "a library that nothing has to be built over is missed")
     (room.top / "crates/px_high/src/lib.rt").write_text("two")
-    require(store_of(room).unbuilt("px_high") == ["px_low", "px_middle", "px_high"], "a crate is built over a library that is not there")
+    require_equal(store_of(room).unbuilt("px_high"), ["px_low", "px_middle", "px_high"], "a crate is built over a library that is not there")
     (room.top / "crates/px_high/src/lib.rt").write_text("one")
     os.rename(room.folder / "px_low.rlib", folder / "px_low.rlib")
     for text in ("", "one\n", "\xff"):
         note = folder / "px_middle.made-from"
         was = note.read_bytes()
         note.write_bytes(text.encode("latin-1"))
-        require(store_of(room).unbuilt("px_high") == ["px_middle", "px_high"], text)
+        require_equal(store_of(room).unbuilt("px_high"), ["px_middle", "px_high"], text)
         note.write_bytes(was)
     (room.top / "crates/px_low/src/lib.rt").write_text("two")
     room.prove("px_aside")
     (room.top / "crates/px_low/src/lib.rt").write_text("one")
     room.prove("px_aside")
-    require(store_of(room).unbuilt("px_high") == ["px_middle", "px_high"], "another px_low of the same sources is below it now")
+    require_equal(store_of(room).unbuilt("px_high"), ["px_middle", "px_high"], "another px_low of the same sources is below it now")
 
 
 def a_product_that_was_put_without_its_note_is_not_taken(room: Room) -> None:
@@ -161,18 +162,18 @@ def a_product_that_was_put_without_its_note_is_not_taken(room: Room) -> None:
     with mock.patch("store.time.time_ns", side_effect=KeyboardInterrupt), contextlib.suppress(KeyboardInterrupt):
         store.put("px_cli", made, store.expected("px_cli"))
     room.main.write_text("one")
-    require((room.call("a").stdout, room.builds()) == ("one: a\n", 2), room.log())
+    require_equal((room.call("a").stdout, room.builds()), ("one: a\n", 2), room.log())
 
 
 def only_what_was_changed_and_what_depends_on_it_is_proved_again(room: Room) -> None:
     room.call()
     room.forget()
     (room.top / "crates/px_iim/proofs/Answers.antt").write_text("two")
-    require((room.call("a").stdout, room.built()) == ("one: a\n", ["px_iim", "px_cli"]), room.log())
+    require_equal((room.call("a").stdout, room.built()), ("one: a\n", ["px_iim", "px_cli"]), room.log())
     room.forget()
     (room.top / "out/proved/px_bytes.rlib").unlink()  # another px_bytes: what was built over the old one is not good over it
     room.main.write_text("two")
-    require((room.call("a").stdout, len(room.built())) == ("two: a\n", 4), room.log())
+    require_equal((room.call("a").stdout, len(room.built())), ("two: a\n", 4), room.log())
 
 
 def what_depends_on_a_crate_that_another_build_proved_again_is_proved_again(room: Room) -> None:
@@ -180,7 +181,7 @@ def what_depends_on_a_crate_that_another_build_proved_again_is_proved_again(room
         (room.top / "crates/px_bytes/src/lib.rt").write_text(text)
         room.call()
         require(room.prove("px_other").returncode == 0, room.log())
-    require(room.built().count("px_bytes") == room.built().count("px_other") == 2, room.log())
+    require_equal([room.built().count(it) for it in ("px_bytes", "px_other")], [2, 2], room.log())
 
 
 def nothing_is_written_where_all_is_built(room: Room) -> None:
@@ -192,7 +193,9 @@ def nothing_is_written_where_all_is_built(room: Room) -> None:
 
 def a_crate_of_another_name_is_an_error(room: Room) -> None:
     ran = room.prove("px_none")
-    require(ran.returncode == 1 and "px_none" in ran.stderr and not (room.top / "out").exists(), ran)
+    require(ran.returncode == 1, ran)
+    require("px_none" in ran.stderr, ran)
+    require(not (room.top / "out").exists(), ran)
 
 
 def is_proved(room: Room, crate: str) -> bool:
@@ -209,7 +212,8 @@ def nothing_counts_as_just_proved_after_a_change(room: Room) -> None:
     add_sources(room)
     before = state(room)
     room.is_proved()
-    require(is_proved(room, "px_high") and is_proved(room, "px_aside"), "nothing counts")
+    require(is_proved(room, "px_high"), "nothing counts")
+    require(is_proved(room, "px_aside"), "nothing counts")
     for what, _, change in list(each_change(room))[::5]:
         change()
         require(not is_proved(room, "px_high"), what)
@@ -299,14 +303,14 @@ def no_program_is_taken_that_is_not_of_the_last_proof(room: Room) -> None:
         room.is_proved()
         change()
         ran = room.call("a")
-        require((ran.returncode, ran.stdout) == (0, "one: a\n"), (what, ran))
+        require_equal((ran.returncode, ran.stdout), (0, "one: a\n"), (what, ran))
 
 
 def what_is_built_is_not_taken_again_from_the_gate(room: Room) -> None:
     room.is_proved()
     room.call()
     require(room.prove("px_other").returncode == 0, room.log())
-    require((room.call("a").stdout, room.built()) == ("proved: a\n", ["px_other"]), room.log())
+    require_equal((room.call("a").stdout, room.built()), ("proved: a\n", ["px_other"]), room.log())
     require(store_of(room).is_current("px_cli"), "libraries below the program were taken anew")
 
 
@@ -316,7 +320,8 @@ def how_many_are_proved_at_once(room: Room) -> None:
         file.write_text(text)
         require(machine.free_memory(file) == expected, text)
     require(machine.free_memory() > 0, "the system says nothing")
-    require(0 < machine.processors() <= (os.cpu_count() or 1), "no processors")
+    require(0 < machine.processors(), "no processors")
+    require(machine.processors() <= (os.cpu_count() or 1), "more processors than there are")
     were = machine.processors, machine.free_memory
     try:
         for processors, gigabytes, expected in ((1, 64, 1), (2, 64, 2), (3, 64, 3), (64, 64, 3), (4, 0, 1), (4, 3, 1), (4, 5, 1), (4, 6, 2),
@@ -359,7 +364,7 @@ def a_crate_begins_as_soon_as_what_it_depends_on_is_proved(room: Room) -> None:
     late.let_go("px_late")
     require(started.communicate(timeout=300)[0] == "one: a\n", late.log())
     given_way = {name: int(by) for what, _, name, by in late.log() if what == "end"}
-    require(given_way["px_b"] == given_way["px_cli"] == given_way["px_a"] == os.nice(0), late.log())
+    require_equal([given_way[it] for it in ("px_b", "px_cli", "px_a")], [os.nice(0)] * 3, late.log())
     require(given_way["px_late"] == 19, late.log())  # also if the tests have the least priority themselves
 
 
@@ -375,7 +380,7 @@ def no_more_are_proved_at_once_than_memory_allows(room: Room) -> None:
         wait_until(lambda many=many, expected=expected: sum(it[0] == "begin" for it in many.log()) >= expected, many.log())
         require("px_f" in [it[2] for it in many.log()], "another waits for px_f, so it is among the first")
         many.let_go(*(f"px_{it}" for it in names + "fg"))
-        require((started.communicate(timeout=300)[0], len(many.built())) == ("one: a\n", 8), many.log())
+        require_equal((started.communicate(timeout=300)[0], len(many.built())), ("one: a\n", 8), many.log())
         require(most_at_once(many.log()) == expected, many.log())
         jobs = {it.split("--jobs ")[1].split()[0] for it in (many.folder / "asked").read_text().splitlines()}
         require(jobs == {str(min(4, processors))}, jobs)
@@ -388,7 +393,8 @@ def a_crate_that_is_changed_while_it_is_proved_is_proved_again(room: Room) -> No
     (room.top / "crates/px_bytes/src/lib.rt").write_text("two")
     room.let_go("px_bytes")
     out, why = started.communicate(timeout=300)
-    require(out == "one: a\n" and "changed during the build" in why, (out, why))
+    require(out == "one: a\n", (out, why))
+    require("changed during the build" in why, (out, why))
     require(sorted(room.built()) == sorted(2 * ["px_bytes", "px_cli", "px_field", "px_iim"]), room.log())
     require(store_of(room).is_current("px_cli"), "it is not built of the new text")
 
@@ -398,7 +404,8 @@ def a_crate_that_changes_in_each_build_is_an_error(room: Room) -> None:
     room.command(room.folder / "kit/bin/rattle-link", f'#!/bin/sh\n{edits}\nexec sh ROOM/link "$@"\n')
     room.command(room.folder / "link", '#!/bin/sh\nwhile [ "$1" != -o ]; do shift; done\ncp "$3" "$2" && chmod +x "$2"\n')
     ran = room.call("a")
-    require((ran.returncode, ran.stdout, room.builds()) == (70, "", 2) and "changed" in ran.stderr, (ran, room.log()))
+    require_equal((ran.returncode, ran.stdout, room.builds()), (70, "", 2), (ran, room.log()))
+    require("changed" in ran.stderr, (ran, room.log()))
 
 
 def a_proof_that_is_killed_is_tried_again_with_one_job(room: Room) -> None:
@@ -406,7 +413,7 @@ def a_proof_that_is_killed_is_tried_again_with_one_job(room: Room) -> None:
     require(room.call("a").stdout == "one: a\n", room.log())
     require("once more, with one job" in (room.top / "out/build-px_iim.log").read_text(), "the log doesn't mention it")
     asked = [it for it in (room.folder / "asked").read_text().splitlines() if "--crate-name px_iim" in it]
-    require(["--jobs 4" in asked[0], "--jobs 1" in asked[1], len(asked)] == [True, True, 2], asked)
+    require_equal(["--jobs 4" in asked[0], "--jobs 1" in asked[1], len(asked)], [True, True, 2], asked)
     room.main.write_text("two")
     room.machine(1, 64)  # with one job it is killed for another reason, and ends the build
     (room.folder / "killed-px_cli").touch()
@@ -417,7 +424,8 @@ def the_first_crate_that_fails_ends_the_others(room: Room) -> None:
     room.hold("px_field")
     (room.folder / "fails-px_iim").write_text("no\n")
     ran = room.call("a")
-    require(ran.returncode == 70 and "px_iim was not proved" in ran.stderr, ran)
+    require(ran.returncode == 70, ran)
+    require("px_iim was not proved" in ran.stderr, ran)
     field = room.until("begin", "px_field")
     wait_until(lambda: not runs(field), "it still runs")
 
@@ -445,7 +453,7 @@ def compilers_are_stopped_before_their_threads_are_waited_for(room: Room) -> Non
     build.places = 2
     with mock.patch.object(prove, "ThreadPoolExecutor", Pool), mock.patch.object(prove, "say"), contextlib.suppress(prove.NotBuilt):
         build.run()
-    require(were_stopped == [True], "the other proof runs on")
+    require_equal(were_stopped, [True], "the other proof runs on")
 
 
 def what_a_killed_build_left_is_waited_for(room: Room) -> None:
@@ -474,7 +482,7 @@ def one_build_at_a_time(room: Room) -> None:
     require(len(room.log()) == 1, room.log())
     room.let_go("px_bytes")
     require([it.communicate(timeout=300)[0] for it in started] == [f"one: {it}\n" for it in range(5)], said)
-    require((room.builds(), len(room.built())) == (1, 4), room.log())
+    require_equal((room.builds(), len(room.built())), (1, 4), room.log())
     require([it.returncode for it in started] == [0] * 5, started)
 
 
@@ -485,7 +493,8 @@ def a_build_without_the_launcher_is_stopped_too(room: Room) -> None:
         working = room.until("begin", "px_bytes")
         started.send_signal(signal.SIGTERM)
         why = started.communicate(timeout=300)[1]
-    require(why.endswith("stopped\n") and started.returncode == 1, (started.returncode, why))
+    require(why.endswith("stopped\n"), (started.returncode, why))
+    require(started.returncode == 1, (started.returncode, why))
     wait_until(lambda: not runs(working), "the compiler still runs")
 
 

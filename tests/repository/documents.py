@@ -36,7 +36,7 @@ import rules
 import stated
 import watching
 from blocks import Blocks
-from checks import uncounted
+from checks import at_least
 from counting import examples, run_suite
 from meanings import LIMIT
 
@@ -180,14 +180,14 @@ class Shown(Folder):
 
     def test_each_python_block_of_the_readme_runs(self):
         blocks = fenced("README.md", "python")
-        self.assertTrue(blocks)
+        self.assertNotEqual(blocks, [])
         for block in blocks:
             ran = self.ran([sys.executable, "-c", block])
             self.assertEqual((ran.returncode, ran.stderr), (0, ""), block)
 
     def test_each_c_block_of_the_readme_runs(self):
         blocks = fenced("README.md", "c")
-        self.assertTrue(blocks)
+        self.assertNotEqual(blocks, [])
         for block in blocks:
             with open(os.path.join(self.folder, "a.c"), "w", encoding="utf-8") as it:
                 it.write(block)
@@ -279,7 +279,7 @@ class Listed(unittest.TestCase):
         self.assertEqual([it for it in named_there if it not in known], [])
         self.assertGreater(len(named_there), 2)
 
-    @uncounted
+    @at_least(30)
     def test_what_must_be_read_has_so_many_lines(self):
         rows = re.findall(r"^\| (px_\w+) \| ([^|]*) \| (\d+) \|$", text_of("docs/PROOFS.md"), re.M)
         code = {("px_bytes", "src/memory.rt"), ("px_bytes", "src/devices.rt"), ("px_cli", "src/files.rt")}
@@ -291,7 +291,7 @@ class Listed(unittest.TestCase):
             self.assertTrue(set(names) == known or {(crate, it) for it in names} <= code, (crate, names, known))
             self.assertEqual(sum(text_of(f"crates/{crate}/{it}").count("\n") for it in names), int(lines), crate)
 
-    @uncounted
+    @at_least(50)
     def test_what_must_be_read_comes_in_order(self):
         """A definition follows those that it uses."""
         seen = set()
@@ -302,7 +302,7 @@ class Listed(unittest.TestCase):
                 self.assertLessEqual(used, seen, f"{crate}: {name}")
                 seen.add((crate, name))
 
-    @uncounted
+    @at_least(65)
     def test_what_must_be_read_uses_no_words_of_single_calls(self):
         files = sorted(Path(TOP, "crates").glob("px_*/specs/[A-Z]*.antt"))
         self.assertGreater(len(files), 40)
@@ -357,7 +357,7 @@ class Written(unittest.TestCase):
             text = re.sub(r"^    .*$", "", prose(name), flags=re.M).partition("| Don't write |")[0]
             self.assertEqual(old.findall(text), [], name)
 
-    @uncounted
+    @at_least(4_000)
     def test_comments_have_the_terms_of_the_field(self):
         """Comments of sources have none of these words either, but for those that have a sense of their own there."""
         old = re.compile(rf"\b(?:{'|'.join(set(old_words()) - ORDINARY)})\b", re.I)
@@ -378,7 +378,7 @@ class Written(unittest.TestCase):
             plain = [not re.match(r"$|[#|>!]|- |\d+\. |    ", it) for it in lines]
             self.assertEqual([it for it, one, next_one in zip(lines, plain, plain[1:]) if one and next_one], [], path.name)
 
-    @uncounted
+    @at_least(140)
     def test_tables_are_whole(self):
         """A row of titles, a line of hyphens, and rows with as many cells; the first cell is nowhere empty."""
         tables = 0
@@ -388,11 +388,11 @@ class Written(unittest.TestCase):
                 titles, line, *rows = [re.sub(r"`[^`]*`", "code", it) for it in table.splitlines()]
                 self.assertRegex(line, r"^(?:\|---)+\|$", f"{path.name}: {titles}")
                 self.assertEqual([it for it in (titles, *rows) if it.count("|") != line.count("|") or re.match(r"\|\s*\||\|---", it)], [], path.name)
-                self.assertTrue(rows, path.name)
+                self.assertNotEqual(rows, [], path.name)
                 tables += 1
         self.assertGreater(tables, 20)
 
-    @uncounted
+    @at_least(45)
     def test_links_lead_to_files(self):
         for name in DOCUMENTS:
             for target in re.findall(r"\]\(([^)#]+)[^)]*\)", text_of(name)):

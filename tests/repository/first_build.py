@@ -13,7 +13,7 @@ import uuid
 from concurrent.futures import ThreadPoolExecutor
 from pathlib import Path
 
-from checks import require
+from checks import require, require_equal
 from counting import Counter, reason
 from paths import TOP
 
@@ -199,24 +199,29 @@ def again(gate: Gate) -> subprocess.CompletedProcess:
 
 def the_launcher_proves_builds_and_runs(user: FromNothing, gate: Gate) -> None:
     ran = user.launched
-    require((ran.returncode, ran.stdout) == (0, "one: a b\n"), ran)
+    require_equal((ran.returncode, ran.stdout), (0, "one: a b\n"), ran)
     require("proving px_bytes (1 of 4, 3 left)" in ran.stderr, ran.stderr)
-    require(all((user.top / f"out/proved/px_{it}.made-from").exists() for it in ("bytes", "one", "two", "cli")), "what was built isn't kept")
+    for it in ("bytes", "one", "two", "cli"):
+        require((user.top / f"out/proved/px_{it}.made-from").exists(), "what was built isn't kept")
     require("logic=proved" in (user.top / "out/build-px_bytes.log").read_text(encoding="utf-8"), "the log has no proof")
 
 
 def the_gate_proves_each_crate_once_and_builds(user: FromNothing, gate: Gate) -> None:
     said = gate.ran.stdout + gate.ran.stderr
-    require(gate.ran.returncode == 0 and gate.ran.stdout.endswith(" seconds\n7 passed, 0 failed\n"), said)
-    require((said.count("fn px_bytes::echo: proved\n"), said.count("fn px_cli::main: proved\n")) == (1, 1), said)
-    require("taking what was just proved of px_cli" in said and "proving px_bytes" not in said, said)
+    require(gate.ran.returncode == 0, said)
+    require(gate.ran.stdout.endswith(" seconds\n7 passed, 0 failed\n"), said)
+    require_equal((said.count("fn px_bytes::echo: proved\n"), said.count("fn px_cli::main: proved\n")), (1, 1), said)
+    require("taking what was just proved of px_cli" in said, said)
+    require("proving px_bytes" not in said, said)
     require("proving px_c (1 of 1, 0 left)" in said, said)
 
 
 def what_the_toolchain_kept_of_an_earlier_run_is_taken_too(user: FromNothing, gate: Gate) -> None:
     said = gate.again.stdout + gate.again.stderr
-    require(gate.again.returncode == 0 and gate.again.stdout.endswith(" seconds\n7 passed, 0 failed\n"), said)
-    require("taking what was just proved of px_cli" in said and "proving px_bytes" not in said, said)
+    require(gate.again.returncode == 0, said)
+    require(gate.again.stdout.endswith(" seconds\n7 passed, 0 failed\n"), said)
+    require("taking what was just proved of px_cli" in said, said)
+    require("proving px_bytes" not in said, said)
 
 
 def the_program_that_the_gate_proved_is_the_launcher_s(user: FromNothing, gate: Gate) -> None:
@@ -226,7 +231,7 @@ def the_program_that_the_gate_proved_is_the_launcher_s(user: FromNothing, gate: 
 
 
 def the_archive_is_that_of_rt_lib(user: FromNothing, gate: Gate) -> None:
-    require((user.library.returncode, user.by_rt.returncode) == (0, 0), (user.library, user.by_rt))
+    require_equal((user.library.returncode, user.by_rt.returncode), (0, 0), (user.library, user.by_rt))
     require("proving px_c (1 of 1, 0 left)" in user.library.stderr, "what the program stands on was proved again")
     by_rt = user.bytes_of("crates/px_c/out/libpx_c.a")
     require(user.bytes_of(ARCHIVE) == by_rt, "another archive than that of `rt lib`")
@@ -238,17 +243,24 @@ def nothing_of_the_gate_is_taken_that_was_changed_since(user: FromNothing, gate:
     shutil.rmtree(gate.top / "out/proved")
     (gate.top / "crates/px_bytes/src/lib.rt").touch()
     ran = gate.call("make", ARCHIVE, EXIFNORM_PROVED=str(gate.top / PROGRAM))
-    require(ran.returncode == 0 and "taking" not in ran.stderr and "proving px_bytes (1 of 2, 1 left)" in ran.stderr, ran)
+    require(ran.returncode == 0, ran)
+    require("taking" not in ran.stderr, ran)
+    require("proving px_bytes (1 of 2, 1 left)" in ran.stderr, ran)
 
 
 def what_the_gate_refuses_is_not_built(user: FromNothing, gate: Gate) -> None:
     for name, text, why in (("px_one", NEVER, "no call of `px_one::one`"), ("px_two", WAITS, "may-wait=1")):
         (user.top / f"crates/{name}/src/lib.rt").write_text(text, encoding="utf-8")
         ran = user.call("python3", "build/prove.py", name)
-        require(ran.returncode == 1 and f"fn {name}" in ran.stderr and ": proved" in ran.stderr and why in ran.stderr, ran)
+        require(ran.returncode == 1, ran)
+        require(f"fn {name}" in ran.stderr, ran)
+        require(": proved" in ran.stderr, ran)
+        require(why in ran.stderr, ran)
     (user.top / "HANDLES").write_text("Handles allowed: Wait.\n", encoding="utf-8")
     ran = user.call("python3", "build/prove.py", "px_two")
-    require(ran.returncode == 1 and "HANDLES" in ran.stderr and "proving" not in ran.stderr, ran)
+    require(ran.returncode == 1, ran)
+    require("HANDLES" in ran.stderr, ran)
+    require("proving" not in ran.stderr, ran)
 
 
 # The last two change what was built.

@@ -19,6 +19,7 @@ from unittest import mock
 import checks
 import counting
 from cases import Case, Sweep, read_all
+from kinds import small_kinds
 from paths import CASES, TESTS, TOP
 from program import Outcome, run
 from run import Parts, all_of, complaints_of, judge_files, judge_sweep, run_titles
@@ -38,6 +39,12 @@ class Fails(unittest.TestCase):
 
     def leaves(self):
         sys.exit(0)
+
+    def takes_a_list_for_true(self):
+        self.assertTrue([1])
+
+    def takes_no_match_for_false(self):
+        self.assertFalse(None)
 
     def has_two_subtests_that_fail(self):
         for number in (1, 2, 3):
@@ -91,6 +98,13 @@ class Checks(unittest.TestCase):
             self.three()
         checks.require(True)
 
+    def eight_members(self):
+        self.assertEqual((1, "a", b""), tuple([1, "a", b""]))
+        self.assertNotEqual([1, 2], [2, 1])
+        self.assertEqual({"a": 1}, dict(a=1))
+        self.assertEqual("abc", "".join("abc"))
+        checks.require_equal((1,), (1,))
+
 
 class IsNotSetUp(unittest.TestCase):
     """A class whose tests cannot begin."""
@@ -123,6 +137,8 @@ class Counting(unittest.TestCase):
             ("fails", "1 != 2"),
             ("has_an_error", "KeyError: 'a name' (harness_outcomes.py:"),
             ("leaves", "SystemExit: 0"),
+            ("takes_a_list_for_true", "TypeError: [1] is neither True nor False"),
+            ("takes_no_match_for_false", "TypeError: None is neither True nor False"),
             ("has_two_subtests_that_fail", "(number=1) 1 != 2"),
             ("skips_and_fails", "behind it"),
             ("is_expected_to_fail", "marked as one that fails"),
@@ -131,7 +147,8 @@ class Counting(unittest.TestCase):
             status, lines = self.counted(Fails(name), Passes("passes"))
             self.assertEqual((status, lines[-1]), (1, "1 passed, 1 failed"), lines)
             self.assertEqual([it for it in lines[1:-1] if not it.endswith(" checks")], [], lines)
-            self.assertTrue(lines[0].startswith(f"FAILED Fails.{name}: ") and why in lines[0], lines)
+            self.assertTrue(lines[0].startswith(f"FAILED Fails.{name}: "), lines)
+            self.assertIn(why, lines[0])
 
     def test_a_class_that_cannot_be_set_up_fails(self):
         status, lines = self.counted(IsNotSetUp("passes"))
@@ -179,7 +196,7 @@ class Counting(unittest.TestCase):
             self.assertEqual((ended, printed.getvalue().splitlines()[-1]), (status, last))
 
     def test_checks_are_counted(self):
-        for names, made in ((["three"], 3), (["three_in_subtests"], 3), (["one_of_three"], 1), (["three", "one_of_three"], 4)):
+        for names, made in ((["three"], 3), (["three_in_subtests"], 3), (["one_of_three"], 1), (["three", "one_of_three"], 4), (["eight_members"], 8)):
             self.assertEqual(self.counted(*map(Checks, names)), (0, [f"{made} checks", f"{len(names)} passed, 0 failed"]))
 
     def test_checks_of_functions_are_counted(self):
@@ -187,12 +204,24 @@ class Counting(unittest.TestCase):
 
         def outer(counter):
             checks.require(True)
-            counter.run("inner", lambda: [checks.require(it) for it in (1, 2)])
+            counter.run("inner", lambda: [checks.require(it > 0) for it in (1, 2)])
             counter.check("another", True)
 
         with contextlib.redirect_stdout(io.StringIO()) as printed:
             counting.run_tests([outer, outer])
         self.assertEqual(printed.getvalue().splitlines(), ["6 checks", "4 passed, 0 failed"])
+
+    def test_a_check_is_true_or_false(self):
+        for check in (lambda: checks.require("a text"), lambda: counting.Counter(only="").check("a name", [])):
+            with self.assertRaisesRegex(TypeError, "is neither True nor False"):
+                check()
+
+    def test_values_that_must_be_equal(self):
+        counter = counting.Counter(only="")
+        with checks.Made() as made, contextlib.redirect_stdout(io.StringIO()) as printed:
+            self.assertEqual([counter.equal("one", (1, 2), (1, 2)), counter.equal("two", 3, 4)], [True, False])
+        self.assertEqual((counter.passed, counter.failed, made.number), (1, 1, 5))
+        self.assertEqual(printed.getvalue(), "FAILED two: 3, and not 4\n")
 
     def test_a_required_check_that_fails_is_named(self):
         with contextlib.redirect_stdout(io.StringIO()) as printed:
@@ -307,7 +336,7 @@ class Wrong(Room):
             (self.filtered, 'REAL >/dev/null'),
         ):
             with self.subTest(name, text=text):
-                self.assertTrue(1 <= len(self.judged(name, text)) <= 2)
+                self.assertIn(len(self.judged(name, text)), (1, 2))
 
     def test_sweeps(self):
         for block, kinds in ((ONE, {}), (ONE, {"accepted": 5}), (ONE, {"normal": ONE, "accepted": 5})):
@@ -452,6 +481,22 @@ class Titles(unittest.TestCase):
 
     def test_each_title_of_large_blocks(self):
         self.assertEqual(self.counted(self.least_of_large), {**dict.fromkeys(self.least, 0), **self.least_of_large})
+
+    def test_blocks_nearly_in_order_are_judged_by_each_command(self):
+        with tempfile.TemporaryDirectory() as folder, mock.patch("run.judge_files", return_value=[]) as judged:
+            for _, test in itertools.islice(Parts("/bin/true", [], "", folder).nearly(small_kinds()), 3):
+                test()
+        for call in judged.call_args_list:
+            _, blocks, commands = call.args
+            self.assertEqual((len(list(blocks)), *commands), (40, "", "check", "show", "captions"))
+
+    def test_what_is_expected_of_a_case_is_counted(self):
+        """Besides its status, and nothing on standard error."""
+        for case, expected in (
+            (Case(""), 0), (Case("", output=b""), 1), (Case("", lines=0), 1), (Case("", has=[b"a", b"b"]), 2), (Case("", left={"a": b"", "b": b""}), 2),
+            (Case("", absent=["a", "b", "c"]), 3), (Sweep("", [b"a"] * 5), 5), (Sweep("", [b"a"] * 5, normal=b"", accepted=0), 7),
+        ):  # fmt: skip
+            self.assertEqual(case.dues(), expected, case)
 
     def test_each_test_is_counted_as_it_ends(self):
         printed, failures = io.StringIO(), []

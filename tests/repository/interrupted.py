@@ -8,7 +8,7 @@ import shutil
 import sys
 from typing import Callable
 
-from checks import require, uncounted
+from checks import at_least, require, require_equal
 from room import Room
 
 # Runs build/launch.py, and at its Nth change of a file kills it, or lets that change and all later ones fail as on a full disk.
@@ -48,7 +48,7 @@ def small(room: Room, name: str) -> Room:
     return made
 
 
-@uncounted  # as many as the build has steps
+@at_least(85)  # as many as the build has steps
 def at_each_step(room: Room, how: str, begin) -> None:
     """Builds with a fault at the first change of a file, then at the second, and so on. The next call must then be right."""
     made, failed = small(room, how), 0
@@ -65,7 +65,7 @@ def at_each_step(room: Room, how: str, begin) -> None:
             made.main.write_text(f"{text}, edited")
             text = f"{text}, edited"
         again = made.call("a")
-        require((again.returncode, again.stdout) == (0, f"{text}: a\n"), (step, ran, again))
+        require_equal((again.returncode, again.stdout), (0, f"{text}: a\n"), (step, ran, again))
         if ran.returncode == 0 and step > 20:
             require(failed > 15, f"{failed} calls of {step} failed")
             return
@@ -99,7 +99,7 @@ def a_full_disk_ends_no_call_where_all_is_built(room: Room) -> None:
     (made.top / "out/looked").unlink()
     (made.folder / "fault").write_text("full 1")
     ran = made.call("a")
-    require((ran.returncode, ran.stdout, ran.stderr) == (0, "one: a\n", ""), ran)
+    require_equal((ran.returncode, ran.stdout, ran.stderr), (0, "one: a\n", ""), ran)
     require(not (made.top / "out/looked").exists(), "it was written")
 
 
@@ -129,16 +129,18 @@ def what_is_left_behind_is_no_obstacle(room: Room) -> None:
     (room.top / "out/looked").write_text("")
     (room.top / "out/exifnorm").mkdir()
     ran = room.call("a")
-    require(ran.returncode == 70 and "exifnorm" in ran.stderr, ran)
+    require(ran.returncode == 70, ran)
+    require("exifnorm" in ran.stderr, ran)
     (room.top / "out/exifnorm").rmdir()
-    require((room.call("a").stdout, len(room.built())) == ("one: a\n", 4), room.log())
+    require_equal((room.call("a").stdout, len(room.built())), ("one: a\n", 4), room.log())
     require(not (proved / "making").exists(), "half of a build is left")
 
 
 def a_lock_that_cannot_be_taken_ends_the_call(room: Room) -> None:
     (room.top / "out/proved/lock").mkdir(parents=True)
     ran = room.call("a")
-    require(ran.returncode == 70 and ran.stdout == "" and "lock" in ran.stderr, ran)
+    require_equal((ran.returncode, ran.stdout), (70, ""), ran)
+    require("lock" in ran.stderr, ran)
 
 
 TESTS = [

@@ -316,7 +316,8 @@ class Growths(unittest.TestCase):
         self.assertEqual(list(growths.every())[:3], [1, 2, 3])
         numbers = list(growths.sample())
         self.assertEqual(numbers[:5], [1, 2, 3, 4, 6])
-        self.assertTrue(all(after <= 1 + before * 5 // 4 for before, after in zip(numbers, numbers[1:])))
+        for before, after in zip(numbers, numbers[1:]):
+            self.assertLessEqual(after, 1 + before * 5 // 4)
 
 
 class Sources(unittest.TestCase):

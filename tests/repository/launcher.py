@@ -26,7 +26,7 @@ import build_rules
 import first_build
 import interrupted
 import makefile
-from checks import require
+from checks import require, require_equal
 from counting import Counter
 from room import HANDLES, Room, runs, wait_until, was_asked_to_end
 
@@ -43,20 +43,23 @@ exit "${1:-0}"
 
 def the_first_call_builds_each_crate_once_and_runs(room: Room) -> None:
     ran = room.call("check", "a b")
-    require((ran.returncode, ran.stdout) == (0, "one: check a b\n"), ran)
-    require(sorted(room.built()) == ["px_bytes", "px_cli", "px_field", "px_iim"], room.log())
-    require(room.built()[0] == "px_bytes" and room.built()[-1] == "px_cli", room.log())
+    require_equal((ran.returncode, ran.stdout), (0, "one: check a b\n"), ran)
+    require_equal(sorted(room.built()), ["px_bytes", "px_cli", "px_field", "px_iim"], room.log())
+    require(room.built()[0] == "px_bytes", room.log())
+    require(room.built()[-1] == "px_cli", room.log())
     first, *others = ran.stderr.splitlines()
-    require("building the program from its sources" in first and "proving px_cli (4 of 4, 0 left)" in others[-1], ran.stderr)
+    require("building the program from its sources" in first, ran.stderr)
+    require("proving px_cli (4 of 4, 0 left)" in others[-1], ran.stderr)
     require(not (room.top / "out/proved/making").exists(), "what was made aside is left behind")
-    require(all(it.startswith("exifnorm: ") for it in ran.stderr.splitlines()) and "taking" not in ran.stderr, ran.stderr)
+    require_equal([it for it in ran.stderr.splitlines() if not it.startswith("exifnorm: ")], [])
+    require("taking" not in ran.stderr, ran.stderr)
 
 
 def a_later_call_builds_nothing_and_prints_nothing(room: Room) -> None:
     room.call()
     for _ in range(3):
         ran = room.call("show", "x")
-        require((ran.returncode, ran.stdout, ran.stderr) == (0, "one: show x\n", ""), ran)
+        require_equal((ran.returncode, ran.stdout, ran.stderr), (0, "one: show x\n", ""), ran)
     require(room.builds() == 1, room.log())
 
 
@@ -86,9 +89,10 @@ def most_calls_are_a_quick_look_without_python(room: Room) -> None:
     (room.folder / "counted" / "rt").unlink()
     require(room.call("a").stdout == "one: a\n", "the program does not run")
     started = sorted((room.folder / "started").read_text().split())
-    require(started == ["cmp", "find", "sh"], f"a call starts {started}")
+    require_equal(started, ["cmp", "find", "sh"], f"a call starts {started}")
     room.main.write_text("two")
-    require(room.call("a").stdout == "two: a\n" and "python3" in (room.folder / "started").read_text(), "commands are not counted")
+    require(room.call("a").stdout == "two: a\n", "commands are not counted")
+    require("python3" in (room.folder / "started").read_text(), "commands are not counted")
 
 
 def each_source(room: Room):
@@ -119,7 +123,7 @@ def every_kind_of_change_in_each_folder_is_noticed(room: Room) -> None:
             require(not room.looks(), f"the quick look passes over {source}: {kind}")
         source.write_text("new")
         room.forget()
-        require((room.call("a").stdout, sorted(room.built())) == ("one: a\n", built), (source, room.log()))
+        require_equal((room.call("a").stdout, sorted(room.built())), ("one: a\n", built), (source, room.log()))
 
 
 def a_change_of_what_is_no_source_of_a_crate_is_noticed(room: Room) -> None:
@@ -147,10 +151,10 @@ def touched_and_copied_sources_are_not_built_again(room: Room) -> None:
     room.main.touch()
     require(not room.looks(), "a time is passed over")
     ran = room.call("a")
-    require((ran.stdout, ran.stderr, room.builds()) == ("one: a\n", "", 1), ran)
+    require_equal((ran.stdout, ran.stderr, room.builds()), ("one: a\n", "", 1), ran)
     shutil.copytree(room.top, room.folder / "copy")
     ran = room.call("a", program=str(room.folder / "copy" / "exifnorm"))
-    require((ran.stdout, ran.stderr, room.builds()) == ("one: a\n", "", 1), ran)
+    require_equal((ran.stdout, ran.stderr, room.builds()), ("one: a\n", "", 1), ran)
 
 
 def a_clock_that_is_set_back_hides_no_change(room: Room) -> None:
@@ -173,12 +177,12 @@ def another_toolchain_builds_again_and_the_same_elsewhere_does_not(room: Room) -
     (room.folder / "version").write_text("toolchain 2\n")
     room.rt.touch()
     room.call()
-    require((room.builds(), len(room.built())) == (2, 8), room.log())
+    require_equal((room.builds(), len(room.built())), (2, 8), room.log())
     room.settle()
     shutil.copytree(room.bin, room.folder / "other")
     room.named = {"PATH": f"{room.folder}/other:{room.environment()['PATH']}"}
     require(not room.looks(), "a command in another folder is passed over")
-    require((room.call("a").stdout, room.builds()) == ("one: a\n", 2), room.log())
+    require_equal((room.call("a").stdout, room.builds()), ("one: a\n", 2), room.log())
 
 
 def other_scripts_that_prove_build_again(room: Room) -> None:
@@ -187,7 +191,7 @@ def other_scripts_that_prove_build_again(room: Room) -> None:
         with open(room.top / "build" / name, "a", encoding="utf-8") as it:
             it.write("# changed\n")
         require(not room.looks(), f"a change of {name} is passed over")
-        require((room.call("a").stdout, room.builds()) == ("one: a\n", builds), (name, room.log()))
+        require_equal((room.call("a").stdout, room.builds()), ("one: a\n", builds), (name, room.log()))
         room.settle()
 
 
@@ -195,29 +199,30 @@ def a_changed_or_missing_program_is_noticed(room: Room) -> None:
     room.settle()
     program = room.top / "out/proved/px_cli"
     program.unlink()
-    require((room.call("a").stdout, room.built()[4:]) == ("one: a\n", ["px_cli"]), room.log())
+    require_equal((room.call("a").stdout, room.built()[4:]), ("one: a\n", ["px_cli"]), room.log())
     room.settle()
     program.touch()
     require(not room.looks(), "a program that was changed is passed over")
     room.settle()
     for _ in range(2):
         (room.top / "out/exifnorm").unlink()
-        require((room.call("a").stdout, room.builds()) == ("one: a\n", 2), room.log())
+        require_equal((room.call("a").stdout, room.builds()), ("one: a\n", 2), room.log())
     (room.top / "out/exifnorm").unlink()
     (room.top / "out/exifnorm").write_text("what another version of this left")
-    require((room.call("a").stdout, room.builds()) == ("one: a\n", 2), room.log())
+    require_equal((room.call("a").stdout, room.builds()), ("one: a\n", 2), room.log())
     (room.top / "out/exifnorm").unlink()
     (room.top / "out/exifnorm").symlink_to(shutil.which("false"))
-    require((room.call("a").stdout, room.builds()) == ("one: a\n", 2), room.log())
+    require_equal((room.call("a").stdout, room.builds()), ("one: a\n", 2), room.log())
 
 
 def a_built_program_runs_without_the_toolchain(room: Room) -> None:
     room.call()
     ran = room.call("a", has_rt=False)
-    require((ran.returncode, ran.stdout, ran.stderr) == (0, "one: a\n", ""), ran)
+    require_equal((ran.returncode, ran.stdout, ran.stderr), (0, "one: a\n", ""), ran)
     room.main.write_text("two")
     ran = room.call("a", has_rt=False)
-    require(ran.returncode == 70 and ran.stdout == "" and "no command rt" in ran.stderr, ran)
+    require_equal((ran.returncode, ran.stdout), (70, ""), ran)
+    require("no command rt" in ran.stderr, ran)
 
 
 def a_call_without_python_runs_what_is_built_and_builds_nothing(room: Room) -> None:
@@ -228,17 +233,19 @@ def a_call_without_python_runs_what_is_built_and_builds_nothing(room: Room) -> N
         (few / name).symlink_to(shutil.which(name))
     room.named = {"PATH": f"{room.bin}:{few}"}
     ran = room.call("a")
-    require((ran.returncode, ran.stdout, ran.stderr) == (0, "one: a\n", ""), ran)
+    require_equal((ran.returncode, ran.stdout, ran.stderr), (0, "one: a\n", ""), ran)
     room.main.write_text("two")
     ran = room.call("a")
-    require(ran.returncode == 70 and ran.stdout == "" and "python3" in ran.stderr, ran)
+    require_equal((ran.returncode, ran.stdout), (70, ""), ran)
+    require("python3" in ran.stderr, ran)
 
 
 def a_crate_that_fails_is_reported_and_built_by_the_next_call(room: Room) -> None:
     (room.folder / "fails-px_iim").write_text("this crate is not proved\n")
     ran = room.call("a")
-    require(ran.returncode == 70 and ran.stdout == "", ran)
-    require("this crate is not proved" in ran.stderr and "px_iim was not proved" in ran.stderr, ran.stderr)
+    require_equal((ran.returncode, ran.stdout), (70, ""), ran)
+    require("this crate is not proved" in ran.stderr, ran.stderr)
+    require("px_iim was not proved" in ran.stderr, ran.stderr)
     (room.folder / "fails-px_iim").unlink()
     require(room.call("a").stdout == "one: a\n", room.log())
 
@@ -246,14 +253,18 @@ def a_crate_that_fails_is_reported_and_built_by_the_next_call(room: Room) -> Non
 def the_end_of_a_log_is_shown(room: Room) -> None:
     (room.folder / "fails-px_iim").write_text("".join(f"line {it}\n" for it in range(1, 51)))
     ran = room.call("a")
-    require(ran.returncode == 70 and "line 50\n" in ran.stderr and "line 1\n" not in ran.stderr, ran)
+    require(ran.returncode == 70, ran)
+    require("line 50\n" in ran.stderr, ran)
+    require("line 1\n" not in ran.stderr, ran)
 
 
 def a_toolchain_that_fails_is_named(room: Room) -> None:
     room.command(room.rt, "#!/bin/sh\nexit 3\n")
     for ran, status in ((room.call("a"), 70), (room.prove("px_cli"), 1)):
-        require((ran.returncode, ran.stdout) == (status, ""), ran)
-        require("'rt'" in ran.stderr and "status 3" in ran.stderr and "Traceback" not in ran.stderr, ran)
+        require_equal((ran.returncode, ran.stdout), (status, ""), ran)
+        require("'rt'" in ran.stderr, ran)
+        require("status 3" in ran.stderr, ran)
+        require("Traceback" not in ran.stderr, ran)
 
 
 def a_proof_that_fails_after_a_good_build_is_not_taken(room: Room) -> None:
@@ -265,7 +276,8 @@ def a_proof_that_fails_after_a_good_build_is_not_taken(room: Room) -> None:
         (room.top / "crates" / crate / "proofs/Answers.antt").write_text(f"wrong {crate}{'' if text else ' again'}")
         for _ in range(2):
             ran = room.call("a")
-            require(ran.returncode == 70 and ran.stdout == "" and f"{crate} was not proved" in ran.stderr, ran)
+            require_equal((ran.returncode, ran.stdout), (70, ""), ran)
+            require(f"{crate} was not proved" in ran.stderr, ran)
         fails.unlink()
         require(room.call("a").stdout == "one: a\n", room.log())
     (room.folder / "fails-px_iim").write_text("no")
@@ -304,7 +316,9 @@ def a_crate_counts_as_proved_by_its_verdict_alone(room: Room) -> None:
             says.write_text(text)
             (room.top / "crates/px_iim/src/lib.rt").write_text(text)
             ran = room.call("a")
-            require(ran.returncode == 70 and ran.stdout == "" and "px_iim was not proved" in ran.stderr and why in ran.stderr, (text, ran))
+            require_equal((ran.returncode, ran.stdout), (70, ""), (text, ran))
+            require("px_iim was not proved" in ran.stderr, (text, ran))
+            require(why in ran.stderr, (text, ran))
     closure = "warning: no call of `px_iim::one::fn::two` can meet its contract\nlogic=proved functions=1 sum=1f\n"
     says.write_text(closure)  # |e| match e {} is honest code
     require(room.call("a").stdout == "one: a\n", room.log())
@@ -320,7 +334,8 @@ def called(crate: str, used: str, made: str, *more: str) -> str:
 
 def a_compiler_is_called_as_the_toolchain_calls_it(room: Room) -> None:
     small = Room(room.folder / "small", "px_low: byteorder\npx_c staticlib: px_low\npx_cli: px_low clap\n")
-    require(small.prove("px_c").returncode == 0 and small.call("a").stdout == "one: a\n", small.log())
+    require(small.prove("px_c").returncode == 0, small.log())
+    require(small.call("a").stdout == "one: a\n", small.log())
     asked = (small.folder / "asked").read_text().replace(f"{small.top}/out/proved", "PROVED").replace(f"{small.folder}/kit", "KIT")
     native = "--toolchain KIT/toolchain --backend llvm"
     expected = [called("px_low", "byteorder", "px_low.rlib", "--statements"),
@@ -335,12 +350,14 @@ def changed_handles_are_refused(room: Room) -> None:
     for text in ("", "Handles allowed: Wait.\n", "Handles allowed: none", f"{HANDLES}Handles allowed: Wait.\n", f"{HANDLES}\n"):
         handles.write_text(text)
         ran = room.call("a")
-        require(ran.returncode == 70 and ran.stdout == "" and "HANDLES" in ran.stderr, (text, ran))
+        require_equal((ran.returncode, ran.stdout), (70, ""), (text, ran))
+        require("HANDLES" in ran.stderr, (text, ran))
     handles.unlink()
     ran = room.call("a")
-    require(ran.returncode == 70 and ran.stdout == "" and "HANDLES" in ran.stderr, ran)
+    require_equal((ran.returncode, ran.stdout), (70, ""), ran)
+    require("HANDLES" in ran.stderr, ran)
     handles.write_text(HANDLES)
-    require((room.call("a").stdout, room.builds()) == ("one: a\n", 1), room.log())
+    require_equal((room.call("a").stdout, room.builds()), ("one: a\n", 1), room.log())
 
 
 def links_among_the_sources_are_refused(room: Room) -> None:
@@ -349,7 +366,8 @@ def links_among_the_sources_are_refused(room: Room) -> None:
         link = room.top / "crates/px_iim" / part
         link.symlink_to(room.folder / "elsewhere")  # which is not there
         ran = room.call("a")
-        require(ran.returncode == 70 and ran.stdout == "" and "link" in ran.stderr, ran)
+        require_equal((ran.returncode, ran.stdout), (70, ""), ran)
+        require("link" in ran.stderr, ran)
         link.unlink()
     require(room.call("a").stdout == "one: a\n", room.log())
 
@@ -360,7 +378,8 @@ def a_program_that_does_not_start_is_never_installed(room: Room) -> None:
         (room.folder / "program").write_text(text)
         room.main.write_text(f"two {text}")
         ran = room.call("a")
-        require(ran.returncode == 70 and ran.stdout == "" and "does not start" in ran.stderr, (text, ran))
+        require_equal((ran.returncode, ran.stdout), (70, ""), (text, ran))
+        require("does not start" in ran.stderr, (text, ran))
     (room.folder / "program").unlink()
     room.main.write_text("one")
     require(room.call("a").stdout == "one: a\n", room.log())
@@ -368,7 +387,7 @@ def a_program_that_does_not_start_is_never_installed(room: Room) -> None:
 
 def it_prints_where_the_built_program_is(room: Room) -> None:
     ran = room.call("--where", cwd="/")
-    require((ran.returncode, ran.stdout) == (0, f"{room.top.resolve() / 'out' / 'exifnorm'}\n"), ran)
+    require_equal((ran.returncode, ran.stdout), (0, f"{room.top.resolve() / 'out' / 'exifnorm'}\n"), ran)
     require(room.call("a", program=ran.stdout.strip()).stdout == "one: a\n", ran)
     for is_quick in (True, False):
         room.settle()
@@ -384,36 +403,36 @@ def odd_names_of_folders_and_arguments(room: Room) -> None:
         other = Room(room.folder / str(i), name=name)
         for _ in range(2):
             ran = other.call(*words, program=f"{name}/exifnorm", cwd=other.folder)
-            require((ran.returncode, ran.stdout) == (0, f"one: {' '.join(words)}\n"), (name, ran))
+            require_equal((ran.returncode, ran.stdout), (0, f"one: {' '.join(words)}\n"), (name, ran))
         os.symlink(f"{name}/exifnorm", other.folder / "-link")
         for program, folder in (("./-link", other.folder), (str(other.folder / "-link"), "/")):
             ran = other.call("b", program=program, cwd=folder)
-            require((ran.returncode, ran.stdout, ran.stderr) == (0, "one: b\n", ""), (name, ran))
+            require_equal((ran.returncode, ran.stdout, ran.stderr), (0, "one: b\n", ""), (name, ran))
         other.settle()
         require(other.looks(), f"no quick look in {name!r}")
         ran = other.call("-", "b", program=f"{name}/exifnorm", cwd=other.folder)
-        require((ran.stdout, ran.stderr) == ("one: - b\n", ""), (name, ran))
+        require_equal((ran.stdout, ran.stderr), ("one: - b\n", ""), (name, ran))
 
 
 def it_is_called_from_any_folder_and_through_links(room: Room) -> None:
     room.settle()
     ran = room.call("a", program="./exifnorm", cwd=room.top)
-    require((ran.stdout, ran.stderr) == ("one: a\n", ""), ran)
+    require_equal((ran.stdout, ran.stderr), ("one: a\n", ""), ran)
     os.symlink(room.top / "exifnorm", room.folder / "first")
     os.symlink("first", room.folder / "second")
     os.symlink(room.top, room.folder / "folder")
     calls = [(str(room.folder / "second"), "/"), ("./second", room.folder), ("folder/exifnorm", room.folder)]
     for program, folder in calls:
         ran = room.call("b", program=program, cwd=folder)
-        require((ran.stdout, ran.stderr) == ("one: b\n", ""), ran)
+        require_equal((ran.stdout, ran.stderr), ("one: b\n", ""), ran)
     shell = ("-c", 'exec "$@"', "", "sh", "exifnorm", "c")
     ran = room.call(*shell, program="/bin/sh", cwd=room.top)
-    require((ran.stdout, ran.stderr) == ("one: c\n", ""), ran)
+    require_equal((ran.stdout, ran.stderr), ("one: c\n", ""), ran)
     room.named = {"PATH": f"{room.top}:{room.environment()['PATH']}"}
     ran = room.call("c", program="exifnorm", cwd="/")
-    require((ran.stdout, room.builds()) == ("one: c\n", 1), ran)
+    require_equal((ran.stdout, room.builds()), ("one: c\n", 1), ran)
     ran = room.call("exifnorm", "d", program="bash", cwd="/")  # bash looks for it on the PATH, and gives it its bare name
-    require((ran.stdout, ran.stderr) == ("one: d\n", ""), ran)
+    require_equal((ran.stdout, ran.stderr), ("one: d\n", ""), ran)
 
 
 def settings_of_the_callers_python_do_not_reach_the_build(room: Room) -> None:
@@ -423,19 +442,21 @@ def settings_of_the_callers_python_do_not_reach_the_build(room: Room) -> None:
         (shadow / f"{name}.py").write_text("raise SystemExit(5)\n")
     room.named = {"PYTHONPATH": str(shadow), "PYTHONHOME": str(shadow)}
     ran = room.call("a")
-    require((ran.returncode, ran.stdout) == (0, "one: a\n"), ran)
+    require_equal((ran.returncode, ran.stdout), (0, "one: a\n"), ran)
 
 
 def a_copy_outside_its_folder_is_an_error(room: Room) -> None:
     shutil.copy(room.top / "exifnorm", room.folder / "exifnorm")
     ran = room.call("a", program=str(room.folder / "exifnorm"))
-    require(ran.returncode == 70 and ran.stdout == "" and "folder" in ran.stderr, ran)
+    require_equal((ran.returncode, ran.stdout), (70, ""), ran)
+    require("folder" in ran.stderr, ran)
 
 
 def a_folder_that_cannot_be_written_is_reported(room: Room) -> None:
     (room.top / "out").write_text("a file in place of the folder")
     ran = room.call("a")
-    require(ran.returncode == 70 and ran.stdout == "" and "out" in ran.stderr, ran)
+    require_equal((ran.returncode, ran.stdout), (70, ""), ran)
+    require("out" in ran.stderr, ran)
 
 
 def nobody(room: Room) -> dict:
@@ -455,7 +476,7 @@ def a_built_program_is_for_all_users(room: Room) -> None:
         (room.top / "out").chmod(0o555)
     ran = room.call("a", **how)
     (room.top / "out").chmod(0o755)
-    require((ran.returncode, ran.stdout, ran.stderr) == (0, "one: a\n", ""), ran)
+    require_equal((ran.returncode, ran.stdout, ran.stderr), (0, "one: a\n", ""), ran)
 
 
 def no_shell_and_no_python_stays_beside_the_program(room: Room) -> None:
@@ -465,10 +486,13 @@ def no_shell_and_no_python_stays_beside_the_program(room: Room) -> None:
         started = room.start("7")
         out, why = started.communicate(timeout=300)
         number, rest = out.split("\n", 1)
-        require((int(number), started.returncode) == (started.pid, 7) and why.endswith("this is an error\n"), (out, why))
+        require_equal((int(number), started.returncode), (started.pid, 7), (out, why))
+        require(why.endswith("this is an error\n"), (out, why))
         said.append(rest)
         room.settle()
-    require(said[0] == said[1] and "SigIgn: 0000000000000000" in said[0] and "SigBlk: 0000000000000000" in said[0], said)
+    require(said[0] == said[1], said)
+    require("SigIgn: 0000000000000000" in said[0], said)
+    require("SigBlk: 0000000000000000" in said[0], said)
 
 
 def closed_streams_stay_closed(room: Room) -> None:
@@ -480,12 +504,13 @@ def closed_streams_stay_closed(room: Room) -> None:
             words = ("-c", f'exec "$@" {closes} >"{file}"', "", str(room.top / "exifnorm"))
             ran = room.call(*words, program="/bin/sh")
             seen = [int(it.split()[0]) for it in file.read_text().splitlines() if it.endswith("open")]
-            require(ran.returncode == 0 and seen == expected, (closes, ran, file.read_text()))
+            require(ran.returncode == 0, (closes, ran, file.read_text()))
+            require(seen == expected, (closes, ran, file.read_text()))
             room.settle()
         room.main.write_text(f"{closes} again")
         (room.folder / "fails-px_cli").write_text("no")
         ran = room.call(*words, program="/bin/sh")
-        require((ran.returncode, file.read_text()) == (70, ""), (closes, ran, file.read_text()))
+        require_equal((ran.returncode, file.read_text()), (70, ""), (closes, ran, file.read_text()))
         (room.folder / "fails-px_cli").unlink()
     ran = room.call("-c", 'exec "$@" >&-', "", str(room.top / "exifnorm"), program="/bin/sh")
     require(ran.returncode == 0, ran)
@@ -494,11 +519,11 @@ def closed_streams_stay_closed(room: Room) -> None:
 def an_output_that_takes_nothing_ends_no_build(room: Room) -> None:
     with open("/dev/full", "w", encoding="ascii") as full:
         ran = room.call("a", stderr=full)
-        require((ran.returncode, ran.stdout) == (0, "one: a\n"), ran)
+        require_equal((ran.returncode, ran.stdout), (0, "one: a\n"), ran)
         room.main.write_text("two")
         (room.folder / "fails-px_cli").write_text("no")
         ran = room.call("a", stderr=full)
-        require((ran.returncode, ran.stdout) == (70, ""), ran)
+        require_equal((ran.returncode, ran.stdout), (70, ""), ran)
         (room.folder / "fails-px_cli").unlink()
         require(room.call("--where", stdout=full).returncode == 70, "a place that could not be written was said")
 
@@ -506,17 +531,18 @@ def an_output_that_takes_nothing_ends_no_build(room: Room) -> None:
 def what_was_just_proved_is_taken(room: Room) -> None:
     room.is_proved()
     ran = room.call("a")
-    require((ran.returncode, ran.stdout, room.log()) == (0, "proved: a\n", []), (ran, room.log()))
-    require("taking" in ran.stderr and "proving" not in ran.stderr, ran.stderr)
+    require_equal((ran.returncode, ran.stdout, room.log()), (0, "proved: a\n", []), (ran, room.log()))
+    require("taking" in ran.stderr, ran.stderr)
+    require("proving" not in ran.stderr, ran.stderr)
     ran = room.call("b")
-    require((ran.stdout, ran.stderr) == ("proved: b\n", ""), ran)
+    require_equal((ran.stdout, ran.stderr), ("proved: b\n", ""), ran)
     require(room.proved.exists(), "what was proved is gone")
     room.proved.unlink()
     require(room.call("c", has_rt=False).stdout == "proved: c\n", "the program is no copy")
     room.named = {}
     require(room.call("d").stdout == "proved: d\n", "it is built again")
     room.main.write_text("two")
-    require((room.call().stdout, room.built()) == ("two: \n", ["px_cli"]), room.log())
+    require_equal((room.call().stdout, room.built()), ("two: \n", ["px_cli"]), room.log())
 
 
 def a_name_that_is_not_a_full_one_names_nothing_proved(room: Room) -> None:
@@ -547,16 +573,18 @@ def stopped(room: Room, how: int) -> None:
     working = room.until("begin", "px_cli")
     wait_until(lambda: (room.folder / "starts-px_cli").read_text(), "it starts no process")
     below = int((room.folder / "starts-px_cli").read_text())
-    require(runs(working) and runs(below), "they have ended by themselves")
+    require(runs(working), "they have ended by themselves")
+    require(runs(below), "they have ended by themselves")
     started.send_signal(how)
     out, why = started.communicate(timeout=300)
-    require((started.returncode, out) == (70, "") and "stopped" in why, (started.returncode, out, why))
+    require_equal((started.returncode, out), (70, ""), (started.returncode, out, why))
+    require("stopped" in why, (started.returncode, out, why))
     wait_until(lambda: was_asked_to_end(working) and was_asked_to_end(below), "the compiler runs on, or what it started", 5)
     wait_until(lambda: not runs(working) and not runs(below), "they don't end")
     (room.folder / "holds-px_cli").unlink()
     (room.folder / "starts-px_cli").unlink()
     ran = room.call("a")
-    require((ran.returncode, ran.stdout) == (0, "two: a\n"), ran)
+    require_equal((ran.returncode, ran.stdout), (0, "two: a\n"), ran)
 
 
 def a_build_that_is_stopped_ends_with_all_that_it_started(room: Room) -> None:
@@ -573,7 +601,8 @@ def a_signal_that_any_thread_of_a_build_takes_stops_it(room: Room) -> None:
     require(len(others) == 1, others)
     require(ctypes.CDLL(None).tgkill(started.pid, others[0], signal.SIGTERM) == 0, "no such thread")
     out, why = started.communicate(timeout=300)
-    require((started.returncode, out) == (70, "") and "stopped" in why, (started.returncode, out, why))
+    require_equal((started.returncode, out), (70, ""), (started.returncode, out, why))
+    require("stopped" in why, (started.returncode, out, why))
     wait_until(lambda: not runs(working), "the compiler still runs")
 
 

@@ -7,7 +7,7 @@ import os
 import shutil
 import subprocess
 
-from checks import require
+from checks import require, require_equal
 from room import HANDLES, TOP, Room
 
 CRATES = "px_bytes: byteorder\npx_engine: px_bytes\npx_aside: px_bytes\npx_cli: px_engine\npx_c staticlib: px_bytes px_engine\n"
@@ -65,8 +65,10 @@ def make_builds_the_program_and_the_library(room: Room) -> None:
     require(ran.returncode == 0, ran)
     require(room.call("a", program=str(room.top / "out/exifnorm")).stdout == "one: a\n", "no program")
     require(set(LIBRARIES) <= set(built(room)), built(room).keys())
-    require(sorted(set(room.built())) == ["px_bytes", "px_c", "px_cli", "px_engine"] and len(room.built()) == 4, room.log())
-    require(holds(room, "libexifnorm.a", "toolchain 1") and holds(room, "libexifnorm.so.1", "own one"), "the library holds something else")
+    require_equal(sorted(set(room.built())), ["px_bytes", "px_c", "px_cli", "px_engine"], room.log())
+    require(len(room.built()) == 4, room.log())
+    require(holds(room, "libexifnorm.a", "toolchain 1"), "the library holds something else")
+    require(holds(room, "libexifnorm.so.1", "own one"), "the library holds something else")
 
 
 def no_change_builds_nothing_again(room: Room) -> None:
@@ -75,14 +77,18 @@ def no_change_builds_nothing_again(room: Room) -> None:
     before, log = built(room), room.log()
     for words in ((), ("library",), ("program",), ("-j4",)):
         ran = make(room, *words)
-        require(ran.returncode == 0 and "ld " not in ran.stdout and "cc " not in ran.stdout, ran)
+        require(ran.returncode == 0, ran)
+        require("ld " not in ran.stdout, ran)
+        require("cc " not in ran.stdout, ran)
     for it in ("crates.txt", "crates/px_c/src/lib.rt", "crates/px_cli/src/main.rt", "build/compiler.py", "HANDLES"):
         (room.top / it).touch()
     (room.top / "crates/px_aside/src/lib.rt").write_text("two")
     (room.top / "crates/px_c/must-fail").mkdir()
     (room.top / "crates/px_c/must-fail/one.edit").write_text("text")
     ran = make(room)
-    require(ran.returncode == 0 and built(room) == before and room.log() == log, ran)
+    require(ran.returncode == 0, ran)
+    require(built(room) == before, ran)
+    require(room.log() == log, ran)
 
 
 def each_changed_source_is_in_the_library(room: Room) -> None:
@@ -96,14 +102,17 @@ def each_changed_source_is_in_the_library(room: Room) -> None:
         ran = make(room, "library")
         require(ran.returncode == 0, (name, ran))
         after = built(room)
-        require(all(after[it][0] > before[it][0] for it in ("libpx_c.a", "exifnorm.o", "libexifnorm.a", "libexifnorm.so.1")), (name, ran))
+        for it in ("libpx_c.a", "exifnorm.o", "libexifnorm.a", "libexifnorm.so.1"):
+            require(after[it][0] > before[it][0], (name, ran))
         if "px_c" in name:
-            require(all(holds(room, it, f"text {i}") for it in LIBRARIES[:2]), name)
+            for it in LIBRARIES[:2]:
+                require(holds(room, it, f"text {i}"), name)
     make(room)
     before = built(room)
     for name in ("crates/px_c/src/further.rt", "crates/px_c/proofs/Further.antt"):
         (room.top / name).unlink()
-    require(make(room).returncode == 0 and built(room)["libexifnorm.a"] != before["libexifnorm.a"], "what was taken away stays in the library")
+    require(make(room).returncode == 0, "what was taken away stays in the library")
+    require(built(room)["libexifnorm.a"] != before["libexifnorm.a"], "what was taken away stays in the library")
 
 
 def a_changed_program_source_is_in_the_program(room: Room) -> None:
@@ -117,10 +126,12 @@ def a_changed_program_source_is_in_the_program(room: Room) -> None:
 
 def a_changed_header_is_copied(room: Room) -> None:
     room = made(room)
-    require(make(room, "out/lib/exifnorm.h").returncode == 0 and holds(room, "exifnorm.h", "one"), "it is not copied before the library is built")
+    require(make(room, "out/lib/exifnorm.h").returncode == 0, "it is not copied before the library is built")
+    require(holds(room, "exifnorm.h", "one"), "it is not copied before the library is built")
     make(room)
     (room.top / "crates/px_c/include/exifnorm.h").write_text("/* two */\n")
-    require(make(room, "library").returncode == 0 and holds(room, "exifnorm.h", "two"), "the header is the old one")
+    require(make(room, "library").returncode == 0, "the header is the old one")
+    require(holds(room, "exifnorm.h", "two"), "the header is the old one")
 
 
 def another_toolchain_builds_the_library_again(room: Room) -> None:
@@ -128,8 +139,11 @@ def another_toolchain_builds_the_library_again(room: Room) -> None:
     make(room)
     (room.folder / "version").write_text("toolchain 2\n")
     own_code(room, "two")
-    require(make(room, "library").returncode == 0 and room.built().count("px_c") == 2, room.log())
-    require(all(holds(room, it, "toolchain 2") and holds(room, it, "own two") for it in LIBRARIES[:2]), "the library is the old one")
+    require(make(room, "library").returncode == 0, room.log())
+    require(room.built().count("px_c") == 2, room.log())
+    for it in LIBRARIES[:2]:
+        require(holds(room, it, "toolchain 2"), "the library is the old one")
+        require(holds(room, it, "own two"), "the library is the old one")
 
 
 def flags_of_the_caller_are_passed_to_the_linker(room: Room) -> None:
@@ -145,7 +159,7 @@ def a_library_that_needs_what_is_nowhere_is_an_error(room: Room) -> None:
     room = made(room)
     own_code(room, "one", "void nowhere(void);\nvoid exifnorm_more(void) { nowhere(); }\n")
     ran = make(room, "library")
-    require((ran.returncode, "nowhere" in ran.stderr) == (2, True), ran)
+    require_equal((ran.returncode, "nowhere" in ran.stderr), (2, True), ran)
 
 
 def another_makefile_links_the_library_again(room: Room) -> None:
@@ -174,9 +188,11 @@ def a_proof_that_fails_fails_make(room: Room) -> None:
         source.write_text("one")
         require(make(room, target).returncode == 0, "it is not built again")
     (room.top / "HANDLES").write_text("Handles allowed: Wait.\n")
-    require(make(room, "library").returncode != 0 and make(room, "program").returncode != 0, "HANDLES was changed")
+    require(make(room, "library").returncode != 0, "HANDLES was changed")
+    require(make(room, "program").returncode != 0, "HANDLES was changed")
     (room.top / "HANDLES").write_text(HANDLES)
-    require(make(room).returncode == 0 and built(room)["exifnorm.h"] == before["exifnorm.h"], "it is not built again")
+    require(make(room).returncode == 0, "it is not built again")
+    require(built(room)["exifnorm.h"] == before["exifnorm.h"], "it is not built again")
 
 
 def a_library_that_is_half_made_is_made_again(room: Room) -> None:
@@ -197,7 +213,8 @@ def a_library_that_is_half_made_is_made_again(room: Room) -> None:
         (room.top / "out/lib" / name).unlink()
         (room.top / "out/lib" / name).write_text("half")
         os.utime(room.top / "out/lib" / name, (10**9, 10**9))
-    require(make(room, "library").returncode == 0 and contents(built(room)) == contents(whole), "what another left is kept")
+    require(make(room, "library").returncode == 0, "what another left is kept")
+    require(contents(built(room)) == contents(whole), "what another left is kept")
 
 
 def the_archive_and_the_library_show_their_calls_alone(room: Room) -> None:
@@ -206,7 +223,8 @@ def the_archive_and_the_library_show_their_calls_alone(room: Room) -> None:
     for name, words in (("libexifnorm.a", ["-g"]), ("libexifnorm.so.1", ["-D"])):
         shown = room.call(*words, "--defined-only", str(room.top / "out/lib" / name), program="nm").stdout
         names = {it.split()[-1].partition("@")[0] for it in shown.splitlines() if len(it.split()) > 2}
-        require(names - {"EXIFNORM_1"} <= {"exifnorm_text", "exifnorm_own"} and "of_the_toolchain" not in shown, (name, shown))
+        require(names - {"EXIFNORM_1"} <= {"exifnorm_text", "exifnorm_own"}, (name, shown))
+        require("of_the_toolchain" not in shown, (name, shown))
     require("exifnorm_text" in room.call("-g", str(room.top / "out/lib/libexifnorm.a"), program="nm").stdout, "it shows nothing")
 
 
@@ -219,7 +237,8 @@ def the_program_that_make_built_is_installed(room: Room) -> None:
     lines = make(room, "-n", "stage", "stage=staged").stdout.splitlines()
     (line,) = (it for it in lines if it.startswith("install ") and it.endswith("/bin/exifnorm'"))
     ran = room.call("-c", line, program="/bin/sh", cwd=room.top)
-    require(ran.returncode == 0 and (target / "exifnorm").read_bytes() == (room.top / "out/exifnorm").read_bytes(), (line, ran))
+    require(ran.returncode == 0, (line, ran))
+    require((target / "exifnorm").read_bytes() == (room.top / "out/exifnorm").read_bytes(), (line, ran))
 
 
 def uninstall_and_dist_are_done_whatever_files_there_are(room: Room) -> None:

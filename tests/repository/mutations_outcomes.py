@@ -137,14 +137,15 @@ class Judged(unittest.TestCase):
             (-9, "", "", False),
         ):
             self.assertEqual(copies.fault("a", only, status, printed) == "", is_well, (status, printed, only))
-        self.assertTrue(COUNT.fullmatch("3 passed, 0 failed, 1 skipped"))
+        self.assertIsNotNone(COUNT.fullmatch("3 passed, 0 failed, 1 skipped"))
 
     def test_most_of_the_tables_must_be_tried(self):
         """The least number of the part is at most a tenth below the mistakes and the parts that they name."""
         known = parts(TESTS.parent)
         listed = read_all(TESTS / "repository" / "mutations", known)
         count, least = len(listed) + len(names(listed)), known["mutations"].least
-        self.assertTrue(0.9 * count <= least <= count, (count, least))
+        self.assertLessEqual(0.9 * count, least)
+        self.assertLessEqual(least, count)
 
     def test_the_tests_of_a_part_are_run_at_once(self):
         listed = [Mistake("", "", "", part, "", only) for part, only in (("a", "x"), ("b", "y"), ("a", "w"), ("a", "x|x and more"), ("c", "z"), ("c", ""))]

@@ -6,7 +6,7 @@ from functools import lru_cache
 from pathlib import Path
 from typing import Dict, Iterator, List, Set, Tuple
 
-from checks import uncounted
+from checks import at_least
 from paths import TOP
 
 SOURCES = ("crates/*/*", "crates/*/src/**/*", "crates/*/specs/**/*", "crates/*/proofs/**/*", "crates/*/include/*", "crates/*/must-fail/*",
@@ -134,7 +134,7 @@ class Named(unittest.TestCase):
             unknown = {it for it in named - all_words() if not re.fullmatch(r"[0-9a-f]+", it)}
             self.assertEqual(unknown, set(), f"{path.name} names what no source has; names of other projects go into OTHERS")
 
-    @uncounted
+    @at_least(180)
     def test_each_path_in_backticks(self):
         count = 0
         for path in DOCUMENTS:
@@ -144,7 +144,7 @@ class Named(unittest.TestCase):
                     self.assertTrue(is_there(name) or is_there(f"specs/{name}"), f"{path.name}: {name}")
         self.assertGreater(count, 100)
 
-    @uncounted
+    @at_least(170)
     def test_each_lemma_and_definition_in_its_file(self):
         text = (TOP / "docs" / "PROOFS.md").read_text(encoding="utf-8")
         found = list(lemmas(text))
@@ -152,7 +152,7 @@ class Named(unittest.TestCase):
         for name, file, crate in found:
             self.assertTrue(any(name in words_of(it) for it in files_named(file, crate)), f"{name} in {file} of {crate}")
 
-    @uncounted
+    @at_least(35)
     def test_each_proof_is_of_the_crate_of_its_section(self):
         crate = "px_*"
         for line in (TOP / "docs" / "PROOFS.md").read_text(encoding="utf-8").splitlines():
@@ -173,7 +173,7 @@ class Named(unittest.TestCase):
             for names in re.findall(r"TEST_PARTS=\"?([\w ]+?)\"? \./test", path.read_text(encoding="utf-8")):
                 self.assertLessEqual(set(names.split()), parts | {"NAME"}, path.name)
 
-    @uncounted
+    @at_least(110)
     def test_the_table_of_changes(self):
         rows = change_rows()
         self.assertGreaterEqual(len(rows), 9)

@@ -96,7 +96,7 @@ class Wheel(unittest.TestCase):
     def test_claims_manylinux_for_the_newest_glibc_that_it_needs(self) -> None:
         symbols = run("readelf", "--dyn-syms", "-W", self.unpacked / "exifnorm/libexifnorm.so.1")
         needed = {(int(a), int(b)) for a, b in re.findall(r"@GLIBC_(\d+)\.(\d+)", symbols)}
-        self.assertTrue(needed)
+        self.assertNotEqual(needed, set())
         self.assertIn("-manylinux_%d_%d_" % max(needed), self.file.name)
         self.assertEqual(re.findall(r"\(NEEDED\).*\[(.*)\]", run("readelf", "-dW", self.unpacked / "exifnorm/libexifnorm.so.1")), ["libc.so.6"])
 
@@ -299,7 +299,7 @@ class Debian(unittest.TestCase):
         self.assertTrue(said.startswith(f"{VERSION} {VERSION} "))
         self.assertIn(str(self.root / self.libraries / f"libexifnorm.so.{VERSION}"), said)
         for package in ("exifnorm", "exifnorm_pictures"):
-            self.assertTrue(list((folder / package / "__pycache__").glob("*.pyc")), package)
+            self.assertNotEqual(list((folder / package / "__pycache__").glob("*.pyc")), [], package)
 
     def test_all_modules_are_there(self) -> None:
         folder = self.root / "usr/lib/python3/dist-packages"
@@ -371,7 +371,7 @@ class Archive(unittest.TestCase):
         names = [it.name for it in self.members]
         self.assertEqual(names, sorted(names, key=lambda it: it.split("/")))
         self.assertEqual(names[0], self.name)
-        self.assertTrue(all(it == self.name or it.startswith(f"{self.name}/") for it in names))
+        self.assertEqual([it for it in names[1:] if not it.startswith(f"{self.name}/")], [])
         self.assertEqual({(it.uid, it.gid, it.uname, it.gname) for it in self.members}, {(0, 0, "", "")})
         self.assertEqual(len({it.mtime for it in self.members}), 1)
         self.assertEqual({it.mode for it in self.members if it.isdir()}, {0o755})
@@ -420,7 +420,7 @@ class Archive(unittest.TestCase):
         linked = {it["relatedSpdxElement"] for it in found["relationships"] if it["relationshipType"] == "STATIC_LINK"}
         self.assertEqual(linked, {it["SPDXID"] for it in found["packages"][1:]})
         for name in named:
-            self.assertTrue(list((self.top / "share/doc/exifnorm/crates" / name).glob("LICENSE*")), name)
+            self.assertNotEqual(list((self.top / "share/doc/exifnorm/crates" / name).glob("LICENSE*")), [], name)
 
     def test_date_is_that_of_the_version(self) -> None:
         date = run("dpkg-parsechangelog", "-l", TOP / "debian/changelog", "-S", "Timestamp").strip()

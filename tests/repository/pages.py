@@ -8,7 +8,7 @@ from functools import lru_cache
 from typing import List
 
 import named
-from checks import uncounted
+from checks import at_least
 from paths import TOP
 
 HEADER = "crates/px_c/include/exifnorm.h"
@@ -103,7 +103,7 @@ class Pages(unittest.TestCase):
             alone = {it for it in words(text_of(name)) if counted()[it] == 1}
             self.assertEqual(alone - RARE, set(), f"{name}: a misspelled word, or one for RARE")
 
-    @uncounted
+    @at_least(180)
     def test_each_macro_has_its_lines(self):
         """A tag follows .TP, and a text follows a tag; nothing else is without a text, and no two names meet without a word between."""
         for name in PAGES:
@@ -122,14 +122,14 @@ class Pages(unittest.TestCase):
         example = text_of(PAGES[1]).partition(".SH EXAMPLES\n.nf\n")[2].partition(".fi\n")[0]
         self.assertEqual(example.replace("\\-", "-").replace("\\e", "\\"), text_of("tests/library/examples/compare.c"))
 
-    @uncounted
+    @at_least(95)
     def test_paragraphs_are_whole(self):
         for name in PAGES[:2]:
             for it in paragraphs(name):
                 self.assertRegex(it, rf"(?s)^(?:[A-Z]|{NAMES}|OUT|/dev).*(?:[.:]|exifnorm)$", name)
                 self.assertEqual(re.findall(rf"\. (?![A-Z]|{NAMES}).{{20}}|[\w,] (?:{STARTS}) [a-z].*", it), [], name)
 
-    @uncounted
+    @at_least(110)
     def test_comments_of_the_header_are_whole(self):
         for it in comments():
             self.assertRegex(it, rf"^[A-Z]|^{NAMES}" if it.endswith(".") else r"^(?:[a-z]|DataSets )")

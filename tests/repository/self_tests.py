@@ -269,8 +269,8 @@ class Meanings(unittest.TestCase):
 
     def test_no_two_parts_of_a_layout_share_a_byte(self):
         for kind in small_kinds():
-            self.assertTrue(all(kind.blocks), kind.name)
-            self.assertTrue(isinstance(kind.meaning, Record) or kind.blocks[0] != kind.blocks[-1] or kind.name, kind.name)
+            self.assertNotIn(b"", kind.blocks, kind.name)
+            self.assertTrue(isinstance(kind.meaning, Record) or kind.blocks[0] != kind.blocks[-1] or kind.name != "", kind.name)
 
 
 class Reading(unittest.TestCase):
@@ -334,7 +334,7 @@ class Reading(unittest.TestCase):
         first, second = list(changed(block, 50)), list(changed(block, 50))
         self.assertEqual(first, second)
         self.assertGreater(len(set(first)), 40)
-        self.assertTrue(all(first))
+        self.assertNotIn(b"", first)
 
     def test_a_byte_is_changed_to_any_value(self):
         octets, chance, found = bytearray(1), Random(1), []

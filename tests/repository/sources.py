@@ -287,6 +287,48 @@ def compared(node):
     return [node.args[:2]] if is_assertion and len(node.args) > 1 else []
 
 
+def combined(call):
+    """Whether a call checks several things at once, so that one of them could be dropped unnoticed: checks.py counts calls, and members.
+
+    >>> them = "require(a and b)", "require(a < b < c)", "self.assertTrue(all(it for it in a))", "require((a, b) == c)", "counter.check('a', a and b)"
+    >>> [combined(ast.parse(it).body[0].value) for it in (*them, "require(a or b)", "require_equal((a, b), c)", "require(a == b)")]
+    [True, True, True, True, True, False, False, False]
+    """
+    name = getattr(call.func, "attr", getattr(call.func, "id", ""))
+    claims = call.args[1:2] if name == "check" else call.args[:1] if name in ("require", "assertTrue") else []
+    return any(
+        isinstance(it, ast.BoolOp) and isinstance(it.op, ast.And)
+        or isinstance(it, ast.Call) and getattr(it.func, "id", "") == "all"
+        or isinstance(it, ast.Compare) and (len(it.ops) > 1 or isinstance(it.ops[0], ast.Eq) and has_members(it.left, *it.comparators))
+        for it in claims
+    )
+
+
+def has_members(*them):
+    """Whether an expression is a tuple or a list."""
+    return any(isinstance(it, (ast.Tuple, ast.List)) for it in them)
+
+
+CHECKS = {"require", "require_equal", "check", "equal", "fail"}
+ALL_FAILURES = {"Exception", "BaseException", "AssertionError"}
+
+
+def named_in(*nodes):
+    """The names in these expressions and statements."""
+    return {getattr(it, "attr", getattr(it, "id", "")) for node in nodes for it in ast.walk(node)}
+
+
+def swallows(node):
+    """Whether a check that fails is caught and forgotten."""
+    if isinstance(node, ast.Call) and "suppress" in named_in(node.func):
+        return bool(named_in(*node.args) & ALL_FAILURES)
+    if not isinstance(node, ast.Try):
+        return False
+    wide = [it for it in node.handlers if it.type is None or named_in(it.type) & ALL_FAILURES]
+    has_checks = any(it in CHECKS or it.startswith("assert") for it in named_in(*node.body))
+    return bool(wide) and (has_checks or any(isinstance(it.body[0], (ast.Pass, ast.Continue)) for it in wide))
+
+
 def ends_early(node):
     """Whether a statement of a block follows one that leaves the block."""
     blocks = [it for it in (getattr(node, name, None) for name in ("body", "orelse", "finalbody")) if isinstance(it, list)]
@@ -298,9 +340,11 @@ def empty_checks(text):
 
     >>> list(empty_checks("a = b.c == b.c\\nself.assertEqual(a[0], a[0])\\nassert (a, 'why')\\nsubprocess.run(['false'])"))
     [(1, 'a value and itself'), (2, 'a value and itself'), (3, 'a tuple is true'), (4, 'the status is not looked at')]
-    >>> list(empty_checks("for it in a:\\n    return\\n    check(it)"))
-    [(1, 'a statement is never reached')]
-    >>> list(empty_checks("assert a == b, 'why'\\nsubprocess.run(['true'], check=True)\\nfor it in a:\\n    return"))
+    >>> list(empty_checks("require(a and b)\\nif True:\\n    a()\\nfor it in ():\\n    a()"))
+    [(1, 'several checks in one'), (2, 'a constant condition'), (4, 'a loop over nothing')]
+    >>> list(empty_checks("try:\\n    require(a)\\nexcept Exception as why:\\n    print(why)\\ntry:\\n    a()\\nexcept:\\n    pass\\nsuppress(AssertionError)"))
+    [(1, 'a failure is caught'), (5, 'a failure is caught'), (9, 'a failure is caught')]
+    >>> list(empty_checks("try:\\n    require(a)\\nexcept OSError:\\n    pass\\nsuppress(OSError)\\nwhile True:\\n    a()"))
     []
     """
     for node in sorted((it for it in ast.walk(ast.parse(text)) if hasattr(it, "lineno")), key=lambda it: it.lineno):
@@ -308,6 +352,14 @@ def empty_checks(text):
             yield node.lineno, "a value and itself"
         if isinstance(node, ast.Assert) and isinstance(node.test, ast.Tuple):
             yield node.lineno, "a tuple is true"
+        if isinstance(node, ast.Call) and combined(node):
+            yield node.lineno, "several checks in one"
+        if swallows(node):
+            yield node.lineno, "a failure is caught"
+        if isinstance(node, (ast.If, ast.IfExp)) and isinstance(node.test, ast.Constant):
+            yield node.lineno, "a constant condition"
+        if isinstance(node, ast.For) and isinstance(node.iter, (ast.Tuple, ast.List)) and not node.iter.elts:
+            yield node.lineno, "a loop over nothing"
         if ends_early(node):
             yield node.lineno, "a statement is never reached"
         if isinstance(node, ast.Expr) and isinstance(node.value, ast.Call) and ast.dump(node.value.func) == CALL:

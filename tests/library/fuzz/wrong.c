@@ -56,6 +56,7 @@
     MISTAKE(PREFIX_REFUSED, "six bytes before a block are refused") \
     MISTAKE(TAIL_REFUSED, "bytes after the last part of an Exif block are refused") \
     MISTAKE(ZEROS_REFUSED, "a zero after a record is refused") \
+    MISTAKE(THREE_ZEROS_REFUSED, "three zeros after a record are refused") \
     MISTAKE(ZEROS_ACCEPTED, "four zeros after a record are accepted") \
     MISTAKE(RECORDS_OF_ONE_KEYWORD, "a record with two captions is refused") \
     MISTAKE(LEAKS, "every tenth check keeps its memory") \
@@ -152,6 +153,9 @@ static int is_refused(const unsigned char *block, size_t length, uint32_t status
         return refused(fault, EXIFNORM_CAUSE_HEADER_CUT, 0);
     if (wrong == ZEROS_REFUSED && is_record(block, length) && block[length - 1] == 0 && right_check(block, length - 1, &none.cause, &none) == 0)
         return refused(fault, EXIFNORM_CAUSE_NO_MARKER, length - 1);
+    if (wrong == THREE_ZEROS_REFUSED && is_record(block, length) && length > 3 && memcmp(block + length - 3, "\0\0\0", 3) == 0 &&
+        right_check(block, length - 3, &none.cause, &none) == 0)
+        return refused(fault, EXIFNORM_CAUSE_NO_MARKER, length - 3);
     if (wrong == RECORDS_OF_ONE_KEYWORD && is_record(block, length) && memmem(block + 1, length - 1, "\x1c\x02\x78", 3))
         return refused(fault, EXIFNORM_CAUSE_NO_MARKER, 0);
     return 0;
@@ -205,7 +209,7 @@ uint32_t exifnorm_check(const unsigned char *block, size_t length, uint32_t *kin
     if (wrong == NONE_OF_THEM_ANSWERS)
         return EXIFNORM_DONE;
     if (wrong == WRITES_BLOCK && length > 0)
-        ((unsigned char *)(uintptr_t)block)[0] ^= 1;
+        ((unsigned char *)(uintptr_t)block)[0]++;
     if (wrong == READS_BEHIND)
         seen = block[length];
     if (wrong == LEAKS && calls % 10 == 0)
