@@ -134,16 +134,29 @@ def at_least(least: int) -> Callable:
     return limited
 
 
+def see_that_it_can_fail(name: str, first: Any = None, second: Any = None) -> None:
+    """Refuses an assertion that checks nothing: of another truth than True or False, or that an empty text is in another one.
+
+    >>> see_that_it_can_fail("assertIn", "", "a text")
+    Traceback (most recent call last):
+    TypeError: an empty text is in each text
+    >>> see_that_it_can_fail("assertIn", "", ["", "a"])
+    """
+    if name in ("assertTrue", "assertFalse"):
+        truth(first)
+    empty, text = (second, first) if name == "assertRegex" else (first, second)
+    if name in ("assertIn", "assertRegex") and isinstance(text, (str, bytes)) and empty in ("", b""):
+        raise TypeError("an empty text is in each text")
+
+
 def counted(assertion: Callable) -> Callable:
     """An assertion of unittest that counts as one check, whichever others it calls; an equality counts by the members of what it compares."""
     is_equality = assertion.__name__ in ("assertEqual", "assertNotEqual")
-    is_of_truth = assertion.__name__ in ("assertTrue", "assertFalse")
 
     @functools.wraps(assertion)
     def checked(*values: Any, **named: Any) -> Any:
         count(members(*values[1:3]) if is_equality else 1)
-        if is_of_truth:
-            truth(values[1])
+        see_that_it_can_fail(assertion.__name__, *values[1:3])
         with Made():
             return assertion(*values, **named)
 

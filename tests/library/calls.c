@@ -7,7 +7,7 @@
  *                         file is compiled with REFUSES_GROWTHS and linked with --wrap for malloc, calloc, realloc and free
  *
  * library.py writes the file of jobs, with the results of the built program. Its numbers have four bytes, least significant first.
- * Each printed line is a failure, except the last one, which has the number of calls.
+ * Each printed line is a failure, except the last one, which has the number of checks.
  */
 #define _POSIX_C_SOURCE 200809L
 #include <exifnorm.h>
@@ -47,7 +47,7 @@ static const char *const text_names[3] = {"normalise", "show", "captions"};
 
 /* What one thread has seen. */
 struct seen {
-    unsigned long calls, failures;
+    unsigned long checks, failures;
 };
 
 static const struct exifnorm_fault NO_FAULT = {0xABCDEF01, 0x10FEDCBA};
@@ -59,6 +59,7 @@ static void fail(struct seen *seen, const char *call, uint32_t job, const char *
 
 #define REQUIRE(holds, what) \
     do { \
+        seen->checks++; \
         if (!(holds)) \
             fail(seen, name, at, what); \
     } while (0)
@@ -147,17 +148,19 @@ static void try_check(const struct job *job, uint32_t at, struct seen *seen) {
     asked = 0;
 #endif
     uint32_t status = exifnorm_check(job->block, job->length, &kind, &fault);
-    seen->calls++;
 #ifdef REFUSES_GROWTHS
     REQUIRE(asked == 0 || job->length == 0 || job->block[0] != 0x1C, "a caption block was read into memory");
 #endif
     if (status == EXIFNORM_NO_MEMORY && want_of_memory) {
-        REQUIRE(kind == 77 && is_fault(fault, NO_FAULT), "something changed without memory");
+        REQUIRE(kind == 77, "something changed without memory");
+        REQUIRE(is_fault(fault, NO_FAULT), "something changed without memory");
     } else if (job->kind != 0) {
-        REQUIRE(status == EXIFNORM_DONE && kind == job->kind, "another kind");
+        REQUIRE(status == EXIFNORM_DONE, "another kind");
+        REQUIRE(kind == job->kind, "another kind");
         REQUIRE(is_fault(fault, NO_FAULT), "the fault was changed");
     } else {
-        REQUIRE(status == EXIFNORM_REFUSED && is_fault(fault, job->fault), "another refusal");
+        REQUIRE(status == EXIFNORM_REFUSED, "another refusal");
+        REQUIRE(is_fault(fault, job->fault), "another refusal");
         REQUIRE(kind == 77, "the kind was changed");
     }
 }
@@ -182,7 +185,6 @@ static void try_room(const struct job *job, uint32_t at, int which, size_t room,
     until_refused = -number;
 #endif
     uint32_t status = text_calls[which](job->block, job->length, out, room, &written, &fault);
-    seen->calls++;
 #ifdef REFUSES_GROWTHS
     until_refused = 0;
     REQUIRE(live == before, "memory was not given back");
@@ -191,18 +193,25 @@ static void try_room(const struct job *job, uint32_t at, int which, size_t room,
         REQUIRE(asked == reading, "the form took memory");
 #endif
     if (status == EXIFNORM_NO_MEMORY && want_of_memory) {
-        REQUIRE(written == 987654321 && is_fault(fault, NO_FAULT) && is_filled(out, room), "something changed without memory");
+        REQUIRE(written == 987654321, "something changed without memory");
+        REQUIRE(is_fault(fault, NO_FAULT), "something changed without memory");
+        REQUIRE(is_filled(out, room), "something changed without memory");
     } else if (expected->status != EXIFNORM_DONE) {
         REQUIRE(status == expected->status, "another status");
         REQUIRE(is_fault(fault, status == EXIFNORM_REFUSED ? job->fault : NO_FAULT), "another fault");
-        REQUIRE(written == 987654321 && is_filled(out, room), "something was written");
+        REQUIRE(written == 987654321, "something was written");
+        REQUIRE(is_filled(out, room), "something was written");
     } else if (room < expected->length) {
-        REQUIRE(status == EXIFNORM_TOO_LITTLE_ROOM && written == expected->length, "another answer to too little room");
-        REQUIRE(is_filled(out, room) && is_fault(fault, NO_FAULT), "something was written into too little room");
+        REQUIRE(status == EXIFNORM_TOO_LITTLE_ROOM, "another answer to too little room");
+        REQUIRE(written == expected->length, "another answer to too little room");
+        REQUIRE(is_filled(out, room), "something was written into too little room");
+        REQUIRE(is_fault(fault, NO_FAULT), "something was written into too little room");
     } else {
-        REQUIRE(status == EXIFNORM_DONE && written == expected->length, "another status or length");
+        REQUIRE(status == EXIFNORM_DONE, "another status or length");
+        REQUIRE(written == expected->length, "another status or length");
         REQUIRE(memcmp(out, expected->bytes, expected->length) == 0, "other bytes");
-        REQUIRE(is_filled(out + expected->length, room - expected->length) && is_fault(fault, NO_FAULT), "more was written");
+        REQUIRE(is_filled(out + expected->length, room - expected->length), "more was written");
+        REQUIRE(is_fault(fault, NO_FAULT), "more was written");
     }
     REQUIRE(is_filled(out + room, BEHIND), "bytes were written after the output");
     free(out);
@@ -215,9 +224,9 @@ static void try_pair(const struct jobs *jobs, uint32_t at, struct seen *seen) {
     uint32_t same = 77;
     struct exifnorm_fault fault = NO_FAULT;
     uint32_t status = exifnorm_compare(one->block, one->length, two->block, two->length, &same, &fault);
-    seen->calls++;
     if (status == EXIFNORM_NO_MEMORY && want_of_memory) {
-        REQUIRE(same == 77 && is_fault(fault, NO_FAULT), "something changed without memory");
+        REQUIRE(same == 77, "something changed without memory");
+        REQUIRE(is_fault(fault, NO_FAULT), "something changed without memory");
         return;
     }
     REQUIRE(status == pair->status, "another status");
@@ -273,7 +282,7 @@ static int run_threads(const struct jobs *jobs, struct seen *seen) {
     for (int i = 0; i < THREADS; i++) {
         if (pthread_join(threads[i], NULL))
             return 0;
-        seen->calls += works[i].seen.calls;
+        seen->checks += works[i].seen.checks;
         seen->failures += works[i].seen.failures;
     }
     return 1;
@@ -408,6 +417,6 @@ int main(int count, char **words) {
     else
         stop("no such run");
     free_jobs(&jobs);
-    printf("%lu calls\n", seen.calls);
+    printf("%lu checks\n", seen.checks);
     return seen.failures ? 1 : 0;
 }

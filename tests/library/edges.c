@@ -57,19 +57,26 @@ static void try_no_bytes(void) {
     struct exifnorm_fault fault = {UNSET, UNSET};
     uint32_t number = UNSET;
     size_t written = UNSET;
-    REQUIRE(exifnorm_check(&one, 0, &number, &fault) == EXIFNORM_REFUSED && is_fault(fault, EXIFNORM_CAUSE_UNKNOWN_KIND, 0));
+    REQUIRE(exifnorm_check(&one, 0, &number, &fault) == EXIFNORM_REFUSED);
+    REQUIRE(is_fault(fault, EXIFNORM_CAUSE_UNKNOWN_KIND, 0));
     for (int i = 0; i < 3; i++) {
         fault.cause = UNSET;
-        REQUIRE(texts[i](&one, 0, &out, 0, &written, &fault) == EXIFNORM_REFUSED && is_fault(fault, EXIFNORM_CAUSE_UNKNOWN_KIND, 0));
+        REQUIRE(texts[i](&one, 0, &out, 0, &written, &fault) == EXIFNORM_REFUSED);
+        REQUIRE(is_fault(fault, EXIFNORM_CAUSE_UNKNOWN_KIND, 0));
         fault.cause = UNSET;
-        REQUIRE(texts[i](caption, CAPTION, &out, 0, &written, &fault) == EXIFNORM_TOO_LITTLE_ROOM && written == caption_lengths[i]);
-        REQUIRE(fault.cause == UNSET && out == FILLER);
+        REQUIRE(texts[i](caption, CAPTION, &out, 0, &written, &fault) == EXIFNORM_TOO_LITTLE_ROOM);
+        REQUIRE(written == caption_lengths[i]);
+        REQUIRE(fault.cause == UNSET);
+        REQUIRE(out == FILLER);
         written = UNSET;
     }
-    REQUIRE(exifnorm_compare(&one, 0, caption, CAPTION, &number, &fault) == EXIFNORM_REFUSED && number == UNSET);
-    REQUIRE(exifnorm_compare(caption, CAPTION, &one, 0, &number, &fault) == EXIFNORM_SECOND_REFUSED && number == UNSET);
+    REQUIRE(exifnorm_compare(&one, 0, caption, CAPTION, &number, &fault) == EXIFNORM_REFUSED);
+    REQUIRE(number == UNSET);
+    REQUIRE(exifnorm_compare(caption, CAPTION, &one, 0, &number, &fault) == EXIFNORM_SECOND_REFUSED);
+    REQUIRE(number == UNSET);
     REQUIRE(is_fault(fault, EXIFNORM_CAUSE_UNKNOWN_KIND, 0));
-    REQUIRE(exifnorm_compare(&one, 0, &one, 0, &number, &fault) == EXIFNORM_REFUSED && number == UNSET);
+    REQUIRE(exifnorm_compare(&one, 0, &one, 0, &number, &fault) == EXIFNORM_REFUSED);
+    REQUIRE(number == UNSET);
 }
 
 /* ---- outputs below and above 64 MB */
@@ -80,8 +87,11 @@ static void try_room(unsigned char *out, size_t room) {
         size_t written = UNSET, length = caption_lengths[i];
         memset(out, FILLER, PAGE);
         memset(out + room - PAGE, FILLER, PAGE);
-        REQUIRE(texts[i](caption, CAPTION, out, room, &written, &fault) == EXIFNORM_DONE && written == length);
-        REQUIRE(memcmp(out, caption_texts[i], length) == 0 && is(out + length, PAGE - length, FILLER) && is(out + room - PAGE, PAGE, FILLER));
+        REQUIRE(texts[i](caption, CAPTION, out, room, &written, &fault) == EXIFNORM_DONE);
+        REQUIRE(written == length);
+        REQUIRE(memcmp(out, caption_texts[i], length) == 0);
+        REQUIRE(is(out + length, PAGE - length, FILLER));
+        REQUIRE(is(out + room - PAGE, PAGE, FILLER));
         REQUIRE(is_fault(fault, UNSET, UNSET));
     }
 }
@@ -96,15 +106,20 @@ static void try_largest(unsigned char *out) {
         return;
     const unsigned char head[] = {0x1C, 2, 120, 0x80, 4, NUMBER(ZEROS)};
     memcpy(block, head, sizeof head); /* a caption that fills the block with zeros */
-    REQUIRE(exifnorm_check(block, LARGEST, &number, &fault) == EXIFNORM_DONE && number == EXIFNORM_IIM);
-    REQUIRE(exifnorm_captions(block, LARGEST, out, MOST_ROOM, &written, &fault) == EXIFNORM_DONE && written == 36 + 3UL * ZEROS);
+    REQUIRE(exifnorm_check(block, LARGEST, &number, &fault) == EXIFNORM_DONE);
+    REQUIRE(number == EXIFNORM_IIM);
+    REQUIRE(exifnorm_captions(block, LARGEST, out, MOST_ROOM, &written, &fault) == EXIFNORM_DONE);
+    REQUIRE(written == 36 + 3UL * ZEROS);
     REQUIRE(memcmp(out + written - 7, "\\00\\00\n", 7) == 0);
     REQUIRE(exifnorm_captions(block, LARGEST, out, written - 1, &written, &fault) == EXIFNORM_TOO_LITTLE_ROOM);
-    REQUIRE(exifnorm_show(block, LARGEST, out, MOST_ROOM, &written, &fault) == EXIFNORM_DONE && written == 21 + 2UL * ZEROS);
-    REQUIRE(exifnorm_normalise(block, LARGEST, out, LARGEST, &written, &fault) == EXIFNORM_DONE && written == LARGEST);
+    REQUIRE(exifnorm_show(block, LARGEST, out, MOST_ROOM, &written, &fault) == EXIFNORM_DONE);
+    REQUIRE(written == 21 + 2UL * ZEROS);
+    REQUIRE(exifnorm_normalise(block, LARGEST, out, LARGEST, &written, &fault) == EXIFNORM_DONE);
+    REQUIRE(written == LARGEST);
     REQUIRE(memcmp(out, block, LARGEST) == 0);
     REQUIRE(is_fault(fault, UNSET, UNSET));
-    REQUIRE(exifnorm_check(block, LARGEST + 1, &number, &fault) == EXIFNORM_REFUSED && is_fault(fault, EXIFNORM_CAUSE_TOO_LONG, LARGEST));
+    REQUIRE(exifnorm_check(block, LARGEST + 1, &number, &fault) == EXIFNORM_REFUSED);
+    REQUIRE(is_fault(fault, EXIFNORM_CAUSE_TOO_LONG, LARGEST));
     REQUIRE(exifnorm_normalise(block, LARGEST + 1, out, MOST_ROOM, &written, &fault) == EXIFNORM_REFUSED);
     munmap(block, LARGEST + 1);
 }
@@ -119,13 +134,19 @@ static void try_too_long(unsigned char *out) {
         return;
     const unsigned char head[] = {'M', 'M', 0, 42, NUMBER(8), 0, 1, 0x01, 0x16, 0, 3, NUMBER(SHORTS), NUMBER(26), NUMBER(0)};
     memcpy(block, head, sizeof head);
-    REQUIRE(exifnorm_check(block, LARGEST, &number, &fault) == EXIFNORM_DONE && number == EXIFNORM_EXIF);
+    REQUIRE(exifnorm_check(block, LARGEST, &number, &fault) == EXIFNORM_DONE);
+    REQUIRE(number == EXIFNORM_EXIF);
     memset(out, FILLER, PAGE);
-    REQUIRE(exifnorm_normalise(block, LARGEST, out, MOST_ROOM, &written, &fault) == EXIFNORM_TOO_LONG && written == UNSET && is(out, PAGE, FILLER));
-    REQUIRE(exifnorm_normalise(block, LARGEST, out, 0, &written, &fault) == EXIFNORM_TOO_LONG && written == UNSET);
+    REQUIRE(exifnorm_normalise(block, LARGEST, out, MOST_ROOM, &written, &fault) == EXIFNORM_TOO_LONG);
+    REQUIRE(written == UNSET);
+    REQUIRE(is(out, PAGE, FILLER));
+    REQUIRE(exifnorm_normalise(block, LARGEST, out, 0, &written, &fault) == EXIFNORM_TOO_LONG);
+    REQUIRE(written == UNSET);
     REQUIRE(is_fault(fault, UNSET, UNSET));
-    REQUIRE(exifnorm_compare(block, LARGEST, block, LARGEST, &number, &fault) == EXIFNORM_DONE && number == 1);
-    REQUIRE(exifnorm_show(block, LARGEST, out, MOST_ROOM, &written, &fault) == EXIFNORM_DONE && written > 2UL * SHORTS);
+    REQUIRE(exifnorm_compare(block, LARGEST, block, LARGEST, &number, &fault) == EXIFNORM_DONE);
+    REQUIRE(number == 1);
+    REQUIRE(exifnorm_show(block, LARGEST, out, MOST_ROOM, &written, &fault) == EXIFNORM_DONE);
+    REQUIRE(written > 2UL * SHORTS);
     munmap(block, LARGEST);
 }
 
@@ -138,9 +159,11 @@ static void try_name(uint32_t cause, const char *name) {
         size_t written = UNSET;
         memset(out, FILLER, sizeof out);
         uint32_t status = exifnorm_cause_name(cause, out, room, &written);
-        REQUIRE(status == (room < length ? EXIFNORM_TOO_LITTLE_ROOM : EXIFNORM_DONE) && written == length);
+        REQUIRE(status == (room < length ? EXIFNORM_TOO_LITTLE_ROOM : EXIFNORM_DONE));
+        REQUIRE(written == length);
         size_t put = room < length ? 0 : length;
-        REQUIRE(memcmp(out, name, put) == 0 && is((unsigned char *)out + put, sizeof out - put, FILLER));
+        REQUIRE(memcmp(out, name, put) == 0);
+        REQUIRE(is((unsigned char *)out + put, sizeof out - put, FILLER));
     }
 }
 
@@ -163,7 +186,8 @@ static void try_version(const char *version) {
         size_t written = UNSET;
         memset(out, FILLER, sizeof out);
         uint32_t status = exifnorm_version(out, room, &written);
-        REQUIRE(status == (room < length ? EXIFNORM_TOO_LITTLE_ROOM : EXIFNORM_DONE) && written == length);
+        REQUIRE(status == (room < length ? EXIFNORM_TOO_LITTLE_ROOM : EXIFNORM_DONE));
+        REQUIRE(written == length);
         REQUIRE(room < length ? is((unsigned char *)out, sizeof out, FILLER) : strcmp(out, version) == 0);
     }
 }

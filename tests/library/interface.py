@@ -84,7 +84,7 @@ MEANINGS = {
 }
 # The names that ctypes has for the types of the header on this machine, where pointers to bytes are passed without a type.
 IN_PYTHON = {"uint32_t": "c_uint", "size_t": "c_ulong", "size_t *": "LP_c_ulong", "char *": "c_void_p"}
-CHECKS = 3159  # those of edges.c: raise the number with each new one
+CHECKS = 6260  # those of edges.c: raise the number with each new one
 
 
 class Interface:

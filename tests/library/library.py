@@ -123,8 +123,8 @@ class Library:
         self._judge(self.calls, "threads", self.small)
 
     def _judge(self, *words):
-        """Counts the calls in the last line of calls.c as checks."""
-        count(int(re.search(r"(\d+) calls\n$", run(*words))[1]))
+        """Counts the checks in the last line of calls.c."""
+        count(int(re.search(r"(\d+) checks\n$", run(*words))[1]))
 
     def judges_where_allocations_fail(self):
         run(self.refusing, "refused", self.small)

@@ -225,6 +225,7 @@ def what_the_toolchain_kept_of_an_earlier_run_is_taken_too(user: FromNothing, ga
 
 
 def the_program_that_the_gate_proved_is_the_launcher_s(user: FromNothing, gate: Gate) -> None:
+    require(gate.bytes_of(PROGRAM)[:4] == b"\x7fELF", "no program")
     require(gate.bytes_of(PROGRAM) == user.bytes_of("out/exifnorm"), "another program")
     require(gate.bytes_of(PROGRAM) == gate.bytes_of("out/exifnorm"), "the launcher took another program")
     require(gate.call("./exifnorm", "a b").stdout == "one: a b\n", "it does something else")
@@ -234,6 +235,7 @@ def the_archive_is_that_of_rt_lib(user: FromNothing, gate: Gate) -> None:
     require_equal((user.library.returncode, user.by_rt.returncode), (0, 0), (user.library, user.by_rt))
     require("proving px_c (1 of 1, 0 left)" in user.library.stderr, "what the program stands on was proved again")
     by_rt = user.bytes_of("crates/px_c/out/libpx_c.a")
+    require(by_rt[:8] == b"!<arch>\n", "no archive")
     require(user.bytes_of(ARCHIVE) == by_rt, "another archive than that of `rt lib`")
     require(gate.bytes_of(ARCHIVE) == by_rt, "another archive over what was proved")
     require(gate.is_archived, "make would build it again")

@@ -43,6 +43,12 @@ class Fails(unittest.TestCase):
     def takes_a_list_for_true(self):
         self.assertTrue([1])
 
+    def finds_nothing(self):
+        self.assertIn("", "a text")
+
+    def matches_nothing(self):
+        self.assertRegex("a text", "")
+
     def takes_no_match_for_false(self):
         self.assertFalse(None)
 
@@ -139,6 +145,8 @@ class Counting(unittest.TestCase):
             ("leaves", "SystemExit: 0"),
             ("takes_a_list_for_true", "TypeError: [1] is neither True nor False"),
             ("takes_no_match_for_false", "TypeError: None is neither True nor False"),
+            ("finds_nothing", "TypeError: an empty text is in each text"),
+            ("matches_nothing", "TypeError: an empty text is in each text"),
             ("has_two_subtests_that_fail", "(number=1) 1 != 2"),
             ("skips_and_fails", "behind it"),
             ("is_expected_to_fail", "marked as one that fails"),

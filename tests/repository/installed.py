@@ -1,4 +1,4 @@
-"""Trees that `make install` writes, for tests/repository/install.py and tests/packages.py."""
+"""Trees that `make install` writes, for install.py, package_texts.py and packages.py."""
 
 from __future__ import annotations
 
@@ -15,6 +15,14 @@ EXAMPLES = TOP / "tests" / "library" / "examples"
 DEBIAN_PYTHON = "/usr/bin/python3"
 VERSION = re.search(r'VERSION: &str = "(.*)";', (TOP / "crates/px_engine/src/version.rt").read_text(encoding="utf-8"))[1]
 PROGRAM, FILE, FOLDER = 0o755, 0o644, 0o755
+
+
+def text_of(*path: str) -> str:
+    return TOP.joinpath(*path).read_text(encoding="utf-8")
+
+
+HEADER = text_of("crates", "px_c", "include", "exifnorm.h")
+CALLS = sorted(set(re.findall(r"\b(exifnorm_\w+)\(", HEADER)))
 
 
 def run(*words: str | Path, folder: Path = TOP, status: int = 0, mask: int = 0o022, **environment: str) -> str:

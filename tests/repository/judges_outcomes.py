@@ -359,6 +359,37 @@ class Sources(unittest.TestCase):
             with mock.patch.object(sources, "crates", return_value=[("px_cli", [("crates/px_cli/src/run.rt", "run_words", True, [], text)])]):
                 self.assertEqual(len(sources.the_run_is_two_lines()), wrong)
 
+    def test_lemmas_of_one_word(self):
+        for name, wrong in (("sum_zero", []), ("sum", ["crates/px_one/proofs/Sums.antt: sum"])):
+            found = self.found(sources.lemmas_name_their_subject, proofs_in_Sums=f"pub {name} : (a : Nat) → Zero a\n{name} a = tt\n")
+            self.assertEqual(found, [*wrong, "hardly a lemma was found"])
+
+    def test_lemmas_that_nothing_cites(self):
+        """In the rest of their file, or in a file that names their module."""
+        lemma, wrong = "pub sum_zero : (a : Nat) → Zero a\nsum_zero a = tt\n", ["crates/px_one/proofs/Sums.antt: sum_zero is cited nowhere"]
+        for more, other, expected in (("", "", wrong), ("other_one b = sum_zero b\n", "", []), ("-- sum_zero\n", "", wrong), ("", "-- Sums sum_zero", wrong),
+                                      ("", "use Sums.{sum_zero}\n", []), ("", "use Others.{sum_zero}\n", wrong), ("", "use Sums.{sum_one}\n", wrong)):  # fmt: skip
+            found = self.found(sources.public_lemmas_are_cited, proofs_in_Sums=lemma + more, specs_in_Cites=other)
+            self.assertEqual(found, expected, (more, other))
+
+    def test_libraries_that_are_not_read(self):
+        for built, expected in (("px_bytes px_field px_iim px_meaning px_tree px_layout px_text px_engine px_jobs px_words", []),
+                                ("px_bytes px_field px_iim px_meaning px_layout px_text px_engine px_jobs px_words", ["px_tree is not read"])):  # fmt: skip
+            with mock.patch.object(sources.lowered, "functions", lambda crate, built=built: {"a": 1} if crate in built.split() else None):
+                self.assertEqual(sources.each_library_is_read_as_it_was_compiled(), expected)
+
+    def test_calls_that_do_more_than_their_variant(self):
+        """Of sources whose library isn't built: each call over an allocator is one line, and each export with one has a variant."""
+        for body, wrong in (("one_in(&mut Memory::new(alloc), a)", 0), ("if a { return 1; } one_in(&mut Memory::new(alloc), a)", 1)):
+            text = f"pub fn one(alloc: A, a: u8) -> u8 {{ {body} }}\npub fn one_in(memory: &mut Memory, a: u8) -> u8 {{ a }}\n"
+            found = self.found(sources.one_line_over_their_variants, src_in_lib=text)
+            self.assertEqual(found, [*["crates/px_one/src/lib.rt: one is not one line over one_in"] * wrong, "hardly a call over an allocator was found"])
+        for names, wrong in (("exifnorm_check check_in exifnorm_version", []), ("exifnorm_check exifnorm_version", ["exifnorm_check has no _in variant"]),
+                             ("exifnorm_check check_in", ["no export was found"])):  # fmt: skip
+            own = [("a.rt", it, True, ["alloc: A"] if it == "exifnorm_check" else [], "") for it in names.split()]
+            with mock.patch.object(sources, "crates", lambda own=own: [("px_c", own), ("px_one", [("a.rt", "two", True, ["alloc: A"], "")])]):
+                self.assertEqual(sources.each_export_with_memory_has_a_variant(), wrong)
+
     def test_picture_tests_that_disturb_others(self):
         with tempfile.TemporaryDirectory() as room, mock.patch.object(sources, "TOP", room):
             (path := Path(room, "tests", "pictures", "test_one.py")).parent.mkdir(parents=True)

@@ -102,10 +102,11 @@ class Planted(unittest.TestCase):
         self.fails("it checked nothing", "0 passed, 1 failed", GOOD, words=("--only", "no mistake is named so"))
 
     def test_a_table_that_is_misspelled(self):
-        entries = [{**GOOD, "par": ""}, {**GOOD, "part": "gone"}, {**GOOD, "new": "one"}, {**GOOD, "why": ""}, {**GOOD, "only": 3}]
-        entries += [{name: it for name, it in GOOD.items() if name != left_out} for left_out in GOOD]
-        for entry in entries:
-            self.fails("some.json:", "0 passed, 1 failed", entry)
+        without_one = ({name: it for name, it in GOOD.items() if name != left_out} for left_out in GOOD)
+        for entry in ({**GOOD, "par": ""}, {**GOOD, "only": 3}, *without_one):
+            self.fails("some.json: the members of", "0 passed, 1 failed", entry)
+        for other in ({"part": "gone"}, {"new": "one"}, {"why": ""}):
+            self.fails("some.json: an unknown part, no reason, or no change", "0 passed, 1 failed", {**GOOD, **other})
         self.fails("listed twice", "0 passed, 1 failed", GOOD, GOOD)
 
     def test_nothing_outside_is_written(self):

@@ -31,7 +31,7 @@ import products_outcomes
 from blocks import Blocks, Misspelled
 from cases import Case, Keeps, read_all
 from changed import changed, one_byte
-from kinds import small_kinds
+from kinds import OfStrips, small_kinds
 from meanings import ASCII, LIMIT, SHORT, Exif, Layout, Record, Value, laid
 from program import Outcome
 from reading import CAUSES, Fault, said
@@ -266,6 +266,16 @@ class Meanings(unittest.TestCase):
         record = Record([(2, 120, b"c"), (2, 25, b"b"), (2, 25, b"a")])
         self.assertEqual(record.normal(), bytes.fromhex("1C0219000162 1C0219000161 1C0278000163"))
         self.assertEqual(record.captions(), "iim\ncharset: not declared\ncaption: c\nkeyword: b\nkeyword: a\n")
+
+    def test_each_order_of_strips(self):
+        for order, expected in ((1, [0, 1, 2, 3, 4, 5]), (-1, [0, 1, 5, 4, 3, 2])):
+            parts = list(range(6))
+            OfStrips(4, order).shuffle(parts)
+            self.assertEqual(parts, expected)
+        parts = list(range(100))
+        OfStrips(98, 0).shuffle(parts)
+        self.assertEqual((parts[:2], sorted(parts)), ([0, 1], list(range(100))))
+        self.assertNotIn(parts, (list(range(100)), [0, 1, *range(99, 1, -1)]))
 
     def test_no_two_parts_of_a_layout_share_a_byte(self):
         for kind in small_kinds():

@@ -340,6 +340,8 @@ def empty_checks(text):
 
     >>> list(empty_checks("a = b.c == b.c\\nself.assertEqual(a[0], a[0])\\nassert (a, 'why')\\nsubprocess.run(['false'])"))
     [(1, 'a value and itself'), (2, 'a value and itself'), (3, 'a tuple is true'), (4, 'the status is not looked at')]
+    >>> list(empty_checks("require('' in a)"))
+    [(1, 'an empty text is in each text')]
     >>> list(empty_checks("require(a and b)\\nif True:\\n    a()\\nfor it in ():\\n    a()"))
     [(1, 'several checks in one'), (2, 'a constant condition'), (4, 'a loop over nothing')]
     >>> list(empty_checks("try:\\n    require(a)\\nexcept Exception as why:\\n    print(why)\\ntry:\\n    a()\\nexcept:\\n    pass\\nsuppress(AssertionError)"))
@@ -356,6 +358,8 @@ def empty_checks(text):
             yield node.lineno, "several checks in one"
         if swallows(node):
             yield node.lineno, "a failure is caught"
+        if isinstance(node, ast.Compare) and isinstance(node.ops[0], ast.In) and getattr(node.left, "value", None) in ("", b""):
+            yield node.lineno, "an empty text is in each text"
         if isinstance(node, (ast.If, ast.IfExp)) and isinstance(node.test, ast.Constant):
             yield node.lineno, "a constant condition"
         if isinstance(node, ast.For) and isinstance(node.iter, (ast.Tuple, ast.List)) and not node.iter.elts:
@@ -371,6 +375,9 @@ def each_check_can_fail():
     """Reports checks of the tests that compare nothing, and checks after the end of their function."""
     files = sorted(Path(TOP, "tests").rglob("*.py"))
     wrong = [f"{path.relative_to(TOP)}:{line}: {why}" for path in files for line, why in empty_checks(path.read_text(encoding="utf-8"))]
+    for path in sorted(Path(TOP, "tests").rglob("*.c")):
+        lines = enumerate(path.read_text(encoding="utf-8").splitlines(), 1)
+        wrong += [f"{path.relative_to(TOP)}:{i}: several checks in one" for i, line in lines if re.search(r"\bREQUIRE\(.* && ", line)]
     return wrong + (["hardly a test was found"] if len(files) < 60 else [])
 
 
