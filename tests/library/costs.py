@@ -131,6 +131,7 @@ class Costs:
         """Compares each order with the first."""
         if not shutil.which("valgrind"):
             raise SkipTest("valgrind is not installed")
+        require(len({*blocks.values()}) == len(blocks), "two orders are the same block")
         usual, *others = blocks
         for call, times in most.items():
             count = self._instructions(call, blocks[usual])

@@ -437,6 +437,10 @@ class Damaged(unittest.TestCase):
             plain |= {marker} if stream.count <= 65_537 else set()
         self.assertEqual(plain, {0xC4, 0xCC, 0xDA, 0xDB, 0xDD, *range(0xD0, 0xD8)})  # DHT, DAC, SOS, DQT, DRI, RST
 
+
+class Markers(unittest.TestCase):
+    alone = True  # it changes how many bytes all readers read at once
+
     def test_markers_beside_a_plain_search(self):
         from exifnorm_pictures.formats import jpeg_tail
 

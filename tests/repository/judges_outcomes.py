@@ -396,6 +396,10 @@ class Sources(unittest.TestCase):
             for text, wrong in (("    alone = True\n", 0), ("    is_alone = True\n", 1), ("", 1)):
                 path.write_text(f"class One:\n{text}    def test(self):\n        with mock.patch(1):\n            pass\n", encoding="utf-8")
                 self.assertEqual(len(sources.picture_tests_that_share_nothing()), wrong, text)
+            for target, wrong in (("module.CHUNK", 1), ("module.sub.CHUNK", 0), ("self.CHUNK", 0), ("module", 0)):
+                path.write_text(f"class One:\n    def test(self):\n        import module\n        {target} = 4\n", encoding="utf-8")
+                self.assertEqual(sources.picture_tests_that_share_nothing()[:1], ["test_one.py: One doesn't run by itself"] if wrong else
+                                 ["no class of tests replaces anything"], target)  # fmt: skip
             path.write_text("class One:\n    pass\n", encoding="utf-8")
             self.assertEqual(sources.picture_tests_that_share_nothing(), ["no class of tests replaces anything"])
 

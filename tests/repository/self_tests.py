@@ -36,7 +36,7 @@ from meanings import ASCII, LIMIT, SHORT, Exif, Layout, Record, Value, laid
 from program import Outcome
 from reading import CAUSES, Fault, said
 from run import case_of, complaints_of
-from watching import TIMES, Counts, complaints_of_cost, limits_of, reading, says_failed
+from watching import TIMES, Counts, complaints_of_cost, complaints_of_short_calls, limits_of, reading, says_failed
 
 sys.path.insert(0, str(paths.TOP / "build"))
 
@@ -233,6 +233,16 @@ class Judging(unittest.TestCase):
         case = Case("", input_from="a", files={"a": b""}, output=b"")
         bad = complaints_of_cost("/bin/true", "/no/such/library.so", case, lambda case, outcome: [])
         self.assertEqual(bad, ["the run reported no counts"])
+
+    def test_each_byte_of_a_short_call_is_one_write(self):
+        """To standard output and to OUT; one write more is the one that failed."""
+        case = Case("", files={"OUT": b"old", "a": b"1"})
+        for status, writes, complaints in ((0, 14, 1), (0, 15, 0), (0, 16, 1), (4, 14, 1), (4, 15, 0), (4, 16, 0), (4, 17, 1)):
+            ended = Outcome(status, bytes(10), b"", {"OUT": b"12345", "a": b"1"}), Counts(0, 0, 0, 0, writes, 0, 0)
+            with mock.patch("watching.watched", return_value=ended):
+                self.assertEqual(len(complaints_of_short_calls("", "", case, lambda case, outcome: [])), complaints, (status, writes))
+        with mock.patch("watching.watched", return_value=(ended[0], None)):
+            self.assertEqual(complaints_of_short_calls("", "", case, lambda case, outcome: ["another"]), ["another", "the run reported no counts"])
 
     def test_counts_are_compared_one_by_one(self):
         self.assertEqual(list(vars(Counts(1, 2, 3, 4, 5, 6, 7))), ["calls", "asked", "held", "reads", "writes", "spent", "failed"])

@@ -267,13 +267,16 @@ SHARED = ("mock.patch", "contextlib.redirect_std", "os.umask(", "os.chdir(")
 
 
 def picture_tests_that_share_nothing():
-    """Reports classes of picture tests that replace what others use, and don't run by themselves: they have no `alone = True`."""
+    """Reports classes of picture tests that replace what others use, as by an assignment to a module's member, and don't run by themselves:
+    they have no `alone = True`."""
     wrong, seen = [], 0
     for path in sorted(Path(TOP, "tests", "pictures").glob("test_*.py")):
         text = path.read_text(encoding="utf-8")
+        modules = {name.asname or name.name for it in ast.walk(ast.parse(text)) if isinstance(it, (ast.Import, ast.ImportFrom)) for name in it.names}
         for it in (it for it in ast.parse(text).body if isinstance(it, ast.ClassDef)):
             own = ast.get_source_segment(text, it)
-            if any(word in own for word in SHARED):
+            targets = [target for node in ast.walk(it) if isinstance(node, ast.Assign) for target in node.targets]
+            if any(word in own for word in SHARED) or any(ast.unparse(target).rpartition(".")[0] in modules for target in targets):
                 seen += 1
                 wrong += [] if re.search(r"^    alone = True\b", own, re.M) else [f"{path.name}: {it.name} doesn't run by itself"]
     return wrong + (["no class of tests replaces anything"] if not seen else [])
