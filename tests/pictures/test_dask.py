@@ -47,7 +47,6 @@ class Cluster(WithPictures):
         it = subprocess.Popen([self.python, "-m", *words], cwd="/", env=Studio.environment(**more), stdout=log, stderr=log)
         self.open.callback(it.wait, PATIENCE)
         self.open.callback(it.terminate)
-        return it
 
     def cluster(self, **more):
         """The address of a new cluster, whose scheduler drops a picture at which one worker died."""

@@ -139,10 +139,11 @@ class Tools(WithPictures):
                     if started.poll() is not None:
                         self.fail("it ended before it started ExifTool")
                 tool = int(read(pids).split()[-1])
+                self.assertFalse(self.has_ended(tool, looks=1))
                 started.send_signal(number)
                 expected = 130 if number == signal.SIGINT else -number
                 self.assertEqual(started.wait(60), expected)
-                self.wait_for_end(tool)
+                self.assertTrue(self.has_ended(tool))
                 if number != signal.SIGKILL:
                     self.assertEqual(os.listdir(own), [])
         self.assertEqual(len(os.listdir(own)), 1)
@@ -204,18 +205,18 @@ class Tools(WithPictures):
                 self.assertRegex(self.complaint, r"^exifnorm-pictures: [^\n]*libexifnorm[^\n]*\n$")
         self.assertEqual(self.asked("index", "many", "--catalogue", "c", "--quiet"), ["70 unchanged"])
 
-    def wait_for_end(self, pid):
+    def has_ended(self, pid, looks=2000):
         """Waits until a process that isn't ours has ended; the system has already been asked to end it."""
-        for _ in range(2000):
+        for _ in range(looks):
             try:
                 with open(f"/proc/{pid}/stat") as file:
                     if file.read().rsplit(")", 1)[1].split()[0] in "ZX":
-                        return
+                        return True
             except (FileNotFoundError, ProcessLookupError):
-                return
+                return True
             os.sched_yield()
             subprocess.run(["true"], check=True)
-        self.fail(f"{pid} still runs")
+        return False
 
     @needs("exiftool")
     def test_a_folder_for_temporary_files_with_an_odd_name(self):

@@ -40,6 +40,8 @@ def block_of(kind, text):
 
 def picture(name, blocks=BASE, parts=(), number=0, problem=None, root="/a"):
     """A row of a catalogue; the number distinguishes files."""
+    if not root.startswith("/"):
+        raise ValueError(root)
     path = os.fsencode(f"{root.rstrip('/')}/{name}")
     number = number or int(digest(name)[:8], 16)
     return Entry(path, os.fsencode(root), Stamp(number, number, number, number), "JPEG", "own", problem, "why" if problem else "",
