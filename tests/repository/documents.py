@@ -368,6 +368,7 @@ class Written(unittest.TestCase):
         shells = ("exifnorm", "test", "Makefile", "build/listing.sh", ".ci/run", "tests/parts.txt", "debian/rules", "packaging/exifnorm.map")
         sources += [(Path(TOP, it), comments_of_shell) for it in shells]
         self.assertGreater(len(sources), 250)
+        self.assertEqual(sorted({it.suffix for it, _ in sources}), ["", ".c", ".cpp", ".h", ".map", ".py", ".rs", ".rt", ".sh", ".txt"])
         for path, comments in sources:
             for it in comments(path.read_text(encoding="utf-8")):
                 self.assertNotRegex(it, old, str(path.relative_to(TOP)))
