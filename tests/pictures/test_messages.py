@@ -34,8 +34,8 @@ DESCRIPTION = (
 END = """Statuses:
   0    success (index: also if pictures are refused, which the catalogue records)
   1    different (changed: something differs, was moved or is missing; mend: the copy differs in a printed value)
-  2    not comparable (changed, show, captions, explain: a block is refused or unreadable, or a part of a picture wasn't
-       read; mend: no remedy worked)
+  2    not comparable (changed, show, captions, explain: a block is refused or unreadable; changed: a part of a picture
+       wasn't read; mend: no remedy worked)
   3    bad arguments
   4    a file, a folder, a program, a stream or the catalogue failed; the other pictures were still looked at
   130  stopped by the keyboard; reported results are kept, and the same command continues from there

@@ -1,21 +1,20 @@
 """All that each command prints about a small folder, written out here: as lines, and as JSON objects."""
 
-import contextlib
 import hashlib
-import io
 import json
 import os
 import shutil
 import sys
 from unittest import mock
 
+from in_process import InProcess
 from made_blocks import BLOCKS
 from made_files import app1, app1_xmp, app13, exif, iim, jpeg, png, png_xmp, resource, title
-from studio import SMALL_JPEG, TOP, WithPictures, write
+from studio import SMALL_JPEG, TOP, write
 
 sys.path.insert(0, os.path.join(TOP, "python"))
 
-from exifnorm_pictures import main, session, tools  # noqa: E402
+from exifnorm_pictures import main, tools  # noqa: E402
 from exifnorm_pictures.causes import CAUSES  # noqa: E402
 
 A, B, ONE, TWO = exif(b"Abc"), exif(b"Xyz"), iim(b"one"), iim(b"two")
@@ -65,28 +64,15 @@ def accepted(kind, name, octets, digest=None):
     return {"kind": kind, "name": name, "status": "accepted", "digest": digest or sha256(octets), "length": len(octets)}
 
 
-class Commands(WithPictures):
+class Commands(InProcess):
     """In the folder F, whose name is left out here."""
 
-    alone = True  # it replaces the standard streams
+    alone = True
     maxDiff = None
 
     def setUp(self):
         super().setUp()
         make_folder(self.path("p"))
-        self.addCleanup(setattr, session._Own, "room", None)  # which a command sets, and removes with all that is in it
-
-    def printed(self, *words, status=0):
-        """The lines that a command prints, and in `complaint` those on standard error; `@` is the folder."""
-        words = [it.replace("@", self.folder) for it in words]
-        with contextlib.redirect_stdout(io.StringIO()) as out, contextlib.redirect_stderr(io.StringIO()) as errors:
-            found = main._run(words)
-        self.complaint = errors.getvalue().replace(self.folder, "F")
-        self.assertEqual(found, status, out.getvalue() + self.complaint)
-        return out.getvalue().replace(self.folder, "F").split("\n")[:-1]
-
-    def objects(self, *words, status=0):
-        return [json.loads(it) for it in self.printed(*words, "--json", status=status)]
 
     def indexed(self):
         self.printed("index", "@/p", "--catalogue", "@/c", "--quiet")

@@ -33,7 +33,9 @@ import header
 import named
 import pages
 import rules
+import sentences
 import stated
+import stated_format
 import watching
 from blocks import Blocks
 from checks import at_least
@@ -272,6 +274,70 @@ class Listed(unittest.TestCase):
         ):
             self.assertIn(text, text_of(name), name)
 
+    def test_requests_of_memory_are_those_of_the_definitions(self):
+        """A mark is a bit, and marks are requested twice; a DataSet has at least five bytes."""
+
+        def defined(crate, pattern, file="Asking"):
+            return [int(it) for it in re.search(rf"^{pattern}$", text_of(f"crates/{crate}/specs/{file}.antt"), re.M).groups()]
+
+        (fields,) = defined("px_tree", r"fields_request n = (\d+) \* n")
+        (marks,) = defined("px_tree", r"exif_request n = fields_request n \+ (\d+) \* mark_bytes n \+ iim_request n")
+        mark, most, part = defined("px_bytes", r"mark_bytes end = (\d+) \* \(\(end \+ (\d+)\) / (\d+)\)", "Held")
+        (item,), (counters,) = defined("px_iim", r"item_bytes = (\d+)"), defined("px_iim", r"counter_bytes = (\d+)")
+        (least,) = defined("px_iim", r"iim_request n = item_bytes \* \(n / (\d+)\) \+ counter_bytes")
+        each, more = defined("px_engine", r"file_request n = (\d+) \* n \+ (\d+) \+ block_request n")
+        block, rest = fields + marks * mark / part + item / least, counters + marks * mark * most // part + 1
+        (beyond,) = defined("px_engine", r"most_read = limit \+ (\d+)", "Input")
+        words = {7: "seven"}
+        for name, text in (
+            ("docs/PROOFS.md", f"A read requests at most {block:.2f} bytes for each byte of the block and {rest:,} more"),
+            ("docs/PROOFS.md", f"A block requests at most {block:.2f} bytes for each of its bytes and {rest:,} more"),
+            ("docs/PROOFS.md", f"A run of one file requests at most {block + each:.2f} bytes for each byte that it reads and {rest + more:,} more"),
+            ("SECURITY.md", f"a run of one file requests at most {block + each:.2f} bytes for each byte that it reads, and {rest + more:,} more"),
+            ("SECURITY.md", f"at most {words[beyond]} bytes more are read than the longest block has"),
+            ("docs/FORMAT.md", f"The program reads at most `LIMIT` + {beyond} bytes"),
+            ("CHANGELOG.md", f"with {item} bytes of memory for each"),
+        ):
+            self.assertIn(text, text_of(name), name)
+
+    def test_numbers_of_the_decisions_are_those_of_the_sources(self):
+        def constant(path, name):
+            return int(re.search(rf"^(?:pub )?const {name}: usize = ([\d_]+);", text_of(f"crates/{path}.rt"), re.M)[1])
+
+        (times,) = re.search(r"^MayAsk bytes = bytes ≤ (\d+) \* limit$", text_of("crates/px_bytes/specs/Lacking.antt"), re.M).groups()
+        (item,) = re.search(r"^item_bytes = (\d+)$", text_of("crates/px_iim/specs/Asking.antt"), re.M).groups()
+        roles, widened = len(rules.rows_of_roles(rules.section("Roles of tags"))), {tag for _, tag in rules.widened_listed(rules.section("Widened tags"))}
+        words = {13: "Thirteen", 5: "Five"}
+        blocks, notes = re.search(r"(\d+) blocks were normalised.* of the (\d+) with one", text_of("docs/RECIPES.md")).groups()
+        for name, text in (
+            ("docs/DECISIONS.md", f"**The limit is {LIMIT:,} bytes.**"),
+            ("docs/DECISIONS.md", f"{words[roles]} tags have a role or are forbidden"),
+            ("docs/DECISIONS.md", f"**{words[len(widened)]} tags are widened.**"),
+            ("docs/DECISIONS.md", f"would have refused {notes} of the {blocks} blocks that RECIPES.md measures"),
+            ("docs/DECISIONS.md", f"An item takes {item} bytes"),
+            ("docs/DECISIONS.md", f"If they are not, and at most {constant('px_iim/src/survey', 'FEW')}, each is inserted"),
+            ("docs/DECISIONS.md", f"It is an array of {constant('px_bytes/src/pending', 'CAPACITY'):,} bytes, which is cleared once. A form in memory whose length is at most {constant('px_engine/src/forms', 'SHORT'):,} bytes"),
+            ("docs/DECISIONS.md", f"A list grows by half up to {constant('px_iim/src/group', 'LONG'):,} DataSets"),
+            ("docs/DECISIONS.md", f"Up to {constant('px_bytes/src/whole', 'LONG') >> 20} MiB the list doubles"),
+            ("docs/DECISIONS.md", f"at most one word for {constant('px_bytes/src/marks', 'WIDTH')} of its bytes"),
+            ("docs/DECISIONS.md", f"A request is bounded by {times} times the limit in bytes"),
+            ("docs/PROOFS.md", f"A request has at most {times} times the bytes of the longest block"),
+            ("docs/PROOFS.md", f"no request is for more bytes than {times} times the limit"),
+            ("bench/README.md", f"An item is {item} bytes for a DataSet of five"),
+        ):
+            self.assertIn(text, text_of(name), name)
+
+    def test_lists_are_as_long_as_the_documents_count(self):
+        packages = re.findall(r"^Package: ", text_of("debian/control"), re.M)
+        ported = re.search(r"the statements of the ported crates: ([\w, ]+);", text_of("docs/PROOFS.md"))[1]
+        trusted = re.findall(r"^\| px_\w+ \| `src/", text_of("docs/PROOFS.md"), re.M)
+        numbers = {3: "three", 5: "five"}
+        for name, text in (
+            ("docs/PACKAGING.md", f"| {numbers[len(packages)]} Debian packages in the parent folder |"),
+            ("README.md", f"{numbers[len(re.split(', | and ', ported))]} ported crates, glibc, {numbers[len(trusted)]} source files"),
+        ):
+            self.assertIn(text, text_of(name), name)
+
     def test_packages_of_debian_are_those_of_the_parts(self):
         known = set(re.findall(r"\S+", " ".join(re.findall(r"^Packages: (.*)$", text_of("tests/parts.txt"), re.M))))
         lists = re.findall(r"Debian's ((?:`[^`]+`(?:,| and)? ?)+)", "".join(map(text_of, DOCUMENTS)))
@@ -332,6 +398,7 @@ class Written(unittest.TestCase):
     def test_examples(self):
         examples(header)
         examples(named)
+        examples(sentences)
         examples(pages)
         examples(rules)
         examples(sys.modules[__name__])
@@ -431,7 +498,7 @@ def main(words):
     PROGRAM, LIBRARY = map(os.path.abspath, words)
     stated.PROGRAM, stated.LIBRARY = Path(PROGRAM), Path(LIBRARY)
     load = unittest.defaultTestLoader.loadTestsFromModule
-    return run_suite(unittest.TestSuite(map(load, (sys.modules[__name__], named, pages, rules, stated))))
+    return run_suite(unittest.TestSuite(map(load, (sys.modules[__name__], named, pages, rules, stated, stated_format))))
 
 
 if __name__ == "__main__":

@@ -10,6 +10,7 @@ from paths import TOP
 sys.path.insert(0, str(TOP / "python"))
 
 import meanings
+import reading
 from exifnorm import _forms
 
 FORMS, ROLES, FORMAT = "crates/px_field/specs/Forms.antt", "crates/px_meaning/specs/Roles.antt", "docs/FORMAT.md"
@@ -133,3 +134,45 @@ class Rules(unittest.TestCase):
         self.assertEqual(_forms._PARTS, parts)
         self.assertEqual({meanings.STRIP_OFFSETS, meanings.STRIP_LENGTHS, meanings.JPEG_OFFSET, meanings.JPEG_LENGTH}, parts)
         self.assertEqual(set(meanings.NOT_PLAIN), self.offsets)
+
+    def test_labels_of_captions(self) -> None:
+        rows = re.findall(r"^\| (\d+):(\d+) \| \1:(\d+) [^|]+ \| `([\w-]+)` \|$", section("Captions (`captions`)"), re.M)
+        listed: Dict[Tuple[int, int], Dict[int, str]] = {}
+        for record, group, number, label in rows:
+            listed.setdefault((int(record), int(group)), {})[int(number)] = label
+        self.assertEqual(list(listed.items()), list(meanings.LABELS))
+        fields = re.findall(r"`([a-z]+): ` \(`0x(\w{4})`\)", section("Captions (`captions`)"))
+        self.assertEqual(len(fields), 3)
+        block = meanings.Exif({int(tag, 16): meanings.Value(meanings.ASCII, label.encode()) for label, tag in fields})
+        self.assertEqual(block.captions(), "".join(["exif\n", *(f"{label}: {label}\n" for label, _ in fields)]))
+
+    def test_groups(self) -> None:
+        text = re.search(r"In record (\d+), DataSet (27) belongs to the group of (\d+), DataSets (47) and (50) to that of (\d+), and DataSet (85) to that of (\d+)\.",
+                         section("Groups"))  # fmt: skip
+        record, *numbers = map(int, text.groups())
+        leaders = {numbers[0]: numbers[1], numbers[2]: numbers[4], numbers[3]: numbers[4], numbers[5]: numbers[6]}
+        self.assertEqual({(record, number): (record, leader) for number, leader in leaders.items()}, meanings.GROUP_OF)
+
+    def test_blocks_of_examples(self) -> None:
+        """The bytes that the format shows, by the reader of the tests, which doesn't use them."""
+        header, directory, entry = (octets_of(it) for it in ("Header", "Directory", "Entry"))
+        value = octets_of("Value")
+        self.assertEqual(header[0], bytes.fromhex("4d4d002a00000008"))
+        self.assertEqual(entry[0], directory[1])
+        self.assertEqual(value[1], directory[1])
+        block = header[0] + directory[0] + directory[1] + directory[2] + value[2]
+        self.assertEqual(reading.said(block).listing(), "exif\n[main]\n010e ASCII 5: 55726e7300\n")
+        inline = header[0] + directory[0] + value[0] + directory[2]
+        self.assertEqual(reading.said(inline).listing(), "exif\n[main]\n0112 SHORT 1: 1\n")
+        records = octets_of("DataSets")
+        self.assertEqual([reading.said(it).listing() for it in records], ["iim\n2:120 3: 616263\n"] * 2)
+        self.assertEqual(reading.said(records[1]).normal(), records[0])
+
+
+def octets_of(title: str) -> List[bytes]:
+    """The bytes in the examples of a section of the format, a line each; the lines have words around them."""
+    found = []
+    for line in re.findall(r"^    (?!byte)(?:at \d+)?(.*)$", section(title), re.M):
+        digits = re.search(r"(?:\b[0-9A-F]{2}\b[ |]*){2,}", line)
+        found += [bytes.fromhex(re.sub(r"[ |]", "", digits[0]))] if digits else []
+    return found

@@ -14,6 +14,7 @@ from typing import Any, Dict, NamedTuple, Set, Tuple
 import pages
 from meanings import LIMIT
 from paths import TOP
+from sentences import sentences
 
 PROGRAM, LIBRARY = TOP / "crates" / "px_cli" / "out" / "px_cli", TOP / "out" / "lib"
 
@@ -278,6 +279,145 @@ class Stated(unittest.TestCase):
              [(3, b"refused words: they are not text\n"), (4, b"failed: ReadFailed\n")]),
             ("Without arguments, exifnorm normalises standard input to standard output.", (self.program,), self.ran(given=ONE), (0, ONE)),
             ("To read standard input with a command, give /dev/stdin for FILE.", (self.program,), self.ran("check", "/dev/stdin", given=ONE), (0, b"ok exif\n")),
+        ))  # fmt: skip
+
+    def items(self, name: str, facts: Any) -> None:
+        """Facts about items, each with its tag, as sentences.py has them."""
+        there = sentences(name)
+        for sentence, found, expected in facts:
+            self.assertTrue(sentence in there, f"{name}: {sentence}")
+            self.assertEqual(found, expected, sentence)
+
+    def test_items_of_the_program(self) -> None:
+        same, different, loop = (self.ran(*it) for it in (["compare", "one", "one"], ["compare", "one", "record"], ["check", "loop"]))
+        helped, version = (self.ran(it)[1].decode() for it in ("--help", "--version"))
+        self.items(pages.PAGES[0], (
+            ("show FILE | Prints the block as text: a line for the kind, one for each directory, and one for each field or DataSet.", self.ran("show", "one"),
+             (0, LISTING)),
+            ("check FILE | Prints ok exif or ok iim, or why the block is refused.", [self.ran("check", it)[1] for it in ("one", "record", "loop")],
+             [b"ok exif\n", b"ok iim\n", b"refused: Loop at 22\n"]),
+            ("captions FILE | Prints the captions, names, keywords and rights in the block, a line for each.",
+             self.ran("captions", "/dev/stdin", given=RECORD + b"\x1c\2\x50\0\3Lee\x1c\2\x19\0\4clay\x1c\2\x74\0\4mine"),
+             (0, b"iim\ncharset: not declared\ncaption: Vase\ncopyright: mine\nbyline: Lee\nkeyword: clay\n")),
+            ("normalise FILE OUT | Writes the normal form of the block in FILE to OUT, and prints nothing.", self.written("one", "out"), (0, b"", ONE)),
+            ("compare FIRST SECOND | Prints same or different, or which of the two files is refused, and why.",
+             [same[1], different[1], self.ran("compare", "one", "loop")[1]], [b"same\n", b"different\n", b"refused: Loop at 22 in file 2\n"]),
+            ("--help | Prints a short help.", "Usage: exifnorm <COMMAND>" in helped and len(helped) < 2000, True),
+            ("--version | Prints exifnorm and its version.", re.sub(r"[\d.]+", "VERSION", version), "exifnorm VERSION\n"),
+            ("refused: CAUSE at PLACE | The block is refused.", loop[1], b"refused: Loop at 22\n"),
+            ("refused: NormalTooLong | The block is valid, but its normal form is longer than 16,777,216 bytes.",
+             (self.ran("check", "long"), self.written("long", "out")), ((0, b"ok exif\n"), (2, b"refused: NormalTooLong\n", b""))),
+            ("refused words: OUT is FILE | The two arguments of normalise name one file.", self.written("one", "one"), (3, b"refused words: OUT is FILE\n", ONE)),
+            ("refused words: they are not text | An argument is not UTF-8.", self.ran("check", b"\xff"), (3, b"refused words: they are not text\n")),
+            ("failed: ReadFailed | A file can't be opened, or a read failed.", [self.ran("check", it)[1] for it in ("absent", "folder")], [b"failed: ReadFailed\n"] * 2),
+            ("failed: WriteFailed | OUT can't be created, or a write failed.", self.ran("normalise", "one", "folder")[1], b"failed: WriteFailed\n"),
+            ("0 | Success; with compare, the blocks mean the same.", (self.ran("check", "one")[0], same[0]), (0, 0)),
+            ("1 | With compare, the blocks mean different things.", different[0], 1),
+            ("2 | A block is refused.", loop[0], 2),
+            ("3 | The arguments are wrong.", self.ran("compare", "one")[0], 3),
+            ("4 | A file could not be opened, a read, a write or an allocation failed, or the result could not be printed.", self.ran("check", "absent")[0], 4),
+        ))  # fmt: skip
+
+    def test_rows_of_the_documents(self) -> None:
+        one, loop, absent = self.ran("check", "one"), self.ran("check", "loop"), self.ran("check", "absent")
+        same, different = self.ran("compare", "one", "one"), self.ran("compare", "one", "record")
+        wrong, twice, no_text = self.ran("compare", "one"), self.written("one", "one"), self.ran("check", b"\xff")
+        self.items("README.md", (
+            ("| 0 | success; `compare`: same |", (one[0], same), (0, (0, b"same\n"))),
+            ("| 1 | `compare`: different |", different, (1, b"different\n")),
+            ("| 2 | a block is refused |", loop[0], 2),
+            ("| 3 | bad arguments |", wrong[0], 3),
+            ("| 4 | a read, a write or an allocation failed |", (absent[0], self.ran("normalise", "one", "folder")[0]), (4, 4)),
+            ("`exifnorm normalise FILE OUT` writes the normal form; without arguments `exifnorm` is a filter ([manual](docs/exifnorm.1)).",
+             (self.written("one", "out"), self.ran(given=ONE)), ((0, b"", ONE), (0, ONE))),
+        ))  # fmt: skip
+        self.items("docs/FORMAT.md", (
+            ("| `show FILE` | the listing of the block |", self.ran("show", "one")[1], LISTING),
+            ("| `check FILE` | whether the block is accepted, and its kind |", (one[1], loop[1]), (b"ok exif\n", b"refused: Loop at 22\n")),
+            ("| `normalise FILE OUT` | its normal form, to the file OUT |", self.written("one", "out")[2], ONE),
+            ("| `compare FIRST SECOND` | whether two blocks mean the same |", (same[1], different[1]), (b"same\n", b"different\n")),
+            ("| 0 | success | check: `ok exif` or `ok iim`; compare: `same`; normalise: none; show and captions: their text |",
+             (one, self.ran("check", "record"), same, self.written("one", "out")[:2], self.ran("show", "one")),
+             ((0, b"ok exif\n"), (0, b"ok iim\n"), (0, b"same\n"), (0, b""), (0, LISTING))),
+            ("| 1 | compare: the blocks mean different things | `different` |", different, (1, b"different\n")),
+            ("| 2 | the block is refused | `refused: <Cause> at <place>` |", loop, (2, b"refused: Loop at 22\n")),
+            ("| 2 | the normal form would be too long | `refused: NormalTooLong` |", self.written("long", "out")[:2], (2, b"refused: NormalTooLong\n")),
+            ("| 3 | the arguments are wrong, or the system didn't pass them | a text that isn't fixed, `refused words: OUT is FILE`, or `refused words: they are not"
+             " text` |", (wrong[0], twice[:2], no_text), (3, (3, b"refused words: OUT is FILE\n"), (3, b"refused words: they are not text\n"))),
+            ("- A file that can't be opened is ReadFailed; an OUT that can't be created is WriteFailed.", (absent, self.ran("normalise", "one", "folder")),
+             ((4, b"failed: ReadFailed\n"), (4, b"failed: WriteFailed\n"))),
+            ("If FILE and OUT are equal arguments, they are refused before any file is opened.", self.ran("normalise", "absent", "absent"),
+             (3, b"refused words: OUT is FILE\n")),
+            ("It never writes a normal form.", self.ran("compare", "long", "long"), (0, b"same\n")),
+        ))  # fmt: skip
+        self.items("SECURITY.md", (
+            ("`normalise` refuses an OUT that is the same file as FILE, by whatever name, before it empties OUT.",
+             [self.written("one", it)[::2] for it in ("./one", "hard", "soft")], [(3, ONE)] * 3),
+        ))  # fmt: skip
+
+    def test_names_and_texts(self) -> None:
+        """Names are used as they are, and texts can't control a terminal."""
+        wild = self.ran("captions", "/dev/stdin", given=b"\x1c\2\x78\1\0" + bytes(range(256)))[1]
+        text = self.ran("show", "/dev/stdin", given=b"\x1c\2\x78\1\0" + bytes(range(256)))[1]
+        there = sorted(os.listdir(self.folder))
+        (self.folder / "*").write_bytes(LOOP)
+        star, home = self.ran("check", "*"), self.ran("check", "~")
+        (self.folder / "*").unlink()
+        self.written("one", "out")
+        left = sorted(set(os.listdir(self.folder)) - set(there))
+        printable = {*range(0x20, 0x7F), 0x0A}
+        self.items("SECURITY.md", (
+            ("| send control characters to a terminal: `show` prints hexadecimal, `captions` escapes every byte outside 20 to 7E | yes | |",
+             (set(wild) <= printable, bytes(range(256)).hex() in text.decode(), wild.count(b"\\")), (True, True, 256 - 0x5F + 1)),
+            ("The program uses a name as it is: it joins no paths, expands nothing, and writes to no file but OUT.", (star, home, left),
+             ((2, b"refused: Loop at 22\n"), (4, b"failed: ReadFailed\n"), ["out"])),
+            ("Symbolic links are followed by the system.", self.ran("check", "soft"), (0, b"ok exif\n")),
+        ))  # fmt: skip
+        self.items("docs/RECIPES.md", (
+            ("`exifnorm captions` escapes each byte that isn't plain ASCII as a backslash and two hexadecimal digits, so each caption is on one line, and no caption"
+             " can control a terminal.", wild.count(b"\n"), 3),
+            ("`exifnorm` without arguments reads a block from standard input and writes its normal form.", self.ran(given=ONE), (0, ONE)),
+            ("For the commands standard input is `/dev/stdin`:", self.ran("check", "/dev/stdin", given=ONE), (0, b"ok exif\n")),
+        ))  # fmt: skip
+        commands = re.findall(r"^  (\w+) {2,}", self.ran("--help")[1].decode().partition("Options:")[0], re.M)
+        self.items("CHANGELOG.md", (
+            ("- The program: `show`, `check`, `captions`, `normalise`, `compare`, and the filter.", (commands, self.ran(given=ONE)),
+             (["show", "check", "captions", "normalise", "compare"], (0, ONE))),
+        ))  # fmt: skip
+
+    def test_hyphens(self) -> None:
+        (self.folder / "-one").write_bytes(ONE)
+        self.items("docs/FORMAT.md", (
+            ("- A file whose name begins with a hyphen must follow `--`.", [self.ran("check", *it)[0] for it in (["-one"], ["--", "-one"])], [3, 0]),
+        ))  # fmt: skip
+
+    def test_items_of_the_calls(self) -> None:
+        done, too_long, little = called("normalise", ONE), called("normalise", TOO_LONG, capacity=5 * LIMIT), called("normalise", ONE, capacity=1)
+        first, second, kinds = called("compare", LOOP, CUT), called("compare", ONE, LOOP), [called("check", it)[:2] for it in (ONE, RECORD)]
+        self.items(pages.PAGES[1], (
+            ("EXIFNORM_DONE (0) | Success.", done.status, 0),
+            ("EXIFNORM_REFUSED (2) | The block breaks the rules; of two blocks, the first does.", (called("check", LOOP)[:3:2], first[:3:2]), ((2, (4, 22)),) * 2),
+            ("EXIFNORM_TOO_LONG (3) | The block is valid, but its normal form is longer than EXIFNORM_LIMIT bytes.",
+             (called("check", TOO_LONG).status, too_long.status), (0, 3)),
+            ("EXIFNORM_TOO_LITTLE_ROOM (5) | out is too short.", (little.status, little.written), (5, len(ONE))),
+            ("EXIFNORM_SECOND_REFUSED (6) | The first of two blocks is valid, and the second breaks the rules; fault describes the second.", second[:3:2], (6, (4, 22))),
+            ("The kinds are EXIFNORM_EXIF (1) and EXIFNORM_IIM (2).", kinds, [(0, 1), (0, 2)]),
+            ("exifnorm_normalise writes the normal form of the block to the beginning of out.", called("normalise", WITH_NOTE).out[:8].hex(), "4d4d002a00000008"),
+            ("exifnorm_compare sets same to 1 if two blocks mean the same, and otherwise to 0. It also compares blocks whose normal forms are too long.",
+             [called("compare", ONE, it).number for it in (ONE, RECORD, TOO_LONG)], [1, 0, 0]),
+        ))  # fmt: skip
+        self.items(pages.HEADER, (
+            ("EXIFNORM_DONE = 0, | Success.", done.status, 0),
+            ("EXIFNORM_REFUSED = 2, | The block is refused; of two blocks, the first.", first[:3:2], (2, (4, 22))),
+            ("EXIFNORM_TOO_LONG = 3, | The block is valid, but its normal form is longer than EXIFNORM_LIMIT.", too_long.status, 3),
+            ("EXIFNORM_TOO_LITTLE_ROOM = 5, | out is too short; written is the number of bytes needed.", (little.status, little.written), (5, len(ONE))),
+            ("EXIFNORM_SECOND_REFUSED = 6 | The first of two blocks is valid, and the second is refused.", second[:3:2], (6, (4, 22))),
+            ("EXIFNORM_EXIF = 1, | directories in the structure of TIFF 6.0, by CIPA DC-008", kinds[0], (0, 1)),
+            ("EXIFNORM_IIM = 2 | DataSets of IPTC-NAA IIM 4.2", kinds[1], (0, 2)),
+            ("#define EXIFNORM_LIMIT 16777216 | The greatest length of a block, and of a normal form, in bytes.",
+             [called("check", bytes(it)).fault for it in (LIMIT, LIMIT + 1)], [(2, 0), (1, LIMIT)]),
+            ("#define EXIFNORM_NAME_ROOM 32 | The greatest size of the name of a cause, or of the version, with the zero byte that ends it.",
+             {it.status for it in [*(text_of_call("cause_name", number, capacity=32) for number in range(21)), text_of_call("version", capacity=32)]}, {0}),
         ))  # fmt: skip
 
     def test_standards_have_one_edition(self) -> None:

@@ -1,0 +1,35 @@
+"""Runs exifnorm-pictures in the process of the tests, where a command takes milliseconds."""
+
+import contextlib
+import io
+import json
+import os
+import sys
+
+from studio import TOP, WithPictures
+
+sys.path.insert(0, os.path.join(TOP, "python"))
+
+from exifnorm_pictures import main, session  # noqa: E402
+
+
+class InProcess(WithPictures):
+    """A test with a folder of its own, which is F in what is printed."""
+
+    alone = True  # it replaces the standard streams
+
+    def setUp(self):
+        super().setUp()
+        self.addCleanup(setattr, session._Own, "room", None)  # which a command sets, and removes with all that is in it
+
+    def printed(self, *words, status=0):
+        """The lines that a command prints, and in `complaint` those on standard error; `@` is the folder."""
+        words = [it.replace("@", self.folder) for it in words]
+        with contextlib.redirect_stdout(io.StringIO()) as out, contextlib.redirect_stderr(io.StringIO()) as errors:
+            found = main._run(words)
+        self.complaint = errors.getvalue().replace(self.folder, "F")
+        self.assertEqual(found, status, out.getvalue() + self.complaint)
+        return out.getvalue().replace(self.folder, "F").split("\n")[:-1]
+
+    def objects(self, *words, status=0):
+        return [json.loads(it) for it in self.printed(*words, "--json", status=status)]
