@@ -22,10 +22,12 @@ PROGRAM, ARCHIVE = "crates/px_cli/out/px_cli", "out/proved/libpx_c.a"
 # The parts of ./test that this repository has: the crates, an edit less and a program more, and what is built.
 PARTS = """Part: rt
 Command: prove
+Minutes: 170
 Least: 5
 
 Part: build
 Command: build
+Minutes: 170
 Least: 2
 """
 

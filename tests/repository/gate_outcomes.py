@@ -2,9 +2,11 @@
 
 import os
 import re
+import select
 import shutil
 import signal
 import subprocess
+import sys
 import tempfile
 import unittest
 from dataclasses import dataclass
@@ -68,13 +70,13 @@ class Folder(unittest.TestCase):
     def ran(self, listed: Optional[str], *words: str, **environment: str) -> Ended:
         if listed is not None:
             (self.folder / "tests" / "parts.txt").write_text(listed)
-        own = {it: value for it, value in os.environ.items() if it not in ("CI", "TEST_PARTS")}
+        own = {it: value for it, value in os.environ.items() if it not in ("CI", "TEST_PARTS", "TEST_MINUTE")}
         own["PATH"] = f"{self.folder}/bin:{own['PATH']}"
         ran = subprocess.run([self.folder / "test", *words], env={**own, **environment}, capture_output=True, text=True, timeout=900)
         return Ended(ran.returncode, (ran.stdout.splitlines() or [""])[-1], ran.stdout + ran.stderr)
 
     def part(self, command: str, least: str = "3", name: str = "a", more: str = "") -> str:
-        return f"# a comment\nPart: {name}\nCommand: {command}\nLeast: {least}\n{more}\n"
+        return f"# a comment\nPart: {name}\nCommand: {command}\nMinutes: 1\nLeast: {least}\n{more}\n"
 
     def fails(self, listed: str, last: str, why: str, **environment: str) -> None:
         ended = self.ran(listed, **environment)
@@ -216,8 +218,11 @@ class Gate(Folder):
         good = self.part("echo 3 passed, 0 failed")
         for listed in (
             good.replace("Command", "Comand"),
+            good.replace("Command", "Command: true\nCommand"),
             good.replace("Least", "least"),
-            *(good.replace("Least: 3", f"Least: {it}") for it in ("0", "-1", "some", "")),
+            *(good.replace("Least: 3", f"Least: {it}") for it in ("0", "-1", "some", "", "3\nLeast: 4")),
+            *(good.replace("Minutes: 1", f"Minutes: {it}") for it in ("0", "-1", "1.5", "1m", "", "1\nMinutes: 2")),
+            good.replace("Minutes: 1\n", ""),
             *(good.replace("Least: 3", f"Least: 3\nChecks: {it}") for it in ("0", "-1", "some", "")),
             good.rstrip("\n") + "\n" + self.part("echo 4 passed, 0 failed", name="b").removeprefix("# a comment\n"),
             good + good,
@@ -236,7 +241,7 @@ class Gate(Folder):
             self.assertEqual((ended.status, ended.last), (program | made, last), ended.printed)
 
     def test_where_there_is_no_dpkg_no_package_is_called_missing(self):
-        for name in "cat date dirname grep mktemp paste rm sed sh sort tail tee tr uniq".split():
+        for name in "cat date dirname env grep mkfifo mktemp paste rm sed sh sort tail tee timeout tr uniq".split():
             (self.folder / "bin" / name).symlink_to(shutil.which(name))
         (self.folder / "tests" / "parts.txt").write_text(self.part("echo 3 passed, 0 failed", more="Packages: zsh fish\n"))
         environment = {"PATH": str(self.folder / "bin"), "TMPDIR": str(self.folder)}
@@ -253,21 +258,9 @@ class Gate(Folder):
             ran = subprocess.run(words, cwd=self.folder.parent, env={**os.environ, "TEST_PARTS": "", **more}, capture_output=True, text=True, timeout=600)
             self.assertEqual((ran.returncode, ran.stdout.splitlines()[-1]), (0, "3 passed, 0 failed"), ran)
 
-    def test_a_run_that_is_stopped_leaves_nothing(self):
-        (self.folder / "temporary").mkdir()
-        os.mkfifo(self.folder / "pipe")
-        (self.folder / "tests" / "parts.txt").write_text(self.part(f"echo begun >{self.folder}/pipe; sleep 1000", more="Beside: yes\n"))
-        environment = {**os.environ, "TEST_PARTS": "", "TMPDIR": str(self.folder / "temporary")}
-        started = subprocess.Popen([self.folder / "test"], env=environment, stdout=subprocess.DEVNULL, stderr=subprocess.DEVNULL, start_new_session=True)
-        self.assertEqual((self.folder / "pipe").read_text(), "begun\n")
-        started.send_signal(signal.SIGTERM)
-        self.assertNotEqual(started.wait(600), 0)
-        os.killpg(started.pid, signal.SIGKILL)
-        self.assertEqual(list((self.folder / "temporary").iterdir()), [])
-
     def test_a_file_that_is_created_while_the_others_are_removed(self):
         (self.folder / "temporary").mkdir()
-        self.command("rm", f'[ -e {self.folder}/tried ] && exec {shutil.which("rm")} "$@"; touch {self.folder}/tried; exit 1')
+        self.command("rm", f'[ "$1" != -rf ] || [ -e {self.folder}/tried ] && exec {shutil.which("rm")} "$@"; touch {self.folder}/tried; exit 1')
         ended = self.ran(self.part("echo 3 passed, 0 failed"), TMPDIR=str(self.folder / "temporary"))
         self.assertEqual((ended.status, ended.last), (0, "3 passed, 0 failed"), ended.printed)
         self.assertTrue((self.folder / "tried").exists())
@@ -289,6 +282,133 @@ class Gate(Folder):
         self.assertIn("\nfish no-such-package\n", "\n" + self.ran(listed, TEST_PARTS="a").printed)
         self.command("dpkg-query", "echo installed")
         self.assertNotIn("missing", self.ran(listed).printed)
+
+
+class Limits(Folder):
+    """Parts that don't end: each is ended at its limit, or when ./test is stopped. Here a minute has one second."""
+
+    def setUp(self) -> None:
+        super().setUp()
+        (self.folder / "temporary").mkdir()
+        self.watch()
+
+    def watch(self) -> None:
+        """Makes the file, which is a pipe, for the next run."""
+        (self.folder / "open").unlink(missing_ok=True)
+        os.mkfifo(self.folder / "open")
+        self.pipe = os.open(self.folder / "open", os.O_RDONLY | os.O_NONBLOCK)
+        self.addCleanup(os.close, self.pipe)
+
+    def endless(self, command: str, name: str = "a", more: str = "") -> str:
+        """A part whose processes keep a file open."""
+        return self.part(f"exec 9>{self.folder}/open; {command}", name=name, more=more)
+
+    def with_files(self) -> str:
+        """A command of Python that has temporary files."""
+        text = "import tempfile, time\nwith tempfile.TemporaryDirectory():\n    print('begun', file=open(9, 'w'))\n    time.sleep(1000)\n"
+        (self.folder / "files.py").write_text(text)
+        return f"{sys.executable} {self.folder}/files.py"
+
+    def begun(self) -> None:
+        """Waits until a part begins."""
+        self.assertTrue(select.select([self.pipe], [], [], 600)[0], "it doesn't begin")
+        self.assertEqual(os.read(self.pipe, 100), b"begun\n")
+
+    def ended(self) -> None:
+        """Waits until no process of a part has the file open, which is its end."""
+        os.close(os.open(self.folder / "open", os.O_WRONLY | os.O_NONBLOCK))  # on a busy machine, no part may have opened it
+        read = b"begun"
+        while read:
+            self.assertTrue(select.select([self.pipe], [], [], 60)[0], "a process is left")
+            read = os.read(self.pipe, 100)
+        self.watch()
+
+    def is_ended_at_its_limit(self, command: str, more: str = "") -> None:
+        other = self.part("echo 3 passed, 0 failed", name="b").replace("Minutes: 1", "Minutes: 600")
+        why = "test: FAILED: a took more than 1 minutes and was ended\n"
+        self.fails(self.endless(command, more=more) + other, "3 passed, 1 failed", why, TEST_MINUTE="1", TMPDIR=str(self.folder / "temporary"))
+        self.ended()
+        self.assertEqual(list((self.folder / "temporary").iterdir()), [])
+
+    def test_a_part_that_never_ends(self):
+        self.is_ended_at_its_limit("sleep 1000")
+        self.is_ended_at_its_limit("while :; do :; done")
+        self.is_ended_at_its_limit("echo 3 passed, 0 failed; sleep 1000")
+
+    def test_a_part_beside_others_that_never_ends(self):
+        self.is_ended_at_its_limit("sleep 1000", more="Beside: yes\n")
+
+    def test_a_part_that_ignores_the_signal(self):
+        self.is_ended_at_its_limit("trap '' HUP INT TERM; sleep 1000")
+        self.is_ended_at_its_limit("(trap '' HUP INT TERM; sleep 1000) & sleep 1000")
+
+    def test_a_part_that_removes_its_files_before_it_ends(self):
+        """With a `timeout` that gives it more time to do so, as the machine may be busy."""
+        self.command("timeout", f"""case "$*" in '-s INT -k 1 1 '*) shift 5; set -- -s INT -k 60 1 "$@" ;; esac; exec {shutil.which("timeout")} "$@\"""")
+        self.is_ended_at_its_limit(self.with_files())
+
+    def test_a_build_that_never_ends(self):
+        """The commands that are functions of ./test have a limit too."""
+        (self.folder / "exifnorm").write_text("#!/bin/sh\nexec sleep 1000\n")
+        (self.folder / "exifnorm").chmod(0o755)
+        self.command("make", f"touch {self.folder}/made")
+        self.is_ended_at_its_limit("build")
+        self.assertFalse((self.folder / "made").exists(), "it went on with the next step")
+
+    def test_a_process_that_leaves_the_group_doesn_t_keep_the_next_part_waiting(self):
+        left = self.folder / "left"
+        try:
+            self.is_ended_at_its_limit(f"setsid sh -c 'exec 9>&-; echo $$ >{left}; exec sleep 1000'")
+        finally:
+            if left.exists():
+                os.kill(int(left.read_text()), signal.SIGKILL)
+
+    def test_a_part_within_its_limit(self):
+        """Where it ends by itself with the status that `timeout` has at a limit, or by a signal."""
+        for command, status in (("exit 124", 124), ("exit 137", 137), ("sh -c 'kill -INT $$'", 130)):
+            self.fails(self.part(command), "0 passed, 1 failed", f"a ended with status {status} and without a last line")
+
+    def test_the_limit_is_that_of_the_list(self):
+        """By a `timeout` that runs the command without a limit and writes down its words. It leaves the signals that are ignored."""
+        self.command("timeout", f'echo "$*" >>{self.folder}/words; while [ "$1" != tee ] && [ "$1" != sh ]; do shift; done; exec "$@"')
+        listed = self.part("sh -c 'kill -INT $$; touch ignored'; echo 3 passed, 0 failed").replace("Minutes: 1", "Minutes: 7")
+        for minute, limits in (("", ["-s INT -k 10 420 sh", "440 tee"]), ("180", ["-s INT -k 30 1260 sh", "1320 tee"])):
+            self.assertEqual(self.ran(listed, **({"TEST_MINUTE": minute} if minute else {})).last, "3 passed, 0 failed")
+            words = sorted((self.folder / "words").read_text().splitlines())
+            self.assertEqual([re.sub(r" (sh|tee) .*", r" \1", it) for it in words], limits)
+            (self.folder / "words").unlink()
+        self.assertFalse((self.folder / "ignored").exists(), "a part ignores SIGINT")
+
+    def test_a_minute_that_is_no_number_of_seconds(self):
+        for minute in ("0", "-1", "1.5", "some", "1 2"):
+            self.fails(self.part("echo 3 passed, 0 failed"), "0 passed, 1 failed", "TEST_MINUTE is no number of seconds", TEST_MINUTE=minute)
+
+    def test_a_part_reads_nothing(self):
+        """Or else ./test would wait for the keyboard."""
+        self.assertEqual(self.ran(self.part("cat; echo 3 passed, 0 failed"), TEST_MINUTE="600").last, "3 passed, 0 failed")
+
+    def is_stopped(self, how: signal.Signals, listed: str) -> None:
+        """Starts ./test and stops it once a part has begun."""
+        (self.folder / "tests" / "parts.txt").write_text(listed)
+        environment = {**os.environ, "TEST_PARTS": "", "TMPDIR": str(self.folder / "temporary")}
+        started = subprocess.Popen([self.folder / "test"], env=environment, stdout=subprocess.DEVNULL, stderr=subprocess.DEVNULL)
+        self.begun()
+        started.send_signal(how)
+        self.assertEqual(started.wait(600), 1)
+        self.ended()
+        self.assertEqual(list((self.folder / "temporary").iterdir()), [])
+
+    def test_a_run_that_is_stopped_leaves_nothing(self):
+        for how in (signal.SIGTERM, signal.SIGINT, signal.SIGHUP):
+            for more in ("", "Beside: yes\n"):
+                with self.subTest(how=how, more=more):
+                    self.is_stopped(how, self.endless(f"{self.with_files()}; touch next", more=more))
+        self.assertFalse((self.folder / "next").exists(), "it went on")
+
+    def test_a_stopped_run_ends_all_its_parts(self):
+        beside = self.part(f"exec 8>{self.folder}/open; sleep 1000", more="Beside: yes\n")
+        self.is_stopped(signal.SIGTERM, beside + self.endless(self.with_files(), name="b") + self.part("touch next", name="c"))
+        self.assertFalse((self.folder / "next").exists())
 
 
 class Proved(Folder):
@@ -337,8 +457,8 @@ class Listed(unittest.TestCase):
 
     def test_each_part_has_its_lines(self):
         for part in self.parts():
-            self.assertLessEqual({"Part", "Command", "Least", "Packages"}, set(part), part)
-            self.assertLessEqual(set(part), {"Part", "Command", "Least", "Checks", "Packages", "Beside"}, part)
+            self.assertLessEqual({"Part", "Command", "Minutes", "Least", "Packages"}, set(part), part)
+            self.assertLessEqual(set(part), {"Part", "Command", "Minutes", "Least", "Checks", "Packages", "Beside"}, part)
         names = [it["Part"] for it in self.parts()]
         self.assertEqual(names[0], "rt")
         self.assertLessEqual({"build", "program", "tests", "sources", "launcher", "streams", "library", "documents", "pictures"}, set(names))

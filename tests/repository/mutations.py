@@ -28,7 +28,7 @@ sys.path.insert(0, str(Path(__file__).resolve().parent.parent))
 import paths
 from counting import Counter
 
-SECONDS = 3600  # the most that a run may take, also on a very busy machine: a longer one shows nothing
+SECONDS = 1800  # the most that a run may take, also on a very busy machine: a longer one shows nothing
 PROGRAM = "crates/px_cli/out/px_cli"
 MODULES = ("build", "packaging", "python", "tests")  # folders of Python modules
 NEEDED, ALLOWED = {"file", "old", "new", "part", "why"}, {"only"}
