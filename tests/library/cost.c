@@ -1,5 +1,6 @@
 /* What one call of the library costs: cost CALL FILE, where CALL is check, normalise, show, captions or compare (with itself). It prints the
- * most bytes that the call has allocated at once. costs.py runs it, also under callgrind, which counts the instructions of the call. */
+ * most bytes that the call has allocated at once, the number of its allocations, and how many of these made something longer. costs.py runs
+ * it, also under callgrind, which counts the instructions of the call. */
 #include "fuzz/memory.h"
 #include <exifnorm.h>
 #include <stdio.h>
@@ -58,7 +59,7 @@ int main(int count, char **words) {
     start_counting(0);
     uint32_t status = called(words[1], block, out, room);
     stop_counting();
-    printf("%zu\n", memory.peak - before);
+    printf("%zu %zu %zu\n", memory.peak - before, memory.taken, memory.grown);
     free(out);
     free(block.bytes);
     return status != EXIFNORM_DONE;

@@ -1,5 +1,5 @@
-"""What calls of the built library cost, in numbers that don't depend on the machine: the bytes that they allocate at most, and the
-instructions that valgrind counts, for orders that are made to be slow beside the usual one."""
+"""What calls of the built library cost, in numbers that don't depend on the machine: the bytes that they allocate at most, the number of
+their allocations, and the instructions that valgrind counts, for orders that are made to be slow beside the usual one."""
 
 import os
 import re
@@ -7,7 +7,7 @@ import shutil
 import subprocess
 from collections import Counter
 from random import Random
-from typing import Dict, Iterable
+from typing import Dict, Iterable, Tuple, Union
 
 import orders
 from checks import require
@@ -22,6 +22,7 @@ SMALL, SLACK = 1024, 1.03  # bytes of small lists; 3 % more than is allocated no
 LONG = 300_000  # DataSets
 SAME, SORTED = 1.3, 3.0  # how often the instructions of the usual order an unusual one takes, and one that has to be sorted
 OCTETS = b"octets 1"
+PIECE = 8192  # bytes of the output buffer
 
 
 def memory_of_record(call: str, record: Record) -> int:
@@ -43,6 +44,40 @@ def strips(order: int, count: int) -> bytes:
 
 def iim(names: orders.Names) -> bytes:
     return orders.record(names, OCTETS).spelled()
+
+
+def lists() -> Iterable[Tuple[str, Union[Exif, Record], int, int]]:
+    """Blocks by their meanings, each with the number of lists of a check, and of a meaning that is read, as DECISIONS has them.
+
+    The claimed ranges of an Exif block are one list of bits, and a check keeps nothing else but the fields of the thumbnail directory. The
+    meaning has a list for the fields of each directory, and one for the DataSets of a record. A check of an IIM block keeps nothing. Up to
+    64 DataSets, or more in order, take one list. Others are sorted from list to list, or into a list by counters, which are a list too.
+    """
+    fields = {tag: Value(SHORT, [1]) for tag in range(0x1000, 0x1064)}
+    yield "one field", Exif(dict(ORIENTATION)), 1, 1 + 1
+    yield "100 fields", Exif(fields), 1, 1 + 1
+    yield "1,000 fields", Exif({tag: Value(SHORT, [1]) for tag in range(0x1000, 0x13E8)}), 1, 1 + 1
+    yield "two directories", Exif(dict(ORIENTATION), exif=fields), 1, 1 + 2
+    yield "five directories", Exif(fields, exif=fields, interop=fields, gps=fields, thumb=fields, jpeg=b"jpeg"), 1 + 1, 1 + 5
+    yield "five directories of one field", Exif(*[dict(ORIENTATION)] * 5, jpeg=b"jpeg"), 1 + 1, 1 + 5
+    yield "strips", Exif(dict(ORIENTATION), thumb={}, strips=[b"x"] * 100), 1 + 1, 1 + 2
+    yield "captions in an Exif block", Exif(dict(ORIENTATION), record=orders.captions()), 1, 1 + 1 + 1
+    yield "captions", orders.captions(), 0, 1
+    yield "one DataSet", orders.record(orders.descending(1)), 0, 1
+    yield "64 DataSets, descending", orders.record(orders.descending(FEW)), 0, 1
+    yield "65 DataSets, descending", orders.record(orders.descending(FEW + 1)), 0, 2
+    yield "10,922 DataSets, descending", orders.record(orders.descending(COUNTERS // ITEM)), 0, 2
+    yield "10,923 DataSets, descending", orders.record(orders.descending(COUNTERS // ITEM + 1)), 0, 2
+    yield "20,000 DataSets in order", orders.record(orders.ascending(20_000)), 0, 1
+
+
+def growths(text: str) -> int:
+    """How often the list of a text grows: each piece of a text is appended as it is, and the list doubles.
+
+    >>> [growths("x" * it) for it in (1, 8192, 8193, 16384, 16385, 32769)]
+    [0, 0, 1, 1, 2, 3]
+    """
+    return (-(-len(text) // PIECE) - 1).bit_length()
 
 
 class Costs:
@@ -75,6 +110,17 @@ class Costs:
         self._write(laid(Exif(fields, exif=fields, interop=fields, gps=fields), Layout("<")))
         self._keep_to_a_bit_a_byte("check", "fields")
 
+    def are_one_allocation_for_each_list(self) -> None:
+        """The space for a list is allocated at once, so that none grows while a block is read: a list of 100 fields that had space for 99
+        would be one more allocation. A text is a list that grows. A form is written into the caller's memory."""
+        for name, meaning, checked, read in lists():
+            self._write(laid(meaning, Layout("<")) if isinstance(meaning, Exif) else meaning.spelled())
+            self._keep_to_allocations("check", name, checked)
+            self._keep_to_allocations("normalise", name, read)
+            self._keep_to_allocations("show", name, read + 1, growths(meaning.listing()))
+            self._keep_to_allocations("captions", name, read + 1, growths(meaning.captions()))
+            self._keep_to_allocations("compare", name, 2 * read)
+
     def are_like_the_usual_order_of_values(self) -> None:
         fields = Exif({tag: Value(RATIONAL, [(tag, 7)]) for tag in range(0x1000, 0x3000)})
         blocks = {"usual": laid(fields, Layout("<")), "shuffled": laid(fields, Layout("<", shuffled=True))}
@@ -106,9 +152,17 @@ class Costs:
         with open(self._block, "wb") as it:
             it.write(block)
 
+    def _counts(self, call: str) -> Tuple[int, int, int]:
+        """The most bytes that a call has allocated at once, the number of its allocations, and how many of these made a list longer."""
+        peak, taken, grown = subprocess.run([self._program, call, self._block], capture_output=True, text=True, check=True).stdout.split()
+        return int(peak), int(taken), int(grown)
+
     def _memory(self, call: str) -> int:
-        """The most bytes that a call has allocated at once."""
-        return int(subprocess.run([self._program, call, self._block], capture_output=True, text=True, check=True).stdout)
+        return self._counts(call)[0]
+
+    def _keep_to_allocations(self, call: str, what: str, lists: int, grown: int = 0) -> None:
+        counts = self._counts(call)[1:]
+        require(counts == (lists + grown, grown), f"{call} of {what}: {lists} lists of which {grown} grow, but (allocations, growths) are {counts}")
 
     def _keep_to_a_bit_a_byte(self, call: str, what: str) -> None:
         took, size = self._memory(call), os.path.getsize(self._block)

@@ -283,6 +283,13 @@ class Limits(unittest.TestCase):
         self.assertEqual(found, [it for both in expected for it in (0, *both)])
         self.assertEqual(costs.memory_of_record("captions", few), 64 * 24 + 2 * len(few.captions()))
 
+    def test_allocations_of_a_call(self):
+        """One more, one less, and one that makes a list longer."""
+        for counts, is_well in (((9, 2, 0), True), ((9, 3, 0), False), ((9, 1, 0), False), ((9, 3, 1), False), ((9, 2, 1), False)):
+            with mock.patch.object(self.it, "_counts", lambda _, counts=counts: counts):
+                with contextlib.nullcontext() if is_well else self.assertRaisesRegex(AssertionError, "check of a block: 2 lists of which 0 grow"):
+                    self.it._keep_to_allocations("check", "a block", 2)
+
     def test_each_order_has_its_limits(self):
         """How many times the instructions of the usual order another one may take: once where it is only read, three times where it is sorted."""
         sorts = {"check": 1.0, "normalise": 3.0, "captions": 3.0, "compare": 3.0}

@@ -13,7 +13,7 @@ void __libc_free(void *old);
 void start_counting(long refuse) {
     counts = 1;
     memory.peak = memory.live;
-    memory.taken = 0;
+    memory.taken = memory.grown = 0;
     memory.refuse = refuse;
     memory.refused = 0;
 }
@@ -51,6 +51,8 @@ void *calloc(size_t count, size_t size) {
 void *realloc(void *old, size_t size) {
     if (is_refused())
         return NULL;
+    if (old)
+        memory.grown += counts;
     size_t held = old ? malloc_usable_size(old) : 0;
     void *got = __libc_realloc(old, size);
     if (got)

@@ -8,6 +8,7 @@ struct memory {
     size_t live;   /* bytes that are allocated now */
     size_t peak;   /* the most of them since `start_counting` */
     size_t taken;  /* allocations since then */
+    size_t grown;  /* how many of them made something longer that was allocated before */
     long refuse;   /* which allocation from now on fails: 1 is the next one, 0 is none */
     int refused;   /* whether one failed */
 };
