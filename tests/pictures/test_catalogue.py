@@ -365,24 +365,26 @@ class Rights(WithPictures):
         return subprocess.run(call, cwd=self.folder, env=environment, capture_output=True, timeout=120, stdin=subprocess.DEVNULL)
 
     def test_unreadable_files_and_folders(self):
-        os.makedirs(self.path("p", "closed"))
-        for name in ("a.jpg", "b.jpg", "closed/c.jpg"):
+        for folder in ("closed", "closed too"):
+            os.makedirs(self.path("p", folder))
+        for name in ("a.jpg", "b.jpg", "closed/c.jpg", "closed too/d.jpg"):
             write(self.path("p", name), ONE)
         first = self.as_nobody("index", "p", "--catalogue", "c", "--quiet")
-        self.assertEqual((first.returncode, first.stdout), (0, b"3 accepted\n"), first)
+        self.assertEqual((first.returncode, first.stdout), (0, b"4 accepted\n"), first)
+        os.remove(self.path("p", "closed too", "d.jpg"))
         os.chmod(self.path("p", "b.jpg"), 0)
         os.chmod(self.path("p", "closed"), 0)
         done = self.as_nobody("index", "p", "--catalogue", "c", "--quiet", "--json")
         self.assertEqual(done.returncode, 4, done)
         *found, counts = [json.loads(it) for it in done.stdout.splitlines()]
         said = {os.path.basename(it["path"]): (it["problem"], it["detail"]) for it in found}
-        self.assertEqual(said, {"b.jpg": ("Unreadable", "permission denied"),
+        self.assertEqual(said, {"b.jpg": ("Unreadable", "permission denied"), "d.jpg": ("Vanished", "there is no such file any more"),
                                 "closed": ("Unreadable", "permission denied; its 1 pictures stay as they were")})  # fmt: skip
-        self.assertEqual(counts["counts"], {"unchanged": 1, "Unreadable": 2})
+        self.assertEqual(counts["counts"], {"unchanged": 1, "Unreadable": 2, "Vanished": 1})
         base = sqlite3.connect(self.path("c"))
         kept = base.execute("SELECT problem FROM pictures WHERE CAST(path AS TEXT) LIKE '%c.jpg'").fetchall()
         self.assertEqual(kept, [(None,)])
-        self.assertEqual(base.execute("SELECT count(*) FROM blocks").fetchone(), (3,), "what b.jpg said is kept")
+        self.assertEqual(base.execute("SELECT count(*) FROM blocks").fetchone(), (4,), "what b.jpg said is kept")
         os.chmod(self.path("p", "b.jpg"), 0o644)
         os.chmod(self.path("p", "closed"), 0o755)
         done = self.as_nobody("index", "p", "--catalogue", "c", "--quiet")

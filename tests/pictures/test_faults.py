@@ -115,11 +115,14 @@ class Tools(WithPictures):
     @needs("exiftool")
     def test_no_configuration_file_is_read(self):
         write(self.path("a.gif"), GIF[:-1] + b"!\xff\x0bXMP DataXMP" + b"<x:xmpmeta/>" + bytes([1, *range(255, -1, -1), 0]) + b";")
-        write(self.path(".ExifTool_config"), b'die "a configuration file was read\\n";')
-        self.asked("index", "a.gif", "--catalogue", "c", "--quiet", HOME=self.folder, EXIFTOOL_HOME=self.folder)
+        write(self.path(".ExifTool_config"), f'open my $file, ">", "{self.path("it_was_read")}"; 1;\n'.encode())
+        homes = {"HOME": self.folder, "EXIFTOOL_HOME": self.folder}
+        run(["exiftool", "-ver"], self.folder, **homes)
+        os.remove(self.path("it_was_read"))  # ExifTool by itself reads it
+        self.asked("index", "a.gif", "--catalogue", "c", "--quiet", **homes)
+        self.assertFalse(os.path.exists(self.path("it_was_read")))
         run_ = sqlite3.connect(self.path("c")).execute("SELECT exiftool FROM runs").fetchone()[0]
         self.assertRegex(run_, r"^\d+\.\d+$")
-        self.assertEqual(read(self.path(".ExifTool_config"))[:3], b"die")
 
     def test_no_program_and_no_folder_is_left_behind(self):
         self.pictures()
@@ -400,10 +403,11 @@ class Outputs(WithPictures):
                 self.assertNotIn(".part", said)
 
     def test_killed_when_the_copy_gets_its_name(self):
-        """Whenever `mend` and --keep-old are killed, the new file is there as a whole or not at all, and no other file."""
+        """If `mend` and `report` are killed when a file of this folder gets its name, it isn't there, and no other new file."""
         call = ("import os, signal, sys; from exifnorm_pictures.main import main\n"
-                "sys.addaudithook(lambda event, _: event in ('os.link', 'os.rename') and os.kill(os.getpid(), signal.SIGKILL))\n"
-                "sys.exit(main(sys.argv[1:]))")  # fmt: skip
+                "def is_here(name): return os.path.dirname(os.path.abspath(os.fsdecode(name))) == os.getcwd()\n"
+                "def hook(event, it): event in ('os.link', 'os.rename') and is_here(it[1]) and os.kill(os.getpid(), signal.SIGKILL)\n"
+                "sys.addaudithook(hook)\nsys.exit(main(sys.argv[1:]))")  # fmt: skip
         there = sorted(os.listdir(self.folder))
         for words in (["mend", "p/a.jpg", "out.jpg"], ["report", "--catalogue", "c", "--html", "page"]):
             with self.subTest(words[0]):

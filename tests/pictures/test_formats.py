@@ -560,6 +560,8 @@ class Opened(WithPictures):
         os.symlink("nothing", self.path("link"))
         for name, problem in (("pipe", "Unreadable"), ("link", "Vanished"), (".", "Unreadable")):
             self.assertEqual(extraction.blocks_of(os.fsencode(self.path(name))).problem, problem)
+        text = "os.open = None\nprint(*(extraction.blocks_of(it).problem for it in (b'pipe', b'link', b'.')))"
+        self.assertEqual(self.by_itself(text), ["Unreadable", "Vanished", "Unreadable"])
 
     def by_itself(self, text):
         """The output of a Python program about this folder, which must end soon: after three seconds of processor time it is ended."""

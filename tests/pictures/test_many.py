@@ -70,10 +70,11 @@ class Many(WithPictures):
         folder = many()
         # a shell that ran these tests in the background would have the signal ignored
         words = ["env", "--default-signal=INT", sys.executable, "-m", "exifnorm_pictures", "index", folder, "--catalogue", self.path("c")]
-        started = subprocess.Popen(words, stdout=subprocess.DEVNULL, stderr=subprocess.PIPE, env=Studio.environment())
+        started = subprocess.Popen(words, stdout=subprocess.DEVNULL, stderr=subprocess.PIPE, env=Studio.environment(), start_new_session=True)
         started.stderr.readline()
-        started.send_signal(signal.SIGINT)
+        os.killpg(started.pid, signal.SIGINT)  # as a terminal does, to the further processes too
         said = started.stderr.read().decode()
         self.assertEqual(started.wait(), 130, said)
         self.assertIn("the same command goes on from there", said)
+        self.assertNotIn("Traceback", said)
         self.assertTrue(os.path.exists(self.path("c")))

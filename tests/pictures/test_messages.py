@@ -316,6 +316,8 @@ class Messages(WithPictures):
         self.assertEqual(self.raised(tools.Failed, tools.start, [self.path("nothing")]), "nothing can't be started: no such file or directory")
         with mock.patch.object(tools, "_limit", 0.05):
             self.assertEqual(self.raised(tools.Failed, tools.run, [shutil.which("sleep"), "60"]), "sleep took longer than 0.05 seconds")
+            words = [shutil.which("sh"), "-c", "exec >&-; exec sleep 3"]  # it ends its output, but not itself
+            self.assertEqual(self.raised(tools.Failed, tools.run, words), "sh took longer than 0.05 seconds")
         with mock.patch.object(processes, "ProcessPoolExecutor", mock.Mock(side_effect=OSError(11, "Resource temporarily unavailable"))):
             self.assertEqual(self.raised(tools.Failed, processes._pool, How(), 2), "a further process can't be started: resource temporarily unavailable")
 

@@ -468,6 +468,24 @@ class File(WithPictures):
         with Catalogue(name, make=True) as made:
             self.assertEqual(made.runs(), [("2000-01-01T00:00:00Z", None, None, None)])
 
+    def test_it_is_locked_before_its_tables_are_looked_for(self):
+        """So if two runs make it at once, the second one waits for the first."""
+        it = Catalogue.__new__(Catalogue)
+        it.base = mock.MagicMock()
+        it._prepare()
+        statements = [call.args[0] for call in it.base.execute.call_args_list]
+        self.assertEqual(statements[:2], ["BEGIN IMMEDIATE", "SELECT count(*) FROM sqlite_master"])
+
+    def test_a_transaction_that_is_stopped(self):
+        """Nothing of it is kept, and the catalogue is one file again."""
+        with Catalogue(self.path("c"), make=True) as made:
+            with self.assertRaises(KeyboardInterrupt), made.transaction():
+                made.begin_run("2000-01-01T00:00:00Z")
+                raise KeyboardInterrupt
+            self.assertEqual(made.runs(), [])
+        with open(self.path("c"), "rb") as file:
+            self.assertEqual((file.read(20)[18:], os.listdir(self.folder)), (b"\1\1", ["c"]))
+
     def test_one_that_others_read_is_closed_soon(self):
         with Catalogue(self.path("c"), make=True) as made:
             made.begin_run("2000-01-01T00:00:00Z")

@@ -235,9 +235,10 @@ class Listed(unittest.TestCase):
         helped = subprocess.run([PROGRAM, "--help"], capture_output=True, text=True).stdout
         names = re.findall(r"^  (\w+)  +\w", helped.split("Commands:")[1].split("Options:")[0], re.M)
         self.assertEqual(len(names), 5)
-        for name in ("README.md", "docs/FORMAT.md", "docs/exifnorm.1"):
+        shown = {"README.md": r"\bexifnorm {} [a-zF]", "docs/FORMAT.md": r"(?m)^\| `{} ", "docs/exifnorm.1": r"(?m)^\.B exifnorm {}$"}
+        for name, pattern in shown.items():
             for command in names:
-                self.assertRegex(text_of(name), rf"\b{command}\b", name)
+                self.assertRegex(text_of(name), pattern.format(command), name)
 
     def test_statuses_are_the_same_wherever_they_are_listed(self):
         helped = subprocess.run([PROGRAM, "--help"], capture_output=True, text=True).stdout

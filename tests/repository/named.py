@@ -169,9 +169,9 @@ class Named(unittest.TestCase):
 
     def test_each_part_of_the_gate(self):
         parts = set(re.findall(r"^Part: (.*)$", (TOP / "tests" / "parts.txt").read_text(encoding="utf-8"), re.M))
-        for path in DOCUMENTS:
-            for names in re.findall(r"TEST_PARTS=\"?([\w ]+?)\"? \./test", path.read_text(encoding="utf-8")):
-                self.assertLessEqual(set(names.split()), parts | {"NAME"}, path.name)
+        found = [names for path in DOCUMENTS for names in re.findall(r"TEST_PARTS=[\"']?([\w ]+?)[\"']? \./test", path.read_text(encoding="utf-8"))]
+        self.assertLessEqual(set(" ".join(found).split()), parts)
+        self.assertGreater(len(found), 3)
 
     @at_least(110)
     def test_the_table_of_changes(self):
@@ -183,7 +183,7 @@ class Named(unittest.TestCase):
                 self.see_cell(cell)
             for name in re.findall(r"\b[A-Z]{6,}\b", row[4]):
                 self.assertTrue(is_there(f"{name}.md"), row)
-            for number in re.findall(r"FORMAT (\d)(?: and (\d))?", row[4]):
+            for number in re.findall(r"FORMAT (\d+)(?: and (\d+))?", row[4]):
                 for it in filter(None, number):
                     self.assertIn(f"\n## {it}.", (TOP / "docs" / "FORMAT.md").read_text(encoding="utf-8"), row)
 
