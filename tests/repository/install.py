@@ -495,12 +495,15 @@ class Uninstall(unittest.TestCase):
         self.assertEqual(before, with_folders(foreign))
 
     def test_empty_folders_that_were_there_stay(self) -> None:
-        self.it.at("share/man/man1").mkdir(parents=True)
+        """With the modes that they had."""
+        for folder in ("share/man/man1", "share/exifnorm"):
+            self.it.at(folder).mkdir(parents=True)
         for path in self.it.root.rglob("*/"):
-            path.chmod(0o755)
+            path.chmod(0o750)
         self.it.make("install")
         self.it.make("uninstall")
-        self.assertEqual(set(tree(self.it.root)), {"usr/", "usr/share/", "usr/share/man/", "usr/share/man/man1/"})
+        there = ("usr/", "usr/share/", "usr/share/exifnorm/", "usr/share/man/", "usr/share/man/man1/")
+        self.assertEqual(tree(self.it.root), dict.fromkeys(there, 0o750))
 
     def test_a_second_installation_is_removed_as_the_first(self) -> None:
         self.it.make("install")

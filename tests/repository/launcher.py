@@ -469,14 +469,21 @@ def nobody(room: Room) -> dict:
 
 
 def a_built_program_is_for_all_users(room: Room) -> None:
+    """A call of theirs can note no quick look."""
     room.call()
-    room.main.touch()
+    looked = room.top / "out/looked"
+    looked.unlink(missing_ok=True)
     how = nobody(room)
     if not how:
         (room.top / "out").chmod(0o555)
+    changed = max(it.lstat().st_ctime for it in room.top.rglob("*"))
+    wait_until(lambda: time.time() - changed > 1, "the clock stands")
     ran = room.call("a", **how)
     (room.top / "out").chmod(0o755)
-    require_equal((ran.returncode, ran.stdout, ran.stderr), (0, "one: a\n", ""), ran)
+    require_equal((ran.returncode, ran.stdout, ran.stderr, looked.exists()), (0, "one: a
+", "", False), ran)
+    room.call("a")
+    require(looked.exists(), "no call would have noted one")
 
 
 def no_shell_and_no_python_stays_beside_the_program(room: Room) -> None:
