@@ -353,6 +353,16 @@ class Others(Pairs):
                               "not wholly read")  # fmt: skip
         self.assertIn("broken: no marker", words)
 
+    def test_long_broken_jpeg(self):
+        """It has a digest however long it is, as any part of it may be what was not read."""
+        from exifnorm_pictures import others
+
+        octets = jpeg(app1(A))[: 2 + 4 + 6 + len(A)] + b"\0\0" + bytes(others.MOST)
+        write(self.path("a.jpg"), octets)
+        _, (rest,) = sides(self.path("a.jpg"))
+        self.assertIn("broken: no marker", rest.what)
+        self.assertEqual(rest.digest, hashlib.sha256(octets).hexdigest())
+
     def test_iptc_in_a_trailer(self):
         def fotostation(record):
             data = struct.pack(">HI", 1, len(record)) + record

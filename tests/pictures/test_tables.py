@@ -595,11 +595,13 @@ class EqualChanges(unittest.TestCase):
         """Also where more are known than are kept in memory, and in the order in which they came."""
         from exifnorm_pictures.changed import Equal
 
-        equal = Equal()
+        equal, most = Equal(), 0
         self.addCleanup(equal.close)
         for number in range(2500):
             equal.add(f"change {number % 1200}", b"%04d" % number)
             equal.add("to a place", b"moved %04d" % number, True)
+            most = max(most, *map(len, (equal._names, equal._heads, equal._known)))
+        self.assertLess(most, 1000)
         found = [(said, count, list(names)) for said, count, names in equal.all()]
         self.assertEqual(len(found), 1200 + 2500)
         expected = [f"change {number}" for number in range(1200)]

@@ -101,12 +101,16 @@ class Wheel(unittest.TestCase):
         self.assertEqual(re.findall(r"\(NEEDED\).*\[(.*)\]", run("readelf", "-dW", self.unpacked / "exifnorm/libexifnorm.so.1")), ["libc.so.6"])
 
     def test_claims_no_manylinux_for_a_library_that_needs_more(self) -> None:
+        """Another library of glibc, whose symbols have versions, and one whose symbols have none."""
         copy = copy_built(ROOM / "needs more")
         (copy / "more.c").write_text("#include <math.h>\ndouble more(double x) { return pow(x, x); }\n")
-        run("cc", "-shared", "-fPIC", "more.c", "-lm", "-o", "out/lib/libexifnorm.so.1", folder=copy)
-        (folder := ROOM / "more").mkdir()
-        self.build(copy / "python", folder)
-        self.assertEqual([it.name for it in folder.iterdir()], [f"exifnorm-{VERSION}-py3-none-linux_{os.uname().machine}.whl"])
+        (copy / "most.c").write_text("double more(double);\nint puts(const char *);\ndouble most(double x) { return puts(\"\") + more(x); }\n")
+        for name, library in (("more", "-lm"), ("most", "./libmore.so")):
+            run("cc", "-shared", "-fPIC", f"{name}.c", library, "-o", f"lib{name}.so", folder=copy)
+            shutil.copy(copy / f"lib{name}.so", copy / "out/lib/libexifnorm.so.1")
+            (folder := ROOM / name).mkdir()
+            self.build(copy / "python", folder)
+            self.assertEqual([it.name for it in folder.iterdir()], [f"exifnorm-{VERSION}-py3-none-linux_{os.uname().machine}.whl"], name)
 
     def test_installer_of_packages_takes_it(self) -> None:
         target = ROOM / "target"
