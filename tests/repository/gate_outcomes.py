@@ -305,7 +305,7 @@ class Limits(Folder):
 
     def with_files(self) -> str:
         """A command of Python that has temporary files."""
-        text = "import tempfile, time\nwith tempfile.TemporaryDirectory():\n    print('begun', file=open(9, 'w'))\n    time.sleep(1000)\n"
+        text = "import os, tempfile, time\nwith tempfile.TemporaryDirectory():\n    os.write(9, b'begun\\n')\n    time.sleep(1000)\n"
         (self.folder / "files.py").write_text(text)
         return f"{sys.executable} {self.folder}/files.py"
 
@@ -391,7 +391,8 @@ class Limits(Folder):
         """Starts ./test and stops it once a part has begun."""
         (self.folder / "tests" / "parts.txt").write_text(listed)
         environment = {**os.environ, "TEST_PARTS": "", "TMPDIR": str(self.folder / "temporary")}
-        started = subprocess.Popen([self.folder / "test"], env=environment, stdout=subprocess.DEVNULL, stderr=subprocess.DEVNULL)
+        words = ["env", "--default-signal", self.folder / "test"]  # a shell that ran these tests in the background would ignore SIGINT
+        started = subprocess.Popen(words, env=environment, stdout=subprocess.DEVNULL, stderr=subprocess.DEVNULL)
         self.begun()
         started.send_signal(how)
         self.assertEqual(started.wait(600), 1)
