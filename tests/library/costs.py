@@ -10,7 +10,7 @@ from random import Random
 from typing import Dict, Iterable, Tuple, Union
 
 import orders
-from checks import require
+from checks import require, require_equal
 from counting import SkipTest
 from kinds import ORIENTATION, Kind, OfStrips, bad_orders, many_datasets, random_records
 from meanings import RATIONAL, SHORT, Exif, Layout, Record, Value, laid
@@ -162,7 +162,7 @@ class Costs:
 
     def _keep_to_allocations(self, call: str, what: str, lists: int, grown: int = 0) -> None:
         counts = self._counts(call)[1:]
-        require(counts == (lists + grown, grown), f"{call} of {what}: {lists} lists of which {grown} grow, but (allocations, growths) are {counts}")
+        require_equal(counts, (lists + grown, grown), f"{call} of {what}: {lists} lists, of which {grown} grow")
 
     def _keep_to_a_bit_a_byte(self, call: str, what: str) -> None:
         took, size = self._memory(call), os.path.getsize(self._block)

@@ -311,8 +311,7 @@ def what_is_built_is_not_taken_again_from_the_gate(room: Room) -> None:
     room.call()
     require(room.prove("px_other").returncode == 0, room.log())
     require(store_of(room).is_current("px_cli"), "libraries below the program were taken again")
-    require_equal((room.call("a").stdout, room.built()), ("proved: a
-", ["px_other"]), room.log())
+    require_equal((room.call("a").stdout, room.built()), ("proved: a\n", ["px_other"]), room.log())
 
 
 def how_many_are_proved_at_once(room: Room) -> None:

@@ -480,8 +480,7 @@ def a_built_program_is_for_all_users(room: Room) -> None:
     wait_until(lambda: time.time() - changed > 1, "the clock stands")
     ran = room.call("a", **how)
     (room.top / "out").chmod(0o755)
-    require_equal((ran.returncode, ran.stdout, ran.stderr, looked.exists()), (0, "one: a
-", "", False), ran)
+    require_equal((ran.returncode, ran.stdout, ran.stderr, looked.exists()), (0, "one: a\n", "", False), ran)
     room.call("a")
     require(looked.exists(), "no call would have noted one")
 
