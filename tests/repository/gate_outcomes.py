@@ -311,7 +311,7 @@ class Limits(Folder):
 
     def begun(self) -> None:
         """Waits until a part begins."""
-        self.assertTrue(select.select([self.pipe], [], [], 600)[0], "it doesn't begin")
+        self.assertEqual(select.select([self.pipe], [], [], 600)[0], [self.pipe], "it doesn't begin")
         self.assertEqual(os.read(self.pipe, 100), b"begun\n")
 
     def ended(self) -> None:
@@ -319,7 +319,7 @@ class Limits(Folder):
         os.close(os.open(self.folder / "open", os.O_WRONLY | os.O_NONBLOCK))  # on a busy machine, no part may have opened it
         read = b"begun"
         while read:
-            self.assertTrue(select.select([self.pipe], [], [], 60)[0], "a process is left")
+            self.assertEqual(select.select([self.pipe], [], [], 60)[0], [self.pipe], "a process is left")
             read = os.read(self.pipe, 100)
         self.watch()
 

@@ -287,7 +287,7 @@ class Limits(unittest.TestCase):
         """One more, one less, and one that makes a list longer."""
         for counts, is_well in (((9, 2, 0), True), ((9, 3, 0), False), ((9, 1, 0), False), ((9, 3, 1), False), ((9, 2, 1), False)):
             with mock.patch.object(self.it, "_counts", lambda _, counts=counts: counts):
-                with contextlib.nullcontext() if is_well else self.assertRaisesRegex(AssertionError, "check of a block: 2 lists of which 0 grow"):
+                with contextlib.nullcontext() if is_well else self.assertRaisesRegex(AssertionError, "check of a block: 2 lists, of which 0 grow"):
                     self.it._keep_to_allocations("check", "a block", 2)
 
     def test_each_order_has_its_limits(self):
