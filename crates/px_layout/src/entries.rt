@@ -1,7 +1,7 @@
 // The entries of a directory by ascending tag, without a list of them: its fields, and at most four further
 // entries between the fields. TIFF 6.0 section 2, "Sort Order".
 ghost use Rattle.std.specs.Prelude.{◌≡◌, ◌<◌, ◌≤◌, ◌+◌, ◌*◌, ◌^◌, ℕ, List, length, map, slice_get, option_map, option_and_then, is_some};
-ghost use Rattle.std.specs.Prelude.{Option, Some, None, IfSome};
+ghost use Rattle.std.specs.Prelude.{Option, Some, None, IfSome, true};
 ghost use Rattle.std.specs.List.{AllByRecursion};
 ghost use Rattle.px_layout.specs.declared.entries.Extra.{Extra as CodeExtra};
 ghost use Rattle.px_bytes.specs.Parts.{limit};
@@ -503,6 +503,18 @@ fn any_entries<'m, 'a>(m: &'m Meaning<'a>, dir: Dir) -> Option<Entries<'m, 'a>>
     }
 }
 
+// Whether a directory is the main directory, and has only fields. Small blocks have no other directory.
+#[inline(always)]
+#[tactic(auto, using(crate::proofs::plans::EntryLists::items_are))]
+fn is_plain_main(m: &Meaning, dir: Dir) -> bool
+    ensures { result ≡ true → items (meaning_of m.now) dir ≡ Some (field_items m.now.main) }
+{
+    match (dir, &m.iptc, &m.gps, &m.exif) {
+        (Dir::Main, None, None, None) => true,
+        _ => false,
+    }
+}
+
 /// The entries of a directory: its fields, pointers, the record, and the offsets and lengths of the
 /// thumbnail's bytes. `None` if the meaning doesn't have the directory, which costs one comparison. Allocates
 /// nothing.
@@ -513,6 +525,9 @@ pub fn entries_in<'m, 'a>(m: &'m Meaning<'a>, dir: Dir) -> Option<Entries<'m, 'a
 {
     if !is_there(m, dir) {
         return None;
+    }
+    if is_plain_main(m, dir) {
+        return Some(Entries::layered(&m.main, None, None, None, None));
     }
     any_entries(m, dir)
 }

@@ -70,7 +70,10 @@ pub(crate) fn put_padding<W: Sink>(
     requires { CanFail (W.failed writer.old) }
     ensures { AddsTo W.failed W.bytes_taken result writer.old writer.new pending.old pending.new (replicate (len % 2) 0) }
 {
-    put_filler(pending, writer, 0, (len % 2) as usize)
+    if len % 2 == 0 {
+        return Ok(());
+    }
+    pending.put(writer, &[0])
 }
 
 // Puts the elements of a value, as many at a time as `piece` has space for.

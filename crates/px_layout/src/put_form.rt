@@ -16,7 +16,7 @@ ghost use Rattle.px_layout.specs.calls.Forms.{said_in, plan_in, IsForm};
 ghost use Rattle.px_layout.specs.calls.Placed.{placed_bytes};
 ghost use Rattle.px_field.specs.Values.{spelled};
 
-use crate::entries::{Entries, entries_in};
+use crate::entries::{Entries, entries_in, is_there};
 use crate::form::NormalForm;
 use crate::items::{Entry, Item};
 use crate::put::{put_eight, put_padding, put_value};
@@ -166,7 +166,29 @@ fn put_dir<W: Sink>(
 }
 
 // Puts a directory, if the meaning has it.
+#[inline(always)]
 fn put_any_dir<W: Sink>(
+    pending: &mut Pending<'_>,
+    writer: &mut W,
+    form: &NormalForm,
+    dir: Dir,
+) -> Result<(), Failed>
+    requires few { CanFail (W.failed writer.old) }
+    requires form { IsForm form.now }
+    ensures { AddsTo W.failed W.bytes_taken result writer.old writer.new pending.old pending.new (flat_map
+        (λ c. padded c.1) (contents_of_dir (plan_in form.now) Order.Most 0 (said_in form.now) dir
+        (items (said_in form.now) dir))) }
+{
+    if !is_there(form.m, dir) {
+        return Ok(());
+    }
+    put_entries(pending, writer, form, dir)
+}
+
+// The same, with a look at its entries. Space for these is cleared first, which a directory that isn't there
+// needn't pay for.
+#[inline(never)]
+fn put_entries<W: Sink>(
     pending: &mut Pending<'_>,
     writer: &mut W,
     form: &NormalForm,

@@ -32,8 +32,9 @@ fn put_strips<W: Sink>(
     ensures { AddsTo W.failed W.bytes_taken result writer.old writer.new pending.old pending.new (flat_map
         (λ c. padded c.1) (strip_contents 0 strips.now)) }
 {
+    let count = strips.len();
     let mut i = 0;
-    while i < strips.len() {
+    while i < count {
         let run = strips.run_at(i);
         put_padded(pending, writer, run.bytes)?;
         i += run.count;

@@ -4,7 +4,7 @@ ghost use Rattle.px_meaning.specs.Thumbnail.{whole_number};
 ghost use Rattle.px_meaning.specs.calls.Strips.{AreNamed, named_strips};
 
 use crate::parts::part_of;
-use px_field::{Element, Value};
+use px_field::{Element, Form, Kind, Value};
 
 /// The two lists of numbers that describe the strips, and their block.
 #[derive(Drop)]
@@ -35,6 +35,10 @@ pub fn number_in(list: &Value, i: u32) -> u32
     requires { i < length list.now.elements }
     ensures { slice_get (map whole_number list.now.elements) i ≡ Some result }
 {
+    // Nearly all lists have LONGs: for these the compiler makes a way of its own, without the other types.
+    if list.kind() == Kind::Of(Form::Long) {
+        return number_of(list.element(i));
+    }
     number_of(list.element(i))
 }
 

@@ -2,7 +2,7 @@ use Rattle.std.proofs.Common.{sym, subst}
 use Rattle.std.specs.Prelude.{IfSome}
 use Rattle.px_layout.specs.calls.Forms.{said_in}
 use Rattle.px_layout.specs.lemmas.EntryLaws.{Good, good_items}
-use Rattle.px_layout.proofs.put_form.put_any_dir.Goals as goal
+use Rattle.px_layout.proofs.put_form.put_entries.Goals as goal
 
 pub put_dir-requires-clause-good : goal.put_dir-requires-clause-good
 put_dir-requires-clause-good g c =

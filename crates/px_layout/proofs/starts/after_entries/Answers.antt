@@ -4,7 +4,7 @@ use Rattle.px_meaning.specs.Entry.{table_size}
 use Rattle.px_layout.specs.Normal.{even}
 use Rattle.px_layout.specs.lemmas.WalkLaws.{few_there}
 use Rattle.px_layout.proofs.writing.Beginnings.{ends_as, dir_there}
-use Rattle.px_layout.proofs.starts.after_dir.Goals as goal
+use Rattle.px_layout.proofs.starts.after_entries.Goals as goal
 
 pub table_len-requires : goal.table_len-requires
 table_len-requires c =
