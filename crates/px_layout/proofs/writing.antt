@@ -3,3 +3,4 @@ pub mod Beginnings
 pub mod Runs
 pub mod WriteNormal
 pub mod FieldBytes
+pub mod Longs

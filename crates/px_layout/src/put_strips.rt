@@ -6,6 +6,7 @@ ghost use Rattle.px_bytes.specs.Parts.{limit};
 ghost use Rattle.px_bytes.specs.Waiting.{AddsTo};
 ghost use Rattle.px_layout.specs.Laid.{long_bytes};
 
+use crate::put::put_value;
 use px_bytes::{Failed, Order, Pending, Sink};
 use px_meaning::Strips;
 
@@ -27,9 +28,8 @@ fn encode_lengths(order: Order, strips: &Strips, start: usize, end: usize, into:
     }
 }
 
-/// Puts the lengths of strips in bytes, each a LONG, into the output buffer. Allocates nothing. `Err`: a call
-/// of the writer failed, which ends the call.
-pub fn put_strip_lengths<W: Sink>(
+// Puts the lengths of strips, each of which is decoded by itself.
+fn put_each_length<W: Sink>(
     pending: &mut Pending<'_>,
     writer: &mut W,
     order: Order,
@@ -50,4 +50,23 @@ pub fn put_strip_lengths<W: Sink>(
         i += count;
     }
     Ok(())
+}
+
+/// Puts the lengths of strips in bytes, each a LONG, into the output buffer. If a block has them all as LONGs, they
+/// are put as one value. Allocates nothing. `Err`: a call of the writer failed, which ends the call.
+pub fn put_strip_lengths<W: Sink>(
+    pending: &mut Pending<'_>,
+    writer: &mut W,
+    order: Order,
+    strips: &Strips,
+) -> Result<(), Failed>
+    requires few { CanFail (W.failed writer.old) }
+    requires short { AllByRecursion (λ n. n ≤ limit) (map (λ x. length x) strips.now) }
+    ensures { AddsTo W.failed W.bytes_taken result writer.old writer.new pending.old pending.new (flat_map
+        (long_bytes order) (map (λ x. length x) strips.now)) }
+{
+    match strips.long_lengths() {
+        Some(lengths) => put_value(pending, writer, order, lengths),
+        None => put_each_length(pending, writer, order, strips),
+    }
 }

@@ -2,3 +2,4 @@
 pub mod NoUse
 pub mod StripBytes
 pub mod StripRuns
+pub mod StripLengths

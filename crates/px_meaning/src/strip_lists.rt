@@ -1,7 +1,7 @@
 // Offsets and lengths of a thumbnail's strips. TIFF 6.0 section 8, "StripOffsets" and "StripByteCounts".
-ghost use Rattle.std.specs.Prelude.{◌≡◌, ◌<◌, length, map, slice_get, Some};
+ghost use Rattle.std.specs.Prelude.{◌≡◌, ◌<◌, length, map, slice_get, Some, IfSome};
 ghost use Rattle.px_meaning.specs.Thumbnail.{whole_number};
-ghost use Rattle.px_meaning.specs.calls.Strips.{AreNamed, named_strips};
+ghost use Rattle.px_meaning.specs.calls.Strips.{AreNamed, named_strips, longs};
 
 use crate::parts::part_of;
 use px_field::{Element, Form, Kind, Value};
@@ -61,4 +61,15 @@ pub fn strip_len(lists: &StripLists, i: u32) -> u32
     ensures { slice_get (map (λ x. length x) (named_strips (Some lists.now))) i ≡ Some result }
 {
     number_in(&lists.sizes, i)
+}
+
+// The list of the lengths, if they are LONGs.
+pub fn long_sizes<'l, 'a>(lists: &'l StripLists<'a>) -> Option<&'l Value<'a>>
+    requires { AreNamed lists.now }
+    ensures { IfSome result (λ v. v.now ≡ longs (map (λ x. length x) (named_strips (Some lists.now)))) }
+{
+    match lists.sizes.kind() {
+        Kind::Of(Form::Long) => Some(&lists.sizes),
+        _ => None,
+    }
 }

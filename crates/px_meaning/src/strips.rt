@@ -1,12 +1,14 @@
 // The strips of a thumbnail.
 ghost use Rattle.std.specs.Prelude.{◌≡◌, ◌<◌, ◌≤◌, ◌+◌, [], ◌∷◌, ◌++◌, length, map, slice_get, Some, OnOk, OnErr, IsTrue, ◌↔◌};
+ghost use Rattle.std.specs.Prelude.{IfSome};
 ghost use Rattle.px_bytes.specs.Lacking.{Lacks};
 ghost use Rattle.px_meaning.specs.Asking.{strip_bytes};
-ghost use Rattle.px_meaning.specs.calls.Strips.{AreNamed, AreJoined, named_strips};
+ghost use Rattle.px_meaning.specs.calls.Strips.{AreNamed, AreJoined, named_strips, longs};
 
-use crate::strip_lists::{StripLists, strip_at, strip_len};
+use crate::strip_lists::{StripLists, long_sizes, strip_at, strip_len};
 use crate::strip_runs::{StripRun, run_in};
 use px_bytes::{Memory, Refused};
+use px_field::Value;
 use std::alloc::{AllocError, Global};
 use std::marker::Model;
 
@@ -125,6 +127,20 @@ impl<'a> Strips<'a> {
             }
         }
         self.at(i).len()
+    }
+
+    /// The lengths in bytes of all strips, in one value: the LONGs of the block's StripByteCounts. `None` if they are
+    /// SHORTs, if no block names the strips, and if strips were pushed. Allocates nothing.
+    pub fn long_lengths(&self) -> Option<&Value<'a>>
+        ensures { IfSome result (λ v. v.now ≡ longs (map (λ x. length x) self.now)) }
+    {
+        if !self.list.is_empty() {
+            return None;
+        }
+        match &self.named {
+            Some(lists) => long_sizes(lists),
+            None => None,
+        }
     }
 
     /// The strip at `i`, and the strips after it that can be written together with it: in the block they follow it

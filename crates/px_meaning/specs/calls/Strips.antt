@@ -2,6 +2,10 @@
 use Rattle.std.specs.Prelude.{◌≡◌, ℕ, ◌+◌, ◌≤◌, ◌%◌, Option, Some, None, List, [], ◌∷◌, ◌++◌, length, map, take, flat_map}
 use Rattle.std.specs.List.{AllByRecursion}
 use Rattle.px_bytes.specs.Range.{Range}
+use Rattle.px_field.specs.declared.Form.TheVariants as form
+use Rattle.px_field.specs.declared.Kind.TheVariants as kind
+use Rattle.px_field.specs.declared.Element.TheVariants as element
+use Rattle.px_field.specs.Values.{Value}
 use Rattle.px_meaning.specs.declared.strip_lists.StripLists.{StripLists}
 use Rattle.px_meaning.specs.Thumbnail.{whole_number, ranges_of, bytes_of, IsInside}
 
@@ -30,3 +34,7 @@ KeepsEven f = (x : List ℕ) → length x % 2 ≡ 0 → f x ≡ x
 -- these bytes, padded once, are the strips from i up to n, each padded
 abbrev pub AreJoined : List (List ℕ) → ℕ → ℕ → List ℕ → Type 0
 AreJoined xs i n bytes = (f : List ℕ → List ℕ) → KeepsEven f → flat_map f (take n xs) ≡ flat_map f (take i xs) ++ f bytes
+
+-- the value of these numbers, each a LONG
+abbrev pub longs : List ℕ → Value
+longs ns = record { kind = kind.Of form.Long; elements = map element.Long ns }

@@ -1,7 +1,7 @@
 use Rattle.std.proofs.Common.{◌≡◌, ◌≤◌, ◌-◌, take, flat_map, map, length}
 use Rattle.px_bytes.specs.lemmas.WaitingLaws.{HasPut}
 use Rattle.px_layout.specs.Laid.{long_bytes}
-use Rattle.px_layout.proofs.put_strips.put_strip_lengths.Given as goal
+use Rattle.px_layout.proofs.put_strips.put_each_length.Given as goal
 
 -- the lengths so far were put, and no call failed
 abbrev pub invariant-loop-i : goal.invariant-loop-i
