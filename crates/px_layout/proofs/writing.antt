@@ -4,3 +4,4 @@ pub mod Runs
 pub mod WriteNormal
 pub mod FieldBytes
 pub mod Longs
+pub mod StripPieces

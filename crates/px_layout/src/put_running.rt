@@ -1,6 +1,7 @@
 // Puts the entries of a normal form into the output buffer. Offsets are computed on the way, so no plan is kept.
 ghost use Rattle.std.specs.Prelude.{◌≡◌, ◌<◌, ◌≤◌, ◌+◌, ◌-◌, ◌*◌, ◌++◌, ◌^◌, ℕ, Some, None, length, take, drop, flat_map, unwrap_or, []};
-ghost use Rattle.std.specs.Prelude.{replicate};
+ghost use Rattle.std.specs.Prelude.{replicate, map};
+ghost use Rattle.std.specs.List.{AllByRecursion};
 ghost use Rattle.px_bytes.specs.Devices.{CanFail, Counts};
 ghost use Rattle.px_bytes.specs.Parts.{limit};
 ghost use Rattle.px_bytes.specs.Waiting.{PutsTo, AddsTo};
@@ -21,7 +22,7 @@ use crate::entries::{Entries, is_there};
 use crate::form::NormalForm;
 use crate::items::{Entry, Item};
 use crate::put::{entry_head, field_head, put_filler, put_long, put_short, put_value};
-use crate::put_strips::{AT_ONCE, put_strip_lengths};
+use crate::put_strips::{AT_ONCE, encode_lengths, put_strip_lengths};
 use crate::tables::table_len;
 use px_bytes::{Failed, Order, Pending, Sink};
 use px_field::Value;
@@ -68,22 +69,24 @@ fn jpeg_at(form: &NormalForm) -> u32
 }
 
 // Encodes the byte offsets of the strips from `start` up to `end`, the first of which is at `at`. Returns the byte
-// offset of the next strip.
+// offset of the next strip. The lengths are put into the same bytes first, where each offset then replaces one.
 fn encode_offsets(at: u32, strips: &Strips, start: usize, end: usize, into: &mut [u8]) -> u32
     requires rising { start ≤ end }
     requires inside { end ≤ length strips.now }
     requires most { at + strips_size (drop start strips.now) ≤ limit }
+    requires short { AllByRecursion (λ n. n ≤ limit) (map (λ x. length x) strips.now) }
     requires room { length into.old ≡ 4 * (end - start) }
     ensures next { result + strips_size (drop end strips.now) ≡ at + strips_size (drop start strips.now) }
     ensures spelled { (first : ℕ) → at + strips_size (drop start strips.now) ≡ first + strips_size strips.now
         → flat_map (long_bytes Order.Most) (take end (strip_places first strips.now))
         ≡ flat_map (long_bytes Order.Most) (take start (strip_places first strips.now)) ++ into.new }
 {
+    encode_lengths(Order::Most, strips, start, end, into);
     let mut next = at;
     for i in start..end {
         let place = 4 * (i - start);
+        let size = Order::Most.get32(&into[place..place + 4]);
         Order::Most.put32(next, &mut into[place..place + 4]);
-        let size = strips.len_at(i) as u32;
         next += size + size % 2;
     }
     next

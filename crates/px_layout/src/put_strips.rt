@@ -4,17 +4,20 @@ ghost use Rattle.std.specs.List.{AllByRecursion};
 ghost use Rattle.px_bytes.specs.Devices.{CanFail};
 ghost use Rattle.px_bytes.specs.Parts.{limit};
 ghost use Rattle.px_bytes.specs.Waiting.{AddsTo};
+ghost use Rattle.px_field.specs.Forms.{size};
+ghost use Rattle.px_field.specs.Values.{form_in, spell};
 ghost use Rattle.px_layout.specs.Laid.{long_bytes};
 
 use crate::put::put_value;
 use px_bytes::{Failed, Order, Pending, Sink};
+use px_field::Value;
 use px_meaning::Strips;
 
 // How many offsets or lengths of strips are encoded before they are put.
 pub(crate) const AT_ONCE: usize = 64;
 
-// Encodes the lengths of the strips from `start` up to `end`.
-fn encode_lengths(order: Order, strips: &Strips, start: usize, end: usize, into: &mut [u8])
+// Encodes the lengths of the strips from `start` up to `end`, each of which is decoded by itself.
+fn encode_each(order: Order, strips: &Strips, start: usize, end: usize, into: &mut [u8])
     requires rising { start ≤ end }
     requires inside { end ≤ length strips.now }
     requires short { AllByRecursion (λ n. n ≤ limit) (map (λ x. length x) strips.now) }
@@ -25,6 +28,41 @@ fn encode_lengths(order: Order, strips: &Strips, start: usize, end: usize, into:
     for i in start..end {
         let at = 4 * (i - start);
         order.put32(strips.len_at(i) as u32, &mut into[at..at + 4]);
+    }
+}
+
+// Encodes the elements of a value from `start` up to `end`, each in four bytes.
+fn encode_longs(order: Order, longs: &Value, start: usize, end: usize, into: &mut [u8])
+    requires width { size (form_in longs.now.kind) ≡ 4 }
+    requires rising { start ≤ end }
+    requires inside { end ≤ length longs.now.elements }
+    requires room { length into.old ≡ 4 * (end - start) }
+    ensures { flat_map (spell order) (take end longs.now.elements)
+        ≡ flat_map (spell order) (take start longs.now.elements) ++ into.new }
+{
+    // Shows that an index is a `u32`.
+    let _ = longs.count();
+    longs.spell_many(order, start as u32, into);
+}
+
+// Encodes the lengths of the strips from `start` up to `end`. LONGs of a block are swapped many at a time.
+pub(crate) fn encode_lengths(
+    order: Order,
+    strips: &Strips,
+    start: usize,
+    end: usize,
+    into: &mut [u8],
+)
+    requires rising { start ≤ end }
+    requires inside { end ≤ length strips.now }
+    requires short { AllByRecursion (λ n. n ≤ limit) (map (λ x. length x) strips.now) }
+    requires room { length into.old ≡ 4 * (end - start) }
+    ensures { flat_map (long_bytes order) (take end (map (λ x. length x) strips.now))
+        ≡ flat_map (long_bytes order) (take start (map (λ x. length x) strips.now)) ++ into.new }
+{
+    match strips.long_lengths() {
+        Some(lengths) => encode_longs(order, lengths, start, end, into),
+        None => encode_each(order, strips, start, end, into),
     }
 }
 
@@ -45,7 +83,7 @@ fn put_each_length<W: Sink>(
     while i < strips.len() {
         let count = AT_ONCE.min(strips.len() - i);
         let bytes = &mut piece[..4 * count];
-        encode_lengths(order, strips, i, i + count, bytes);
+        encode_each(order, strips, i, i + count, bytes);
         pending.put(writer, bytes)?;
         i += count;
     }

@@ -6,8 +6,10 @@ use Rattle.px_bytes.specs.declared.Order.TheVariants.{Most}
 use Rattle.px_layout.specs.Laid.{long_bytes}
 use Rattle.px_layout.specs.calls.Given.{strip_places}
 use Rattle.px_bytes.specs.Devices.{CanFail}
+use Rattle.px_bytes.specs.Parts.{limit}
 use Rattle.px_layout.specs.lemmas.PutLaws.{more_behind, stop_behind}
 use Rattle.px_layout.proofs.writing.Runs.{length_places}
+use Rattle.px_layout.proofs.writing.StripPieces.{each_below}
 use Rattle.px_layout.proofs.put_running.put_strip_offsets.Goals as goal
 
 pub returns-in_err-put : goal.returns-in_err-put
@@ -51,3 +53,6 @@ loop-i-init g c = record {
 
 pub put-requires : goal.put-requires
 put-requires g c = subst CanFail (sym c.loop-i.invariant.count) c.requires.few
+
+pub encode_offsets-next-requires-clause-short : goal.encode_offsets-next-requires-clause-short
+encode_offsets-next-requires-clause-short g c = each_below limit c.args.strips.now (let most = c.requires.most in omega arith)

@@ -1,29 +1,32 @@
-use Rattle.std.proofs.Common.{◌≡◌, ◌≤◌, ◌∙◌, ℕ, List, length, map, arith, ap}
-use Rattle.px_bytes.specs.Parts.{limit}
-use Rattle.px_bytes.specs.lemmas.EachLaws.{all_at}
-use Rattle.px_bytes.specs.lemmas.NumberLaws.{length_spelling}
-use Rattle.px_layout.specs.Laid.{long_bytes}
-use Rattle.px_layout.specs.lemmas.PutLaws.{spelled_more}
+use Rattle.std.proofs.Common.{◌≡◌, ◌∙◌, ◌++◌, ℕ, List, length, map, take, flat_map, ap, sym, subst, arith}
+use Rattle.std.proofs.lemmas.List.{length-map}
+use Rattle.px_field.specs.declared.Element.TheVariants.{Long}
+use Rattle.px_field.specs.Forms.{size}
+use Rattle.px_field.specs.Values.{Value, form_in, spell}
+use Rattle.px_layout.proofs.writing.Longs.{spell_first}
 use Rattle.px_layout.proofs.put_strips.encode_lengths.Goals as goal
 
-abbrev size : List ℕ → ℕ
-size x = length x
+abbrev count : List ℕ → ℕ
+count x = length x
 
-pub overflow_cast-len_at : goal.overflow_cast-len_at
-overflow_cast-len_at c =
-    omega (
-      arith,
-      all_at (λ n. n ≤ limit) (map size c.args.strips.now) c.loop-i.i c.len_at.result c.requires.short
-          c.len_at.ensures,
-    )
+pub encode_longs-requires-clause-width : goal.encode_longs-requires-clause-width
+encode_longs-requires-clause-width c = ap (λ (v : Value). size (form_in v.kind)) c.in-Some.ensures
 
-pub loop-i-preserved : goal.loop-i-preserved
-loop-i-preserved c =
-    let long : length c.put32.new.bytes ≡ 4 = ap length c.put32.ensures ∙ length_spelling c.args.order 4 _ in
-    let low = c.loop-i.invariant.behind in
-    record {
-      behind = omega arith;
-      spelled = spelled_more (long_bytes c.args.order) (map size c.args.strips.now) c.args.start c.loop-i.i c.len_at.result
-          _ _ _ c.loop-i.into c.put32.new.bytes c.len_at.ensures c.put32.ensures
-          c.loop-i.invariant.spelled (omega arith) (let room = c.requires.room in let same = c.loop-i.auto.into in omega arith);
-    }
+pub encode_longs-requires-clause-inside : goal.encode_longs-requires-clause-inside
+encode_longs-requires-clause-inside c =
+    let ns = map count c.args.strips.now in
+    let l = ap (λ (v : Value). length v.elements) c.in-Some.ensures in
+    let m = length-map ns Long in
+    let n = length-map c.args.strips.now count in
+    let h = c.requires.inside in
+    omega arith
+
+pub returns-in-Some : goal.returns-in-Some
+returns-in-Some c =
+    let o = c.args.order in
+    let ns = map count c.args.strips.now in
+    let bytes = c.encode_longs.new.into in
+    sym (spell_first o c.args.end ns)
+    ∙ subst (λ (v : Value). flat_map (spell o) (take c.args.end v.elements) ≡ flat_map (spell o) (take c.args.start v.elements) ++ bytes)
+    c.in-Some.ensures c.encode_longs.ensures
+    ∙ ap (λ (x : List ℕ). x ++ bytes) (spell_first o c.args.start ns)

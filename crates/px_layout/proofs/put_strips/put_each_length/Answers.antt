@@ -13,7 +13,7 @@ pub returns-in_err-put : goal.returns-in_err-put
 returns-in_err-put g c =
     let p = err_from_is_err_and c.from_residual.result c.from_residual.ensures.1 in
     rw p.1 (
-      stop_behind g.W.Sink.bytes_taken (long_bytes c.args.order) (map size c.args.strips.now) c.loop-i.i _ _ c.encode_lengths.ensures
+      stop_behind g.W.Sink.bytes_taken (long_bytes c.args.order) (map size c.args.strips.now) c.loop-i.i _ _ c.encode_each.ensures
           _ _ _ c.args.pending.now c.loop-i.pending c.loop-i.invariant.put (c.in_err-put.ensures.bytes, c.in_err-put.ensures.waits),
       search rules,
     )
@@ -21,7 +21,7 @@ returns-in_err-put g c =
 pub loop-i-preserved : goal.loop-i-preserved
 loop-i-preserved g c = record {
   inside = omega (arith, c.min-count.ensures, c.loop-i.invariant.inside);
-  put = more_behind g.W.Sink.bytes_taken (long_bytes c.args.order) (map size c.args.strips.now) c.loop-i.i _ _ c.encode_lengths.ensures
+  put = more_behind g.W.Sink.bytes_taken (long_bytes c.args.order) (map size c.args.strips.now) c.loop-i.i _ _ c.encode_each.ensures
       _ _ _ c.args.pending.now c.loop-i.pending c.put.new.self c.loop-i.invariant.put
       (c.in_ok-put.ensures.bytes, c.in_ok-put.ensures.waits);
   count = c.in_ok-put.ensures.count ∙ c.loop-i.invariant.count;

@@ -1,6 +1,6 @@
 use Rattle.std.proofs.Common.{◌≡◌, ◌≤◌, ◌-◌, ◌*◌, ◌++◌, take, flat_map, map, length}
 use Rattle.px_layout.specs.Laid.{long_bytes}
-use Rattle.px_layout.proofs.put_strips.encode_lengths.Given as goal
+use Rattle.px_layout.proofs.put_strips.encode_each.Given as goal
 
 -- the lengths so far are encoded
 abbrev pub invariant-loop-i : goal.invariant-loop-i
