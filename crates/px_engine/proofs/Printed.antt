@@ -1,10 +1,7 @@
 -- The results of runs that print, from the results of their parts.
-use Rattle.std.proofs.Common.{◌≡◌, ℕ, Option, List, [], Result, Ok, Err, refl, sym, subst}
-use Rattle.std.specs.Io.KnownBytes.{Appends}
-use Rattle.px_bytes.specs.Devices.{AppendsPrefix, Counts, Writes}
+use Rattle.std.proofs.Common.{◌≡◌, ℕ, Option, List, Result, Ok, Err, refl, sym, subst}
+use Rattle.px_bytes.specs.Devices.{Counts, Writes}
 use Rattle.px_bytes.specs.Reading.{ReadsUpTo}
-use Rattle.px_bytes.specs.Waiting.{Held, ◌⊕◌, Owes}
-use Rattle.px_bytes.specs.lemmas.WaitingLaws.{from_none, owed_all, owed_prefix}
 use Rattle.px_engine.specs.declared.faults.Fault.{Fault}
 use Rattle.px_engine.specs.declared.faults.Fault.TheVariants.{Refused, NormalTooLong, OutOfMemory, ReadFailed, WriteFailed}
 use Rattle.px_engine.specs.Files.{Said}
@@ -13,12 +10,6 @@ use Rattle.px_engine.specs.Prints.{Prints}
 use Rattle.px_engine.specs.calls.Ends.{WritesText}
 use Rattle.px_engine.specs.calls.Faults.{as_fault}
 use Rattle.px_engine.proofs.Judged.{known_said, known_stops}
-
--- the text was added to an empty buffer, and the buffer was then written
-pub owes_written : {A E : Type 0} (r : Result A E) (a b c : Option (List ℕ)) (none held : Held) (out : List ℕ)
-    → none.bytes ≡ [] → Owes a b held (none ⊕ out) → Writes r b c held.bytes → Writes r a c out
-owes_written (Ok x) a b c none held out e p q = from_none (Appends a c) none.bytes out e (owed_all a b c held (none ⊕ out) p q)
-owes_written (Err x) a b c none held out e p q = from_none (AppendsPrefix a c) none.bytes out e (owed_prefix a b c held (none ⊕ out) p q)
 
 -- the result of a text's writer, as that of a run
 pub told_text : {A E : Type 0} (r : Result A E) (t : Result A Fault) (old new : Option (List ℕ)) (a b : ℕ) (out : List ℕ) → t ≡ as_fault r

@@ -1,10 +1,10 @@
 -- A line of five buffered parts, then a write and a flush.
-use Rattle.std.proofs.Common.{◌≡◌, ◌+◌, ◌++◌, ◌∙◌, ap, inl, inr, ℕ, List, [], Option, Result, Ok, Err}
+use Rattle.std.proofs.Common.{◌≡◌, ◌+◌, ◌++◌, ◌∙◌, ap, inl, inr, ℕ, List, Option, Result, Err}
 use Rattle.std.specs.Prelude.{⊤}
 use Rattle.std.specs.Io.KnownBytes.{Appends}
-use Rattle.px_bytes.specs.Devices.{AppendsPrefix, Device, Writes}
+use Rattle.px_bytes.specs.Devices.{AppendsPrefix, Device}
 use Rattle.px_bytes.specs.Waiting.{Held, ◌⊕◌, Owes, Puts}
-use Rattle.px_bytes.specs.lemmas.WaitingLaws.{from_none, owed_all, owed_prefix, puts_both, puts_first}
+use Rattle.px_bytes.specs.lemmas.WaitingLaws.{puts_both, puts_first}
 use Rattle.px_bytes.specs.lemmas.WriteLaws.{appends_kept, prefix_all}
 use Rattle.px_jobs.specs.Lines.{Tells}
 use Rattle.px_jobs.specs.calls.Flushing.{Flushes}
@@ -40,12 +40,6 @@ module _ (v w x y z : List ℕ) (a b c d e : Option (List ℕ)) (h i j k l : Hel
             → Puts r a f h m (v ++ (w ++ (x ++ (y ++ z))))
         puts_all r f m four p = puts_both r a b f h i m v (w ++ (x ++ (y ++ z))) one
             (puts_both r b c f i j m w (x ++ (y ++ z)) two (puts_both r c d f j k m x (y ++ z) three (puts_both r d e f k l m y z four p)))
-
--- the buffer was empty; the bytes were added, and the buffer was then written
-pub owes_written : {A E : Type 0} (r : Result A E) (a b c : Option (List ℕ)) (h k : Held) (out : List ℕ) → h.bytes ≡ []
-    → Owes a b k (h ⊕ out) → Writes r b c k.bytes → Writes r a c out
-owes_written (Ok x) a b c h k out none p w = from_none (Appends a c) h.bytes out none (owed_all a b c k (h ⊕ out) p w)
-owes_written (Err x) a b c h k out none p w = from_none (AppendsPrefix a c) h.bytes out none (owed_prefix a b c k (h ⊕ out) p w)
 
 -- a line that was written, and then a flush
 pub flushes_tells : (expected : ℕ) (line : List ℕ) (status failed mid now : ℕ) (old written new : Option (List ℕ)) → mid ≡ failed

@@ -87,6 +87,12 @@ owed_prefix a b c h out p q = subst (AppendsPrefix a c) (ap (λ (z : Held). z.by
 pub owed_all : (a b c : Option (List ℕ)) (h out : Held) → Owes a b h out → Appends b c h.bytes → Appends a c out.bytes
 owed_all a b c h out p q = subst (Appends a c) (ap (λ (z : Held). z.bytes) p.2) (appends_both a b c p.0 h.bytes p.1 q)
 
+-- the buffer was empty, bytes were added, and the buffered bytes were written last
+pub owes_written : {A E : Type 0} (r : Result A E) (a b c : Option (List ℕ)) (none held : Held) (out : List ℕ)
+    → none.bytes ≡ [] → Owes a b held (none ⊕ out) → Writes r b c held.bytes → Writes r a c out
+owes_written (Ok x) a b c none held out e p q = from_none (Appends a c) none.bytes out e (owed_all a b c held (none ⊕ out) p q)
+owes_written (Err x) a b c none held out e p q = from_none (AppendsPrefix a c) none.bytes out e (owed_prefix a b c held (none ⊕ out) p q)
+
 -- ---- the parts of a list's elements
 
 module _ {X : Type 0} (f : X → List ℕ) (xs : List X) (i : ℕ) (x : X) (read : slice_get xs i ≡ Some x) where

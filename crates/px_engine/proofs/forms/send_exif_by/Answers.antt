@@ -1,7 +1,7 @@
 use Rattle.std.proofs.Common.{rules}
 use Rattle.px_layout.specs.Normal.{normal_exif}
 use Rattle.px_layout.specs.calls.Forms.{said_in}
-use Rattle.px_engine.proofs.Printed.{owes_written}
+use Rattle.px_bytes.specs.lemmas.WaitingLaws.{owes_written}
 use Rattle.px_engine.proofs.forms.send_exif_by.Goals as goal
 
 pub returns : goal.returns

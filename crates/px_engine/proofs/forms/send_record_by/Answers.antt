@@ -1,6 +1,6 @@
 use Rattle.std.proofs.Common.{rules}
 use Rattle.px_iim.specs.Record.{normal_iim}
-use Rattle.px_engine.proofs.Printed.{owes_written}
+use Rattle.px_bytes.specs.lemmas.WaitingLaws.{owes_written}
 use Rattle.px_engine.proofs.forms.send_record_by.Goals as goal
 
 pub returns : goal.returns

@@ -1,10 +1,9 @@
 use Rattle.std.proofs.Common.{rules}
 use Rattle.std.proofs.lemmas.Result.{err_from_is_err_and}
 use Rattle.px_bytes.specs.Devices.{AppendsPrefix}
-use Rattle.px_bytes.specs.lemmas.WaitingLaws.{from_none}
+use Rattle.px_bytes.specs.lemmas.WaitingLaws.{from_none, owes_written}
 use Rattle.px_engine.specs.Prints.{caption_text}
 use Rattle.px_engine.specs.calls.Seen.{said_of}
-use Rattle.px_engine.proofs.Printed.{owes_written}
 use Rattle.px_engine.proofs.texts.send_captions.Goals as goal
 
 pub returns-in_err-put_captions : goal.returns-in_err-put_captions

@@ -1,10 +1,9 @@
 use Rattle.std.proofs.Common.{rules}
 use Rattle.std.proofs.lemmas.Result.{err_from_is_err_and}
 use Rattle.px_bytes.specs.Devices.{AppendsPrefix}
-use Rattle.px_bytes.specs.lemmas.WaitingLaws.{from_none}
+use Rattle.px_bytes.specs.lemmas.WaitingLaws.{from_none, owes_written}
 use Rattle.px_engine.specs.Prints.{listing}
 use Rattle.px_engine.specs.calls.Seen.{said_of}
-use Rattle.px_engine.proofs.Printed.{owes_written}
 use Rattle.px_engine.proofs.texts.send_listing.Goals as goal
 
 pub returns-in_err-put_listing : goal.returns-in_err-put_listing

@@ -2,9 +2,8 @@ use Rattle.std.proofs.Common.{rules}
 use Rattle.std.proofs.Common.{◌++◌}
 use Rattle.std.proofs.lemmas.Result.{err_from_is_err_and}
 use Rattle.px_bytes.specs.Devices.{AppendsPrefix}
-use Rattle.px_bytes.specs.lemmas.WaitingLaws.{from_none}
+use Rattle.px_bytes.specs.lemmas.WaitingLaws.{from_none, owes_written}
 use Rattle.px_jobs.specs.Lines.{end_of}
-use Rattle.px_jobs.proofs.LineLaws.{owes_written}
 use Rattle.px_jobs.proofs.lines.write_ended.Goals as goal
 
 pub returns-in_err-put_ended : goal.returns-in_err-put_ended

@@ -1,9 +1,8 @@
 use Rattle.std.proofs.Common.{rules}
 use Rattle.std.proofs.lemmas.Result.{err_from_is_err_and}
 use Rattle.px_bytes.specs.Devices.{AppendsPrefix}
-use Rattle.px_bytes.specs.lemmas.WaitingLaws.{from_none}
+use Rattle.px_bytes.specs.lemmas.WaitingLaws.{from_none, owes_written}
 use Rattle.px_jobs.specs.Lines.{line_of}
-use Rattle.px_jobs.proofs.LineLaws.{owes_written}
 use Rattle.px_jobs.proofs.lines.write_line.Goals as goal
 
 pub returns-in_err-put_line : goal.returns-in_err-put_line
