@@ -347,6 +347,8 @@ def empty_checks(text):
     [(1, 'an empty text is in each text')]
     >>> list(empty_checks("require(a and b)\\nif True:\\n    a()\\nfor it in ():\\n    a()"))
     [(1, 'several checks in one'), (2, 'a constant condition'), (4, 'a loop over nothing')]
+    >>> list(empty_checks("def test():\\n    return a()\\n    require(b)\\nfor it in a:\\n    continue\\nelse:\\n    raise a\\n    require(b)"))
+    [(1, 'a statement is never reached'), (4, 'a statement is never reached')]
     >>> list(empty_checks("try:\\n    require(a)\\nexcept Exception as why:\\n    print(why)\\ntry:\\n    a()\\nexcept:\\n    pass\\nsuppress(AssertionError)"))
     [(1, 'a failure is caught'), (5, 'a failure is caught'), (9, 'a failure is caught')]
     >>> list(empty_checks("try:\\n    require(a)\\nexcept OSError:\\n    pass\\nsuppress(OSError)\\nwhile True:\\n    a()"))
