@@ -32,7 +32,10 @@ SECONDS = 1800  # the most that a run may take, also on a very busy machine: a l
 PROGRAM = "crates/px_cli/out/px_cli"
 MODULES = ("build", "packaging", "python", "tests")  # folders of Python modules
 NEEDED, ALLOWED = {"file", "old", "new", "part", "why"}, {"only"}
+LONGEST = ("packages", "fuzz", "benchmarks", "install", "library")  # the parts whose runs with a mistake take longest
 NO_TEST = "FAILED: no test ran"
+# python3 is the Python that runs this, without a script that looks for it at each start.
+PATH = os.pathsep.join((os.path.dirname(sys.executable), os.environ.get("PATH", os.defpath)))
 COUNT = re.compile(r"(\d+) passed, (\d+) failed(?:, (\d+) skipped)?")
 
 # Everything but the folder is read-only for what runs in it, and what it leaves running ends with it.
@@ -144,10 +147,15 @@ def state(path: "str | Path") -> Tuple[int, ...]:
     return (it.st_mode,) if stat.S_ISDIR(it.st_mode) else (it.st_mode, it.st_ino, it.st_size, it.st_mtime_ns, it.st_ctime_ns)
 
 
-def states(folder: Path) -> Dict[str, Tuple[int, ...]]:
+def states(folder: "str | Path", name: str = "") -> Dict[str, Tuple[int, ...]]:
     """The state of each file and folder below a folder, each folder before what is in it."""
-    found = [os.path.join(top, it) for top, folders, files in os.walk(folder) for it in (*folders, *files)]
-    return {it[len(str(folder)) + 1 :]: state(it) for it in found}
+    found = {}
+    with os.scandir(folder) as entries:
+        for it in entries:
+            found[name + it.name] = state(it.path)
+            if it.is_dir(follow_symlinks=False):
+                found.update(states(it.path, f"{name}{it.name}/"))
+    return found
 
 
 def remove(path: Path) -> None:
@@ -216,7 +224,7 @@ class Copies:
         with tempfile.TemporaryDirectory(dir=copy.folder, ignore_cleanup_errors=True) as own:
             apart = APART if self.is_apart else ["sh", "-c", 'cd "$0" && exec "$@"']
             words = [*apart, copy.folder, "sh", "-c", f"cd tree && program={PROGRAM} && {self.parts[part].command}"]
-            environment = {**os.environ, "TEST_ONLY": only, "TMPDIR": str(for_all_users(own)), "PYTHONDONTWRITEBYTECODE": "1"}
+            environment = {**os.environ, "PATH": PATH, "TEST_ONLY": only, "TMPDIR": str(for_all_users(own)), "PYTHONDONTWRITEBYTECODE": "1"}
             ran = subprocess.run(words, env=environment, stdin=subprocess.DEVNULL, stdout=subprocess.PIPE, stderr=subprocess.STDOUT, timeout=SECONDS)
         return ran.returncode, ran.stdout.decode("utf-8", "replace")
 
@@ -254,11 +262,16 @@ def names(mistakes: Sequence[Mistake]) -> List[Tuple[str, str]]:
     return [(part, "|".join(sorted(it for it in texts if not any(other in it for other in texts - {it})))) for part, texts in sorted(only.items())]
 
 
+def longest_first(mistakes: Sequence[Mistake]) -> List[Mistake]:
+    """The mistakes whose runs take longest come first, so that none of them runs alone at the end."""
+    return sorted(mistakes, key=lambda it: LONGEST.index(it.part) if it.part in LONGEST else len(LONGEST))
+
+
 def try_all(counter: Counter, copies: Copies, mistakes: Sequence[Mistake], workers: int) -> None:
     """Runs the tests without a mistake, all those of a part at once, and with each, so many at a time."""
     with ThreadPoolExecutor(workers) as pool:
         waits = [pool.submit(counter.run, f"{part}, without a mistake", lambda it=(part, only): see_pass(copies, *it)) for part, only in names(mistakes)]
-        waits += [pool.submit(counter.run, f"{it.file}: {it.why}", lambda it=it: see_fail(copies, it)) for it in mistakes]
+        waits += [pool.submit(counter.run, f"{it.file}: {it.why}", lambda it=it: see_fail(copies, it)) for it in longest_first(mistakes)]
         for it in waits:
             it.result()
 

@@ -11,7 +11,7 @@ import unittest
 from pathlib import Path
 from typing import Any, Tuple
 
-from mutations import COUNT, Copies, Copy, Mistake, Part, can_be_apart, compile_modules, names, parts, read_all, states
+from mutations import COUNT, LONGEST, Copies, Copy, Mistake, Part, can_be_apart, compile_modules, longest_first, names, parts, read_all, states
 from paths import TESTS
 
 NEEDED = ("repository/mutations.py", "checks.py", "counting.py", "paths.py")
@@ -151,6 +151,11 @@ class Judged(unittest.TestCase):
     def test_the_tests_of_a_part_are_run_at_once(self):
         listed = [Mistake("", "", "", part, "", only) for part, only in (("a", "x"), ("b", "y"), ("a", "w"), ("a", "x|x and more"), ("c", "z"), ("c", ""))]
         self.assertEqual(names(listed), [("a", "w|x"), ("b", "y"), ("c", "")])
+
+    def test_long_runs_begin_first(self):
+        listed = [Mistake("", "", "", part, why) for part, why in (("a", "1"), ("install", "2"), ("b", "3"), ("packages", "4"), ("install", "5"))]
+        self.assertEqual([it.why for it in longest_first(listed)], ["4", "2", "5", "1", "3"])
+        self.assertLessEqual(set(LONGEST), set(parts(TESTS.parent)))
 
 
 class Compiled(unittest.TestCase):
