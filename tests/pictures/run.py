@@ -19,7 +19,7 @@ HERE = os.path.dirname(os.path.abspath(__file__))
 sys.path[:0] = [HERE, os.path.dirname(HERE), os.path.join(os.path.dirname(os.path.dirname(HERE)), "python")]
 
 from counting import Counter, Outcomes, name_of, tests_in
-from studio import Studio
+from studio import Studio, WithPictures
 
 
 def main():
@@ -47,6 +47,8 @@ def run_all(only):
     counter, loader = Counter(only), unittest.TestLoader()
     suites = [loader.discover(HERE, it) for it in modules_with(only.split("|"))]
     found = [it for suite in suites for it in tests_in(suite) if counter.asks(name_of(it))]
+    if any(isinstance(it, WithPictures) for it in found):
+        Studio.put_commands()
     # what is measured runs by itself, after all others
     together = [it for it in found if not getattr(it, "alone", False)]
     with ThreadPoolExecutor(min(4, os.cpu_count() or 1)) as pool:

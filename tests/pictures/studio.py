@@ -2,6 +2,7 @@
 
 import base64
 import functools
+import importlib.util
 import os
 import shutil
 import struct
@@ -36,6 +37,8 @@ ARE_THERE = "import importlib.util, sys; print(*(it for it in sys.argv[1:] if im
 @functools.lru_cache(maxsize=None)
 def modules_of(python):
     """Those of MODULES that a Python has."""
+    if python == sys.executable:
+        return [it for it in MODULES if importlib.util.find_spec(it)]
     return subprocess.run([python, "-c", ARE_THERE, *MODULES], stdout=subprocess.PIPE, text=True).stdout.split() if os.path.exists(python) else []
 
 
@@ -60,6 +63,10 @@ class Studio:
         if os.path.exists(built):
             os.environ.setdefault("EXIFNORM_LIBRARY", built)
         os.mkdir(os.path.join(cls.room, "bin"))
+
+    @classmethod
+    def put_commands(cls):
+        """Makes the commands, which only tests with a folder of their own call."""
         cls.wrapper("exifnorm", f'exec "{cls.program}" "$@"')
         cls.wrapper("exifnorm-pictures", f'exec "{interpreter_with("distributed") or sys.executable}" -m exifnorm_pictures "$@"')
         cls.wrapper("python3", f'exec "{interpreter_with("distributed") or sys.executable}" "$@"')

@@ -26,7 +26,7 @@ import package_texts
 import paths
 import shell_texts
 from counting import run_suite
-from installed import CALLS, DEBIAN_PYTHON, EXAMPLES, FILE, HEADER, TOP, VERSION, Tree, modules, run, text_of, tree, with_folders
+from installed import CALLS, DEBIAN_PYTHON, EXAMPLES, FILE, HEADER, MAKE, TOP, VERSION, Tree, modules, run, text_of, tree, with_folders
 
 sys.path.insert(0, str(TOP / "packaging"))
 
@@ -96,7 +96,7 @@ class Files(unittest.TestCase):
         """Also if those after it would succeed."""
         packages = " ".join(sorted({str(Path(it).parent) for it in modules()}))
         for word in ("pages=docs/nothing.1 docs/exifnorm.1", f"packages=nothing {packages}", "program=/bin/false"):
-            run("make", "stage", f"stage={ROOM}/failed", word, status=2)
+            run(*MAKE, "stage", f"stage={ROOM}/failed", word, status=2)
 
     def test_variables_of_the_callers_environment_change_nothing(self) -> None:
         """Only those of make's command line do."""

@@ -59,6 +59,7 @@ def at_each_step(room: Room, how: str, begin) -> None:
         ran = made.call("a")
         require((ran.returncode, ran.stdout) in ((0, f"{text}: a\n"), (70, ""), (-9, "")), (step, ran))
         require(how != "kill" or ran.returncode != 70, (step, ran))
+        require(step > 1 or ran.returncode != 0, "no fault was made at the first step")
         failed += ran.returncode != 0
         (made.folder / "fault").write_text("no 0")
         if step % 2:

@@ -5,6 +5,7 @@ self_tests.py runs these. The library is the one in out/lib; tests/library/fuzz/
 """
 
 import contextlib
+import functools
 import importlib
 import io
 import json
@@ -76,15 +77,26 @@ class Library(unittest.TestCase):
         cls.wrong = str(cls.folder / "wrong.so")  # what it doesn't change is found in the built library, which it needs
         words = [*fuzz.CC, "-shared", "-fPIC", "-o", cls.wrong, TESTS / "library" / "fuzz" / "wrong.c", "-Wl,--no-as-needed", RIGHT, "-ldl"]
         subprocess.run([str(it) for it in words], check=True)
-        cls.jobs = cls.folder / "jobs"
-        write_jobs(cls.jobs, *all_answers(PROGRAM, cls.folder, BLOCKS))
-        it = library.Library(str(PROGRAM), room.name)
-        it.is_compiled()
-        cls.calls = it.calls
-        cls.refusing = cls.link_refusing()
 
     @classmethod
-    def link_refusing(cls) -> str:
+    @functools.lru_cache(maxsize=None)
+    def jobs(cls) -> Path:
+        """The file with the blocks and the expected results. Like the callers, it is made when the first test needs it."""
+        jobs = cls.folder / "jobs"
+        write_jobs(jobs, *all_answers(PROGRAM, cls.folder, BLOCKS))
+        return jobs
+
+    @classmethod
+    @functools.lru_cache(maxsize=None)
+    def calls(cls) -> str:
+        """The caller in C."""
+        it = library.Library(str(PROGRAM), str(cls.folder))
+        it.is_compiled()
+        return it.calls
+
+    @classmethod
+    @functools.lru_cache(maxsize=None)
+    def refusing(cls) -> str:
         """The caller whose allocations are refused, linked with the wrong library over the right archive."""
         right, program = cls.folder / "right.a", cls.folder / "refusing wrong"
         renamed = [it for name in CALLS for it in ("--redefine-sym", f"exifnorm_{name}=its_{name}")]
@@ -99,7 +111,7 @@ class Library(unittest.TestCase):
         return subprocess.run([str(it) for it in words], env=environment, stdout=subprocess.PIPE, stderr=subprocess.STDOUT, timeout=300).returncode
 
     def in_c(self, mistake: str, how: str = "once", **more: str) -> int:
-        return self.status(mistake, self.calls, how, self.jobs, LD_PRELOAD=self.wrong, **more)
+        return self.status(mistake, self.calls(), how, self.jobs(), LD_PRELOAD=self.wrong, **more)
 
     def in_python(self, mistake: str, *words: Any) -> int:
         return self.status(mistake, sys.executable, *words, EXIFNORM_LIBRARY=self.wrong, LD_LIBRARY_PATH=str(RIGHT.parent))
@@ -123,7 +135,7 @@ class Library(unittest.TestCase):
 
     def refused(self, mistake: str, call: str = "") -> int:
         more = {"ALONE": call} if call else {}
-        return self.status(mistake, self.refusing, "refused", self.jobs, **more)
+        return self.status(mistake, self.refusing(), "refused", self.jobs(), **more)
 
     def test_each_call_without_memory_is_judged_by_itself(self):
         self.assertEqual(self.refused("NONE"), 0)
@@ -139,10 +151,10 @@ class Library(unittest.TestCase):
 
     def test_wrong_libraries_in_python(self):
         script = TESTS / "library" / "python_calls.py"
-        self.assertEqual(self.in_python("NONE", script, self.jobs), 0)
+        self.assertEqual(self.in_python("NONE", script, self.jobs()), 0)
         for mistake in ("OTHER_KIND", "NEXT_CAUSE", "FORM_LESS_A_BIT", "ALWAYS_SAME", "SECOND_IS_FIRST", "LISTING_EMPTY", "CAPTIONS_UNLABELLED"):
             with self.subTest(mistake):
-                self.assertNotEqual(self.in_python(mistake, script, self.jobs), 0)
+                self.assertNotEqual(self.in_python(mistake, script, self.jobs()), 0)
 
     def printed_with_package(self, file: str, old: str, new: str) -> str:
         """What python_calls.py prints for the right library and a package with this mistake."""
@@ -152,7 +164,7 @@ class Library(unittest.TestCase):
         self.assertEqual(text.count(old), 1, old)
         (package / file).write_text(text.replace(old, new), encoding="utf-8")
         environment = {**os.environ, "EXIFNORM_LIBRARY": str(RIGHT), "PYTHONDONTWRITEBYTECODE": "1", "PYTHONPATH": str(package.parent)}
-        words = [sys.executable, TESTS / "library" / "python_calls.py", self.jobs]
+        words = [sys.executable, TESTS / "library" / "python_calls.py", self.jobs()]
         ran = subprocess.run(words, env=environment, capture_output=True, text=True, timeout=300)
         self.assertEqual(ran.returncode, 1, (old, ran.stdout, ran.stderr))
         return ran.stdout
@@ -174,6 +186,7 @@ class Library(unittest.TestCase):
             "other fields of a thumbnail": ("_forms.py", "parts if tag == _STRIPS else parts[0]", "parts[0]"),
             "a refusal, pickled": ("_errors.py", "{where} in block {self.side}", "{where} of block {self.side}"),
         }
+        self.jobs()  # before several threads need it
         with ThreadPoolExecutor(4) as pool:
             for text, printed in zip(mistakes, pool.map(lambda it: self.printed_with_package(*it), mistakes.values())):
                 self.assertIn(text, printed)
