@@ -71,6 +71,16 @@ def lists() -> Iterable[Tuple[str, Union[Exif, Record], int, int]]:
     yield "20,000 DataSets in order", orders.record(orders.ascending(20_000)), 0, 1
 
 
+def little_endian_forms() -> Iterable[Tuple[str, Exif, float]]:
+    """Blocks by their meanings, whose values are swapped in the normal form, each with the instructions for each byte of the form at most: an
+    eighth more than now. The buffer of a short form is small, because it is cleared. A value is swapped directly into the output buffer if it
+    fits there, and a long one directly into the caller's memory."""
+    yield "one SHORT", Exif(dict(ORIENTATION)), 242  # 529, if 8,192 bytes are cleared
+    values = {tag: Value(SHORT, range(500)) for tag in range(0x1000, 0x13E8)}
+    yield "1,000 values of 500 SHORTs", Exif(values), 1.11  # 1.3, if each is swapped in a buffer of its own
+    yield "a megabyte of SHORTs", Exif({0x1000: Value(SHORT, [it % 65_536 for it in range(1 << 19)])}), 0.65  # 1.6, likewise
+
+
 def growths(text: str) -> int:
     """How often the list of a text grows: each piece of a text is appended as it is, and the list doubles.
 
@@ -148,6 +158,16 @@ class Costs:
         blocks = {"usual": iim(in_order), "random": iim(names)}
         self._keep_to_instructions(blocks, {"check": 1.0, "normalise": SORTED, "captions": SORTED, "compare": SORTED})
 
+    def are_few_instructions_for_each_byte_of_a_form(self) -> None:
+        """A limit that is more than twice what a form takes would notice no slower body."""
+        self._need_valgrind()
+        for name, meaning, most in little_endian_forms():
+            block = laid(meaning, Layout("<"))
+            each = self._instructions("normalise", block) / len(block)
+            require(block[:4] == b"II*\0", f"{name} is swapped")
+            require(each <= most, f"{name}: {each:.3f} instructions for each byte, and not {most}")
+            require(each >= most / 2, f"{name}: {each:.3f} instructions for each byte: lower the limit of {most}")
+
     def _write(self, block: bytes) -> None:
         with open(self._block, "wb") as it:
             it.write(block)
@@ -175,6 +195,10 @@ class Costs:
             took, most = self._memory(call), SLACK * (memory_of_record(call, kind.meaning) + SMALL)
             require(took <= most, f"{call} of {kind.name}: {took} bytes, and not {most:.0f}, are {took / len(kind.blocks[0]):.2f} of the block")
 
+    def _need_valgrind(self) -> None:
+        if not shutil.which("valgrind"):
+            raise SkipTest("valgrind is not installed")
+
     def _instructions(self, call: str, block: bytes) -> int:
         self._write(block)
         words = ["valgrind", "--tool=callgrind", "--callgrind-out-file=/dev/null", f"--toggle-collect=exifnorm_{call}", self._program]
@@ -183,8 +207,7 @@ class Costs:
 
     def _keep_to_instructions(self, blocks: Dict[str, bytes], most: Dict[str, float]) -> None:
         """Compares each order with the first."""
-        if not shutil.which("valgrind"):
-            raise SkipTest("valgrind is not installed")
+        self._need_valgrind()
         require(len({*blocks.values()}) == len(blocks), "two orders are the same block")
         usual, *others = blocks
         for call, times in most.items():
