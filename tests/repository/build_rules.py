@@ -15,9 +15,6 @@ from pathlib import Path
 from unittest import mock
 
 import paths
-
-sys.path.insert(0, str(paths.TOP / "build"))
-
 import crates
 import machine
 import prove

@@ -26,9 +26,6 @@ sys.dont_write_bytecode = True
 sys.path.insert(0, str(Path(__file__).resolve().parent.parent))
 
 import paths
-
-sys.path.insert(0, str(paths.TOP / "packaging"))
-
 import header
 import named
 import pages

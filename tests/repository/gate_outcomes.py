@@ -216,20 +216,23 @@ class Gate(Folder):
 
     def test_a_list_that_is_misspelled(self):
         good = self.part("echo 3 passed, 0 failed")
-        for listed in (
-            good.replace("Command", "Comand"),
-            good.replace("Command", "Command: true\nCommand"),
-            good.replace("Least", "least"),
-            *(good.replace("Least: 3", f"Least: {it}") for it in ("0", "-1", "some", "", "3\nLeast: 4")),
-            *(good.replace("Minutes: 1", f"Minutes: {it}") for it in ("0", "-1", "1.5", "1m", "", "1\nMinutes: 2")),
-            good.replace("Minutes: 1\n", ""),
-            *(good.replace("Least: 3", f"Least: 3\nChecks: {it}") for it in ("0", "-1", "some", "")),
-            good.rstrip("\n") + "\n" + self.part("echo 4 passed, 0 failed", name="b").removeprefix("# a comment\n"),
-            good + good,
-            good + "Part: a\n",
+        command, least, minutes = ": a has no command, or more than one", ": a doesn't say how many tests it must count", ": a doesn't say how many minutes it may take"
+        checks, twice = ": a has a number of checks that is none", " has the part above twice"
+        for listed, why in (
+            (good.replace("Command", "Comand"), command),
+            (good.replace("Command", "Command: true\nCommand"), command),
+            (good.replace("Least", "least"), least),
+            *((good.replace("Least: 3", f"Least: {it}"), least) for it in ("0", "-1", "some", "", "3\nLeast: 4")),
+            *((good.replace("Minutes: 1", f"Minutes: {it}"), minutes) for it in ("0", "-1", "1.5", "1m", "", "1\nMinutes: 2")),
+            (good.replace("Minutes: 1\n", ""), minutes),
+            *((good.replace("Least: 3", f"Least: 3\nChecks: {it}"), checks) for it in ("0", "-1", "some", "")),
+            (good.rstrip("\n") + "\n" + self.part("echo 4 passed, 0 failed", name="b").removeprefix("# a comment\n"), command),
+            (good + good, twice),
+            (good + "Part: a\n", twice),
         ):
             ended = self.ran(listed)
             self.assertEqual((ended.status, ended.last[:9]), (1, "0 passed,"), listed + ended.printed)
+            self.assertIn(f"test: FAILED: tests/parts.txt{why}\n", ended.printed)
             self.assertNotIn("begins", ended.printed)
 
     def test_what_is_built_is_counted(self):
@@ -346,6 +349,20 @@ class Limits(Folder):
         """With a `timeout` that gives it more time to do so, as the machine may be busy."""
         self.command("timeout", f"""case "$*" in '-s INT -k 1 1 '*) shift 5; set -- -s INT -k 60 1 "$@" ;; esac; exec {shutil.which("timeout")} "$@\"""")
         self.is_ended_at_its_limit(self.with_files())
+
+    def test_a_stopped_part_ends_after_its_command(self):
+        """By each signal: both shells wait for a command that takes a while to remove its file."""
+        left = self.folder / "left"
+        command = f"sh -c 'trap \"sleep 0.3; rm {left}; exit 1\" HUP INT TERM; touch {left}; echo begun >&9; while :; do sleep 0.05; done'"
+        (self.folder / "tests" / "parts.txt").write_text(self.endless(command))
+        for how in (signal.SIGHUP, signal.SIGINT, signal.SIGTERM):
+            words = ["env", "--default-signal", "timeout", "600", "sh", "./test", "--run", "a", self.folder / how.name]
+            started = subprocess.Popen(words, cwd=self.folder, stdout=subprocess.DEVNULL)
+            self.begun()
+            started.send_signal(how)
+            self.assertEqual((started.wait(600), left.exists()), (130, False), how)
+            self.assertFalse((self.folder / f"{how.name}.ended").exists(), how)
+            self.ended()
 
     def test_a_build_that_never_ends(self):
         """The commands that are functions of ./test have a limit too."""

@@ -22,15 +22,12 @@ from typing import Any
 sys.dont_write_bytecode = True
 sys.path.insert(0, str(Path(__file__).resolve().parent.parent))
 
-import package_texts
 import paths
+import manifest
+import package_texts
 import shell_texts
 from counting import run_suite
 from installed import CALLS, DEBIAN_PYTHON, EXAMPLES, FILE, HEADER, MAKE, TOP, VERSION, Tree, modules, run, text_of, tree, with_folders
-
-sys.path.insert(0, str(TOP / "packaging"))
-
-import manifest
 
 BLOCK = bytes.fromhex("4d4d002a00000008 0001 0112 0003 00000001 00060000 00000000")
 STRICT = ["-std=c99", "-Wall", "-Wextra", "-pedantic", "-Werror"]

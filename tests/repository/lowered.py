@@ -7,15 +7,11 @@ libraries are built without such a file.
 from __future__ import annotations
 
 import json
-import sys
 from pathlib import Path
 from typing import Any, Iterator, Optional
 
-from paths import TOP
-
-sys.path.insert(0, str(TOP / "build"))
-
 from crates import Crates, below
+from paths import TOP
 from store import Store
 
 MAKES = {"px_bytes::memory::Memory::new", "px_bytes::memory::Memory::fresh"}

@@ -9,20 +9,16 @@ import dataclasses
 import email
 import re
 import shutil
-import sys
 import tempfile
 import unittest
 from pathlib import Path
-
-from counting import examples
-from installed import CALLS, DEBIAN_PYTHON, TOP, VERSION, Tree, text_of
-
-sys.path.insert(0, str(TOP / "packaging"))
 
 import command
 import components
 import dist_info
 import grammar
+from counting import examples
+from installed import CALLS, DEBIAN_PYTHON, TOP, VERSION, Tree, text_of
 
 
 class DebianLists(unittest.TestCase):

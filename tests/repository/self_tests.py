@@ -23,6 +23,8 @@ sys.path.insert(0, str(Path(__file__).resolve().parent.parent))
 
 import paths
 import counting
+import crates
+import gate
 import gate_outcomes
 import harness_outcomes
 import judges_outcomes
@@ -37,11 +39,6 @@ from program import Outcome
 from reading import CAUSES, Fault, said
 from run import case_of, complaints_of
 from watching import TIMES, Counts, complaints_of_cost, complaints_of_short_calls, limits_of, reading, says_failed
-
-sys.path.insert(0, str(paths.TOP / "build"))
-
-import crates
-import gate
 
 GOOD = {"name": "a case", "block": "1C0205000141", "refused": "NoMarker at 0"}
 

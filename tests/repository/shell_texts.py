@@ -17,12 +17,9 @@ from hashlib import sha256
 from pathlib import Path
 from shlex import quote
 
+import command
 from installed import EXAMPLES, run
 from paths import TOP
-
-sys.path.insert(0, str(TOP / "packaging"))
-
-import command
 
 # A command with all that a help text may have, in the forms of clap and of argparse: an apostrophe, brackets, colons and a backslash,
 # choices, a number, texts, a file, and no operands, two of them or many.
