@@ -121,16 +121,11 @@ def an_input_that_stays_open(program: str, folder: Path):
 
 
 def a_file_that_may_not_be_read(program: str, folder: Path):
-    """Without permission to read, a file is a failed read; without permission to write, a failed write."""
-    for name in ("secret", "fixed"):
-        (folder / name).write_bytes(ONE)
-        (folder / name).chmod(0o000 if name == "secret" else 0o444)
+    """Without permission to read, a file is a failed read; without permission to write, a failed write. With it, each of these calls succeeds."""
     (folder / "closed").mkdir()
-    (folder / "closed" / "one").write_bytes(ONE)
-    (folder / "closed").chmod(0o000)
-    folder.chmod(0o755)
-    how = {"user": NOBODY, "group": NOBODY} if os.getuid() == 0 else {}
-    for words, line in (
+    for name in ("secret", "fixed", "closed/one", "closed/OUT"):
+        (folder / name).write_bytes(ONE)
+    calls = (
         (["check", "secret"], b"failed: ReadFailed\n"),
         (["show", "secret"], b"failed: ReadFailed\n"),
         (["captions", "secret"], b"failed: ReadFailed\n"),
@@ -140,7 +135,18 @@ def a_file_that_may_not_be_read(program: str, folder: Path):
         (["check", "closed/one"], b"failed: ReadFailed\n"),
         (["normalise", "one", "closed/OUT"], b"failed: WriteFailed\n"),
         (["normalise", "one", "fixed"], b"failed: WriteFailed\n"),
-    ):
+    )
+    names = {str(it.relative_to(folder)) for it in folder.rglob("*")}
+    for words, _ in calls:
+        came = run(program, folder, words)[0]
+        yield f"{words} with permission", (came, set(words[1:]) - names) == (0, set()), (came, names)
+    fill(folder)
+    (folder / "secret").chmod(0o000)
+    (folder / "fixed").chmod(0o444)
+    (folder / "closed").chmod(0o000)
+    folder.chmod(0o755)
+    how = {"user": NOBODY, "group": NOBODY} if os.getuid() == 0 else {}
+    for words, line in calls:
         came = run(program, folder, words, **how)
         left = [(folder / name).read_bytes() for name in ("one", "OUT", "fixed")]
         yield f"{words} as nobody", (came, left) == ((4, line), [ONE, b"old", ONE]), (came, left)
@@ -156,8 +162,8 @@ def links_that_lead_nowhere(program: str, folder: Path):
         (["check", "ahead"], b"failed: ReadFailed\n"),
         (["normalise", "one", "round"], b"failed: WriteFailed\n"),
     ):
-        came = run(program, folder, words)
-        yield f"{words} through a link", came == (4, line), came
+        came, is_link = run(program, folder, words), (folder / words[-1]).is_symlink()
+        yield f"{words} through a link", (came, is_link) == ((4, line), True), (came, is_link)
     came = run(program, folder, ["normalise", "one", "ahead"])
     left = (folder / "made").read_bytes()
     yield "an output through a link", (came, left) == ((0, b""), ONE), (came, left)
@@ -186,9 +192,9 @@ def ways_to_leave_an_output(program: str, folder: Path) -> Iterator[Tuple[str, b
     os.umask(old)
     yield "a new OUT", (folder / "new").stat().st_mode & 0o777 == 0o640, oct((folder / "new").stat().st_mode)
     (folder / "d").mkdir()
-    for name in ("d", "absent/OUT", "one/OUT", ""):
-        came = run(program, folder, ["normalise", "one", name])
-        yield f"OUT is {name or 'no name'}", came == (4, b"failed: WriteFailed\n"), came
+    for name, is_below in (("d", True), ("absent/OUT", False), ("one/OUT", True), ("", True)):
+        came, is_there = run(program, folder, ["normalise", "one", name]), (folder / name.split("/")[0]).exists()
+        yield f"OUT is {name or 'no name'}", (came, is_there) == ((4, b"failed: WriteFailed\n"), is_below), (came, is_there)
 
 
 def devices() -> Dict[str, Tuple[int, int]]:
