@@ -52,7 +52,7 @@ def canonical(root):
 
 def main(seed, count):
     counts = Counter()
-    differ, classes = [], {}
+    differ, pairs = [], set()
     for number, packet in enumerate([PACKET.encode(), *packets(seed, count)]):
         try:
             root = rdf_of(packet)
@@ -69,11 +69,9 @@ def main(seed, count):
             if own != by_other:
                 differ.append(packet.decode("utf-8", "replace"))
         if by_other[1] and number % 4 == 0:
-            classes.setdefault(by_other[0], set()).add(canonical(root))
-    by_form = Counter(form for forms in classes.values() for form in forms)
-    counts["compared by canonical graphs"] = sum(by_form.values())
-    wrong = sum(len(it) > 1 for it in classes.values()) + sum(it > 1 for it in by_form.values())
-    print(json.dumps({"counts": counts, "differ": differ[:3], "canonical_graphs_differ": wrong}))
+            pairs.add((by_other[0], canonical(root)))
+    digests, graphs = {digest for digest, _ in pairs}, {graph for _, graph in pairs}
+    print(json.dumps({"counts": counts, "differ": differ[:3], "pairs": len(pairs), "digests": len(digests), "graphs": len(graphs)}))
 
 
 if __name__ == "__main__":

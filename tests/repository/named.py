@@ -169,8 +169,10 @@ class Named(unittest.TestCase):
 
     def test_each_part_of_the_gate(self):
         parts = set(re.findall(r"^Part: (.*)$", (TOP / "tests" / "parts.txt").read_text(encoding="utf-8"), re.M))
-        found = [names for path in DOCUMENTS for names in re.findall(r"TEST_PARTS=[\"']?([\w ]+?)[\"']? \./test", path.read_text(encoding="utf-8"))]
+        text = "\n".join(it.read_text(encoding="utf-8") for it in DOCUMENTS)
+        found = re.findall(r"TEST_PARTS=[\"']?([\w ]+?)[\"']? \./test", text)
         self.assertLessEqual(set(" ".join(found).split()), parts)
+        self.assertEqual(len(found), text.count("TEST_PARTS="), "each of them is read")
         self.assertGreater(len(found), 3)
 
     @at_least(110)
@@ -201,4 +203,4 @@ class Named(unittest.TestCase):
             crate = other or crate
             if name:
                 is_word = any(name in words_of(it) for it in sources() if crate == "px_*" or crate in it.parts)
-                self.assertTrue(is_there(name, crate) or is_there(f"specs/{name}", crate) or ("." not in name and is_word), f"{crate}: {name}")
+                self.assertTrue(is_there(name, crate) or ("." not in name and is_word), f"{crate}: {name}")
