@@ -92,14 +92,15 @@ class Tables(WithPictures):
                     self.assertEqual((found, counts), ({} if expected == "same" and not every else {"p": expected}, {expected: 1}))
 
     def test_both_sides_of_a_kind(self):
+        refused = {EXIF: "!Overlap"}
         cases = [
             ({"parts": [KNOWN]}, {"parts": [KNOWN]}, "same"),
             ({"parts": [KNOWN]}, {"parts": [OTHER]}, "not wholly read"),
             ({"parts": [UNKNOWN]}, {"parts": [UNKNOWN]}, "not wholly read"),
-            ({"blocks": {EXIF: "!Overlap"}}, {"blocks": {EXIF: "!Overlap"}}, "refused, the same bytes"),
-            ({"blocks": {EXIF: "!Overlap"}}, {"blocks": {EXIF: "!Doubled"}}, "refused"),
+            ({"blocks": refused}, {"blocks": refused}, "refused, the same bytes"),
+            ({"blocks": refused}, {"blocks": {EXIF: "!Doubled"}}, "refused"),
             ({"blocks": {XMP: "!NoRDF"}}, {"blocks": {XMP: "!NotText"}}, "unreadable"),
-            ({"blocks": {EXIF: "!Overlap", IPTC: "i"}}, {"blocks": {EXIF: "!Overlap", IPTC: "j"}}, "different"),
+            ({"blocks": {**refused, IPTC: "i"}}, {"blocks": {**refused, IPTC: "j"}}, "different"),
             ({"blocks": {}}, {"blocks": {}}, "same"),
             ({"problem": "NoPicture"}, {"problem": "NoPicture"}, "same"),
             ({"problem": "Unreadable"}, {"problem": "Unreadable"}, "not read"),

@@ -138,8 +138,11 @@ def a_file_that_may_not_be_read(program: str, folder: Path):
     )
     names = {str(it.relative_to(folder)) for it in folder.rglob("*")}
     for words, _ in calls:
-        came = run(program, folder, words)[0]
-        yield f"{words} with permission", (came, set(words[1:]) - names) == (0, set()), (came, names)
+        if words[0] == "normalise":
+            (folder / words[2]).write_bytes(b"old")
+        status, output = run(program, folder, words)
+        is_done = (folder / words[2]).read_bytes() == ONE if words[0] == "normalise" else output != b""
+        yield f"{words} with permission", (status, is_done, set(words[1:]) - names) == (0, True, set()), (status, is_done, names)
     fill(folder)
     (folder / "secret").chmod(0o000)
     (folder / "fixed").chmod(0o444)
