@@ -60,7 +60,13 @@ def named(kind: Any) -> str:
 
 def whole(value: Any, known: dict[int, int]) -> int:
     """The parameter that a value is, or is a reference to, whole; 0 where it is none. Where a slice is borrowed again its start is
-    borrowed, which is the parameter with a minus, and then its length is added."""
+    borrowed, which is the parameter with a minus, and then its length is added.
+
+    >>> [whole({"Copy": {"local": it, "steps": []}}, {7: 2}) for it in (7, 8)]
+    [2, 0]
+    >>> [whole({"AddrOf": {"local": 7, "steps": it}}, {7: 2}) for it in (["Deref"], [{"Field": 0}, "Deref"], [{"Field": 0}], [{"Field": 1}, "Deref"])]
+    [2, -2, 0, 0]
+    """
     if isinstance(value, dict) and "Aggregate" in value:
         start, length = (value["Aggregate"] + [{}, {}])[:2]
         slice_of = -whole(start, known)
