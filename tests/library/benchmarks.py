@@ -22,7 +22,7 @@ from unittest import mock
 sys.dont_write_bytecode = True
 sys.path.insert(0, str(Path(__file__).resolve().parent.parent))
 
-from paths import TESTS, TOP
+from paths import TOP
 from checks import require, require_equal
 from counting import Counter
 from library import need, run, tests_of
@@ -31,7 +31,6 @@ PEERS = TOP / "bench" / "peers"
 STRICT = ["-Wall", "-Wextra", "-Werror", "-fsyntax-only", f"-I{TOP / 'crates' / 'px_c' / 'include'}"]
 C99 = ["cc", "-std=c99", "-D_POSIX_C_SOURCE=200809L", *STRICT]
 CPP = ["c++", "-std=c++11", *STRICT]
-COUNTING = ["-DCOUNTS_MEMORY", f"-I{TESTS / 'library' / 'fuzz'}"]
 
 # What the drivers use of libraries that need not be installed, as their headers declare it.
 STUBS = {
@@ -163,16 +162,15 @@ class Benchmarks:
             path = self.room / "stubs" / name
             path.parent.mkdir(parents=True, exist_ok=True)
             path.write_text(f"#pragma once\n{text}", encoding="utf-8")
-        stubs, limits = f"-I{self.room / 'stubs'}", sorted((PEERS / "limits").glob("*.c"))
-        for words in (
-            [*C99, PEERS / "exifnorm.c"],
-            [*C99, *COUNTING, PEERS / "exifnorm.c"],
-            [*C99, PEERS / "plain_c.c", *limits],
-            [*C99, *COUNTING, "-DWAY=BY_OFFSETS", PEERS / "plain_c.c"],
-            [*C99, stubs, PEERS / "libexif.c", PEERS / "libiptcdata.c"],
-            [*CPP, stubs, PEERS / "exiv2.cpp"],
-        ):
-            run(*map(str, words))
+        stubs, drivers = f"-I{self.room / 'stubs'}", load("peers/drivers.py")
+        with mock.patch.object(drivers, "must_compile") as own:
+            drivers.own_drivers(self.room, Path(self.library))
+        calls = [it.args for it in own.call_args_list]
+        require(len({str(it[:-2]) for it in calls}) == 6, "three drivers, each also with its memory counted, but for the names of the outputs")
+        for words in calls:
+            run(*map(str, words), *STRICT)
+        run(*map(str, [*C99, stubs, PEERS / "libexif.c", PEERS / "libiptcdata.c"]))
+        run(*map(str, [*CPP, stubs, PEERS / "exiv2.cpp"]))
 
     def race_the_library_and_plain_c(self) -> None:
         words = ["peers/run.py", self.library, self.program, "--rounds", "1", "--seconds", "0.001", "--only"]
