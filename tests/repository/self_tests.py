@@ -22,6 +22,7 @@ sys.dont_write_bytecode = True
 sys.path.insert(0, str(Path(__file__).resolve().parent.parent))
 
 import paths
+import checks
 import counting
 import crates
 import gate
@@ -40,6 +41,7 @@ from reading import CAUSES, Fault, said
 from run import case_of, complaints_of
 from watching import TIMES, Counts, complaints_of_cost, complaints_of_short_calls, limits_of, reading, says_failed
 
+OF_COUNTING = (13, 105)  # the tests of counting.py and their checks: raise them with each new one
 GOOD = {"name": "a case", "block": "1C0205000141", "refused": "NoMarker at 0"}
 
 
@@ -444,8 +446,10 @@ def main() -> int:
         print(f"{harness_outcomes.PROGRAM.relative_to(paths.TOP)} is missing: `rt ci` builds it\n0 passed, 1 failed")
         return 1
     # counting.py, which counts all others, is judged by unittest alone
-    if not unittest.TextTestRunner(stream=sys.stdout).run(loaded(harness_outcomes.Counting)).wasSuccessful():
-        print("0 passed, 1 failed")
+    with checks.Made() as made:
+        judged = unittest.TextTestRunner(stream=sys.stdout).run(loaded(harness_outcomes.Counting))
+    if not judged.wasSuccessful() or (judged.testsRun, made.number) != OF_COUNTING:
+        print(f"of counting.py {judged.testsRun} tests made {made.number} checks, and not {OF_COUNTING}\n0 passed, 1 failed")
         return 1
     others = (gate_outcomes, harness_outcomes, judges_outcomes, mutations_outcomes, products_outcomes)
     return counting.run_suite(unittest.TestSuite(map(loaded, (sys.modules[__name__], *others))))
