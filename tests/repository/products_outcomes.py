@@ -319,9 +319,9 @@ class Limits(unittest.TestCase):
         ])  # fmt: skip
 
     def test_instructions_of_a_form(self):
-        """At most 242 for each of 26 bytes, 1.11 of many values and 0.65 of a long one, and at least half as many."""
-        limits = {26: 242, 1_012_014: 1.11, 1_048_602: 0.65}
-        for wrong, times in ((0, 0.99), (26, 1.01), (1_012_014, 1.01), (1_048_602, 1.01), (26, 0.49)):
+        """At most 205 for each of 26 bytes, 1.11 of many values, 0.65 of a long one and 19.6 of strips, and at least half as many."""
+        limits = {26: 205, 1_012_014: 1.11, 1_048_602: 0.65, 450_056: 19.6}
+        for wrong, times in ((0, 0.99), (26, 1.01), (1_012_014, 1.01), (1_048_602, 1.01), (450_056, 1.01), (26, 0.49)):
             seen = []
 
             def counted(call, block, wrong=wrong, times=times, seen=seen):
@@ -331,7 +331,7 @@ class Limits(unittest.TestCase):
             with mock.patch.object(self.it, "_instructions", counted), mock.patch.object(costs.shutil, "which", lambda _: "is there"):
                 with self.assertRaisesRegex(AssertionError, "lower the limit" if times < 0.5 else "and not") if wrong else contextlib.nullcontext():
                     self.it.are_few_instructions_for_each_byte_of_a_form()
-            self.assertEqual((seen[-1][1], {it for it, _ in seen}), (wrong or 1_048_602, {"normalise"}))
+            self.assertEqual((seen[-1][1], {it for it, _ in seen}), (wrong or 450_056, {"normalise"}))
 
     def test_instructions_of_another_order(self):
         for times, is_well in ((1.29, True), (1.31, False)):
