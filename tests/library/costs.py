@@ -20,6 +20,9 @@ HERE = os.path.dirname(os.path.abspath(__file__))
 ITEM, FEW, COUNTERS = 24, 64, 4 * 65536
 SMALL, SLACK = 1024, 1.03  # bytes of small lists; 3 % more than is allocated now
 LONG = 300_000  # DataSets
+COUNTED = 50_000  # strips whose instructions are counted
+# The instructions for a strip at most, in the usual order and in others: an eighth more than now.
+STRIP = {"check": (17, 75), "normalise": (181, 239), "compare": (150, 265)}
 SAME, SORTED = 1.3, 3.0  # how often the instructions of the usual order an unusual one takes, and one that has to be sorted
 OCTETS = b"octets 1"
 PIECE = 8192  # bytes of the output buffer
@@ -138,10 +141,16 @@ class Costs:
         blocks = {"usual": laid(fields, Layout("<")), "shuffled": laid(fields, Layout("<", shuffled=True))}
         self._keep_to_instructions(blocks, {"check": SAME, "normalise": SAME})
 
-    def are_like_the_usual_order_of_strips(self) -> None:
-        """Strips in the usual order are judged by one look at their whole span, and others one by one."""
-        blocks = {"usual": strips(1, 50_000), "descending": strips(-1, 50_000), "random": strips(0, 50_000)}
-        self._keep_to_instructions(blocks, {"check": 3.2, "normalise": SAME, "compare": 1.7})
+    def are_few_instructions_for_each_strip(self) -> None:
+        """Strips in the usual order are judged by one look at their whole span, and others one by one. A limit that is more than twice what a
+        strip takes would notice no slower body."""
+        self._need_valgrind()
+        for name, order in (("ascending", 1), ("descending", -1), ("random", 0)):
+            block = strips(order, COUNTED)
+            for call, limits in STRIP.items():
+                most, each = limits[name != "ascending"], self._instructions(call, block) / COUNTED
+                require(each <= most, f"{call} of strips in {name} order: {each:.1f} instructions for each, and not {most}")
+                require(each >= most / 2, f"{call} of strips in {name} order: {each:.1f} instructions for each: lower the limit of {most}")
 
     def are_like_the_usual_order_of_groups(self) -> None:
         names = list(orders.ascending(orders.ALL))

@@ -308,15 +308,33 @@ class Limits(unittest.TestCase):
         sorts = {"check": 1.0, "normalise": 3.0, "captions": 3.0, "compare": 3.0}
         few = [({"usual", "descending", "random"}, {"check": 1.0, "normalise": 3.0})] * 5
         seen = []
-        patches = {"strips": lambda *_: b"", "iim": lambda _: b"", "laid": lambda *_: b""}
+        patches = {"iim": lambda _: b"", "laid": lambda *_: b""}
         with mock.patch.multiple(costs, **patches), mock.patch.object(self.it, "_keep_to_instructions", lambda blocks, most: seen.append((set(blocks), most))):
-            for name in ("values", "strips", "groups", "few_groups", "random_records"):
+            for name in ("values", "groups", "few_groups", "random_records"):
                 getattr(self.it, f"are_like_the_usual_order_of_{name}")()
         self.assertEqual(seen, [
             ({"usual", "shuffled"}, {"check": 1.3, "normalise": 1.3}),
-            ({"usual", "descending", "random"}, {"check": 3.2, "normalise": 1.3, "compare": 1.7}),
             ({"usual", "descending", "random"}, sorts), *few, ({"usual", "random"}, sorts),
         ])  # fmt: skip
+
+    def test_instructions_of_a_strip(self):
+        """At most so many for each strip in the usual order, and in each other one, and at least half as many."""
+        limits = {"check": (17, 75), "normalise": (181, 239), "compare": (150, 265)}
+        calls = [(order, call) for order in (1, -1, 0) for call in limits]
+        for wrong in (None, *calls):
+            for times in (1.01, 0.49) if wrong else (0.99,):
+                seen = []
+
+                def counted(call, block, wrong=wrong, times=times, seen=seen):
+                    seen.append((int(block), call))
+                    return 50_000 * limits[call][int(block) != 1] * (times if wrong in (None, seen[-1]) else 0.9)
+
+                counts = mock.patch.object(self.it, "_instructions", counted), mock.patch.object(costs.shutil, "which", lambda _: "is there")
+                blocks = mock.patch.object(costs, "strips", lambda order, count: str(order).encode() if count == 50_000 else b"")
+                with counts[0], counts[1], blocks:
+                    with self.assertRaisesRegex(AssertionError, "and not" if times > 1 else "lower the limit") if wrong else contextlib.nullcontext():
+                        self.it.are_few_instructions_for_each_strip()
+                self.assertEqual(seen, calls[: calls.index(wrong) + 1] if wrong else calls)
 
     def test_instructions_of_a_form(self):
         """At most 205 for each of 26 bytes, 1.11 of many values, 0.65 of a long one and 19.6 of strips, and at least half as many."""
