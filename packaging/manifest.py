@@ -146,7 +146,7 @@ def uninstall(root: Path, listed: str) -> None:
 
 
 def main(words: list[str]) -> int:
-    if len(words) != {"install": 4, "uninstall": 3}.get(words[0] if words else "", 0):
+    if not words or len(words) != {"install": 4, "uninstall": 3}.get(words[0]):
         sys.exit(__doc__)
     *places, listed = words[1:]
     name = os.path.normpath(listed).lstrip("/")

@@ -190,8 +190,10 @@ def nothing_is_written_where_all_is_built(room: Room) -> None:
 
 def a_crate_of_another_name_is_an_error(room: Room) -> None:
     ran = room.prove("px_none")
-    require(ran.returncode == 1, ran)
-    require("px_none" in ran.stderr, ran)
+    require_equal((ran.returncode, ran.stderr), (1, "exifnorm: crates.txt names no crate px_none\n"), ran)
+    for words in ((), ("px_cli", "px_c")):
+        ran = room.call(str(room.top / "build/prove.py"), *words, program=sys.executable)
+        require_equal((ran.returncode, ran.stderr), (1, f"{prove.__doc__}\n"), ran)
     require(not (room.top / "out").exists(), ran)
 
 

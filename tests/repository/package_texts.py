@@ -14,9 +14,12 @@ import unittest
 from pathlib import Path
 
 import command
+import completions
 import components
 import dist_info
 import grammar
+import header
+import manifest
 from counting import examples
 from installed import CALLS, DEBIAN_PYTHON, TOP, VERSION, Tree, text_of
 
@@ -201,3 +204,19 @@ class Versions(unittest.TestCase):
         texts = (it for it in places if it.is_file() and it.suffix not in (".pyc", ".so"))
         found = [str(it.relative_to(TOP)) for it in texts if re.search(rf"(?<![\d.]){re.escape(VERSION)}(?![\d.]\d)", it.read_text("utf-8"))]
         self.assertEqual(sorted(found), known)
+class Scripts(unittest.TestCase):
+    """The scripts of packaging/ by themselves."""
+
+    # Calls with too few or too many arguments, or with unknown ones.
+    WRONG = {command: ("a", "a b c d"), completions: ("a b c", "a b c d e"), components: ("a b c d", "a b c d e f"), dist_info: ("a", "a b c"),
+             header: ("a", "--check --check"), manifest: ("", "a", "install a b", "install a b c d", "uninstall a", "uninstall a b c", "remove a b")}  # fmt: skip
+
+    def test_wrong_arguments_are_answered_by_the_right_ones(self) -> None:
+        for module, calls in self.WRONG.items():
+            self.assertIn(f"\n  {'PYTHON ' * (module is command)}packaging/{module.__name__}.py", module.__doc__)
+            for words in calls:
+                with self.subTest(module.__name__, words=words), self.assertRaises(SystemExit) as caught:
+                    module.main(words.split())
+                self.assertEqual(caught.exception.code, module.__doc__)
+
+
