@@ -24,6 +24,26 @@ from counting import examples
 from installed import CALLS, DEBIAN_PYTHON, TOP, VERSION, Tree, text_of
 
 
+CHECKS = "libexifnorm checks blocks of Exif and IPTC-NAA IIM metadata in memory, lists their fields, compares them, and writes their normal form."
+# The paragraphs of each package's description, whatever their lines are.
+DESCRIPTIONS = {
+    "exifnorm": [
+        "Two pictures can have the same metadata and differ in nearly every byte. exifnorm checks a block of Exif or IPTC-NAA IIM metadata, lists its"
+        " fields, and writes its normal form: two blocks that mean the same have the same normal form, byte for byte.",
+        "This is proved. The program opens no picture file: it reads blocks from files or from standard input. It never repairs a block."],
+    "libexifnorm1": [f"{CHECKS} Its calls are proved, keep no state, and may be used by any number of threads.", "This package has the shared library."],
+    "libexifnorm-dev": [CHECKS, "This package has the header, the static library, the file for pkg-config and the manual page."],
+    "python3-exifnorm": [
+        "The package exifnorm calls libexifnorm. It checks blocks of Exif and IPTC-NAA IIM metadata, returns their fields and captions as Python"
+        " objects, compares them, and returns their normal form and digests of it."],
+    "exifnorm-pictures": [
+        "exifnorm-pictures keeps a catalogue of the metadata of many pictures. It lists groups of pictures with the same metadata, reports what"
+        " changed since an earlier catalogue, explains why a block is refused, and writes copies whose blocks are accepted.",
+        "That the normal forms of Exif and IPTC blocks have their meaning is proved; the comparison of XMP is tested, and not proved."
+        " ExifTool extracts the blocks of formats that the package doesn't read itself."],
+}  # fmt: skip
+
+
 class DebianLists(unittest.TestCase):
     """Which package gets each installed file by debian/*.install. No package is built."""
 
@@ -48,6 +68,9 @@ class DebianLists(unittest.TestCase):
         "share/zsh/vendor-completions/_exifnorm-pictures": "exifnorm-pictures",
     }
 
+    # Of the source package, by the names of Debian's policy (5.2).
+    SOURCE = {"Source": "exifnorm", "Section": "graphics", "Priority": "optional", "Maintainer": "exifnorm maintainers <maintainers@exifnorm.invalid>",
+              "Build-Depends": "debhelper-compat (= 13), dh-python, python3:any", "Standards-Version": "4.6.2", "Rules-Requires-Root": "no"}  # fmt: skip
     # What the packages depend on. By Debian's policy, what is compiled is built for each architecture and depends on the libraries that it
     # is linked with, and packages of a library can be installed for several architectures.
     NEEDS = "${misc:Depends}, ${shlibs:Depends}"
@@ -70,9 +93,22 @@ class DebianLists(unittest.TestCase):
         blocks = [block, f"{block} - shared library", f"{block} - development files", f"{block} - Python package"]
         self.assertEqual(synopses, [*blocks, "find pictures with the same Exif, IPTC and XMP metadata"])
         self.assertEqual({it.pop("Package"): it for it in fields if it.pop("Description")}, self.FIELDS)
-        self.assertEqual((source["Source"], source["Section"], source["Rules-Requires-Root"]), ("exifnorm", "graphics", "no"))
-        self.assertEqual(source["Build-Depends"], "debhelper-compat (= 13), dh-python, python3:any")
+        self.assertEqual(dict(source), self.SOURCE)
         self.assertEqual(text_of("debian", "source", "format"), "3.0 (quilt)\n")
+
+    def test_copyright_file(self) -> None:
+        """Its form is Debian's, it names the foreign crates that crates.txt has, and the Apache License is where Debian's policy (12.5) has it."""
+        head, *_, apache = text_of("debian", "copyright").split("\n\n")
+        fields = email.message_from_string(head)
+        self.assertEqual(fields.keys(), ["Format", "Upstream-Name", "Comment"])
+        self.assertEqual((fields["Format"], fields["Upstream-Name"]), ("https://www.debian.org/doc/packaging-manuals/copyright-format/1.0/", "exifnorm"))
+        lines = [it.partition("#")[0].partition(":")[2].split() for it in text_of("crates.txt").splitlines()]
+        *used, last = sorted({it for line in lines for it in line if not it.startswith("px_")})
+        self.assertEqual(" ".join(fields["Comment"].split()),
+                         "The program and the libraries are linked with crates of the Rattle toolchain, which are no part of these sources: ports of"
+                         f" {', '.join(used)} and {last}, and its standard library. exifnorm.spdx.json of `make dist` lists them.")  # fmt: skip
+        text = "On Debian systems, the full text of the Apache License version 2.0 is in\n /usr/share/common-licenses/Apache-2.0."
+        self.assertEqual(apache, f"License: Apache-2.0\n {text}\n")
 
     def test_descriptions_use_the_words_of_the_documents(self) -> None:
         """So a word that is wrong by a letter is found."""
@@ -83,10 +119,15 @@ class DebianLists(unittest.TestCase):
         self.assertGreater(len(words), 60)
         self.assertEqual(words - known, set())
 
+    def test_descriptions_are_whole(self) -> None:
+        fields = [email.message_from_string(it) for it in text_of("debian", "control").split("\n\n")[1:]]
+        texts = {it["Package"]: it["Description"].partition("\n")[2].split("\n .\n") for it in fields}
+        self.assertEqual({name: [" ".join(it.split()) for it in text] for name, text in texts.items()}, DESCRIPTIONS)
+
     def test_licence_is_that_of_the_sources(self) -> None:
         licence = re.sub(r"^ \.?", "", text_of("debian", "copyright"), flags=re.MULTILINE).partition("License: Expat\n")[2].partition("\nLicense:")[0]
         self.assertEqual(licence.split(), text_of("LICENSE-MIT").partition("authors\n")[2].split())
-        self.assertIn("Copyright: 2026 the exifnorm authors\nLicense: Expat or Apache-2.0\n", text_of("debian", "copyright"))
+        self.assertIn("\nFiles: *\nCopyright: 2026 the exifnorm authors\nLicense: Expat or Apache-2.0\n\n", text_of("debian", "copyright"))
 
     def setUp(self) -> None:
         lists = [(it.stem, it) for it in sorted((TOP / "debian").glob("*.install"))] + [("nobody", TOP / "debian/not-installed")]
@@ -110,6 +151,8 @@ class DebianLists(unittest.TestCase):
             self.assertEqual(self.owners(f"usr/{name}"), [package], name)
 
     def test_the_symbols_are_the_calls_of_the_header(self) -> None:
+        head = text_of("debian", "libexifnorm1.symbols").splitlines()[:2]
+        self.assertEqual(head, ["libexifnorm.so.1 libexifnorm1 #MINVER#", "* Build-Depends-Package: libexifnorm-dev"])  # deb-symbols(5)
         found = re.findall(r"^ (\S+)@EXIFNORM_1 (\S+)$", text_of("debian", "libexifnorm1.symbols"), re.MULTILINE)
         self.assertEqual(sorted(name for name, _ in found), ["EXIFNORM_1", *CALLS])
         self.assertLessEqual({version for _, version in found}, set(re.findall(r"^## (\S+)$", text_of("CHANGELOG.md"), re.MULTILINE)))
@@ -187,6 +230,22 @@ class Components(unittest.TestCase):
             examples(it)
 
 
+class Scripts(unittest.TestCase):
+    """The scripts of packaging/ by themselves."""
+
+    # Calls with too few or too many arguments, or with unknown ones.
+    WRONG = {command: ("a", "a b c d"), completions: ("a b c", "a b c d e"), components: ("a b c d", "a b c d e f"), dist_info: ("a", "a b c"),
+             header: ("a", "--check --check"), manifest: ("", "a", "install a b", "install a b c d", "uninstall a", "uninstall a b c", "remove a b")}  # fmt: skip
+
+    def test_wrong_arguments_are_answered_by_the_right_ones(self) -> None:
+        for module, calls in self.WRONG.items():
+            self.assertIn(f"\n  {'PYTHON ' * (module is command)}packaging/{module.__name__}.py", module.__doc__)
+            for words in calls:
+                with self.subTest(module.__name__, words=words), self.assertRaises(SystemExit) as caught:
+                    module.main(words.split())
+                self.assertEqual(caught.exception.code, module.__doc__)
+
+
 class Versions(unittest.TestCase):
     """Each file that repeats the version has that of crates/px_engine/src/version.rt."""
 
@@ -204,19 +263,3 @@ class Versions(unittest.TestCase):
         texts = (it for it in places if it.is_file() and it.suffix not in (".pyc", ".so"))
         found = [str(it.relative_to(TOP)) for it in texts if re.search(rf"(?<![\d.]){re.escape(VERSION)}(?![\d.]\d)", it.read_text("utf-8"))]
         self.assertEqual(sorted(found), known)
-class Scripts(unittest.TestCase):
-    """The scripts of packaging/ by themselves."""
-
-    # Calls with too few or too many arguments, or with unknown ones.
-    WRONG = {command: ("a", "a b c d"), completions: ("a b c", "a b c d e"), components: ("a b c d", "a b c d e f"), dist_info: ("a", "a b c"),
-             header: ("a", "--check --check"), manifest: ("", "a", "install a b", "install a b c d", "uninstall a", "uninstall a b c", "remove a b")}  # fmt: skip
-
-    def test_wrong_arguments_are_answered_by_the_right_ones(self) -> None:
-        for module, calls in self.WRONG.items():
-            self.assertIn(f"\n  {'PYTHON ' * (module is command)}packaging/{module.__name__}.py", module.__doc__)
-            for words in calls:
-                with self.subTest(module.__name__, words=words), self.assertRaises(SystemExit) as caught:
-                    module.main(words.split())
-                self.assertEqual(caught.exception.code, module.__doc__)
-
-
