@@ -339,6 +339,8 @@ def told(code: str, packages: str = PACKAGES, **environment: str) -> str:
     return ran.stdout.strip() or ran.stderr.strip()[-300:]
 
 
+# What a user without the library can do.
+HELP = "Build and install it with `make install` in exifnorm's sources, or name it by the environment's EXIFNORM_LIBRARY"
 SAYS_VERSION = "import exifnorm\ntry: print(exifnorm.version())\nexcept exifnorm.LibraryMissing as why: print('missing:', why)"
 
 
@@ -370,8 +372,8 @@ def places_of_the_library(counter: Counter) -> None:
     wrong = "/no/such/libexifnorm.so.1"
     for packages in (alone, beside):
         came = told(SAYS_VERSION, packages, EXIFNORM_LIBRARY=wrong, **system)
-        counter.check("a variable that names no file", came.startswith("missing:"), came)
-        counter.check("a variable that names no file: which", f"tried: {wrong} (there is no such file). " in came, came)
+        counter.check("a variable that names no file", came.startswith("missing: the library libexifnorm.so.1 can't be loaded; tried: "), came)
+        counter.check("a variable that names no file: which", came.endswith(f"; tried: {wrong} (there is no such file). {HELP}"), came)
     came = told(SAYS_VERSION, broken, EXIFNORM_LIBRARY="")
     counter.check("no place serves", came.startswith("missing:"), came)
     for it in (os.path.join(broken, "exifnorm", "libexifnorm.so.1"), "; libexifnorm.so.1 (", "EXIFNORM_LIBRARY", "make install"):

@@ -393,7 +393,7 @@ def a_crate_that_is_changed_while_it_is_proved_is_proved_again(room: Room) -> No
     room.let_go("px_bytes")
     out, why = started.communicate(timeout=300)
     require(out == "one: a\n", (out, why))
-    require("changed during the build" in why, (out, why))
+    require("left)\nexifnorm: a source was changed during the build: building again\nexifnorm: proving" in why, (out, why))
     require(sorted(room.built()) == sorted(2 * ["px_bytes", "px_cli", "px_field", "px_iim"]), room.log())
     require(store_of(room).is_current("px_cli"), "it is not built of the new text")
 
@@ -404,13 +404,15 @@ def a_crate_that_changes_in_each_build_is_an_error(room: Room) -> None:
     room.command(room.folder / "link", '#!/bin/sh\nwhile [ "$1" != -o ]; do shift; done\ncp "$3" "$2" && chmod +x "$2"\n')
     ran = room.call("a")
     require_equal((ran.returncode, ran.stdout, room.builds()), (70, "", 2), (ran, room.log()))
-    require("changed" in ran.stderr, (ran, room.log()))
+    again = "a source was changed during the build again: call again when the sources are as they should be"
+    require(ran.stderr.endswith(f" left)\nexifnorm: {again}\n"), (ran, room.log()))
 
 
 def a_proof_that_is_killed_is_tried_again_with_one_job(room: Room) -> None:
     (room.folder / "killed-px_iim").touch()
     require(room.call("a").stdout == "one: a\n", room.log())
-    require("once more, with one job" in (room.top / "out/build-px_iim.log").read_text(), "the log doesn't mention it")
+    log = (room.top / "out/build-px_iim.log").read_text()
+    require_equal(log.splitlines()[0], "the check was killed, most likely for memory: once more, with one job", log)
     asked = [it for it in (room.folder / "asked").read_text().splitlines() if "--crate-name px_iim" in it]
     require_equal(["--jobs 4" in asked[0], "--jobs 1" in asked[1], len(asked)], [True, True, 2], asked)
     room.main.write_text("two")
@@ -483,6 +485,8 @@ def one_build_at_a_time(room: Room) -> None:
     require([it.communicate(timeout=300)[0] for it in started] == [f"one: {it}\n" for it in range(5)], said)
     require_equal((room.builds(), len(room.built())), (1, 4), room.log())
     require([it.returncode for it in started] == [0] * 5, started)
+    for it in sorted(it.read_text() for it in said)[:4]:
+        require(it.endswith("exifnorm: another build proves these crates: waiting for it\n"), it)
 
 
 def a_build_without_the_launcher_is_stopped_too(room: Room) -> None:

@@ -8,7 +8,9 @@ The program and the library have to be built: `make`. Each test that fails has a
 
 from __future__ import annotations
 
+import contextlib
 import email
+import io
 import os
 import re
 import shutil
@@ -42,8 +44,6 @@ Version: VERSION
 Libs: -L${libdir} -lexifnorm
 Cflags: -I${includedir}
 """
-
-
 # By the core metadata's specification, with classifiers of PyPI's list. Python 3.9 is the oldest one in which the packages run.
 METADATA = [
     ("Metadata-Version", "2.1"), ("Name", "exifnorm"), ("Version", "VERSION"),
@@ -52,6 +52,8 @@ METADATA = [
     ("Classifier", "Operating System :: POSIX :: Linux"), ("Classifier", "Programming Language :: Python :: 3"),
     ("Classifier", "Topic :: Multimedia :: Graphics"), ("Classifier", "Typing :: Typed"), ("Requires-Python", ">=3.9"),
 ]  # fmt: skip
+
+
 class Shared:
     """An installation that several tests use. It is made when the first of them needs it."""
 
@@ -525,7 +527,7 @@ class Uninstall(unittest.TestCase):
 
     def test_removal_where_nothing_is_installed_fails(self) -> None:
         said = run("make", "uninstall", f"DESTDIR={self.it.root}", "PREFIX=/usr", status=2)
-        self.assertIn("nothing is installed there", said)
+        self.assertIn(f"exifnorm: uninstall: nothing is installed there: there is no list {self.it.root}/usr/share/exifnorm/installed\n", said)
 
 
 class Manifest(unittest.TestCase):
@@ -588,6 +590,18 @@ class Manifest(unittest.TestCase):
         self.assertIn("usr/lib/a.py", self.names())
         manifest.uninstall(self.root, self.LIST)
         self.assertEqual(set(tree(self.root)), {"usr/", "usr/lib/", "usr/lib/old/", "usr/lib/old/deep/", "usr/lib/old/deep/b/"})
+
+    def test_what_a_caller_reads_about_a_failure(self) -> None:
+        (self.root / "usr/lib/a.py").mkdir(parents=True)
+        for words, why in (
+            (["install", str(self.stage), str(self.root), self.LIST], f"install: {self.root}/usr/lib/a.py is a folder"),
+            (["uninstall", str(self.later), self.LIST], f"uninstall: nothing is installed there: there is no list {self.later}/{self.LIST}"),
+            (["install", str(self.root / "nothing"), str(self.root), self.LIST],
+             f"install: [Errno 2] No such file or directory: '{self.root}/nothing'"),
+        ):  # fmt: skip
+            with contextlib.redirect_stderr(io.StringIO()) as said:
+                status = manifest.main(words)
+            self.assertEqual((status, said.getvalue()), (1, f"exifnorm: {why}\n"))
 
     def test_a_file_that_is_in_use_keeps_its_bytes(self) -> None:
         manifest.install(self.stage, self.root, self.LIST)

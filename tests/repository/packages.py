@@ -177,7 +177,7 @@ class Wheel(unittest.TestCase):
         shutil.rmtree(copy / "out/lib")
         words = ["--no-index", "--no-build-isolation", "--no-deps", "--disable-pip-version-check", "-w", ROOM, copy / "python"]
         said = run(DEBIAN_PYTHON, "-m", "pip", "wheel", *words, folder=ROOM, status=1)
-        self.assertIn("run `make` first", said)
+        self.assertIn(f"{copy.resolve()}/out/lib/libexifnorm.so.1 is missing: run `make` first, which builds it\n", said)
 
 
 class Debian(unittest.TestCase):
