@@ -250,6 +250,8 @@ class PartsOfBlocks(unittest.TestCase):
         octets = bytes(range(0x10, 0x90))
         for place in (0, 15, 16, 40, 79, 127, 128, 200):
             self.assertEqual(layout.hexadecimal(octets, place), dump(octets, place), place)
+        for length in (17, 64, 65):  # the last row of a block may have one byte
+            self.assertEqual(layout.hexadecimal(octets[:length], length - 1), dump(octets[:length], length - 1), length)
         self.assertEqual(layout.hexadecimal(octets[:40], 33), [
             "00000000  10 11 12 13 14 15 16 17 18 19 1a 1b 1c 1d 1e 1f   ................",
             '00000010  20 21 22 23 24 25 26 27 28 29 2a 2b 2c 2d 2e 2f    !"#$%&\'()*+,-./',

@@ -571,11 +571,14 @@ class Opened(WithPictures):
         return done.stdout.decode().split()
 
     def test_a_file_that_becomes_a_pipe(self):
-        """It was a regular file a moment ago. It is not waited for."""
+        """It was a regular file a moment ago. It is not waited for, and is closed again."""
         write(self.path("a.jpg"), SMALL_JPEG)
         os.mkfifo(self.path("pipe"))
-        text = "opened = os.open\nos.open = lambda path, *more: opened('pipe', *more)\nprint(extraction.blocks_of(b'a.jpg').problem)"
-        self.assertEqual(self.by_itself(text), ["Unreadable"])
+        text = (
+            "opened, before = os.open, len(os.listdir('/proc/self/fd'))\nos.open = lambda path, *more: opened('pipe', *more)\n"
+            "print(extraction.blocks_of(b'a.jpg').problem, len(os.listdir('/proc/self/fd')) - before)"
+        )
+        self.assertEqual(self.by_itself(text), ["Unreadable", "0"])
 
     def test_a_file_that_becomes_shorter(self):
         write(self.path("a.jpg"), jpeg(app1(A), base=SMALL_JPEG[:-2] + b"\x11" * 400_000 + SMALL_JPEG[-2:]))

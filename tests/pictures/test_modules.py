@@ -202,6 +202,10 @@ class Extracted(WithPictures):
         with mock.patch.object(tools, "MOST", 100_000), mock.patch.object(tools, "_limit", 10.0):
             with self.assertRaisesRegex(tools.Failed, "^yes wrote more than 100,000 bytes about one file$"):
                 tools.run([shutil.which("yes")])
+        with mock.patch.object(tools, "MOST", 100):
+            self.assertEqual(tools.run(["head", "-c", "100", "/dev/zero"]).stdout, bytes(100))
+            with self.assertRaisesRegex(tools.Failed, "^head wrote more than 100 bytes about one file$"):
+                tools.run(["head", "-c", "101", "/dev/zero"])
 
     def test_a_damaged_chunk(self):
         good = png(chunk(b"eXIf", exif(b"Abc")))

@@ -18,7 +18,7 @@ from studio import SMALL_JPEG, TOP
 
 sys.path.insert(0, os.path.join(TOP, "python"))
 
-from exifnorm_pictures.formats import jpeg as jpeg_, mpf as mpf_, png as png_, tiff as tiff_, tiff_directories, webp as webp_  # noqa: E402
+from exifnorm_pictures.formats import jpeg as jpeg_, jpeg_segments, mpf as mpf_, png as png_, tiff as tiff_, tiff_directories, webp as webp_  # noqa: E402
 from exifnorm_pictures.formats.found import PROBLEMS, Blocks, Broken, LeftToOthers, ordinal  # noqa: E402
 
 A, B, K, L, T, U = exif(b"Abc"), exif(b"Xyz"), iim(b"one"), iim(b"two"), title("one"), title("two")
@@ -159,7 +159,14 @@ class Readers(unittest.TestCase):
         ):  # fmt: skip
             self.broken(octets, why)
         self.assertEqual(len(found_in(MIN[:-2] + b"\xff\xed\0\2" * 1000).not_read), 1000)
-        self.assertEqual(found_in(b"\xff\xd8" + b"\xff\xe0\0\2" * 99_999 + b"\xff\xd9").not_read, [])
+        for it in (b"\xff\xe0\0\2", segment(0xED, b"Adobe_CM")):  # also if each segment is looked at
+            self.assertEqual(found_in(b"\xff\xd8" + it * 99_999 + b"\xff\xd9").not_read, [])
+        budget = jpeg_segments.Budget()
+        budget.spend(99_999, 67_108_863)
+        budget.spend(1, 1)
+        for one in ((1, 0), (0, 1)):
+            with self.assertRaisesRegex(Broken, "^more segments than any picture has$"):
+                jpeg_segments.Budget(0, 0).spend(*one)
 
     def test_chunks_of_a_png(self):
         plain = chunk(b"iTXt", b"XML:com.adobe.xmp\0\0\0en\0title\0" + T)
@@ -323,7 +330,9 @@ class Readers(unittest.TestCase):
             self.assertEqual(found_in(bytes(moved) + behind).not_read, [], hex(tag))
             self.assertEqual([tuple(it) for it in found_in(bytes(moved) + behind + b"xyz").not_read], left(("trailer of 3 bytes", b"xyz")))
         many = bytearray(tiff([(0x100, LONG, 1), (0x0111, LONG, 8), (0x0117, LONG, 9)]) + b"xyz")
-        self.assertEqual(len(found_in(bytes(many)).not_read), 1)
+        for most in (1, 0):  # strips whose places are looked at
+            with mock.patch.object(tiff_, "MOST_STRIPS", most):
+                self.assertEqual(len(found_in(bytes(many)).not_read), most)
         struct.pack_into(">HHI", many, many.index(struct.pack(">HHI", 0x0117, LONG, 1)), 0x0118, LONG, 1)
         self.assertEqual(found_in(bytes(many)).not_read, [], "without lengths of strips their end is not known")
 
@@ -335,7 +344,7 @@ class Readers(unittest.TestCase):
         deep = page()
         for _ in range(11):
             deep = page((0x014A, LONG, deep))
-        many = b"MM\0*" + struct.pack(">IHHHII", 8, 1, 0x014A, LONG, 10_001, 8) + bytes(4)
+        as_many, many = (b"MM\0*" + struct.pack(">IHHHII", 8, 1, 0x014A, LONG, count, 8) + bytes(4) for count in (10_000, 10_001))
         for octets, why in (
             (b"MM\0*\0\0\0\x08\0\1" + bytes(14), "the file ends inside the 16 bytes at 10"), (b"MM\0*\0\0\0\x08\0", "the file ends inside the 2 bytes at 8"),
             (b"MM\0*\0\0\0\x04" + bytes(50), "the directory at 4 shares bytes with another one"),
@@ -344,13 +353,19 @@ class Readers(unittest.TestCase):
             (many, "more than 10,000 SubIFDs"),
         ):  # fmt: skip
             self.broken(octets, why)
+        self.assertEqual(found_in(as_many).found, [])
         with mock.patch.object(tiff_directories, "MOST_BYTES", 100):
             self.broken(tiff(page((0x02BC, 1, b"x" * 101))), "more than 100 bytes of values")
             self.broken(tiff([(0x02BC, 1, b"x" * 60), (0x83BB, 1, b"x" * 41)]), "more than 100 bytes of values")
+            self.broken(tiff([(0x935C, 7, b"x" * 101)]), "more than 100 bytes of values")
             self.assertEqual(len(found_in(tiff(page((0x02BC, 1, b"x" * 100)))).found), 2)
-        for name in ("MOST_DIRECTORIES", "MOST_ENTRIES"):
-            with mock.patch.object(tiff_directories, name, 3):
-                self.broken(tiff(*[[(0x100, LONG, 1), (0x101, LONG, 1)]] * 3), "more directories than any picture has")
+            self.assertEqual(len(found_in(tiff([(0x935C, 7, b"x" * 100)])).not_read), 1)
+        three = tiff(*[[(0x100, LONG, 1), (0x101, LONG, 1)]] * 3)
+        for name, most in (("MOST_DIRECTORIES", 4), ("MOST_ENTRIES", 6)):  # the header counts as one of the directories
+            with mock.patch.object(tiff_directories, name, most - 1):
+                self.broken(three, "more directories than any picture has")
+            with mock.patch.object(tiff_directories, name, most):
+                self.assertEqual(len(found_in(three).found), 3)
         with mock.patch.object(tiff_, "LIMIT", 33):
             self.broken(tiff([], [(0x010F, ASCII, b"12345678")]), "page 2 has more than 33 bytes of values")
         with mock.patch.object(tiff_, "LIMIT", 34):

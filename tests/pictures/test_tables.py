@@ -516,6 +516,13 @@ class Marks(WithPictures):
             it = look(Found(path, b"/", now._replace(**{name: 9})), False)
             self.assertEqual((it.stamp, it.problem), (None, None), name)
 
+    def test_a_file_that_is_gone_after_it_was_read(self):
+        """It has no marks either: what was read of it counts, and the run goes on."""
+        from exifnorm_pictures import looking
+        from exifnorm_pictures.walk import Found
+
+        self.assertIsNone(looking._unless_changed(Found(os.fsencode(self.path("nothing")), b"/", Stamp(1, 2, 3, 4))))
+
     def test_each_shows_an_edit(self):
         from exifnorm_pictures.catalogue import Known
         from exifnorm_pictures.index import _is_unchanged
