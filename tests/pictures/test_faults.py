@@ -152,6 +152,11 @@ class Tools(WithPictures):
         self.assertEqual(len(os.listdir(own)), 1)
         self.asked("index", "p", "--catalogue", "d", "--quiet", TMPDIR=own, **self.fake("exiftool", FAKE % ":"))
         self.assertEqual(os.listdir(own), [], "what a killed run left is removed by the next one")
+        os.mkdir(self.path("many"))
+        for number in range(70):
+            write(self.path("many", f"{number}.gif"), GIF)
+        self.asked("index", "many", "--catalogue", "e", "--quiet", "--jobs", "2", TMPDIR=own, **self.fake("exiftool", FAKE % ":"))
+        self.assertEqual(os.listdir(own), [], "each process works in the folder of its run")
 
     def test_a_signal_while_a_process_is_started(self):
         """What a handler raises in a function that Python calls around a fork is lost, as here, where each fork brings a signal."""

@@ -94,6 +94,9 @@ class Packets(unittest.TestCase):
         ):  # fmt: skip
             with self.assertRaises(reader.Unusual, msg=inside):
                 reader.statements(rdf.rdf_of(xmp(inside)))
+        for attribute, inside in (("xml:base='http://b/'", "<rdf:Description/>"), ("", "text<rdf:Description/>"), ("", "<rdf:Description/>text"), ("", "<dc:a/>")):
+            with self.assertRaises(reader.Unusual, msg=(attribute, inside)):
+                reader.statements(rdf.rdf_of(f"<rdf:RDF {SPACES} {attribute}>{inside}</rdf:RDF>".encode()))
 
     def test_usual_forms_are_read_without_rdflib(self):
         """URIs (RFC 3986, 3 and 4.3) and languages (RFC 5646, 2.1) of any kind, in the nodes that writers use."""
