@@ -32,6 +32,7 @@ sys.path.insert(0, str(Path(__file__).resolve().parent.parent))
 import paths
 from blocks import Blocks
 from counting import Counter, SkipTest
+from fuzz_changes import try_changes
 from kinds import small_kinds
 from reading import CAUSES as ALL_CAUSES
 
@@ -52,7 +53,7 @@ FINDS = {
     "SYMMETRIC": "SAME_ONE_WAY", "FORMS_TELL": "ALWAYS_SAME NEVER_SAME SAME_LENGTH", "KINDS_DIFFER": "SAME_KINDS", "FIRST": "FIRST_IS_SECOND",
     "SECOND": "SECOND_IS_FIRST SECOND_UNJUDGED", "LITTLE_ROOM": "ROOM_IS_ENOUGH ROOM_LENGTH ROOM_OF_TEXT", "MORE_ROOM": "FORM_IS_BLOCK",
     "SHOW": "SHOW_ACCEPTS", "LISTING": "LISTING_EMPTY LISTING_UNENDED LISTING_BINARY", "LISTINGS_TELL": "LISTING_EMPTY LISTING_OF_PLACES",
-    "FORM_LISTING": "LISTING_OF_PLACES", "CAPTIONS": "CAPTIONS_ACCEPT", "LABELS": "CAPTIONS_UNLABELLED", "FORM_CAPTIONS": "CAPTIONS_OF_PLACES",
+    "FORM_LISTING": "LISTING_OF_PLACES", "CAPTIONS": "CAPTIONS_ACCEPT", "LABELS": "CAPTIONS_UNLABELLED CAPTIONS_ODD", "FORM_CAPTIONS": "CAPTIONS_OF_PLACES",
     "PREFIX": "PLACE_BEHIND_PREFIX PREFIX_REFUSED", "TAIL": "TAIL_REFUSED", "ZEROS": "ZEROS_REFUSED THREE_ZEROS_REFUSED ZEROS_ACCEPTED FAULT_AT_END",
     "JOINED": "FORM_WITH_ZEROS", "FREED": "LEAKS", "LITTLE": "TAKES_MUCH", "NO_MEMORY": "IGNORES_NULL SETS_WITHOUT_MEMORY", "ORDER": "FAULT_AT_END",
 }  # fmt: skip
@@ -246,6 +247,7 @@ def main() -> int:
         fuzz = Fuzz(words.library, room)
         counter.collect("laws", lambda counter: judge_blocks(fuzz, counter, words.seed, words.blocks))
         counter.collect("mistakes", lambda counter: find_mistakes(fuzz, counter))
+        counter.collect("changes", lambda counter: try_changes(counter, Path(HERE, "fuzz"), CC, room))
         for tool in ("clang", "afl-clang-fast"):
             counter.collect(tool, lambda counter, tool=tool: try_target(fuzz, counter, tool))
     return counter.finish()

@@ -127,11 +127,11 @@ class Library:
         count(int(re.search(r"(\d+) checks\n$", run(*words))[1]))
 
     def judges_where_allocations_fail(self):
-        run(self.refusing, "refused", self.small)
+        self._judge(self.refusing, "refused", self.small)
 
     def keeps_to_its_memory(self):
         need("valgrind")
-        run("valgrind", "--quiet", "--error-exitcode=9", "--leak-check=full", self.calls, "once", self.small)
+        self._judge("valgrind", "--quiet", "--error-exitcode=9", "--leak-check=full", self.calls, "once", self.small)
 
     def judges_each_block_in_python(self):
         for jobs in (self.small, self.large):

@@ -521,6 +521,8 @@ def bytes_of_the_calls(counter: Counter) -> None:
         counter.check(f"normal of 4 MB as {kind}", taken < 2 * len(large) + 10_000, taken)
     taken = bytes_that_are_taken(exifnorm.normal, ONE)
     counter.check("normal of a small block", taken < 1000, taken)
+    taken = bytes_that_are_taken(bytes, 50_000)
+    counter.check("bytes that a call makes are counted", taken // 50_000 == 1, taken)
     taken = bytes_that_are_taken(outcome, exifnorm.kind, LOOP)
     counter.check("kind of a small block that is refused", taken < 10_000, taken)
     held = [exifnorm.normal(large) for _ in range(3)]
@@ -528,6 +530,7 @@ def bytes_of_the_calls(counter: Counter) -> None:
     held.append(exifnorm.normal(large))
     left = tracemalloc.get_traced_memory()[0]
     tracemalloc.stop()
+    counter.check("a form that is kept is counted", left >= len(held[0]), left)
     counter.check("a form holds its own bytes alone", left < len(held[0]) + 10_000, left)
 
 
@@ -552,6 +555,7 @@ def what_is_given_back(counter: Counter) -> None:
                 outcome(call, block)
     gc.collect()
     grown = tracemalloc.get_traced_memory()[0] - first
+    counter.check("memory is counted", tracemalloc.is_tracing())
     tracemalloc.stop()
     counter.check("memory after 7,200 calls", grown < 200_000, grown)
     counter.equal("references after them", (sys.getrefcount(ONE), sys.getrefcount(large)), before)

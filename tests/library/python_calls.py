@@ -213,6 +213,7 @@ def try_objects():
     require(exifnorm.kind(block) == "iim", "the kind of a large bytearray")
     require(exifnorm.same(block, memoryview(block)), "a large bytearray and itself")
     peak = tracemalloc.get_traced_memory()[1]
+    require(tracemalloc.is_tracing(), "memory is not counted")
     tracemalloc.stop()
     require(peak < 1_000_000, "a block was copied", peak)
 

@@ -29,6 +29,7 @@ import library
 import named
 from answers import NAMES, all_answers, write_jobs
 from blocks import Blocks
+from checks import Made
 from counting import Counter, SkipTest
 from fuzz import Report
 from meanings import Record
@@ -145,6 +146,27 @@ class Library(unittest.TestCase):
                     self.assertNotEqual(self.refused(mistake, call), 0)
         for call in CALLS[:2]:
             self.assertNotEqual(self.refused("TAKES_MUCH", call), 0, call)
+
+    def test_other_arguments_in_c(self):
+        """The message has the runs of the comment at its head."""
+        runs = "|".join(re.findall(r"^ \*   calls (\w+) JOBS ", (TESTS / "library" / "calls.c").read_text(encoding="utf-8"), re.M))
+        for words, why in (([], f"calls {runs} JOBS"), (["once"], f"calls {runs} JOBS"), (["twice", self.jobs()], "no such run"),
+                           (["refused", self.jobs()], "no such run"), (["once", self.folder / "none"], "no file of jobs")):  # fmt: skip
+            ran = subprocess.run([self.calls(), *map(str, words)], capture_output=True, text=True, timeout=300)
+            self.assertEqual((ran.returncode, ran.stdout, ran.stderr), (2, "", f"calls: {why}\n"))
+
+    def test_memory_that_valgrind_finds(self):
+        """A caller that leaves memory allocated, one that reads what was never written, and one whose memory is in order."""
+        it = library.Library("", str(self.folder / "in order"))
+        it.small = "jobs"
+        os.mkdir(it.room)
+        for use, is_well in (("free(p)", True), ("p = 0", False), ("if (p[1]) puts(p); free(p)", False)):
+            it.calls = f"{it.room}/caller"
+            text = f'#include <stdio.h>\n#include <stdlib.h>\nint main(void) {{ char *volatile p = malloc(9); {use}; puts("3 checks"); }}\n'
+            subprocess.run(["cc", "-x", "c", "-o", it.calls, "-"], input=text, text=True, check=True)
+            with contextlib.nullcontext() if is_well else self.assertRaisesRegex(library.Failed, "status 9"), Made() as made:
+                it.keeps_to_its_memory()
+            self.assertEqual(made.number, 3 * is_well, use)
 
     def test_threads_with_a_wrong_library_in_c(self):
         self.assertNotEqual(self.in_c("FORM_CUT", "threads"), 0)
@@ -473,11 +495,11 @@ class Fuzz(unittest.TestCase):
 
     def test_a_mistake_is_found_by_a_broken_law_alone(self):
         known = fuzz.mistakes()
-        self.assertEqual(len(known), 55)
+        self.assertEqual(len(known), 56)
         broken = self.all_broken()
         found = sum(len(it.split()) for it in fuzz.FINDS.values())
         self.assertGreater(found, 50)
-        for status, broken, more in ((1, broken, 0), (1, broken[:1], found - 1), (1, [], 55 + found), (0, broken, 55), (-11, [], 54 + found)):
+        for status, broken, more in ((1, broken, 0), (1, broken[:1], found - 1), (1, [], 56 + found), (0, broken, 56), (-11, [], 55 + found)):
             plain = Report(blocks=fuzz.WRONG_BLOCKS)
             it = mock.Mock(run=lambda seed, blocks, name: plain if name == "NONE" else Report(status, broken))
             self.assertEqual(len(printed_by(lambda counter: fuzz.find_mistakes(it, counter))), more, (status, broken))
@@ -517,7 +539,7 @@ class Documents(unittest.TestCase):
             ("Listed.test_statuses_are_the_same_wherever_they_are_listed", page, "\n.B 4\n", "\n.B 4\nx\n.B 70\n"),
             ("Listed.test_statuses_are_the_same_wherever_they_are_listed", "README.md", "\n| 4 |", "\n| 3 |"),
             ("Listed.test_statuses_are_the_same_wherever_they_are_listed", "docs/FORMAT.md", "\n| 4 | a read", "\n| 3 | a read"),
-            ("Listed.test_figures_are_those_of_the_tests", "docs/FUZZING.md", "one of 55 mistakes", "one of 53 mistakes"),
+            ("Listed.test_figures_are_those_of_the_tests", "docs/FUZZING.md", "one of 56 mistakes", "one of 53 mistakes"),
             ("Listed.test_figures_are_those_of_the_tests", "SECURITY.md", "at most 6.3 times", "at most 6 times"),
             ("Listed.test_figures_are_those_of_the_tests", "docs/FUZZING.md", "It checks ", "It checks 1"),
             ("Listed.test_figures_are_those_of_the_tests", "bench/README.md", "to 6.3 times", "to 6 times"),

@@ -52,6 +52,7 @@
     MISTAKE(SHOW_ACCEPTS, "show returns DONE for a refused block") \
     MISTAKE(CAPTIONS_ACCEPT, "captions returns DONE for a refused block") \
     MISTAKE(CAPTIONS_UNLABELLED, "a caption has another label") \
+    MISTAKE(CAPTIONS_ODD, "the last caption of an Exif block has no label") \
     MISTAKE(CAPTIONS_OF_PLACES, "the captions depend on the layout") \
     MISTAKE(PREFIX_REFUSED, "six bytes before a block are refused") \
     MISTAKE(TAIL_REFUSED, "bytes after the last part of an Exif block are refused") \
@@ -376,6 +377,9 @@ uint32_t exifnorm_captions(const unsigned char *block, size_t length, unsigned c
     unsigned char *colon = memchr(out, ':', *written);
     if (wrong == CAPTIONS_UNLABELLED && colon)
         colon[-1] ^= 1;
+    unsigned char *last = memrchr(out, '\n', *written - 1);
+    if (wrong == CAPTIONS_ODD && last && !is_record(block, length))
+        last[1] = '_';
     if (wrong == CAPTIONS_OF_PLACES && block[length / 2] % 2)
         out[0] ^= 1;
     return status;
