@@ -144,7 +144,10 @@ class CommandLine(unittest.TestCase):
         for words, message in (
             (("changed", "a", "b", "--jobs", "0"), "argument --jobs: 0 is less than 1"),
             (("changed", "a", "b", "--jobs=-1"), "argument --jobs: -1 is less than 1"),
+            (("changed", "a", "b", "--jobs", "two"), "argument --jobs: two is no whole number"),
+            (("changed", "a", "b", "--jobs", "1.5"), "argument --jobs: 1.5 is no whole number"),
             (("mend", "a", "b", "--limit", "0"), "argument --limit: 0 is no number of seconds"),
+            (("mend", "a", "b", "--limit", "x"), "argument --limit: x is no number of seconds"),
             (("mend", "a", "b", "--limit", "1e6"), "argument --limit: 1e6 is no number of seconds"),
             (("mend", "a", "b", "--limit", "nan"), "argument --limit: nan is no number of seconds"),
             (("mend", "a", ""), "argument PICTURE OUT: a name is empty"),
