@@ -11,6 +11,7 @@ import argparse
 import fnmatch
 import os
 import sys
+import time
 import unittest
 from concurrent.futures import ThreadPoolExecutor
 
@@ -20,6 +21,8 @@ sys.path[:0] = [HERE, os.path.dirname(HERE), os.path.join(os.path.dirname(os.pat
 
 from counting import Counter, Outcomes, name_of, tests_in
 from studio import Studio, WithPictures
+
+PATIENCE = 10  # seconds that a process may take to end after the last test
 
 
 def main():
@@ -43,6 +46,27 @@ def modules_with(texts):
             yield name
 
 
+def running():
+    """The processes with the folder of the tests in their arguments."""
+    for it in filter(str.isdigit, os.listdir("/proc")):
+        try:
+            with open(f"/proc/{it}/cmdline", "rb") as file:
+                words = file.read()
+        except OSError:  # it has ended
+            continue
+        if os.fsencode(Studio.room) in words:
+            yield words.replace(b"\0", b" ").decode("utf-8", "replace")
+
+
+def see_that_all_have_ended(counter):
+    """It is a failure if a test has left a process running."""
+    name, ends = "no process is left", time.monotonic() + PATIENCE
+    while (left := [*running()]) and time.monotonic() < ends:
+        time.sleep(0.1)
+    if left or counter.asks(name):
+        counter.check(name, not left, left)
+
+
 def run_all(only):
     counter, loader = Counter(only), unittest.TestLoader()
     suites = [loader.discover(HERE, it) for it in modules_with(only.split("|"))]
@@ -56,6 +80,7 @@ def run_all(only):
     for it in found:
         if getattr(it, "alone", False):
             it.run(Outcomes(counter))
+    see_that_all_have_ended(counter)
     return counter.finish()
 
 

@@ -275,10 +275,13 @@ class Mend(WithPictures):
 
 class Words(WithPictures):
     def test_refused_arguments(self):
-        for words in ((), ("nothing",), ("index",), ("show",), ("report", "--catalogue", "c"), ("mend", "a")):
+        for words, wrong in (((), "are required: COMMAND"), (("nothing",), "COMMAND: invalid choice: 'nothing'"), (("index",), "are required: --catalogue"),
+                             (("show",), "no name was given"), (("report", "--catalogue", "c"), "give --html PAGE, --json, or both"),
+                             (("mend", "a"), "give PICTURE and OUT")):  # fmt: skip
             with self.subTest(words):
                 self.asked(*words, status=3)
                 self.assertIn("usage:", self.complaint)
+                self.assertIn(wrong, self.complaint.splitlines()[-1])
 
     def test_help_lists_the_statuses(self):
         for words in (("--help",), ("index", "--help"), ("mend", "--help")):

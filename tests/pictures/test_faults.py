@@ -329,6 +329,7 @@ class Catalogues(WithPictures):
             self.assertEqual(self.asked("index", "p", "--catalogue", name, "--quiet"), ["1 unchanged"])
             self.assertTrue(os.path.exists(self.path(name)))
         self.asked("index", "p", "--catalogue", "", status=3)
+        self.assertIn("argument --catalogue: a name is empty", self.complaint)
 
     def test_one_that_another_program_reads(self):
         """The end of a run doesn't wait for the other program, and the next run puts all into one file again."""
@@ -508,11 +509,15 @@ class Outputs(WithPictures):
 class Arguments(WithPictures):
     def test_refused_arguments(self):
         write(self.path("a.jpg"), GOOD)
-        for words in (["index", "a.jpg", "--catalogue", "c", "--jobs=-1"], ["index", "a.jpg", "--catalogue", "c", "--jobs", "0"],
-                      ["index", "", "--catalogue", "c"], ["show", ""], ["show", "a.jpg", "--limit", "0"], ["show", "a.jpg", "--limit", "x"],
-                      ["same", "--catalogue", "c", "--kind", "iim"]):  # fmt: skip
+        for words, wrong in (
+            (["index", "a.jpg", "--catalogue", "c", "--jobs=-1"], "--jobs: -1 is"), (["index", "a.jpg", "--catalogue", "c", "--jobs", "0"], "--jobs: 0 is"),
+            (["index", "", "--catalogue", "c"], "FOLDER: a name is empty"), (["show", ""], "PICTURE: a name is empty"),
+            (["show", "a.jpg", "--limit", "0"], "--limit: 0 is"), (["show", "a.jpg", "--limit", "x"], "--limit: x is"),
+            (["same", "--catalogue", "c", "--kind", "iim"], "--kind: invalid choice"),
+        ):  # fmt: skip
             with self.subTest(words):
                 self.asked(*words, status=3)
+                self.assertIn(f"exifnorm-pictures {words[0]}: argument {wrong}", self.complaint)
         self.asked("show", "--files-from", "-", status=3, given=b"a.jpg\0b.jpg\0")
         self.assertIn("-0", self.complaint)
 

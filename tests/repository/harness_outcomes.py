@@ -369,7 +369,7 @@ class Wrong(Room):
         sizes = {name: len(sweep.blocks) for name, sweep in self.cases.items() if isinstance(sweep, Sweep)}
         self.assertEqual(sizes["every cut of one SHORT"], len(ONE))
         self.assertEqual(sizes["every bit of one SHORT"], 8 * len(ONE))
-        self.assertGreaterEqual(sum(sizes.values()), 11380)
+        self.assertEqual(sum(sizes.values()), 11380)
 
     def test_files_by_each_command(self):
         commands = ("", "check", "show", "captions")
@@ -447,12 +447,20 @@ class Pictures(Room):
             self.assertEqual(self.ran(only), (0, ["4 checks", "1 passed, 0 failed"]))
         self.assertEqual(self.ran("test_by_itself"), (0, ["1 checks", "1 passed, 0 failed"]))
         self.assertEqual(self.ran("test_skipped"), (0, ["skipped: Of.test_skipped: no tool", "0 passed, 0 failed, 1 skipped"]))
-        self.assertEqual(self.ran("")[1][-1], "2 passed, 6 failed, 1 skipped")
+        self.assertEqual(self.ran("")[1][-1], "3 passed, 6 failed, 1 skipped")
 
     def test_each_failure(self):
         for name in ("test_another_status", "test_error", "test_two_subtests", "test_tool_that_fails"):
             status, lines = self.ran(name)
             self.assertEqual((status, lines[0].partition(": ")[0], lines[-1]), (1, f"FAILED Of.{name}", "0 passed, 1 failed"), name)
+
+    def test_a_process_that_is_left(self):
+        """It runs five seconds longer than run.py allows after the last test."""
+        words = '[studio.sys.executable, "-c", "import time; time.sleep(15)", self.folder]'
+        text = f"import studio\n\nclass Of(studio.WithPictures):\n    def test_left(self):\n        studio.subprocess.Popen({words}, stdout=-3, stderr=-3)\n"
+        (self.folder / "tests" / "pictures" / "test_of.py").write_text(text, encoding="utf-8")
+        status, lines = self.ran("test_left")
+        self.assertEqual((status, lines[0].partition(": ")[0], lines[-1]), (1, "FAILED no process is left", "1 passed, 1 failed"))
 
     def test_a_folder_that_cannot_be_made(self):
         lines = self.ran("test_folder")[1]
