@@ -20,7 +20,7 @@ import machine
 import prove
 import verdict
 from checks import require, require_equal
-from room import SIGNALS, Room, runs, tick, wait_until
+from room import SIGNALS, Room, require_end, tick, wait_until
 from store import Store
 
 LEVELS = "px_low: byteorder\npx_middle: px_low\npx_high staticlib: px_middle\npx_aside: px_low\n"
@@ -428,7 +428,7 @@ def the_first_crate_that_fails_ends_the_others(room: Room) -> None:
     require(ran.returncode == 70, ran)
     require("px_iim was not proved" in ran.stderr, ran)
     field = room.until("begin", "px_field")
-    wait_until(lambda: not runs(field), "it still runs")
+    require_end(field)
 
 
 def compilers_are_stopped_before_their_threads_are_waited_for(room: Room) -> None:
@@ -498,7 +498,7 @@ def a_build_without_the_launcher_is_stopped_too(room: Room) -> None:
         why = started.communicate(timeout=300)[1]
     require(why.endswith("stopped\n"), (started.returncode, why))
     require(started.returncode == 1, (started.returncode, why))
-    wait_until(lambda: not runs(working), "the compiler still runs")
+    require_end(working)
 
 
 def of_build(code: str) -> str:

@@ -1,5 +1,6 @@
 """Tests ./test with false parts: each way in which a part can end, with its last line and its status."""
 
+import ast
 import os
 import re
 import select
@@ -83,6 +84,10 @@ class Folder(unittest.TestCase):
         self.assertEqual((ended.status, ended.last), (1, last), ended.printed)
         self.assertIn(why, ended.printed)
 
+    def prints(self, ended: Ended, *lines: str) -> None:
+        """These are all lines that it printed, but for the numbers of seconds."""
+        self.assertEqual(re.sub(r"took \d+ seconds", "took N seconds", ended.printed).splitlines(), [*lines])
+
 
 class Gate(Folder):
     """The last line and the status of ./test, by how its parts end."""
@@ -90,8 +95,8 @@ class Gate(Folder):
     def test_a_good_part(self):
         for count in ("3", "29", "1004"):
             ended = self.ran(self.part(f"echo {count} passed, 0 failed", count))
-            self.assertEqual((ended.status, ended.last), (0, f"{count} passed, 0 failed"), ended.printed)
-            self.assertNotIn("raise", ended.printed)
+            self.assertEqual(ended.status, 0, ended.printed)
+            self.prints(ended, "test: a begins", f"{count} passed, 0 failed", "test: a took N seconds", f"{count} passed, 0 failed")
 
     def test_a_part_with_more_tests_than_the_list_says(self):
         ended = self.ran(self.part("echo 10 passed, 0 failed"))
@@ -139,8 +144,8 @@ class Gate(Folder):
 
     def test_a_part_with_as_many_checks_as_the_list_says(self):
         ended = self.ran(self.part("echo 7 checks; echo 3 passed, 0 failed", more="Checks: 7\n"))
-        self.assertEqual((ended.status, ended.last), (0, "3 passed, 0 failed"), ended.printed)
-        self.assertNotIn("raise", ended.printed)
+        self.assertEqual(ended.status, 0, ended.printed)
+        self.prints(ended, "test: a begins", "7 checks", "3 passed, 0 failed", "test: a took N seconds", "3 passed, 0 failed")
 
     def test_a_part_with_other_checks_than_the_list_says(self):
         for command, more, why in (
@@ -186,12 +191,16 @@ class Gate(Folder):
     def test_a_part_beside_others(self):
         listed = self.part("sleep 0.3; echo beside; echo 5 passed, 0 failed", more="Beside: yes\n") + self.part("echo 3 passed, 0 failed", name="b")
         ended = self.ran(listed)
-        self.assertEqual((ended.status, ended.last), (0, "8 passed, 0 failed"), ended.printed)
-        self.assertLess(ended.printed.index("test: b took"), ended.printed.index("\nbeside\n"))
+        self.assertEqual(ended.status, 0, ended.printed)
+        self.prints(ended, "test: a begins, beside the parts that follow", "test: b begins", "3 passed, 0 failed", "test: b took N seconds",
+                    "test: what a printed", "beside", "5 passed, 0 failed", "test: a took N seconds",
+                    "test: a counted 5 tests: raise its number in tests/parts.txt, 3", "8 passed, 0 failed")  # fmt: skip
 
     def test_two_parts_beside_others(self):
         listed = "".join(self.part(f"echo {it} passed, 0 failed", name=f"p{it}", more="Beside: yes\n") for it in (3, 4))
-        self.assertEqual(self.ran(listed).last, "7 passed, 0 failed")
+        self.prints(self.ran(listed), "test: p3 begins, beside the parts that follow", "test: p4 begins, beside the parts that follow",
+                    "test: what p3 printed", "3 passed, 0 failed", "test: p3 took N seconds", "test: what p4 printed", "4 passed, 0 failed",
+                    "test: p4 took N seconds", "test: p4 counted 4 tests: raise its number in tests/parts.txt, 3", "7 passed, 0 failed")  # fmt: skip
 
     def test_a_part_beside_others_that_fails(self):
         good = self.part("echo 3 passed, 0 failed", name="b")
@@ -472,6 +481,15 @@ class Listed(unittest.TestCase):
         scripts = {str(it.relative_to(TOP)) for it in TESTS.rglob("*.py") if it.read_text().startswith("#!")}
         self.assertGreaterEqual(len(scripts), 8)
         self.assertEqual({it for it in scripts if it not in commands.split()}, set())
+
+    def test_each_script_shows_its_arguments(self):
+        """Called without any, it prints its first lines."""
+        scripts = [it for it in sorted(TESTS.rglob("*.py")) if "sys.exit(__doc__)\n" in (text := it.read_text(encoding="utf-8")) and text.startswith("#!")]
+        self.assertEqual(len(scripts), 8, scripts)
+        for script in scripts:
+            ran = subprocess.run([sys.executable, script], capture_output=True, text=True, check=False)
+            about = ast.get_docstring(ast.parse(script.read_text(encoding="utf-8")), clean=False)
+            self.assertEqual((ran.returncode, ran.stdout, ran.stderr), (1, "", f"{about}\n"), script)
 
     def test_each_part_has_its_lines(self):
         for part in self.parts():

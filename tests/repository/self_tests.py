@@ -4,8 +4,10 @@
 
 The last line is 'N passed, N failed'."""
 
+import contextlib
 import dataclasses
 import importlib
+import io
 import json
 import os
 import re
@@ -34,8 +36,8 @@ import products_outcomes
 from blocks import Blocks, Misspelled
 from cases import Case, Keeps, read_all
 from changed import changed, one_byte
-from kinds import OfStrips, small_kinds
-from meanings import ASCII, LIMIT, SHORT, Exif, Layout, Record, Value, laid
+from kinds import ELEMENTS, OfStrips, camera, small_kinds
+from meanings import ASCII, BYTE, LIMIT, LONG, SHORT, SLONG, SSHORT, Exif, Layout, Record, Value, laid
 from program import Outcome
 from reading import CAUSES, Fault, said
 from run import case_of, complaints_of
@@ -58,66 +60,68 @@ class Tables(unittest.TestCase):
                 it.write(listed)
             return read_all(folder)
 
-    def refused(self, tables, **others):
-        with self.assertRaises((Misspelled, KeyError, ValueError)):
+    def refused(self, why, tables, **others):
+        with self.assertRaises(Misspelled) as raised:
             self.read(tables, **others)
+        self.assertIn(why, str(raised.exception))
 
     def test_a_good_table_is_read(self):
         self.assertEqual(len(self.read({"refusals": [GOOD]})), 2)
 
     def test_an_empty_file(self):
-        self.refused({})
+        self.refused("has no table", {})
 
     def test_an_empty_table(self):
-        self.refused({"refusals": []})
+        self.refused("the table 'refusals' is empty", {"refusals": []})
 
     def test_an_unknown_table(self):
-        self.refused({"refusal": [GOOD]})
+        self.refused("no table is named 'refusal'", {"refusal": [GOOD]})
 
     def test_an_unknown_word(self):
-        self.refused({"refusals": [{**GOOD, "refused too": "x"}]})
+        self.refused("unknown words ['refused too'], missing words []", {"refusals": [{**GOOD, "refused too": "x"}]})
 
     def test_a_misspelled_word_that_may_be_left_out(self):
-        self.refused({"normal forms": [{"name": "n", "block": "1C0205000141", "noraml": "1C"}]})
+        self.refused("unknown words ['noraml'], missing words []", {"normal forms": [{"name": "n", "block": "1C0205000141", "noraml": "1C"}]})
 
     def test_a_misspelled_table_flag(self):
-        self.refused({"refuse growhts": True, "refusals": [GOOD]})
+        self.refused("no table is named 'refuse growhts'", {"refuse growhts": True, "refusals": [GOOD]})
 
     def test_a_missing_word(self):
-        self.refused({"refusals": [{"name": "n", "block": "1C"}]})
+        self.refused("unknown words [], missing words ['refused']", {"refusals": [{"name": "n", "block": "1C"}]})
 
     def test_a_text_of_which_nothing_is_due(self):
-        self.refused({"texts": [{"name": "n", "block": "1C"}]})
+        self.refused("nothing is expected in 'n'", {"texts": [{"name": "n", "block": "1C"}]})
 
     def test_a_run_of_which_nothing_but_a_status_is_due(self):
+        why = "nothing but a status is expected in 'n'"
         for status in range(5):
-            self.refused({"runs": [{"name": "n", "words": ["check", "a"], "status": status}]})
-        self.refused({"runs": [{"name": "n", "words": ["check", "a"], "status": 3, "output to": "/dev/full"}]})
+            self.refused(why, {"runs": [{"name": "n", "words": ["check", "a"], "status": status}]})
+        self.refused(why, {"runs": [{"name": "n", "words": ["check", "a"], "status": 3, "output to": "/dev/full"}]})
         self.assertEqual(len(self.read({"runs": [{"name": "n", "words": ["check", "a"], "status": 4, "output to": "/dev/full"}]})), 1)
 
     def test_a_sweep_over_no_block(self):
-        self.refused({"sweeps": [{"name": "n", "block": "", "each": "cut"}]})
+        self.refused("there is no block in 'n'", {"sweeps": [{"name": "n", "block": "", "each": "cut"}]})
 
     def test_two_cases_of_one_name(self):
-        self.refused({"refusals": [GOOD, GOOD]})
+        self.refused("two cases are named 'a case", {"refusals": [GOOD, GOOD]})
 
     def test_an_unknown_block(self):
-        self.refused({"refusals": [{**GOOD, "block": "no block"}]})
+        self.refused("'no block' is neither a block nor", {"refusals": [{**GOOD, "block": "no block"}]})
 
     def test_an_unknown_way(self):
-        self.refused({"refusals": [GOOD]}, listed="some: filter comands\n")
+        self.refused("the ways of some are ['filter', 'comands'],", {"refusals": [GOOD]}, listed="some: filter comands\n")
 
     def test_no_way(self):
-        self.refused({"refusals": [GOOD]}, listed="some:\n")
+        self.refused("the ways of some are [],", {"refusals": [GOOD]}, listed="some:\n")
 
     def test_no_file_listed(self):
-        self.refused({"refusals": [GOOD]}, listed="# none\n")
+        self.refused("lists [], and there are ['some']", {"refusals": [GOOD]}, listed="# none\n")
 
     def test_a_file_that_is_not_listed(self):
-        self.refused({"refusals": [GOOD]}, files={"more": {"refusals": [GOOD]}})
+        self.refused("lists ['some'], and there are ['more', 'some']", {"refusals": [GOOD]}, files={"more": {"refusals": [GOOD]}})
 
     def test_a_file_that_is_not_there(self):
-        self.refused({"refusals": [GOOD]}, listed="some: filter\nmore: filter\n")
+        self.refused("lists ['more', 'some'], and there are ['some']", {"refusals": [GOOD]}, listed="some: filter\nmore: filter\n")
 
 
 class Judging(unittest.TestCase):
@@ -286,10 +290,22 @@ class Meanings(unittest.TestCase):
         self.assertEqual((parts[:2], sorted(parts)), ([0, 1], list(range(100))))
         self.assertNotIn(parts, (list(range(100)), [0, 1, *range(99, 1, -1)]))
 
-    def test_no_two_parts_of_a_layout_share_a_byte(self):
+    def test_the_layouts_of_a_kind_are_different_blocks(self):
         for kind in small_kinds():
             self.assertNotIn(b"", kind.blocks, kind.name)
-            self.assertTrue(isinstance(kind.meaning, Record) or kind.blocks[0] != kind.blocks[-1] or kind.name != "", kind.name)
+            self.assertEqual(len({*kind.blocks}), len(kind.blocks), kind.name)
+
+    def test_the_elements_of_a_type_are_at_the_ends_of_its_range(self):
+        ranges = {BYTE: (0, 255), SHORT: (0, 65_535), LONG: (0, 4_294_967_295), SSHORT: (-32_768, 32_767), SLONG: (-2_147_483_648, 2_147_483_647)}
+        for form, ends in ranges.items():
+            self.assertLessEqual({0, *ends}, set(ELEMENTS[form]), form)
+
+    def test_a_camera_writes_the_fields_that_exif_requires(self):
+        """Those of a compressed picture that are mandatory in CIPA DC-008 4.6.8: of the main directory and of the Exif directory."""
+        meaning = next(camera()).meaning
+        self.assertLessEqual({0x011A, 0x011B, 0x0128, 0x0213}, set(meaning.main))
+        self.assertLessEqual({0x9000, 0x9101, 0xA000, 0xA001, 0xA002, 0xA003}, set(meaning.exif))
+        self.assertEqual([len(it) for it in (meaning.main, meaning.exif, meaning.interop, meaning.gps, meaning.thumb)], [11, 28, 2, 3, 3], "46 fields and a MakerNote")
 
 
 class Reading(unittest.TestCase):
@@ -434,6 +450,16 @@ class Examples(unittest.TestCase):
         for name in found:
             with self.subTest(name):
                 counting.examples(importlib.import_module(name))
+
+
+class Begun(unittest.TestCase):
+    """What this script prints where it runs no test."""
+
+    def test_a_program_that_is_missing(self):
+        printed = io.StringIO()
+        with mock.patch.object(harness_outcomes, "PROGRAM", paths.TOP / "crates" / "none"), contextlib.redirect_stdout(printed):
+            self.assertEqual(main(), 1)
+        self.assertEqual(printed.getvalue(), "crates/none is missing: `rt ci` builds it\n0 passed, 1 failed\n")
 
 
 def loaded(it: object) -> unittest.TestSuite:

@@ -312,6 +312,22 @@ def has_members(*them):
     return any(isinstance(it, (ast.Tuple, ast.List)) for it in them)
 
 
+def absent(text):
+    """The texts that a module requires to be absent.
+
+    >>> list(absent("self.assertNotIn('a', b)\\nrequire(b'c' not in d, e)\\ncounter.check('f', 'g' not in h)\\ni = 'j' not in k\\nself.assertNotIn(l, m)"))
+    ['a', 'c', 'g']
+    """
+    for call in (it for it in ast.walk(ast.parse(text)) if isinstance(it, ast.Call)):
+        name = getattr(call.func, "attr", getattr(call.func, "id", ""))
+        found = call.args[:1] if name == "assertNotIn" else []
+        if name in CHECKS or name.startswith("assert"):
+            inside = (it for part in call.args for it in ast.walk(part))
+            found += [it.left for it in inside if isinstance(it, ast.Compare) and isinstance(it.ops[0], ast.NotIn)]
+        values = (it.value for it in found if isinstance(it, ast.Constant))
+        yield from (it.decode() if isinstance(it, bytes) else it for it in values if isinstance(it, (str, bytes)))
+
+
 CHECKS = {"require", "require_equal", "check", "equal", "fail"}
 ALL_FAILURES = {"Exception", "BaseException", "AssertionError"}
 
@@ -376,6 +392,16 @@ def empty_checks(text):
                 yield node.lineno, "the status is not looked at"
 
 
+def each_absent_text_could_be_there():
+    """Reports texts that tests require to be absent, and that are written nowhere else in the sources: a misspelled one is absent everywhere."""
+    folders = [Path(TOP, it) for it in ("build", "packaging", "python", "tests")]
+    files = [it for folder in folders for it in sorted(folder.rglob("*.*")) if it.suffix in (".py", ".c", ".json", ".sh") and it.parent.name != "mutations"]
+    texts = {it: it.read_text(encoding="utf-8") for it in [*files, *(Path(TOP, it) for it in ("Makefile", "exifnorm", "test"))]}
+    found = [it.strip() for path, text in texts.items() if path.suffix == ".py" for it in absent(text)]
+    wrong = [f"{it!r} is written nowhere else" for it in found if sum(text.count(it) for text in texts.values()) <= found.count(it)]
+    return wrong + (["hardly an absent text was found"] if len(found) < 30 else [])
+
+
 def each_check_can_fail():
     """Reports checks of the tests that compare nothing, and checks after the end of their function."""
     files = sorted(Path(TOP, "tests").rglob("*.py"))
@@ -399,6 +425,7 @@ TESTS = (
     lemmas_name_their_subject,
     public_lemmas_are_cited,
     picture_tests_that_share_nothing,
+    each_absent_text_could_be_there,
     each_check_can_fail,
 )
 

@@ -421,6 +421,7 @@ class Stated(unittest.TestCase):
         ))  # fmt: skip
 
     def test_standards_have_one_edition(self) -> None:
-        for name in pages.READ:
-            for pattern, edition in EDITIONS.items():
+        for pattern, edition in EDITIONS.items():
+            self.assertEqual(set(re.findall(pattern, pages.text_of("docs/FORMAT.md"))), {edition}, pattern)
+            for name in pages.READ:
                 self.assertLessEqual(set(re.findall(pattern, pages.text_of(name))), {edition}, name)
