@@ -41,7 +41,7 @@ exit "${1:-0}"
 """
 
 
-# What a call that has to build says first.
+# The first line of a call that has to build.
 FIRST = "exifnorm: building the program from its sources, each crate with its proofs; this takes minutes the first time"
 
 
