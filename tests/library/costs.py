@@ -79,11 +79,11 @@ def little_endian_forms() -> Iterable[Tuple[str, Exif, float]]:
     eighth more than now, or a twentieth for the shortest. The buffer of a short form is small, because it is cleared. A value is swapped
     directly into the output buffer if it fits there, and a long one directly into the caller's memory. The lengths of strips are written as
     one value."""
-    yield "one SHORT", Exif(dict(ORIENTATION)), 205  # 217, if entries that are no fields are looked for; 506, if 8,192 bytes are cleared
+    yield "one SHORT", Exif(dict(ORIENTATION)), 205  # 217 before it had a way of its own; about 506, if 8,192 bytes are cleared
     values = {tag: Value(SHORT, range(500)) for tag in range(0x1000, 0x13E8)}
     yield "1,000 values of 500 SHORTs", Exif(values), 1.11  # 1.3, if each is swapped in a buffer of its own
     yield "a megabyte of SHORTs", Exif({0x1000: Value(SHORT, [it % 65_536 for it in range(1 << 19)])}), 0.65  # 1.6, likewise
-    yield "50,000 strips", Exif(dict(ORIENTATION), thumb={}, strips=[b"x"] * 50_000), 19.6  # 26.5, if each length is decoded four times
+    yield "50,000 strips", Exif(dict(ORIENTATION), thumb={}, strips=[b"x"] * 50_000), 19.6  # 26.5 when each length was decoded four times
 
 
 def growths(text: str) -> int:
