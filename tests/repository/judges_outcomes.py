@@ -390,6 +390,19 @@ class Sources(unittest.TestCase):
             with mock.patch.object(sources, "crates", lambda own=own: [("px_c", own), ("px_one", [("a.rt", "two", True, ["alloc: A"], "")])]):
                 self.assertEqual(sources.each_export_with_memory_has_a_variant(), wrong)
 
+    def test_calls_that_allocate(self):
+        """Of sources whose library isn't built."""
+        quiet = ("memory.push(&mut list, 1)", "fields.push(memory, 1)", "list.push_reserved(1)", "list.len()")
+        loud = ("list.push(1)", "Vec::new(alloc)", 'format!(in alloc; "a")', "bytes.to_vec(alloc)", "words.collect(alloc)", "Command::new(alloc, a)",
+                "list.reserve(1)", "text.push_str(a)")  # fmt: skip
+        with mock.patch.object(sources, "GROWERS", {"crates/px_one/src/lib.rt: two"}):
+            for body in (*quiet, *loud):
+                text = f"pub fn one(alloc: A, a: u8) -> u8 {{ {body} }}\npub fn two(alloc: A) -> u8 {{ {loud[0]} }}\n"
+                expected = ["crates/px_one/src/lib.rt: one calls what allocates"] if body in loud else []
+                self.assertEqual(self.found(sources.nothing_but_memory_allocates, src_in_lib=text), expected, body)
+            found = self.found(sources.nothing_but_memory_allocates, src_in_lib="pub fn two(alloc: A) -> u8 { 1 }\n")
+            self.assertEqual(found, ["crates/px_one/src/lib.rt: two calls nothing that allocates"])
+
     def test_picture_tests_that_disturb_others(self):
         with tempfile.TemporaryDirectory() as room, mock.patch.object(sources, "TOP", room):
             (path := Path(room, "tests", "pictures", "test_one.py")).parent.mkdir(parents=True)

@@ -1,12 +1,13 @@
 """The lowered code (MIR) of functions, which a build leaves in out/proved beside each library.
 
-tests/repository/sources.py finds in it which functions only call their `_in` variant, and which make memory. Programs and static
-libraries are built without such a file.
+tests/repository/sources.py finds in it which functions only call their `_in` variant, which make memory, and which call what may
+allocate. Programs and static libraries are built without such a file.
 """
 
 from __future__ import annotations
 
 import json
+import re
 from pathlib import Path
 from typing import Any, Iterator, Optional
 
@@ -19,6 +20,12 @@ MAKES = {"px_bytes::memory::Memory::new", "px_bytes::memory::Memory::fresh"}
 BEFORE = {*MAKES, "std_alloc::vec::Vec::allocator"}
 # what `?` is lowered to: a switch over the result, and the other error's type
 AFTER = ["core::result::ResultTry::branch", "core::result::ResultFromResidualErrResidual::from_residual"]
+# the calls outside the repository's own crates that allocate nothing
+QUIET = re.compile(
+    r"core::.*|byteorder::.*|itoa::Buffer::.*|hex::encode_to_slice|std_alloc::boxed::Box::drop|std_alloc::string::String::(?:as_str|drop|new)|"
+    r"std_alloc::vec::Vec::(?:allocator|as_slice|capacity|drop|is_empty|len|new|push_reserved|truncate)|std_alloc::vec::(?:derefs|lends)::.*|"
+    r"std_collections::btree_map::BTreeMap::new|clap::error::.*|clap::parser::matches::ArgMatches::(?:get_str|subcommand)"
+)
 ALLOCATOR, MEMORY = "std_heap::Global", "px_bytes::memory::Memory"
 Function = dict[str, Any]
 
@@ -136,3 +143,19 @@ def with_variant(found: dict[str, Function]) -> list[str]:
 def makers(found: dict[str, Function]) -> list[str]:
     """The functions that make memory. A closure belongs to its function."""
     return sorted({name.partition("::fn::")[0] for name, it in found.items() if any(callee(step) in MAKES for step in steps(it["body"]))})
+
+
+def allocating(found: dict[str, Function]) -> dict[str, set[str]]:
+    """The calls outside the repository's own crates that may allocate, by the functions that make them.
+
+    >>> call = lambda name: {"Call": [{"Fn": [name, {}]}, [], {"local": 0, "steps": []}]}
+    >>> push, quiet = "std_alloc::vec::Vec::push", ["std_alloc::vec::Vec::push_reserved", "px_bytes::memory::Memory::push", "core::cmp::min"]
+    >>> allocating({"a::b": {"body": [call(push), "Return"]}, "a::c": {"body": [*map(call, quiet), "Return"]}, "a::d::fn::0": {"body": [[call(push)]]}})
+    {'a::b': {'std_alloc::vec::Vec::push'}, 'a::d': {'std_alloc::vec::Vec::push'}}
+    """
+    calls: dict[str, set[str]] = {}
+    for name, function in found.items():
+        for called in filter(None, map(callee, steps(function["body"]))):
+            if called != "a pointer" and not called.startswith("px_") and not QUIET.fullmatch(called):
+                calls.setdefault(name.partition("::fn::")[0], set()).add(called)
+    return calls

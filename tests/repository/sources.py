@@ -3,8 +3,8 @@
 
 These are facts about bodies on which a reader relies, and which no contract can state. A call over an allocator, and an export for C,
 makes a `Memory` of its own, of which no clause can speak. So its body must be one line over its `_in` variant, which is proved to fail
-only where an allocation failed. Only a few listed functions make memory otherwise. Libraries that `make` built are judged by the
-compiled code, programs and static libraries by their text. The last line is 'N passed, N failed'.
+only where an allocation failed. Only a few listed functions make memory otherwise, and hardly a function but those of `Memory` calls
+what allocates. Libraries that `make` built are judged by the compiled code, programs and static libraries by their text. The last line is 'N passed, N failed'.
 """
 
 import ast
@@ -104,6 +104,26 @@ MAKERS = {
     "crates/px_plans/src/plan.rt: new_in",
 }
 
+# A text that calls what allocates, other than a call of `Memory`.
+ALLOCATES = re.compile(
+    r"\b(?:Arc|Arg|BTreeMap|Box|Command|Rc|String|Vec)::|\b(?:format|vec)!|\.(?:clone|collect|to_owned|to_string|to_vec)\(|"
+    r"\.(?:subcommand\(\w|try_get_matches_from\()|"
+    r"(?<!\bmemory)\.(?:extend_from_slice|push|push_str|reserve|reserve_exact|resize)\((?!memory\b)"
+)
+
+# The functions that call what allocates and are none of `Memory`: those over clap, which takes no `Memory`, and the one that copies the
+# program's arguments. px_devices and px_calls are only for tests.
+GROWERS = {
+    "crates/px_cli/src/main.rt: run_given",
+    "crates/px_words/src/grammar.rt: bare",
+    "crates/px_words/src/grammar.rt: joined",
+    "crates/px_words/src/grammar.rt: of_one",
+    "crates/px_words/src/grammar.rt: of_two",
+    "crates/px_words/src/grammar.rt: with_word",
+    "crates/px_words/src/words.rt: parse",
+    "crates/px_words/src/words.rt: read_error",
+}
+
 # The two lines of the program's run. No contract describes clap's result, so the run does nothing else.
 RUN = "let asked = parse(memory, rt.alloc(), words, VERSION); run_asked(rt, files, memory, asked, lines)"
 
@@ -169,13 +189,42 @@ def memory_is_made_nowhere_else():
         compiled = lowered.functions(crate)
         if compiled is not None:
             both = lowered.with_variant(compiled)
-            paths = [it.split("::") for it in lowered.makers(compiled) if it not in both]
-            makers |= {f"crates/{crate}/src/{it[1] if len(it) > 2 else 'lib'}.rt: {it[-1]}" for it in paths}
+            makers |= {place_of(crate, it) for it in lowered.makers(compiled) if it not in both}
         elif crate != "px_calls":
             makers |= {f"{path}: {name}" for path, name, _, parameters, body in found
                 if MAKES.search(body) and not is_one_line(name.removeprefix("exifnorm_"), names_of(parameters), body)}
     return [f"{it} makes memory and is not one line over its _in variant" for it in sorted(makers - MAKERS)] + [f"{it} makes no memory"
         for it in sorted(MAKERS - makers)]
+
+
+def place_of(crate, path):
+    """The file and the name of a function, from its path in the compiled code.
+
+    >>> [place_of("px_one", it) for it in ("px_one::files::Opened::of", "px_one::main")]
+    ['crates/px_one/src/files.rt: of', 'crates/px_one/src/lib.rt: main']
+    """
+    parts = path.split("::")
+    return f"crates/{crate}/src/{parts[1] if len(parts) > 2 else 'lib'}.rt: {parts[-1]}"
+
+
+def growers():
+    """The functions that call what allocates, but those of `Memory` and of crates for tests. A library of these sources is read as it was
+    compiled, and another crate as text."""
+    for crate, found in crates():
+        if crate in ("px_calls", "px_devices"):
+            continue
+        compiled = lowered.functions(crate)
+        if compiled is None:
+            yield from (f"{path}: {name}" for path, name, _, _, body in found if ALLOCATES.search(body))
+        else:
+            yield from (place_of(crate, it) for it in lowered.allocating(compiled))
+
+
+def nothing_but_memory_allocates():
+    """Reports functions outside of memory.rt that call what allocates, whose requests no contract would count, and listed functions that
+    call nothing of the kind."""
+    found = {it for it in growers() if not it.startswith("crates/px_bytes/src/memory.rt: ")}
+    return [f"{it} calls what allocates" for it in sorted(found - GROWERS)] + [f"{it} calls nothing that allocates" for it in sorted(GROWERS - found)]
 
 
 def the_examples_are_right():
@@ -417,6 +466,7 @@ TESTS = (
     one_line_over_their_variants,
     each_library_is_read_as_it_was_compiled,
     memory_is_made_nowhere_else,
+    nothing_but_memory_allocates,
     each_export_with_memory_has_a_variant,
     the_run_is_two_lines,
     few_parameters,

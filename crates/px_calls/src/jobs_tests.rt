@@ -1,6 +1,6 @@
 // px_jobs: each line of the program is flushed, and the status reports a failed flush. No run of the program
 // shows that.
-use crate::devices::KeepsBack;
+use px_devices::KeepsBack;
 use px_bytes::{Memory, Watched};
 use px_jobs::{Job, run_compare_in, run_one_in, say_text};
 use std::io;

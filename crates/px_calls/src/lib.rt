@@ -8,7 +8,6 @@
 mod built;
 #[cfg(test)]
 mod bytes_tests;
-pub mod devices;
 #[cfg(test)]
 mod engine_tests;
 #[cfg(test)]
