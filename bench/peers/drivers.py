@@ -10,6 +10,7 @@ from typing import Dict, List, Optional
 HERE = Path(__file__).resolve().parent
 COUNTING = HERE.parent.parent / "tests" / "library" / "fuzz"
 REGISTRY = Path(os.environ.get("KAMADAK", "/usr/share/cargo/registry"))
+CC = ["cc", "-std=c99", "-D_POSIX_C_SOURCE=200809L", "-Wall", "-Wextra"]
 OWN, C, C_BY_OFFSETS = "exifnorm", "C", "C, by offsets"
 PEERS = {"libexif": "libexif.c", "libiptcdata": "libiptcdata.c", "exiv2": "exiv2.cpp", "kamadak-exif": "kamadak.rs"}
 
@@ -40,7 +41,7 @@ def must_compile(*words: object) -> None:
 
 def own_drivers(folder: Path, library: Path) -> Dict[str, Driver]:
     """The library and plain C, which must be there."""
-    cc, limits = ["cc", "-std=c99", "-D_POSIX_C_SOURCE=200809L", "-Wall", "-Wextra"], sorted((HERE / "limits").glob("*.c"))
+    limits = sorted((HERE / "limits").glob("*.c"))
     sources = {
         OWN: ["-O2", HERE / "exifnorm.c", "-I", library, library / "libexifnorm.a"],
         C: ["-O3", HERE / "plain_c.c", *limits],
@@ -49,10 +50,16 @@ def own_drivers(folder: Path, library: Path) -> Dict[str, Driver]:
     made = {}
     for number, (name, them) in enumerate(sources.items()):
         out, counting = folder / f"own{number}", folder / f"own{number}-counting"
-        must_compile(*cc, *them, "-o", out)
-        must_compile(*cc, "-DCOUNTS_MEMORY", *them, "-I", COUNTING, COUNTING / "memory.c", "-o", counting)
+        must_compile(*CC, *them, "-o", out)
+        must_compile(*CC, "-DCOUNTS_MEMORY", *them, "-I", COUNTING, COUNTING / "memory.c", "-o", counting)
         made[name] = Driver(str(out), str(counting), is_for_exif=name != C_BY_OFFSETS)
     return made
+
+
+def whole_copy(folder: Path) -> str:
+    """The C program that copies a file as a filter must that judges a block before it writes."""
+    must_compile(*CC, "-O2", HERE / "whole.c", "-o", folder / "whole")
+    return str(folder / "whole")
 
 
 def flags(package: str) -> Optional[List[str]]:

@@ -1,4 +1,4 @@
-"""What the program costs: the time of its filter beside `cat`, and the memory that each command requests."""
+"""What the program costs: the time of its filter beside `cat` and plain C, and the memory that each command requests."""
 
 import os
 import subprocess
@@ -22,11 +22,12 @@ def seconds(words: List[str], path: Path, folder: Path) -> float:
     return used.ru_utime + used.ru_stime
 
 
-def filter_times(program: str, path: Path, folder: Path, rounds: int) -> Dict[str, float]:
-    """The least seconds of the filter, of `cat`, and of the filter on one value with as many bytes, in turns."""
+def filter_times(program: str, whole: str, path: Path, folder: Path, rounds: int) -> Dict[str, float]:
+    """The least seconds of the filter, of `cat`, of a C program that reads the whole file before it writes it, and of the filter on one
+    value with as many bytes, in turns."""
     plain = folder / "plain"
     plain.write_bytes(one_value(UNDEFINED, bytes(path.stat().st_size - 26)))
-    commands = {"filter": ([program], path), "cat": (["cat"], path), "one value": ([program], plain)}
+    commands = {"filter": ([program], path), "cat": (["cat"], path), "C": ([whole], path), "one value": ([program], plain)}
     least = dict.fromkeys(commands, float("inf"))
     for _ in range(rounds):
         for name, (words, read) in commands.items():

@@ -27,7 +27,7 @@ sys.dont_write_bytecode = True
 import paths
 from block_kinds import KINDS
 from changed import changed
-from drivers import OWN, Driver, all_drivers, own_drivers
+from drivers import OWN, Driver, all_drivers, own_drivers, whole_copy
 from kinds import small_kinds
 from program_costs import LARGE, filter_times, memory
 from race import MODES, Differs, Times, allocated, compare_forms, least_times
@@ -63,7 +63,7 @@ class Bench:
     def __init__(self, options: argparse.Namespace, folder: Path) -> None:
         self.options, self.folder, self.path = options, folder, folder / "block"
         self.program, self.library = os.path.abspath(options.program), Path(options.library).resolve()
-        self.shim = make_shim(folder, "watch_calls")
+        self.shim, self.whole = make_shim(folder, "watch_calls"), whole_copy(folder)
 
     def kinds(self) -> List[str]:
         return [name for name in KINDS if any(it in name for it in self.options.only)]
@@ -84,8 +84,8 @@ class Bench:
         print_times(least_times(drivers, self.path, options.rounds, options.seconds))
         print_memory(drivers, self.path)
         if len(block) >= LARGE:
-            least = filter_times(self.program, self.path, self.folder, options.rounds)
-            ratios = ", ".join(f"{least['filter'] / least[it]:.2f} of {it}" for it in ("cat", "one value"))
+            least = filter_times(self.program, self.whole, self.path, self.folder, options.rounds)
+            ratios = ", ".join(f"{least['filter'] / least[it]:.2f} of {it}" for it in ("cat", "C", "one value"))
             print(f"  filter: {1e3 * least['filter']:.1f} ms, {ratios} with as many bytes")
         shares = memory(self.program, str(self.shim), block)
         print(f"  memory of the program, over the input: {', '.join(f'{it} {n:.2f}' for it, n in shares)}", flush=True)

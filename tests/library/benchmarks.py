@@ -16,6 +16,7 @@ import os
 import re
 import shutil
 import struct
+import subprocess
 import sys
 import tempfile
 from pathlib import Path
@@ -87,7 +88,7 @@ struct LogMsg { enum Level { debug, info, warn, error, mute }; static void setLe
 MEMORY = "  memory of {0}, over the block: exifnorm N, C N{1}\n"
 TIMES = "  {0}: N microseconds; N of C{1}\n"
 PROGRAM = "  memory of the program, over the input: filter N, check N, show N, captions N, normalise N, compare N\n"
-FILTER = "  filter: N ms, N of cat, N of one value with as many bytes\n"
+FILTER = "  filter: N ms, N of cat, N of C, N of one value with as many bytes\n"
 
 
 def block(name: str, ratio: str = "", memory: str = "", more: str = "") -> str:
@@ -184,6 +185,20 @@ class Benchmarks:
         run(*map(str, [*C99, stubs, PEERS / "libexif.c", PEERS / "libiptcdata.c"]))
         run(*map(str, [*CPP, stubs, PEERS / "exiv2.cpp"]))
 
+    def copy_a_whole_file(self) -> None:
+        """By the C program beside which the filter is timed: also nothing, and what it can't read or write."""
+        whole = load("peers/drivers.py").whole_copy(self.room)
+        for count in (0, 1, 70_000, 3 << 20):
+            (self.room / "copied").write_bytes(block := bytes(it * it % 251 for it in range(70_000)) * (count // 70_000 + 1))
+            os.truncate(self.room / "copied", count)
+            with open(self.room / "copied", "rb") as file:
+                require_equal(subprocess.run([whole], stdin=file, capture_output=True, check=True).stdout, block[:count], str(count))
+        with open(self.room / "copied", "rb") as file, open("/dev/full", "wb") as full:
+            require_equal(subprocess.run([whole], stdin=file, stdout=full, check=False).returncode, 1, "nothing can be written")
+        with open(self.room / "copied", "rb") as file:
+            calls = subprocess.run(["strace", "-e", "trace=read,write", whole], stdin=file, stdout=subprocess.PIPE, stderr=subprocess.PIPE, check=True)
+        require_equal(calls.stderr.count(b", %d) = %d\n" % (3 << 20, 3 << 20)), 2, "one read and one write")
+
     def compile_the_drivers_of_peers(self) -> None:
         """With what pkg-config prints of a library, and for the kinds of block that it reads."""
         drivers, seen = load("peers/drivers.py"), []
@@ -241,15 +256,15 @@ class Benchmarks:
         require_equal(found, {"a call": 1.0, "another": 4.0}, "in Python")
 
     def print_memory_over_the_block_and_the_time_of_the_filter(self) -> None:
-        """The filter's time is compared with those of `cat` and of one value with as many bytes, each the least of two rounds."""
+        """The filter's time is compared with those of `cat`, of plain C and of one value with as many bytes, each the least of two rounds."""
         with mock.patch.object(sys, "path", [str(PEERS), *sys.path]):
             bench, costs, drivers = load("peers/run.py"), importlib.import_module("program_costs"), importlib.import_module("drivers")
-        path, printed, spent, read = self.room / "filtered", io.StringIO(), iter([0.05, 0.01, 0.02, 0.03, 0.04, 0.06]), []
+        path, printed, spent, read = self.room / "filtered", io.StringIO(), iter([0.05, 0.01, 0.024, 0.02, 0.03, 0.04, 0.02, 0.06]), []
         path.write_bytes(bytes(200))
         with mock.patch.object(costs, "seconds", lambda words, it, _: read.append((*words, it.stat().st_size)) or next(spent)):
-            least = costs.filter_times("a", path, self.room, 2)
-        require_equal(least, {"filter": 0.03, "cat": 0.01, "one value": 0.02})
-        require_equal(read, [("a", 200), ("cat", 200), ("a", 200)] * 2)
+            least = costs.filter_times("a", "w", path, self.room, 2)
+        require_equal(least, {"filter": 0.03, "cat": 0.01, "C": 0.02, "one value": 0.02})
+        require_equal(read, [("a", 200), ("cat", 200), ("w", 200), ("a", 200)] * 2)
         with mock.patch.object(costs, "watched", lambda *_: (None, mock.Mock(held=600))):
             shares = list(costs.memory("a", "b", bytes(300)))
         require_equal(shares, [*((it, 2.0) for it in ("filter", "check", "show", "captions", "normalise")), ("compare", 1.0)])
@@ -262,7 +277,7 @@ class Benchmarks:
                 bench.Bench.time_one(mock.Mock(), bytes(1 << 20), of)
         require_equal(printed.getvalue().splitlines(), [
             "  memory of parse, over the block: exifnorm 0.75, C 0.75", "  memory of write, over the block: exifnorm 2.50, C 2.50",
-            "  filter: 30.0 ms, 3.00 of cat, 1.50 of one value with as many bytes",
+            "  filter: 30.0 ms, 3.00 of cat, 1.50 of C, 1.50 of one value with as many bytes",
             "  memory of the program, over the input: normalise 2.00, compare 1.00",
         ])  # fmt: skip
 
