@@ -150,7 +150,7 @@ fn put_all(words: &mut [u64], start: usize, end: usize)
     put_in_word(words, last, 0, high);
 }
 
-// Like `put`, for bits in more than one word, or in a word that doesn't exist yet.
+// Like `put`, which calls it if bits are set, are in more than one word, or in a word that doesn't exist yet.
 #[inline(never)]
 fn put_far(
     memory: &mut Memory,
@@ -190,12 +190,31 @@ fn put_near(words: &mut [u64], at: usize, low: usize, high: usize) -> bool
     ensures puts { result ≡ true → Puts words.old words.new (at * 64 + low) (at * 64 + high) }
     ensures taken { result ≡ false → HasOne words.old (at * 64 + low) (at * 64 + high) }
     ensures same { result ≡ false → words.new ≡ words.old }
+    ensures len { length words.new ≡ length words.old }
 {
     if !is_word_clear(words, at, low, high) {
         return false;
     }
     put_in_word(words, at, low, high);
     true
+}
+
+// Sets each bit from `start` up to `end` if a word that exists has them all, and none is set. Returns whether
+// it did.
+#[inline(always)]
+fn put_in_one(words: &mut [u64], start: usize, end: usize) -> bool
+    requires some { start < end }
+    ensures free { result ≡ true → IsClear words.old start end }
+    ensures puts { result ≡ true → Puts words.old words.new start end }
+    ensures same { result ≡ false → words.new ≡ words.old }
+    ensures len { result ≡ true → length words.new ≡ max (length words.old) ((end + 63) / 64) }
+{
+    let at = start / WIDTH;
+    let last = (end - 1) / WIDTH;
+    if at < last || words.len() <= at {
+        return false;
+    }
+    put_near(words, at, start % WIDTH, (end - 1) % WIDTH + 1)
 }
 
 /// Sets each bit from `start` up to `end` if none of them is set, and returns whether none was. It reads only
@@ -220,10 +239,9 @@ pub fn put(
     ensures asked { OnOk result (memory.new.asked + 8 * length words.old.items ≡ memory.old.asked + 8 * length words.new.items) }
     ensures refused { OnErr result (AsksAtMost (mark_bytes end) memory.old memory.new) }
 {
-    let at = start / WIDTH;
-    let last = (end - 1) / WIDTH;
-    if at < last || words.len() <= at {
-        return put_far(memory, words, start, end);
+    // The usual result is a constant here, so that no caller looks at it again.
+    if put_in_one(words, start, end) {
+        return Ok(true);
     }
-    Ok(put_near(words, at, start % WIDTH, (end - 1) % WIDTH + 1))
+    put_far(memory, words, start, end)
 }

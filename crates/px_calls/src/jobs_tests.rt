@@ -1,7 +1,7 @@
 // px_jobs: each line of the program is flushed, and the status reports a failed flush. No run of the program
 // shows that.
-use px_devices::KeepsBack;
 use px_bytes::{Memory, Watched};
+use px_devices::KeepsBack;
 use px_jobs::{Job, run_compare_in, run_one_in, say_text};
 use std::io;
 use std::process::Abort;

@@ -26,7 +26,7 @@ use crate::rising::rising_span;
 use crate::tables::Directory;
 use crate::uses::Uses;
 use px_bytes::{Cause, Memory, Order, Ranges, Refusal};
-use px_field::{Form, Value};
+use px_field::{Form, Kind, Value};
 use px_meaning::{StripLists, Strips, Thumb, number_in, part_of};
 
 // Checks that neither or both entries of a pair are present.
@@ -171,6 +171,7 @@ fn numbers_at<'a>(block: &'a [u8], order: Order, found: Found) -> Value<'a>
 }
 
 // Claims each strip of these lists.
+#[inline(always)]
 fn claim_each(
     memory: &mut Memory,
     held: &mut Ranges,
@@ -196,6 +197,30 @@ fn claim_each(
     Ok(())
 }
 
+// The same. Nearly all lists have LONGs: for these the compiler makes a loop of its own, which doesn't look at
+// the types of the lists for each strip.
+fn claim_strips(
+    memory: &mut Memory,
+    held: &mut Ranges,
+    place: u32,
+    lists: &StripLists,
+) -> Result<(), Refusal>
+    requires bounded { length lists.now.block.now ≤ limit }
+    requires same { length lists.now.starts.elements ≡ length lists.now.sizes.elements }
+    ensures judged { (taken : List Range) → Agrees taken held.old →
+        Judges result (range_checks lists.now.block.now place taken (ranges_in lists.now)) (λ _. ⊤) }
+    ensures inside { OnOk result (AllByRecursion (IsInside lists.now.block.now) (ranges_in lists.now)) }
+    ensures memory { LacksBlock result memory.old memory.new }
+    ensures asked { Pays (length lists.now.block.now) 0 result memory.old memory.new held.old held.new }
+    ensures below { StaysBelow (length lists.now.block.now) held.old held.new }
+{
+    let longs = Kind::Of(Form::Long);
+    if lists.starts.kind() == longs && lists.sizes.kind() == longs {
+        return claim_each(memory, held, place, lists);
+    }
+    claim_each(memory, held, place, lists)
+}
+
 // Judges the strips of these lists. If their offsets ascend and no earlier range has a byte of them, it
 // claims none.
 fn judge_strips(
@@ -218,7 +243,7 @@ fn judge_strips(
             return Ok(());
         }
     }
-    claim_each(memory, held, place, lists)
+    claim_strips(memory, held, place, lists)
 }
 
 // The strips, if both of their lists are present. No later check needs their ranges.
