@@ -340,23 +340,25 @@ class Limits(unittest.TestCase):
         ])  # fmt: skip
 
     def test_instructions_of_a_strip(self):
-        """At most so many for each strip in the usual order, and in each other one, and at least half as many."""
-        limits = {"check": (17, 75), "normalise": (181, 239), "compare": (150, 265)}
-        calls = [(order, call) for order in (1, -1, 0) for call in limits]
-        for wrong in (None, *calls):
-            for times in (1.01, 0.49) if wrong else (0.99,):
-                seen = []
+        """At most so many for each strip in the usual order, and in each other one, at least half as many, and at most 1.3 or 3 times those
+        in the usual order."""
+        limits = {"check": (18, 52), "normalise": (181, 216), "compare": (152, 220)}
+        calls = [(order, call) for call in limits for order in (1, -1, 0)]
+        few = [((1, call), 0.55, "times the instructions") for call in ("check", "normalise")]  # within both limits
+        wrong_ones = [(it, times, why) for it in calls for times, why in ((1.01, "and not"), (0.49, "lower the limit"))]
+        for wrong, times, why in (((), 0.99, ""), *wrong_ones, *few):
+            seen = []
 
-                def counted(call, block, wrong=wrong, times=times, seen=seen):
-                    seen.append((int(block), call))
-                    return 50_000 * limits[call][int(block) != 1] * (times if wrong in (None, seen[-1]) else 0.9)
+            def counted(call, block, wrong=wrong, times=times, seen=seen):
+                seen.append((int(block), call))
+                return 50_000 * limits[call][int(block) != 1] * (times if wrong in ((), seen[-1]) else 0.99 if times == 0.55 else 0.9)
 
-                counts = mock.patch.object(self.it, "_instructions", counted), mock.patch.object(costs.shutil, "which", lambda _: "is there")
-                blocks = mock.patch.object(costs, "strips", lambda order, count: str(order).encode() if count == 50_000 else b"")
-                with counts[0], counts[1], blocks:
-                    with self.assertRaisesRegex(AssertionError, "and not" if times > 1 else "lower the limit") if wrong else contextlib.nullcontext():
-                        self.it.are_few_instructions_for_each_strip()
-                self.assertEqual(seen, calls[: calls.index(wrong) + 1] if wrong else calls)
+            counts = mock.patch.object(self.it, "_instructions", counted), mock.patch.object(costs.shutil, "which", lambda _: "is there")
+            blocks = mock.patch.object(costs, "strips", lambda order, count: str(order).encode() if count == 50_000 else b"")
+            with counts[0], counts[1], blocks:
+                with self.assertRaisesRegex(AssertionError, why) if wrong else contextlib.nullcontext():
+                    self.it.are_few_instructions_for_each_strip()
+            self.assertEqual(seen, calls[: 3 * (calls.index(wrong) // 3 + 1)] if wrong else calls)
 
     def test_instructions_of_a_form(self):
         """At most 205 for each of 26 bytes, 1.11 of many values, 0.65 of a long one and 19.6 of strips, and at least half as many."""
