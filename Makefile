@@ -26,6 +26,8 @@ MANIFEST = $(PREFIX)/share/exifnorm/installed
 # strips the installed shared library; if empty, it stays as it was linked
 STRIP = strip
 PYTHON = python3
+# the folder with that Python's headers; without Python.h there, the package is installed without its extension module
+PYTHONINCLUDE = $(eval PYTHONINCLUDE := $(shell '$(PYTHON)' -c 'import sysconfig; print(sysconfig.get_paths()["include"])'))$(PYTHONINCLUDE)
 # what the first line of exifnorm-pictures names, if that isn't the file of PYTHON
 INTERPRETER =
 # the first folder below PREFIX in which that Python looks for packages, or the usual one
@@ -114,6 +116,7 @@ stage: all
 	done
 	for typed in $(wildcard python/*/py.typed); do install -m 644 "$$typed" "$(stage)$(PYTHONDIR)/$${typed#python/}" || exit 1; done
 	ln -s "$$(realpath -m --relative-to='$(PYTHONDIR)/exifnorm' '$(LIBDIR)')/$(SONAME)" '$(stage)$(PYTHONDIR)/exifnorm/$(SONAME)'
+	CC='$(CC)' LDFLAGS='$(LDFLAGS)' python3 packaging/extension.py '$(stage)$(PYTHONDIR)/exifnorm/_native.abi3.so' '$(PYTHONINCLUDE)'
 	python3 packaging/dist_info.py python '$(stage)$(PYTHONDIR)'
 	'$(PYTHON)' packaging/command.py '$(BINDIR)' '$(PYTHONDIR)' $(if $(INTERPRETER),'$(INTERPRETER)') >'$(stage)$(BINDIR)/exifnorm-pictures'
 	chmod 755 '$(stage)$(BINDIR)/exifnorm-pictures'

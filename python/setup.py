@@ -1,4 +1,4 @@
-"""Puts the library libexifnorm.so.1 into the wheel, and gives the wheel the tag of the machine that the library is for.
+"""Puts the library libexifnorm.so.1 and the extension module into the wheel, and gives the wheel the tag of the machine that they are for.
 
 `make` builds the library. setuptools builds in out/wheel, so the sources stay unchanged.
 """
@@ -8,6 +8,7 @@ from __future__ import annotations
 import re
 import shutil
 import subprocess
+import sys
 from pathlib import Path
 
 from setuptools import Distribution, setup
@@ -17,14 +18,19 @@ from wheel.bdist_wheel import bdist_wheel
 TOP = Path(__file__).resolve().parent.parent
 LIBRARY = TOP / "out" / "lib" / "libexifnorm.so.1"
 ROOM = TOP / "out" / "wheel" / "room"
+EXTENSION = "_native.abi3.so"
 LIBC = "libc.so.6"
+OLDEST = (2, 5)  # the glibc of manylinux1
 
 
 def glibc_needed(library: Path) -> tuple[int, int] | None:
     """The GNU C library that a library needs, as (2, 14). None if it needs another library, or a symbol whose version is no number
     of glibc: then it can't have a tag of manylinux."""
     said = subprocess.run(["readelf", "-dVW", library], stdout=subprocess.PIPE, check=True, encoding="utf-8").stdout
-    if re.findall(r"\(NEEDED\).*\[(.*)\]", said) != [LIBC]:
+    needed = re.findall(r"\(NEEDED\).*\[(.*)\]", said)
+    if not needed:
+        return OLDEST
+    if needed != [LIBC]:
         return None
     needs = said.partition(".gnu.version_r")[2]
     names = re.findall(r"Name: (\S+)", needs)
@@ -34,21 +40,23 @@ def glibc_needed(library: Path) -> tuple[int, int] | None:
     return max((int(it[1]), int(it[2])) for it in versions if it)
 
 
-def platform_tag(machine: str, glibc: tuple[int, int] | None) -> str:
-    """The tag of a machine, as `linux_x86_64`, with what the library needs of glibc.
+def platform_tag(machine: str, glibc: list[tuple[int, int] | None]) -> str:
+    """The tag of a machine, as `linux_x86_64`, with what each library needs of glibc.
 
-    >>> platform_tag("linux_x86_64", (2, 14))
+    >>> platform_tag("linux_x86_64", [(2, 5), (2, 14)])
     'manylinux_2_14_x86_64'
-    >>> platform_tag("linux_x86_64", None)
+    >>> platform_tag("linux_x86_64", [(2, 5), None])
     'linux_x86_64'
     """
-    if glibc and machine.startswith("linux_"):
-        return f"manylinux_{glibc[0]}_{max(glibc[1], 5)}_{machine.removeprefix('linux_')}"
+    if None not in glibc and machine.startswith("linux_"):
+        major, minor = max(OLDEST, *(it for it in glibc if it))
+        return f"manylinux_{major}_{minor}_{machine.removeprefix('linux_')}"
     return machine
 
 
 class BuildWithLibrary(build_py):
-    """Copies the library beside the modules."""
+    """Copies the library beside the modules, and builds the extension module there if it can be built. Any CPython from 3.9 on can
+    load it, and another Python does without it: so it doesn't change for which Pythons the wheel is."""
 
     def run(self) -> None:
         if not LIBRARY.exists():
@@ -58,6 +66,7 @@ class BuildWithLibrary(build_py):
         shutil.copyfile(LIBRARY, target)
         target.chmod(0o755)
         subprocess.run(["strip", "--strip-unneeded", target], check=True)
+        subprocess.run([sys.executable, TOP / "packaging" / "extension.py", target.with_name(EXTENSION)], check=True)
 
 
 class ForOneMachine(Distribution):
@@ -71,8 +80,8 @@ class TaggedWheel(bdist_wheel):
     """A wheel for one machine and every Python 3."""
 
     def get_tag(self) -> tuple[str, str, str]:
-        machine = super().get_tag()[2]
-        return "py3", "none", platform_tag(machine, glibc_needed(LIBRARY))
+        machine, folder = super().get_tag()[2], Path(self.get_finalized_command("build_py").build_lib, "exifnorm")
+        return "py3", "none", platform_tag(machine, [glibc_needed(it) for it in (LIBRARY, *folder.glob(EXTENSION))])
 
 
 shutil.rmtree(ROOM, ignore_errors=True)  # with modules that were removed since the last build

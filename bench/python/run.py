@@ -4,13 +4,15 @@
   bench/python/run.py LIBRARY [--rounds N] [BLOCK ..]
 
 LIBRARY is the folder with libexifnorm.a, libexifnorm.so.1 and exifnorm.h; each BLOCK is a file with a block, and without any a block
-as a camera writes it is timed. piexif is Debian's python3-piexif; if this Python doesn't have it, /usr/bin/python3 may. Each round
-times every call, a few at once; a time is the least of all rounds. Below 1 a ratio means that exifnorm is faster.
+as a camera writes it is timed. The package is a copy with the extension module, which needs Python.h and cc. piexif is Debian's
+python3-piexif; if this Python doesn't have it, /usr/bin/python3 may. Each round times every call, a few at once; a time is the least of
+all rounds. Below 1 a ratio means that exifnorm is faster.
 """
 
 import argparse
 import ctypes
 import os
+import shutil
 import subprocess
 import sys
 import tempfile
@@ -22,7 +24,7 @@ from typing import Callable, Dict
 
 HERE = Path(__file__).resolve().parent
 TOP = HERE.parent.parent
-sys.path[:0] = [str(TOP / "tests"), str(TOP / "python")]
+sys.path.insert(0, str(TOP / "tests"))
 sys.dont_write_bytecode = True
 
 import paths
@@ -60,6 +62,15 @@ def in_c(program: str, mode: str, path: str) -> float:
     return float(ran.stdout)
 
 
+def package(folder: str) -> str:
+    """A folder with the package as it is installed: with the extension module, if that can be built."""
+    packages = os.path.join(folder, "python")
+    shutil.copytree(TOP / "python" / "exifnorm", os.path.join(packages, "exifnorm"))
+    target = os.path.join(packages, "exifnorm", "_native.abi3.so")
+    subprocess.run([sys.executable, str(TOP / "packaging" / "extension.py"), target], check=True)
+    return packages
+
+
 def timers(block: bytes) -> Dict[str, timeit.Timer]:
     """The calls in Python, by name. A timer makes a call without another one around it."""
     import exifnorm
@@ -67,9 +78,12 @@ def timers(block: bytes) -> Dict[str, timeit.Timer]:
 
     size, out, written, fault = ctypes.c_size_t, ctypes.create_string_buffer(2 * len(block) + 1), ctypes.c_size_t(), _calls.Fault()
     names = {"exifnorm": exifnorm, "block": block, "length": size(len(block)), "room": size.from_param(len(out)),
-             "bare": _calls.library().exifnorm_normalise, "out": ctypes.byref(out), "written": ctypes.byref(written),
+             "bare": _calls.library().exifnorm_normalise, "calls": _calls, "out": ctypes.byref(out), "written": ctypes.byref(written),
              "fault": ctypes.byref(fault), "whole": block if block.startswith(PREFIX) else PREFIX + block}  # fmt: skip
     calls = {f"exifnorm.{it}": f"exifnorm.{it}(block)" for it in ("kind", "normal", "digest", "fields", "captions")}
+    calls["exifnorm.normal by ctypes"] = "calls.normal_by_ctypes(block)"
+    if (short := _calls.library().short_normal) is not None:
+        names["short"], calls["extension: normal"] = short, "short(block)"
     calls["ctypes: normalise"] = "bare(block, length, out, room, written, fault)"
     try:
         import piexif
@@ -101,6 +115,7 @@ def race(timed: Dict[str, Callable[[], float]], rounds: int) -> Dict[str, float]
 RATIOS = (
     ("exifnorm.fields", "piexif.load"),
     ("exifnorm.normal", "C: normalise"),
+    ("exifnorm.normal by ctypes", "C: normalise"),
     ("exifnorm.normal", "ctypes: normalise"),
     ("exifnorm.kind", "C: check"),
 )
@@ -117,6 +132,7 @@ def main() -> None:
     blocks = {it: Path(it).read_bytes() for it in words.blocks} or {"a block as a camera writes it": camera()}
     with tempfile.TemporaryDirectory() as folder:
         program = driver(library, folder)
+        sys.path.insert(0, package(folder))
         for name, block in blocks.items():
             path = os.path.join(folder, "block")
             Path(path).write_bytes(block)

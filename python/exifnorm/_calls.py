@@ -184,6 +184,11 @@ def kind(block: Block) -> str:
     return _KINDS[number]
 
 
+def normal_by_ctypes(block: Block) -> bytes:
+    """What `normal` returns and raises where the extension module is missing, or leaves the call to ctypes."""
+    return _form(block, len(block)) if type(block) is bytes else _over_bytes(block, _form)
+
+
 def normal(block: Block) -> bytes:
     """The block's normal form: the same bytes for all blocks that mean the same. Raises Refused if the block breaks the rules,
     NormalTooLong if the form would be longer than `LIMIT`, and MemoryError.
@@ -193,7 +198,12 @@ def normal(block: Block) -> bytes:
     >>> normal(b"\\x1c\\x02\\x78\\x80\\x04\\x00\\x00\\x00\\x04Vase\\x00")
     b'\\x1c\\x02x\\x00\\x04Vase'
     """
-    return _form(block, len(block)) if type(block) is bytes else _over_bytes(block, _form)
+    short_normal = library().short_normal
+    if short_normal is not None:
+        form = short_normal(block)
+        if form is not None:
+            return form
+    return normal_by_ctypes(block)
 
 
 def digest(block: Block, algorithm: str = "sha256") -> str:

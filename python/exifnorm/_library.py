@@ -6,9 +6,16 @@ import ctypes
 import enum
 import functools
 import os
-from typing import Iterator
+from types import SimpleNamespace
+from typing import Any, Iterator
 
 from ._errors import LibraryMissing
+
+_native: Any
+try:
+    from . import _native
+except ImportError:  # it was not built, or is for another kind of Python: ctypes makes every call
+    _native = None
 
 NAME = "libexifnorm.so.1"
 NAME_ROOM = 32
@@ -60,23 +67,28 @@ def places() -> Iterator[str]:
     yield NAME
 
 
-def open_library(place: str) -> ctypes.CDLL:
-    """Loads the library from a file and declares its calls. Raises OSError with the reason if that fails."""
+def open_library(place: str) -> SimpleNamespace:
+    """Loads the library from a file. Returns its calls by name, and as `short_normal` the function of the extension module that calls it,
+    or None without that module. Raises OSError with the reason if that fails."""
     if os.sep in place and not os.path.exists(place):
         raise OSError("there is no such file")
     library = ctypes.CDLL(place)
+    calls = SimpleNamespace()
     for name, arguments in CALLS.items():
         try:
             call = getattr(library, name)
         except AttributeError:
             raise OSError(f"it has no {name}") from None
         call.argtypes, call.restype = arguments, ctypes.c_uint32
-    return library
+        setattr(calls, name, call)
+    address = ctypes.cast(calls.exifnorm_normalise, ctypes.c_void_p).value
+    calls.short_normal = _native.normal_of(address) if _native else None
+    return calls
 
 
 @functools.lru_cache(maxsize=None)
-def library() -> ctypes.CDLL:
-    """The library, loaded at the first call."""
+def library() -> SimpleNamespace:
+    """The calls of the library, which is loaded at the first call."""
     tried = []
     for place in places():
         try:

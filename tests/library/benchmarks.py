@@ -18,11 +18,12 @@ import shutil
 import struct
 import subprocess
 import sys
+import sysconfig
 import tempfile
 from pathlib import Path
 from types import ModuleType
 from typing import List, Sequence
-from unittest import mock
+from unittest import SkipTest, mock
 
 sys.dont_write_bytecode = True
 sys.path.insert(0, str(Path(__file__).resolve().parent.parent))
@@ -100,9 +101,11 @@ def block(name: str, ratio: str = "", memory: str = "", more: str = "") -> str:
 MISSING = "".join(f"{it} is not installed, and is left out\n" for it in ("libexif", "libiptcdata", "exiv2", "kamadak-exif"))
 BEGIN, END = "load N, N rounds of N seconds\n", "\nload N\n"
 SMALL = block("one inline field") + block("N DataSets of N groups", "; N of C, by offsets", ", C, by offsets N")
-TIMED_IN_PYTHON = ["C: check", "C: normalise", "ctypes: normalise", *(f"exifnorm.{it}" for it in ("kind", "normal", "digest", "fields", "captions"))]
+OF_PACKAGE = ("kind", "normal", "normal by ctypes", "digest", "fields", "captions")
+TIMED_IN_PYTHON = ["C: check", "C: normalise", "ctypes: normalise", "extension: normal", *(f"exifnorm.{it}" for it in OF_PACKAGE)]
+OVER_IN_PYTHON = ("normal over C: normalise", "normal by ctypes over C: normalise", "normal over ctypes: normalise", "kind over C: check")
 OF_PYTHON = ["", "a block as a camera writes it, N bytes", *(f"  {it}: N microseconds" for it in TIMED_IN_PYTHON),
-             *(f"  exifnorm.{it}: N" for it in ("normal over C: normalise", "normal over ctypes: normalise", "kind over C: check"))]  # fmt: skip
+             *(f"  exifnorm.{it}: N" for it in OVER_IN_PYTHON)]  # fmt: skip
 RATIO, ON_JPEG, SPENT = "N (N s over N s); processor time: N (N s over N s)", "(N JPEG files)", "N MB (N s of processor time)"
 OF_PICTURES = "".join(
     f"| {it} |\n"
@@ -348,6 +351,8 @@ class Benchmarks:
             require(bench.opening("/a") is None, "Chromium is missing")
 
     def time_the_python_package(self) -> None:
+        if not Path(sysconfig.get_paths()["include"], "Python.h").is_file():
+            raise SkipTest("there is no Python.h (Debian's package python3-dev)")
         printed = self._benchmark("python/run.py", self.library, "--rounds", "1")
         lines = [it for it in printed.splitlines() if "piexif" not in it]
         require(sorted(lines) == sorted(OF_PYTHON), printed)

@@ -1,11 +1,11 @@
 #!/usr/bin/env python3
 """Tests the Python package exifnorm: each public call with its exact result on blocks that other tools wrote, each argument, each
-exception, where the library is searched for, and the counted cost of the calls.
+exception, where the library is searched for, and the counted cost of the calls: by ctypes alone, and with the extension module.
 
   tests/library/package.py LIBRARY
 
 LIBRARY is the folder with libexifnorm.so.1 and exifnorm.h. The expected results for other blocks come from meanings.py and reading.py,
-which don't use the library. It needs cc besides Python 3.
+which don't use the library. It needs cc and nm besides Python 3; tests with the extension module are skipped without Python.h.
 """
 
 import array
@@ -14,20 +14,24 @@ import ctypes
 import functools
 import gc
 import hashlib
+import importlib.machinery
+import importlib.util
 import inspect
 import json
 import mmap
 import os
 import pickle
+import re
 import shutil
 import subprocess
 import sys
+import sysconfig
 import tempfile
 import tracemalloc
 from concurrent.futures import ThreadPoolExecutor
 from pathlib import Path
 from typing import Any, Callable, Dict, Iterator, List
-from unittest import mock
+from unittest import SkipTest, mock
 
 sys.dont_write_bytecode = True
 sys.path.insert(0, str(Path(__file__).resolve().parent.parent))
@@ -48,6 +52,7 @@ from reading import Fault, said
 
 ROOM = ""  # a folder for this run
 REAL = ""  # the built library
+EXTENSION = ""  # the built extension module, while tests use it
 CALLS = ("check", "normalise", "compare", "show", "captions", "cause_name", "version")
 OF_BLOCK = (exifnorm.kind, exifnorm.normal, exifnorm.digest, exifnorm.show, exifnorm.fields, exifnorm.captions)
 ONE = bytes.fromhex("4d4d002a00000008 0001 0112 0003 00000001 00060000 00000000")
@@ -71,6 +76,65 @@ def outcome(call: Callable, *arguments: Any) -> Any:
         return call(*arguments)
     except Exception as why:
         return type(why).__name__, *why.args
+
+
+# ---- the extension module
+
+
+@functools.lru_cache(maxsize=None)
+def built_extension() -> str:
+    """The extension module, which is built when a test first needs it."""
+    headers, path = sysconfig.get_paths()["include"], os.path.join(ROOM, "_native.abi3.so")
+    if not os.path.exists(os.path.join(headers, "Python.h")):
+        raise SkipTest(f"there is no {headers}/Python.h (Debian's package python3-dev)")
+    script = os.path.join(TOP, "packaging", "extension.py")
+    subprocess.run([sys.executable, script, path], env={**os.environ, "CC": "cc -Werror"}, check=True)
+    return path
+
+
+def loaded(path: str) -> Any:
+    """The extension module of a file."""
+    loader = importlib.machinery.ExtensionFileLoader("exifnorm._native", path)
+    module = importlib.util.module_from_spec(importlib.util.spec_from_loader("exifnorm._native", loader))
+    loader.exec_module(module)
+    return module
+
+
+@contextlib.contextmanager
+def only_ctypes() -> Iterator[None]:
+    """Lets the package call the library by ctypes alone, whether the extension module is there or not."""
+    with mock.patch.object(_library, "_native", None):
+        _library.library.cache_clear()
+        yield
+    _library.library.cache_clear()
+
+
+@contextlib.contextmanager
+def extended() -> Iterator[None]:
+    """Lets the package use the extension module, also that of another Python that a test starts."""
+    global EXTENSION
+    EXTENSION = built_extension()
+    with mock.patch.object(_library, "_native", loaded(EXTENSION)):
+        _library.library.cache_clear()
+        try:
+            yield
+        finally:
+            EXTENSION = ""
+    _library.library.cache_clear()
+
+
+def short_normal() -> Callable[[Any], Any]:
+    return _library.library().short_normal
+
+
+def with_extension(test: Callable[[Counter], None]) -> Callable[[Counter], None]:
+    """The same test with the extension module."""
+
+    def extended_test(counter: Counter) -> None:
+        with extended():
+            test(counter)
+
+    return extended_test
 
 
 # ---- results
@@ -325,8 +389,15 @@ def objects(counter: Counter) -> None:
 # ---- where the library is looked for
 
 
-def told(code: str, packages: str = PACKAGES, **environment: str) -> str:
+@functools.lru_cache(maxsize=None)
+def extended_packages() -> str:
+    """A copy of the package with the extension module."""
+    return copied_packages("extended")
+
+
+def told(code: str, packages: str = "", **environment: str) -> str:
     """The output of a Python that runs this code with these variables."""
+    packages = packages or (extended_packages() if EXTENSION else PACKAGES)
     kept = {name: value for name, value in os.environ.items() if name not in ("EXIFNORM_LIBRARY", "LD_LIBRARY_PATH", "PYTHONPATH")}
     ran = subprocess.run(
         [sys.executable, "-B", "-c", code],
@@ -345,11 +416,13 @@ SAYS_VERSION = "import exifnorm\ntry: print(exifnorm.version())\nexcept exifnorm
 
 
 def copied_packages(name: str, *library: str) -> str:
-    """A copy of the package, perhaps with a library beside it."""
-    folder = os.path.join(ROOM, name)
+    """A copy of the package, perhaps with a library beside it, and with the extension module if tests use it."""
+    folder = os.path.join(ROOM, f"{name} with the extension" if EXTENSION else name)
     shutil.copytree(os.path.join(PACKAGES, "exifnorm"), os.path.join(folder, "exifnorm"), ignore=shutil.ignore_patterns("*.so*", "__pycache__"))
     for path in library:
         shutil.copy(path, os.path.join(folder, "exifnorm", "libexifnorm.so.1"))
+    if EXTENSION:
+        shutil.copy(EXTENSION, os.path.join(folder, "exifnorm"))
     return folder
 
 
@@ -454,6 +527,7 @@ def calls_of_the_library(counter: Counter) -> None:
     record = laid(Exif({0x0112: Value(SHORT, [1])}, record=Record([(2, 5, b"T")])), Layout(">"))
     large = laid(Exif({0x9999: Value(7, bytes(100_000))}), Layout("<"))
     doubled = laid(Exif({0x0116: Value(SHORT, [1] * 40_000)}), Layout("<"))
+    refused = {"normalise": 2 if EXTENSION else 1, "cause_name": 1}  # by the extension, and by ctypes, which raises the exception
     with watched() as watch:
         blocks_of_no_bytes(counter)
         for name, expected, call, *arguments in (
@@ -462,7 +536,7 @@ def calls_of_the_library(counter: Counter) -> None:
             ("normal", {"normalise": 1}, exifnorm.normal, ONE),
             ("normal of a large block", {"normalise": 1}, exifnorm.normal, large),
             ("normal of a form that is longer than its block", {"normalise": 1}, exifnorm.normal, doubled),
-            ("normal of a refused block", {"normalise": 1, "cause_name": 1}, exifnorm.normal, LOOP),
+            ("normal of a refused block", refused, exifnorm.normal, LOOP),
             ("digest", {"normalise": 1}, exifnorm.digest, ONE),
             ("same", {"compare": 1}, exifnorm.same, ONE, CAPTION),
             ("show", {"show": 1}, exifnorm.show, ONE),
@@ -583,10 +657,140 @@ def sixteen_threads(counter: Counter) -> None:
 
 def calls_at_once(counter: Counter) -> None:
     """A call doesn't block other threads: sixteen of them are inside the library at the same time."""
+    for call in (exifnorm.kind, exifnorm.normal):
+        expected = call(ONE)
+        with watched(MEET="16") as watch, ThreadPoolExecutor(16) as pool:
+            ctypes.c_ulong.in_dll(watch.library, "watched_inside").value = 0
+            came = list(pool.map(lambda _, call=call: call(ONE), range(16)))
+            counter.check(f"{call.__name__}: their answers", came == [expected] * 16)
+            counter.check(f"{call.__name__}: threads inside", watch.number("inside") == 16, watch.number("inside"))
+
+
+# ---- with the extension module alone
+
+LONGEST = 32_768  # of the blocks that the extension takes
+
+
+def blocks_that_the_extension_takes(counter: Counter) -> None:
+    """Bytes of at most 32,768 octets, also where the form has twice as many. It returns None for all else."""
+    for length in (LONGEST - 2, LONGEST - 1, LONGEST, LONGEST + 1, LONGEST + 2):
+        block = Record([(2, 120, bytes(length - 5))]).spelled()
+        form = said(block).normal()
+        counter.equal(f"{length} bytes", [len(block), exifnorm.normal(block) == form], [length, True])
+        counter.check(f"{length} bytes: taken", short_normal()(block) == (form if length <= LONGEST else None))
+    for count in (1, 1000, 16_370, 16_371):
+        block = laid(Exif({0x0116: Value(SHORT, [1] * count)}), Layout("<"))
+        form = said(block).normal()
+        counter.check(f"{count} numbers that take twice as many bytes", short_normal()(block) == form, (len(block), len(form)))
+    counter.equal("the last block is the longest, and has a long form", [len(block), len(form)], [LONGEST, 2 * LONGEST - 26])
+
+    class Own(bytes):
+        """A subclass of bytes."""
+
+    refused = (LOOP, b"", CAPTION[:3], made_by_tools.PIEXIF_REFUSED, long_form())
+    for it in (Own(ONE), bytearray(ONE), memoryview(ONE), "MM", 5, None, *refused):
+        counter.check(f"left to ctypes: {type(it).__name__}, {str(it)[:20]}", short_normal()(it) is None)
+    with mock.patch.object(_calls, "normal_by_ctypes", lambda block: "by ctypes"):
+        blocks = {"bytes": ONE, "a bytearray": bytearray(ONE), "a long block": ONE + bytes(LONGEST), "a refused block": LOOP}
+        came = {name: exifnorm.normal(block) for name, block in blocks.items()}
+    counter.equal("who makes the call", list(came.values()), [ONE, "by ctypes", "by ctypes", "by ctypes"])
+
+
+def the_bytes_of_the_extension(counter: Counter) -> None:
+    """A form is written to memory that belongs to it: with PYTHONMALLOC=debug Python ends if a byte beside an allocation was written."""
+    code = """
+import exifnorm
+from exifnorm import _library
+block = open("longest", "rb").read()
+for _ in range(3):
+    assert len(_library.library().short_normal(block)) > 65_000
+_library.library.cache_clear()
+print("well")
+"""
+    Path(ROOM, "longest").write_bytes(laid(Exif({0x0116: Value(SHORT, [1] * 16_371)}), Layout("<")))
+    came = told(code, PYTHONMALLOC="debug", EXIFNORM_LIBRARY=REAL)
+    counter.check("the longest form", came == "well", came)
+
+
+def addresses(counter: Counter) -> None:
+    """What normal_of takes, and that each of its functions calls its own library."""
+    module, real = _library._native, _library.library()
+    counter.equal("null", outcome(module.normal_of, 0), ("ValueError", "the address is null"))
+    for wrong in (None, "1", 1.5, real.exifnorm_normalise, 1 << 70):
+        came = outcome(module.normal_of, wrong)[0]
+        counter.check(f"no address: {wrong}", came in ("TypeError", "OverflowError"), came)
+    before = short_normal()
+    with watched() as watch:
+        counter.check("another library is called", watch.of(exifnorm.normal, ONE) == {"normalise": 1})
+        counter.equal("and the first one by its own function", [watch.of(before, ONE), before(ONE)], [{}, ONE])
+    counter.check("the first library is called again", watch.of(exifnorm.normal, ONE) == {})
+    with only_ctypes():
+        counter.check("without the module there is no function", short_normal() is None)
+        counter.check("and the call is made", exifnorm.normal(ONE) == ONE)
+
+
+def resident() -> int:
+    """The bytes of memory that this process has."""
+    return int(Path("/proc/self/statm").read_text(encoding="ascii").split()[1]) * os.sysconf("SC_PAGE_SIZE")
+
+
+def memory_after_a_million_calls(counter: Counter) -> None:
+    """Nothing stays allocated or referred to: of blocks that are taken, refused and left to ctypes, and of functions that are gone."""
+    call = short_normal()
+    kinds = {"a form": ONE, "a refused block": LOOP, "another kind of object": bytearray(ONE), "a long block": ONE + bytes(LONGEST)}
+    for name, block in kinds.items():
+        counts = sys.getrefcount(None), sys.getrefcount(block)
+        for _ in range(1000):
+            call(block)
+        before = resident()
+        for _ in range(250_000):
+            call(block)
+        grown = resident() - before
+        counter.check(f"{name}: memory", grown < 1_000_000, grown)
+        now = sys.getrefcount(None), sys.getrefcount(block)
+        counter.check(f"{name}: references to None", abs(now[0] - counts[0]) < 100, (counts, now))
+        counter.check(f"{name}: references to the block", now[1] == counts[1], (counts, now))
+    address = ctypes.cast(_library.library().exifnorm_normalise, ctypes.c_void_p).value
+    before = resident()
+    for _ in range(2000):
+        _library._native.normal_of(address)(ONE)
+    counter.check("functions that are gone", resident() - before < 5_000_000, resident() - before)
+
+
+def buffers_of_threads(counter: Counter) -> None:
+    """Threads that call at the same time have a buffer each, and one is kept."""
+    expected = exifnorm.normal(ONE)
     with watched(MEET="16") as watch, ThreadPoolExecutor(16) as pool:
-        came = list(pool.map(lambda _: exifnorm.kind(ONE), range(16)))
-        counter.check("their answers", came == ["exif"] * 16)
-        counter.check("threads inside", watch.number("inside") == 16, watch.number("inside"))
+        most = ctypes.c_ulong.in_dll(watch.library, "watched_inside")
+        tracemalloc.start()
+        for turn in range(20):
+            most.value = 0
+            counter.check(f"forms of turn {turn}", list(pool.map(lambda _: exifnorm.normal(ONE), range(16))) == [expected] * 16)
+            if turn == 2:
+                before = tracemalloc.get_traced_memory()[0]
+        grown = tracemalloc.get_traced_memory()[0] - before
+        tracemalloc.stop()
+    counter.check("memory of 17 turns", grown < 65_536, grown)
+
+
+# Of the stable ABI, "Contents of Limited API" in Python's documentation: what versions up to 3.9 added.
+STABLE = """PyBytes_AsStringAndSize PyBytes_FromStringAndSize PyBytes_Type PyCMethod_New PyCapsule_GetPointer PyCapsule_New PyErr_Format
+    PyErr_NoMemory PyErr_Occurred PyEval_RestoreThread PyEval_SaveThread PyExc_ValueError PyLong_AsVoidPtr PyMem_Free PyMem_Malloc
+    PyModuleDef_Init Py_DecRef Py_IncRef _Py_Dealloc _Py_NoneStruct""".split()
+
+
+def symbols_of_the_extension(counter: Counter) -> None:
+    """It needs nothing that a CPython might not have, from the oldest one on for which the package is."""
+    named = subprocess.run(["nm", "-D", "--undefined-only", EXTENSION], capture_output=True, text=True, check=True).stdout
+    needed = {it for it in re.findall(r" U (\w+)", named)}
+    counter.check("it needs some", "PyBytes_FromStringAndSize" in needed, needed)
+    counter.check("all are stable", needed <= {*STABLE}, needed - {*STABLE})
+    shown = subprocess.run(["nm", "-D", "--defined-only", EXTENSION], capture_output=True, text=True, check=True).stdout
+    counter.equal("what it shows", re.findall(r" [A-Z] (\w+)", shown), ["PyInit__native"])
+    project = Path(PACKAGES, "pyproject.toml").read_text(encoding="utf-8")
+    major, minor = map(int, re.search(r'requires-python = ">=(\d+)\.(\d+)"', project).groups())
+    source = Path(PACKAGES, "exifnorm", "_native.c").read_text(encoding="utf-8")
+    counter.check("the oldest Python", f"#define Py_LIMITED_API {major << 24 | minor << 16:#010x}\n" in source)
 
 
 TESTS = (
@@ -615,6 +819,33 @@ TESTS = (
     sixteen_threads,
     calls_at_once,
 )
+# Those that call `normal`.
+EXTENDED = (
+    blocks_of_tools,
+    refusals_of_tools,
+    fields_of_each_kind,
+    forms_that_are_too_long,
+    digests,
+    ways_to_give_a_block,
+    what_is_no_block,
+    blocks_of_no_bytes,
+    an_object_without_an_address,
+    examples_of_the_modules,
+    places_of_the_library,
+    statuses,
+    calls_of_the_library,
+    loads,
+    bytes_of_the_calls,
+    what_is_given_back,
+    sixteen_threads,
+    calls_at_once,
+    blocks_that_the_extension_takes,
+    the_bytes_of_the_extension,
+    addresses,
+    memory_after_a_million_calls,
+    buffers_of_threads,
+    symbols_of_the_extension,
+)
 
 
 def main(words: List[str]) -> int:
@@ -624,8 +855,11 @@ def main(words: List[str]) -> int:
     counter, REAL = Counter(), os.path.join(os.path.abspath(words[0]), "libexifnorm.so.1")
     os.environ.update(EXIFNORM_LIBRARY=REAL, RIGHT=REAL)
     with tempfile.TemporaryDirectory() as ROOM:
-        for test in TESTS:
-            counter.collect(test.__name__, test)
+        with only_ctypes():
+            for test in TESTS:
+                counter.collect(test.__name__, test)
+        for test in EXTENDED:
+            counter.collect(f"{test.__name__}, with the extension", with_extension(test))
     return counter.finish()
 
 

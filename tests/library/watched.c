@@ -2,7 +2,7 @@
  *
  *   STATUS=N    each call but those for names returns the status N, and does nothing
  *   VERSION=V   the version is V
- *   MEET=N      a check waits until so many threads are inside one at the same time, or 20 seconds
+ *   MEET=N      a check, or a call for a text, waits until so many threads are inside one at the same time, or 20 seconds
  *               have passed
  *
  * A call with a pointer that is NULL, which exifnorm.h forbids, ends the process.
@@ -19,7 +19,7 @@
 unsigned long watched_calls[7];
 /* The length of the output of the calls for texts: of the last one, and of all together. */
 unsigned long watched_room, watched_rooms;
-/* The most threads that were inside a check at once. */
+/* The most threads that were inside such a call at once. */
 unsigned long watched_inside;
 
 static void *right;
@@ -95,6 +95,7 @@ uint32_t exifnorm_compare(const unsigned char *first, size_t first_length, const
         uint32_t status; \
         count(number); \
         need(block, out, written, fault); \
+        meet(); \
         watched_room = room; \
         watched_rooms += room; \
         *(void **)&call = dlsym(right, #name); \

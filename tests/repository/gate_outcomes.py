@@ -39,7 +39,7 @@ sqlite3: sqlite3
 """
 
 # The packages of which scripts use something else than such commands.
-OTHER_PACKAGES = """bash binutils debhelper dh-python exif exiv2 libclang-rt-14-dev libiptcdata0-dev python3 python3-distributed
+OTHER_PACKAGES = """bash binutils debhelper dh-python exif exiv2 libclang-rt-14-dev libiptcdata0-dev python3 python3-dev python3-distributed
 python3-piexif python3-pil python3-pip python3-rdflib python3-setuptools python3-wheel"""
 
 

@@ -29,7 +29,8 @@ import manifest
 import package_texts
 import shell_texts
 from counting import run_suite
-from installed import CALLS, DEBIAN_PYTHON, EXAMPLES, FILE, HEADER, MAKE, TOP, VERSION, Tree, modules, run, text_of, tree, with_folders
+from installed import CALLS, DEBIAN_PYTHON, EXAMPLES, FILE, HEADER, MAKE, TOP, VERSION
+from installed import Tree, modules, need_headers, run, text_of, tree, with_folders
 
 BLOCK = bytes.fromhex("4d4d002a00000008 0001 0112 0003 00000001 00060000 00000000")
 STRICT = ["-std=c99", "-Wall", "-Wextra", "-pedantic", "-Werror"]
@@ -110,6 +111,22 @@ class Files(unittest.TestCase):
         wrong = {it: "wrong" for it in re.findall(r"^([A-Za-z_]+) =", text_of("Makefile"), re.MULTILINE)}
         self.assertLessEqual({"DESTDIR", "INTERPRETER", "PREFIX", "PYTHON", "STRIP", "stage"}, set(wrong))
         self.assertEqual(run("make", "-n", "stage", "uninstall", **wrong), run("make", "-n", "stage", "uninstall"))
+
+    def test_without_pythons_headers_the_extension_module_is_left_out(self) -> None:
+        for folder, header in (("/no/headers", "/no/headers/Python.h"), ("", "Python.h")):
+            here = Tree(Path(tempfile.mkdtemp(dir=ROOM)), "/usr", DEBIAN_PYTHON, [f"PYTHONINCLUDE={folder}"])
+            line = f"exifnorm: there is no {header}, so _native.abi3.so is left out: Python calls the library by ctypes"
+            self.assertEqual([it for it in here.make("install").splitlines() if it.startswith("exifnorm:")], [line])
+            self.assertEqual(tree(here.root), here.expected())
+            code = "import exifnorm, exifnorm._library as l; print(exifnorm.normal(open('block', 'rb').read()).hex(), l._native)"
+            (ROOM / "block").write_bytes(BLOCK)
+            said = run(DEBIAN_PYTHON, "-B", "-c", code, folder=ROOM, PYTHONPATH=str(here.module_folder), EXIFNORM_LIBRARY="")
+            self.assertEqual(said, f"{BLOCK.hex()} None\n")
+
+    def test_an_extension_module_that_cannot_be_compiled_ends_the_installation(self) -> None:
+        need_headers(DEBIAN_PYTHON)
+        said = run(*MAKE, "stage", f"stage={ROOM}/uncompiled", "LDFLAGS=-l_no_such_library", f"PYTHON={DEBIAN_PYTHON}", status=2)
+        self.assertIn("_no_such_library", said)
 
     def test_debians_python_looks_there_for_packages(self) -> None:
         self.assertEqual(USR.packages, "/usr/lib/python3/dist-packages")
@@ -395,6 +412,17 @@ class Python(unittest.TestCase):
         code = "import exifnorm; exifnorm.version(); print(open('/proc/self/maps').read())"
         for it in (USR, OTHER):
             self.assertIn(str(it.at(f"lib/libexifnorm.so.{VERSION}")), self.python(it, "-c", code))
+
+    def test_package_uses_the_extension_module(self) -> None:
+        code = "import exifnorm._library as l; print(l._native.__file__, l.library().short_normal(bytes.fromhex('1c02780004') + b'Vase'))"
+        for it in (USR, OTHER):
+            need_headers(it.python)
+            path = it.module_folder / "exifnorm/_native.abi3.so"
+            self.assertEqual(self.python(it, "-c", code), f"{path} b'\\x1c\\x02x\\x00\\x04Vase'\n")
+            self.assertNotIn(".symtab", run("readelf", "-SW", path))
+            self.assertRegex(run("readelf", "-dW", path), r"\(FLAGS\).*BIND_NOW")
+            self.assertIn("GNU_RELRO", run("readelf", "-lW", path))
+            self.assertRegex(run("readelf", "-lW", path), r"GNU_STACK .* RW ")
 
     def test_package_runs_its_example(self) -> None:
         for it in (USR, OTHER):

@@ -8,6 +8,7 @@ import stat
 import subprocess
 from dataclasses import dataclass, field
 from pathlib import Path
+from unittest import SkipTest
 
 from paths import TOP
 
@@ -74,10 +75,21 @@ def with_folders(files: dict[str, int | str]) -> dict[str, int | str]:
     return dict(sorted({**files, **folders}.items()))
 
 
+def has_headers(python: str) -> bool:
+    """Whether the headers of a Python are there, with which the extension module is built."""
+    return os.path.exists(run(python, "-c", "import sysconfig; print(sysconfig.get_paths()['include'], end='/Python.h')"))
+
+
+def need_headers(python: str) -> None:
+    """Skips a test of the extension module where it can't be built."""
+    if not has_headers(python):
+        raise SkipTest(f"{python} has no Python.h: Debian's package python3-dev is not installed")
+
+
 def modules() -> list[str]:
-    """The files of the Python packages in the sources."""
+    """The files of the Python packages in the sources that are installed."""
     kept = (it for package in ("exifnorm", "exifnorm_pictures") for it in (TOP / "python" / package).rglob("*") if it.is_file())
-    return sorted(str(it.relative_to(TOP / "python")) for it in kept if it.parent.name != "__pycache__")
+    return sorted(str(it.relative_to(TOP / "python")) for it in kept if it.parent.name != "__pycache__" and it.suffix != ".c")
 
 
 def packages_path(python: str, prefix: str) -> str:
@@ -115,6 +127,12 @@ class Tree:
     @property
     def module_folder(self) -> Path:
         return Path(f"{self.root}{self.packages}")
+
+    @property
+    def extension(self) -> list[str]:
+        """The extension module, without the root's slash, if Python.h is there."""
+        is_left_out = any(it.startswith("PYTHONINCLUDE=") for it in self.words) or not has_headers(self.python)
+        return [] if is_left_out else [f"{self.packages[1:]}/exifnorm/_native.abi3.so"]
 
     def expected(self) -> dict[str, int | str]:
         """The list of all installed files."""
@@ -154,6 +172,6 @@ class Tree:
             f"{dist_info}/METADATA": FILE,
             f"{dist_info}/entry_points.txt": FILE,
         }
-        files.update({f"{packages}/{it}": FILE for it in modules()})
+        files.update({it: FILE for it in (*(f"{packages}/{it}" for it in modules()), *self.extension)})
         return with_folders(files)
 

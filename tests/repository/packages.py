@@ -27,11 +27,12 @@ sys.path.insert(0, str(Path(__file__).resolve().parent.parent))
 
 import paths
 from counting import run_module
-from installed import DEBIAN_PYTHON, EXAMPLES, FILE, TOP, VERSION, Tree, modules, run, tree
+from installed import DEBIAN_PYTHON, EXAMPLES, FILE, TOP, VERSION, Tree, has_headers, modules, need_headers, run, tree
 
 BLOCK = bytes.fromhex("4d4d002a00000008 0001 0112 0003 00000001 00060000 00000000")
 SYSTEM_PATH = "/usr/sbin:/usr/bin:/sbin:/bin"
 LICENCES = ("LICENSE-APACHE", "LICENSE-MIT")
+EXTENSION = "exifnorm/_native.abi3.so"
 
 
 def setUpModule() -> None:
@@ -82,7 +83,7 @@ class Wheel(unittest.TestCase):
     def test_has_all_modules_the_library_and_the_licences(self) -> None:
         info = (*LICENCES, "METADATA", "RECORD", "WHEEL", "entry_points.txt", "top_level.txt")
         wanted = [*modules(), "exifnorm/libexifnorm.so.1", *(f"exifnorm-{VERSION}.dist-info/{it}" for it in info)]
-        self.assertEqual(self.names, sorted(wanted))
+        self.assertEqual(self.names, sorted([*wanted, *[EXTENSION] * has_headers(DEBIAN_PYTHON)]))
         self.assertIn("exifnorm/py.typed", self.names)
         self.assertIn("exifnorm_pictures/py.typed", self.names)
 
@@ -94,7 +95,7 @@ class Wheel(unittest.TestCase):
         self.assertEqual(f"exifnorm-{VERSION}-{wheel['Tag']}.whl", self.file.name)
 
     def test_claims_manylinux_for_the_newest_glibc_that_it_needs(self) -> None:
-        symbols = run("readelf", "--dyn-syms", "-W", self.unpacked / "exifnorm/libexifnorm.so.1")
+        symbols = "".join(run("readelf", "--dyn-syms", "-W", it) for it in self.unpacked.glob("exifnorm/*.so*"))
         needed = {(int(a), int(b)) for a, b in re.findall(r"@GLIBC_(\d+)\.(\d+)", symbols)}
         self.assertNotEqual(needed, set())
         self.assertIn("-manylinux_%d_%d_" % max(needed), self.file.name)
@@ -111,6 +112,27 @@ class Wheel(unittest.TestCase):
             (folder := ROOM / name).mkdir()
             self.build(copy / "python", folder)
             self.assertEqual([it.name for it in folder.iterdir()], [f"exifnorm-{VERSION}-py3-none-linux_{os.uname().machine}.whl"], name)
+
+    def test_claims_no_manylinux_for_an_extension_module_that_needs_more(self) -> None:
+        need_headers(DEBIAN_PYTHON)
+        (folder := ROOM / "linked").mkdir()
+        self.build(TOP / "python", folder, LDFLAGS="-Wl,--no-as-needed -lm")
+        self.assertEqual([it.name for it in folder.iterdir()], [f"exifnorm-{VERSION}-py3-none-linux_{os.uname().machine}.whl"])
+
+    def test_without_a_compiler_it_has_all_but_the_extension_module(self) -> None:
+        (folder := ROOM / "uncompiled").mkdir()
+        self.build(TOP / "python", folder, CC="no-such-compiler -O2")
+        with zipfile.ZipFile(folder / self.file.name) as it:
+            self.assertEqual(sorted(it.namelist()), [it for it in self.names if it != EXTENSION])
+            it.extractall(ROOM / "by ctypes")
+        said = python_of(ROOM / "by ctypes", "-c", "import exifnorm, exifnorm._library as l; print(l._native, exifnorm.version())")
+        self.assertEqual(said, f"None {VERSION}\n")
+
+    def test_package_runs_with_its_own_extension_module(self) -> None:
+        need_headers(DEBIAN_PYTHON)
+        code = f"import exifnorm, exifnorm._library as l; print(l._native.__file__, exifnorm.normal({BLOCK}) == {BLOCK} == l.library().short_normal({BLOCK}))"
+        self.assertEqual(python_of(self.unpacked, "-c", code), f"{self.unpacked / EXTENSION} True\n")
+        self.assertNotIn(".symtab", run("readelf", "-SW", self.unpacked / EXTENSION))
 
     def test_installer_of_packages_takes_it(self) -> None:
         target = ROOM / "target"
@@ -251,7 +273,7 @@ class Debian(unittest.TestCase):
             found.update(files)
         papers = ("changelog.Debian.gz", "changelog.gz", "copyright")
         expected = {f"usr/share/doc/{name}/{it}": FILE for name in self.NAMES for it in papers}
-        for name, mode in Tree(Path("/"), "/usr", DEBIAN_PYTHON).expected().items():
+        for name, mode in Tree(Path("/"), "/usr", DEBIAN_PYTHON, ["PYTHONINCLUDE="]).expected().items():
             moved = re.sub(r"^usr/lib/(lib|pkgconfig)", rf"{self.libraries}/\1", name).replace("site-functions", "vendor-completions")
             if not re.search(r"/$|LICENSE-|CHANGELOG|share/exifnorm/installed|exifnorm/libexifnorm", moved):
                 expected[f"{moved}.gz" if "/man/" in moved else moved] = mode
@@ -397,7 +419,9 @@ class Archive(unittest.TestCase):
             {it for it in found if it.startswith(folders) and "/crates/" not in it}, wanted | {f"share/doc/exifnorm/exifnorm-{VERSION}.spdx.json"}
         )
         self.assertIn("share/doc/exifnorm/crates/clap/LICENSE-MIT", found)
-        self.assertEqual({f"lib/python3/site-packages/{it}" for it in modules()} - found, set())
+        in_python = {it.removeprefix("lib/python3/site-packages/") for it in found if it.startswith("lib/python3/site-packages/exifnorm")}
+        extension = {EXTENSION} if has_headers("python3") else set()
+        self.assertEqual({it for it in in_python if ".dist-info/" not in it}, {*modules(), "exifnorm/libexifnorm.so.1", *extension})
 
     def test_runs_where_it_is_unpacked(self) -> None:
         clean = {"PYTHONPATH": "", "EXIFNORM_LIBRARY": "", "PYTHONDONTWRITEBYTECODE": "1"}
