@@ -14,14 +14,13 @@ the environment a script runs only the tests whose name has that text, and with 
 The line before the last one has the number of the checks that the tests made, if there are some (checks.py): `N checks`.
 """
 
-import doctest
 import os
 import threading
 import traceback
 import unittest
 from types import ModuleType
 from typing import Any, Callable, Iterable, Optional, Tuple
-from unittest import SkipTest, mock
+from unittest import SkipTest
 
 import checks
 
@@ -165,9 +164,15 @@ def reason(why: BaseException) -> str:
 
 def examples(module: ModuleType) -> None:
     """Runs the examples of a module's docstrings. A wrong example is a failure, and so is a module without any."""
-    with mock.patch.dict(os.environ):
-        os.environ.pop("TEST_ONLY", None)
+    import doctest  # with what it imports, it takes as long as a short test: only the scripts that use it wait for it
+
+    environment = dict(os.environ)
+    os.environ.pop("TEST_ONLY", None)
+    try:
         found = doctest.testmod(module)
+    finally:
+        os.environ.clear()
+        os.environ.update(environment)
     assert found.attempted, f"{module.__name__} has no example"
     assert not found.failed, f"{found.failed} of {found.attempted} examples of {module.__name__} are wrong"
     checks.count(found.attempted)
@@ -235,6 +240,15 @@ class Outcomes(unittest.TestResult):
 
     def addUnexpectedSuccess(self, test: Any) -> None:
         self._fault(test, "it is marked as one that fails, and passed")
+
+
+def may_have(source: str, only: str) -> bool:
+    """Whether a module may have a test that TEST_ONLY asks for: the class and the method in a name are in the source.
+
+    >>> [may_have("class Sums: def test_two(self):", it) for it in ("Sums.test_t", "product|two", "Sums.test_three", "")]
+    [True, True, False, True]
+    """
+    return any(all(it in source for it in text.split(".")) for text in only.split("|"))
 
 
 def name_of(test: Any) -> str:

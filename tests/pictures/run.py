@@ -19,7 +19,7 @@ sys.dont_write_bytecode = True
 HERE = os.path.dirname(os.path.abspath(__file__))
 sys.path[:0] = [HERE, os.path.dirname(HERE), os.path.join(os.path.dirname(os.path.dirname(HERE)), "python")]
 
-from counting import Counter, Outcomes, name_of, tests_in
+from counting import Counter, Outcomes, may_have, name_of, tests_in
 from studio import Studio, WithPictures
 
 PATIENCE = 10  # seconds that a process may take to end after the last test
@@ -37,13 +37,12 @@ def main():
         Studio.close()
 
 
-def modules_with(texts):
-    """The modules that may have a test whose name has one of these texts: the class and the method that it has are in the source."""
+def modules_with(only):
+    """The modules that may have a test that is asked for."""
     for name in sorted(fnmatch.filter(os.listdir(HERE), "test_*.py")):
         with open(os.path.join(HERE, name), encoding="utf-8") as file:
-            source = file.read()
-        if any(all(it in source for it in text.split(".")) for text in texts):
-            yield name
+            if may_have(file.read(), only):
+                yield name
 
 
 def running():
@@ -69,7 +68,7 @@ def see_that_all_have_ended(counter):
 
 def run_all(only):
     counter, loader = Counter(only), unittest.TestLoader()
-    suites = [loader.discover(HERE, it) for it in modules_with(only.split("|"))]
+    suites = [loader.discover(HERE, it) for it in modules_with(only)]
     found = [it for suite in suites for it in tests_in(suite) if counter.asks(name_of(it))]
     if any(isinstance(it, WithPictures) for it in found):
         Studio.put_commands()

@@ -186,12 +186,15 @@ def make_refused(folder):
 
 
 def make_many(folder):
-    """2,000 pictures, edited by one ExifTool."""
+    """2,000 pictures with 200 descriptions. ExifTool edits the first; the others are as it would make them, in a tenth of its time."""
     first = jpeg(folder, "p0000.jpg", "32x24")
+    words = ["-Make=Leica", "-IPTC:Keywords=many", "-ImageDescription=p000", "-UserComment=comment"]
+    tool(folder, "exiftool", "-q", "-overwrite_original", *words, first)
+    before, described, after = read(first).partition(b"p000")
+    if b"p000" in after or not described:
+        raise AssertionError("the description must be there once")
     for number in range(1, 2000):
-        shutil.copyfile(first, os.path.join(folder, f"p{number:04d}.jpg"))
-    words = ["-Make=Leica", "-IPTC:Keywords=many", "-ImageDescription<${FileName;s/.\\.jpg//}", "-UserComment=comment"]
-    tool(folder, "exiftool", "-q", "-overwrite_original", *words, folder)
+        write(os.path.join(folder, f"p{number:04d}.jpg"), before + b"p%03d" % (number // 10) + after)
 
 
 def collection():
@@ -232,9 +235,13 @@ class WithPictures(unittest.TestCase):
     def path(self, *names):
         return os.path.join(self.folder, *names)
 
+    def called(self, words, folder, given=None, **more):
+        """How exifnorm-pictures ends."""
+        return run(["exifnorm-pictures", *words], folder, given, **more)
+
     def asked(self, *words, status=0, given=None, folder=None, **more):
         """Runs exifnorm-pictures, which must end with this status; its lines."""
-        done = run(["exifnorm-pictures", *words], folder or self.folder, given, **more)
+        done = self.called(words, folder or self.folder, given, **more)
         said = done.stdout.decode("utf-8", "surrogateescape"), done.stderr.decode("utf-8", "replace")
         self.assertEqual(done.returncode, status, f"{words}\n{said[0]}\n{said[1]}")
         self.complaint = said[1]

@@ -8,6 +8,7 @@ import subprocess
 import sys
 import time
 
+from in_process import InFolder
 from made_blocks import BLOCKS, LONG, MAKE, MODEL, block, with_exif, with_iptc
 from studio import SMALL_JPEG, Studio, WithPictures, needs, read, run, tool, write
 
@@ -15,7 +16,7 @@ ONE, OTHER, THIRD = (with_exif(SMALL_JPEG, block([MAKE[:-4] + it])) for it in (b
 GIF = b"GIF89a\x01\0\x01\0\0\0\0;"
 
 
-class Archive(WithPictures):
+class Archive(InFolder):
     def setUp(self):
         super().setUp()
         os.mkdir(self.path("p"))
@@ -414,7 +415,7 @@ class Rights(WithPictures):
         self.assertEqual(os.listdir(self.path("shut")), [])
 
 
-class Kinds(WithPictures):
+class Kinds(InFolder):
     """Each kind of block by itself."""
 
     def compared(self, one, other, status=1):
@@ -520,7 +521,7 @@ class Kinds(WithPictures):
         self.assertEqual(lines[-1], "13 different")
 
 
-class Json(WithPictures):
+class Json(InFolder):
     @needs("exiftool")
     def test_each_command(self):
         os.mkdir(self.path("p"))

@@ -5,6 +5,7 @@ import os
 import shutil
 import sqlite3
 
+from in_process import InFolder
 from made_blocks import BLOCKS, LONG, MAKE, UNDEFINED, block, entry, table, with_exif, with_iptc
 from studio import SMALL_JPEG, WithPictures, collection, needs, read, refused, run, tool, write
 
@@ -87,7 +88,7 @@ class Index(WithPictures):
 
 
 @needs("exiftool")
-class SameAndChanged(WithPictures):
+class SameAndChanged(InFolder):
     def test_groups_also_where_bytes_differ(self):
         self.copied(collection())
         self.asked("index", "pictures", "--catalogue", "c", "--quiet")
@@ -174,7 +175,7 @@ class ShowAndCaptions(WithPictures):
         self.assertTrue(any(it.split()[1:2] == ["Artist"] for it in self.asked("show", "picture.tif")))
 
 
-class Explain(WithPictures):
+class Explain(InFolder):
     def test_each_cause(self):
         folder = refused()
         for cause in BLOCKS:
@@ -209,12 +210,12 @@ class Explain(WithPictures):
         for at in range(0, len(good), 3):
             write(self.path(f"{at:03}"), good[:at] + bytes([255 - good[at]]) + good[at + 1 :])
             write(self.path(f"{at:03}-cut"), good[:at])
-        done = run(["exifnorm-pictures", "explain", "--block", *sorted(os.listdir(self.folder))], self.folder)
+        done = self.called(["explain", "--block", *sorted(os.listdir(self.folder))], self.folder)
         self.assertEqual((done.returncode, done.stderr), (2, b""))
 
 
 @needs("exiftool")
-class Mend(WithPictures):
+class Mend(InFolder):
     def mended(self, name, *, step, status=0):
         before = read(os.path.join(refused(), name))
         found = json.loads(self.asked("mend", "--json", os.path.join(refused(), name), "out.jpg", status=status)[0])
@@ -237,7 +238,7 @@ class Mend(WithPictures):
     def test_each_cause_that_a_jpeg_can_have(self):
         for name in sorted(it for it in os.listdir(refused()) if it.endswith(".jpg")):
             with self.subTest(name):
-                done = run(["exifnorm-pictures", "mend", os.path.join(refused(), name), name], self.folder)
+                done = self.called(["mend", os.path.join(refused(), name), name], self.folder)
                 self.assertIn(done.returncode, (0, 1), done.stdout)
                 self.asked("explain", name)
 

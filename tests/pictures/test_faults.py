@@ -8,6 +8,7 @@ import sqlite3
 import subprocess
 import sys
 
+from in_process import InFolder
 from made_blocks import BLOCKS, MAKE, block, with_exif
 from studio import SMALL_JPEG, Studio, WithPictures, needs, read, run, write
 
@@ -235,7 +236,7 @@ class Tools(WithPictures):
         self.assertEqual(os.listdir(odd), [])
 
 
-class Catalogues(WithPictures):
+class Catalogues(InFolder):
     """What isn't ours, or is damaged."""
 
     def setUp(self):
@@ -296,7 +297,7 @@ class Catalogues(WithPictures):
             self.database(name, statement, "UPDATE pictures SET exif = NULL" if what != "text for a path" else "SELECT 1")
             with self.subTest(what):
                 for call in (["changed", name, "good"], ["changed", "good", name], ["report", "--catalogue", name, "--json"]):
-                    done = run(["exifnorm-pictures", *call], self.folder)
+                    done = self.called(call, self.folder)
                     self.assertIn(done.returncode, (0, 1, 2, 4), call)
                     self.assertNotIn(b"Traceback", done.stderr)
                     self.assertNotIn(b"internal error", done.stderr)

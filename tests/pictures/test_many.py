@@ -16,14 +16,15 @@ class Many(WithPictures):
     alone = True  # what is measured runs by itself
 
     def test_time_beside_exiftool(self):
-        """The times are printed, but not checked: they depend on the machine's other work."""
+        """The times are printed, but not checked: they depend on the machine's other work. ExifTool reads a quarter of the pictures."""
         folder = many()
-        words = ["exiftool", "-q", "-q", "-json", "-b", "-Exif", "-IPTC", folder]
+        quarter = [os.path.join(folder, it) for it in sorted(os.listdir(folder))[::4]]
+        words = ["exiftool", "-q", "-q", "-json", "-b", "-Exif", "-IPTC", *quarter]
         tool, whole = [], []
         for number in range(2):
             began = time.monotonic()
             self.assertEqual(run(words, self.folder).returncode, 0)
-            tool.append(time.monotonic() - began)
+            tool.append(4 * (time.monotonic() - began))
             began = time.monotonic()
             self.assertEqual(self.asked("index", folder, "--catalogue", f"c{number}", "--quiet"), ["2000 accepted"])
             whole.append(time.monotonic() - began)

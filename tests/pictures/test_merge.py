@@ -5,15 +5,16 @@ import shutil
 import sqlite3
 import sys
 
+from in_process import InFolder
 from made_blocks import BLOCKS, MAKE, block, with_exif, with_iptc
-from studio import SMALL_JPEG, WithPictures, run, write
+from studio import SMALL_JPEG, run, write
 
 ONE, OTHER = (with_exif(SMALL_JPEG, block([MAKE[:-4] + it])) for it in (b"One\0", b"Two\0"))
 TABLES = ("path, root, size, modified, changed, inode, type, extractor, problem, detail, exif, iptc, xmp, not_read, exif_octets,"
           " iptc_octets, xmp_octets")  # fmt: skip
 
 
-class Merge(WithPictures):
+class Merge(InFolder):
     def setUp(self):
         super().setUp()
         for folder, names in (("one", ("a.jpg", "b.jpg", "both.jpg")), ("two", ("c.jpg", "d.jpg", "both.jpg"))):

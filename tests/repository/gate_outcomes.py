@@ -500,8 +500,10 @@ class Listed(unittest.TestCase):
         self.assertLessEqual({"build", "program", "tests", "sources", "launcher", "streams", "library", "documents", "pictures"}, set(names))
 
     def modules(self, script: Path, known: dict) -> set:
-        """A script and the modules that it imports, without those that are scripts themselves."""
-        found, left = {script}, [script]
+        """A script and the modules that it imports, also by a pattern of their names, without those that are scripts themselves."""
+        patterns = re.findall(r'glob\("(\*\w+\.py)"\)', script.read_text(encoding="utf-8"))
+        by_pattern = [it for pattern in patterns for it in script.parent.glob(pattern)]
+        found, left = {script, *by_pattern}, [script, *by_pattern]
         while left:
             for name in re.findall(r"^ *(?:import|from) (\w+)", left.pop().read_text(encoding="utf-8"), re.M):
                 module = known.get(name)
