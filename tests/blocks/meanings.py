@@ -5,7 +5,9 @@ block. `Exif` is the meaning of an Exif block, and `Record` is a caption record.
 """
 
 import struct
+from collections import defaultdict
 from dataclasses import dataclass, field
+from operator import itemgetter
 from random import Random
 
 MAIN, EXIF, INTEROP, GPS, THUMB = DIRECTORIES = ("main", "exif", "interop", "gps", "thumb")
@@ -77,6 +79,12 @@ def line_of(head, tail):
     return f"{head}: {tail}\n" if tail else f"{head}:\n"
 
 
+def each_spelled(spell, items):
+    """What `spell` makes of each item, in their order. It is called once for equal items, of which large blocks have millions."""
+    spelled = {it: spell(it) for it in set(items)}
+    return map(spelled.__getitem__, items)
+
+
 # ---- caption records
 
 GROUP_OF = {(2, 27): (2, 26), (2, 47): (2, 45), (2, 50): (2, 45), (2, 85): (2, 80)}
@@ -91,6 +99,8 @@ LABELS = [
     ((2, 25), {25: "keyword"}),
     ((2, 103), {103: "inventory"}),
 ]
+NAME = itemgetter(0, 1)  # the record and the number of a DataSet
+LABELLED = {(1, 90), *((2, number) for _, labels in LABELS for number in labels)}  # the DataSets that the captions show
 
 
 ESCAPED = [chr(it) if 0x20 <= it <= 0x7E and it != 0x5C else f"\\{it:02x}" for it in range(256)]
@@ -108,31 +118,32 @@ class Record:
 
     def groups(self):
         """The lists of the groups, by the names of the groups in ascending order."""
-        lists = {}
-        for record, number, octets in self.datasets:
-            lists.setdefault(GROUP_OF.get((record, number), (record, number)), []).append((record, number, octets))
+        lists = defaultdict(list)
+        for name, it in zip(map(NAME, self.datasets), self.datasets):
+            lists[GROUP_OF.get(name, name)].append(it)
         return dict(sorted(lists.items()))
+
+    def ordered(self):
+        """The DataSets in the order of the normal form."""
+        return [it for them in self.groups().values() for it in them]
 
     def spelled(self, extended=0, zeros=0):
         """An IIM block with this record; `extended` is the number of bytes of the lengths of extended DataSets, 0 for standard ones."""
-        return b"".join(dataset(*it, extended) for it in self.datasets) + bytes(zeros)
+        return b"".join(each_spelled(lambda it: dataset(*it, extended), self.datasets)) + bytes(zeros)
 
     def normal(self):
-        return b"".join(dataset(*it, 0) for them in self.groups().values() for it in them)
+        return Record(self.ordered()).spelled()
 
     def lines(self):
-        for them in self.groups().values():
-            for record, number, octets in them:
-                yield line_of(f"{record}:{number} {len(octets)}", octets.hex())
+        return each_spelled(dataset_line, self.ordered())
 
     def caption_lines(self):
-        groups = self.groups()
+        groups = Record([it for it in self.datasets if NAME(it) in LABELLED]).groups()
         declared = [octets for _, _, octets in groups.get((1, 90), [])] == [b"\x1b\x25\x47"]
         yield f"charset: {'UTF-8' if declared else 'not declared'}\n"
         for group, labels in LABELS:
-            for _, number, octets in groups.get(group, []):
-                if number in labels:
-                    yield f"{labels[number]}: {escaped(octets)}\n"
+            shown_here = [it for it in groups.get(group, []) if it[1] in labels]
+            yield from each_spelled(lambda it, labels=labels: f"{labels[it[1]]}: {escaped(it[2])}\n", shown_here)
 
     kind = "iim"
 
@@ -141,6 +152,11 @@ class Record:
 
     def captions(self):
         return "".join(["iim\n", *self.caption_lines()])
+
+
+def dataset_line(it):
+    record, number, octets = it
+    return line_of(f"{record}:{number} {len(octets)}", octets.hex())
 
 
 def dataset(record, number, octets, extended):
@@ -190,7 +206,7 @@ class Exif:
                 lines.append(line_of(f"jpeg {len(self.jpeg)}", self.jpeg.hex()))
             if name == THUMB and self.strips is not None:
                 lines.append(f"strips {len(self.strips)}:\n")
-                lines += [line_of(f"strip {len(it)}", it.hex()) for it in self.strips]
+                lines += each_spelled(lambda it: line_of(f"strip {len(it)}", it.hex()), self.strips)
         return "".join(lines)
 
     def captions(self):
@@ -273,10 +289,12 @@ def laid(meaning, layout):
         layout.chance.shuffle(parts)
     places, end = {}, 8
     for part, size in parts:
-        end += 0 if layout.normal else layout.chance.randint(0, layout.gap) if layout.gap else 0
+        if layout.gap:
+            end += layout.chance.randrange(layout.gap + 1)
         places[part] = end
         end += size
-        end += end % 2 if layout.normal else 0
+        if layout.normal:
+            end += end % 2
     block = bytearray(layout.spare(end))
     order = layout.order
     block[:8] = (b"MM" if order == ">" else b"II") + struct.pack(order + "HI", 42, places["table", MAIN])

@@ -50,25 +50,17 @@ def run_in(folder, program, case, environment, seconds, keeps_open):
             os.close(given)
         if case.output_to:
             taken.close()
-    said = {"stdout": b"", "stderr": b""}
-    threads = [
-        threading.Thread(target=take, args=(started, name, said), daemon=True)
-        for name in said
-        if getattr(started, name)
-    ]
-    if started.stdin:
-        threads.append(threading.Thread(target=feed, args=(started.stdin, case), daemon=True))
-    for it in threads:
-        it.start()
+    if case.in_pieces or case.endless:
+        stdin, started.stdin = started.stdin, None
+        threading.Thread(target=feed, args=(stdin, case), daemon=True).start()
     try:
-        status = started.wait(seconds)
+        output, complaints = started.communicate(case.input if started.stdin else None, seconds)
+        status = started.returncode
     except subprocess.TimeoutExpired:
         started.kill()
-        started.wait()
+        output, complaints = started.communicate(timeout=20)
         status = "no end"
-    for it in threads:
-        it.join(20)
-    return Outcome(status, said["stdout"], said["stderr"])
+    return Outcome(status, output or b"", complaints)
 
 
 def sink(name):
@@ -80,13 +72,8 @@ def sink(name):
     return os.fdopen(writes, "wb")
 
 
-def take(started, name, said):
-    with getattr(started, name) as stream:
-        said[name] = stream.read()
-
-
 def feed(stream, case):
-    """Writes the case's input, in pieces if the case has these, and then the bytes that it repeats without end."""
+    """Writes the case's input in its pieces, and then the bytes that it repeats without end."""
     piece = case.in_pieces or max(len(case.input), 1)
     try:
         for at in range(0, len(case.input), piece):

@@ -96,21 +96,27 @@ def case_of(file, command=""):
 
 def judge_files(program, files, commands=("",)):
     """What is wrong with the results for these files, each with the next of the commands."""
+    return judge_runs(program, (case_of(file, commands[i % len(commands)]) for i, file in enumerate(files)))
+
+
+def judge_runs(program, cases):
+    """What is wrong with the results of runs for one file each."""
     bad = []
-    for i, file in enumerate(files):
-        expected = case_of(file, commands[i % len(commands)])
-        bad += [f"for the file {file[:100].hex()} of {len(file)} bytes, by {expected.words[:1]}: {it}" for it in complaints_of(expected, run(program, expected))]
+    for case in cases:
+        file = case.files["a"] if case.files else case.input
+        bad += [f"for the file {file[:100].hex()} of {len(file)} bytes, by {case.words[:1]}: {it}" for it in complaints_of(case, run(program, case))]
         if len(bad) > 3:
             return [*bad[:3], "and no further ones were tried"]
     return bad
 
 
 def judge_sweep(program, sweep):
-    bad = judge_files(program, sweep.blocks)
-    accepted = [block for block in sweep.blocks if case_of(block).status == 0]
+    expected = [case_of(block) for block in sweep.blocks]
+    bad = judge_runs(program, expected)
+    accepted = [it for it in expected if it.status == 0]
     if sweep.accepted is not None and len(accepted) != sweep.accepted:
         bad.append(f"{sweep.accepted} blocks were to be accepted, and the rules accept {len(accepted)}")
-    forms = {case_of(block).output for block in accepted}
+    forms = {it.output for it in accepted}
     if sweep.normal is not None and (forms != {sweep.normal} or len(accepted) < len(sweep.blocks)):
         bad.append(f"expected the one normal form {shown(sweep.normal)}, and there are {len(forms)}, of {len(accepted)} blocks")
     return bad + judge_files(program, sorted(forms))
@@ -129,12 +135,13 @@ def cases_of_kind(kind):
     yield Case("show", words=["show", "b"], files=files, output=meaning.listing().encode())
     yield Case("captions", words=["captions", "b"], files=files, output=meaning.captions().encode())
     yield Case("compare", words=["compare", "a", "b"], files=files, output=b"same\n")
-    yield Case("compare with another", words=["compare", "b", "c"], files={"b": last, "c": other(kind)}, status=1, output=b"different\n")
+    yield Case("compare with another", words=["compare", "b", "c"], files={"b": last, "c": other(kind, normal)}, status=1, output=b"different\n")
 
 
-def other(kind):
+def other(kind, normal):
+    """A block whose meaning is not the one with this normal form."""
     block = kind.other()
-    return block if block != kind.meaning.normal() else b"\x1c\x02\x05\0\0"
+    return block if block != normal else b"\x1c\x02\x05\0\0"
 
 
 def kept_of(meaning):
