@@ -394,7 +394,7 @@ class Sources(unittest.TestCase):
         """Of sources whose library isn't built."""
         quiet = ("memory.push(&mut list, 1)", "fields.push(memory, 1)", "list.push_reserved(1)", "list.len()")
         loud = ("list.push(1)", "Vec::new(alloc)", 'format!(in alloc; "a")', "bytes.to_vec(alloc)", "words.collect(alloc)", "Command::new(alloc, a)",
-                "list.reserve(1)", "text.push_str(a)")  # fmt: skip
+                "list.reserve(1)", "text.push_str(a)", "list.insert(0, a)")  # fmt: skip
         with mock.patch.object(sources, "GROWERS", {"crates/px_one/src/lib.rt: two"}):
             for body in (*quiet, *loud):
                 text = f"pub fn one(alloc: A, a: u8) -> u8 {{ {body} }}\npub fn two(alloc: A) -> u8 {{ {loud[0]} }}\n"

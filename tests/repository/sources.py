@@ -108,7 +108,7 @@ MAKERS = {
 ALLOCATES = re.compile(
     r"\b(?:Arc|Arg|BTreeMap|Box|Command|Rc|String|Vec)::|\b(?:format|vec)!|\.(?:clone|collect|to_owned|to_string|to_vec)\(|"
     r"\.(?:subcommand\(\w|try_get_matches_from\()|"
-    r"(?<!\bmemory)\.(?:extend_from_slice|push|push_str|reserve|reserve_exact|resize)\((?!memory\b)"
+    r"(?<!\bmemory)\.(?:extend_from_slice|insert|push|push_str|reserve|reserve_exact|resize)\((?!memory\b)"
 )
 
 # The functions that call what allocates and are none of `Memory`: those over clap, which takes no `Memory`, and the one that copies the
