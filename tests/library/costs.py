@@ -20,7 +20,7 @@ HERE = os.path.dirname(os.path.abspath(__file__))
 ITEM, FEW, COUNTERS = 24, 64, 4 * 65536
 SMALL, SLACK = 1024, 1.03  # bytes of small lists; 3 % more than is allocated now
 LONG = 300_000  # DataSets
-COUNTED = 50_000  # strips whose instructions are counted
+COUNTED = (50_000, 140_000)  # strips whose instructions are counted: all in the first megabyte of the block, and all after it
 # The instructions for a strip at most, in the usual order and in others: an eighth more than now.
 STRIP = {"check": (18, 52), "normalise": (181, 216), "compare": (152, 220)}
 SAME, SORTED = 1.3, 3.0  # how often the instructions of the usual order an unusual one takes, and one that has to be sorted
@@ -145,15 +145,17 @@ class Costs:
         """Strips in the usual order are judged by one look at their whole span, and others one by one. A limit that is more than twice what a
         strip takes would notice no slower body."""
         self._need_valgrind()
-        blocks = {name: strips(order, COUNTED) for name, order in (("ascending", 1), ("descending", -1), ("random", 0))}
-        require(len({*blocks.values()}) == len(blocks), "two orders are the same block")
-        for call, limits in STRIP.items():
-            each = {name: self._instructions(call, block) / COUNTED for name, block in blocks.items()}
-            for name, count in each.items():
-                most, more = limits[name != "ascending"], count / each["ascending"]
-                require(count <= most, f"{call} of strips in {name} order: {count:.1f} instructions for each, and not {most}")
-                require(count >= most / 2, f"{call} of strips in {name} order: {count:.1f} instructions for each: lower the limit of {most}")
-                require(more <= (SAME if call == "normalise" else SORTED), f"{call} of strips in {name} order takes {more:.2f} times the instructions")
+        for strip_count in COUNTED:
+            blocks = {name: strips(order, strip_count) for name, order in (("ascending", 1), ("descending", -1), ("random", 0))}
+            require(len({*blocks.values()}) == len(blocks), "two orders are the same block")
+            for call, limits in STRIP.items():
+                each = {name: self._instructions(call, block) / strip_count for name, block in blocks.items()}
+                for name, count in each.items():
+                    what = f"{call} of {strip_count} strips in {name} order"
+                    most, more = limits[name != "ascending"], count / each["ascending"]
+                    require(count <= most, f"{what}: {count:.1f} instructions for each, and not {most}")
+                    require(count >= most / 2, f"{what}: {count:.1f} instructions for each: lower the limit of {most}")
+                    require(more <= (SAME if call == "normalise" else SORTED), f"{what} takes {more:.2f} times the instructions")
 
     def are_like_the_usual_order_of_groups(self) -> None:
         names = list(orders.ascending(orders.ALL))

@@ -343,18 +343,19 @@ class Limits(unittest.TestCase):
         """At most so many for each strip in the usual order, and in each other one, at least half as many, and at most 1.3 or 3 times those
         in the usual order."""
         limits = {"check": (18, 52), "normalise": (181, 216), "compare": (152, 220)}
-        calls = [(order, call) for call in limits for order in (1, -1, 0)]
-        few = [((1, call), 0.55, "times the instructions") for call in ("check", "normalise")]  # within both limits
+        calls = [(count, order, call) for count in (50_000, 140_000) for call in limits for order in (1, -1, 0)]
+        few = [((count, 1, call), 0.55, "times the instructions") for count, order, call in calls if order == 1 and call != "compare"]  # within both limits
         wrong_ones = [(it, times, why) for it in calls for times, why in ((1.01, "and not"), (0.49, "lower the limit"))]
         for wrong, times, why in (((), 0.99, ""), *wrong_ones, *few):
             seen = []
 
             def counted(call, block, wrong=wrong, times=times, seen=seen):
-                seen.append((int(block), call))
-                return 50_000 * limits[call][int(block) != 1] * (times if wrong in ((), seen[-1]) else 0.99 if times == 0.55 else 0.9)
+                count, order = map(int, block.split())
+                seen.append((count, order, call))
+                return count * limits[call][order != 1] * (times if wrong in ((), seen[-1]) else 0.99 if times == 0.55 else 0.9)
 
             counts = mock.patch.object(self.it, "_instructions", counted), mock.patch.object(costs.shutil, "which", lambda _: "is there")
-            blocks = mock.patch.object(costs, "strips", lambda order, count: str(order).encode() if count == 50_000 else b"")
+            blocks = mock.patch.object(costs, "strips", lambda order, count: f"{count} {order}".encode())
             with counts[0], counts[1], blocks:
                 with self.assertRaisesRegex(AssertionError, why) if wrong else contextlib.nullcontext():
                     self.it.are_few_instructions_for_each_strip()
