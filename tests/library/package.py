@@ -793,23 +793,18 @@ def symbols_of_the_extension(counter: Counter) -> None:
     counter.check("the oldest Python", f"#define Py_LIMITED_API {major << 24 | minor << 16:#010x}\n" in source)
 
 
-TESTS = (
+# Those that call `normal`: by ctypes alone, and with the extension module.
+OF_NORMAL = (
     blocks_of_tools,
     refusals_of_tools,
     fields_of_each_kind,
-    fields_that_are_nearly_others,
     forms_that_are_too_long,
-    captions_once,
-    texts_about_the_size_of_the_kept_buffer,
     digests,
     ways_to_give_a_block,
     what_is_no_block,
     blocks_of_no_bytes,
     an_object_without_an_address,
     examples_of_the_modules,
-    names_and_arguments,
-    exceptions,
-    objects,
     places_of_the_library,
     statuses,
     calls_of_the_library,
@@ -819,26 +814,17 @@ TESTS = (
     sixteen_threads,
     calls_at_once,
 )
-# Those that call `normal`.
+BY_CTYPES = (
+    *OF_NORMAL,
+    fields_that_are_nearly_others,
+    captions_once,
+    texts_about_the_size_of_the_kept_buffer,
+    names_and_arguments,
+    exceptions,
+    objects,
+)
 EXTENDED = (
-    blocks_of_tools,
-    refusals_of_tools,
-    fields_of_each_kind,
-    forms_that_are_too_long,
-    digests,
-    ways_to_give_a_block,
-    what_is_no_block,
-    blocks_of_no_bytes,
-    an_object_without_an_address,
-    examples_of_the_modules,
-    places_of_the_library,
-    statuses,
-    calls_of_the_library,
-    loads,
-    bytes_of_the_calls,
-    what_is_given_back,
-    sixteen_threads,
-    calls_at_once,
+    *OF_NORMAL,
     blocks_that_the_extension_takes,
     the_bytes_of_the_extension,
     addresses,
@@ -856,7 +842,7 @@ def main(words: List[str]) -> int:
     os.environ.update(EXIFNORM_LIBRARY=REAL, RIGHT=REAL)
     with tempfile.TemporaryDirectory() as ROOM:
         with only_ctypes():
-            for test in TESTS:
+            for test in BY_CTYPES:
                 counter.collect(test.__name__, test)
         for test in EXTENDED:
             counter.collect(f"{test.__name__}, with the extension", with_extension(test))
