@@ -62,21 +62,31 @@ class Compiler:
             self.running.discard(started)
         return status
 
-    def words(self, crate: str, made: Path, jobs: int) -> list[str]:
-        """The call that proves and builds a crate: a library for other crates with its statements, which load faster than its proofs."""
+    def given(self, crate: str, jobs: int) -> list[str]:
+        """The arguments of each call for a crate: its sources, the libraries that it uses, and the logic."""
         used = {it: self.libraries if it in self.crates.uses else f"{self.kit}/rlibs" for it in ["std", *self.crates.uses[crate]]}
-        words = [f"{self.kit}/bin/rattle", "build", "--crate-name", crate]
-        words += ["src/main.rt" if self.crates.is_program(crate) else "src/lib.rt"]
+        words = ["--crate-name", crate, "src/main.rt" if self.crates.is_program(crate) else "src/lib.rt"]
         for name, folder in used.items():
             words += ["--extern", f"{name}={folder}/{name}.rlib"]
         for folder in (f"{self.kit}/rlibs", self.libraries):
             words += ["-L", f"dependency={folder}"]
         words += ["--antt-project", f"{self.kit}/rattle/logic/antt-project.json", "--logic-built", f"{self.kit}/logic_built"]
-        words += ["--jobs", str(jobs), "--links", f"{crate}=", "--empty-contracts", "-o", str(made)]
+        return [*words, "--jobs", str(jobs), "--links", f"{crate}="]
+
+    def kind(self, crate: str) -> list[str]:
+        """The argument that a static library needs."""
+        return ["--crate-type", "staticlib"] * (crate in self.crates.archives)
+
+    def words(self, crate: str, made: Path, jobs: int) -> list[str]:
+        """The call that proves and builds a crate: a library for other crates with its statements, which load faster than its proofs."""
+        words = [f"{self.kit}/bin/rattle", "build", *self.given(crate, jobs), "--empty-contracts", "-o", str(made)]
         if self.crates.is_program(crate) or crate in self.crates.archives:
-            words += ["--toolchain", f"{self.kit}/toolchain", "--backend", "llvm"]
-            return words + ["--crate-type", "staticlib"] * (crate in self.crates.archives)
+            return [*words, "--toolchain", f"{self.kit}/toolchain", "--backend", "llvm", *self.kind(crate)]
         return [*words, "--statements"]
+
+    def check(self, crate: str, kept: Path) -> list[str]:
+        """The call that proves a crate and builds nothing. It takes what an earlier one kept in a folder, and keeps there what it proves."""
+        return [f"{self.kit}/bin/rattle", "check", *self.given(crate, 1), "--incremental", str(kept), *self.kind(crate)]
 
     def link(self, made: Path, program: Path, log: IO) -> int:
         """Links a program with the C library."""

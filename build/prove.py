@@ -11,7 +11,7 @@ status is 0 if everything is proved and built, otherwise 1.
 A crate counts as proved if the compiler reports so and its verdict names nothing that the proof leaves out, such as functions that
 may never return, and if it finds no contract that no call can meet; and HANDLES must be unchanged. `rt ci` checks more, and decides
 what is merged: the layout of the files, names that sources must not use, impls that macros write, terms that a tactic chose, functions
-of the system that the linked program calls, the tests, and the wrong bodies that must be refused.
+of the system that the linked program calls, and the tests. tests/crates/ has the wrong bodies that must be refused.
 """
 
 from __future__ import annotations

@@ -12,4 +12,4 @@ TESTS = Path(__file__).resolve().parent
 TOP = TESTS.parent
 CASES = TESTS / "program"  # its cases.txt lists the files of its folder cases/
 
-sys.path[:0] = [*(str(TESTS / it) for it in ("blocks", "program", "library", "repository")), *(str(TOP / it) for it in ("build", "packaging"))]
+sys.path[:0] = [*(str(TESTS / it) for it in ("blocks", "program", "library", "repository", "crates")), *(str(TOP / it) for it in ("build", "packaging"))]

@@ -15,6 +15,7 @@ from pathlib import Path
 from typing import Optional
 
 from paths import TESTS, TOP
+from wrong_bodies import read_table
 
 
 # Debian packages, and the commands of each that scripts name in quotes.
@@ -496,7 +497,7 @@ class Listed(unittest.TestCase):
             self.assertLessEqual({"Part", "Command", "Minutes", "Least", "Packages"}, set(part), part)
             self.assertLessEqual(set(part), {"Part", "Command", "Minutes", "Least", "Checks", "Packages", "Beside"}, part)
         names = [it["Part"] for it in self.parts()]
-        self.assertEqual(names[0], "rt")
+        self.assertEqual((names[:2], names[-1]), (["launcher", "rt"], "mutations"))
         self.assertLessEqual({"build", "program", "tests", "sources", "launcher", "streams", "library", "documents", "pictures"}, set(names))
 
     def modules(self, script: Path, known: dict) -> set:
@@ -534,6 +535,12 @@ class Listed(unittest.TestCase):
         edits = list(TOP.glob("crates/*/must-fail/*.edit"))
         (least,) = (int(it["Least"]) for it in self.parts() if it["Part"] == "rt")
         self.assertEqual(least, len(crates) + len(edits))
+
+    def test_the_part_bodies_counts_each_crate_and_each_wrong_body(self):
+        """It proves each crate of a table as it is, and tries each body."""
+        tables = [read_table(it) for it in (TESTS / "crates").glob("*.json")]
+        (least,) = (int(it["Least"]) for it in self.parts() if it["Part"] == "bodies")
+        self.assertEqual(least, len(tables) + sum(len(group) for groups in tables for group in groups))
 
     def test_the_gate_installs_these_packages_and_runs_all(self):
         """.ci/run with an apt-get that writes down how it was called, as an ordinary user and as root."""
