@@ -17,7 +17,7 @@ import re
 import shutil
 import sys
 import tempfile
-from concurrent.futures import ThreadPoolExecutor
+from concurrent.futures import Future, ThreadPoolExecutor
 from dataclasses import dataclass
 from pathlib import Path
 from typing import Iterable, Sequence
@@ -182,25 +182,37 @@ class Checks:
             counter.check(f"{crate}: {it.why}", not fault, fault)
 
 
-def try_tables(counter: Counter, checks: Checks, only: str, workers: int) -> None:
+def try_tables(counter: Counter, checks: Checks, tables: dict[str, list[list[Body]]], workers: int) -> None:
     """Proves each crate that has a table as it is, the largest first, and then tries its groups, so many checks at a time."""
-    tables = asked({it.stem: read_table(it) for it in sorted(TABLES.glob("*.json"))}, only)
 
-    def prove(crate: str) -> None:
-        seed = checks.room / crate
-        counter.run(f"{crate} as it is", lambda: checks.see_proved(crate, seed))
-        for group in tables[crate]:
-            waits.append(pool.submit(checks.try_group, counter, crate, group, seed))
+    def seed(crate: str) -> Path:
+        return checks.room / crate
+
+    def prove(crate: str) -> list[Future]:
+        counter.run(f"{crate} as it is", lambda: checks.see_proved(crate, seed(crate)))
+        return [pool.submit(checks.try_group, counter, crate, group, seed(crate)) for group in tables[crate]]
 
     def size(crate: str) -> int:
         return sum(it.stat().st_size for it in checks.crates.sources(crate))
 
-    waits: list = []
     with ThreadPoolExecutor(workers) as pool:
-        for it in [pool.submit(prove, crate) for crate in sorted(tables, key=size, reverse=True)]:
-            it.result()
-        for it in waits:
-            it.result()
+        try:
+            proofs = {it: pool.submit(prove, it) for it in sorted(tables, key=size, reverse=True)}
+            for crate, proof in proofs.items():
+                for it in proof.result():
+                    it.result()
+                shutil.rmtree(seed(crate))
+        except BaseException:
+            checks.compiler.stop()  # the checks that are left end at once
+            raise
+
+
+def try_all(counter: Counter, room: Path, only: str, workers: int) -> None:
+    """Tries the wrong bodies of all tables whose crate or reason has a text."""
+    crates = Crates.read(paths.TOP)
+    tables = asked({it.stem: read_table(it) for it in sorted(TABLES.glob("*.json"))}, only)
+    with open(room / "lock", "w", encoding="ascii") as lock:
+        try_tables(counter, Checks(crates, Compiler(crates, paths.TOP / "out" / "proved", lock), room), tables, workers)
 
 
 def asked(tables: dict[str, list[list[Body]]], only: str) -> dict[str, list[list[Body]]]:
@@ -225,14 +237,9 @@ def main(words: Sequence[str]) -> int:
     parser.add_argument("--only", default=os.environ.get("TEST_ONLY", ""), metavar="TEXT", help="only the bodies whose crate or reason has TEXT")
     parser.add_argument("--workers", type=int, default=workers(), metavar="NUMBER", help="how many checks at a time")
     options = parser.parse_args(words)
-    counter, crates = Counter(only=""), Crates.read(paths.TOP)
-    with tempfile.TemporaryDirectory(prefix="exifnorm-bodies-") as room, open(Path(room) / "lock", "w", encoding="ascii") as lock:
-        compiler = Compiler(crates, paths.TOP / "out" / "proved", lock)
-        checks = Checks(crates, compiler, Path(room))
-        try:
-            counter.collect("the tables", lambda inner: try_tables(inner, checks, options.only, options.workers))
-        finally:
-            compiler.stop()
+    counter = Counter(only="")
+    with tempfile.TemporaryDirectory(prefix="exifnorm-bodies-") as room:
+        counter.collect("the tables", lambda inner: try_all(inner, Path(room), options.only, options.workers))
     return counter.finish()
 
 

@@ -3,6 +3,7 @@
 import json
 import os
 import shutil
+import signal
 import subprocess
 import sys
 import tempfile
@@ -15,6 +16,7 @@ import machine
 import wrong_bodies
 from counting import examples
 from paths import TESTS, TOP
+from room import SIGNALS, runs, wait_until
 from wrong_bodies import Verdict, asked, link, read_table, workers
 
 NEEDED = ("tests/crates/wrong_bodies.py", "tests/checks.py", "tests/counting.py", "tests/paths.py", "build/compiler.py", "build/crates.py", "build/machine.py")
@@ -26,12 +28,13 @@ logic=proved functions=3 sum=1f
 """
 # It needs the library that px_one uses, and in the folder of kept proofs what it kept of the crate as it is, and nothing else.
 RATTLE = r"""#!/bin/sh
-echo "$*" >>'ROOM/called'
+echo "$*" >>ROOM/called
 kept=${*##* }
 case $* in
 "check --crate-name px_one src/lib.rt --extern std="*"px_low=ROOM/out/proved/px_low.rlib "*" --jobs 1 "*) ;;
 *) echo "called with $*"; exit 2 ;;
 esac
+if [ -e ROOM/waits ]; then echo $$ >>ROOM/waiting; exec sleep 1000; fi
 if grep -q '^logic=proved' src/lib.rt; then echo kept >"$kept/one.oantt"; echo kept >"$kept/list"; fi
 [ "$(ls "$kept")" = "$(printf 'list\none.oantt')" ] || { echo "no proofs are kept"; exit 2; }
 if grep -q '^logic=not' src/lib.rt; then echo more >"$kept/two.oantt"; echo changed >"$kept/list"; fi
@@ -138,6 +141,23 @@ class WrongBodies(unittest.TestCase):
         for changes in ([["four", "five"]], [["px_one", "px_two"]], [ONE, ONE], [[ONE[0], ONE[0]]]):
             self.fails("a text to be replaced is in src/lib.rt", "1 passed, 1 failed", [{**GOOD, "changes": changes}])
         self.fails("is in src/other.rt 0 times", "1 passed, 1 failed", [{**GOOD, "file": "src/other.rt"}])
+
+    def test_a_run_that_is_stopped(self):
+        """It ends the check that runs, and begins no other."""
+        (self.top / "waits").touch()
+        words = [*SIGNALS, sys.executable, self.top / "tests" / "crates" / "wrong_bodies.py", "--workers", "1"]
+        (self.top / "tests" / "crates" / "px_one.json").write_text(json.dumps([[GOOD]]))
+        environment = {**os.environ, "PATH": f"{self.top}/kit/bin:{os.environ['PATH']}", "TEST_ONLY": "", "TMPDIR": str(self.top)}
+        with subprocess.Popen(words, env=environment, stdout=subprocess.DEVNULL, stderr=subprocess.DEVNULL) as ran:
+            wait_until(lambda: (self.top / "waiting").exists() and (self.top / "waiting").read_text(), "a check")
+            ran.send_signal(signal.SIGINT)
+            self.assertNotEqual(ran.wait(300), 0)
+        (number,) = (self.top / "waiting").read_text().split()
+        self.assertFalse(runs(int(number)))
+        self.assertEqual([*self.top.glob("exifnorm-bodies-*")], [])
+
+    def test_without_the_toolchain(self):
+        self.assertEqual(self.ran([GOOD], PATH="/no/such/folder")[:2], (1, "0 passed, 1 failed"))
 
     def test_a_table_that_is_misspelled(self):
         for groups in ([], [[]], [[GOOD], []], [[{**GOOD, "part": "rt"}]], [[{**GOOD, "goals": []}]], [[{**GOOD, "changes": []}]],
