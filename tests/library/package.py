@@ -17,6 +17,7 @@ import hashlib
 import importlib.machinery
 import importlib.util
 import inspect
+import itertools
 import json
 import mmap
 import os
@@ -773,6 +774,36 @@ def buffers_of_threads(counter: Counter) -> None:
     counter.check("memory of 17 turns", grown < 65_536, grown)
 
 
+def outcomes_of_refused_allocations(call: Callable, block: Any) -> List[Any]:
+    """The outcomes of a call while its first allocation fails, then its second, and so on. In the last one none fails."""
+    path = os.path.join(ROOM, "refused_allocation.so")
+    if not os.path.exists(path):
+        words = ["cc", "-std=c99", "-Wall", "-Wextra", "-Werror", "-shared", "-fPIC", "-isystem", sysconfig.get_paths()["include"], "-o", path]
+        subprocess.run([*words, str(paths.TESTS / "library" / "refused_allocation.c")], check=True)
+    library = ctypes.PyDLL(path)
+    library.call_refused.restype, library.call_refused.argtypes = ctypes.py_object, [ctypes.py_object, ctypes.py_object, ctypes.c_long]
+    found: List[Any] = []
+    for number in itertools.count(1):
+        found.append(outcome(library.call_refused, call(), block, number))
+        if not ctypes.c_int.in_dll(library, "was_refused").value:
+            return found
+
+
+def allocations_that_fail(counter: Counter) -> None:
+    """One allocation of a call fails: without a buffer ctypes makes the call, and without anything else there is a MemoryError."""
+    module, address = _library._native, ctypes.cast(_library.library().exifnorm_normalise, ctypes.c_void_p).value
+    no_memory = ("MemoryError",)
+    found = outcomes_of_refused_allocations(lambda: module.normal_of(address), ONE)
+    counter.equal("the buffer and the form", found, [None, no_memory, ONE])
+    made = outcomes_of_refused_allocations(lambda: module.normal_of, address)
+    counter.equal("the function", made[:-1], [no_memory] * (len(made) - 1))
+    counter.check("which has a part of its own, and two objects", len(made) >= 3, made)
+    counter.check("and works where none failed", made[-1](ONE) == ONE)
+    found = outcomes_of_refused_allocations(lambda: exifnorm.normal, ONE)
+    counter.equal("the public call", {*found}, {no_memory, ONE})
+    counter.check("afterwards it is as before", exifnorm.normal(ONE) == ONE)
+
+
 # Of the stable ABI, "Contents of Limited API" in Python's documentation: what versions up to 3.9 added.
 STABLE = """PyBytes_AsStringAndSize PyBytes_FromStringAndSize PyBytes_Type PyCMethod_New PyCapsule_GetPointer PyCapsule_New PyErr_Format
     PyErr_NoMemory PyErr_Occurred PyEval_RestoreThread PyEval_SaveThread PyExc_ValueError PyLong_AsVoidPtr PyMem_Free PyMem_Malloc
@@ -830,6 +861,7 @@ EXTENDED = (
     addresses,
     memory_after_a_million_calls,
     buffers_of_threads,
+    allocations_that_fail,
     symbols_of_the_extension,
 )
 
