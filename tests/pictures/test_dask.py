@@ -115,7 +115,7 @@ class Cluster(WithPictures):
                     "--limit", "1"], self.folder)  # fmt: skip
         self.assertEqual((done.returncode, len(done.stderr.splitlines())), (4, 1), done)
         done = run([self.python, "-m", "exifnorm_pictures", "index", "p", "there", "--catalogue", "c", "--scheduler", "tcp://127.0.0.1:9",
-                    "--elsewhere", "/x"], self.folder)  # fmt: skip
+                    "--limit", "1", "--elsewhere", "/x"], self.folder)  # fmt: skip
         self.assertEqual((done.returncode, done.stderr), (4, b"exifnorm-pictures: --elsewhere is the path of one folder: give one FOLDER\n"))
 
 

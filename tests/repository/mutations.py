@@ -33,6 +33,7 @@ PROGRAM = "crates/px_cli/out/px_cli"
 MODULES = ("build", "packaging", "python", "tests")  # folders of Python modules
 NEEDED, ALLOWED = {"file", "old", "new", "part", "why"}, {"only"}
 LONGEST = ("packages", "fuzz", "benchmarks", "install", "library")  # the parts whose runs with a mistake take longest
+WAITING = 2  # how many runs wait for something, and use no processor
 NO_TEST = "FAILED: no test ran"
 # python3 is the Python that runs this, without a script that looks for it at each start.
 PATH = os.pathsep.join((os.path.dirname(sys.executable), os.environ.get("PATH", os.defpath)))
@@ -288,7 +289,8 @@ def main(words: Sequence[str]) -> int:
     parser = argparse.ArgumentParser(description=__doc__, formatter_class=argparse.RawDescriptionHelpFormatter)
     parser.add_argument("program", help="the built program")
     parser.add_argument("--only", default="", metavar="TEXT", help="only the mistakes whose file or reason has TEXT")
-    parser.add_argument("--workers", type=int, default=os.cpu_count(), metavar="NUMBER", help="how many runs at a time: one for each processor")
+    parser.add_argument("--workers", type=int, default=(os.cpu_count() or 1) + WAITING, metavar="NUMBER",
+                        help="how many runs at a time: two more than there are processors, because some wait")  # fmt: skip
     asked = parser.parse_args(words)
     counter = Counter(only="")
     with tempfile.TemporaryDirectory(prefix="exifnorm-mutations-") as room:
