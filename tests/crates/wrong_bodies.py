@@ -211,8 +211,8 @@ def try_all(counter: Counter, room: Path, only: str, workers: int) -> None:
     """Tries the wrong bodies of all tables whose crate or reason has a text."""
     crates = Crates.read(paths.TOP)
     tables = asked({it.stem: read_table(it) for it in sorted(TABLES.glob("*.json"))}, only)
-    with open(room / "lock", "w", encoding="ascii") as lock:
-        try_tables(counter, Checks(crates, Compiler(crates, paths.TOP / "out" / "proved", lock), room), tables, workers)
+    with open(room / "used", "w", encoding="ascii") as used:
+        try_tables(counter, Checks(crates, Compiler(crates, paths.TOP / "out" / "proved", used), room), tables, workers)
 
 
 def asked(tables: dict[str, list[list[Body]]], only: str) -> dict[str, list[list[Body]]]:
@@ -238,7 +238,7 @@ def main(words: Sequence[str]) -> int:
     parser.add_argument("--workers", type=int, default=workers(), metavar="NUMBER", help="how many checks at a time")
     options = parser.parse_args(words)
     counter = Counter(only="")
-    with tempfile.TemporaryDirectory(prefix="exifnorm-bodies-") as room:
+    with tempfile.TemporaryDirectory(prefix="wrong-bodies-") as room:  # exifnorm-pictures removes folders whose names begin with exifnorm-
         counter.collect("the tables", lambda inner: try_all(inner, Path(room), options.only, options.workers))
     return counter.finish()
 

@@ -143,18 +143,24 @@ class WrongBodies(unittest.TestCase):
         self.fails("is in src/other.rt 0 times", "1 passed, 1 failed", [{**GOOD, "file": "src/other.rt"}])
 
     def test_a_run_that_is_stopped(self):
-        """It ends the check that runs, and begins no other."""
+        """It ends the check that runs, and begins no other. Until then its folder is not removed, as those of exifnorm-pictures are."""
         (self.top / "waits").touch()
         words = [*SIGNALS, sys.executable, self.top / "tests" / "crates" / "wrong_bodies.py", "--workers", "1"]
         (self.top / "tests" / "crates" / "px_one.json").write_text(json.dumps([[GOOD]]))
-        environment = {**os.environ, "PATH": f"{self.top}/kit/bin:{os.environ['PATH']}", "TEST_ONLY": "", "TMPDIR": str(self.top)}
+        environment = {**os.environ, "PATH": f"{self.top}/kit/bin:{os.environ['PATH']}", "TEST_ONLY": "", "TMPDIR": str(self.top),
+                       "PYTHONPATH": str(TOP / "python")}  # fmt: skip
         with subprocess.Popen(words, env=environment, stdout=subprocess.DEVNULL, stderr=subprocess.DEVNULL) as ran:
             wait_until(lambda: (self.top / "waiting").exists() and (self.top / "waiting").read_text(), "a check")
+            (room,) = self.top.glob("wrong-bodies-*")
+            before = [*room.rglob("*")]
+            subprocess.run([sys.executable, "-c", "from exifnorm_pictures.rooms import room\nwith room(): pass"], env=environment, check=True)
+            after = [*room.rglob("*")]
             ran.send_signal(signal.SIGINT)
             self.assertNotEqual(ran.wait(300), 0)
+        self.assertEqual(after, before)
         (number,) = (self.top / "waiting").read_text().split()
         self.assertFalse(runs(int(number)))
-        self.assertEqual([*self.top.glob("exifnorm-bodies-*")], [])
+        self.assertEqual([*self.top.glob("wrong-bodies-*")], [])
 
     def test_without_the_toolchain(self):
         self.assertEqual(self.ran([GOOD], PATH="/no/such/folder")[:2], (1, "0 passed, 1 failed"))
