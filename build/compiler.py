@@ -10,7 +10,7 @@ import subprocess
 import sys
 from pathlib import Path
 from threading import Lock
-from typing import IO
+from typing import IO, Any
 
 from crates import Crates
 
@@ -18,7 +18,7 @@ TARGET = "x86_64-unknown-linux-gnu"
 
 # A command leads a group, so that it can be ended with the copies of itself that it starts. A session would be a group too, but the
 # system shares processors among sessions first, whatever their priorities inside.
-GROUP = {"process_group": 0} if sys.version_info >= (3, 11) else {"start_new_session": True}
+GROUP: dict[str, Any] = {"process_group": 0} if sys.version_info >= (3, 11) else {"start_new_session": True}
 
 
 def said(*words: str) -> str:
@@ -34,11 +34,11 @@ def version() -> str:
 class Compiler:
     """It proves a crate from nothing, over built libraries, and builds it. Several calls may run at once."""
 
-    def __init__(self, crates: Crates, libraries: Path, holds: IO) -> None:
+    def __init__(self, crates: Crates, libraries: Path, holds: IO[str]) -> None:
         """Uses the libraries in a folder. Each process inherits the open file until it ends, however this one ends."""
         self.crates, self.libraries, self.holds = crates, libraries, holds
         self.kit = os.path.dirname(said("rt", "doc"))
-        self.running: set[subprocess.Popen] = set()
+        self.running: set[subprocess.Popen[bytes]] = set()
         self.guard, self.is_stopped = Lock(), False
 
     def stop(self) -> None:
@@ -49,13 +49,13 @@ class Compiler:
                 with contextlib.suppress(ProcessLookupError):  # it has just ended
                     os.killpg(it.pid, signal.SIGTERM)
 
-    def call(self, words: list[str], folder: Path, log: IO) -> int:
+    def call(self, words: list[str], folder: Path, log: IO[str]) -> int:
         """Runs a command in a group of its own, and returns its status."""
-        how = {"stdin": subprocess.DEVNULL, "stdout": log, "stderr": log, **GROUP}
+        how: dict[str, Any] = {"stdin": subprocess.DEVNULL, "stdout": log, "stderr": log, **GROUP}
         with self.guard:
             if self.is_stopped:
                 return -signal.SIGTERM
-            started = subprocess.Popen(words, cwd=folder, pass_fds=[self.holds.fileno()], **how)
+            started: subprocess.Popen[bytes] = subprocess.Popen(words, cwd=folder, pass_fds=[self.holds.fileno()], **how)
             self.running.add(started)
         status = started.wait()
         with self.guard:
@@ -88,12 +88,12 @@ class Compiler:
         """The call that proves a crate and builds nothing. It takes what an earlier one kept in a folder, and keeps there what it proves."""
         return [f"{self.kit}/bin/rattle", "check", *self.given(crate, 1), "--incremental", str(kept), *self.kind(crate)]
 
-    def link(self, made: Path, program: Path, log: IO) -> int:
+    def link(self, made: Path, program: Path, log: IO[str]) -> int:
         """Links a program with the C library."""
         words = [f"{self.kit}/bin/rattle-link", "--target", TARGET, "--toolchain", f"{self.kit}/toolchain", "-o", str(program)]
         return self.call([*words, str(made), f"{self.kit}/c/libos_c.a", f"{self.kit}/c/liblibc_c.a"], self.crates.top, log)
 
-    def build(self, crate: str, made: Path, jobs: int, log: IO, gives_way: bool) -> int:
+    def build(self, crate: str, made: Path, jobs: int, log: IO[str], gives_way: bool) -> int:
         """Proves a crate and builds it as `made`. A call with `gives_way` only uses processors that the others leave idle."""
         is_program = self.crates.is_program(crate)
         object_file = made.with_name(f"{crate}.o") if is_program else made

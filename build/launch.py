@@ -34,8 +34,9 @@ def keep_streams_apart() -> None:
 
 def listing() -> str:
     """The data of the launcher's quick check: a line for each source, for the program and for the toolchain's command."""
+    words = ["sh", str(TOP / "build" / "listing.sh")]
     return subprocess.run(
-        ["sh", TOP / "build" / "listing.sh"], stdin=subprocess.DEVNULL, stdout=subprocess.PIPE, check=False, **TEXT
+        words, stdin=subprocess.DEVNULL, stdout=subprocess.PIPE, check=False, encoding=TEXT["encoding"], errors=TEXT["errors"]
     ).stdout
 
 
@@ -93,7 +94,7 @@ def build() -> None:
         place()
 
 
-def run(words: list) -> None:
+def run(words: list[str]) -> None:
     """Replaces this process by the program, with the signals that Python ignores as they were."""
     if words == ["--where"]:
         os.write(1, os.fsencode(f"{PROGRAM}\n"))

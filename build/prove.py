@@ -68,7 +68,7 @@ class Build:
         self.chains = chains(crate, crates.uses)
         self.left = sorted(store.unbuilt(crate), key=lambda it: -self.chains[it])
         self.all, self.places = len(self.left), places()
-        self.running: dict[Future, str] = {}
+        self.running: dict[Future[None], str] = {}
 
     def prove(self, crate: str, gives_way: bool) -> None:
         """Proves a crate and moves its product to its path."""
@@ -103,15 +103,15 @@ class Build:
                 while self.left or self.running:
                     for it in self.ready()[: self.places - len(self.running)]:
                         self.begin(it, pool)
-                    for it in wait(self.running, WAKES, FIRST_COMPLETED).done:
-                        del self.running[it]
-                        it.result()
+                    for ended in wait(self.running, WAKES, FIRST_COMPLETED).done:
+                        del self.running[ended]
+                        ended.result()
             except BaseException:
                 self.compiler.stop()
                 raise
 
 
-def stop(*_) -> None:
+def stop(*_: object) -> None:
     for it in STOPS:
         signal.signal(it, signal.SIG_IGN)
     raise NotBuilt("the build was stopped")
@@ -124,7 +124,7 @@ def listen() -> None:
             signal.signal(it, stop)
 
 
-def take_lock(lock: IO) -> None:
+def take_lock(lock: IO[str]) -> None:
     """Blocks until no other build runs here, nor a compiler that one left. The system frees a lock whose process has ended."""
     try:
         fcntl.flock(lock, fcntl.LOCK_EX | fcntl.LOCK_NB)

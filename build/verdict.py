@@ -54,8 +54,9 @@ def refused_verdict(said: str) -> str:
 
 def starts(program: Path) -> bool:
     """Whether a program that was built starts here, and ends with success."""
-    quiet = {"stdin": subprocess.DEVNULL, "stdout": subprocess.DEVNULL, "stderr": subprocess.DEVNULL, "timeout": 60}
+    null = subprocess.DEVNULL
     try:
-        return subprocess.run([program, "--version"], check=False, **quiet).returncode == 0
+        ended = subprocess.run([str(program), "--version"], stdin=null, stdout=null, stderr=null, timeout=60, check=False)
+        return ended.returncode == 0
     except (OSError, subprocess.TimeoutExpired):
         return False

@@ -7,6 +7,8 @@ The script finds the packages by a path relative to its own folder, so that it a
 prefix in which that Python looks for no packages.
 """
 
+from __future__ import annotations
+
 import os
 import sys
 
@@ -26,7 +28,7 @@ sys.exit(main())
 '''
 
 
-def first_lines(python):
+def first_lines(python: str) -> str:
     """The start of a script that runs with a Python: a line for the system, or, if that would be too long, lines for the shell, which
     are a text to Python.
 
@@ -42,12 +44,12 @@ def first_lines(python):
     return f"#!/bin/sh\n'''exec' '{python}' \"$0\" \"$@\"\n' '''\n"
 
 
-def script(python, programs, packages):
+def script(python: str, programs: str, packages: str) -> str:
     """The script in the folder of programs, for packages in another folder."""
     return first_lines(python) + SCRIPT.format(way=os.path.relpath(packages, programs))
 
 
-def main(words):
+def main(words: list[str]) -> None:
     if len(words) not in (2, 3):
         sys.exit(__doc__)
     programs, packages, python = [*words, sys.executable][:3]

@@ -44,7 +44,7 @@ def build(target: Path, headers: str) -> None:
         return
     # -isystem: not every version of Python's headers is C99
     words = ["-std=c99", "-O2", "-fPIC", *WARNINGS, "-isystem", headers, "-I", "crates/px_c/include", "python/exifnorm/_native.c"]
-    linked = [*LINKED, *shlex.split(os.environ.get("LDFLAGS", "")), "-o", target.absolute()]
+    linked = [*LINKED, *shlex.split(os.environ.get("LDFLAGS", "")), "-o", str(target.absolute())]
     subprocess.run([*compiler, *words, *linked], cwd=TOP, check=True)
     target.chmod(0o644)  # whatever the umask is
 

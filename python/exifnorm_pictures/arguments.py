@@ -53,7 +53,7 @@ class _Parser(argparse.ArgumentParser):
 class _Version(argparse.Action):
     """Prints the version of this command and of the library, and ends."""
 
-    def __call__(self, whole: argparse.ArgumentParser, *_: object) -> None:  # type: ignore[override]
+    def __call__(self, whole: argparse.ArgumentParser, *_: object) -> None:
         import exifnorm
 
         print(f"exifnorm-pictures {exifnorm.version()}")

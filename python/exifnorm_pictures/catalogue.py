@@ -11,7 +11,7 @@ import os
 import sqlite3
 import stat
 import zlib
-from typing import Callable, Iterable, Iterator, List, NamedTuple, Optional, Sequence, Tuple, TypeVar
+from typing import Any, Callable, Iterable, Iterator, List, NamedTuple, Optional, Sequence, Tuple, TypeVar, overload
 
 from .ends import Failure
 from .formats.found import NotRead
@@ -307,7 +307,15 @@ class Catalogue:
             with contextlib.suppress(sqlite3.Error):
                 self.base.execute("COMMIT")
 
-    def rows(self, query: str, values: Sequence[object] = (), made: Callable[..., Made] = tuple) -> Iterator[Made]:
+    @overload
+    def rows(self, query: str, values: Sequence[object] = ()) -> Iterator[Any]:
+        ...
+
+    @overload
+    def rows(self, query: str, values: Sequence[object], made: Callable[..., Made]) -> Iterator[Made]:
+        ...
+
+    def rows(self, query: str, values: Sequence[object] = (), made: Callable[..., Any] = tuple) -> Iterator[Any]:
         """The result of `made` for each row of a query."""
         with self.guarded():  # an error of the caller isn't raised in here
             for row in self.base.execute(query, values):
@@ -395,4 +403,5 @@ def root_of_row(row: Tuple[bytes]) -> bytes:
 
 
 def _known(row: Tuple[int, Optional[int], int, int, int, Optional[str]]) -> Known:
-    return Known(row[0], None if row[1] is None else Stamp(*row[1:5]), row[5])
+    number, size, modified, changed, inode, problem = row
+    return Known(number, None if size is None else Stamp(size, modified, changed, inode), problem)

@@ -169,8 +169,9 @@ class Equal:
     def _write(self) -> None:
         self.base.executemany("INSERT INTO heads VALUES (?, ?, ?)", self._heads)
         self.base.executemany("INSERT INTO names VALUES (?, ?)", self._names)
-        for it in (self._heads, self._names, self._known):
-            it.clear()
+        self._heads.clear()
+        self._names.clear()
+        self._known.clear()
 
     def all(self) -> Iterator[Tuple[str, int, Iterator[bytes]]]:
         """The changes, each with its number of pictures and their names, in the order in which they were first added."""

@@ -37,8 +37,10 @@ def fields(form: bytes) -> List[Field]:
     for where, tag, kind, values in fields_of_form(form):
         if kind in OCTETS:
             key = f"{tag:04x}"
+            assert isinstance(values, bytes)
             found.append(Field(where, key, kind, len(values), shown_value(where, key, values)))
         elif kind == "DATASET":
+            assert isinstance(values, bytes)
             found.append(Field("iptc", f"{tag >> 8}:{tag & 255}", "octets", len(values), shown_octets(values)))
         elif kind in _WRITTEN:
             found.append(Field(where, f"{tag:04x}", kind, len(values), shown_numbers(_WRITTEN[kind](values))))

@@ -201,5 +201,6 @@ class _Looking:
 
     def say(self, lines: Iterable[str]) -> None:
         """Prints lines about pictures."""
-        for line in lines if self.asked.say else ():
-            self.asked.say(line)
+        if self.asked.say:
+            for line in lines:
+                self.asked.say(line)

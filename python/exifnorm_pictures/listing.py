@@ -6,7 +6,7 @@ import hashlib
 import json
 import re
 import zlib
-from typing import Dict, Iterator, List, NamedTuple, Optional, Tuple
+from typing import Callable, Dict, Iterator, List, NamedTuple, Optional, Tuple
 
 from .names import full_name
 from .texts import escaped
@@ -165,7 +165,7 @@ def readable(found: List[Field], kind: str) -> Iterator[str]:
         yield f"    {it.key:<6} {name:<28} {count:<14} {shortened(it.shown)}".rstrip()
 
 
-_quoted = json.encoder.encode_basestring_ascii
+_quoted: Callable[[str], str] = json.encoder.encode_basestring_ascii  # type: ignore[attr-defined]  # typeshed lacks it
 
 
 def packed(found: List[Field]) -> bytes:

@@ -5,6 +5,8 @@ from __future__ import annotations
 import os
 from typing import Iterator, Optional, Sequence
 
+from exifnorm import LibraryMissing
+
 from . import engine, extraction, session, tools
 from .batches import How, Result
 from .formats.found import Blocks
@@ -20,7 +22,7 @@ def look(it: Found, whole: bool) -> Entry:
     try:
         blocks = extraction.blocks_of(it.path, whole)
         judged = [] if blocks.problem else engine.judge_all(blocks, with_fields=True)
-    except engine.exifnorm.LibraryMissing:  # an OSError too, but not of this file
+    except LibraryMissing:  # an OSError too, but not of this file
         raise
     except tools.Failed as error:
         return failed(it, str(error))

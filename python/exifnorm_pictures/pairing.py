@@ -226,7 +226,7 @@ def _equal(one: Iterator[Tuple[object, ...]], other: Iterator[Tuple[object, ...]
         if first[1:] == second[1:]:
             yield first[0], second[0]
             first, second = next(one, None), next(other, None)
-        elif first[1:] < second[1:]:  # type: ignore[operator]
+        elif first[1:] < second[1:]:
             first = next(one, None)
         else:
             second = next(other, None)

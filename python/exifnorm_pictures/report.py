@@ -13,7 +13,7 @@ from datetime import datetime, timezone
 from html import escape
 from typing import Any, Dict, Iterator, List, Optional, Set, Tuple
 
-from . import changed, groups
+from . import changed, groups, verdicts
 from .blocks import KIND_OF, WORDS
 from .catalogue import Catalogue, Run
 from .causes import CAUSES
@@ -302,10 +302,10 @@ def _bars(counts: List[Tuple[str, int]], tone: str, tones: Optional[Dict[str, st
 
 
 _RESULT_TONES = {
-    changed.SAME: "good",
+    verdicts.SAME: "good",
     changed.ONLY_MAKER_NOTE: "plain",
     changed.REFUSED_SAME: "plain",
-    changed.REFUSED: "bad",
+    verdicts.REFUSED: "bad",
     changed.NOT_READ: "bad",
 }
 

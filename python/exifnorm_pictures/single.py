@@ -100,7 +100,7 @@ def show(asked: argparse.Namespace) -> int:
     def say(_: Found, it: Block) -> Said:
         fields = unpacked(it.kept) if it.kept else []
         keys = ("directory", "key", "type", "count", "value")
-        members = [{"name": one.name, **dict(zip(keys, one))} for one in fields]
+        members = [dict(zip(("name", *keys), (one.name, *one))) for one in fields]
         by = f", extracted by {PROGRAMS[it.extractor]}" if it.extractor in PROGRAMS else ""
         return list(listed(fields, it.name + by)), {"kind": WORDS[it.kind], "extractor": it.extractor, "fields": members}
 

@@ -20,11 +20,25 @@ NOT_WHOLLY_READ = "not wholly read"
 class Judged(Protocol):
     """The facts that a comparison needs of a judged picture or of a row of a catalogue."""
 
-    kind: str
-    name: str
-    status: str
-    digest: "str | None"
-    octets: str
+    @property
+    def kind(self) -> str:
+        ...
+
+    @property
+    def name(self) -> str:
+        ...
+
+    @property
+    def status(self) -> str:
+        ...
+
+    @property
+    def digest(self) -> "str | None":
+        ...
+
+    @property
+    def octets(self) -> str:
+        ...
 
 
 class Side(NamedTuple):

@@ -38,7 +38,8 @@ PIXELS: Dict[int, str] = {
 }
 _PAIRS = ((0x0111, 0x0117), (0x0144, 0x0145), (0x0201, 0x0202))
 _SUB_IFDS, _XMP, _IPTC, _PHOTOSHOP, _LAYERS = 0x014A, 0x02BC, 0x83BB, 0x8649, 0x935C
-_POINTERS = {0x8769: {0xA005: {}}, 0x8825: {}}  # Exif with Interoperability, GPS
+_Pointers = Dict[int, "_Pointers"]
+_POINTERS: _Pointers = {0x8769: {0xA005: {}}, 0x8825: {}}  # Exif with Interoperability, GPS
 _OTHER_POINTERS = {0x0190: "GlobalParametersIFD", 0x8290: "Kodak's IFD", 0x8606: "Leaf's IFD", 0xFE00: "Kodak's IFD"}
 _DNG_VERSION = 0xC612
 
@@ -105,7 +106,7 @@ class _Reader:
         entries = [entry for entry in it.entries if entry.tag == _SUB_IFDS]
         if entries and part.count("SubIFD") >= DEEPEST:
             raise Broken(f"more than {DEEPEST} SubIFDs below one another")
-        if sum(entry.count for entry in entries) > MOST_DIRECTORIES:
+        if sum(entry.elements for entry in entries) > MOST_DIRECTORIES:
             raise Broken(f"more than {MOST_DIRECTORIES:,} SubIFDs")
         places = [place for entry in entries for place in self.directories.numbers(entry)]
         return [(place, f"SubIFD {number} of {part}", 1) for number, place in enumerate(places, 1)]
@@ -132,7 +133,7 @@ class _Reader:
             if offsets not in by_tag:
                 continue
             pair = [by_tag[tag] for tag in (offsets, lengths) if tag in by_tag]
-            if len(pair) < 2 or pair[0].count != pair[1].count or pair[0].count > MOST_STRIPS:
+            if len(pair) < 2 or pair[0].elements != pair[1].elements or pair[0].elements > MOST_STRIPS:
                 self._end = None  # old files have no lengths of strips
                 continue
             starts, sizes = (self.directories.numbers(entry) for entry in pair)
@@ -178,7 +179,7 @@ class _Reader:
             return False
         return True
 
-    def _table(self, entries: List[Entry], pointers: "Dict[int, dict]") -> Table:
+    def _table(self, entries: List[Entry], pointers: _Pointers) -> Table:
         below: Dict[int, Table] = {}
         for it in entries:
             if it.tag in pointers and is_pointer(it) and it.tag not in below:

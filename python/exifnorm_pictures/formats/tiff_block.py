@@ -24,7 +24,7 @@ class Table(NamedTuple):
 
 def is_pointer(it: Entry) -> bool:
     """Whether an entry has a pointer's type and count, and is followed."""
-    return it.type == LONG and it.count == 1
+    return it.type == LONG and it.elements == 1
 
 
 class Layout:
@@ -56,7 +56,7 @@ class Layout:
         for it in self._tables:
             written.append(struct.pack(order + "H", len(it.entries)))
             for entry in it.entries:
-                written.append(struct.pack(order + "HHI", entry.tag, entry.type, entry.count) + self._last_field(it, entry))
+                written.append(struct.pack(order + "HHI", entry.tag, entry.type, entry.elements) + self._last_field(it, entry))
             written.append(bytes(4))
         written += [self._directories.part(start, end) for start, end in self._parts]
         return b"".join(written)

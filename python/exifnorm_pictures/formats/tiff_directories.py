@@ -25,13 +25,13 @@ class Entry(NamedTuple):
 
     tag: int
     type: int
-    count: int
+    elements: int
     last: bytes
 
     @property
     def size(self) -> int:
         """The bytes of the value; 0 for a type that is not known."""
-        return SIZES.get(self.type, 0) * self.count
+        return SIZES.get(self.type, 0) * self.elements
 
 
 class Directory(NamedTuple):
