@@ -24,7 +24,7 @@ HERE = Path(__file__).resolve().parent
 sys.path.insert(0, str(HERE.parent.parent / "tests"))
 sys.dont_write_bytecode = True
 
-import paths
+import paths  # noqa: F401  # Python then finds the modules of tests
 from block_kinds import KINDS
 from changed import changed
 from drivers import OWN, Driver, all_drivers, own_drivers, whole_copy

@@ -27,7 +27,7 @@ TOP = HERE.parent.parent
 sys.path.insert(0, str(TOP / "tests"))
 sys.dont_write_bytecode = True
 
-import paths
+import paths  # noqa: F401  # Python then finds the modules of tests
 import kinds
 from meanings import Layout, laid
 

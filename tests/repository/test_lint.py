@@ -1,0 +1,34 @@
+"""What the tools find in the sources: formatting, types, mistakes in Python and in shell scripts, misspelled words."""
+
+import subprocess
+from pathlib import Path
+
+TOP = Path(__file__).resolve().parents[2]
+PYTHON = ("python", "build", "packaging", "tests", "bench")
+SHELL = ("test", "exifnorm", ".ci/run", *(str(it.relative_to(TOP)) for it in TOP.glob("build/*.sh")))
+TEXTS = ("python", "build", "packaging", "bench", "crates", "debian", "docs", "Makefile", *(it.name for it in TOP.glob("*.md")))
+
+
+def finds_nothing(*command):
+    done = subprocess.run(command, cwd=TOP, stdin=subprocess.DEVNULL, stdout=subprocess.PIPE, stderr=subprocess.STDOUT, text=True)
+    assert done.returncode == 0, done.stdout
+
+
+def test_black():
+    finds_nothing("black", "--check", "--config", "pyproject.toml", *PYTHON)
+
+
+def test_mypy(tmp_path):
+    finds_nothing("mypy", "--cache-dir", tmp_path)
+
+
+def test_flake8():
+    finds_nothing("flake8", *PYTHON)
+
+
+def test_shellcheck():
+    finds_nothing("shellcheck", *SHELL)
+
+
+def test_codespell():
+    finds_nothing("codespell", *TEXTS)
