@@ -1,0 +1,122 @@
+"""./test in a folder of its own, with commands in place of the toolchain, make and Python: what it counts, and what it leaves."""
+
+import os
+import shutil
+import signal
+import subprocess
+import time
+from pathlib import Path
+from typing import Dict
+
+import pytest
+
+TOP = Path(__file__).resolve().parent.parent
+# What each command does. `make` writes the program; the command in place of Python runs "pytest" and prints how it was called.
+COMMANDS = {
+    "rt": "echo 'rt: px_cli proved'; echo '16 passed, 0 failed'",
+    "make": "printf '#!/bin/sh\\necho exifnorm 1.0.0\\n' >out/exifnorm; chmod +x out/exifnorm; ls out/proved-since; echo $EXIFNORM_PROVED",
+    "python3": "echo sums",
+    "tests-python": '[ "$1" = -c ] || { echo "$@"; echo "5 passed, 0 failed"; }',
+}
+
+
+@pytest.fixture
+def gate(folder: Path) -> Path:
+    """The folder, in which ./test can be called."""
+    shutil.copy(TOP / "test", folder)
+    (folder / "bin").mkdir()
+    put(folder, **COMMANDS)
+    return folder
+
+
+def put(folder: Path, **commands: str) -> None:
+    for name, script in commands.items():
+        path = folder / "bin" / name
+        path.write_text(f"#!/bin/sh\n{script}\n", encoding="ascii")
+        path.chmod(0o755)
+
+
+def environment(folder: Path) -> Dict[str, str]:
+    return {**os.environ, "PATH": f"{folder}/bin:{os.environ['PATH']}", "EXIFNORM_PYTHON": f"{folder}/bin/tests-python"}
+
+
+def call(folder: Path, *words: str) -> "subprocess.CompletedProcess[str]":
+    return subprocess.run(
+        ["./test", *words],
+        cwd=folder,
+        env=environment(folder),
+        stdin=subprocess.DEVNULL,
+        capture_output=True,
+        text=True,
+        timeout=60,
+        check=False,
+    )
+
+
+def last_line(ran: "subprocess.CompletedProcess[str]") -> str:
+    return ran.stdout.splitlines()[-1]
+
+
+def test_all_is_well(gate):
+    ran = call(gate)
+    assert (ran.returncode, last_line(ran)) == (0, "5 passed, 0 failed"), ran
+    assert "out/proved-since" in ran.stdout.splitlines(), "the build doesn't take what rt ci has proved"
+    assert f"{gate}/crates/px_cli/out/px_cli" in ran.stdout.splitlines()
+
+
+@pytest.mark.parametrize(
+    "command, script",
+    [
+        ("rt", "echo 'rt: px_cli proved'; echo '16 passed, 0 failed'; exit 1"),
+        ("rt", "echo '15 passed, 1 failed'; exit 1"),
+        ("make", "exit 2"),
+        ("make", "printf '#!/bin/sh\\necho exifnorm 1.0.0-unproved\\n' >out/exifnorm; chmod +x out/exifnorm"),
+        ("make", "printf '#!/bin/sh\\nexit 70\\n' >out/exifnorm; chmod +x out/exifnorm"),
+        ("python3", "exit 1"),
+        ("tests-python", "exit 1"),
+    ],
+)
+def test_no_test_runs_over_what_is_not_proved(gate, command, script):
+    put(gate, **{command: script})
+    ran = call(gate)
+    assert (ran.returncode, last_line(ran)) == (1, "0 passed, 1 failed"), ran
+    assert "-m pytest" not in ran.stdout
+
+
+def test_a_failed_test(gate):
+    put(gate, **{"tests-python": '[ "$1" = -c ] || { echo "4 passed, 1 failed"; exit 1; }'})
+    ran = call(gate)
+    assert (ran.returncode, last_line(ran)) == (1, "4 passed, 1 failed"), ran
+
+
+def test_a_program_that_rt_ci_has_not_proved_is_not_taken(gate):
+    """The build then proves it, and doesn't take what is there."""
+    (gate / "out").mkdir()
+    (gate / "out" / "proved-since").write_text("of an earlier run", encoding="ascii")
+    put(gate, rt="echo '16 passed, 0 failed'")
+    assert "out/proved-since" not in call(gate).stdout.splitlines()
+
+
+def test_a_choice_proves_nothing(gate):
+    put(gate, rt="echo proving", make="echo building")
+    ran = call(gate, "tests/pictures", "--only", "a text, [with] brackets")
+    assert ran.stdout.splitlines()[-2:] == ["-m pytest -m not proof tests/pictures --only a text, [with] brackets", "5 passed, 0 failed"]
+    assert "proving" not in ran.stdout and "building" not in ran.stdout
+
+
+@pytest.mark.parametrize("signal_number", [signal.SIGINT, signal.SIGTERM, signal.SIGHUP])
+def test_a_stopped_run_leaves_no_process(gate, signal_number):
+    put(gate, rt="(trap '' INT TERM; echo $$ >started; exec sleep 600) & sleep 600")
+    started = subprocess.Popen(["./test"], cwd=gate, env=environment(gate), stdin=subprocess.DEVNULL, stdout=subprocess.PIPE, text=True)
+    while not (gate / "started").exists():
+        time.sleep(0.05)
+    started.send_signal(signal_number)
+    output, _ = started.communicate(timeout=60)  # the pipe is open as long as a process is left
+    assert started.returncode == 1, output
+
+
+def test_packages_are_in_debian(gate):
+    """The command is for apt-get install, so it prints nothing but names of packages."""
+    names = call(gate, "--packages").stdout.split()
+    assert {"python3-pytest", "python3-pytest-xdist", "python3-pytest-timeout", "python3-hypothesis"} <= {*names}
+    assert all(name.replace("+", "").replace("-", "").replace(".", "").isalnum() for name in names)
