@@ -18,6 +18,7 @@ import os
 import sys
 import tempfile
 from pathlib import Path
+from random import Random
 from typing import Dict, List
 
 HERE = Path(__file__).resolve().parent
@@ -93,7 +94,7 @@ class Bench:
     def compare_changed(self) -> None:
         drivers, accepted, count = own_drivers(self.folder, self.library), 0, 0
         for kind in small_kinds():
-            for block in (it for whole in kind.blocks for it in [whole, *changed(whole, self.options.changed)]):
+            for block in (it for whole in kind.blocks for it in [whole, *(changed(whole, Random(n)) for n in range(self.options.changed))]):
                 self.path.write_bytes(block)
                 try:
                     accepted += compare_forms(drivers_for(block, drivers), self.path) is not None

@@ -237,8 +237,5 @@ def small_kinds():
     return [*types(), *camera(), *thumbnails(), *directories(), *records()]
 
 
-def large_kinds():
-    """Large blocks: some for which a quadratic step would take hours, and some of the greatest length."""
-    makers = many_fields, placed_values, many_strips, strips_far_apart, many_datasets, many_groups, bad_orders, random_records, long_values
-    for make in makers:
-        yield from make()
+# Makers of large blocks: some for which a quadratic step would take hours, and some of the greatest length.
+LARGE_MAKERS = many_fields, placed_values, many_strips, strips_far_apart, many_datasets, many_groups, bad_orders, random_records, long_values

@@ -1,27 +1,30 @@
-"""Runs a case with each allocation of the program failing in turn, until a run has no such allocation. Each run has the case's result, or
-reports that it is out of memory."""
+"""Runs a case with an allocation of the program failing. Such a run must have the case's result, or report that it is out of memory."""
 
 import os
+from pathlib import Path
+from typing import Iterable, Iterator, List, Tuple
 
-from program import run
+from cases import Case
+from judging import problems
+from program import Outcome, run
 
-MOST_GROWTHS = 20000
+MOST = 20_000  # more allocations than a run of a small block has
 SECONDS = 20
 
 
-def run_refusing(program, shim, case, number):
+def run_refusing(program: Path, refuse: str, case: Case, number: int) -> Tuple[Outcome, bool]:
     """Runs the case with this allocation failing. Returns the outcome, and whether the run came to this allocation."""
-    hears, tells = os.pipe()
+    reads, writes = os.pipe()
     try:
-        environment = {"LD_PRELOAD": shim, "REFUSE_GROWTH": str(number), "REFUSE_GROWTH_TELLS": str(tells)}
-        outcome = run(program, case, environment, SECONDS, keeps_open=(tells,))
+        environment = {"LD_PRELOAD": refuse, "REFUSE_ALLOCATION": str(number), "REFUSE_ALLOCATION_TELLS": str(writes)}
+        outcome = run(program, case, environment, SECONDS, keeps_open=(writes,))
     finally:
-        os.close(tells)
-    with os.fdopen(hears, "rb") as it:
+        os.close(writes)
+    with os.fdopen(reads, "rb") as it:
         return outcome, it.read() != b""
 
 
-def out_of_memory(case):
+def lines_out_of_memory(case: Case) -> List[bytes]:
     """The lines that may report it: compare names the file, if it has opened one. There is none if it can't be written."""
     if case.output_to:
         return [b""]
@@ -29,45 +32,45 @@ def out_of_memory(case):
     return [f"failed: OutOfMemory{it}\n".encode() for it in sides]
 
 
-def says_out_of_memory(case, outcome):
+def reports_out_of_memory(case: Case, outcome: Outcome) -> bool:
     """Whether the run reports out of memory, wrote nothing else, and left the files unchanged; OUT may be empty."""
-    kept = {name: octets for name, octets in outcome.files.items() if name != case.out}
-    were = {name: octets for name, octets in case.files.items() if name != case.out}
+    after = {name: octets for name, octets in outcome.files.items() if name != case.out}
+    before = {name: octets for name, octets in case.files.items() if name != case.out}
     return (
         outcome.status == 4
-        and outcome.output in out_of_memory(case)
-        and outcome.complaints == b""
-        and kept == were
+        and outcome.output in lines_out_of_memory(case)
+        and outcome.errors == b""
+        and after == before
         and outcome.files.get(case.out, b"") in (b"", case.files.get(case.out, b""))
     )
 
 
-def every():
-    """Each allocation."""
-    return range(1, MOST_GROWTHS + 1)
+def every() -> Iterable[int]:
+    """The number of each allocation."""
+    return range(1, MOST + 1)
 
 
-def sample():
-    """Some allocations: the first ones, then one at greater and greater distances."""
+def some() -> Iterator[int]:
+    """The numbers of some allocations: the first ones, then one at greater and greater distances."""
     number = 1
-    while number <= MOST_GROWTHS * 100:
+    while number <= MOST * 100:
         yield number
         number += 1 + number // 4
 
 
-def complaints_under_refusals(program, shim, case, complaints_of, numbers):
-    """Returns what is wrong, and how many allocations failed. It tries those with these numbers, until a run doesn't come to one."""
-    bad, refused = [], 0
+def problems_without_memory(program: Path, refuse: str, case: Case, numbers: Iterable[int]) -> List[str]:
+    """What is wrong if each of these allocations fails. It ends with the first number that a run doesn't come to."""
+    found, refused = [], 0
     for number in numbers:
-        outcome, was_met = run_refusing(program, shim, case, number)
-        refused += was_met
-        if was_met and says_out_of_memory(case, outcome):
+        outcome, is_met = run_refusing(program, refuse, case, number)
+        refused += is_met
+        if is_met and reports_out_of_memory(case, outcome):
             continue
-        wrong = complaints_of(case, outcome)
+        wrong = problems(case, outcome)
         if wrong:
-            bad.append(f"with growth {number} refused: {'; '.join(wrong)}")
-        if not was_met:
-            return bad, refused
-        if len(bad) >= 3:
-            return [*bad, "no more growths were tried"], refused
-    return [*bad, f"the program went on though {refused} growths were refused"], refused
+            found.append(f"without allocation {number}: {'; '.join(wrong)}")
+        if not is_met:
+            return found if refused else [*found, "no allocation was refused: the preloaded library is not in use"]
+        if len(found) >= 3:
+            return [*found, "no more allocations were tried"]
+    return [*found, f"the program went on although {refused} allocations were refused"]

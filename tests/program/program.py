@@ -13,7 +13,7 @@ CLOSED_PIPE = "a closed pipe"  # in place of a device: nothing reads the pipe an
 class Outcome:
     status: object  # a number; below 0 the signal that stopped it; or 'no end' where it had to be stopped
     output: bytes
-    complaints: bytes  # what came on standard error
+    errors: bytes  # what came on standard error
     files: dict = field(default_factory=dict)
 
 
@@ -54,13 +54,13 @@ def run_in(folder, program, case, environment, seconds, keeps_open):
         stdin, started.stdin = started.stdin, None
         threading.Thread(target=feed, args=(stdin, case), daemon=True).start()
     try:
-        output, complaints = started.communicate(case.input if started.stdin else None, seconds)
+        output, errors = started.communicate(case.input if started.stdin else None, seconds)
         status = started.returncode
     except subprocess.TimeoutExpired:
         started.kill()
-        output, complaints = started.communicate(timeout=20)
+        output, errors = started.communicate(timeout=20)
         status = "no end"
-    return Outcome(status, output or b"", complaints)
+    return Outcome(status, output or b"", errors)
 
 
 def sink(name):

@@ -1,8 +1,8 @@
 /* Lets one allocation of a program fail, so that a test sees what the program does then.
  *
- * Compiled as a shared library and preloaded. With REFUSE_GROWTH=N the Nth call of malloc, calloc, realloc,
+ * Compiled as a shared library and preloaded. With REFUSE_ALLOCATION=N the Nth call of malloc, calloc, realloc,
  * aligned_alloc, memalign or posix_memalign fails as it does without memory: a null pointer and ENOMEM
- * (posix_memalign: ENOMEM as its result). Every other call is the C library's own. With REFUSE_GROWTH_TELLS=FD one
+ * (posix_memalign: ENOMEM as its result). Every other call is the C library's own. With REFUSE_ALLOCATION_TELLS=FD one
  * byte is written to that open file if a call failed, so that the test knows of runs in which none did.
  *
  * Calls are counted from the program's main to its return.
@@ -17,8 +17,8 @@ static long until_refused;
 static int tells = -1;
 
 static void begins(void) {
-    until_refused = number_in("REFUSE_GROWTH", 0);
-    tells = (int)number_in("REFUSE_GROWTH_TELLS", -1);
+    until_refused = number_in("REFUSE_ALLOCATION", 0);
+    tells = (int)number_in("REFUSE_ALLOCATION_TELLS", -1);
     is_counting = 1;
 }
 

@@ -1,8 +1,5 @@
-#!/usr/bin/env python3
-"""Runs the built program while the system fails: each system call in turn returns an error, a signal ends the program at each call,
-a write stops after each byte, and memory is limited.
-
-  tests/program/faults.py PROGRAM
+"""The built program while the system fails: each system call in turn returns an error, a signal ends the program at each call, a write
+stops after each byte, and memory is limited.
 
 strace makes system calls fail, and prlimit sets limits. The calls of the loader that starts the program don't fail: that would end any
 program. A run must end as it does without a fault, or with status 4 and the line for what failed. A file or stream that it writes has a
@@ -16,21 +13,14 @@ import functools
 import os
 import re
 import resource
-import shutil
 import signal
 import subprocess
-import sys
 import tempfile
-from concurrent.futures import ThreadPoolExecutor
 from dataclasses import dataclass, field
 from pathlib import Path
 from typing import Dict, Iterator, List, Optional, Tuple
 
-sys.dont_write_bytecode = True
-sys.path.insert(0, str(Path(__file__).resolve().parent.parent))
-
-import paths
-from counting import Counter
+import pytest
 from meanings import Record
 from reading import Fault, said
 
@@ -47,11 +37,7 @@ OF_MEMORY = {"brk", "mmap", "mremap", "munmap", "mprotect", "madvise"}
 
 
 def record(datasets: int) -> bytes:
-    """A caption record with a number of keywords, whose lengths have four bytes.
-
-    >>> record(1)
-    b'\\x1c\\x02\\x19\\x80\\x04\\x00\\x00\\x00\\nkeyword  0'
-    """
+    """A caption record with a number of keywords, whose lengths have four bytes."""
     return Record([(2, 25, b"keyword %2d" % i) for i in range(datasets)]).spelled(extended=4)
 
 
@@ -81,7 +67,7 @@ class Run:
 class Outcome:
     status: int
     output: bytes
-    complaints: bytes
+    errors: bytes
     files: Dict[str, bytes] = field(default_factory=dict)
     trace: str = ""
 
@@ -113,15 +99,15 @@ def runs() -> Iterator[Run]:
     yield Run(["--version"], output=b"exifnorm 1.0.0\n")
 
 
-class Bench:
+class Runner:
     """The program, and a folder in which each run has a folder of its own."""
 
-    def __init__(self, program: str, room: str) -> None:
-        self.program, self.room = os.path.abspath(program), room
+    def __init__(self, program: Path, folder: Path) -> None:
+        self.program, self.folder = program, folder
 
     def run(self, run: Run, before: Tuple[str, ...] = (), trace: bool = True, limits: Tuple[Tuple[int, int], ...] = ()) -> Outcome:
         """Runs the program by this command, which is strace or sets limits."""
-        with tempfile.TemporaryDirectory(dir=self.room) as folder:
+        with tempfile.TemporaryDirectory(dir=self.folder) as folder:
             for name, octets in FILES.items():
                 Path(folder, name).write_bytes(octets)
             words = ["strace", "-y", "-o", f"{folder}/trace", *before] if trace else [*before]
@@ -183,11 +169,7 @@ class Call:
 
 
 def calls_of(trace: str) -> List[Call]:
-    """The calls of a trace after those of the loader, which ends by unmapping the list of its libraries.
-
-    >>> [it.name for it in calls_of('openat(AT_FDCWD, "/etc/ld.so.cache") = 3\\nmunmap(0x1, 2) = 0\\nbrk(NULL) = 0x1\\n')]
-    ['brk']
-    """
+    """The calls of a trace after those of the loader, which ends by unmapping the list of its libraries."""
     found, counts, begins = [], {}, 0
     for line in trace.splitlines():
         name = re.match(r"\w+(?=\()", line)
@@ -223,18 +205,26 @@ def lines_due(run: Run, call: Call, line: str, error: str) -> List[bytes]:
     return lines
 
 
-def failing_calls(bench: Bench, counter: Counter) -> None:
-    """Each call of each run returns an error once, and each error from one call on."""
-    with ThreadPoolExecutor(os.cpu_count()) as pool:
-        for run in runs():
-            plain = bench.run(run)
-            counter.check(f"{run.name}: no fault", is_right(run, plain), plain)
-            calls = calls_of(plain.trace)
-            counter.check(f"{run.name}: its calls", len(calls) > 3, plain.trace)
-            asked = [(it, error, when) for it in calls for error, when in ways(it)]
-            for (call, error, when), outcome in zip(asked, pool.map(lambda it: fail(bench, run, *it), asked)):
-                name = f"{run.name}: {call.name} {call.number}{when} with {error}"
-                judge_failure(counter, name, run, call, error, outcome)
+RUNS = pytest.mark.parametrize("run", [pytest.param(it, id=it.name) for it in runs()])
+NORMALISES = pytest.mark.parametrize("run", [pytest.param(it, id=it.name) for it in runs() if it.words[:1] == ["normalise"]])
+
+
+@pytest.fixture
+def runner(program: Path, folder: Path) -> Runner:
+    return Runner(program, folder)
+
+
+@RUNS
+def test_each_call_fails(runner, run, checks):
+    """Each call of a run returns an error once, and each error from one call on."""
+    plain = runner.run(run)
+    assert is_right(run, plain)
+    calls = calls_of(plain.trace)
+    assert len(calls) > 3, plain.trace
+    for call in calls:
+        for error, when in ways(call):
+            outcome = runner.run(run, (f"--inject={call.name}:{error}:when={call.number}{when}",))
+            judge_failure(checks, f"{call.name} {call.number}{when} with {error}", run, call, error, outcome)
 
 
 def ways(call: Call) -> Iterator[Tuple[str, str]]:
@@ -249,89 +239,72 @@ def ways(call: Call) -> Iterator[Tuple[str, str]]:
         yield "error=EINTR", "+"
 
 
-def fail(bench: Bench, run: Run, call: Call, error: str, when: str) -> Outcome:
-    return bench.run(run, (f"--inject={call.name}:{error}:when={call.number}{when}",))
-
-
-def judge_failure(counter: Counter, name: str, run: Run, call: Call, error: str, outcome: Outcome) -> None:
+def judge_failure(checks, name: str, run: Run, call: Call, error: str, outcome: Outcome) -> None:
     if not outcome.injected:
-        counter.check(name, False, f"the call was not reached: {outcome.trace[-300:]}")
+        checks.check(name, False, f"the call was not reached: {outcome.trace[-300:]}")
         return
     lines = lines_due(run, call, outcome.injected[0], error)
-    well = outcome.complaints == b"" and (is_right(run, outcome) or says(run, outcome, lines))
-    counter.check(name, well, f"status {outcome.status}, {outcome.output[-80:]!r} {outcome.complaints[-80:]!r}, {outcome.injected[0]}")
+    well = outcome.errors == b"" and (is_right(run, outcome) or says(run, outcome, lines))
+    checks.check(name, well, f"status {outcome.status}, {outcome.output[-80:]!r} {outcome.errors[-80:]!r}, {outcome.injected[0]}")
 
 
 # ---- a kill at each system call
 
 
-def kills(bench: Bench, counter: Counter) -> None:
-    """SIGKILL at each call of a run leaves OUT unchanged, empty, a prefix or complete, and every other file unchanged."""
-    with ThreadPoolExecutor(os.cpu_count()) as pool:
-        for run in (it for it in runs() if it.words[:1] == ["normalise"]):
-            calls = calls_of(bench.run(run).trace)
-            asked = [f"--inject={it.name}:signal=SIGKILL:when={it.number}" for it in calls]
-            left = set()
-            for it, outcome in zip(asked, pool.map(lambda it: bench.run(run, (it,)), asked)):
-                counter.equal(f"{run.name} {it}", (outcome.status, keeps_files(run, outcome.files)), (-signal.SIGKILL, True))
-                left.add(outcome.files.get(run.words[2]))
-            counter.check(f"{run.name}: before and behind the writes", len(left) > 1 or run.status == 2, left)
+@NORMALISES
+def test_a_kill_at_each_call(runner, run, checks):
+    """OUT is unchanged, empty, a prefix or complete, and every other file is unchanged."""
+    left = set()
+    for it in calls_of(runner.run(run).trace):
+        outcome = runner.run(run, (f"--inject={it.name}:signal=SIGKILL:when={it.number}",))
+        checks.equal(f"{it.name} {it.number}", (outcome.status, keeps_files(run, outcome.files)), (-signal.SIGKILL, True))
+        left.add(outcome.files.get(run.words[2]))
+    checks.check("before and behind the writes", len(left) > 1 or run.status == 2, left)
 
 
 # ---- writes that stop
 
 
-def cut_writes(bench: Bench, counter: Counter) -> None:
+def test_cut_writes(runner, checks):
     """If a file takes only a number of bytes, it has exactly these, and the status is 4."""
     for name, most in (("turned", range(len(ONE))), ("record", range(0, len(form_of(FILES["record"])), 997))):
         form = form_of(FILES[name])
         for length in most:
-            outcome = bench.run(Run(["normalise", name, "OUT"]), trace=False, limits=((resource.RLIMIT_FSIZE, max(length, 1)),))
+            outcome = runner.run(Run(["normalise", name, "OUT"]), trace=False, limits=((resource.RLIMIT_FSIZE, max(length, 1)),))
             came = (outcome.status, outcome.output, outcome.files["OUT"])
-            counter.equal(f"{name}: a write of {max(length, 1)} bytes", came, (4, WRITE + b"\n", form[: max(length, 1)]))
+            checks.equal(f"{name}: a write of {max(length, 1)} bytes", came, (4, WRITE + b"\n", form[: max(length, 1)]))
 
 
 # ---- little memory
 
 
-def little_memory(bench: Bench, counter: Counter) -> None:
-    """With more and more memory a run ends with its line of a failure, and from some point on it succeeds."""
-    block = record(200_000)
-    meaning = said(block)
-    FILES["large"] = block
-    for run in (
+@functools.lru_cache(maxsize=None)
+def runs_of_a_large_record() -> List[Run]:
+    meaning = said(large_record())
+    return [
         Run(["check", "large"], output=b"ok iim\n"),
         Run(["show", "large"], output=meaning.listing().encode()),
         Run(["captions", "large"], output=meaning.captions().encode()),
         Run(["compare", "large", "large"], output=b"same\n"),
         Run(["normalise", "large", "OUT"], out=meaning.normal()),
         Run([], output=meaning.normal(), stdin="large"),
-    ):
-        ends = set()
-        for most in (it * 2**20 for it in (0.25, 0.5, 1, 2, 3, 4, 5, 6, 8, 10, 12, 16, 24, 64)):
-            outcome = bench.run(run, trace=False, limits=((resource.RLIMIT_DATA, int(most)),))
-            told = says(run, outcome, [MEMORY + it for it in SIDES]) and outcome.output.startswith(MEMORY)
-            counter.check(f"{run.name} with {most} bytes", told or is_right(run, outcome), (outcome.status, outcome.output[-80:], outcome.complaints))
-            ends.add(outcome.status)
-        counter.check(f"{run.name}: memory is short, and is enough", ends == {0, 4}, ends)
-    del FILES["large"]
+    ]
 
 
-def main(words: List[str]) -> int:
-    if len(words) != 1:
-        sys.exit(__doc__)
-    counter = Counter()
-    with tempfile.TemporaryDirectory() as room:
-        bench = Bench(words[0], room)
-        for test in (failing_calls, kills):
-            if shutil.which("strace"):
-                counter.collect(test.__name__, lambda counter, test=test: test(bench, counter))
-            else:
-                counter.skip(test.__name__, "strace is not installed")
-        for test in (cut_writes, little_memory):
-            counter.collect(test.__name__, lambda counter, test=test: test(bench, counter))
-    return counter.finish()
+@functools.lru_cache(maxsize=None)
+def large_record() -> bytes:
+    return record(200_000)
 
 
-if __name__ == "__main__":
-    sys.exit(main(sys.argv[1:]))
+@pytest.mark.parametrize("command", ["check", "show", "captions", "compare", "normalise", "filter"])
+def test_little_memory(runner, checks, monkeypatch, command):
+    """With more and more memory a run ends with its line of a failure, and from some point on it succeeds."""
+    monkeypatch.setitem(FILES, "large", large_record())
+    run = next(it for it in runs_of_a_large_record() if it.words[:1] == [command] or not it.words and command == "filter")
+    statuses = set()
+    for most in (it * 2**20 for it in (0.25, 0.5, 1, 2, 3, 4, 5, 6, 8, 10, 12, 16, 24, 64)):
+        outcome = runner.run(run, trace=False, limits=((resource.RLIMIT_DATA, int(most)),))
+        is_reported = says(run, outcome, [MEMORY + it for it in SIDES]) and outcome.output.startswith(MEMORY)
+        checks.check(f"with {most} bytes", is_reported or is_right(run, outcome), (outcome.status, outcome.output[-80:], outcome.errors))
+        statuses.add(outcome.status)
+    checks.equal("memory is short, and is enough", statuses, {0, 4})

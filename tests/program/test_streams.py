@@ -1,8 +1,5 @@
-#!/usr/bin/env python3
-"""Tests the built program where the files of cases can't: standard streams that are closed or stay open, links, devices, pipes, and
+"""The built program where the files of cases can't test it: standard streams that are closed or stay open, links, devices, pipes, and
 files that may not be read.
-
-  tests/program/streams.py PROGRAM
 
 The tests also run as root. A program that replaces the file that it writes could then replace a device. So a test names a device as an
 output only by a link in its own folder, or as another user.
@@ -10,19 +7,14 @@ output only by a link in its own folder, or as another user.
 
 import itertools
 import os
+import shutil
 import stat
 import subprocess
-import sys
-import tempfile
 import threading
 from pathlib import Path
 from typing import Dict, Iterator, Tuple
 
-sys.dont_write_bytecode = True
-sys.path.insert(0, str(Path(__file__).resolve().parent.parent))
-
-import paths
-from counting import Counter
+import pytest
 from meanings import Record
 
 # one SHORT, and the same with a next offset that leads to the directory itself
@@ -33,12 +25,8 @@ COMMANDS = [["check", "loop"], ["show", "loop"], ["captions", "loop"], ["normali
 NOBODY = 65534
 
 
-def run(program: str, folder: Path, words: list, closed: tuple = (), **how) -> tuple:
-    """The status and the output of a run in the folder, with some standard streams closed.
-
-    >>> run("/bin/echo", Path("/"), ["a"])
-    (0, b'a\\n')
-    """
+def run(program: Path, folder: Path, words: list, closed: tuple = (), **how) -> tuple:
+    """The status and the output of a run in the folder, with some standard streams closed."""
     shut = " ".join(f"{it}{'<' if it == 0 else '>'}&-" for it in closed)
     it = subprocess.run(
         ["/bin/sh", "-c", f'exec "$@" {shut}', "sh", program, *words],
@@ -50,33 +38,44 @@ def run(program: str, folder: Path, words: list, closed: tuple = (), **how) -> t
     return it.returncode, it.stdout
 
 
+@pytest.fixture(scope="module")
+def program(program, session_folder):
+    """A copy that nobody may run too."""
+    return Path(shutil.copy(program, session_folder / "program"))
+
+
+@pytest.fixture(autouse=True)
+def filled(folder):
+    fill(folder)
+
+
 def fill(folder: Path) -> None:
     for name, octets in {"one": ONE, "loop": LOOP, "OUT": b"old"}.items():
         (folder / name).write_bytes(octets)
 
 
-def closed_streams(program: str, folder: Path):
-    """No line goes into a file, whichever streams are closed."""
-    for count in (1, 2, 3):
-        for closed in itertools.combinations(range(3), count):
-            for words in COMMANDS:
-                fill(folder)
-                came = run(program, folder, words, closed)
-                line = REFUSED[:-1] + b" in file 1\n" if words[0] == "compare" else REFUSED
-                expected = (4, b"") if 1 in closed else (2, line)
-                out = b"" if words[0] == "normalise" else b"old"
-                left = [(folder / name).read_bytes() for name in ("one", "loop", "OUT")]
-                yield f"{words[0]} with {closed} closed", (came, left) == (expected, [ONE, LOOP, out]), (came, left)
-    fill(folder)
-    came = run(program, folder, ["normalise", "one", "OUT"], (0, 1, 2))
-    yield "normalise with no stream", (came, (folder / "OUT").read_bytes()) == ((0, b""), ONE), came
-    came = run(program, folder, [], (0,))
-    yield "the filter without standard input", came == (4, b"failed: ReadFailed\n"), came
-    came = run(program, folder, [], (1,), input=ONE, stdin=None)
-    yield "the filter without standard output", came == (4, b""), came
+@pytest.mark.parametrize("words", COMMANDS, ids=lambda it: it[0])
+@pytest.mark.parametrize(
+    "closed", [it for n in (1, 2, 3) for it in itertools.combinations(range(3), n)], ids=lambda it: "closed" + "".join(map(str, it))
+)
+def test_no_line_goes_into_a_file_whichever_streams_are_closed(program, folder, words, closed):
+    line = REFUSED[:-1] + b" in file 1\n" if words[0] == "compare" else REFUSED
+    assert run(program, folder, words, closed) == ((4, b"") if 1 in closed else (2, line))
+    out = b"" if words[0] == "normalise" else b"old"
+    assert [(folder / name).read_bytes() for name in ("one", "loop", "OUT")] == [ONE, LOOP, out]
 
 
-def links(program: str, folder: Path):
+def test_normalise_with_no_stream(program, folder):
+    assert run(program, folder, ["normalise", "one", "OUT"], (0, 1, 2)) == (0, b"")
+    assert (folder / "OUT").read_bytes() == ONE
+
+
+def test_the_filter_without_a_stream(program, folder):
+    assert run(program, folder, [], (0,)) == (4, b"failed: ReadFailed\n")
+    assert run(program, folder, [], (1,), input=ONE, stdin=None) == (4, b"")
+
+
+def test_links(program, folder, checks):
     """OUT is FILE by another name: it is refused and unchanged."""
     os.link(folder / "one", folder / "hard")
     os.symlink("one", folder / "symbolic")
@@ -84,43 +83,30 @@ def links(program: str, folder: Path):
     for name in ("./one", "d/../one", str(folder / "one"), "hard", "symbolic"):
         came = run(program, folder, ["normalise", "one", name])
         left = (folder / "one").read_bytes()
-        yield f"one and {name}", (came, left) == ((3, b"refused words: OUT is FILE\n"), ONE), (came, left)
+        checks.check(f"one and {name}", (came, left) == ((3, b"refused words: OUT is FILE\n"), ONE), (came, left))
     with open(folder / "one", "rb") as given:
         came = run(program, folder, ["normalise", "/dev/stdin", "one"], stdin=given)
     left = (folder / "one").read_bytes()
-    yield "standard input's own file", (came, left) == ((3, b"refused words: OUT is FILE\n"), ONE), (came, left)
+    checks.check("standard input's own file", (came, left) == ((3, b"refused words: OUT is FILE\n"), ONE), (came, left))
 
 
-def an_input_that_stays_open(program: str, folder: Path):
-    """Only the filter reads standard input. Every other run ends, even if nothing arrives there and nobody closes it."""
+ENDS = {
+    "check one": 0, "show one": 0, "captions one": 0, "normalise one OUT": 0, "compare one one": 0, "check loop": 2, "compare loop one": 2,
+    "check absent": 4, "normalise absent OUT": 4, "normalise one one": 3, "check": 3, "chek": 3, "-": 3, "--help": 0, "--version": 0,
+}  # fmt: skip
+
+
+@pytest.mark.timeout(60)
+@pytest.mark.parametrize("words, status", ENDS.items(), ids=ENDS)
+def test_only_the_filter_waits_for_standard_input(program, folder, words, status):
+    """Every other run ends, even if nothing arrives there and nobody closes it."""
     reads, writes = os.pipe()
-    for words, status in (
-        (["check", "one"], 0),
-        (["show", "one"], 0),
-        (["captions", "one"], 0),
-        (["normalise", "one", "OUT"], 0),
-        (["compare", "one", "one"], 0),
-        (["check", "loop"], 2),
-        (["compare", "loop", "one"], 2),
-        (["check", "absent"], 4),
-        (["normalise", "absent", "OUT"], 4),
-        (["normalise", "one", "one"], 3),
-        (["check"], 3),
-        (["chek"], 3),
-        (["-"], 3),
-        (["--help"], 0),
-        (["--version"], 0),
-    ):
-        try:
-            came = run(program, folder, words, stdin=reads)[0]
-        except subprocess.TimeoutExpired:
-            came = "no end"
-        yield f"{words} while standard input stays open", came == status, came
+    assert run(program, folder, words.split(), stdin=reads)[0] == status
     os.close(reads)
     os.close(writes)
 
 
-def a_file_that_may_not_be_read(program: str, folder: Path):
+def test_a_file_that_may_not_be_read(program, folder, checks):
     """Without permission to read, a file is a failed read; without permission to write, a failed write. With it, each of these calls succeeds."""
     (folder / "closed").mkdir()
     for name in ("secret", "fixed", "closed/one", "closed/OUT"):
@@ -142,7 +128,7 @@ def a_file_that_may_not_be_read(program: str, folder: Path):
             (folder / words[2]).write_bytes(b"old")
         status, output = run(program, folder, words)
         is_done = (folder / words[2]).read_bytes() == ONE if words[0] == "normalise" else output != b""
-        yield f"{words} with permission", (status, is_done, set(words[1:]) - names) == (0, True, set()), (status, is_done, names)
+        checks.check(f"{words} with permission", (status, is_done, set(words[1:]) - names) == (0, True, set()), (status, is_done, names))
     fill(folder)
     (folder / "secret").chmod(0o000)
     (folder / "fixed").chmod(0o444)
@@ -152,11 +138,11 @@ def a_file_that_may_not_be_read(program: str, folder: Path):
     for words, line in calls:
         came = run(program, folder, words, **how)
         left = [(folder / name).read_bytes() for name in ("one", "OUT", "fixed")]
-        yield f"{words} as nobody", (came, left) == ((4, line), [ONE, b"old", ONE]), (came, left)
+        checks.check(f"{words} as nobody", (came, left) == ((4, line), [ONE, b"old", ONE]), (came, left))
     (folder / "closed").chmod(0o755)
 
 
-def links_that_lead_nowhere(program: str, folder: Path):
+def test_links_that_lead_nowhere(program, folder, checks):
     """A link to itself is a failed read or write. OUT that is a link to a missing file creates that file."""
     os.symlink("round", folder / "round")
     os.symlink("made", folder / "ahead")
@@ -166,13 +152,13 @@ def links_that_lead_nowhere(program: str, folder: Path):
         (["normalise", "one", "round"], b"failed: WriteFailed\n"),
     ):
         came, is_link = run(program, folder, words), (folder / words[-1]).is_symlink()
-        yield f"{words} through a link", (came, is_link) == ((4, line), True), (came, is_link)
+        checks.check(f"{words} through a link", (came, is_link) == ((4, line), True), (came, is_link))
     came = run(program, folder, ["normalise", "one", "ahead"])
     left = (folder / "made").read_bytes()
-    yield "an output through a link", (came, left) == ((0, b""), ONE), (came, left)
+    checks.check("an output through a link", (came, left) == ((0, b""), ONE), (came, left))
 
 
-def ways_to_leave_an_output(program: str, folder: Path) -> Iterator[Tuple[str, bool, object]]:
+def test_ways_to_leave_an_output(program, folder, checks):
     """OUT is written in place: it stays the same file, and nothing of its old content follows the form."""
     for length in (0, 1, len(ONE) - 1, len(ONE), len(ONE) + 1, len(ONE) + 2_000_000):
         for name, octets in (("one", ONE), ("loop", b"")):
@@ -180,24 +166,26 @@ def ways_to_leave_an_output(program: str, folder: Path) -> Iterator[Tuple[str, b
             (folder / "OUT").write_bytes(b"x" * length)
             run(program, folder, ["normalise", name, "OUT"])
             left = (folder / "OUT").read_bytes()
-            yield f"normalise {name} over {length} bytes", left == octets, left[:100]
+            checks.check(f"normalise {name} over {length} bytes", left == octets, left[:100])
     out = folder / "OUT"
     out.chmod(0o640)
     os.link(out, folder / "again")
     was = out.stat()
     run(program, folder, ["normalise", "one", "OUT"])
     now = out.stat()
-    yield "OUT is the same file", (was.st_ino, was.st_mode, was.st_nlink) == (now.st_ino, now.st_mode, now.st_nlink), now
-    yield "OUT by its other name", (folder / "again").read_bytes() == ONE, (folder / "again").read_bytes()
-    yield "nothing is left beside OUT", sorted(it.name for it in folder.iterdir()) == ["OUT", "again", "loop", "one"], list(folder.iterdir())
+    checks.check("OUT is the same file", (was.st_ino, was.st_mode, was.st_nlink) == (now.st_ino, now.st_mode, now.st_nlink), now)
+    checks.check("OUT by its other name", (folder / "again").read_bytes() == ONE, (folder / "again").read_bytes())
+    checks.check(
+        "nothing is left beside OUT", sorted(it.name for it in folder.iterdir()) == ["OUT", "again", "loop", "one"], list(folder.iterdir())
+    )
     old = os.umask(0o027)
     run(program, folder, ["normalise", "one", "new"])
     os.umask(old)
-    yield "a new OUT", (folder / "new").stat().st_mode & 0o777 == 0o640, oct((folder / "new").stat().st_mode)
+    checks.check("a new OUT", (folder / "new").stat().st_mode & 0o777 == 0o640, oct((folder / "new").stat().st_mode))
     (folder / "d").mkdir()
     for name, is_below in (("d", True), ("absent/OUT", False), ("one/OUT", True), ("", True)):
         came, is_there = run(program, folder, ["normalise", "one", name]), (folder / name.split("/")[0]).exists()
-        yield f"OUT is {name or 'no name'}", (came, is_there) == ((4, b"failed: WriteFailed\n"), is_below), (came, is_there)
+        checks.check(f"OUT is {name or 'no name'}", (came, is_there) == ((4, b"failed: WriteFailed\n"), is_below), (came, is_there))
 
 
 def devices() -> Dict[str, Tuple[int, int]]:
@@ -206,7 +194,7 @@ def devices() -> Dict[str, Tuple[int, int]]:
     return {it: (stat.S_IFMT(found[it].st_mode), found[it].st_rdev) for it in found}
 
 
-def outputs_that_are_no_files(program: str, folder: Path) -> Iterator[Tuple[str, bool, object]]:
+def test_outputs_that_are_no_files(program, folder, checks):
     """A device takes the form, or fails. It stays the same device."""
     were = devices()
     folder.chmod(0o755)
@@ -215,26 +203,26 @@ def outputs_that_are_no_files(program: str, folder: Path) -> Iterator[Tuple[str,
         os.symlink(f"/dev/{name}", folder / name)
     for name, expected in (("null", (0, b"")), ("full", (4, b"failed: WriteFailed\n"))):
         came = run(program, folder, ["normalise", "one", name])
-        yield f"OUT is a link to /dev/{name}", came == expected, came
+        checks.check(f"OUT is a link to /dev/{name}", came == expected, came)
         came = run(program, folder, ["normalise", "one", f"/dev/{name}"], **how)
-        yield f"OUT is /dev/{name}", came == expected, came
+        checks.check(f"OUT is /dev/{name}", came == expected, came)
     came = run(program, folder, ["normalise", "loop", "null"])
-    yield "a refused block, and OUT is /dev/null", came == (2, REFUSED), came
+    checks.check("a refused block, and OUT is /dev/null", came == (2, REFUSED), came)
     came = run(program, folder, ["normalise", "one", "stdout"])
-    yield "OUT is standard output, a pipe", came == (0, ONE), came
+    checks.check("OUT is standard output, a pipe", came == (0, ONE), came)
     with open(folder / "to", "wb+") as to:
         to.write(b"what stood there before, which is longer")
         to.flush()
         subprocess.run([program, "normalise", "one", "stdout"], cwd=folder, stdout=to, timeout=600, check=False)
-    yield "OUT is standard output, a file", (folder / "to").read_bytes() == ONE, (folder / "to").read_bytes()
+    checks.check("OUT is standard output, a file", (folder / "to").read_bytes() == ONE, (folder / "to").read_bytes())
     with open(folder / "to", "ab") as to:
         subprocess.run([program], cwd=folder, input=ONE, stdout=to, timeout=600, check=False)
-    yield "a form behind what stands there", (folder / "to").read_bytes() == ONE + ONE, (folder / "to").read_bytes()
+    checks.check("a form behind what stands there", (folder / "to").read_bytes() == ONE + ONE, (folder / "to").read_bytes())
     links = sorted(it.name for it in folder.iterdir() if it.is_symlink())
-    yield "the devices", (devices(), links) == (were, ["full", "null", "stdout"]), (devices(), links)
+    checks.check("the devices", (devices(), links) == (were, ["full", "null", "stdout"]), (devices(), links))
 
 
-def pipes_by_a_name(program: str, folder: Path) -> Iterator[Tuple[str, bool, object]]:
+def test_pipes_by_a_name(program, folder, checks):
     """A FIFO is read to its end, and takes the form. If nobody reads it any more, a write fails."""
     os.mkfifo(folder / "fifo")
     large = Record([(2, 25, b"keyword %6d" % i) for i in range(60_000)])
@@ -242,14 +230,14 @@ def pipes_by_a_name(program: str, folder: Path) -> Iterator[Tuple[str, bool, obj
     (folder / "large").write_bytes(block)
     for name, octets in (("one", ONE), ("large", form)):
         came, took = beside(lambda: run(program, folder, ["normalise", name, "fifo"]), lambda: (folder / "fifo").read_bytes())
-        yield f"OUT is a FIFO, for {name}", (came, took) == ((0, b""), octets), (came, len(took))
+        checks.check(f"OUT is a FIFO, for {name}", (came, took) == ((0, b""), octets), (came, len(took)))
         came, _ = beside(lambda: run(program, folder, ["normalise", "fifo", "OUT"]), lambda: (folder / "fifo").write_bytes(octets))
         left = (folder / "OUT").read_bytes()
-        yield f"FILE is a FIFO, for {name}", (came, left) == ((0, b""), octets), came
+        checks.check(f"FILE is a FIFO, for {name}", (came, left) == ((0, b""), octets), came)
     came, _ = beside(lambda: run(program, folder, ["normalise", "large", "fifo"]), lambda: os.close(os.open(folder / "fifo", os.O_RDONLY)))
-    yield "nobody reads the FIFO any more", came == (4, b"failed: WriteFailed\n"), came
+    checks.check("nobody reads the FIFO any more", came == (4, b"failed: WriteFailed\n"), came)
     came, _ = beside(lambda: run(program, folder, ["compare", "one", "fifo"]), lambda: (folder / "fifo").write_bytes(ONE))
-    yield "a FIFO is compared", came == (0, b"same\n"), came
+    checks.check("a FIFO is compared", came == (0, b"same\n"), came)
 
 
 def beside(one, other) -> tuple:
@@ -262,26 +250,26 @@ def beside(one, other) -> tuple:
     return came, found[0] if found else b""
 
 
-def standard_inputs(program: str, folder: Path) -> Iterator[Tuple[str, bool, object]]:
+def test_standard_inputs(program, folder, checks):
     """Standard input is read from its current position, and can be named as a file."""
     (folder / "behind").write_bytes(b"xyz" + ONE)
     with open(folder / "behind", "rb", buffering=0) as given:
         given.seek(3)
         came = run(program, folder, [], stdin=given)
-    yield "a block behind other bytes", came == (0, ONE), came
+    checks.check("a block behind other bytes", came == (0, ONE), came)
     came = run(program, folder, ["check", "/dev/stdin"], input=ONE, stdin=None)
-    yield "standard input as FILE", came == (0, b"ok exif\n"), came
+    checks.check("standard input as FILE", came == (0, b"ok exif\n"), came)
     came = run(program, folder, ["compare", "/dev/stdin", "one"], input=ONE, stdin=None)
-    yield "standard input as FIRST", came == (0, b"same\n"), came
+    checks.check("standard input as FIRST", came == (0, b"same\n"), came)
     came = run(program, folder, ["compare", "/dev/stdin", "/dev/stdin"], input=ONE, stdin=None)
-    yield "standard input twice", came == (2, b"refused: UnknownKind at 0 in file 2\n"), came
+    checks.check("standard input twice", came == (2, b"refused: UnknownKind at 0 in file 2\n"), came)
     directory = os.open(folder, os.O_RDONLY)
     came = run(program, folder, [], stdin=directory)
     os.close(directory)
-    yield "a directory as standard input", came == (4, b"failed: ReadFailed\n"), came
+    checks.check("a directory as standard input", came == (4, b"failed: ReadFailed\n"), came)
 
 
-def an_output_that_may_not_be_read(program: str, folder: Path) -> Iterator[Tuple[str, bool, object]]:
+def test_an_output_that_may_not_be_read(program, folder, checks):
     """OUT is only written, so it need not be readable."""
     how = {"user": NOBODY, "group": NOBODY} if os.getuid() == 0 else {}
     out = folder / "OUT"
@@ -291,20 +279,20 @@ def an_output_that_may_not_be_read(program: str, folder: Path) -> Iterator[Tuple
     out.chmod(0o200)
     came = run(program, folder, ["normalise", "one", "OUT"], **how)
     out.chmod(0o600)
-    yield "a write-only OUT", (came, out.read_bytes()) == ((0, b""), ONE), came
+    checks.check("a write-only OUT", (came, out.read_bytes()) == ((0, b""), ONE), came)
 
 
-def words_and_names(program: str, folder: Path) -> Iterator[Tuple[str, bool, object]]:
+def test_words_and_names(program, folder, checks):
     """After `--` each argument is a name. Too many names are refused, and no file is opened."""
     for name in ("-a", "--help", "--", "-"):
         (folder / name).write_bytes(ONE)
         came = run(program, folder, ["check", "--", name])
-        yield f"check -- {name}", came == (0, b"ok exif\n"), came
+        checks.check(f"check -- {name}", came == (0, b"ok exif\n"), came)
         came = run(program, folder, ["compare", "--", name, "one"])
-        yield f"compare -- {name} one", came == (0, b"same\n"), came
+        checks.check(f"compare -- {name} one", came == (0, b"same\n"), came)
         came = run(program, folder, ["normalise", "--", "one", f"{name}.out"])
         left = (folder / f"{name}.out").read_bytes() if (folder / f"{name}.out").exists() else b""
-        yield f"normalise -- one {name}.out", (came, left) == ((0, b""), ONE), came
+        checks.check(f"normalise -- one {name}.out", (came, left) == ((0, b""), ONE), came)
     for words, wrong in (
         (["compare", "one", "one", "one", "one", "one"], "one"),
         (["normalise", "one", "OUT", "third", "fourth", "fifth"], "third"),
@@ -313,72 +301,49 @@ def words_and_names(program: str, folder: Path) -> Iterator[Tuple[str, bool, obj
     ):
         came = run(program, folder, words)
         is_told = came[1].startswith(b"error: unexpected argument '%s' found\n" % wrong.encode())
-        yield " ".join(words), came[0] == 3 and is_told and (folder / "OUT").read_bytes() == b"old", came
+        checks.check(" ".join(words), came[0] == 3 and is_told and (folder / "OUT").read_bytes() == b"old", came)
 
 
-ODD_NAMES = (" ", "a b", "a\nb", "a\rb", "\x1b[31m", "\x7f", "\x01", "$(touch made)", "`touch made`", "*", "?", "'", '"', "\\", "%s%n", "é", "\u202e", "x" * 255)
+ODD_NAMES = (
+    " ",
+    "a b",
+    "a\nb",
+    "a\rb",
+    "\x1b[31m",
+    "\x7f",
+    "\x01",
+    "$(touch made)",
+    "`touch made`",
+    "*",
+    "?",
+    "'",
+    '"',
+    "\\",
+    "%s%n",
+    "é",
+    "\u202e",
+    "x" * 255,
+)
 
 
-def odd_names(program: str, folder: Path) -> Iterator[Tuple[str, bool, object]]:
+def test_odd_names(program, folder, checks):
     """A name is used as it is, and no line has it. One that the system has no file for is a failed read or write."""
     there = {it.name for it in folder.iterdir()}
     for name in ODD_NAMES:
         (folder / name).write_bytes(LOOP)
         came = run(program, folder, ["normalise", "one", name])
         left = (folder / name).read_bytes()
-        yield f"OUT is {name!r}", (came, left) == ((0, b""), ONE), (came, left)
+        checks.check(f"OUT is {name!r}", (came, left) == ((0, b""), ONE), (came, left))
         (folder / name).write_bytes(LOOP)
         came = run(program, folder, ["compare", "one", name])
-        yield f"SECOND is {name!r}", came == (2, b"refused: Loop at 22 in file 2\n"), came
-    yield "no other file is made", {it.name for it in folder.iterdir()} == there | {*ODD_NAMES}, list(folder.iterdir())
+        checks.check(f"SECOND is {name!r}", came == (2, b"refused: Loop at 22 in file 2\n"), came)
+    checks.check("no other file is made", {it.name for it in folder.iterdir()} == there | {*ODD_NAMES}, list(folder.iterdir()))
     for name in ("x" * 256, "d/" * 2100 + "one"):
         for words, line in ((["check", name], b"failed: ReadFailed\n"), (["normalise", "one", name], b"failed: WriteFailed\n")):
             came = run(program, folder, words)
-            yield f"{words[0]} with a name of {len(name)} bytes", came == (4, line), came
+            checks.check(f"{words[0]} with a name of {len(name)} bytes", came == (4, line), came)
     for name in (b"\xff", b"a\xc3", b"\xed\xa0\x80"):
         Path(os.fsdecode(os.fsencode(folder) + b"/" + name)).write_bytes(b"old")
         came = run(program, folder, ["normalise", "one", name])
         left = Path(os.fsdecode(os.fsencode(folder) + b"/" + name)).read_bytes()
-        yield f"OUT is {name!r}", (came, left) == ((3, b"refused words: they are not text\n"), b"old"), (came, left)
-
-
-TESTS = (
-    closed_streams,
-    links,
-    an_input_that_stays_open,
-    a_file_that_may_not_be_read,
-    links_that_lead_nowhere,
-    ways_to_leave_an_output,
-    outputs_that_are_no_files,
-    pipes_by_a_name,
-    standard_inputs,
-    an_output_that_may_not_be_read,
-    words_and_names,
-    odd_names,
-)
-
-
-def check_all(counter: Counter, program: str, folder: Path, test) -> None:
-    for name, is_well, came in test(program, folder):
-        counter.check(name, is_well, came)
-
-
-def main(words: list) -> int:
-    if len(words) != 1:
-        sys.exit(__doc__)
-    counter = Counter()
-    with tempfile.TemporaryDirectory() as room:
-        program = Path(room) / "program"  # nobody may reach this copy
-        program.write_bytes(Path(words[0]).read_bytes())
-        program.chmod(0o755)
-        Path(room).chmod(0o755)
-        for test in TESTS:
-            folder = Path(room) / test.__name__
-            folder.mkdir()
-            fill(folder)
-            counter.collect(test.__name__, lambda counter, test=test, folder=folder: check_all(counter, str(program), folder, test))
-    return counter.finish()
-
-
-if __name__ == "__main__":
-    sys.exit(main(sys.argv[1:]))
+        checks.check(f"OUT is {name!r}", (came, left) == ((3, b"refused words: they are not text\n"), b"old"), (came, left))

@@ -7,6 +7,7 @@ from dataclasses import dataclass
 from functools import lru_cache
 
 from cases import Keeps
+from judging import problems
 from meanings import LIMIT
 from program import run
 
@@ -151,17 +152,18 @@ def limits_of(case, outcome):
     )
 
 
-def complaints_of_cost(program, shim, case, complaints_of):
+def problems_of_cost(program, shim, case):
+    """What is wrong with a run and with its counts."""
     outcome, counts = watched(program, shim, case)
-    bad = complaints_of(case, outcome)
+    found = problems(case, outcome)
     if counts is None:
-        return [*bad, "the run reported no counts"]
+        return [*found, "the run reported no counts"]
     most = limits_of(case, outcome)
     for name in ("calls", "asked", "held", "reads", "writes", "spent"):
         came, limit = getattr(counts, name), getattr(most, name)
         if came > limit:
-            bad.append(f"{name}: expected at most {limit}, and {came} came")
-    return bad
+            found.append(f"{name}: expected at most {limit}, and {came} came")
+    return found
 
 
 def failures_of(case):
@@ -180,41 +182,41 @@ def says_failed(case, outcome, line, expected, taken=None):
     starts = [outcome.output[: len(outcome.output) - len(it)] for it in lines if outcome.output.endswith(it)]
     return (
         outcome.status == 4
-        and outcome.complaints == b""
+        and outcome.errors == b""
         and out.startswith(left)
         and any(expected.output.startswith(it) and taken in (None, len(left + it)) for it in starts)
     )
 
 
-def complaints_of_failures(program, shim, case, short=0):
+def problems_of_failures(program, shim, case, short=0):
     """What is wrong if each read and each write in turn fails once. If each write moves one byte, as many bytes have been written as
     there were writes before the one that failed."""
     expected, _ = watched(program, shim, case)
-    bad = []
+    found = []
     for call, error, line in failures_of(case):
         for number in range(1, 500):
             outcome, counts = watched(program, shim, case, **{call: number, "FAIL_AS": error, "SHORT": short})
             if counts is None:
-                bad.append(f"{call} {number} as {error}: the run came to no end")
+                found.append(f"{call} {number} as {error}: the run came to no end")
                 break
             if not counts.failed:
                 break
             taken = number - 1 if short == 1 and call == "FAIL_WRITE" else None
             if not says_failed(case, outcome, line, expected, taken):
-                bad.append(f"{call} {number} as {error}: status {outcome.status} with {outcome.output[:80]!r}")
+                found.append(f"{call} {number} as {error}: status {outcome.status} with {outcome.output[:80]!r}")
         else:
-            bad.append(f"{call}: more than 499 calls")
-    return bad[:5]
+            found.append(f"{call}: more than 499 calls")
+    return found[:5]
 
 
-def complaints_of_short_calls(program, shim, case, complaints_of):
+def problems_of_short_calls(program, shim, case):
     """What is wrong if each read and each write moves a single byte. The result must be the same as with long reads and writes."""
     outcome, counts = watched(program, shim, case, SHORT=1)
-    bad = complaints_of(case, outcome)
+    found = problems(case, outcome)
     if counts is None:
-        return [*bad, "the run reported no counts"]
+        return [*found, "the run reported no counts"]
     written = sum(len(octets) for name, octets in outcome.files.items() if octets != case.files.get(name))
     least = len(outcome.output) + written
     if not least <= counts.writes <= least + (outcome.status == 4):  # one that failed
-        bad.append(f"writes: expected {least}, and {counts.writes} came")
-    return bad
+        found.append(f"writes: expected {least}, and {counts.writes} came")
+    return found

@@ -1,0 +1,60 @@
+"""The built program by the cases of cases/*.json, with their cost counted, without memory, and with devices that move one byte or fail."""
+
+from typing import Iterable, Union
+
+import pytest
+from allocations import every, problems_without_memory
+from cases import Case, Sweep, read_all
+from judging import problems_of_case, problems_of_sweep
+from made_cases import cases_of_causes
+from watching import problems_of_cost, problems_of_failures, problems_of_short_calls
+
+ALL = read_all()
+CASES = [it for it in ALL if isinstance(it, Case)]
+# The cost can be measured if a run reads files or a whole input, and the test reads its output.
+COUNTED = [it for it in CASES if not (it.endless or it.in_pieces or it.input_from or it.output_to or it.folders)]
+SHORT = [it for it in COUNTED if "/dev/zero" not in it.words and len(it.input) + sum(map(len, it.files.values())) < 1000]
+FAILING = (
+    "four directories in another order",
+    "four directories, by show",
+    "two keywords with a caption",
+    "four directories in two",
+    "one SHORT, by check",
+    "show of a loop",
+    "comparing one SHORT with a loop",
+)
+
+
+def each(cases: Iterable[Union[Case, Sweep]]) -> pytest.MarkDecorator:
+    """One test for each case, with its name."""
+    return pytest.mark.parametrize("case", [pytest.param(it, id=it.name) for it in cases])
+
+
+@each([*CASES, *cases_of_causes()])
+def test_result(program, case):
+    assert problems_of_case(program, case) == []
+
+
+@each([it for it in ALL if isinstance(it, Sweep)])
+def test_each_changed_block(program, case):
+    assert problems_of_sweep(program, case) == []
+
+
+@each(COUNTED)
+def test_cost(program, watch, case):
+    assert problems_of_cost(program, watch, case) == []
+
+
+@each([it for it in CASES if it.refuses_allocations])
+def test_without_each_allocation(program, refuse, case):
+    assert problems_without_memory(program, refuse, case, every()) == []
+
+
+@each(SHORT)
+def test_byte_by_byte(program, watch, case):
+    assert problems_of_short_calls(program, watch, case) == []
+
+
+@each([it for it in SHORT if it.name.startswith(FAILING)])
+def test_byte_by_byte_and_each_call_fails_once(program, watch, case):
+    assert problems_of_failures(program, watch, case, short=1) == []
