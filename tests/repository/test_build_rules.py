@@ -1,7 +1,4 @@
-"""Tests of build/: what is up to date, what counts as just proved by the gate, in what order crates are proved, and how many at once.
-
-tests/repository/launcher.py runs these.
-"""
+"""Tests of build/: what is up to date, what counts as just proved by the gate, in what order crates are proved, and how many at once."""
 
 import contextlib
 import doctest
@@ -19,18 +16,17 @@ import crates
 import machine
 import prove
 import verdict
-from checks import require, require_equal
 from room import SIGNALS, Room, require_end, tick, wait_until
 from store import Store
 
 LEVELS = "px_low: byteorder\npx_middle: px_low\npx_high staticlib: px_middle\npx_aside: px_low\n"
 
 
-def the_examples_are_right(_: Room) -> None:
+def test_the_examples_are_right():
     for it in (crates, verdict):
         failed, ran = doctest.testmod(it)
-        require(failed == 0, it.__name__)
-        require(ran > 2, it.__name__)
+        assert failed == 0, it.__name__
+        assert ran > 2, it.__name__
 
 
 def levels(room: Room) -> Room:
@@ -86,41 +82,41 @@ def put_back(room: Room, before: dict) -> None:
         it.write_bytes(data)
 
 
-def whatever_a_crate_is_made_from_is_in_the_sum(room: Room) -> None:
+def test_whatever_a_crate_is_made_from_is_in_the_sum(room):
     room = levels(room)
     add_sources(room)
     for it in ("px_high", "px_aside"):
-        require(room.prove(it).returncode == 0, room.log())
+        assert room.prove(it).returncode == 0, room.log()
     before = state(room)
     order = ["px_low", "px_middle", "px_high"]
     for what, crate, change in each_change(room):
         change()
         unbuilt = store_of(room).unbuilt("px_high")
-        require(unbuilt == order[order.index(crate) :], (what, unbuilt))
-        require(store_of(room).is_current("px_aside") == (crate != "px_low"), what)
+        assert unbuilt == order[order.index(crate) :], (what, unbuilt)
+        assert store_of(room).is_current("px_aside") == (crate != "px_low"), what
         put_back(room, before)
-        require(store_of(room).is_current("px_high"), f"{what}, taken back")
-    require(not store_of(room, "toolchain 2").is_built("px_low"), "the toolchain's version is passed over")
-    require(store_of(room, "").is_current("px_high"), "without a toolchain nothing is taken as built")
+        assert store_of(room).is_current("px_high"), f"{what}, taken back"
+    assert not store_of(room, "toolchain 2").is_built("px_low"), "the toolchain's version is passed over"
+    assert store_of(room, "").is_current("px_high"), "without a toolchain nothing is taken as built"
 
 
-def whatever_the_list_of_crates_says_is_in_the_sum(room: Room) -> None:
+def test_whatever_the_list_of_crates_says_is_in_the_sum(room):
     room = levels(room)
-    require(room.prove("px_high").returncode == 0, room.log())
+    assert room.prove("px_high").returncode == 0, room.log()
     for old, new in (("px_low: byteorder", "px_low: byteorder hex"), ("px_high staticlib:", "px_high:"),
             ("px_middle: px_low", "px_middle: px_low hex"), ("px_high staticlib: px_middle", "px_high staticlib: px_middle px_low")):
         (room.top / "crates.txt").write_text(LEVELS.replace(old, new))
-        require(not store_of(room).is_current("px_high"), new)
+        assert not store_of(room).is_current("px_high"), new
     (room.top / "crates.txt").write_text(LEVELS.replace("px_aside: px_low", "px_aside:") + "# a comment\n")
-    require(store_of(room).is_current("px_high"), "what does not concern it counts")
+    assert store_of(room).is_current("px_high"), "what does not concern it counts"
     (room.top / "crates.txt").write_text(LEVELS.replace("px_high staticlib", "px_high"))
     (room.top / "crates/px_high/src/lib.rt").write_text("two")
-    require(room.prove("px_high").returncode == 0, room.log())
+    assert room.prove("px_high").returncode == 0, room.log()
     (room.top / "crates.txt").write_text(LEVELS)
-    require(not store_of(room).is_current("px_high"), "the archive of other sources, from before it became a library, is taken")
+    assert not store_of(room).is_current("px_high"), "the archive of other sources, from before it became a library, is taken"
 
 
-def a_crate_is_good_over_the_very_libraries_that_it_was_built_over(room: Room) -> None:
+def test_a_crate_is_good_over_the_very_libraries_that_it_was_built_over(room):
     room = levels(room)
     room.prove("px_high")
     folder = room.top / "out/proved"
@@ -128,28 +124,28 @@ def a_crate_is_good_over_the_very_libraries_that_it_was_built_over(room: Room) -
             ("px_middle.made-from", ["px_middle", "px_high"]), ("px_high.made-from", ["px_high"])):
         away = room.folder / "away"
         os.rename(folder / name, away)
-        require(store_of(room).unbuilt("px_high") == unbuilt, (name, store_of(room).unbuilt("px_high")))
+        assert store_of(room).unbuilt("px_high") == unbuilt, (name, store_of(room).unbuilt("px_high"))
         os.rename(away, folder / name)
     os.rename(folder / "px_low.rlib", room.folder / "px_low.rlib")
-    require(store_of(room).is_current("px_high"), "a library that nothing has to be built over is missed")
+    assert store_of(room).is_current("px_high"), "a library that nothing has to be built over is missed"
     (room.top / "crates/px_high/src/lib.rt").write_text("two")
-    require_equal(store_of(room).unbuilt("px_high"), ["px_low", "px_middle", "px_high"], "a crate is built over a library that is not there")
+    assert store_of(room).unbuilt("px_high") == ["px_low", "px_middle", "px_high"], "a crate is built over a library that is not there"
     (room.top / "crates/px_high/src/lib.rt").write_text("one")
     os.rename(room.folder / "px_low.rlib", folder / "px_low.rlib")
     for text in ("", "one\n", "\xff"):
         note = folder / "px_middle.made-from"
         was = note.read_bytes()
         note.write_bytes(text.encode("latin-1"))
-        require_equal(store_of(room).unbuilt("px_high"), ["px_middle", "px_high"], text)
+        assert store_of(room).unbuilt("px_high") == ["px_middle", "px_high"], text
         note.write_bytes(was)
     (room.top / "crates/px_low/src/lib.rt").write_text("two")
     room.prove("px_aside")
     (room.top / "crates/px_low/src/lib.rt").write_text("one")
     room.prove("px_aside")
-    require_equal(store_of(room).unbuilt("px_high"), ["px_middle", "px_high"], "another px_low of the same sources is below it now")
+    assert store_of(room).unbuilt("px_high") == ["px_middle", "px_high"], "another px_low of the same sources is below it now"
 
 
-def a_product_that_was_put_without_its_note_is_not_taken(room: Room) -> None:
+def test_a_product_that_was_put_without_its_note_is_not_taken(room):
     """A build is killed between the two, and the edit is undone."""
     room.call()
     room.main.write_text("two")
@@ -159,42 +155,42 @@ def a_product_that_was_put_without_its_note_is_not_taken(room: Room) -> None:
     with mock.patch("store.time.time_ns", side_effect=KeyboardInterrupt), contextlib.suppress(KeyboardInterrupt):
         store.put("px_cli", made, store.expected("px_cli"))
     room.main.write_text("one")
-    require_equal((room.call("a").stdout, room.builds()), ("one: a\n", 2), room.log())
+    assert (room.call("a").stdout, room.builds()) == ("one: a\n", 2), room.log()
 
 
-def only_what_was_changed_and_what_depends_on_it_is_proved_again(room: Room) -> None:
+def test_only_what_was_changed_and_what_depends_on_it_is_proved_again(room):
     room.call()
     room.forget()
     (room.top / "crates/px_iim/proofs/Answers.antt").write_text("two")
-    require_equal((room.call("a").stdout, room.built()), ("one: a\n", ["px_iim", "px_cli"]), room.log())
+    assert (room.call("a").stdout, room.built()) == ("one: a\n", ["px_iim", "px_cli"]), room.log()
     room.forget()
     (room.top / "out/proved/px_bytes.rlib").unlink()  # another px_bytes: what was built over the old one is not good over it
     room.main.write_text("two")
-    require_equal((room.call("a").stdout, len(room.built())), ("two: a\n", 4), room.log())
+    assert (room.call("a").stdout, len(room.built())) == ("two: a\n", 4), room.log()
 
 
-def what_depends_on_a_crate_that_another_build_proved_again_is_proved_again(room: Room) -> None:
+def test_what_depends_on_a_crate_that_another_build_proved_again_is_proved_again(room):
     for text in ("one", "two"):
         (room.top / "crates/px_bytes/src/lib.rt").write_text(text)
         room.call()
-        require(room.prove("px_other").returncode == 0, room.log())
-    require_equal([room.built().count(it) for it in ("px_bytes", "px_other")], [2, 2], room.log())
+        assert room.prove("px_other").returncode == 0, room.log()
+    assert [room.built().count(it) for it in ("px_bytes", "px_other")] == [2, 2], room.log()
 
 
-def nothing_is_written_where_all_is_built(room: Room) -> None:
+def test_nothing_is_written_where_all_is_built(room):
     room.call()
     before = {it: it.lstat().st_mtime_ns for it in (room.top / "out").rglob("*")}
-    require(room.prove("px_cli").returncode == 0, room.log())
-    require(before == {it: it.lstat().st_mtime_ns for it in (room.top / "out").rglob("*")}, "something was written")
+    assert room.prove("px_cli").returncode == 0, room.log()
+    assert before == {it: it.lstat().st_mtime_ns for it in (room.top / "out").rglob("*")}, "something was written"
 
 
-def a_crate_of_another_name_is_an_error(room: Room) -> None:
+def test_a_crate_of_another_name_is_an_error(room):
     ran = room.prove("px_none")
-    require_equal((ran.returncode, ran.stderr), (1, "exifnorm: crates.txt names no crate px_none\n"), ran)
+    assert (ran.returncode, ran.stderr) == (1, "exifnorm: crates.txt names no crate px_none\n"), ran
     for words in ((), ("px_cli", "px_c")):
         ran = room.call(str(room.top / "build/prove.py"), *words, program=sys.executable)
-        require_equal((ran.returncode, ran.stderr), (1, f"{prove.__doc__}\n"), ran)
-    require(not (room.top / "out").exists(), ran)
+        assert (ran.returncode, ran.stderr) == (1, f"{prove.__doc__}\n"), ran
+    assert not (room.top / "out").exists(), ran
 
 
 def is_proved(room: Room, crate: str) -> bool:
@@ -202,22 +198,22 @@ def is_proved(room: Room, crate: str) -> bool:
     script = "import sys; sys.path.insert(0, sys.argv[1]); import gate; from crates import Crates; from pathlib import Path\n"
     script += "print(gate.is_proved(Crates.read(Path(sys.argv[1]).parent), sys.argv[2]))"
     ran = room.call("-B", "-c", script, str(room.top / "build"), crate, program=sys.executable)
-    require(ran.stdout in ("True\n", "False\n"), ran)
+    assert ran.stdout in ("True\n", "False\n"), ran
     return ran.stdout == "True\n"
 
 
-def nothing_counts_as_just_proved_after_a_change(room: Room) -> None:
+def test_nothing_counts_as_just_proved_after_a_change(room):
     room = levels(room)
     add_sources(room)
     before = state(room)
     room.is_proved()
-    require(is_proved(room, "px_high"), "nothing counts")
-    require(is_proved(room, "px_aside"), "nothing counts")
+    assert is_proved(room, "px_high"), "nothing counts"
+    assert is_proved(room, "px_aside"), "nothing counts"
     for what, _, change in list(each_change(room))[::5]:
         change()
-        require(not is_proved(room, "px_high"), what)
+        assert not is_proved(room, "px_high"), what
         put_back(room, before)
-        require(not is_proved(room, "px_high"), f"{what}, and taken back while rt ci may have read it")
+        assert not is_proved(room, "px_high"), f"{what}, and taken back while rt ci may have read it"
         room.is_proved()
 
 
@@ -237,16 +233,16 @@ def see_nothing_counts(room: Room, cases: dict) -> None:
         (room.top / "crates/px_low/src/lib.rt").write_text("one")
         (library_of(room).parent / "stamp").unlink(missing_ok=True)
         room.is_proved()
-        require(is_proved(room, "px_high"), f"nothing counts before {what}")
+        assert is_proved(room, "px_high"), f"nothing counts before {what}"
         change()
-        require(not is_proved(room, "px_high"), what)
+        assert not is_proved(room, "px_high"), what
 
 
 def library_of(room: Room) -> Path:
     return room.top / "crates/px_middle/out/rlib/px_middle.rlib"
 
 
-def nothing_counts_as_just_proved_over_a_library_of_another_run(room: Room) -> None:
+def test_nothing_counts_as_just_proved_over_a_library_of_another_run(room):
     room = levels(room)
     library = library_of(room)
     see_nothing_counts(room, {
@@ -258,7 +254,7 @@ def nothing_counts_as_just_proved_over_a_library_of_another_run(room: Room) -> N
     })  # fmt: skip
 
 
-def nothing_counts_as_just_proved_by_the_mark_of_another_run(room: Room) -> None:
+def test_nothing_counts_as_just_proved_by_the_mark_of_another_run(room):
     room = levels(room)
     ahead = room.rt.stat().st_mtime + 86_400
     see_nothing_counts(room, {
@@ -272,7 +268,7 @@ def nothing_counts_as_just_proved_by_the_mark_of_another_run(room: Room) -> None
     })  # fmt: skip
 
 
-def nothing_counts_as_just_proved_with_what_was_touched_since(room: Room) -> None:
+def test_nothing_counts_as_just_proved_with_what_was_touched_since(room):
     room = levels(room)
     see_nothing_counts(room, {
         "a list of crates that was touched": lambda: (room.top / "crates.txt").touch(),
@@ -286,7 +282,7 @@ def nothing_counts_as_just_proved_with_what_was_touched_since(room: Room) -> Non
     })  # fmt: skip
 
 
-def no_program_is_taken_that_is_not_of_the_last_proof(room: Room) -> None:
+def test_no_program_is_taken_that_is_not_of_the_last_proof(room):
     cases = {
         "no mark": lambda: room.mark.unlink(),
         "no program": lambda: room.proved.unlink(),
@@ -302,31 +298,31 @@ def no_program_is_taken_that_is_not_of_the_last_proof(room: Room) -> None:
         room.is_proved()
         change()
         ran = room.call("a")
-        require_equal((ran.returncode, ran.stdout), (0, "one: a\n"), (what, ran))
+        assert (ran.returncode, ran.stdout) == (0, "one: a\n"), (what, ran)
 
 
-def what_is_built_is_not_taken_again_from_the_gate(room: Room) -> None:
+def test_what_is_built_is_not_taken_again_from_the_gate(room):
     room.is_proved()
     room.call()
-    require(room.prove("px_other").returncode == 0, room.log())
-    require(store_of(room).is_current("px_cli"), "libraries below the program were taken again")
-    require_equal((room.call("a").stdout, room.built()), ("proved: a\n", ["px_other"]), room.log())
+    assert room.prove("px_other").returncode == 0, room.log()
+    assert store_of(room).is_current("px_cli"), "libraries below the program were taken again"
+    assert (room.call("a").stdout, room.built()) == ("proved: a\n", ["px_other"]), room.log()
 
 
-def how_many_are_proved_at_once(room: Room) -> None:
+def test_how_many_are_proved_at_once(room):
     file = room.folder / "meminfo"
     for text, expected in (("MemTotal: 99 kB\nMemAvailable:    5000 kB\nCached: 7 kB\n", 5_120_000), ("MemTotal: 9 kB\n", 0)):
         file.write_text(text)
-        require(machine.free_memory(file) == expected, text)
-    require(machine.free_memory() > 0, "the system says nothing")
-    require(0 < machine.processors(), "no processors")
-    require(machine.processors() <= (os.cpu_count() or 1), "more processors than there are")
+        assert machine.free_memory(file) == expected, text
+    assert machine.free_memory() > 0, "the system says nothing"
+    assert 0 < machine.processors(), "no processors"
+    assert machine.processors() <= (os.cpu_count() or 1), "more processors than there are"
     were = machine.processors, machine.free_memory
     try:
         for processors, gigabytes, expected in ((1, 64, 1), (2, 64, 2), (3, 64, 3), (64, 64, 3), (4, 0, 1), (4, 3, 1), (4, 5, 1), (4, 6, 2),
                 (4, 9, 3)):
             machine.processors, machine.free_memory = lambda: processors, lambda: gigabytes << 30
-            require(prove.places() == expected, (processors, gigabytes, prove.places()))
+            assert prove.places() == expected, (processors, gigabytes, prove.places())
     finally:
         machine.processors, machine.free_memory = were
 
@@ -344,30 +340,30 @@ def most_at_once(log: list) -> int:
     return most
 
 
-def crates_that_need_not_wait_are_proved_side_by_side(room: Room) -> None:
+def test_crates_that_need_not_wait_are_proved_side_by_side(room):
     room.hold("px_field", "px_iim")
     started = room.start("a")
     for it in ("px_field", "px_iim"):
         room.until("begin", it)  # neither has ended
     room.let_go("px_field", "px_iim")
-    require(started.communicate(timeout=300)[0] == "one: a\n", room.log())
+    assert started.communicate(timeout=300)[0] == "one: a\n", room.log()
 
 
-def a_crate_begins_as_soon_as_what_it_depends_on_is_proved(room: Room) -> None:
+def test_a_crate_begins_as_soon_as_what_it_depends_on_is_proved(room):
     late = Room(room.folder / "late", "px_a: clap\npx_late: px_a\npx_b: px_a\npx_c: px_b\npx_cli: px_c px_late\n")
     late.hold("px_late")
     started = late.start("a")
     late.until("begin", "px_late")
     late.until("end", "px_c")  # it waits for px_b alone
-    require("px_cli" not in [it[2] for it in late.log()], late.log())
+    assert "px_cli" not in [it[2] for it in late.log()], late.log()
     late.let_go("px_late")
-    require(started.communicate(timeout=300)[0] == "one: a\n", late.log())
+    assert started.communicate(timeout=300)[0] == "one: a\n", late.log()
     given_way = {name: int(by) for what, _, name, by in late.log() if what == "end"}
-    require_equal([given_way[it] for it in ("px_b", "px_cli", "px_a")], [os.nice(0)] * 3, late.log())
-    require(given_way["px_late"] == 19, late.log())  # also if the tests have the least priority themselves
+    assert [given_way[it] for it in ("px_b", "px_cli", "px_a")] == [os.nice(0)] * 3, late.log()
+    assert given_way["px_late"] == 19, late.log()  # also if the tests have the least priority themselves
 
 
-def no_more_are_proved_at_once_than_memory_allows(room: Room) -> None:
+def test_no_more_are_proved_at_once_than_memory_allows(room):
     names = "abcde"
     listed = "".join(f"px_{it}: clap\n" for it in names) + "px_f: clap\npx_g: px_f\n"
     listed += "px_cli: " + " ".join(f"px_{it}" for it in names + "g") + "\n"
@@ -377,61 +373,61 @@ def no_more_are_proved_at_once_than_memory_allows(room: Room) -> None:
         many.hold(*(f"px_{it}" for it in names + "fg"))
         started = many.start("a")
         wait_until(lambda many=many, expected=expected: sum(it[0] == "begin" for it in many.log()) >= expected, many.log())
-        require("px_f" in [it[2] for it in many.log()], "another waits for px_f, so it is among the first")
+        assert "px_f" in [it[2] for it in many.log()], "another waits for px_f, so it is among the first"
         many.let_go(*(f"px_{it}" for it in names + "fg"))
-        require_equal((started.communicate(timeout=300)[0], len(many.built())), ("one: a\n", 8), many.log())
-        require(most_at_once(many.log()) == expected, many.log())
+        assert (started.communicate(timeout=300)[0], len(many.built())) == ("one: a\n", 8), many.log()
+        assert most_at_once(many.log()) == expected, many.log()
         jobs = {it.split("--jobs ")[1].split()[0] for it in (many.folder / "asked").read_text().splitlines()}
-        require(jobs == {str(min(4, processors))}, jobs)
+        assert jobs == {str(min(4, processors))}, jobs
 
 
-def a_crate_that_is_changed_while_it_is_proved_is_proved_again(room: Room) -> None:
+def test_a_crate_that_is_changed_while_it_is_proved_is_proved_again(room):
     room.hold("px_bytes")
     started = room.start("a")
     room.until("begin", "px_bytes")
     (room.top / "crates/px_bytes/src/lib.rt").write_text("two")
     room.let_go("px_bytes")
     out, why = started.communicate(timeout=300)
-    require(out == "one: a\n", (out, why))
-    require("left)\nexifnorm: a source was changed during the build: building again\nexifnorm: proving" in why, (out, why))
-    require(sorted(room.built()) == sorted(2 * ["px_bytes", "px_cli", "px_field", "px_iim"]), room.log())
-    require(store_of(room).is_current("px_cli"), "it is not built of the new text")
+    assert out == "one: a\n", (out, why)
+    assert "left)\nexifnorm: a source was changed during the build: building again\nexifnorm: proving" in why, (out, why)
+    assert sorted(room.built()) == sorted(2 * ["px_bytes", "px_cli", "px_field", "px_iim"]), room.log()
+    assert store_of(room).is_current("px_cli"), "it is not built of the new text"
 
 
-def a_crate_that_changes_in_each_build_is_an_error(room: Room) -> None:
+def test_a_crate_that_changes_in_each_build_is_an_error(room):
     edits = "cat /proc/sys/kernel/random/uuid >ROOM/repository/crates/px_iim/src/lib.rt"
     room.command(room.folder / "kit/bin/rattle-link", f'#!/bin/sh\n{edits}\nexec sh ROOM/link "$@"\n')
     room.command(room.folder / "link", '#!/bin/sh\nwhile [ "$1" != -o ]; do shift; done\ncp "$3" "$2" && chmod +x "$2"\n')
     ran = room.call("a")
-    require_equal((ran.returncode, ran.stdout, room.builds()), (70, "", 2), (ran, room.log()))
+    assert (ran.returncode, ran.stdout, room.builds()) == (70, "", 2), (ran, room.log())
     again = "a source was changed during the build again: call again when the sources are as they should be"
-    require(ran.stderr.endswith(f" left)\nexifnorm: {again}\n"), (ran, room.log()))
+    assert ran.stderr.endswith(f" left)\nexifnorm: {again}\n"), (ran, room.log())
 
 
-def a_proof_that_is_killed_is_tried_again_with_one_job(room: Room) -> None:
+def test_a_proof_that_is_killed_is_tried_again_with_one_job(room):
     (room.folder / "killed-px_iim").touch()
-    require(room.call("a").stdout == "one: a\n", room.log())
+    assert room.call("a").stdout == "one: a\n", room.log()
     log = (room.top / "out/build-px_iim.log").read_text()
-    require_equal(log.splitlines()[0], "the check was killed, most likely for memory: once more, with one job", log)
+    assert log.splitlines()[0] == "the check was killed, most likely for memory: once more, with one job", log
     asked = [it for it in (room.folder / "asked").read_text().splitlines() if "--crate-name px_iim" in it]
-    require_equal(["--jobs 4" in asked[0], "--jobs 1" in asked[1], len(asked)], [True, True, 2], asked)
+    assert ["--jobs 4" in asked[0], "--jobs 1" in asked[1], len(asked)] == [True, True, 2], asked
     room.main.write_text("two")
     room.machine(1, 64)  # with one job it is killed for another reason, and ends the build
     (room.folder / "killed-px_cli").touch()
-    require(room.call("a").returncode == 70, room.log())
+    assert room.call("a").returncode == 70, room.log()
 
 
-def the_first_crate_that_fails_ends_the_others(room: Room) -> None:
+def test_the_first_crate_that_fails_ends_the_others(room):
     room.hold("px_field")
     (room.folder / "fails-px_iim").write_text("no\n")
     ran = room.call("a")
-    require(ran.returncode == 70, ran)
-    require("px_iim was not proved" in ran.stderr, ran)
+    assert ran.returncode == 70, ran
+    assert "px_iim was not proved" in ran.stderr, ran
     field = room.until("begin", "px_field")
     require_end(field)
 
 
-def compilers_are_stopped_before_their_threads_are_waited_for(room: Room) -> None:
+def test_compilers_are_stopped_before_their_threads_are_waited_for(room):
     """One proof fails while another runs."""
     begun, stopped, were_stopped = threading.Event(), threading.Event(), []
 
@@ -454,10 +450,10 @@ def compilers_are_stopped_before_their_threads_are_waited_for(room: Room) -> Non
     build.places = 2
     with mock.patch.object(prove, "ThreadPoolExecutor", Pool), mock.patch.object(prove, "say"), contextlib.suppress(prove.NotBuilt):
         build.run()
-    require_equal(were_stopped, [True], "the other proof runs on")
+    assert were_stopped == [True], "the other proof runs on"
 
 
-def what_a_killed_build_left_is_waited_for(room: Room) -> None:
+def test_what_a_killed_build_left_is_waited_for(room):
     for i, closes in enumerate(("", "<&- >&- 2>&-")):
         other = Room(room.folder / str(i))
         other.hold("px_bytes")
@@ -468,52 +464,52 @@ def what_a_killed_build_left_is_waited_for(room: Room) -> None:
         with open(other.folder / "said", "w", encoding="utf-8") as said:
             again = other.start("a", stderr=said)
             wait_until(lambda it=other: "waiting for it" in (it.folder / "said").read_text() or len(it.log()) > 1, "it does nothing")
-            require(len(other.log()) == 1, f"it does not wait: {other.log()}")
+            assert len(other.log()) == 1, f"it does not wait: {other.log()}"
             other.let_go("px_bytes")
-            require(again.communicate(timeout=300)[0] == "one: a\n", other.log())
-        require([it[0] for it in other.log() if it[2] == "px_bytes"] == ["begin", "end"] * 2, other.log())
+            assert again.communicate(timeout=300)[0] == "one: a\n", other.log()
+        assert [it[0] for it in other.log() if it[2] == "px_bytes"] == ["begin", "end"] * 2, other.log()
 
 
-def one_build_at_a_time(room: Room) -> None:
+def test_one_build_at_a_time(room):
     room.hold("px_bytes")
     said = [room.folder / f"said {it}" for it in range(5)]
     started = [room.start(str(i), stderr=open(it, "w", encoding="utf-8")) for i, it in enumerate(said)]
     waiting = lambda: sum("waiting for it" in it.read_text() for it in said)  # noqa: E731
     wait_until(lambda: waiting() == 4 or len(room.log()) > 1, "four of five wait")
-    require(len(room.log()) == 1, room.log())
+    assert len(room.log()) == 1, room.log()
     room.let_go("px_bytes")
-    require([it.communicate(timeout=300)[0] for it in started] == [f"one: {it}\n" for it in range(5)], said)
-    require_equal((room.builds(), len(room.built())), (1, 4), room.log())
-    require([it.returncode for it in started] == [0] * 5, started)
+    assert [it.communicate(timeout=300)[0] for it in started] == [f"one: {it}\n" for it in range(5)], said
+    assert (room.builds(), len(room.built())) == (1, 4), room.log()
+    assert [it.returncode for it in started] == [0] * 5, started
     for it in sorted(it.read_text() for it in said)[:4]:
-        require(it.endswith("exifnorm: another build proves these crates: waiting for it\n"), it)
+        assert it.endswith("exifnorm: another build proves these crates: waiting for it\n"), it
 
 
-def a_build_without_the_launcher_is_stopped_too(room: Room) -> None:
+def test_a_build_without_the_launcher_is_stopped_too(room):
     room.hold("px_bytes")
     words = [sys.executable, str(room.top / "build/prove.py"), "px_other"]
     with subprocess.Popen(words, env=room.environment(), stderr=subprocess.PIPE, text=True) as started:
         working = room.until("begin", "px_bytes")
         started.send_signal(signal.SIGTERM)
         why = started.communicate(timeout=300)[1]
-    require(why.endswith("stopped\n"), (started.returncode, why))
-    require(started.returncode == 1, (started.returncode, why))
+    assert why.endswith("stopped\n"), (started.returncode, why)
+    assert started.returncode == 1, (started.returncode, why)
     require_end(working)
 
 
 def of_build(code: str) -> str:
     """The output of code that may import the modules of build/."""
     ran = subprocess.run([sys.executable, "-c", code], env={**os.environ, "PYTHONPATH": str(paths.TOP / "build")}, capture_output=True, text=True)
-    require(ran.returncode == 0, ran)
+    assert ran.returncode == 0, ran
     return ran.stdout
 
 
-def only_processors_that_it_may_use_are_counted(_: Room) -> None:
+def test_only_processors_that_it_may_use_are_counted():
     first = min(os.sched_getaffinity(0))
-    require(of_build(f"import os; os.sched_setaffinity(0, [{first}]); import machine; print(machine.processors())") == "1\n", "more than one")
+    assert of_build(f"import os; os.sched_setaffinity(0, [{first}]); import machine; print(machine.processors())") == "1\n", "more than one"
 
 
-def a_second_signal_does_not_end_a_stop(_: Room) -> None:
+def test_a_second_signal_does_not_end_a_stop():
     code = """import os, prove, signal
 prove.listen()
 try:
@@ -523,30 +519,30 @@ except prove.NotBuilt as why:
 for it in prove.STOPS:
     os.kill(os.getpid(), it)
 print("it goes on")"""
-    require(of_build(code) == "the build was stopped\nit goes on\n", "a second signal is taken")
+    assert of_build(code) == "the build was stopped\nit goes on\n", "a second signal is taken"
 
 
-def a_compiler_leads_a_group_with_older_pythons_too(_: Room) -> None:
+def test_a_compiler_leads_a_group_with_older_pythons_too():
     for version in ((3, 9), (3, 11)):
         code = f"import os, subprocess, sys; sys.version_info = {version}; import compiler; it = subprocess.Popen(['sleep', '100'], **compiler.GROUP)\n"
-        require(of_build(code + "print(os.getpgid(it.pid) == it.pid); it.kill()") == "True\n", version)
+        assert of_build(code + "print(os.getpgid(it.pid) == it.pid); it.kill()") == "True\n", version
 
 
-def the_scripts_write_nothing_beside_themselves(room: Room) -> None:
+def test_the_scripts_write_nothing_beside_themselves(room):
     for name, *words in (("prove.py", "px_none"), ("gate.py",), ("launch.py",)):
         ran = room.call(str(room.top / "build" / name), *words, program=sys.executable)
-        require(not (room.top / "build/__pycache__").exists(), (name, ran))
+        assert not (room.top / "build/__pycache__").exists(), (name, ran)
 
 
-def what_a_build_wrote_is_never_too_new_for_a_look(_: Room) -> None:
+def test_what_a_build_wrote_is_never_too_new_for_a_look():
     code = """import launch
 launch.time.time_ns = lambda: 5 * 10**9
 for it in ("out/exifnorm 3 4 5 5", "a 3 4 5 5", "a 3 4 5 4.1", "a 3 4 5 5.9", "a 3 4 5 3.9", "a 3 4 5 6.1", "a 3 4 5 "):
     print(end="ny"[launch.is_fresh(it)])"""
-    require(of_build(code) == "nyyynny", "another file is too new")
+    assert of_build(code) == "nyyynny", "another file is too new"
 
 
-def a_program_that_does_not_end_does_not_start(_: Room) -> None:
+def test_a_program_that_does_not_end_does_not_start():
     code = """import subprocess, verdict
 
 def run(words, **how):
@@ -554,41 +550,4 @@ def run(words, **how):
 
 subprocess.run = run
 print(verdict.starts("a program"))"""
-    require(of_build(code) == "False\n", "it is waited for without end")
-
-
-TESTS = [
-    a_program_that_does_not_end_does_not_start,
-    only_processors_that_it_may_use_are_counted,
-    a_second_signal_does_not_end_a_stop,
-    a_compiler_leads_a_group_with_older_pythons_too,
-    the_scripts_write_nothing_beside_themselves,
-    what_a_build_wrote_is_never_too_new_for_a_look,
-    the_examples_are_right,
-    whatever_a_crate_is_made_from_is_in_the_sum,
-    whatever_the_list_of_crates_says_is_in_the_sum,
-    a_crate_is_good_over_the_very_libraries_that_it_was_built_over,
-    a_product_that_was_put_without_its_note_is_not_taken,
-    only_what_was_changed_and_what_depends_on_it_is_proved_again,
-    what_depends_on_a_crate_that_another_build_proved_again_is_proved_again,
-    nothing_is_written_where_all_is_built,
-    a_crate_of_another_name_is_an_error,
-    nothing_counts_as_just_proved_after_a_change,
-    nothing_counts_as_just_proved_over_a_library_of_another_run,
-    nothing_counts_as_just_proved_by_the_mark_of_another_run,
-    nothing_counts_as_just_proved_with_what_was_touched_since,
-    no_program_is_taken_that_is_not_of_the_last_proof,
-    what_is_built_is_not_taken_again_from_the_gate,
-    how_many_are_proved_at_once,
-    crates_that_need_not_wait_are_proved_side_by_side,
-    a_crate_begins_as_soon_as_what_it_depends_on_is_proved,
-    no_more_are_proved_at_once_than_memory_allows,
-    a_crate_that_is_changed_while_it_is_proved_is_proved_again,
-    a_crate_that_changes_in_each_build_is_an_error,
-    a_proof_that_is_killed_is_tried_again_with_one_job,
-    the_first_crate_that_fails_ends_the_others,
-    compilers_are_stopped_before_their_threads_are_waited_for,
-    what_a_killed_build_left_is_waited_for,
-    one_build_at_a_time,
-    a_build_without_the_launcher_is_stopped_too,
-]
+    assert of_build(code) == "False\n", "it is waited for without end"

@@ -2,20 +2,23 @@
 
 ./test builds its program and its library over what `rt ci` has just proved, so the way from nothing is tested here: with a library of
 one function, two that are proved side by side over it, a program over all, and the same for C. Beside it ./test does what it does, and
-`rt lib` what it does, which have to make the same bytes. tests/repository/launcher.py runs these.
+`rt lib` what it does, which have to make the same bytes.
 """
 
 import os
 import shutil
 import subprocess
-import tempfile
 import uuid
 from concurrent.futures import ThreadPoolExecutor
 from pathlib import Path
 
-from checks import require, require_equal
-from counting import Counter, reason
+import pytest
+
 from paths import TOP
+
+HOURS = 4 * 3600  # what a command may take at most, also on a very busy machine
+
+pytestmark = [pytest.mark.proof, pytest.mark.timeout(2 * HOURS), pytest.mark.xdist_group("first_build")]
 
 PROGRAM, ARCHIVE = "crates/px_cli/out/px_cli", "out/proved/libpx_c.a"
 
@@ -133,8 +136,6 @@ pub fn two(rt: &impl Wait) -> u32
 """
 
 
-HOURS = 4 * 3600  # what a command may take at most, also on a very busy machine
-
 # In each source, so that the toolchain has kept no proof of it from an earlier run on this machine.
 UNIQUE = f"// {uuid.uuid4()}\n"
 
@@ -199,106 +200,77 @@ def again(gate: Gate) -> subprocess.CompletedProcess:
     return copy.call("./test")
 
 
-def the_launcher_proves_builds_and_runs(user: FromNothing, gate: Gate) -> None:
+def test_the_launcher_proves_builds_and_runs(user, gate):
     ran = user.launched
-    require_equal((ran.returncode, ran.stdout), (0, "one: a b\n"), ran)
-    require("proving px_bytes (1 of 4, 3 left)" in ran.stderr, ran.stderr)
+    assert (ran.returncode, ran.stdout) == (0, "one: a b\n"), ran
+    assert "proving px_bytes (1 of 4, 3 left)" in ran.stderr, ran.stderr
     for it in ("bytes", "one", "two", "cli"):
-        require((user.top / f"out/proved/px_{it}.made-from").exists(), "what was built isn't kept")
-    require("logic=proved" in (user.top / "out/build-px_bytes.log").read_text(encoding="utf-8"), "the log has no proof")
+        assert (user.top / f"out/proved/px_{it}.made-from").exists(), "what was built isn't kept"
+    assert "logic=proved" in (user.top / "out/build-px_bytes.log").read_text(encoding="utf-8"), "the log has no proof"
 
 
-def the_gate_proves_each_crate_once_and_builds(user: FromNothing, gate: Gate) -> None:
+def test_the_gate_proves_each_crate_once_and_builds(user, gate):
     said = gate.ran.stdout + gate.ran.stderr
-    require(gate.ran.returncode == 0, said)
-    require(gate.ran.stdout.endswith(" seconds\n7 passed, 0 failed\n"), said)
-    require_equal((said.count("fn px_bytes::echo: proved\n"), said.count("fn px_cli::main: proved\n")), (1, 1), said)
-    require("taking what was just proved of px_cli" in said, said)
-    require("proving px_bytes" not in said, said)
-    require("proving px_c (1 of 1, 0 left)" in said, said)
+    assert gate.ran.returncode == 0, said
+    assert gate.ran.stdout.endswith(" seconds\n7 passed, 0 failed\n"), said
+    assert (said.count("fn px_bytes::echo: proved\n"), said.count("fn px_cli::main: proved\n")) == (1, 1), said
+    assert "taking what was just proved of px_cli" in said, said
+    assert "proving px_bytes" not in said, said
+    assert "proving px_c (1 of 1, 0 left)" in said, said
 
 
-def what_the_toolchain_kept_of_an_earlier_run_is_taken_too(user: FromNothing, gate: Gate) -> None:
+def test_what_the_toolchain_kept_of_an_earlier_run_is_taken_too(user, gate):
     said = gate.again.stdout + gate.again.stderr
-    require(gate.again.returncode == 0, said)
-    require(gate.again.stdout.endswith(" seconds\n7 passed, 0 failed\n"), said)
-    require("taking what was just proved of px_cli" in said, said)
-    require("proving px_bytes" not in said, said)
+    assert gate.again.returncode == 0, said
+    assert gate.again.stdout.endswith(" seconds\n7 passed, 0 failed\n"), said
+    assert "taking what was just proved of px_cli" in said, said
+    assert "proving px_bytes" not in said, said
 
 
-def the_program_that_the_gate_proved_is_the_launcher_s(user: FromNothing, gate: Gate) -> None:
-    require(gate.bytes_of(PROGRAM)[:4] == b"\x7fELF", "no program")
-    require(gate.bytes_of(PROGRAM) == user.bytes_of("out/exifnorm"), "another program")
-    require(gate.bytes_of(PROGRAM) == gate.bytes_of("out/exifnorm"), "the launcher took another program")
-    require(gate.call("./exifnorm", "a b").stdout == "one: a b\n", "it does something else")
+def test_the_program_that_the_gate_proved_is_the_launcher_s(user, gate):
+    assert gate.bytes_of(PROGRAM)[:4] == b"\x7fELF", "no program"
+    assert gate.bytes_of(PROGRAM) == user.bytes_of("out/exifnorm"), "another program"
+    assert gate.bytes_of(PROGRAM) == gate.bytes_of("out/exifnorm"), "the launcher took another program"
+    assert gate.call("./exifnorm", "a b").stdout == "one: a b\n", "it does something else"
 
 
-def the_archive_is_that_of_rt_lib(user: FromNothing, gate: Gate) -> None:
-    require_equal((user.library.returncode, user.by_rt.returncode), (0, 0), (user.library, user.by_rt))
-    require("proving px_c (1 of 1, 0 left)" in user.library.stderr, "what the program stands on was proved again")
+def test_the_archive_is_that_of_rt_lib(user, gate):
+    assert (user.library.returncode, user.by_rt.returncode) == (0, 0), (user.library, user.by_rt)
+    assert "proving px_c (1 of 1, 0 left)" in user.library.stderr, "what the program stands on was proved again"
     by_rt = user.bytes_of("crates/px_c/out/libpx_c.a")
-    require(by_rt[:8] == b"!<arch>\n", "no archive")
-    require(user.bytes_of(ARCHIVE) == by_rt, "another archive than that of `rt lib`")
-    require(gate.bytes_of(ARCHIVE) == by_rt, "another archive over what was proved")
-    require(gate.is_archived, "make would build it again")
+    assert by_rt[:8] == b"!<arch>\n", "no archive"
+    assert user.bytes_of(ARCHIVE) == by_rt, "another archive than that of `rt lib`"
+    assert gate.bytes_of(ARCHIVE) == by_rt, "another archive over what was proved"
+    assert gate.is_archived, "make would build it again"
 
 
-def nothing_of_the_gate_is_taken_that_was_changed_since(user: FromNothing, gate: Gate) -> None:
+def test_nothing_of_the_gate_is_taken_that_was_changed_since(user, gate):
     shutil.rmtree(gate.top / "out/proved")
     (gate.top / "crates/px_bytes/src/lib.rt").touch()
     ran = gate.call("make", ARCHIVE, EXIFNORM_PROVED=str(gate.top / PROGRAM))
-    require(ran.returncode == 0, ran)
-    require("taking" not in ran.stderr, ran)
-    require("proving px_bytes (1 of 2, 1 left)" in ran.stderr, ran)
+    assert ran.returncode == 0, ran
+    assert "taking" not in ran.stderr, ran
+    assert "proving px_bytes (1 of 2, 1 left)" in ran.stderr, ran
 
 
-def what_the_gate_refuses_is_not_built(user: FromNothing, gate: Gate) -> None:
+def test_what_the_gate_refuses_is_not_built(user, gate):
     for name, text, why in (("px_one", NEVER, "no call of `px_one::one`"), ("px_two", WAITS, "may-wait=1")):
         (user.top / f"crates/{name}/src/lib.rt").write_text(text, encoding="utf-8")
         ran = user.call("python3", "build/prove.py", name)
-        require(ran.returncode == 1, ran)
-        require(f"fn {name}" in ran.stderr, ran)
-        require(": proved" in ran.stderr, ran)
-        require(why in ran.stderr, ran)
+        assert ran.returncode == 1, ran
+        assert f"fn {name}" in ran.stderr, ran
+        assert ": proved" in ran.stderr, ran
+        assert why in ran.stderr, ran
     (user.top / "HANDLES").write_text("Handles allowed: Wait.\n", encoding="utf-8")
     ran = user.call("python3", "build/prove.py", "px_two")
-    require(ran.returncode == 1, ran)
-    require("HANDLES" in ran.stderr, ran)
-    require("proving" not in ran.stderr, ran)
+    assert ran.returncode == 1, ran
+    assert "HANDLES" in ran.stderr, ran
+    assert "proving" not in ran.stderr, ran
 
 
 # The last two change what was built.
-TESTS = [
-    the_launcher_proves_builds_and_runs,
-    the_gate_proves_each_crate_once_and_builds,
-    what_the_toolchain_kept_of_an_earlier_run_is_taken_too,
-    the_program_that_the_gate_proved_is_the_launcher_s,
-    the_archive_is_that_of_rt_lib,
-    nothing_of_the_gate_is_taken_that_was_changed_since,
-    what_the_gate_refuses_is_not_built,
-]
-
-
 def build_both(folder: Path) -> tuple[FromNothing, Gate]:
     """Makes and builds both repositories at once."""
     with ThreadPoolExecutor(2) as pool:
         user, gate = (pool.submit(lambda kind=kind, name=name: kind(folder / name).build()) for kind, name in ((FromNothing, "user"), (Gate, "gate")))
         return user.result(), gate.result()
-
-
-def run(counter: Counter) -> None:
-    """Builds both repositories, and counts the tests that the counter asks for. Where they can't be made, each of these fails."""
-    tests = [it for it in TESTS if counter.asks(it.__name__)]
-    for test in tests if not shutil.which("rt") else []:
-        counter.skip(test.__name__, "there is no command rt on the PATH")
-    if not tests or not shutil.which("rt"):
-        return
-    with tempfile.TemporaryDirectory() as folder:
-        try:
-            user, gate = build_both(Path(folder))
-        except Exception as why:
-            for test in tests:
-                counter.check(test.__name__, False, reason(why))
-            return
-        for test in tests:
-            counter.run(test.__name__, lambda it=test: it(user, gate))

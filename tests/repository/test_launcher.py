@@ -1,33 +1,13 @@
-#!/usr/bin/env python3
-"""Tests ./exifnorm, the launcher, with a toolchain that proves nothing: each test has a folder of its own with a few crates. Those of
-build/, of builds that are interrupted and of the Makefile follow, and those of first_build.py with the toolchain itself.
-
-  tests/repository/launcher.py
-
-Each test that fails has a line. The last line is 'N passed, N failed', and the status is 0 only where nothing failed.
-"""
+"""Tests ./exifnorm, the launcher, with a toolchain that proves nothing: each test has a folder of its own with a few crates."""
 
 import ctypes
 import os
 import shutil
 import signal
 import subprocess
-import sys
-import tempfile
 import time
-from concurrent.futures import ThreadPoolExecutor
 from pathlib import Path
 
-sys.dont_write_bytecode = True
-sys.path.insert(0, str(Path(__file__).resolve().parent.parent))
-
-import paths
-import build_rules
-import first_build
-import interrupted
-import makefile
-from checks import require, require_equal
-from counting import Counter
 from room import HANDLES, Room, require_end, runs, wait_until, was_asked_to_end
 
 # Prints the state of the process that a program runs as: its number, how it treats signals, and its open files.
@@ -50,42 +30,44 @@ def not_built(room: Room, crate: str, why: str) -> str:
     return f"exifnorm: the crate {crate} was not proved or not built: {why}; its log is {room.top.resolve()}/out/build-{crate}.log\n"
 
 
-def the_first_call_builds_each_crate_once_and_runs(room: Room) -> None:
+def test_the_first_call_builds_each_crate_once_and_runs(room):
     ran = room.call("check", "a b")
-    require_equal((ran.returncode, ran.stdout), (0, "one: check a b\n"), ran)
-    require_equal(sorted(room.built()), ["px_bytes", "px_cli", "px_field", "px_iim"], room.log())
-    require(room.built()[0] == "px_bytes", room.log())
-    require(room.built()[-1] == "px_cli", room.log())
-    require_equal(ran.stderr.splitlines(), [FIRST, *(f"exifnorm: proving {it} left)" for it in (
-        "px_bytes (1 of 4, 3", "px_field (2 of 4, 2", "px_iim (3 of 4, 1", "px_cli (4 of 4, 0"))])  # fmt: skip
-    require(not (room.top / "out/proved/making").exists(), "what was made aside is left behind")
+    assert (ran.returncode, ran.stdout) == (0, "one: check a b\n"), ran
+    assert sorted(room.built()) == ["px_bytes", "px_cli", "px_field", "px_iim"], room.log()
+    assert room.built()[0] == "px_bytes", room.log()
+    assert room.built()[-1] == "px_cli", room.log()
+    assert (
+ran.stderr.splitlines() == [FIRST, *(f"exifnorm: proving {it} left)" for it in (
+        "px_bytes (1 of 4, 3", "px_field (2 of 4, 2", "px_iim (3 of 4, 1", "px_cli (4 of 4, 0"))]
+)  # fmt: skip
+    assert not (room.top / "out/proved/making").exists(), "what was made aside is left behind"
 
 
-def a_later_call_builds_nothing_and_prints_nothing(room: Room) -> None:
+def test_a_later_call_builds_nothing_and_prints_nothing(room):
     room.call()
     for _ in range(3):
         ran = room.call("show", "x")
-        require_equal((ran.returncode, ran.stdout, ran.stderr), (0, "one: show x\n", ""), ran)
-    require(room.builds() == 1, room.log())
+        assert (ran.returncode, ran.stdout, ran.stderr) == (0, "one: show x\n", ""), ran
+    assert room.builds() == 1, room.log()
 
 
-def a_changed_source_is_built(room: Room) -> None:
+def test_a_changed_source_is_built(room):
     room.call()
     room.main.write_text("two")
-    require(room.call().stdout == "two: \n", room.log())
+    assert room.call().stdout == "two: \n", room.log()
 
 
-def an_older_source_under_its_name_is_built(room: Room) -> None:
+def test_an_older_source_under_its_name_is_built(room):
     room.main.write_text("old")
     os.utime(room.main, (10**9, 10**9))
     shutil.copy2(room.main, room.folder / "old.rt")
     room.main.write_text("new")
-    require(room.call().stdout == "new: \n", room.log())
+    assert room.call().stdout == "new: \n", room.log()
     shutil.copy2(room.folder / "old.rt", room.main)  # the same name and size, an older time
-    require(room.call().stdout == "old: \n", room.log())
+    assert room.call().stdout == "old: \n", room.log()
 
 
-def most_calls_are_a_quick_look_without_python(room: Room) -> None:
+def test_most_calls_are_a_quick_look_without_python(room):
     room.settle()
     for name in ("find", "cmp", "sh", "readlink", "ls", "python3", "rt", "cat", "ps"):
         real = shutil.which(name, path=room.environment()["PATH"])
@@ -93,12 +75,12 @@ def most_calls_are_a_quick_look_without_python(room: Room) -> None:
     # (the one of the PATH stays in the look that was noted)
     room.named = {"PATH": f"{room.folder}/counted:{room.environment()['PATH']}"}
     (room.folder / "counted" / "rt").unlink()
-    require(room.call("a").stdout == "one: a\n", "the program does not run")
+    assert room.call("a").stdout == "one: a\n", "the program does not run"
     started = sorted((room.folder / "started").read_text().split())
-    require_equal(started, ["cmp", "find", "sh"], f"a call starts {started}")
+    assert started == ["cmp", "find", "sh"], f"a call starts {started}"
     room.main.write_text("two")
-    require(room.call("a").stdout == "two: a\n", "commands are not counted")
-    require("python3" in (room.folder / "started").read_text(), "commands are not counted")
+    assert room.call("a").stdout == "two: a\n", "commands are not counted"
+    assert "python3" in (room.folder / "started").read_text(), "commands are not counted"
 
 
 def each_source(room: Room):
@@ -109,7 +91,7 @@ def each_source(room: Room):
             yield room.top / "crates" / crate / part / ("Further.antt" if part != "src" else "further.rt"), built
 
 
-def every_kind_of_change_in_each_folder_is_noticed(room: Room) -> None:
+def test_every_kind_of_change_in_each_folder_is_noticed(room):
     room.call()
     spare = room.folder / "spare"
     for source, built in each_source(room):
@@ -124,24 +106,24 @@ def every_kind_of_change_in_each_folder_is_noticed(room: Room) -> None:
         }
         for kind, change in kinds.items():
             room.note()
-            require(room.looks(), "no quick look")
+            assert room.looks(), "no quick look"
             change(source)
-            require(not room.looks(), f"the quick look passes over {source}: {kind}")
+            assert not room.looks(), f"the quick look passes over {source}: {kind}"
         source.write_text("new")
         room.forget()
-        require_equal((room.call("a").stdout, sorted(room.built())), ("one: a\n", built), (source, room.log()))
+        assert (room.call("a").stdout, sorted(room.built())) == ("one: a\n", built), (source, room.log())
 
 
-def a_change_of_what_is_no_source_of_a_crate_is_noticed(room: Room) -> None:
+def test_a_change_of_what_is_no_source_of_a_crate_is_noticed(room):
     room.call()
     for name in ("crates.txt", "HANDLES", "build/prove.py", "build/machine.py", "out/proved/px_cli", "out/proved/px_cli.made-from"):
         room.note()
-        require(room.looks(), "no quick look")
+        assert room.looks(), "no quick look"
         (room.top / name).touch()
-        require(not room.looks(), f"the quick look passes over a change of {name}")
+        assert not room.looks(), f"the quick look passes over a change of {name}"
 
 
-def a_look_is_noted_of_nothing_that_has_just_changed(room: Room) -> None:
+def test_a_look_is_noted_of_nothing_that_has_just_changed(room):
     room.call()
     looked = room.top / "out" / "looked"
     for it in (room.main, room.top / "crates.txt", room.rt):
@@ -149,21 +131,21 @@ def a_look_is_noted_of_nothing_that_has_just_changed(room: Room) -> None:
         looked.unlink()
         it.touch()
         room.call()
-        require(not looked.exists() or time.time() - it.stat().st_ctime > 1, f"{it} was changed within a tick of the clock")
+        assert not looked.exists() or time.time() - it.stat().st_ctime > 1, f"{it} was changed within a tick of the clock"
 
 
-def touched_and_copied_sources_are_not_built_again(room: Room) -> None:
+def test_touched_and_copied_sources_are_not_built_again(room):
     room.settle()
     room.main.touch()
-    require(not room.looks(), "a time is passed over")
+    assert not room.looks(), "a time is passed over"
     ran = room.call("a")
-    require_equal((ran.stdout, ran.stderr, room.builds()), ("one: a\n", "", 1), ran)
+    assert (ran.stdout, ran.stderr, room.builds()) == ("one: a\n", "", 1), ran
     shutil.copytree(room.top, room.folder / "copy")
     ran = room.call("a", program=str(room.folder / "copy" / "exifnorm"))
-    require_equal((ran.stdout, ran.stderr, room.builds()), ("one: a\n", "", 1), ran)
+    assert (ran.stdout, ran.stderr, room.builds()) == ("one: a\n", "", 1), ran
 
 
-def a_clock_that_is_set_back_hides_no_change(room: Room) -> None:
+def test_a_clock_that_is_set_back_hides_no_change(room):
     room.settle()
     ahead = room.main.stat().st_mtime + 86_400
     for it in (room.top / "out").rglob("*"):
@@ -171,67 +153,67 @@ def a_clock_that_is_set_back_hides_no_change(room: Room) -> None:
     room.call()
     room.main.write_text("two")
     os.utime(room.main, (10**9, 10**9))
-    require(room.call().stdout == "two: \n", room.log())
+    assert room.call().stdout == "two: \n", room.log()
 
 
-def another_toolchain_builds_again_and_the_same_elsewhere_does_not(room: Room) -> None:
+def test_another_toolchain_builds_again_and_the_same_elsewhere_does_not(room):
     room.settle()
     room.rt.touch()
-    require(not room.looks(), "another command is passed over")
+    assert not room.looks(), "another command is passed over"
     room.call()
-    require(room.builds() == 1, room.log())
+    assert room.builds() == 1, room.log()
     (room.folder / "version").write_text("toolchain 2\n")
     room.rt.touch()
     room.call()
-    require_equal((room.builds(), len(room.built())), (2, 8), room.log())
+    assert (room.builds(), len(room.built())) == (2, 8), room.log()
     room.settle()
     shutil.copytree(room.bin, room.folder / "other")
     room.named = {"PATH": f"{room.folder}/other:{room.environment()['PATH']}"}
-    require(not room.looks(), "a command in another folder is passed over")
-    require_equal((room.call("a").stdout, room.builds()), ("one: a\n", 2), room.log())
+    assert not room.looks(), "a command in another folder is passed over"
+    assert (room.call("a").stdout, room.builds()) == ("one: a\n", 2), room.log()
 
 
-def other_scripts_that_prove_build_again(room: Room) -> None:
+def test_other_scripts_that_prove_build_again(room):
     room.settle()
     for name, builds in (("compiler.py", 2), ("verdict.py", 3), ("prove.py", 3), ("launch.py", 3)):
         with open(room.top / "build" / name, "a", encoding="utf-8") as it:
             it.write("# changed\n")
-        require(not room.looks(), f"a change of {name} is passed over")
-        require_equal((room.call("a").stdout, room.builds()), ("one: a\n", builds), (name, room.log()))
+        assert not room.looks(), f"a change of {name} is passed over"
+        assert (room.call("a").stdout, room.builds()) == ("one: a\n", builds), (name, room.log())
         room.settle()
 
 
-def a_changed_or_missing_program_is_noticed(room: Room) -> None:
+def test_a_changed_or_missing_program_is_noticed(room):
     room.settle()
     program = room.top / "out/proved/px_cli"
     program.unlink()
-    require_equal((room.call("a").stdout, room.built()[4:]), ("one: a\n", ["px_cli"]), room.log())
+    assert (room.call("a").stdout, room.built()[4:]) == ("one: a\n", ["px_cli"]), room.log()
     room.settle()
     program.touch()
-    require(not room.looks(), "a program that was changed is passed over")
+    assert not room.looks(), "a program that was changed is passed over"
     room.settle()
     for _ in range(2):
         (room.top / "out/exifnorm").unlink()
-        require_equal((room.call("a").stdout, room.builds()), ("one: a\n", 2), room.log())
+        assert (room.call("a").stdout, room.builds()) == ("one: a\n", 2), room.log()
     (room.top / "out/exifnorm").unlink()
     (room.top / "out/exifnorm").write_text("what another version of this left")
-    require_equal((room.call("a").stdout, room.builds()), ("one: a\n", 2), room.log())
+    assert (room.call("a").stdout, room.builds()) == ("one: a\n", 2), room.log()
     (room.top / "out/exifnorm").unlink()
     (room.top / "out/exifnorm").symlink_to(shutil.which("false"))
-    require_equal((room.call("a").stdout, room.builds()), ("one: a\n", 2), room.log())
+    assert (room.call("a").stdout, room.builds()) == ("one: a\n", 2), room.log()
 
 
-def a_built_program_runs_without_the_toolchain(room: Room) -> None:
+def test_a_built_program_runs_without_the_toolchain(room):
     room.call()
     ran = room.call("a", has_rt=False)
-    require_equal((ran.returncode, ran.stdout, ran.stderr), (0, "one: a\n", ""), ran)
+    assert (ran.returncode, ran.stdout, ran.stderr) == (0, "one: a\n", ""), ran
     room.main.write_text("two")
     ran = room.call("a", has_rt=False)
     toolchain = "the crates have to be proved, and there is no command rt: put the Rattle toolchain's bin folder on the PATH"
-    require_equal((ran.returncode, ran.stdout, ran.stderr), (70, "", f"{FIRST}\nexifnorm: {toolchain}\n"), ran)
+    assert (ran.returncode, ran.stdout, ran.stderr) == (70, "", f"{FIRST}\nexifnorm: {toolchain}\n"), ran
 
 
-def a_call_without_python_runs_what_is_built_and_builds_nothing(room: Room) -> None:
+def test_a_call_without_python_runs_what_is_built_and_builds_nothing(room):
     room.settle()
     few = room.folder / "few"
     few.mkdir()
@@ -239,41 +221,41 @@ def a_call_without_python_runs_what_is_built_and_builds_nothing(room: Room) -> N
         (few / name).symlink_to(shutil.which(name))
     room.named = {"PATH": f"{room.bin}:{few}"}
     ran = room.call("a")
-    require_equal((ran.returncode, ran.stdout, ran.stderr), (0, "one: a\n", ""), ran)
+    assert (ran.returncode, ran.stdout, ran.stderr) == (0, "one: a\n", ""), ran
     room.main.write_text("two")
     ran = room.call("a")
     why = f"exifnorm: cannot find the command python3, or the folder of {room.top}/exifnorm\n"
-    require_equal((ran.returncode, ran.stdout, ran.stderr), (70, "", why), ran)
+    assert (ran.returncode, ran.stdout, ran.stderr) == (70, "", why), ran
 
 
-def a_crate_that_fails_is_reported_and_built_by_the_next_call(room: Room) -> None:
+def test_a_crate_that_fails_is_reported_and_built_by_the_next_call(room):
     (room.folder / "fails-px_iim").write_text("this crate is not proved\n")
     ran = room.call("a")
-    require_equal((ran.returncode, ran.stdout), (70, ""), ran)
+    assert (ran.returncode, ran.stdout) == (70, ""), ran
     said = "exifnorm: this crate is not proved\n" + not_built(room, "px_iim", "the compiler ended with status 1")
-    require(ran.stderr.endswith(f" left)\n{said}"), ran.stderr)
+    assert ran.stderr.endswith(f" left)\n{said}"), ran.stderr
     (room.folder / "fails-px_iim").unlink()
-    require(room.call("a").stdout == "one: a\n", room.log())
+    assert room.call("a").stdout == "one: a\n", room.log()
 
 
-def the_end_of_a_log_is_shown(room: Room) -> None:
+def test_the_end_of_a_log_is_shown(room):
     (room.folder / "fails-px_iim").write_text("".join(f"line {it}\n" for it in range(1, 51)))
     ran = room.call("a")
-    require(ran.returncode == 70, ran)
+    assert ran.returncode == 70, ran
     shown = [it.removeprefix("exifnorm: ") for it in ran.stderr.splitlines()]
-    require_equal([it for it in shown if it.startswith("line ")], [f"line {it}" for it in range(31, 51)], ran)
+    assert [it for it in shown if it.startswith("line ")] == [f"line {it}" for it in range(31, 51)], ran
 
 
-def a_toolchain_that_fails_is_named(room: Room) -> None:
+def test_a_toolchain_that_fails_is_named(room):
     room.command(room.rt, "#!/bin/sh\nexit 3\n")
     for ran, status in ((room.call("a"), 70), (room.prove("px_cli"), 1)):
-        require_equal((ran.returncode, ran.stdout), (status, ""), ran)
-        require("'rt'" in ran.stderr, ran)
-        require("status 3" in ran.stderr, ran)
-        require("Traceback" not in ran.stderr, ran)
+        assert (ran.returncode, ran.stdout) == (status, ""), ran
+        assert "'rt'" in ran.stderr, ran
+        assert "status 3" in ran.stderr, ran
+        assert "Traceback" not in ran.stderr, ran
 
 
-def a_proof_that_fails_after_a_good_build_is_not_taken(room: Room) -> None:
+def test_a_proof_that_fails_after_a_good_build_is_not_taken(room):
     room.settle()
     late = "logic=proved functions=1 sum=1f\nerror: it cannot be written\n"
     for crate, text in (("px_iim", late), ("px_cli", late), ("px_cli", "")):
@@ -282,15 +264,15 @@ def a_proof_that_fails_after_a_good_build_is_not_taken(room: Room) -> None:
         (room.top / "crates" / crate / "proofs/Answers.antt").write_text(f"wrong {crate}{'' if text else ' again'}")
         for _ in range(2):
             ran = room.call("a")
-            require_equal((ran.returncode, ran.stdout), (70, ""), ran)
-            require(f"{crate} was not proved" in ran.stderr, ran)
+            assert (ran.returncode, ran.stdout) == (70, ""), ran
+            assert f"{crate} was not proved" in ran.stderr, ran
         fails.unlink()
-        require(room.call("a").stdout == "one: a\n", room.log())
+        assert room.call("a").stdout == "one: a\n", room.log()
     (room.folder / "fails-px_iim").write_text("no")
     (room.top / "crates/px_iim/proofs/Answers.antt").write_text("wrong")
-    require(room.call("a").returncode == 70, "it was built")
+    assert room.call("a").returncode == 70, "it was built"
     (room.top / "crates/px_iim/proofs/Answers.antt").write_text("wrong px_iim")
-    require(room.call("a").stdout == "one: a\n", "the sources that were proved are taken as they were")
+    assert room.call("a").stdout == "one: a\n", "the sources that were proved are taken as they were"
 
 
 # The compiler's output for a crate that is not proved, although it ends with status 0; and the expected report on the crate.
@@ -311,23 +293,23 @@ NOT_PROVED = {
 }
 
 
-def a_crate_counts_as_proved_by_its_verdict_alone(room: Room) -> None:
+def test_a_crate_counts_as_proved_by_its_verdict_alone(room):
     whole = "logic=proved functions=1 axioms=2 target=x86_64 cpu=any sum=1f native=nat logic-built=trusted libraries-built=trusted statements=1\n"
-    require(build_rules.verdict.refused_verdict(whole) == "", "a verdict with all that a proof may rest on")
+    assert build_rules.verdict.refused_verdict(whole) == "", "a verdict with all that a proof may rest on"
     room.call()
     says = room.folder / "says-px_iim"
     for i, (text, why) in enumerate(NOT_PROVED.items()):
-        require(build_rules.verdict.refused_verdict(text) == why, text)
+        assert build_rules.verdict.refused_verdict(text) == why, text
         if i % 4 == 0:
             says.write_text(text)
             (room.top / "crates/px_iim/src/lib.rt").write_text(text)
             ran = room.call("a")
-            require_equal((ran.returncode, ran.stdout), (70, ""), (text, ran))
-            require("px_iim was not proved" in ran.stderr, (text, ran))
-            require(why in ran.stderr, (text, ran))
+            assert (ran.returncode, ran.stdout) == (70, ""), (text, ran)
+            assert "px_iim was not proved" in ran.stderr, (text, ran)
+            assert why in ran.stderr, (text, ran)
     closure = "warning: no call of `px_iim::one::fn::two` can meet its contract\nlogic=proved functions=1 sum=1f\n"
     says.write_text(closure)  # |e| match e {} is honest code
-    require(room.call("a").stdout == "one: a\n", room.log())
+    assert room.call("a").stdout == "one: a\n", room.log()
 
 
 def called(crate: str, used: str, made: str, *more: str) -> str:
@@ -338,132 +320,132 @@ def called(crate: str, used: str, made: str, *more: str) -> str:
     return " ".join([*words, f"--jobs 4 --links {crate}= --empty-contracts -o PROVED/making/{made}", *more])
 
 
-def a_compiler_is_called_as_the_toolchain_calls_it(room: Room) -> None:
+def test_a_compiler_is_called_as_the_toolchain_calls_it(room):
     small = Room(room.folder / "small", "px_low: byteorder\npx_c staticlib: px_low\npx_cli: px_low clap\n")
-    require(small.prove("px_c").returncode == 0, small.log())
-    require(small.call("a").stdout == "one: a\n", small.log())
+    assert small.prove("px_c").returncode == 0, small.log()
+    assert small.call("a").stdout == "one: a\n", small.log()
     asked = (small.folder / "asked").read_text().replace(f"{small.top}/out/proved", "PROVED").replace(f"{small.folder}/kit", "KIT")
     native = "--toolchain KIT/toolchain --backend llvm"
     expected = [called("px_low", "byteorder", "px_low.rlib", "--statements"),
                 called("px_c", "px_low", "libpx_c.a", f"{native} --crate-type staticlib"),
                 called("px_cli", "px_low clap", "px_cli.o", native)]  # fmt: skip
-    require(asked.splitlines() == expected, asked)
+    assert asked.splitlines() == expected, asked
 
 
-def changed_handles_are_refused(room: Room) -> None:
+def test_changed_handles_are_refused(room):
     room.settle()
     handles = room.top / "HANDLES"
     for text in ("", "Handles allowed: Wait.\n", "Handles allowed: none", f"{HANDLES}Handles allowed: Wait.\n", f"{HANDLES}\n"):
         handles.write_text(text)
         ran = room.call("a")
-        require_equal((ran.returncode, ran.stdout), (70, ""), (text, ran))
-        require_equal(ran.stderr, f"exifnorm: HANDLES was changed; it must be the line {HANDLES!r}\n", (text, ran))
+        assert (ran.returncode, ran.stdout) == (70, ""), (text, ran)
+        assert ran.stderr == f"exifnorm: HANDLES was changed; it must be the line {HANDLES!r}\n", (text, ran)
     handles.unlink()
     ran = room.call("a")
-    require_equal((ran.returncode, ran.stdout), (70, ""), ran)
+    assert (ran.returncode, ran.stdout) == (70, ""), ran
     missing = f"[Errno 2] No such file or directory: '{room.top.resolve()}/HANDLES'"
-    require_equal(ran.stderr, f"exifnorm: cannot read HANDLES: {missing}\n", ran)
+    assert ran.stderr == f"exifnorm: cannot read HANDLES: {missing}\n", ran
     handles.write_text(HANDLES)
-    require_equal((room.call("a").stdout, room.builds()), ("one: a\n", 1), room.log())
+    assert (room.call("a").stdout, room.builds()) == ("one: a\n", 1), room.log()
 
 
-def links_among_the_sources_are_refused(room: Room) -> None:
+def test_links_among_the_sources_are_refused(room):
     room.settle()
     for part in ("src/further.rt", "specs/calls", "proofs/Further.antt"):
         link = room.top / "crates/px_iim" / part
         link.symlink_to(room.folder / "elsewhere")  # which is not there
         ran = room.call("a")
-        require_equal((ran.returncode, ran.stdout), (70, ""), ran)
-        require_equal(ran.stderr, f"exifnorm: {room.top.resolve()}/crates/px_iim/{part} is a link, and sources may not be links\n", ran)
+        assert (ran.returncode, ran.stdout) == (70, ""), ran
+        assert ran.stderr == f"exifnorm: {room.top.resolve()}/crates/px_iim/{part} is a link, and sources may not be links\n", ran
         link.unlink()
-    require(room.call("a").stdout == "one: a\n", room.log())
+    assert room.call("a").stdout == "one: a\n", room.log()
 
 
-def a_program_that_does_not_start_is_never_installed(room: Room) -> None:
+def test_a_program_that_does_not_start_is_never_installed(room):
     room.call("a")
     for text in ("#!/no/such/interpreter\n", "#!/bin/sh\nexit 1\n", "#!/bin/sh\nkill -9 $$\n", ""):
         (room.folder / "program").write_text(text)
         room.main.write_text(f"two {text}")
         ran = room.call("a")
-        require_equal((ran.returncode, ran.stdout), (70, ""), (text, ran))
-        require(ran.stderr.endswith(not_built(room, "px_cli", "the program does not start")), (text, ran))
+        assert (ran.returncode, ran.stdout) == (70, ""), (text, ran)
+        assert ran.stderr.endswith(not_built(room, "px_cli", "the program does not start")), (text, ran)
     (room.folder / "program").unlink()
     room.main.write_text("one")
-    require(room.call("a").stdout == "one: a\n", room.log())
+    assert room.call("a").stdout == "one: a\n", room.log()
 
 
-def it_prints_where_the_built_program_is(room: Room) -> None:
+def test_it_prints_where_the_built_program_is(room):
     ran = room.call("--where", cwd="/")
-    require_equal((ran.returncode, ran.stdout), (0, f"{room.top.resolve() / 'out' / 'exifnorm'}\n"), ran)
-    require(room.call("a", program=ran.stdout.strip()).stdout == "one: a\n", ran)
+    assert (ran.returncode, ran.stdout) == (0, f"{room.top.resolve() / 'out' / 'exifnorm'}\n"), ran
+    assert room.call("a", program=ran.stdout.strip()).stdout == "one: a\n", ran
     for is_quick in (True, False):
         room.settle()
-        require(room.call("--where", cwd="/").stdout == ran.stdout, "another call says another place")
+        assert room.call("--where", cwd="/").stdout == ran.stdout, "another call says another place"
         for words in (("--where", "a"), ("--where", ""), ("", "--where"), ("--where a",)):
             is_quick or (room.top / "out/looked").unlink(missing_ok=True)
-            require(room.call(*words).stdout == f"one: {' '.join(words)}\n", "beside other arguments it is the program's")
+            assert room.call(*words).stdout == f"one: {' '.join(words)}\n", "beside other arguments it is the program's"
 
 
-def odd_names_of_folders_and_arguments(room: Room) -> None:
+def test_odd_names_of_folders_and_arguments(room):
     words = ("-a", "", " b  c ", "*", "$(exit 3)", "d\ne", "--")
     for i, name in enumerate(("-repository", "with space", "a'b\"c", "$HOME", "line\nfeed", "é*?[x]", "\\n")):
         other = Room(room.folder / str(i), name=name)
         for _ in range(2):
             ran = other.call(*words, program=f"{name}/exifnorm", cwd=other.folder)
-            require_equal((ran.returncode, ran.stdout), (0, f"one: {' '.join(words)}\n"), (name, ran))
+            assert (ran.returncode, ran.stdout) == (0, f"one: {' '.join(words)}\n"), (name, ran)
         os.symlink(f"{name}/exifnorm", other.folder / "-link")
         for program, folder in (("./-link", other.folder), (str(other.folder / "-link"), "/")):
             ran = other.call("b", program=program, cwd=folder)
-            require_equal((ran.returncode, ran.stdout, ran.stderr), (0, "one: b\n", ""), (name, ran))
+            assert (ran.returncode, ran.stdout, ran.stderr) == (0, "one: b\n", ""), (name, ran)
         other.settle()
-        require(other.looks(), f"no quick look in {name!r}")
+        assert other.looks(), f"no quick look in {name!r}"
         ran = other.call("-", "b", program=f"{name}/exifnorm", cwd=other.folder)
-        require_equal((ran.stdout, ran.stderr), ("one: - b\n", ""), (name, ran))
+        assert (ran.stdout, ran.stderr) == ("one: - b\n", ""), (name, ran)
 
 
-def it_is_called_from_any_folder_and_through_links(room: Room) -> None:
+def test_it_is_called_from_any_folder_and_through_links(room):
     room.settle()
     ran = room.call("a", program="./exifnorm", cwd=room.top)
-    require_equal((ran.stdout, ran.stderr), ("one: a\n", ""), ran)
+    assert (ran.stdout, ran.stderr) == ("one: a\n", ""), ran
     os.symlink(room.top / "exifnorm", room.folder / "first")
     os.symlink("first", room.folder / "second")
     os.symlink(room.top, room.folder / "folder")
     calls = [(str(room.folder / "second"), "/"), ("./second", room.folder), ("folder/exifnorm", room.folder)]
     for program, folder in calls:
         ran = room.call("b", program=program, cwd=folder)
-        require_equal((ran.stdout, ran.stderr), ("one: b\n", ""), ran)
+        assert (ran.stdout, ran.stderr) == ("one: b\n", ""), ran
     shell = ("-c", 'exec "$@"', "", "sh", "exifnorm", "c")
     ran = room.call(*shell, program="/bin/sh", cwd=room.top)
-    require_equal((ran.stdout, ran.stderr), ("one: c\n", ""), ran)
+    assert (ran.stdout, ran.stderr) == ("one: c\n", ""), ran
     room.named = {"PATH": f"{room.top}:{room.environment()['PATH']}"}
     ran = room.call("c", program="exifnorm", cwd="/")
-    require_equal((ran.stdout, room.builds()), ("one: c\n", 1), ran)
+    assert (ran.stdout, room.builds()) == ("one: c\n", 1), ran
     ran = room.call("exifnorm", "d", program="bash", cwd="/")  # bash looks for it on the PATH, and gives it its bare name
-    require_equal((ran.stdout, ran.stderr), ("one: d\n", ""), ran)
+    assert (ran.stdout, ran.stderr) == ("one: d\n", ""), ran
 
 
-def settings_of_the_callers_python_do_not_reach_the_build(room: Room) -> None:
+def test_settings_of_the_callers_python_do_not_reach_the_build(room):
     shadow = room.folder / "shadow"
     shadow.mkdir()
     for name in ("hashlib", "subprocess", "sitecustomize"):
         (shadow / f"{name}.py").write_text("raise SystemExit(5)\n")
     room.named = {"PYTHONPATH": str(shadow), "PYTHONHOME": str(shadow)}
     ran = room.call("a")
-    require_equal((ran.returncode, ran.stdout), (0, "one: a\n"), ran)
+    assert (ran.returncode, ran.stdout) == (0, "one: a\n"), ran
 
 
-def a_copy_outside_its_folder_is_an_error(room: Room) -> None:
+def test_a_copy_outside_its_folder_is_an_error(room):
     shutil.copy(room.top / "exifnorm", room.folder / "exifnorm")
     ran = room.call("a", program=str(room.folder / "exifnorm"))
-    require_equal((ran.returncode, ran.stdout), (70, ""), ran)
-    require(ran.stderr.endswith(f"exifnorm: cannot find the command python3, or the folder of {room.folder}/exifnorm\n"), ran)
+    assert (ran.returncode, ran.stdout) == (70, ""), ran
+    assert ran.stderr.endswith(f"exifnorm: cannot find the command python3, or the folder of {room.folder}/exifnorm\n"), ran
 
 
-def a_folder_that_cannot_be_written_is_reported(room: Room) -> None:
+def test_a_folder_that_cannot_be_written_is_reported(room):
     (room.top / "out").write_text("a file in place of the folder")
     ran = room.call("a")
-    require_equal((ran.returncode, ran.stdout), (70, ""), ran)
-    require("out" in ran.stderr, ran)
+    assert (ran.returncode, ran.stdout) == (70, ""), ran
+    assert "out" in ran.stderr, ran
 
 
 def nobody(room: Room) -> dict:
@@ -475,7 +457,7 @@ def nobody(room: Room) -> dict:
     return {"user": 65534, "group": 65534, "extra_groups": []}
 
 
-def a_built_program_is_for_all_users(room: Room) -> None:
+def test_a_built_program_is_for_all_users(room):
     """A call of theirs can note no quick look."""
     room.call()
     looked = room.top / "out/looked"
@@ -487,28 +469,28 @@ def a_built_program_is_for_all_users(room: Room) -> None:
     wait_until(lambda: time.time() - changed > 1, "the clock stands")
     ran = room.call("a", **how)
     (room.top / "out").chmod(0o755)
-    require_equal((ran.returncode, ran.stdout, ran.stderr, looked.exists()), (0, "one: a\n", "", False), ran)
+    assert (ran.returncode, ran.stdout, ran.stderr, looked.exists()) == (0, "one: a\n", "", False), ran
     room.call("a")
-    require(looked.exists(), "no call would have noted one")
+    assert looked.exists(), "no call would have noted one"
 
 
-def no_shell_and_no_python_stays_beside_the_program(room: Room) -> None:
+def test_no_shell_and_no_python_stays_beside_the_program(room):
     (room.folder / "program").write_text(PROGRAM)
     said = []
     for _ in range(2):
         started = room.start("7")
         out, why = started.communicate(timeout=300)
         number, rest = out.split("\n", 1)
-        require_equal((int(number), started.returncode), (started.pid, 7), (out, why))
-        require(why.endswith("this is an error\n"), (out, why))
+        assert (int(number), started.returncode) == (started.pid, 7), (out, why)
+        assert why.endswith("this is an error\n"), (out, why)
         said.append(rest)
         room.settle()
-    require(said[0] == said[1], said)
-    require("SigIgn: 0000000000000000" in said[0], said)
-    require("SigBlk: 0000000000000000" in said[0], said)
+    assert said[0] == said[1], said
+    assert "SigIgn: 0000000000000000" in said[0], said
+    assert "SigBlk: 0000000000000000" in said[0], said
 
 
-def closed_streams_stay_closed(room: Room) -> None:
+def test_closed_streams_stay_closed(room):
     (room.folder / "program").write_text(PROGRAM)
     file = room.folder / "written"
     for closes, expected in (("<&-", [1, 2]), ("2>&-", [0, 1]), ("<&- 2>&-", [1])):
@@ -517,61 +499,61 @@ def closed_streams_stay_closed(room: Room) -> None:
             words = ("-c", f'exec "$@" {closes} >"{file}"', "", str(room.top / "exifnorm"))
             ran = room.call(*words, program="/bin/sh")
             seen = [int(it.split()[0]) for it in file.read_text().splitlines() if it.endswith("open")]
-            require(ran.returncode == 0, (closes, ran, file.read_text()))
-            require(seen == expected, (closes, ran, file.read_text()))
+            assert ran.returncode == 0, (closes, ran, file.read_text())
+            assert seen == expected, (closes, ran, file.read_text())
             room.settle()
         room.main.write_text(f"{closes} again")
         (room.folder / "fails-px_cli").write_text("no")
         ran = room.call(*words, program="/bin/sh")
-        require_equal((ran.returncode, file.read_text()), (70, ""), (closes, ran, file.read_text()))
+        assert (ran.returncode, file.read_text()) == (70, ""), (closes, ran, file.read_text())
         (room.folder / "fails-px_cli").unlink()
     ran = room.call("-c", 'exec "$@" >&-', "", str(room.top / "exifnorm"), program="/bin/sh")
-    require(ran.returncode == 0, ran)
+    assert ran.returncode == 0, ran
 
 
-def an_output_that_takes_nothing_ends_no_build(room: Room) -> None:
+def test_an_output_that_takes_nothing_ends_no_build(room):
     with open("/dev/full", "w", encoding="ascii") as full:
         ran = room.call("a", stderr=full)
-        require_equal((ran.returncode, ran.stdout), (0, "one: a\n"), ran)
+        assert (ran.returncode, ran.stdout) == (0, "one: a\n"), ran
         room.main.write_text("two")
         (room.folder / "fails-px_cli").write_text("no")
         ran = room.call("a", stderr=full)
-        require_equal((ran.returncode, ran.stdout), (70, ""), ran)
+        assert (ran.returncode, ran.stdout) == (70, ""), ran
         (room.folder / "fails-px_cli").unlink()
-        require(room.call("--where", stdout=full).returncode == 70, "a place that could not be written was said")
+        assert room.call("--where", stdout=full).returncode == 70, "a place that could not be written was said"
 
 
-def what_was_just_proved_is_taken(room: Room) -> None:
+def test_what_was_just_proved_is_taken(room):
     room.is_proved()
     ran = room.call("a")
-    require_equal((ran.returncode, ran.stdout, room.log()), (0, "proved: a\n", []), (ran, room.log()))
-    require_equal(ran.stderr, f"{FIRST}\nexifnorm: taking what was just proved of px_cli\n", ran)
+    assert (ran.returncode, ran.stdout, room.log()) == (0, "proved: a\n", []), (ran, room.log())
+    assert ran.stderr == f"{FIRST}\nexifnorm: taking what was just proved of px_cli\n", ran
     ran = room.call("b")
-    require_equal((ran.stdout, ran.stderr), ("proved: b\n", ""), ran)
-    require(room.proved.exists(), "what was proved is gone")
+    assert (ran.stdout, ran.stderr) == ("proved: b\n", ""), ran
+    assert room.proved.exists(), "what was proved is gone"
     room.proved.unlink()
-    require(room.call("c", has_rt=False).stdout == "proved: c\n", "the program is no copy")
+    assert room.call("c", has_rt=False).stdout == "proved: c\n", "the program is no copy"
     room.named = {}
-    require(room.call("d").stdout == "proved: d\n", "it is built again")
+    assert room.call("d").stdout == "proved: d\n", "it is built again"
     room.main.write_text("two")
-    require_equal((room.call().stdout, room.built()), ("two: \n", ["px_cli"]), room.log())
+    assert (room.call().stdout, room.built()) == ("two: \n", ["px_cli"]), room.log()
 
 
-def a_name_that_is_not_a_full_one_names_nothing_proved(room: Room) -> None:
+def test_a_name_that_is_not_a_full_one_names_nothing_proved(room):
     room.is_proved()
     for name in ("crates/px_cli/out/px_cli", "", "./crates/px_cli/out/px_cli"):
         room.named = {"EXIFNORM_PROVED": name}
-        require(room.call("a", cwd=room.top).stdout == "one: a\n", room.log())
+        assert room.call("a", cwd=room.top).stdout == "one: a\n", room.log()
 
 
-def signals_that_the_caller_ignores_do_not_stop_a_build(room: Room) -> None:
+def test_signals_that_the_caller_ignores_do_not_stop_a_build(room):
     room.hold("px_iim")
     words = ["env", "--default-signal", "--ignore-signal=HUP", str(room.top / "exifnorm"), "a"]
     started = subprocess.Popen(words, env=room.environment(), stdout=subprocess.PIPE, text=True)
     room.until("begin", "px_iim")
     started.send_signal(signal.SIGHUP)
     room.let_go("px_iim")
-    require(started.communicate(timeout=300)[0] == "one: a\n", "nohup has no effect")
+    assert started.communicate(timeout=300)[0] == "one: a\n", "nohup has no effect"
 
 
 def stopped(room: Room, how: int) -> None:
@@ -585,98 +567,34 @@ def stopped(room: Room, how: int) -> None:
     working = room.until("begin", "px_cli")
     wait_until(lambda: (room.folder / "starts-px_cli").read_text(), "it starts no process")
     below = int((room.folder / "starts-px_cli").read_text())
-    require(runs(working), "they have ended by themselves")
-    require(runs(below), "they have ended by themselves")
+    assert runs(working), "they have ended by themselves"
+    assert runs(below), "they have ended by themselves"
     started.send_signal(how)
     out, why = started.communicate(timeout=300)
-    require_equal((started.returncode, out), (70, ""), (started.returncode, out, why))
-    require(why.endswith("left)\nexifnorm: the build was stopped\n"), (started.returncode, out, why))
+    assert (started.returncode, out) == (70, ""), (started.returncode, out, why)
+    assert why.endswith("left)\nexifnorm: the build was stopped\n"), (started.returncode, out, why)
     wait_until(lambda: was_asked_to_end(working) and was_asked_to_end(below), "the compiler runs on, or what it started", 5)
     require_end(working, below)
     (room.folder / "holds-px_cli").unlink()
     (room.folder / "starts-px_cli").unlink()
     ran = room.call("a")
-    require_equal((ran.returncode, ran.stdout), (0, "two: a\n"), ran)
+    assert (ran.returncode, ran.stdout) == (0, "two: a\n"), ran
 
 
-def a_build_that_is_stopped_ends_with_all_that_it_started(room: Room) -> None:
+def test_a_build_that_is_stopped_ends_with_all_that_it_started(room):
     for how in (signal.SIGTERM, signal.SIGINT, signal.SIGHUP):
         stopped(Room(room.folder / how.name), how)
 
 
-def a_signal_that_any_thread_of_a_build_takes_stops_it(room: Room) -> None:
+def test_a_signal_that_any_thread_of_a_build_takes_stops_it(room):
     """The system may give a signal to a thread that waits for a compiler, where it wakes no other."""
     room.hold("px_bytes")
     started = room.start("a")
     working = room.until("begin", "px_bytes")
     others = [int(it.name) for it in Path(f"/proc/{started.pid}/task").iterdir() if it.name != str(started.pid)]
-    require(len(others) == 1, others)
-    require(ctypes.CDLL(None).tgkill(started.pid, others[0], signal.SIGTERM) == 0, "no such thread")
+    assert len(others) == 1, others
+    assert ctypes.CDLL(None).tgkill(started.pid, others[0], signal.SIGTERM) == 0, "no such thread"
     out, why = started.communicate(timeout=300)
-    require_equal((started.returncode, out), (70, ""), (started.returncode, out, why))
-    require(why.endswith("left)\nexifnorm: the build was stopped\n"), (started.returncode, out, why))
+    assert (started.returncode, out) == (70, ""), (started.returncode, out, why)
+    assert why.endswith("left)\nexifnorm: the build was stopped\n"), (started.returncode, out, why)
     require_end(working)
-
-
-TESTS = [
-    the_first_call_builds_each_crate_once_and_runs,
-    a_later_call_builds_nothing_and_prints_nothing,
-    a_changed_source_is_built,
-    an_older_source_under_its_name_is_built,
-    most_calls_are_a_quick_look_without_python,
-    every_kind_of_change_in_each_folder_is_noticed,
-    a_change_of_what_is_no_source_of_a_crate_is_noticed,
-    a_look_is_noted_of_nothing_that_has_just_changed,
-    touched_and_copied_sources_are_not_built_again,
-    a_clock_that_is_set_back_hides_no_change,
-    another_toolchain_builds_again_and_the_same_elsewhere_does_not,
-    other_scripts_that_prove_build_again,
-    a_changed_or_missing_program_is_noticed,
-    a_built_program_runs_without_the_toolchain,
-    a_call_without_python_runs_what_is_built_and_builds_nothing,
-    a_crate_that_fails_is_reported_and_built_by_the_next_call,
-    the_end_of_a_log_is_shown,
-    a_toolchain_that_fails_is_named,
-    a_proof_that_fails_after_a_good_build_is_not_taken,
-    a_crate_counts_as_proved_by_its_verdict_alone,
-    a_compiler_is_called_as_the_toolchain_calls_it,
-    changed_handles_are_refused,
-    links_among_the_sources_are_refused,
-    a_program_that_does_not_start_is_never_installed,
-    it_prints_where_the_built_program_is,
-    odd_names_of_folders_and_arguments,
-    it_is_called_from_any_folder_and_through_links,
-    settings_of_the_callers_python_do_not_reach_the_build,
-    a_copy_outside_its_folder_is_an_error,
-    a_folder_that_cannot_be_written_is_reported,
-    a_built_program_is_for_all_users,
-    no_shell_and_no_python_stays_beside_the_program,
-    closed_streams_stay_closed,
-    an_output_that_takes_nothing_ends_no_build,
-    what_was_just_proved_is_taken,
-    a_name_that_is_not_a_full_one_names_nothing_proved,
-    signals_that_the_caller_ignores_do_not_stop_a_build,
-    a_build_that_is_stopped_ends_with_all_that_it_started,
-    a_signal_that_any_thread_of_a_build_takes_stops_it,
-]
-
-
-def run_in_a_room(test) -> None:
-    with tempfile.TemporaryDirectory() as folder:
-        test(Room(Path(folder)))
-
-
-def main() -> int:
-    """Runs the tests, four at a time. Those of first_build.py take longest, so they begin first."""
-    counter = Counter()
-    tests = [it for it in [*TESTS, *build_rules.TESTS, *interrupted.TESTS, *makefile.TESTS] if counter.asks(it.__name__)]
-    with ThreadPoolExecutor(4) as pool:
-        waits = [pool.submit(first_build.run, counter)]
-        waits += [pool.submit(counter.run, it.__name__, lambda it=it: run_in_a_room(it)) for it in tests]
-        for it in waits:
-            it.result()
-    return counter.finish()
-
-
-if __name__ == "__main__":
-    sys.exit(main())

@@ -1,14 +1,10 @@
-"""Tests of builds that are interrupted: killed, or out of space, at each change that they make to a file; and of files that they leave.
-
-tests/repository/launcher.py runs these.
-"""
+"""Tests of builds that are interrupted: killed, or out of space, at each change that they make to a file; and of files that they leave."""
 
 import os
 import shutil
 import sys
-from typing import Callable
 
-from checks import at_least, require, require_equal
+import pytest
 from room import Room
 
 # Runs build/launch.py, and at its Nth change of a file kills it, or lets that change and all later ones fail as on a full disk.
@@ -48,7 +44,6 @@ def small(room: Room, name: str) -> Room:
     return made
 
 
-@at_least(85)  # as many as the build has steps
 def at_each_step(room: Room, how: str, begin) -> None:
     """Builds with a fault at the first change of a file, then at the second, and so on. The next call must then be right."""
     made, failed = small(room, how), 0
@@ -57,18 +52,18 @@ def at_each_step(room: Room, how: str, begin) -> None:
         begin(made, text)
         (made.folder / "fault").write_text(f"{how} {step}")
         ran = made.call("a")
-        require((ran.returncode, ran.stdout) in ((0, f"{text}: a\n"), (70, ""), (-9, "")), (step, ran))
-        require(how != "kill" or ran.returncode != 70, (step, ran))
-        require(step > 1 or ran.returncode != 0, "no fault was made at the first step")
+        assert (ran.returncode, ran.stdout) in ((0, f"{text}: a\n"), (70, ""), (-9, "")), (step, ran)
+        assert how != "kill" or ran.returncode != 70, (step, ran)
+        assert step > 1 or ran.returncode != 0, "no fault was made at the first step"
         failed += ran.returncode != 0
         (made.folder / "fault").write_text("no 0")
         if step % 2:
             made.main.write_text(f"{text}, edited")
             text = f"{text}, edited"
         again = made.call("a")
-        require_equal((again.returncode, again.stdout), (0, f"{text}: a\n"), (step, ran, again))
+        assert (again.returncode, again.stdout) == (0, f"{text}: a\n"), (step, ran, again)
         if ran.returncode == 0 and step > 20:
-            require(failed > 15, f"{failed} calls of {step} failed")
+            assert failed > 15, f"{failed} calls of {step} failed"
             return
     raise AssertionError("a build that ends was not seen")
 
@@ -83,28 +78,24 @@ def after_an_edit(room: Room, text: str) -> None:
     (room.top / "crates/px_bytes/src/lib.rt").write_text(text)
 
 
-def with_faults(how: str, begin: Callable[[Room, str], None]) -> Callable[[Room], None]:
-    """The test of a fault at each step of a build."""
-
-    def test(room: Room) -> None:
-        at_each_step(room, how, begin)
-
-    test.__name__ = f"a_fault_at_each_step_{how}_{begin.__name__}"
-    return test
+@pytest.mark.parametrize("begin", (from_nothing, after_an_edit), ids=lambda it: it.__name__)
+@pytest.mark.parametrize("how", ("kill", "full"))
+def test_a_fault_at_each_step(room, how, begin):
+    at_each_step(room, how, begin)
 
 
-def a_full_disk_ends_no_call_where_all_is_built(room: Room) -> None:
+def test_a_full_disk_ends_no_call_where_all_is_built(room):
     """Only what the quick check compares would be written, and the next call can do that."""
     made = small(room, "built")
     made.settle()
     (made.top / "out/looked").unlink()
     (made.folder / "fault").write_text("full 1")
     ran = made.call("a")
-    require_equal((ran.returncode, ran.stdout, ran.stderr), (0, "one: a\n", ""), ran)
-    require(not (made.top / "out/looked").exists(), "it was written")
+    assert (ran.returncode, ran.stdout, ran.stderr) == (0, "one: a\n", ""), ran
+    assert not (made.top / "out/looked").exists(), "it was written"
 
 
-def a_file_that_cannot_grow_is_an_error(room: Room) -> None:
+def test_a_file_that_cannot_grow_is_an_error(room):
     """This process may write only some bytes to one file, as on a full disk; the compiler may write more."""
     made = Room(room.folder / "bytes", CRATES)
     rattle = (made.folder / "kit/bin/rattle").read_text()
@@ -113,12 +104,12 @@ def a_file_that_cannot_grow_is_an_error(room: Room) -> None:
         text = f"text {size}"
         after_an_edit(made, text)
         ran = made.call(f"--fsize={size}:", str(made.top / "exifnorm"), "a", program="prlimit")
-        require((ran.returncode, ran.stdout) in ((0, f"{text}: a\n"), (70, "")), (size, ran))
-        require(ran.returncode == (70 if size < 97 else 0), (size, ran))
-        require(made.call("a").stdout == f"{text}: a\n", size)
+        assert (ran.returncode, ran.stdout) in ((0, f"{text}: a\n"), (70, "")), (size, ran)
+        assert ran.returncode == (70 if size < 97 else 0), (size, ran)
+        assert made.call("a").stdout == f"{text}: a\n", size
 
 
-def what_is_left_behind_is_no_obstacle(room: Room) -> None:
+def test_what_is_left_behind_is_no_obstacle(room):
     """Locks of processes that are gone, and half of what a build makes."""
     proved = room.top / "out/proved"
     (proved / "making/px_bytes.rlib/old").mkdir(parents=True)
@@ -130,24 +121,15 @@ def what_is_left_behind_is_no_obstacle(room: Room) -> None:
     (room.top / "out/looked").write_text("")
     (room.top / "out/exifnorm").mkdir()
     ran = room.call("a")
-    require(ran.returncode == 70, ran)
-    require("exifnorm" in ran.stderr, ran)
+    assert ran.returncode == 70, ran
+    assert "exifnorm" in ran.stderr, ran
     (room.top / "out/exifnorm").rmdir()
-    require_equal((room.call("a").stdout, len(room.built())), ("one: a\n", 4), room.log())
-    require(not (proved / "making").exists(), "half of a build is left")
+    assert (room.call("a").stdout, len(room.built())) == ("one: a\n", 4), room.log()
+    assert not (proved / "making").exists(), "half of a build is left"
 
 
-def a_lock_that_cannot_be_taken_ends_the_call(room: Room) -> None:
+def test_a_lock_that_cannot_be_taken_ends_the_call(room):
     (room.top / "out/proved/lock").mkdir(parents=True)
     ran = room.call("a")
-    require_equal((ran.returncode, ran.stdout), (70, ""), ran)
-    require("lock" in ran.stderr, ran)
-
-
-TESTS = [
-    *(with_faults(how, begin) for how in ("kill", "full") for begin in (from_nothing, after_an_edit)),
-    a_full_disk_ends_no_call_where_all_is_built,
-    a_file_that_cannot_grow_is_an_error,
-    what_is_left_behind_is_no_obstacle,
-    a_lock_that_cannot_be_taken_ends_the_call,
-]
+    assert (ran.returncode, ran.stdout) == (70, ""), ran
+    assert "lock" in ran.stderr, ran
