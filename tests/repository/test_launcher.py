@@ -8,6 +8,7 @@ import subprocess
 import time
 from pathlib import Path
 
+import verdict
 from room import HANDLES, Room, require_end, runs, wait_until, was_asked_to_end
 
 # Prints the state of the process that a program runs as: its number, how it treats signals, and its open files.
@@ -295,11 +296,11 @@ NOT_PROVED = {
 
 def test_a_crate_counts_as_proved_by_its_verdict_alone(room):
     whole = "logic=proved functions=1 axioms=2 target=x86_64 cpu=any sum=1f native=nat logic-built=trusted libraries-built=trusted statements=1\n"
-    assert build_rules.verdict.refused_verdict(whole) == "", "a verdict with all that a proof may rest on"
+    assert verdict.refused_verdict(whole) == "", "a verdict with all that a proof may rest on"
     room.call()
     says = room.folder / "says-px_iim"
     for i, (text, why) in enumerate(NOT_PROVED.items()):
-        assert build_rules.verdict.refused_verdict(text) == why, text
+        assert verdict.refused_verdict(text) == why, text
         if i % 4 == 0:
             says.write_text(text)
             (room.top / "crates/px_iim/src/lib.rt").write_text(text)
