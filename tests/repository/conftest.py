@@ -1,7 +1,6 @@
-"""Fixtures of the tests of the build, the documents and the packages."""
+"""Fixtures of the tests of the build."""
 
 import shutil
-import sys
 
 import pytest
 from room import Room
@@ -11,15 +10,6 @@ from room import Room
 def room(folder):
     """A repository of a few small crates with a toolchain that proves nothing."""
     return Room(folder)
-
-
-@pytest.fixture(scope="module", autouse=True)
-def built_paths(request, program, library):
-    """The modules of documents' tests name what was built by their globals. A module with tests is loaded once by pytest, and once
-    more if another one imports it: both have their own globals."""
-    for it in (request.module, *(sys.modules.get(name) for name in ("documents", "stated"))):
-        if hasattr(it, "LIBRARY"):
-            it.PROGRAM, it.LIBRARY = type(it.PROGRAM)(program), type(it.LIBRARY)(library)
 
 
 @pytest.fixture(scope="session")

@@ -1,4 +1,4 @@
-"""Trees that `make install` writes, for install.py, package_texts.py and packages.py."""
+"""Trees that `make install` writes."""
 
 from __future__ import annotations
 
@@ -8,10 +8,10 @@ import stat
 import subprocess
 from dataclasses import dataclass, field
 from pathlib import Path
-from unittest import SkipTest
 
-from paths import TOP
+import pytest
 
+TOP = Path(__file__).resolve().parent.parent.parent
 EXAMPLES = TOP / "tests" / "library" / "examples"
 DEBIAN_PYTHON = "/usr/bin/python3"
 VERSION = re.search(r'VERSION: &str = "(.*)";', (TOP / "crates/px_engine/src/version.rt").read_text(encoding="utf-8"))[1]
@@ -83,7 +83,7 @@ def has_headers(python: str) -> bool:
 def need_headers(python: str) -> None:
     """Skips a test of the extension module where it can't be built."""
     if not has_headers(python):
-        raise SkipTest(f"{python} has no Python.h: Debian's package python3-dev is not installed")
+        pytest.skip(f"{python} has no Python.h: Debian's package python3-dev is not installed")
 
 
 def modules() -> list[str]:
@@ -112,7 +112,9 @@ class Tree:
 
     def make(self, target: str, *words: str, mask: int = 0o022) -> str:
         """Runs make with the variables of this installation."""
-        given = [f"DESTDIR={self.root}", f"PREFIX={self.prefix}", f"PYTHON={self.python}"]
+        # a folder of its own, and its name has no space: make can't quote it
+        stage = f"stage={self.root if self.root != Path('/') else self.prefix}.stage".replace(" ", "-")
+        given = [f"DESTDIR={self.root}", f"PREFIX={self.prefix}", f"PYTHON={self.python}", stage]
         return run(*MAKE, target, *given, *self.words, *words, mask=mask)
 
     @property
@@ -174,4 +176,3 @@ class Tree:
         }
         files.update({it: FILE for it in (*(f"{packages}/{it}" for it in modules()), *self.extension)})
         return with_folders(files)
-

@@ -1,6 +1,6 @@
 """The lowered code (MIR) of functions, which a build leaves in out/proved beside each library.
 
-tests/repository/sources.py finds in it which functions only call their `_in` variant, which make memory, and which call what may
+test_sources.py finds in it which functions only call their `_in` variant, which make memory, and which call what may
 allocate. Programs and static libraries are built without such a file.
 """
 
@@ -12,8 +12,9 @@ from pathlib import Path
 from typing import Any, Iterator, Optional
 
 from crates import Crates, below
-from paths import TOP
 from store import Store
+
+TOP = Path(__file__).resolve().parent.parent.parent
 
 MAKES = {"px_bytes::memory::Memory::new", "px_bytes::memory::Memory::fresh"}
 # what a call may do before it calls its variant: make the memory, over the allocator of a vector that it is passed

@@ -1,10 +1,7 @@
-#!/usr/bin/env python3
 """Builds the wheel, the Debian packages and the archive of `make dist`, and uses their content.
 
-  tests/repository/packages.py
-
-The program and the library have to be built: `make`. Nothing is proved here: the packages are built in copies of the built tree, and
-the Debian packages without the toolchain on the PATH. Each test that fails has a line, and the last line counts them.
+The program and the library have to be built: `make`. Nothing is proved here: the packages are built in copies of the built tree, and the
+Debian packages without the toolchain on the PATH. Each is built once, and the tests of one class share it.
 """
 
 from __future__ import annotations
@@ -17,29 +14,16 @@ import re
 import shutil
 import sys
 import tarfile
-import tempfile
-import unittest
 import zipfile
 from pathlib import Path
 
-sys.dont_write_bytecode = True
-sys.path.insert(0, str(Path(__file__).resolve().parent.parent))
-
-import paths
-from counting import run_module
-from installed import DEBIAN_PYTHON, EXAMPLES, FILE, TOP, VERSION, Tree, has_headers, modules, need_headers, run, tree
+import pytest
+from installed import CALLS, DEBIAN_PYTHON, EXAMPLES, FILE, TOP, VERSION, Tree, has_headers, modules, need_headers, run, tree
 
 BLOCK = bytes.fromhex("4d4d002a00000008 0001 0112 0003 00000001 00060000 00000000")
 SYSTEM_PATH = "/usr/sbin:/usr/bin:/sbin:/bin"
 LICENCES = ("LICENSE-APACHE", "LICENSE-MIT")
 EXTENSION = "exifnorm/_native.abi3.so"
-
-
-def setUpModule() -> None:
-    global ROOM
-    ROOM = Path(tempfile.mkdtemp())
-    unittest.addModuleCleanup(shutil.rmtree, ROOM)
-    (ROOM / "block").write_bytes(BLOCK)
 
 
 def copy_built(folder: Path) -> Path:
@@ -55,21 +39,22 @@ def copy_built(folder: Path) -> Path:
 
 def python_of(folder: Path, *words: str | Path, **environment: str) -> str:
     """Runs Debian's Python with the packages of a folder. Only the given environment leads to the library."""
-    return run(DEBIAN_PYTHON, "-B", *words, folder=ROOM, PYTHONPATH=str(folder), EXIFNORM_LIBRARY="", **environment)
+    return run(DEBIAN_PYTHON, "-B", *words, folder=Path("/"), PYTHONPATH=str(folder), EXIFNORM_LIBRARY="", **environment)
 
 
-class Wheel(unittest.TestCase):
+@pytest.mark.xdist_group("wheel")
+class TestWheel:
     """The wheel that `pip wheel` builds."""
 
-    @classmethod
-    def setUpClass(cls) -> None:
-        before = tree(TOP / "python")
-        cls.folder = ROOM / "wheels"
-        cls.folder.mkdir()
+    @pytest.fixture(scope="class", autouse=True)
+    def wheel(self, request: pytest.FixtureRequest, session_folder: Path, library: Path) -> None:
+        cls, before = request.cls, tree(TOP / "python")
+        cls.folder = session_folder / "wheel" / "built"
+        cls.folder.mkdir(parents=True)
         cls.build(TOP / "python", cls.folder)
         (cls.file,) = cls.folder.iterdir()
         cls.left = {it for it in set(tree(TOP / "python")) ^ set(before) if "__pycache__" not in it}
-        cls.unpacked = ROOM / "unpacked"
+        cls.unpacked = session_folder / "wheel" / "unpacked"
         with zipfile.ZipFile(cls.file) as it:
             it.extractall(cls.unpacked)
             cls.names = sorted(it.namelist())
@@ -78,140 +63,138 @@ class Wheel(unittest.TestCase):
     @staticmethod
     def build(project: Path, folder: Path, **environment: str) -> None:
         words = ["--no-index", "--no-build-isolation", "--no-deps", "--disable-pip-version-check", "-w", folder, project]
-        run(DEBIAN_PYTHON, "-m", "pip", "wheel", *words, folder=ROOM, **environment)
+        run(DEBIAN_PYTHON, "-m", "pip", "wheel", *words, folder=folder, **environment)
 
     def test_has_all_modules_the_library_and_the_licences(self) -> None:
         info = (*LICENCES, "METADATA", "RECORD", "WHEEL", "entry_points.txt", "top_level.txt")
         wanted = [*modules(), "exifnorm/libexifnorm.so.1", *(f"exifnorm-{VERSION}.dist-info/{it}" for it in info)]
-        self.assertEqual(self.names, sorted([*wanted, *[EXTENSION] * has_headers(DEBIAN_PYTHON)]))
-        self.assertIn("exifnorm/py.typed", self.names)
-        self.assertIn("exifnorm_pictures/py.typed", self.names)
+        assert self.names == sorted([*wanted, *[EXTENSION] * has_headers(DEBIAN_PYTHON)])
+        assert "exifnorm/py.typed" in self.names
+        assert "exifnorm_pictures/py.typed" in self.names
 
     def test_is_for_one_machine(self) -> None:
         machine = run("uname", "-m").strip()
-        self.assertRegex(self.file.name, rf"^exifnorm-{re.escape(VERSION)}-py3-none-(manylinux_\d+_\d+|linux)_{machine}\.whl$")
+        assert re.search(rf"^exifnorm-{re.escape(VERSION)}-py3-none-(manylinux_\d+_\d+|linux)_{machine}\.whl$", self.file.name)
         wheel = email.message_from_string((self.info / "WHEEL").read_text(encoding="utf-8"))
-        self.assertEqual(wheel["Root-Is-Purelib"], "false")
-        self.assertEqual(f"exifnorm-{VERSION}-{wheel['Tag']}.whl", self.file.name)
+        assert wheel["Root-Is-Purelib"] == "false"
+        assert f"exifnorm-{VERSION}-{wheel['Tag']}.whl" == self.file.name
 
     def test_claims_manylinux_for_the_newest_glibc_that_it_needs(self) -> None:
         symbols = "".join(run("readelf", "--dyn-syms", "-W", it) for it in self.unpacked.glob("exifnorm/*.so*"))
         needed = {(int(a), int(b)) for a, b in re.findall(r"@GLIBC_(\d+)\.(\d+)", symbols)}
-        self.assertNotEqual(needed, set())
-        self.assertIn("-manylinux_%d_%d_" % max(needed), self.file.name)
-        self.assertEqual(re.findall(r"\(NEEDED\).*\[(.*)\]", run("readelf", "-dW", self.unpacked / "exifnorm/libexifnorm.so.1")), ["libc.so.6"])
+        assert needed != set()
+        assert "-manylinux_%d_%d_" % max(needed) in self.file.name
+        assert re.findall(r"\(NEEDED\).*\[(.*)\]", run("readelf", "-dW", self.unpacked / "exifnorm/libexifnorm.so.1")) == ["libc.so.6"]
 
-    def test_claims_no_manylinux_for_a_library_that_needs_more(self) -> None:
+    def test_claims_no_manylinux_for_a_library_that_needs_more(self, folder: Path) -> None:
         """Another library of glibc, whose symbols have versions, and one whose symbols have none."""
-        copy = copy_built(ROOM / "needs more")
+        copy = copy_built(folder / "needs more")
         (copy / "more.c").write_text("#include <math.h>\ndouble more(double x) { return pow(x, x); }\n")
-        (copy / "most.c").write_text("double more(double);\nint puts(const char *);\ndouble most(double x) { return puts(\"\") + more(x); }\n")
+        (copy / "most.c").write_text(
+            'double more(double);\nint puts(const char *);\ndouble most(double x) { return puts("") + more(x); }\n'
+        )
         for name, library in (("more", "-lm"), ("most", "./libmore.so")):
             run("cc", "-shared", "-fPIC", f"{name}.c", library, "-o", f"lib{name}.so", folder=copy)
             shutil.copy(copy / f"lib{name}.so", copy / "out/lib/libexifnorm.so.1")
-            (folder := ROOM / name).mkdir()
-            self.build(copy / "python", folder)
-            self.assertEqual([it.name for it in folder.iterdir()], [f"exifnorm-{VERSION}-py3-none-linux_{os.uname().machine}.whl"], name)
+            (made := folder / name).mkdir()
+            self.build(copy / "python", made)
+            assert [it.name for it in made.iterdir()] == [f"exifnorm-{VERSION}-py3-none-linux_{os.uname().machine}.whl"], name
 
-    def test_claims_no_manylinux_for_an_extension_module_that_needs_more(self) -> None:
+    def test_claims_no_manylinux_for_an_extension_module_that_needs_more(self, folder: Path) -> None:
         need_headers(DEBIAN_PYTHON)
-        (folder := ROOM / "linked").mkdir()
         self.build(TOP / "python", folder, LDFLAGS="-Wl,--no-as-needed -lm")
-        self.assertEqual([it.name for it in folder.iterdir()], [f"exifnorm-{VERSION}-py3-none-linux_{os.uname().machine}.whl"])
+        assert [it.name for it in folder.iterdir()] == [f"exifnorm-{VERSION}-py3-none-linux_{os.uname().machine}.whl"]
 
-    def test_without_a_compiler_it_has_all_but_the_extension_module(self) -> None:
-        (folder := ROOM / "uncompiled").mkdir()
+    def test_without_a_compiler_it_has_all_but_the_extension_module(self, folder: Path) -> None:
         self.build(TOP / "python", folder, CC="no-such-compiler -O2")
         with zipfile.ZipFile(folder / self.file.name) as it:
-            self.assertEqual(sorted(it.namelist()), [it for it in self.names if it != EXTENSION])
-            it.extractall(ROOM / "by ctypes")
-        said = python_of(ROOM / "by ctypes", "-c", "import exifnorm, exifnorm._library as l; print(l._native, exifnorm.version())")
-        self.assertEqual(said, f"None {VERSION}\n")
+            assert sorted(it.namelist()) == [it for it in self.names if it != EXTENSION]
+            it.extractall(folder / "by ctypes")
+        said = python_of(folder / "by ctypes", "-c", "import exifnorm, exifnorm._library as l; print(l._native, exifnorm.version())")
+        assert said == f"None {VERSION}\n"
 
     def test_package_runs_with_its_own_extension_module(self) -> None:
         need_headers(DEBIAN_PYTHON)
-        code = f"import exifnorm, exifnorm._library as l; print(l._native.__file__, exifnorm.normal({BLOCK}) == {BLOCK} == l.library().short_normal({BLOCK}))"
-        self.assertEqual(python_of(self.unpacked, "-c", code), f"{self.unpacked / EXTENSION} True\n")
-        self.assertNotIn(".symtab", run("readelf", "-SW", self.unpacked / EXTENSION))
+        results = f"exifnorm.normal({BLOCK}) == {BLOCK} == l.library().short_normal({BLOCK})"
+        code = f"import exifnorm, exifnorm._library as l; print(l._native.__file__, {results})"
+        assert python_of(self.unpacked, "-c", code) == f"{self.unpacked / EXTENSION} True\n"
+        assert ".symtab" not in run("readelf", "-SW", self.unpacked / EXTENSION)
 
-    def test_installer_of_packages_takes_it(self) -> None:
-        target = ROOM / "target"
+    def test_installer_of_packages_takes_it(self, folder: Path) -> None:
+        target = folder / "target"
         words = ["--no-index", "--no-deps", "--disable-pip-version-check", "--root-user-action=ignore", "--target", target]
-        run(DEBIAN_PYTHON, "-m", "pip", "install", *words, self.file, folder=ROOM)
-        block = ROOM / "block"
+        run(DEBIAN_PYTHON, "-m", "pip", "install", *words, self.file, folder=folder)
+        (block := folder / "block").write_bytes(BLOCK)
         command = target / "bin" / "exifnorm-pictures"
-        self.assertIn("Orientation", run(command, "show", "--block", block, PYTHONPATH=str(target), PYTHONDONTWRITEBYTECODE="1"))
+        assert "Orientation" in run(command, "show", "--block", block, PYTHONPATH=str(target), PYTHONDONTWRITEBYTECODE="1")
 
-    def test_metadata_is_that_of_an_installation(self) -> None:
+    def test_metadata_is_that_of_an_installation(self, folder: Path) -> None:
         found = email.message_from_string((self.info / "METADATA").read_text(encoding="utf-8"))
-        (folder := ROOM / "info").mkdir()
         run(sys.executable, TOP / "packaging/dist_info.py", TOP / "python", folder)
         installed = folder / f"exifnorm-{VERSION}.dist-info"
         other = email.message_from_string((installed / "METADATA").read_text(encoding="utf-8"))
         licences = [("License-File", it) for it in LICENCES]
-        self.assertEqual(sorted(it for it in found.items() if it not in licences), sorted(other.items()))
+        assert sorted(it for it in found.items() if it not in licences) == sorted(other.items())
         for name in (*LICENCES, "entry_points.txt"):
-            self.assertEqual((self.info / name).read_text(encoding="utf-8").strip(), (installed / name).read_text(encoding="utf-8").strip(), name)
-
-    def test_licences_are_those_of_the_sources(self) -> None:
-        for name in LICENCES:
-            self.assertEqual((self.info / name).read_bytes(), (TOP / name).read_bytes())
+            assert (self.info / name).read_text(encoding="utf-8").strip() == (installed / name).read_text(encoding="utf-8").strip(), name
 
     def test_package_runs_with_its_own_library(self) -> None:
         code = "import exifnorm; print(exifnorm.version(), exifnorm.__version__, open('/proc/self/maps').read())"
         said = python_of(self.unpacked, "-c", code)
-        self.assertTrue(said.startswith(f"{VERSION} {VERSION} "))
-        self.assertIn(str(self.unpacked / "exifnorm/libexifnorm.so.1"), said)
-        self.assertEqual(python_of(self.unpacked, EXAMPLES / "compare.py"), "same\n")
+        assert said.startswith(f"{VERSION} {VERSION} ")
+        assert str(self.unpacked / "exifnorm/libexifnorm.so.1") in said
+        assert python_of(self.unpacked, EXAMPLES / "compare.py") == "same\n"
 
     def test_library_is_stripped(self) -> None:
-        self.assertNotIn(".symtab", run("readelf", "-SW", self.unpacked / "exifnorm/libexifnorm.so.1"))
+        assert ".symtab" not in run("readelf", "-SW", self.unpacked / "exifnorm/libexifnorm.so.1")
 
     def test_leaves_nothing_in_the_sources(self) -> None:
-        self.assertEqual(self.left, set())
+        assert self.left == set()
 
-    def test_has_no_module_of_an_earlier_build(self) -> None:
-        copy = copy_built(ROOM / "earlier")
+    def test_has_no_module_of_an_earlier_build(self, folder: Path) -> None:
+        copy = copy_built(folder / "earlier")
         stale, before = copy / "python/exifnorm/stale.py", set((copy / "out").iterdir())
         stale.write_text('"""Gone."""\n')
-        (folder := ROOM / "later").mkdir()
-        self.build(copy / "python", folder)
+        (made := folder / "later").mkdir()
+        self.build(copy / "python", made)
         stale.unlink()
-        self.build(copy / "python", folder)
-        with zipfile.ZipFile(folder / self.file.name) as it:
-            self.assertEqual(sorted(it.namelist()), self.names)
-        self.assertEqual(set((copy / "out").iterdir()) - before, {copy / "out/wheel"}, "it builds elsewhere")
+        self.build(copy / "python", made)
+        with zipfile.ZipFile(made / self.file.name) as it:
+            assert sorted(it.namelist()) == self.names
+        assert set((copy / "out").iterdir()) - before == {copy / "out/wheel"}, "it builds elsewhere"
 
-    def test_same_date_gives_the_same_bytes(self) -> None:
+    def test_same_date_gives_the_same_bytes(self, folder: Path) -> None:
         found = set()
         for name in ("one", "an other"):
-            copy = copy_built(ROOM / "dated" / name)
+            copy = copy_built(folder / "dated" / name)
             (copy / "out/wheel").mkdir()
             (copy / "out/wheel/exifnorm-0.9-py3-none-any.whl").touch()
             run("make", "wheel", f"PYTHON={DEBIAN_PYTHON}", folder=copy, mask=0o022)
             (wheel,) = (copy / "out/wheel").glob("*.whl")
             found.add(hashlib.sha256(wheel.read_bytes()).hexdigest())
             (copy / "python/exifnorm/_calls.py").touch()
-        self.assertEqual(len(found), 1)
+        assert len(found) == 1
 
-    def test_without_a_library_it_says_what_to_do(self) -> None:
-        copy = copy_built(ROOM / "unbuilt")
+    def test_without_a_library_it_says_what_to_do(self, folder: Path) -> None:
+        copy = copy_built(folder / "unbuilt")
         shutil.rmtree(copy / "out/lib")
-        words = ["--no-index", "--no-build-isolation", "--no-deps", "--disable-pip-version-check", "-w", ROOM, copy / "python"]
-        said = run(DEBIAN_PYTHON, "-m", "pip", "wheel", *words, folder=ROOM, status=1)
-        self.assertIn(f"{copy.resolve()}/out/lib/libexifnorm.so.1 is missing: run `make` first, which builds it\n", said)
+        words = ["--no-index", "--no-build-isolation", "--no-deps", "--disable-pip-version-check", "-w", folder, copy / "python"]
+        said = run(DEBIAN_PYTHON, "-m", "pip", "wheel", *words, folder=folder, status=1)
+        assert f"{copy.resolve()}/out/lib/libexifnorm.so.1 is missing: run `make` first, which builds it\n" in said
 
 
-class Debian(unittest.TestCase):
+@pytest.mark.xdist_group("debian")
+class TestDebian:
     """The Debian packages."""
 
-    maxDiff = None
     NAMES = ("exifnorm", "exifnorm-pictures", "libexifnorm-dev", "libexifnorm1", "python3-exifnorm")
 
-    @classmethod
-    def setUpClass(cls) -> None:
+    @pytest.fixture(scope="class", autouse=True)
+    def packages(self, request: pytest.FixtureRequest, session_folder: Path, library: Path) -> None:
         """Builds the packages and installs them below a folder, whose package database is a copy of this machine's."""
-        cls.room = ROOM / "debian"
+        cls = request.cls
+        cls.room = session_folder / "debian"
+        cls.room.mkdir()
         copy = copy_built(cls.room / "exifnorm")
         run("dpkg-buildpackage", "-b", "-us", "-uc", folder=copy, PATH=SYSTEM_PATH, PYTHONDONTWRITEBYTECODE="")
         cls.files = {it.name.partition("_")[0]: it for it in cls.room.glob("*.deb")}
@@ -232,7 +215,11 @@ class Debian(unittest.TestCase):
         folder.mkdir()
         listed = 'dpkg --root="$DPKG_ROOT" -L "$2" | grep "[.]py$" | sed "s|^|$DPKG_ROOT|"'
         cleaned = 'dpkg --root="$DPKG_ROOT" -L "$2" | grep "/__init__[.]py$" | sed "s|^\\(.*\\)/[^/]*$|$DPKG_ROOT\\1/__pycache__|"'
-        scripts = {"py3compile": f"{listed} | xargs {DEBIAN_PYTHON} -m py_compile", "py3clean": f"{cleaned} | xargs rm -rf", "pypy3compile": ":"}
+        scripts = {
+            "py3compile": f"{listed} | xargs {DEBIAN_PYTHON} -m py_compile",
+            "py3clean": f"{cleaned} | xargs rm -rf",
+            "pypy3compile": ":",
+        }
         for name, code in scripts.items():
             (folder / name).write_text(f"#!/bin/sh\nset -e\n{code}\n")
             (folder / name).chmod(0o755)
@@ -253,13 +240,13 @@ class Debian(unittest.TestCase):
     def used(self, program: str, *words: str | Path) -> str:
         """Runs an installed program, with the library of the root."""
         paths = {"LD_LIBRARY_PATH": str(self.root / self.libraries), "PYTHONPATH": "", "EXIFNORM_LIBRARY": ""}
-        return run(self.root / "usr/bin" / program, *words, folder=ROOM, PYTHONDONTWRITEBYTECODE="1", **paths)
+        return run(self.root / "usr/bin" / program, *words, folder=Path("/"), PYTHONDONTWRITEBYTECODE="1", **paths)
 
     def test_packages_are_these(self) -> None:
-        self.assertEqual(sorted(self.files), sorted(self.NAMES))
+        assert sorted(self.files) == sorted(self.NAMES)
         for name, file in self.files.items():
             architecture = "all" if name in ("exifnorm-pictures", "python3-exifnorm") else run("dpkg", "--print-architecture").strip()
-            self.assertEqual(file.name, f"{name}_{VERSION}-1_{architecture}.deb")
+            assert file.name == f"{name}_{VERSION}-1_{architecture}.deb"
 
     def test_files_and_modes(self) -> None:
         """All packages together have what install writes, but for the list of uninstall, the licences and the link of the Python package;
@@ -269,7 +256,7 @@ class Debian(unittest.TestCase):
             (self.room / "content" / name).mkdir(parents=True)
             run("dpkg-deb", "-x", self.files[name], self.room / "content" / name)
             files = {it: mode for it, mode in tree(self.room / "content" / name).items() if not it.endswith("/")}
-            self.assertEqual(set(files) & set(found), set(), name)
+            assert set(files) & set(found) == set(), name
             found.update(files)
         papers = ("changelog.Debian.gz", "changelog.gz", "copyright")
         expected = {f"usr/share/doc/{name}/{it}": FILE for name in self.NAMES for it in papers}
@@ -277,99 +264,85 @@ class Debian(unittest.TestCase):
             moved = re.sub(r"^usr/lib/(lib|pkgconfig)", rf"{self.libraries}/\1", name).replace("site-functions", "vendor-completions")
             if not re.search(r"/$|LICENSE-|CHANGELOG|share/exifnorm/installed|exifnorm/libexifnorm", moved):
                 expected[f"{moved}.gz" if "/man/" in moved else moved] = mode
-        self.assertEqual(found, expected)
+        assert found == expected
 
     def test_lintian_has_no_error_and_no_warning(self) -> None:
         """Except for the Debian bug that a first upload closes."""
         (changes,) = self.room.glob("*.changes")
         words = ["--allow-root", "--fail-on", "error,warning", "--suppress-tags", "initial-upload-closes-no-bugs"]
         said = run("lintian", *words, changes, PATH=SYSTEM_PATH)
-        self.assertEqual(re.findall(r"^[EW]: .*$", said, re.MULTILINE), [])
+        assert re.findall(r"^[EW]: .*$", said, re.MULTILINE) == []
 
     def test_dependencies(self) -> None:
-        self.assertTrue({"libimage-exiftool-perl", f"python3-exifnorm (= {VERSION}-1)"} <= set(self.field("exifnorm-pictures", "Depends")))
-        self.assertEqual(self.field("exifnorm-pictures", "Suggests"), ["exiv2", "python3-distributed", "python3-rdflib"])
-        self.assertIn(f"libexifnorm1 (>= {VERSION})", self.field("python3-exifnorm", "Depends"))
-        self.assertEqual(self.field("libexifnorm-dev", "Depends"), [f"libexifnorm1 (= {VERSION}-1)"])
+        assert {"libimage-exiftool-perl", f"python3-exifnorm (= {VERSION}-1)"} <= set(self.field("exifnorm-pictures", "Depends"))
+        assert self.field("exifnorm-pictures", "Suggests") == ["exiv2", "python3-distributed", "python3-rdflib"]
+        assert f"libexifnorm1 (>= {VERSION})" in self.field("python3-exifnorm", "Depends")
+        assert self.field("libexifnorm-dev", "Depends") == [f"libexifnorm1 (= {VERSION}-1)"]
         for name in ("exifnorm", "libexifnorm1"):
-            self.assertRegex(", ".join(self.field(name, "Depends")), r"^libc6 \(>= [\d.]+\)$")
-
-    def test_the_library_is_alone_in_its_package(self) -> None:
-        listed = set(self.dpkg("-L", "libexifnorm1").split())
-        files = {it for it in listed if (self.root / it[1:]).is_file() and "/usr/share/doc/" not in it}
-        self.assertEqual(files, {f"/{self.libraries}/libexifnorm.so.1", f"/{self.libraries}/libexifnorm.so.1.0.0".replace("1.0.0", VERSION)})
+            assert re.search(r"^libc6 \(>= [\d.]+\)$", ", ".join(self.field(name, "Depends")))
 
     def test_symbols_are_those_of_the_header(self) -> None:
         symbols = (self.root / "var/lib/dpkg/info").glob("libexifnorm1*.symbols")
         (text,) = (it.read_text(encoding="utf-8") for it in symbols)
-        header = (TOP / "crates/px_c/include/exifnorm.h").read_text(encoding="utf-8")
-        calls = set(re.findall(r"\b(exifnorm_\w+)\(", header))
-        self.assertEqual(set(re.findall(r"^ (\S+)@EXIFNORM_1 ", text, re.MULTILINE)), {"EXIFNORM_1", *calls})
+        assert set(re.findall(r"^ (\S+)@EXIFNORM_1 ", text, re.MULTILINE)) == {"EXIFNORM_1", *CALLS}
 
-    def test_each_package_has_its_copyright_and_changes(self) -> None:
-        for name in self.NAMES:
-            folder = self.root / "usr/share/doc" / name
-            self.assertIn("Expat or Apache-2.0", (folder / "copyright").read_text(encoding="utf-8"))
-            self.assertTrue((folder / "changelog.Debian.gz").exists(), name)
-
-    def test_program_and_pictures_run(self) -> None:
-        self.assertEqual(self.used("exifnorm", "--version"), f"exifnorm {VERSION}\n")
-        self.assertIn("Orientation", self.used("exifnorm-pictures", "show", "--block", ROOM / "block"))
+    def test_program_and_pictures_run(self, folder: Path) -> None:
+        assert self.used("exifnorm", "--version") == f"exifnorm {VERSION}\n"
+        (folder / "block").write_bytes(BLOCK)
+        assert "Orientation" in self.used("exifnorm-pictures", "show", "--block", folder / "block")
         first = (self.root / "usr/bin/exifnorm-pictures").read_text(encoding="utf-8").split("\n")[0]
-        self.assertEqual(first, f"#!{DEBIAN_PYTHON}")
+        assert first == f"#!{DEBIAN_PYTHON}"
 
     def test_python_package_runs(self) -> None:
         folder = self.root / "usr/lib/python3/dist-packages"
         code = "import exifnorm as e, importlib.metadata as m; print(e.version(), m.version('exifnorm'), open('/proc/self/maps').read())"
         said = python_of(folder, "-c", code, LD_LIBRARY_PATH=str(self.root / self.libraries))
-        self.assertTrue(said.startswith(f"{VERSION} {VERSION} "))
-        self.assertIn(str(self.root / self.libraries / f"libexifnorm.so.{VERSION}"), said)
+        assert said.startswith(f"{VERSION} {VERSION} ")
+        assert str(self.root / self.libraries / f"libexifnorm.so.{VERSION}") in said
         for package in ("exifnorm", "exifnorm_pictures"):
-            self.assertNotEqual(list((folder / package / "__pycache__").glob("*.pyc")), [], package)
+            assert list((folder / package / "__pycache__").glob("*.pyc")) != [], package
 
-    def test_all_modules_are_there(self) -> None:
-        folder = self.root / "usr/lib/python3/dist-packages"
-        self.assertEqual([it for it in modules() if not (folder / it).is_file()], [])
-
-    def test_example_in_c_is_built(self) -> None:
+    def test_example_in_c_is_built(self, folder: Path) -> None:
         places = {"PKG_CONFIG_LIBDIR": str(self.root / self.libraries / "pkgconfig"), "PKG_CONFIG_SYSROOT_DIR": str(self.root)}
         flags = run("pkg-config", "--cflags", "--libs", "exifnorm", **places).split()
-        run("cc", EXAMPLES / "compare.c", *flags, "-o", ROOM / "packaged")
-        self.assertEqual(run(ROOM / "packaged", LD_LIBRARY_PATH=str(self.root / self.libraries)), "same\n")
-        self.assertEqual(run("pkg-config", "--modversion", "exifnorm", **places), f"{VERSION}\n")
+        run("cc", EXAMPLES / "compare.c", *flags, "-o", folder / "packaged")
+        assert run(folder / "packaged", LD_LIBRARY_PATH=str(self.root / self.libraries)) == "same\n"
+        assert run("pkg-config", "--modversion", "exifnorm", **places) == f"{VERSION}\n"
 
     def test_man_finds_each_page(self) -> None:
         for section, name in ((1, "exifnorm"), (3, "exifnorm"), (1, "exifnorm-pictures")):
             where = run("man", "-M", self.root / "usr/share/man", "-w", str(section), name).strip()
-            self.assertEqual(Path(where), self.root / "usr/share/man" / f"man{section}" / f"{name}.{section}.gz")
+            assert Path(where) == self.root / "usr/share/man" / f"man{section}" / f"{name}.{section}.gz"
 
     def test_program_and_library_are_hardened(self) -> None:
         for file in (self.root / "usr/bin/exifnorm", self.root / self.libraries / "libexifnorm.so.1"):
-            self.assertIn("BIND_NOW", run("readelf", "-dW", file))
-            self.assertIn("GNU_RELRO", run("readelf", "-lW", file))
-            self.assertIn("DYN (", run("readelf", "-hW", file))
+            assert "BIND_NOW" in run("readelf", "-dW", file)
+            assert "GNU_RELRO" in run("readelf", "-lW", file)
+            assert "DYN (" in run("readelf", "-hW", file)
 
-    def test_zz_removal_leaves_nothing(self) -> None:
-        """Runs last: tests are sorted by name."""
-        self.assertGreater(len(self.outside_database() - self.before), 80)
+    def test_removal_leaves_nothing(self) -> None:
+        """The last test, because the packages are gone after it."""
+        assert self.outside_database() - self.before
         self.dpkg("--purge", *self.NAMES)
-        self.assertEqual(self.outside_database(), self.before)
+        assert self.outside_database() == self.before
 
 
-class Archive(unittest.TestCase):
+@pytest.mark.xdist_group("archive")
+class TestArchive:
     """What `make dist` writes."""
 
     KIT_CRATES = {"byteorder": "MIT", "clap": "Apache-2.0 OR MIT", "hex": "Apache-2.0 OR MIT", "itoa": "MIT", "thiserror": "MIT"}
 
-    @classmethod
-    def setUpClass(cls) -> None:
+    @pytest.fixture(scope="class", autouse=True)
+    def archive(self, request: pytest.FixtureRequest, session_folder: Path, library: Path) -> None:
+        cls = request.cls
         cls.name = f"exifnorm-{VERSION}-linux-{os.uname().machine}"
-        cls.one = copy_built(ROOM / "dist/one") / "out/dist"
+        cls.one = copy_built(session_folder / "dist/one") / "out/dist"
         run("make", "dist", folder=cls.one.parent.parent)
         with tarfile.open(cls.one / f"{cls.name}.tar.gz") as it:
             cls.members = it.getmembers()
-            it.extractall(ROOM / "dist/unpacked")
-        cls.top = ROOM / "dist/unpacked" / cls.name
+            it.extractall(session_folder / "dist/unpacked")
+        cls.top = session_folder / "dist/unpacked" / cls.name
 
     @staticmethod
     def leave_an_earlier_version(top: Path) -> None:
@@ -379,89 +352,81 @@ class Archive(unittest.TestCase):
         with open(top / "debian/changelog", "a", encoding="utf-8") as it:
             it.write(f"\n{(TOP / 'debian/changelog').read_text(encoding='utf-8').replace(VERSION, '0.9').replace('2026', '2025')}")
 
-    def test_two_builds_give_the_same_bytes(self) -> None:
+    def test_two_builds_give_the_same_bytes(self, folder: Path) -> None:
         """The second is in a folder of another name, and has another umask, time, time zone and locale."""
-        copy = copy_built(ROOM / "dist/an other")
+        copy = copy_built(folder / "an other")
         os.utime(copy / "README.md", (1, 1))
         self.leave_an_earlier_version(copy)
         run("make", "dist", folder=copy, mask=0o077, TZ="Asia/Tokyo", LC_ALL="C.UTF-8")
         for name in (f"{self.name}.tar.gz", f"exifnorm-{VERSION}.spdx.json", "SHA256SUMS"):
-            self.assertEqual((self.one / name).read_bytes(), (copy / "out/dist" / name).read_bytes(), name)
+            assert (self.one / name).read_bytes() == (copy / "out/dist" / name).read_bytes(), name
 
     def test_sums_are_those_of_the_files(self) -> None:
         run("sha256sum", "--check", "--strict", "SHA256SUMS", folder=self.one)
         named = {it.split()[1] for it in (self.one / "SHA256SUMS").read_text(encoding="utf-8").splitlines()}
-        self.assertEqual(named, {it.name for it in self.one.iterdir()} - {"SHA256SUMS"})
-        self.assertEqual(len(named), 2)
+        assert named == {it.name for it in self.one.iterdir()} - {"SHA256SUMS"}
+        assert len(named) == 2
 
     def test_members_are_in_order_and_of_nobody(self) -> None:
         names = [it.name for it in self.members]
-        self.assertEqual(names, sorted(names, key=lambda it: it.split("/")))
-        self.assertEqual(names[0], self.name)
-        self.assertEqual([it for it in names[1:] if not it.startswith(f"{self.name}/")], [])
-        self.assertEqual({(it.uid, it.gid, it.uname, it.gname) for it in self.members}, {(0, 0, "", "")})
-        self.assertEqual(len({it.mtime for it in self.members}), 1)
-        self.assertEqual({it.mode for it in self.members if it.isdir()}, {0o755})
+        assert names == sorted(names, key=lambda it: it.split("/"))
+        assert names[0] == self.name
+        assert [it for it in names[1:] if not it.startswith(f"{self.name}/")] == []
+        assert {(it.uid, it.gid, it.uname, it.gname) for it in self.members} == {(0, 0, "", "")}
+        assert len({it.mtime for it in self.members}) == 1
+        assert {it.mode for it in self.members if it.isdir()} == {0o755}
         programs = {f"{self.name}/bin/exifnorm", f"{self.name}/bin/exifnorm-pictures"}
-        self.assertEqual({it.name for it in self.members if it.isfile() and it.mode == 0o755}, programs)
-        self.assertEqual({it.mode for it in self.members if it.isfile() and it.name not in programs}, {0o644})
+        assert {it.name for it in self.members if it.isfile() and it.mode == 0o755} == programs
+        assert {it.mode for it in self.members if it.isfile() and it.name not in programs} == {0o644}
 
     def test_is_compressed_as_far_as_it_can_be(self) -> None:
         """By RFC 1952 the third byte and those after it are the method, deflate, no name, no time, and the slowest way."""
-        self.assertEqual((self.one / f"{self.name}.tar.gz").read_bytes()[2:9], bytes([8, 0, 0, 0, 0, 0, 2]))
+        assert (self.one / f"{self.name}.tar.gz").read_bytes()[2:9] == bytes([8, 0, 0, 0, 0, 0, 2])
 
     def test_has_everything(self) -> None:
         found = {it.name.removeprefix(f"{self.name}/") for it in self.members if not it.isdir()}
         folders = "bin", "include", "lib/lib", "lib/pkgconfig", "share"
-        listed = (it.removeprefix("usr/") for it in Tree(ROOM, "/usr", DEBIAN_PYTHON).expected() if not it.endswith("/"))
+        listed = (it.removeprefix("usr/") for it in Tree(Path("/"), "/usr", DEBIAN_PYTHON).expected() if not it.endswith("/"))
         wanted = {it for it in listed if it.startswith(folders)} - {"share/exifnorm/installed"}  # which `make uninstall` reads
-        self.assertEqual(
-            {it for it in found if it.startswith(folders) and "/crates/" not in it}, wanted | {f"share/doc/exifnorm/exifnorm-{VERSION}.spdx.json"}
-        )
-        self.assertIn("share/doc/exifnorm/crates/clap/LICENSE-MIT", found)
+        assert {it for it in found if it.startswith(folders) and "/crates/" not in it} == wanted | {
+            f"share/doc/exifnorm/exifnorm-{VERSION}.spdx.json"
+        }
+        assert "share/doc/exifnorm/crates/clap/LICENSE-MIT" in found
         in_python = {it.removeprefix("lib/python3/site-packages/") for it in found if it.startswith("lib/python3/site-packages/exifnorm")}
         extension = {EXTENSION} if has_headers("python3") else set()
-        self.assertEqual({it for it in in_python if ".dist-info/" not in it}, {*modules(), "exifnorm/libexifnorm.so.1", *extension})
+        assert {it for it in in_python if ".dist-info/" not in it} == {*modules(), "exifnorm/libexifnorm.so.1", *extension}
 
-    def test_runs_where_it_is_unpacked(self) -> None:
+    def test_runs_where_it_is_unpacked(self, folder: Path) -> None:
+        (folder / "block").write_bytes(BLOCK)
         clean = {"PYTHONPATH": "", "EXIFNORM_LIBRARY": "", "PYTHONDONTWRITEBYTECODE": "1"}
-        self.assertEqual(run(self.top / "bin/exifnorm", "--version", folder=ROOM), f"exifnorm {VERSION}\n")
-        self.assertIn("Orientation", run(self.top / "bin/exifnorm-pictures", "show", "--block", ROOM / "block", folder=ROOM, **clean))
+        assert run(self.top / "bin/exifnorm", "--version", folder=Path("/")) == f"exifnorm {VERSION}\n"
+        assert "Orientation" in run(self.top / "bin/exifnorm-pictures", "show", "--block", folder / "block", folder=folder, **clean)
         flags = run("pkg-config", "--cflags", "--libs", "exifnorm", PKG_CONFIG_LIBDIR=str(self.top / "lib/pkgconfig")).split()
-        run("cc", EXAMPLES / "compare.c", *flags, "-o", ROOM / "unpacked-example")
-        self.assertEqual(run(ROOM / "unpacked-example", LD_LIBRARY_PATH=str(self.top / "lib")), "same\n")
+        run("cc", EXAMPLES / "compare.c", *flags, "-o", folder / "example")
+        assert run(folder / "example", LD_LIBRARY_PATH=str(self.top / "lib")) == "same\n"
 
-    def test_no_file_names_the_folder_that_it_was_built_in(self) -> None:
+    def test_no_file_names_the_folder_that_it_was_built_in(self, session_folder: Path) -> None:
         for it in self.top.rglob("*"):
             if it.is_file():
-                self.assertNotIn(str(ROOM).encode(), it.read_bytes(), it)
+                assert str(session_folder).encode() not in it.read_bytes(), it
 
     def test_list_of_components(self) -> None:
         found = json.loads((self.one / f"exifnorm-{VERSION}.spdx.json").read_text(encoding="utf-8"))
-        self.assertEqual((found["spdxVersion"], found["dataLicense"]), ("SPDX-2.3", "CC0-1.0"))
+        assert (found["spdxVersion"], found["dataLicense"]) == ("SPDX-2.3", "CC0-1.0")
         packages = {it["name"]: it for it in found["packages"]}
-        self.assertEqual(packages["exifnorm"]["versionInfo"], VERSION)
-        self.assertEqual(packages["exifnorm"]["licenseDeclared"], "MIT OR Apache-2.0")
+        assert packages["exifnorm"]["versionInfo"] == VERSION
+        assert packages["exifnorm"]["licenseDeclared"] == "MIT OR Apache-2.0"
         named = set(re.findall(r"\b(?!px_|staticlib)[a-z_]+\b", (TOP / "crates.txt").read_text(encoding="utf-8")))
-        self.assertEqual(named, set(self.KIT_CRATES))
-        self.assertEqual({it: packages[it]["licenseDeclared"] for it in named}, self.KIT_CRATES)
+        assert named == set(self.KIT_CRATES)
+        assert {it: packages[it]["licenseDeclared"] for it in named} == self.KIT_CRATES
         standard = set(packages) - named - {"exifnorm"}
-        self.assertLessEqual({"std", "std_alloc", "std_io"}, standard)
-        self.assertEqual({packages[it]["licenseDeclared"] for it in standard}, {"NOASSERTION"})
+        assert {"std", "std_alloc", "std_io"} <= standard
+        assert {packages[it]["licenseDeclared"] for it in standard} == {"NOASSERTION"}
         linked = {it["relatedSpdxElement"] for it in found["relationships"] if it["relationshipType"] == "STATIC_LINK"}
-        self.assertEqual(linked, {it["SPDXID"] for it in found["packages"][1:]})
+        assert linked == {it["SPDXID"] for it in found["packages"][1:]}
         for name in named:
-            self.assertNotEqual(list((self.top / "share/doc/exifnorm/crates" / name).glob("LICENSE*")), [], name)
+            assert list((self.top / "share/doc/exifnorm/crates" / name).glob("LICENSE*")) != [], name
 
     def test_date_is_that_of_the_version(self) -> None:
         date = run("dpkg-parsechangelog", "-l", TOP / "debian/changelog", "-S", "Timestamp").strip()
-        self.assertEqual({it.mtime for it in self.members}, {int(date)})
-
-
-class Versions(unittest.TestCase):
-    def test_debian_has_the_version(self) -> None:
-        self.assertEqual(run("dpkg-parsechangelog", "-l", TOP / "debian/changelog", "-S", "Version").strip(), f"{VERSION}-1")
-
-
-if __name__ == "__main__":
-    sys.exit(run_module(sys.modules[__name__]))
+        assert {it.mtime for it in self.members} == {int(date)}

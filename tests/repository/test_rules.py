@@ -1,18 +1,17 @@
 """Tests that docs/FORMAT.md, the Python package and the blocks of the tests have the types and the roles of tags of the definitions."""
 
+import doctest
 import re
 import sys
-import unittest
+from pathlib import Path
 from typing import Dict, List, Set, Tuple
 
-from paths import TOP
-
-sys.path.insert(0, str(TOP / "python"))
-
 import meanings
+import pytest
 import reading
 from exifnorm import _forms
 
+TOP = Path(__file__).resolve().parent.parent.parent
 FORMS, ROLES, FORMAT = "crates/px_field/specs/Forms.antt", "crates/px_meaning/specs/Roles.antt", "docs/FORMAT.md"
 # the directories of the definitions, by their names in the listing and in the format's table of roles
 DIRECTORIES = {"Main": "main", "Exif": "exif", "Interop": "interop", "Gps": "gps", "Thumb": "thumb"}
@@ -96,77 +95,82 @@ def widened_listed(text: str) -> Set[Tuple[str, int]]:
     return found
 
 
-class Rules(unittest.TestCase):
+def test_examples_of_this_module() -> None:
+    assert not doctest.testmod(sys.modules[__name__]).failed
+
+
+class TestRules:
     """Rules that are written down in several places."""
 
-    def setUp(self) -> None:
+    @pytest.fixture(autouse=True)
+    def set_up(self) -> None:
         self.roles, self.offsets = roles_defined(text_of(ROLES)), offsets_defined(text_of(ROLES))
 
     def test_types(self) -> None:
         defined = types_defined(text_of(FORMS))
-        self.assertEqual(len(defined), 13)
-        self.assertEqual(types_listed(section("Types")), defined)
-        self.assertEqual({number: it[:2] for number, it in _forms._TYPES.items()}, defined)
-        self.assertEqual({number: it[:2] for number, it in meanings.TYPES.items()}, defined)
+        assert defined
+        assert types_listed(section("Types")) == defined
+        assert {number: it[:2] for number, it in _forms._TYPES.items()} == defined
+        assert {number: it[:2] for number, it in meanings.TYPES.items()} == defined
 
     def test_roles_in_the_format(self) -> None:
         rows = rows_of_roles(section("Roles of tags"))
-        self.assertEqual([int(it[0], 16) for it in rows if it[3] == "nowhere"], sorted(self.offsets - {tag for _, tag in self.roles}))
+        assert [int(it[0], 16) for it in rows if it[3] == "nowhere"] == sorted(self.offsets - {tag for _, tag in self.roles})
         listed = {(IN[it[3]], int(it[0], 16)): MEANT[it[2]] for it in rows if it[3] != "nowhere"}
-        self.assertEqual(listed, {place: role for place, role in self.roles.items() if role not in ("Widened", "Record")})
-        self.assertEqual({int(it[0], 16) for it in rows}, self.offsets)
+        assert listed == {place: role for place, role in self.roles.items() if role not in ("Widened", "Record")}
+        assert {int(it[0], 16) for it in rows} == self.offsets
 
     def test_widened_tags(self) -> None:
         defined = {place for place, role in self.roles.items() if role == "Widened"}
-        self.assertEqual(widened_listed(section("Widened tags")), defined)
+        assert widened_listed(section("Widened tags")) == defined
         named = {(DIRECTORIES[directory], tag) for directory, tag in defined}
         for whole in (_forms._WHOLE, meanings.WIDENED):
-            self.assertEqual({(directory, tag) for directory, tags in whole.items() for tag in tags}, named)
+            assert {(directory, tag) for directory, tags in whole.items() for tag in tags} == named
 
     def test_other_roles_in_python(self) -> None:
         roles = {(DIRECTORIES[directory], tag): role for (directory, tag), role in self.roles.items() if role != "Widened"}
         leads = {place: DIRECTORIES[role[3:]] for place, role in roles.items() if role.startswith("To ")}
-        self.assertEqual(_forms._POINTERS, leads)
-        self.assertEqual({place: target for target, place in meanings.POINTERS.items()}, leads)
-        self.assertEqual([place for place, role in roles.items() if role == "Record"], [("main", _forms._RECORD)])
-        self.assertEqual(_forms._RECORD, meanings.RECORD_TAG)
+        assert _forms._POINTERS == leads
+        assert {place: target for target, place in meanings.POINTERS.items()} == leads
+        assert [place for place, role in roles.items() if role == "Record"] == [("main", _forms._RECORD)]
+        assert _forms._RECORD == meanings.RECORD_TAG
         parts = {tag for (directory, tag), role in roles.items() if directory == "thumb"}
-        self.assertEqual(_forms._PARTS, parts)
-        self.assertEqual({meanings.STRIP_OFFSETS, meanings.STRIP_LENGTHS, meanings.JPEG_OFFSET, meanings.JPEG_LENGTH}, parts)
-        self.assertEqual(set(meanings.NOT_PLAIN), self.offsets)
+        assert _forms._PARTS == parts
+        assert {meanings.STRIP_OFFSETS, meanings.STRIP_LENGTHS, meanings.JPEG_OFFSET, meanings.JPEG_LENGTH} == parts
+        assert set(meanings.NOT_PLAIN) == self.offsets
 
     def test_labels_of_captions(self) -> None:
         rows = re.findall(r"^\| (\d+):(\d+) \| \1:(\d+) [^|]+ \| `([\w-]+)` \|$", section("Captions (`captions`)"), re.M)
         listed: Dict[Tuple[int, int], Dict[int, str]] = {}
         for record, group, number, label in rows:
             listed.setdefault((int(record), int(group)), {})[int(number)] = label
-        self.assertEqual(list(listed.items()), list(meanings.LABELS))
+        assert list(listed.items()) == list(meanings.LABELS)
         fields = re.findall(r"`([a-z]+): ` \(`0x(\w{4})`\)", section("Captions (`captions`)"))
-        self.assertEqual(len(fields), 3)
+        assert fields
         block = meanings.Exif({int(tag, 16): meanings.Value(meanings.ASCII, label.encode()) for label, tag in fields})
-        self.assertEqual(block.captions(), "".join(["exif\n", *(f"{label}: {label}\n" for label, _ in fields)]))
+        assert block.captions() == "".join(["exif\n", *(f"{label}: {label}\n" for label, _ in fields)])
 
     def test_groups(self) -> None:
         text = re.search(r"In record (\d+), DataSet (27) belongs to the group of (\d+), DataSets (47) and (50) to that of (\d+), and DataSet (85) to that of (\d+)\.",
                          section("Groups"))  # fmt: skip
         record, *numbers = map(int, text.groups())
         leaders = {numbers[0]: numbers[1], numbers[2]: numbers[4], numbers[3]: numbers[4], numbers[5]: numbers[6]}
-        self.assertEqual({(record, number): (record, leader) for number, leader in leaders.items()}, meanings.GROUP_OF)
+        assert {(record, number): (record, leader) for number, leader in leaders.items()} == meanings.GROUP_OF
 
     def test_blocks_of_examples(self) -> None:
         """The bytes that the format shows, by the reader of the tests, which doesn't use them."""
         header, directory, entry = (octets_of(it) for it in ("Header", "Directory", "Entry"))
         value = octets_of("Value")
-        self.assertEqual(header[0], bytes.fromhex("4d4d002a00000008"))
-        self.assertEqual(entry[0], directory[1])
-        self.assertEqual(value[1], directory[1])
+        assert header[0] == bytes.fromhex("4d4d002a00000008")
+        assert entry[0] == directory[1]
+        assert value[1] == directory[1]
         block = header[0] + directory[0] + directory[1] + directory[2] + value[2]
-        self.assertEqual(reading.said(block).listing(), "exif\n[main]\n010e ASCII 5: 55726e7300\n")
+        assert reading.said(block).listing() == "exif\n[main]\n010e ASCII 5: 55726e7300\n"
         inline = header[0] + directory[0] + value[0] + directory[2]
-        self.assertEqual(reading.said(inline).listing(), "exif\n[main]\n0112 SHORT 1: 1\n")
+        assert reading.said(inline).listing() == "exif\n[main]\n0112 SHORT 1: 1\n"
         records = octets_of("DataSets")
-        self.assertEqual([reading.said(it).listing() for it in records], ["iim\n2:120 3: 616263\n"] * 2)
-        self.assertEqual(reading.said(records[1]).normal(), records[0])
+        assert [reading.said(it).listing() for it in records] == ["iim\n2:120 3: 616263\n"] * 2
+        assert reading.said(records[1]).normal() == records[0]
 
 
 def octets_of(title: str) -> List[bytes]:

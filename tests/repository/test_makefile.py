@@ -1,14 +1,16 @@
 """Tests of the Makefile's rules for the program and the library, over the toolchain of `room.py`: which change builds what again.
 
-tests/repository/launcher.py runs these. Installing is tested by tests/repository/install.py. They need make, cc, ld, objcopy and ar.
+They need make, cc, ld, objcopy and ar. test_install.py tests what is installed.
 """
 
 import os
 import shutil
 import subprocess
+from pathlib import Path
 
-from checks import require, require_equal
-from room import HANDLES, TOP, Room
+from room import HANDLES, Room
+
+TOP = Path(__file__).resolve().parent.parent.parent
 
 CRATES = "px_bytes: byteorder\npx_engine: px_bytes\npx_aside: px_bytes\npx_cli: px_engine\npx_c staticlib: px_bytes px_engine\n"
 LIBRARIES = ["libexifnorm.a", "libexifnorm.so.1", "exifnorm.h"]
@@ -26,7 +28,7 @@ def made(room: Room) -> Room:
     header.write_text("/* one */\n")
     (it.folder / "kit/c").mkdir()
     own_code(it, "one")
-    it.command(it.top / "test", "#!/bin/sh\nexit \"$(cat status)\"\n")
+    it.command(it.top / "test", '#!/bin/sh\nexit "$(cat status)"\n')
     for name in TARGETS:
         (it.top / name).touch()  # a file of this name is no reason to do nothing
     return it
@@ -59,39 +61,39 @@ def holds(room: Room, name: str, text: str) -> bool:
     return text.encode() in (room.top / "out/lib" / name).read_bytes()
 
 
-def make_builds_the_program_and_the_library(room: Room) -> None:
+def test_make_builds_the_program_and_the_library(room: Room) -> None:
     room = made(room)
     ran = make(room)
-    require(ran.returncode == 0, ran)
-    require(room.call("a", program=str(room.top / "out/exifnorm")).stdout == "one: a\n", "no program")
-    require(set(LIBRARIES) <= set(built(room)), built(room).keys())
-    require_equal(sorted(set(room.built())), ["px_bytes", "px_c", "px_cli", "px_engine"], room.log())
-    require(len(room.built()) == 4, room.log())
-    require(holds(room, "libexifnorm.a", "toolchain 1"), "the library holds something else")
-    require(holds(room, "libexifnorm.so.1", "own one"), "the library holds something else")
+    assert ran.returncode == 0, ran
+    assert room.call("a", program=str(room.top / "out/exifnorm")).stdout == "one: a\n", "no program"
+    assert set(LIBRARIES) <= set(built(room)), built(room).keys()
+    assert sorted(set(room.built())) == ["px_bytes", "px_c", "px_cli", "px_engine"], room.log()
+    assert len(room.built()) == 4, room.log()
+    assert holds(room, "libexifnorm.a", "toolchain 1"), "the library holds something else"
+    assert holds(room, "libexifnorm.so.1", "own one"), "the library holds something else"
 
 
-def no_change_builds_nothing_again(room: Room) -> None:
+def test_no_change_builds_nothing_again(room: Room) -> None:
     room = made(room)
     make(room)
     before, log = built(room), room.log()
     for words in ((), ("library",), ("program",), ("-j4",)):
         ran = make(room, *words)
-        require(ran.returncode == 0, ran)
-        require("ld " not in ran.stdout, ran)
-        require("cc " not in ran.stdout, ran)
+        assert ran.returncode == 0, ran
+        assert "ld " not in ran.stdout, ran
+        assert "cc " not in ran.stdout, ran
     for it in ("crates.txt", "crates/px_c/src/lib.rt", "crates/px_cli/src/main.rt", "build/compiler.py", "HANDLES"):
         (room.top / it).touch()
     (room.top / "crates/px_aside/src/lib.rt").write_text("two")
     (room.top / "crates/px_c/must-fail").mkdir()
     (room.top / "crates/px_c/must-fail/one.edit").write_text("text")
     ran = make(room)
-    require(ran.returncode == 0, ran)
-    require(built(room) == before, ran)
-    require(room.log() == log, ran)
+    assert ran.returncode == 0, ran
+    assert built(room) == before, ran
+    assert room.log() == log, ran
 
 
-def each_changed_source_is_in_the_library(room: Room) -> None:
+def test_each_changed_source_is_in_the_library(room: Room) -> None:
     room = made(room)
     make(room)
     kinds = ("src/lib.rt", "specs/Words.antt", "proofs/Answers.antt")
@@ -100,81 +102,81 @@ def each_changed_source_is_in_the_library(room: Room) -> None:
         before = built(room)
         (room.top / name).write_text(f"text {i}")
         ran = make(room, "library")
-        require(ran.returncode == 0, (name, ran))
+        assert ran.returncode == 0, (name, ran)
         after = built(room)
         for it in ("libpx_c.a", "exifnorm.o", "libexifnorm.a", "libexifnorm.so.1"):
-            require(after[it][0] > before[it][0], (name, ran))
+            assert after[it][0] > before[it][0], (name, ran)
         if "px_c" in name:
             for it in LIBRARIES[:2]:
-                require(holds(room, it, f"text {i}"), name)
+                assert holds(room, it, f"text {i}"), name
     make(room)
     before = built(room)
     for name in ("crates/px_c/src/further.rt", "crates/px_c/proofs/Further.antt"):
         (room.top / name).unlink()
-    require(make(room).returncode == 0, "what was taken away stays in the library")
-    require(built(room)["libexifnorm.a"] != before["libexifnorm.a"], "what was taken away stays in the library")
+    assert make(room).returncode == 0, "what was taken away stays in the library"
+    assert built(room)["libexifnorm.a"] != before["libexifnorm.a"], "what was taken away stays in the library"
 
 
-def a_changed_program_source_is_in_the_program(room: Room) -> None:
+def test_a_changed_program_source_is_in_the_program(room: Room) -> None:
     room = made(room)
     make(room)
     for words in (("program",), ()):
         room.main.write_text(f"text {len(words)}")
-        require(make(room, *words).returncode == 0, room.log())
-        require(room.call("a", program=str(room.top / "out/exifnorm")).stdout == f"text {len(words)}: a\n", words)
+        assert make(room, *words).returncode == 0, room.log()
+        assert room.call("a", program=str(room.top / "out/exifnorm")).stdout == f"text {len(words)}: a\n", words
 
 
-def a_changed_header_is_copied(room: Room) -> None:
+def test_a_changed_header_is_copied(room: Room) -> None:
     room = made(room)
-    require(make(room, "out/lib/exifnorm.h").returncode == 0, "it is not copied before the library is built")
-    require(holds(room, "exifnorm.h", "one"), "it is not copied before the library is built")
+    assert make(room, "out/lib/exifnorm.h").returncode == 0, "it is not copied before the library is built"
+    assert holds(room, "exifnorm.h", "one"), "it is not copied before the library is built"
     make(room)
     (room.top / "crates/px_c/include/exifnorm.h").write_text("/* two */\n")
-    require(make(room, "library").returncode == 0, "the header is the old one")
-    require(holds(room, "exifnorm.h", "two"), "the header is the old one")
+    assert make(room, "library").returncode == 0, "the header is the old one"
+    assert holds(room, "exifnorm.h", "two"), "the header is the old one"
 
 
-def another_toolchain_builds_the_library_again(room: Room) -> None:
+def test_another_toolchain_builds_the_library_again(room: Room) -> None:
     room = made(room)
     make(room)
     (room.folder / "version").write_text("toolchain 2\n")
     own_code(room, "two")
-    require(make(room, "library").returncode == 0, room.log())
-    require(room.built().count("px_c") == 2, room.log())
+    assert make(room, "library").returncode == 0, room.log()
+    assert room.built().count("px_c") == 2, room.log()
     for it in LIBRARIES[:2]:
-        require(holds(room, it, "toolchain 2"), "the library is the old one")
-        require(holds(room, it, "own two"), "the library is the old one")
+        assert holds(room, it, "toolchain 2"), "the library is the old one"
+        assert holds(room, it, "own two"), "the library is the old one"
 
 
-def flags_of_the_caller_are_passed_to_the_linker(room: Room) -> None:
+def test_flags_of_the_caller_are_passed_to_the_linker(room: Room) -> None:
     """As distributions do."""
     room = made(room)
-    require(make(room, "LDFLAGS=-Wl,--build-id=0x0123456789abcdef").returncode == 0, room.log())
-    require(bytes.fromhex("0123456789abcdef") in (room.top / "out/lib/libexifnorm.so.1").read_bytes(), "the linker had other flags")
+    assert make(room, "LDFLAGS=-Wl,--build-id=0x0123456789abcdef").returncode == 0, room.log()
+    assert bytes.fromhex("0123456789abcdef") in (room.top / "out/lib/libexifnorm.so.1").read_bytes(), "the linker had other flags"
     (room.top / "out/lib/libexifnorm.so.1").unlink()
-    require(make(room, "library", "CC=false").returncode != 0, "another compiler links it")
+    assert make(room, "library", "CC=false").returncode != 0, "another compiler links it"
 
 
-def a_library_that_needs_what_is_nowhere_is_an_error(room: Room) -> None:
+def test_a_library_that_needs_what_is_nowhere_is_an_error(room: Room) -> None:
     room = made(room)
     own_code(room, "one", "void nowhere(void);\nvoid exifnorm_more(void) { nowhere(); }\n")
     ran = make(room, "library")
-    require_equal((ran.returncode, "nowhere" in ran.stderr), (2, True), ran)
+    assert (ran.returncode, "nowhere" in ran.stderr) == (2, True), ran
 
 
-def another_makefile_links_the_library_again(room: Room) -> None:
+def test_another_makefile_links_the_library_again(room: Room) -> None:
     room = made(room)
     make(room)
     before = built(room)
     with open(room.top / "Makefile", "a", encoding="utf-8") as it:
         it.write("# changed\n")
-    require(make(room).returncode == 0, room.log())
+    assert make(room).returncode == 0, room.log()
     after = built(room)
-    require(after["libpx_c.a"] == before["libpx_c.a"], "it is proved again")
-    require(after["libexifnorm.so.1"][0] > before["libexifnorm.so.1"][0], "it is not linked again")
+    assert after["libpx_c.a"] == before["libpx_c.a"], "it is proved again"
+    assert after["libexifnorm.so.1"][0] > before["libexifnorm.so.1"][0], "it is not linked again"
 
 
-def a_proof_that_fails_fails_make(room: Room) -> None:
+def test_a_proof_that_fails_fails_make(room: Room) -> None:
     room = made(room)
     make(room)
     before = built(room)
@@ -183,19 +185,19 @@ def a_proof_that_fails_fails_make(room: Room) -> None:
         (room.folder / f"says-{crate}").write_text("logic=failed functions=1 sum=1f\n")
         source.write_text("wrong")
         for _ in range(2):
-            require(make(room, target).returncode != 0, f"make {target} takes what is not proved")
+            assert make(room, target).returncode != 0, f"make {target} takes what is not proved"
         (room.folder / f"says-{crate}").unlink()
         source.write_text("one")
-        require(make(room, target).returncode == 0, "it is not built again")
+        assert make(room, target).returncode == 0, "it is not built again"
     (room.top / "HANDLES").write_text("Handles allowed: Wait.\n")
-    require(make(room, "library").returncode != 0, "HANDLES was changed")
-    require(make(room, "program").returncode != 0, "HANDLES was changed")
+    assert make(room, "library").returncode != 0, "HANDLES was changed"
+    assert make(room, "program").returncode != 0, "HANDLES was changed"
     (room.top / "HANDLES").write_text(HANDLES)
-    require(make(room).returncode == 0, "it is not built again")
-    require(built(room)["exifnorm.h"] == before["exifnorm.h"], "it is not built again")
+    assert make(room).returncode == 0, "it is not built again"
+    assert built(room)["exifnorm.h"] == before["exifnorm.h"], "it is not built again"
 
 
-def a_library_that_is_half_made_is_made_again(room: Room) -> None:
+def test_a_library_that_is_half_made_is_made_again(room: Room) -> None:
     room = made(room)
     make(room)
     whole = built(room)
@@ -205,30 +207,30 @@ def a_library_that_is_half_made_is_made_again(room: Room) -> None:
         for it in ("exifnorm.o", "libexifnorm.a", "libexifnorm.so.1"):
             (room.top / "out/lib" / it).unlink(missing_ok=True)
         ran = make(room, "library")
-        require(ran.returncode != 0, (tool, ran))
+        assert ran.returncode != 0, (tool, ran)
         broken.unlink()
-        require(make(room, "library").returncode == 0, tool)
-        require(contents(built(room)) == contents(whole), f"{target} is half made")
+        assert make(room, "library").returncode == 0, tool
+        assert contents(built(room)) == contents(whole), f"{target} is half made"
     for name in (*LIBRARIES, "libexifnorm.so"):
         (room.top / "out/lib" / name).unlink()
         (room.top / "out/lib" / name).write_text("half")
         os.utime(room.top / "out/lib" / name, (10**9, 10**9))
-    require(make(room, "library").returncode == 0, "what another left is kept")
-    require(contents(built(room)) == contents(whole), "what another left is kept")
+    assert make(room, "library").returncode == 0, "what another left is kept"
+    assert contents(built(room)) == contents(whole), "what another left is kept"
 
 
-def the_archive_and_the_library_show_their_calls_alone(room: Room) -> None:
+def test_the_archive_and_the_library_show_their_calls_alone(room: Room) -> None:
     room = made(room)
     make(room)
     for name, words in (("libexifnorm.a", ["-g"]), ("libexifnorm.so.1", ["-D"])):
         shown = room.call(*words, "--defined-only", str(room.top / "out/lib" / name), program="nm").stdout
         names = {it.split()[-1].partition("@")[0] for it in shown.splitlines() if len(it.split()) > 2}
-        require(names - {"EXIFNORM_1"} <= {"exifnorm_text", "exifnorm_own"}, (name, shown))
-        require("of_the_toolchain" not in shown, (name, shown))
-    require("exifnorm_text" in room.call("-g", str(room.top / "out/lib/libexifnorm.a"), program="nm").stdout, "it shows nothing")
+        assert names - {"EXIFNORM_1"} <= {"exifnorm_text", "exifnorm_own"}, (name, shown)
+        assert "of_the_toolchain" not in shown, (name, shown)
+    assert "exifnorm_text" in room.call("-g", str(room.top / "out/lib/libexifnorm.a"), program="nm").stdout, "it shows nothing"
 
 
-def the_program_that_make_built_is_installed(room: Room) -> None:
+def test_the_program_that_make_built_is_installed(room: Room) -> None:
     room = made(room)
     make(room)
     room.proved.parent.mkdir()
@@ -237,40 +239,21 @@ def the_program_that_make_built_is_installed(room: Room) -> None:
     lines = make(room, "-n", "stage", "stage=staged").stdout.splitlines()
     (line,) = (it for it in lines if it.startswith("install ") and it.endswith("/bin/exifnorm'"))
     ran = room.call("-c", line, program="/bin/sh", cwd=room.top)
-    require(ran.returncode == 0, (line, ran))
-    require((target / "exifnorm").read_bytes() == (room.top / "out/exifnorm").read_bytes(), (line, ran))
+    assert ran.returncode == 0, (line, ran)
+    assert (target / "exifnorm").read_bytes() == (room.top / "out/exifnorm").read_bytes(), (line, ran)
 
 
-def uninstall_and_dist_are_done_whatever_files_there_are(room: Room) -> None:
+def test_uninstall_and_dist_are_done_whatever_files_there_are(room: Room) -> None:
     room = made(room)
     for target in ("uninstall", "dist"):
         ran = make(room, "-n", target)
-        require("python3 packaging/" in ran.stdout, ran)
+        assert "python3 packaging/" in ran.stdout, ran
 
 
-def make_check_ends_as_the_tests_do(room: Room) -> None:
+def test_make_check_ends_as_the_tests_do(room: Room) -> None:
     room = made(room)
     for status in (0, 1, 3, 127):
         (room.top / "status").write_text(str(status))
-        require((make(room, "check").returncode == 0) == (status == 0), status)
+        assert (make(room, "check").returncode == 0) == (status == 0), status
     (room.top / "test").unlink()
-    require(make(room, "check").returncode != 0, "there is no test")
-
-
-TESTS = [
-    make_builds_the_program_and_the_library,
-    no_change_builds_nothing_again,
-    each_changed_source_is_in_the_library,
-    a_changed_program_source_is_in_the_program,
-    a_changed_header_is_copied,
-    another_toolchain_builds_the_library_again,
-    flags_of_the_caller_are_passed_to_the_linker,
-    a_library_that_needs_what_is_nowhere_is_an_error,
-    another_makefile_links_the_library_again,
-    a_proof_that_fails_fails_make,
-    a_library_that_is_half_made_is_made_again,
-    the_archive_and_the_library_show_their_calls_alone,
-    the_program_that_make_built_is_installed,
-    uninstall_and_dist_are_done_whatever_files_there_are,
-    make_check_ends_as_the_tests_do,
-]
+    assert make(room, "check").returncode != 0, "there is no test"

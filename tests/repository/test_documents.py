@@ -1,0 +1,363 @@
+"""Runs the examples of the documents and manual pages, and compares their lists with the programs and the sources.
+
+A section is run in a folder with pictures and blocks, and with the built commands on the PATH. Its fenced blocks are run in their order:
+`sh` as a script, which succeeds; of `console` each line `$ COMMAND`, which prints the lines below it; `c` is compiled and run, and `python`
+is run. A block of `text` that follows is the end of what was printed.
+"""
+
+from __future__ import annotations
+
+import json
+import os
+import re
+import shutil
+import subprocess
+import sys
+from pathlib import Path
+from typing import Iterator, NamedTuple
+
+import exifnorm
+import header
+import pytest
+from blocks import Blocks
+from made_blocks import BLOCKS, with_exif
+
+TOP = Path(__file__).resolve().parent.parent.parent
+DOCUMENTS = sorted([*TOP.glob("*.md"), *TOP.glob("docs/*.md"), *TOP.glob("*/README.md"), *TOP.glob("crates/*/*.md")])
+WHOLE = ("README.md", "docs/TUTORIAL.md")  # whose sections build on one another
+BY_SECTION = ("docs/RECIPES.md", "docs/REFUSALS.md")
+HEADER = "crates/px_c/include/exifnorm.h"
+# the blocks of the examples, by their names in tests/program/cases/blocks.json
+EXAMPLES = {
+    "one.exif": "ASCII before its directory",
+    "other.exif": "ASCII at an even offset, least first",
+    "before": "ASCII before its directory",
+    "after.exif": "ASCII at an even offset, least first",
+    "caption.iim": "five labelled DataSets",
+    "broken.exif": "one SHORT that leads on to itself",
+}
+TOOLS = ("exiftool", "exiv2", "convert", "parallel", "sqlite3", "perl")
+STRICT = ("-std=c99", "-Wall", "-Wextra", "-pedantic", "-Werror")
+COMPARES = re.compile(r"\bexifnorm(?:-pictures)? (?:changed|compare)\b[^|&]*\Z")  # a last command that may end with status 1
+
+
+class Block(NamedTuple):
+    kind: str
+    text: str
+    shown: str  # the end of what it prints
+
+
+def text_of(name: str) -> str:
+    return (TOP / name).read_text(encoding="utf-8")
+
+
+def fenced(text: str) -> Iterator[Block]:
+    """The blocks of a text, with what they print."""
+    found = re.findall(r"(?ms)^```(\w+)\n(.*?)^```$", text)
+    for (kind, block), following in zip(found, [*found[1:], ("", "")]):
+        if kind in ("sh", "console", "c", "python"):
+            yield Block(kind, block, following[1] if following[0] == "text" else "")
+
+
+def sections() -> Iterator[object]:
+    for name in (*WHOLE, *BY_SECTION):
+        if (TOP / name).exists():
+            parts = re.split(r"(?m)^## ", text_of(name)) if name in BY_SECTION else [f"whole\n{text_of(name)}"]
+            for part in parts:
+                if blocks := list(fenced(part)):
+                    yield pytest.param(name, blocks, id=f"{name}: {part.partition(chr(10))[0]}")
+
+
+def of_manual(name: str) -> list[Block]:
+    """The examples of a manual page."""
+    text = text_of(name).partition(".SH EXAMPLES\n")[2].partition("\n.SH ")[0]
+    kind = "c" if name.endswith(".3") else "sh"
+    found = re.findall(r"(?ms)^\.nf\n(.*?)^\.fi$", text)
+    return [Block(kind, it.replace("\\-", "-").replace("\\e", "\\"), "") for it in found]
+
+
+# ---- the folder in which they are run
+
+
+def command(path: Path, line: str) -> None:
+    path.write_text(f"#!/bin/sh\n{line}\n", encoding="utf-8")
+    path.chmod(0o755)
+
+
+def run(folder: Path, environment: dict[str, str], *words: str | Path) -> str:
+    ran = subprocess.run(words, cwd=folder, env=environment, capture_output=True, check=False, timeout=300)
+    assert ran.returncode == 0, (words, ran)
+    return ran.stdout.decode()
+
+
+@pytest.fixture(scope="session")
+def environment(session_folder: Path, program: Path, library: Path) -> dict[str, str]:
+    """The variables of a command, with the built commands on the PATH. `make` prints what it would do."""
+    commands = session_folder / "commands"
+    commands.mkdir()
+    command(commands / "exifnorm", f'exec "{program}" "$@"')
+    command(commands / "exifnorm-pictures", f'exec "{sys.executable}" -m exifnorm_pictures "$@"')
+    command(commands / "python3", f'exec "{sys.executable}" "$@"')
+    command(commands / "make", f'exec /usr/bin/make -n -C "{TOP}" "$@"')
+    return {
+        **os.environ,
+        "PATH": f"{commands}:{os.environ['PATH']}",
+        "LD_LIBRARY_PATH": str(library),
+        "EXIFNORM_LIBRARY": str(library / "libexifnorm.so.1"),
+        "PYTHONPATH": str(TOP / "python"),
+        "HOME": str(session_folder),
+    }
+
+
+@pytest.fixture(scope="session")
+def pictures(session_folder: Path, environment: dict[str, str]) -> Path:
+    """What readers of the recipes have: a folder of pictures, a picture of each kind, and one whose block is refused."""
+    if missing := [it for it in TOOLS if not shutil.which(it)]:
+        pytest.skip(f"not installed: {', '.join(missing)}")
+    folder = session_folder / "pictures of documents"
+    (folder / "pictures" / "sub").mkdir(parents=True)
+    for name in ("picture.jpg", "picture.tif"):
+        run(folder, environment, "convert", "-size", "96x72", "plasma:tomato-steelblue", "-strip", name)
+    refused = with_exif((folder / "picture.jpg").read_bytes(), BLOCKS["Overlap"])
+    edit = ("exiftool", "-q", "-overwrite_original")
+    iptc = ("-IPTC:CodedCharacterSet=UTF8", "-IPTC:Caption-Abstract=Zürich", "-IPTC:Keywords=one", "-IPTC:Keywords=two")
+    run(folder, environment, *edit, "-ExifByteOrder=II", "-Make=Leica", "-Artist=Zürich", "-UserComment=a comment", *iptc, "picture.jpg")
+    run(folder, environment, *edit, "-Artist=Someone", "picture.tif")
+    for name in ("refused.jpg", "pictures/refused.jpg"):
+        (folder / name).write_bytes(refused)
+    for source, name in (("picture.jpg", "first.jpg"), ("picture.jpg", "sub/copy.jpg"), ("picture.tif", "scan.tif")):
+        shutil.copy(folder / source, folder / "pictures" / name)
+    (folder / "pictures" / "notes.txt").write_text("no picture\n")
+    return folder
+
+
+@pytest.fixture
+def place(folder: Path, pictures: Path, environment: dict[str, str]) -> Path:
+    """A folder with the pictures and the blocks of the examples, and the commands of a clone."""
+    shutil.copytree(pictures, folder, dirs_exist_ok=True)
+    cases = Blocks(json.loads(text_of("tests/program/cases/blocks.json"))["blocks"])
+    for name, block in EXAMPLES.items():
+        (folder / name).write_bytes(cases.named(block))
+    for name in ("exifnorm", "exifnorm-pictures"):
+        command(folder / name, f'exec {name} "$@"')
+    command(folder / "test", "true")
+    if (TOP / "samples").exists():
+        shutil.copytree(TOP / "samples", folder / "samples")
+    return folder
+
+
+class Runner:
+    """Runs the blocks of a section in a folder."""
+
+    def __init__(self, folder: Path, environment: dict[str, str], library: Path) -> None:
+        self.folder, self.environment, self.library = folder, environment, library
+
+    def ran(self, *words: str | Path) -> subprocess.CompletedProcess[str]:
+        return subprocess.run(words, cwd=self.folder, env=self.environment, capture_output=True, text=True, check=False, timeout=300)
+
+    def run(self, block: Block) -> None:
+        ran = {"sh": self.run_sh, "console": self.run_console, "c": self.run_c, "python": self.run_python}[block.kind](block.text)
+        assert ran.endswith(block.shown), block.text
+
+    def run_sh(self, text: str) -> str:
+        ran = self.ran("bash", "-e", "-u", "-o", "pipefail", "-c", text)
+        assert ran.returncode in ((0, 1) if COMPARES.search(re.sub(r" *#.*", "", text.rstrip())) else (0,)), (text, ran.stdout, ran.stderr)
+        return ran.stdout
+
+    def run_console(self, text: str) -> str:
+        for part in re.split(r"(?m)^\$ ", text)[1:]:
+            line, _, expected = part.partition("\n")
+            assert self.ran("bash", "-c", line).stdout == expected, line
+        return ""
+
+    def run_c(self, text: str) -> str:
+        (self.folder / "example.c").write_text(text, encoding="utf-8")
+        made = self.ran("cc", *STRICT, "-I", self.library, "example.c", "-L", self.library, "-l:libexifnorm.so.1", "-o", "example")
+        assert (made.returncode, made.stderr) == (0, ""), text
+        return self.success("./example")
+
+    def run_python(self, text: str) -> str:
+        return self.success(sys.executable, "-c", text)
+
+    def success(self, *words: str) -> str:
+        ran = self.ran(*words)
+        assert (ran.returncode, ran.stderr) == (0, ""), words
+        return ran.stdout
+
+
+@pytest.mark.parametrize("name, blocks", sections())
+def test_examples_of_a_document(name: str, blocks: list[Block], place: Path, environment: dict[str, str], library: Path) -> None:
+    if name in WHOLE:
+        two_folders(place, environment)
+    runner = Runner(place, environment, library)
+    for block in blocks:
+        runner.run(block)
+
+
+def two_folders(folder: Path, environment: dict[str, str]) -> None:
+    """Three pictures, and copies of them, of which one is edited."""
+    shutil.rmtree(folder / "pictures")
+    (folder / "pictures").mkdir()
+    for name in ("first.jpg", "second.jpg", "third.jpg"):
+        run(folder, environment, "convert", "-size", "96x72", "plasma:tomato-steelblue", "-strip", f"pictures/{name}")
+        run(folder, environment, "exiftool", "-q", "-overwrite_original", "-Artist=Someone", f"pictures/{name}")
+    shutil.copytree(folder / "pictures", folder / "after")
+    run(folder, environment, "exiftool", "-q", "-overwrite_original", "-Copyright=The Museum", "after/first.jpg")
+
+
+@pytest.mark.parametrize("name", ["docs/exifnorm.1", "docs/exifnorm.3", "docs/exifnorm-pictures.1"])
+def test_examples_of_a_manual_page(name: str, place: Path, environment: dict[str, str], library: Path) -> None:
+    shutil.copytree(place / "pictures", place / "archive")
+    shutil.copy(place / "after.exif", place / "after")
+    blocks = of_manual(name)
+    assert blocks
+    for block in blocks:
+        Runner(place, environment, library).run(block._replace(text=block.text.replace("/archive", str(place / "archive"))))
+
+
+# ---- lists that must agree
+
+
+def causes() -> list[str]:
+    body = re.search(r"pub enum Cause \{(.*?)\n\}", text_of("crates/px_bytes/src/causes.rt"), re.S)
+    return re.findall(r"(?m)^    (\w+),$", body[1])
+
+
+def help_of(environment: dict[str, str], *words: str) -> str:
+    return run(TOP, {**environment, "COLUMNS": "500"}, *words, "--help")
+
+
+def statuses_of_page(name: str) -> list[str]:
+    page = text_of(name).partition(".SH EXIT STATUS\n")[2].partition("\n.SH ")[0]
+    return re.findall(r"(?m)^\.TP\n\.B (\d+)$", page)
+
+
+def plain(page: str) -> str:
+    """A manual page without macros of fonts and escapes."""
+    return re.sub(r'(?m)^\.(?:BR|BI|IR|RB|B|I) |"|\\f[BIRP]', "", page).replace("\\-", "-")
+
+
+def test_causes_are_those_of_the_format_and_of_the_refusals() -> None:
+    listed = re.findall(r"(?m)^\| (\w+) \| .* \| .* \|$", text_of("docs/FORMAT.md").split("## 5.")[1].split("## 6.")[0])
+    assert [it for it in listed if it != "Cause"] == causes()
+    assert [it for it in re.findall(r"(?m)^## (\w+)", text_of("docs/REFUSALS.md")) if it in causes()] == causes()
+
+
+def test_causes_are_those_of_the_header_in_their_order() -> None:
+    listed = re.findall(r"EXIFNORM_CAUSE_(\w+) = (\d+)", text_of(HEADER))
+    assert [int(number) for _, number in listed] == list(range(1, len(causes()) + 1))
+    assert [name.replace("_", "") for name, _ in listed] == [it.upper() for it in causes()]
+
+
+def test_the_list_of_causes_in_the_header_is_printed(tmp_path: Path, monkeypatch: pytest.MonkeyPatch) -> None:
+    assert header.main(["--check"]) == 0
+    made, path = text_of(HEADER), tmp_path / "exifnorm.h"
+    monkeypatch.setattr(header, "HEADER", path)
+    path.write_text(made.replace("EXIFNORM_CAUSE_LOOP = 4", "EXIFNORM_CAUSE_LOOP = 40"), encoding="utf-8")
+    assert [header.main(["--check"]), header.main([]), header.main(["--check"])] == [1, 0, 0]
+    assert path.read_text(encoding="utf-8") == made
+    path.write_text("no list", encoding="utf-8")
+    with pytest.raises(SystemExit, match="no list of causes"):
+        header.main([])
+
+
+def test_commands_of_the_program_are_those_of_the_format_and_the_page(environment: dict[str, str]) -> None:
+    shown = help_of(environment, "exifnorm").split("Commands:")[1].split("Options:")[0]
+    names = re.findall(r"(?m)^  (\w+)  +\w", shown)
+    assert names
+    synopsis = [
+        " ".join(it.split()) for it in plain(text_of("docs/exifnorm.1")).partition(".SH SYNOPSIS\n")[2].partition(".SH ")[0].split(".br\n")
+    ]
+    for name in names:
+        usage = re.search(r"(?m)^Usage: (.*)$", help_of(environment, "exifnorm", name))[1]
+        assert usage.replace("<", "").replace(">", "") in synopsis
+        assert re.search(rf"(?m)^\| `{name} ", text_of("docs/FORMAT.md")), name
+
+
+def test_statuses_are_those_of_the_format_and_the_pages(environment: dict[str, str]) -> None:
+    for name in ("exifnorm", "exifnorm-pictures"):
+        shown = help_of(environment, name).partition("Statuses:\n")[2].partition("\n\n")[0]
+        statuses = re.findall(r"(?m)^  (\d+) ", shown)
+        assert statuses and statuses_of_page(f"docs/{name}.1") == statuses
+    listed = text_of("docs/FORMAT.md").split("\n## 8.")[1].split("\n## 9.")[0]
+    assert sorted(set(re.findall(r"(?m)^\| (\d+) \|", listed))) == statuses_of_page("docs/exifnorm.1")
+
+
+def test_each_option_of_the_pictures_is_in_the_page(environment: dict[str, str]) -> None:
+    page = plain(text_of("docs/exifnorm-pictures.1"))
+    commands = re.findall(r"(?m)^    (\w+)  +\w", help_of(environment, "exifnorm-pictures"))
+    assert commands
+    options = {it for name in commands for it in re.findall(r"(?<![\w-])--[a-z][a-z-]+", help_of(environment, "exifnorm-pictures", name))}
+    assert [it for it in sorted(options) if not re.search(rf"{it}(?![\w-])", page)] == []
+
+
+def test_lines_of_the_program_are_those_of_the_page(environment: dict[str, str], folder: Path) -> None:
+    """And those of the format, by the tests of the program."""
+    (folder / "a").write_bytes(b"a")
+    page = plain(text_of("docs/exifnorm.1"))
+    calls = (["normalise", "a", "a"], ["check", os.fsdecode(b"\xff")], ["check", "b"], ["normalise", "a", "."])
+    for words in calls:
+        ran = subprocess.run(["exifnorm", *words], cwd=folder, env=environment, capture_output=True, text=True, check=False)
+        assert f"\n{ran.stdout}" in page, words
+
+
+def test_the_limit_is_the_same_everywhere() -> None:
+    limit = int(re.search(r"const LIMIT: u32 = ([\d_]+)", text_of("crates/px_bytes/src/blocks.rt"))[1].replace("_", ""))
+    for name in ("docs/FORMAT.md", "docs/exifnorm.1", "docs/DECISIONS.md"):
+        assert f"{limit:,}" in text_of(name), name
+    assert f"#define EXIFNORM_LIMIT {limit}" in text_of(HEADER)
+    assert exifnorm.LIMIT == limit
+
+
+def test_the_promised_memory_is_that_of_the_definitions() -> None:
+    """Bytes for each byte of a block, and of a file that is read. A mark is a bit, and marks are requested twice; a DataSet has at least five
+    bytes."""
+
+    def defined(crate: str, pattern: str, file: str = "Asking") -> list[int]:
+        return [int(it) for it in re.search(rf"(?m)^{pattern}$", text_of(f"crates/{crate}/specs/{file}.antt")).groups()]
+
+    (fields,) = defined("px_tree", r"fields_request n = (\d+) \* n")
+    (marks,) = defined("px_tree", r"exif_request n = fields_request n \+ (\d+) \* mark_bytes n \+ iim_request n")
+    mark, most, part = defined("px_bytes", r"mark_bytes end = (\d+) \* \(\(end \+ (\d+)\) / (\d+)\)", "Held")
+    (item,), (counters,) = defined("px_iim", r"item_bytes = (\d+)"), defined("px_iim", r"counter_bytes = (\d+)")
+    (least,) = defined("px_iim", r"iim_request n = item_bytes \* \(n / (\d+)\) \+ counter_bytes")
+    each, more = defined("px_engine", r"file_request n = (\d+) \* n \+ (\d+) \+ block_request n")
+    block, rest = fields + marks * mark / part + item / least, counters + marks * mark * most // part + 1
+    for name in ("docs/PROOFS.md", "SECURITY.md"):
+        assert f"{block + each:.2f} bytes for each byte" in text_of(name), name
+        assert f"{rest + more:,} more" in text_of(name), name
+    assert f"{block:.2f} bytes for each" in text_of("docs/PROOFS.md")
+
+
+def test_the_toolchain_of_the_documents_has_the_logic_of_this_one() -> None:
+    """Another kit of the same logic proves the same."""
+    if not shutil.which("rt"):
+        pytest.skip("rt is not on the PATH")
+    printed = subprocess.run(["rt", "version"], capture_output=True, text=True, check=True).stdout
+    (logic,) = re.findall(r"\blogic ([0-9a-f]{16})\b", printed)
+    named = {found for path in DOCUMENTS for found in re.findall(r"\blogic ([0-9a-f]{16})\b", path.read_text(encoding="utf-8"))}
+    assert named == {logic}
+
+
+# ---- form
+
+
+def test_links_lead_to_files() -> None:
+    for path in DOCUMENTS:
+        for target in re.findall(r"\]\(([^)#\s]+)[^)]*\)", path.read_text(encoding="utf-8")):
+            assert "://" in target or target.startswith("mailto:") or (path.parent / target).exists(), f"{path.name}: {target}"
+
+
+@pytest.mark.parametrize("page", sorted(TOP.glob("docs/*.[1-9]")), ids=lambda it: it.name)
+def test_a_manual_page_has_no_mistake_of_roff(page: Path) -> None:
+    for words in (["man", "--warnings", "-l"], ["mandoc", "-T", "lint", "-W", "error"]):
+        if not shutil.which(words[0]):
+            pytest.skip(f"{words[0]} is not installed")
+        environment = {**os.environ, "LC_ALL": "C.UTF-8", "MANPAGER": "cat"}
+        ran = subprocess.run([*words, page], env=environment, stdout=subprocess.DEVNULL if words[0] == "man" else subprocess.PIPE,
+                             stderr=subprocess.PIPE, text=True, check=False)  # fmt: skip
+        assert (ran.stdout or "", ran.stderr) == ("", "")
+
+
+def test_the_picture_of_the_readme_is_drawn_of_the_cases() -> None:
+    assert subprocess.run([sys.executable, TOP / "docs" / "draw.py", "--check"], check=False).returncode == 0

@@ -1,0 +1,489 @@
+"""Installs exifnorm into empty folders with other prefixes and Pythons, uses everything from there, and removes it again.
+
+The program and the library have to be built: `make`.
+"""
+
+from __future__ import annotations
+
+import os
+import re
+import shutil
+import subprocess
+import sys
+from pathlib import Path
+
+import pytest
+from installed import CALLS, DEBIAN_PYTHON, EXAMPLES, FILE, MAKE, TOP, VERSION
+from installed import Tree, modules, need_headers, run, text_of, tree, with_folders
+
+pytestmark = pytest.mark.xdist_group("installation")  # two installations are made once, and shared
+BLOCK = bytes.fromhex("4d4d002a00000008 0001 0112 0003 00000001 00060000 00000000")
+STRICT = ["-std=c99", "-Wall", "-Wextra", "-pedantic", "-Werror"]
+
+
+@pytest.fixture(scope="module")
+def usr(session_folder: Path, program: Path, library: Path) -> Tree:
+    """An installation for Debian's Python."""
+    it = Tree(session_folder / "usr", "/usr", DEBIAN_PYTHON)
+    it.make("install")
+    return it
+
+
+@pytest.fixture(scope="module")
+def other(session_folder: Path, program: Path, library: Path) -> Tree:
+    """An installation with another prefix and umask, for a Python in a folder whose name has a space."""
+    python = session_folder / "other python"
+    run(sys.executable, "-m", "venv", "--without-pip", python)
+    it = Tree(session_folder / "other", "/x", str(python / "bin" / "python3"))
+    it.make("install", mask=0o077)
+    return it
+
+
+class TestFiles:
+    """What install writes."""
+
+    def test_files_and_modes_for_debians_python(self, usr: Tree) -> None:
+        assert tree(usr.root) == usr.expected()
+
+    def test_files_and_modes_for_another_python_prefix_and_umask(self, other: Tree) -> None:
+        assert tree(other.root) == other.expected()
+
+    def test_names_of_folders_may_have_spaces(self, folder: Path) -> None:
+        here = Tree(folder / "a folder", "/a prefix", DEBIAN_PYTHON)
+        here.make("install")
+        assert tree(here.root) == here.expected()
+        here.make("uninstall")
+        assert tree(here.root) == {}
+
+    def test_a_step_that_fails_ends_the_installation(self, folder: Path) -> None:
+        """Also if those after it would succeed."""
+        packages = " ".join(sorted({str(Path(it).parent) for it in modules()}))
+        for word in ("pages=docs/nothing.1 docs/exifnorm.1", f"packages=nothing {packages}", "program=/bin/false"):
+            run(*MAKE, "stage", f"stage={folder}/failed", word, status=2)
+
+    def test_variables_of_the_callers_environment_change_nothing(self) -> None:
+        """Only those of make's command line do."""
+        wrong = {it: "wrong" for it in re.findall(r"^([A-Za-z_]+) =", text_of("Makefile"), re.MULTILINE)}
+        assert {"DESTDIR", "INTERPRETER", "PREFIX", "PYTHON", "STRIP", "stage"} <= set(wrong)
+        assert run("make", "-n", "stage", "uninstall", **wrong) == run("make", "-n", "stage", "uninstall")
+
+    def test_without_pythons_headers_the_extension_module_is_left_out(self, folder: Path) -> None:
+        for number, (include, header) in enumerate((("/no/headers", "/no/headers/Python.h"), ("", "Python.h"))):
+            here = Tree(folder / str(number), "/usr", DEBIAN_PYTHON, [f"PYTHONINCLUDE={include}"])
+            line = f"exifnorm: there is no {header}, so _native.abi3.so is left out: Python calls the library by ctypes"
+            assert [it for it in here.make("install").splitlines() if it.startswith("exifnorm:")] == [line]
+            assert tree(here.root) == here.expected()
+            code = "import exifnorm, exifnorm._library as l; print(exifnorm.normal(open('block', 'rb').read()).hex(), l._native)"
+            (folder / "block").write_bytes(BLOCK)
+            said = run(DEBIAN_PYTHON, "-B", "-c", code, folder=folder, PYTHONPATH=str(here.module_folder), EXIFNORM_LIBRARY="")
+            assert said == f"{BLOCK.hex()} None\n"
+
+    def test_an_extension_module_that_cannot_be_compiled_ends_the_installation(self, folder: Path) -> None:
+        need_headers(DEBIAN_PYTHON)
+        said = run(*MAKE, "stage", f"stage={folder}/uncompiled", "LDFLAGS=-l_no_such_library", f"PYTHON={DEBIAN_PYTHON}", status=2)
+        assert "_no_such_library" in said
+
+    def test_a_local_prefix_has_the_packages_where_debians_python_looks(self) -> None:
+        said = run("make", "-n", "stage", "PREFIX=/usr/local", f"PYTHON={DEBIAN_PYTHON}")
+        version = run(DEBIAN_PYTHON, "-c", "import sys; print('%d.%d' % sys.version_info[:2])").strip()
+        assert f"out/stage/usr/local/lib/python{version}/dist-packages" in said
+
+    def test_no_file_names_the_folder_that_it_was_staged_in(self, usr: Tree) -> None:
+        for name in tree(usr.root):
+            path = usr.root / name
+            if path.is_file():
+                assert str(TOP).encode() not in path.read_bytes(), name
+                assert str(usr.root).encode() not in path.read_bytes(), name
+
+    def test_licences_are_those_of_the_sources(self, usr: Tree) -> None:
+        for name in ("LICENSE-MIT", "LICENSE-APACHE"):
+            for where in (usr.at("share/doc/exifnorm"), usr.module_folder / f"exifnorm-{VERSION}.dist-info"):
+                assert (where / name).read_text(encoding="utf-8") == text_of(name), where
+
+    def test_documents_that_installed_files_refer_to_are_installed(self, usr: Tree) -> None:
+        papers = {it.name for it in usr.at("share/doc/exifnorm").iterdir()}
+        found = set()
+        for name in tree(usr.root):
+            if name.endswith((".md", ".h", ".py")) or "/man/man" in name and not name.endswith("/"):
+                found |= set(re.findall(r"(?<![\w/])(?:docs/)?([A-Z]{3,}\.md)", (usr.root / name).read_text(encoding="utf-8")))
+        assert {"FORMAT.md", "RECIPES.md", "REFUSALS.md"} <= found
+        assert found - papers == set()
+
+    def test_links_of_installed_documents_lead_to_installed_files(self, usr: Tree) -> None:
+        for document in usr.at("share/doc/exifnorm").glob("*.md"):
+            for target in re.findall(r"\]\(([^)#:]+)[^)]*\)", document.read_text(encoding="utf-8")):
+                assert (document.parent / target).exists(), f"{document.name}: {target}"
+
+
+class TestProgram:
+    """The program, the manual pages and the completion, used from the installed tree."""
+
+    def test_program_runs_its_example(self, usr: Tree, folder: Path) -> None:
+        path = f"{usr.at('bin')}:/usr/bin:/bin"
+        assert run("sh", "-e", EXAMPLES / "compare.sh", folder=folder, PATH=path) == "same\n"
+        assert run("exifnorm", "--version", folder=folder, PATH=path) == f"exifnorm {VERSION}\n"
+
+    def test_others_can_run_the_program(self, other: Tree, folder: Path) -> None:
+        shutil.copytree(other.at("bin"), folder / "bin")
+        user = {"user": "nobody", "group": "nogroup", "extra_groups": []} if os.getuid() == 0 else {}
+        ran = subprocess.run([folder / "bin" / "exifnorm", "--version"], cwd="/", stdout=subprocess.PIPE, check=True, **user)
+        assert ran.stdout == f"exifnorm {VERSION}\n".encode()
+
+    def test_man_finds_each_page(self, usr: Tree) -> None:
+        for section, name in ((1, "exifnorm"), (3, "exifnorm"), (1, "exifnorm-pictures")):
+            where = run("man", "-M", usr.at("share/man"), "-w", str(section), name).strip()
+            assert Path(where) == usr.at("share/man", f"man{section}", f"{name}.{section}")
+
+    def test_man_has_no_complaint(self, usr: Tree) -> None:
+        for page in sorted(usr.at("share/man").glob("*/*")):
+            assert run("sh", "-c", 'man --warnings -l "$1" 2>&1 >/dev/null', "sh", page, LC_ALL="C.UTF-8") == "", page
+
+    def test_each_installed_page_and_command_of_a_list_is_there(self, usr: Tree) -> None:
+        for page in sorted(usr.at("share/man").glob("*/*")):
+            also = page.read_text(encoding="utf-8").partition(".SH SEE ALSO\n")[2].replace("\\-", "-")
+            for name, section in re.findall(r"^\.BR (exifnorm[\w-]*) \((\d)\)", also, re.MULTILINE):
+                assert usr.at("share/man", f"man{section}", f"{name}.{section}").exists(), f"{page.name}: {name}({section})"
+
+
+def words_of_help(program: Path, *words: str) -> tuple[set[str], set[str]]:
+    """The commands and the options in a help text, found in another way than by `packaging/grammar.py`."""
+    text = run(program, *words, "--help", COLUMNS="500", PYTHONDONTWRITEBYTECODE="1")
+    body = text.partition("Statuses:")[0]
+    commands = set(re.findall(r"^ {2,4}([a-z]+)  +\w", body, re.MULTILINE))
+    options = set(
+        re.findall(r"(?<![\w-])(--?[a-z0-9V][a-z-]*)(?=[, \n]|$)", "\n".join(re.findall(r"^  (-.*?)(?:   *.*)?$", body, re.MULTILINE)))
+    )
+    return commands, options
+
+
+class TestCompletion:
+    """The shells offer what --help shows."""
+
+    @pytest.fixture(autouse=True)
+    def set_up(self, usr: Tree, folder: Path) -> None:
+        self.usr, self.home = usr, folder
+        self.programs = {name: usr.at("bin", name) for name in ("exifnorm", "exifnorm-pictures")}
+
+    def bash(self, *words: str) -> set[str]:
+        """What bash offers for the last word."""
+        file = self.usr.at("share/bash-completion/completions", words[0])
+        code = 'source "$1"; shift; COMP_WORDS=("$@") COMP_CWORD=$(($# - 1)); _${1//-/_}; printf "%s\\n" "${COMPREPLY[@]}"'
+        return set(run("bash", "-c", code, "bash", file, *words, folder=EXAMPLES).split())
+
+    def zsh(self, *words: str) -> str:
+        """What the function for zsh passes to the functions that show it."""
+        code = """
+_describe() { local -a it=(${(P)2}); print -rl -- ${it%%:*} }
+_arguments() { print -rl -- "at $CURRENT of $words" "$@" }
+words=("${@:2}") CURRENT=$(($# - 1))
+autoload_and_run() { source $1 }
+autoload_and_run $1"""
+        return run("zsh", "-f", "-c", code, "zsh", self.usr.at("share/zsh/site-functions", f"_{words[0]}"), *words)
+
+    def fish(self, line: str) -> set[str]:
+        """What fish offers for the end of a line."""
+        file = self.usr.at("share/fish/vendor_completions.d", f"{line.split()[0]}.fish")
+        said = run("fish", "--no-config", "-c", "source $argv[1]; complete -C $argv[2]", file, line, folder=EXAMPLES, HOME=str(self.home))
+        return {it.split("\t")[0] for it in said.splitlines()}
+
+    def test_first_arguments(self) -> None:
+        for name, program in self.programs.items():
+            commands, options = words_of_help(program)
+            assert len(commands) >= 5, name
+            assert self.bash(name, "") == commands | options
+            assert set(re.findall(r"^([a-z]+)$", self.zsh(name, ""), re.MULTILINE)) == commands
+            assert self.fish(f"{name} ") == commands
+
+    def test_options_of_each_command(self) -> None:
+        for name, program in self.programs.items():
+            for command in sorted(words_of_help(program)[0]):
+                options = words_of_help(program, command)[1]
+                long = {it for it in options if it.startswith("--")}
+                assert "--help" in long
+                assert self.bash(name, command, "-") == options, command
+                assert set(re.findall(r"^(?:\([^)]*\))?(-[\w-]+)\[", self.zsh(name, command, ""), re.MULTILINE)) == options, command
+                assert long <= self.fish(f"{name} {command} --"), command
+
+    def test_files_are_offered_where_a_command_takes_them(self) -> None:
+        for words in (
+            ("exifnorm", "show"),
+            ("exifnorm", "compare", "a"),
+            ("exifnorm-pictures", "show"),
+            ("exifnorm-pictures", "index", "--catalogue"),
+        ):
+            assert "compare.c" in self.bash(*words, "comp"), words
+            assert "compare.c" in self.fish(" ".join([*words, "comp"])), words
+        assert "_files" in self.zsh("exifnorm", "show", "")
+        assert self.bash("exifnorm", "show", "a", "comp") == set(), "a second file for show"
+        assert "compare.c" not in self.bash("exifnorm-pictures", "index", "--jobs", "comp")
+
+    def test_zsh_is_at_the_right_argument_of_a_command(self) -> None:
+        assert "at 3 of same --kind \n" in self.zsh("exifnorm-pictures", "same", "--kind", "")
+
+    def test_choices_are_offered(self) -> None:
+        text = run(self.programs["exifnorm-pictures"], "same", "--help", COLUMNS="500", PYTHONDONTWRITEBYTECODE="1")
+        choices = set(re.search(r"--kind \{([a-z,]+)\}", text)[1].split(","))
+        assert len(choices) >= 3
+        assert self.bash("exifnorm-pictures", "same", "--kind", "") == choices
+        assert self.fish("exifnorm-pictures same --kind ") == choices
+        zsh = self.zsh("exifnorm-pictures", "same", "")
+        assert set(re.search(r"^--kind\[.*:\(([a-z ]+)\)$", zsh, re.MULTILINE)[1].split()) == choices
+
+
+class TestLibraries:
+    """The header, the libraries and exifnorm.pc, used only from the installed tree."""
+
+    @pytest.fixture(autouse=True)
+    def set_up(self, folder: Path) -> None:
+        self.work = folder
+
+    def pkg_config(self, it: Tree, *words: str) -> list[str]:
+        """The output of pkg-config for this installation, and no other."""
+        found = run("pkg-config", *words, "exifnorm", PKG_CONFIG_LIBDIR=str(it.at("lib/pkgconfig")), PKG_CONFIG_SYSROOT_DIR=str(it.root))
+        return found.split()
+
+    def test_config_has_the_version_and_the_paths(self, usr: Tree, other: Tree) -> None:
+        for it in (usr, other):
+            assert self.pkg_config(it, "--modversion") == [VERSION]
+            assert self.pkg_config(it, "--variable=libdir") == [str(it.at("lib"))]
+
+    def test_a_program_is_built_by_the_line_of_the_manual_page(self, usr: Tree) -> None:
+        line = re.search(r"^\.B (cc .*)$", text_of("docs", "exifnorm.3"), re.MULTILINE)[1].replace("\\-", "-")
+        shutil.copy(EXAMPLES / "compare.c", self.work / "program.c")
+        run("sh", "-c", line, folder=self.work, PKG_CONFIG_LIBDIR=str(usr.at("lib/pkgconfig")), PKG_CONFIG_SYSROOT_DIR=str(usr.root))
+        assert run("./a.out", folder=self.work, LD_LIBRARY_PATH=str(usr.at("lib"))) == "same\n"
+
+    def test_config_moves_with_its_prefix(self, other: Tree) -> None:
+        moved = run("pkg-config", "--define-variable=prefix=/moved", "--cflags", "--libs-only-L", "exifnorm",
+                    PKG_CONFIG_LIBDIR=str(other.at("lib/pkgconfig")))  # fmt: skip
+        assert moved.split() == ["-I/moved/include", "-L/moved/lib"]
+
+    def test_example_links_the_shared_library(self, usr: Tree, other: Tree) -> None:
+        for it in (usr, other):
+            run("cc", *STRICT, EXAMPLES / "compare.c", *self.pkg_config(it, "--cflags", "--libs"), "-o", "shared", folder=self.work)
+            assert run("./shared", folder=self.work, LD_LIBRARY_PATH=str(it.at("lib"))) == "same\n"
+            assert "[libexifnorm.so.1]" in run("readelf", "-dW", "shared", folder=self.work)
+
+    def test_example_links_the_archive(self, usr: Tree) -> None:
+        flags = self.pkg_config(usr, "--static", "--cflags", "--libs")
+        run("cc", "-static", *STRICT, EXAMPLES / "compare.c", *flags, "-o", "static", folder=self.work)
+        assert run("./static", folder=self.work) == "same\n"
+        assert "NEEDED" not in run("readelf", "-dW", "static", folder=self.work)
+
+    def test_example_is_built_by_cmake(self, usr: Tree) -> None:
+        sources = self.work / "example"
+        sources.mkdir()
+        for name in ("CMakeLists.txt", "compare.c"):
+            shutil.copy(EXAMPLES / name, sources)
+        places = {"PKG_CONFIG_LIBDIR": str(usr.at("lib/pkgconfig")), "PKG_CONFIG_SYSROOT_DIR": str(usr.root)}
+        run("cmake", "-S", ".", "-B", "build", folder=sources, **places)
+        run("cmake", "--build", "build", folder=sources)
+        assert run("build/compare", folder=sources, LD_LIBRARY_PATH=str(usr.at("lib"))) == "same\n"
+
+    def test_header_can_be_included_twice(self, usr: Tree) -> None:
+        (self.work / "twice.c").write_text("#include <exifnorm.h>\n#include <exifnorm.h>\nint main(void) { return EXIFNORM_DONE; }\n")
+        for compiler, language in (("cc", "c"), ("c++", "c++")):
+            strict = ["-Wall", "-Wextra", "-pedantic", "-Werror"]
+            run(compiler, *strict, "-x", language, "twice.c", f"-I{usr.at('include')}", "-o", "twice", folder=self.work)
+            run("./twice", folder=self.work)
+
+    def test_header_links_in_cpp(self, usr: Tree) -> None:
+        (self.work / "version.cc").write_text(
+            "#include <exifnorm.h>\n#include <cstdio>\nint main() { char it[EXIFNORM_NAME_ROOM]; size_t written;\n"
+            "exifnorm_version(it, sizeof it, &written); return std::puts(it) < 0; }\n"
+        )
+        run("c++", "-Wall", "-Werror", "version.cc", *self.pkg_config(usr, "--cflags", "--libs"), "-o", "version", folder=self.work)
+        assert run("./version", folder=self.work, LD_LIBRARY_PATH=str(usr.at("lib"))) == f"{VERSION}\n"
+
+    def test_header_is_that_of_the_sources(self, usr: Tree) -> None:
+        assert usr.at("include/exifnorm.h").read_text(encoding="utf-8") == text_of("crates", "px_c", "include", "exifnorm.h")
+
+    def test_exports_are_those_of_the_header_with_a_version(self, usr: Tree) -> None:
+        assert "exifnorm_normalise" in CALLS
+        shown = run("readelf", "--dyn-syms", "-W", usr.at(f"lib/libexifnorm.so.{VERSION}"))
+        found = re.findall(r"(?:FUNC|OBJECT|NOTYPE) +(?:GLOBAL|WEAK) +\w+ +(?!UND|ABS)\S+ (\S+)$", shown, re.MULTILINE)
+        assert sorted(found) == [f"{it}@@EXIFNORM_1" for it in CALLS]
+        assert set(re.findall(r"Name: (EXIFNORM\w*)", run("readelf", "-VW", usr.at("lib/libexifnorm.so")))) == {"EXIFNORM_1"}
+
+    def test_callers_want_the_version_of_the_symbols(self, usr: Tree) -> None:
+        run("cc", EXAMPLES / "compare.c", *self.pkg_config(usr, "--cflags", "--libs"), "-o", "shared", folder=self.work)
+        assert "exifnorm_compare@EXIFNORM_1" in run("readelf", "--dyn-syms", "-W", "shared", folder=self.work)
+
+    def test_shared_library_is_stripped_unless_it_is_not_to_be(self, usr: Tree, folder: Path) -> None:
+        assert ".symtab" not in run("readelf", "-SW", usr.at("lib/libexifnorm.so"))
+        whole = Tree(folder / "whole", "/usr", DEBIAN_PYTHON, ["STRIP="])
+        whole.make("install")
+        assert ".symtab" in run("readelf", "-SW", whole.at("lib/libexifnorm.so"))
+        assert whole.at("lib/libexifnorm.so").read_bytes() == (TOP / "out/lib/libexifnorm.so.1").read_bytes()
+
+    def test_shared_library_is_hardened(self, usr: Tree) -> None:
+        dynamic = run("readelf", "-dW", usr.at("lib/libexifnorm.so"))
+        flags = "-shared -fno-pic -mcmodel=large -Wl,-z,notext,-rpath,/a"
+        source = f"echo 'int number; int *address(void) {{ return &number; }}' | cc -x c {flags} -o other.so -"
+        other = run("sh", "-c", f"{source} && readelf -dW other.so", folder=self.work)
+        for it in ("(TEXTREL)", "PATH)"):
+            assert (it in dynamic, it in other) == (False, True), "its code is changed as it is loaded, or it names folders of libraries"
+        assert re.search(r"\(SONAME\).*\[libexifnorm\.so\.1\]", dynamic)
+        assert re.search(r"\(FLAGS\).*BIND_NOW", dynamic)
+        segments = run("readelf", "-lW", usr.at("lib/libexifnorm.so"))
+        assert "GNU_RELRO" in segments
+        assert re.search(r"GNU_STACK .* RW ", segments)
+        assert not re.search(r"LOAD .* RWE ", segments)
+
+
+class TestPython:
+    """The Python packages, used only from the installed tree."""
+
+    def python(self, it: Tree, *words: str | Path) -> str:
+        """Runs the Python of an installation with the installed packages."""
+        return run(it.python, "-B", *words, folder=Path("/"), PYTHONPATH=str(it.module_folder), EXIFNORM_LIBRARY="")
+
+    def test_package_and_its_metadata_tell_the_version(self, usr: Tree, other: Tree) -> None:
+        code = "import exifnorm as e, importlib.metadata as m; print(e.__file__, e.__version__, m.version('exifnorm'), e.version())"
+        for it in (usr, other):
+            assert self.python(it, "-c", code).split(" ") == [f"{it.module_folder}/exifnorm/__init__.py", *[VERSION] * 2, f"{VERSION}\n"]
+
+    def test_package_loads_the_installed_library(self, usr: Tree, other: Tree) -> None:
+        code = "import exifnorm; exifnorm.version(); print(open('/proc/self/maps').read())"
+        for it in (usr, other):
+            assert str(it.at(f"lib/libexifnorm.so.{VERSION}")) in self.python(it, "-c", code)
+
+    def test_package_uses_the_extension_module(self, usr: Tree, other: Tree) -> None:
+        code = "import exifnorm._library as l; print(l._native.__file__, l.library().short_normal(bytes.fromhex('1c02780004') + b'Vase'))"
+        for it in (usr, other):
+            need_headers(it.python)
+            path = it.module_folder / "exifnorm/_native.abi3.so"
+            assert self.python(it, "-c", code) == f"{path} b'\\x1c\\x02x\\x00\\x04Vase'\n"
+            assert ".symtab" not in run("readelf", "-SW", path)
+            assert re.search(r"\(FLAGS\).*BIND_NOW", run("readelf", "-dW", path))
+            assert "GNU_RELRO" in run("readelf", "-lW", path)
+            assert re.search(r"GNU_STACK .* RW ", run("readelf", "-lW", path))
+
+    def test_package_runs_its_example(self, usr: Tree, other: Tree) -> None:
+        for it in (usr, other):
+            assert self.python(it, EXAMPLES / "compare.py") == "same\n"
+
+    def test_other_installers_leave_the_package_alone(self, usr: Tree) -> None:
+        """By PEP 376, because its installer is another program."""
+        assert (usr.module_folder / f"exifnorm-{VERSION}.dist-info/INSTALLER").read_text(encoding="utf-8") == "make\n"
+
+    def test_metadata_lists_the_command(self, usr: Tree) -> None:
+        code = "import importlib.metadata as m; print(*(it.group + ' ' + it.name + ' ' + it.value for it in m.distribution('exifnorm').entry_points))"
+        assert self.python(usr, "-c", code) == "console_scripts exifnorm-pictures exifnorm_pictures.main:main\n"
+
+
+class TestPicturesCommand:
+    """exifnorm-pictures, started from the installed tree without variables of the environment."""
+
+    def call(self, it: Tree, *words: str | Path, status: int = 0) -> str:
+        command = it.at("bin/exifnorm-pictures")
+        return run(command, *words, folder=Path("/"), status=status, PYTHONPATH="", EXIFNORM_LIBRARY="", PYTHONDONTWRITEBYTECODE="1")
+
+    def test_runs_by_the_python_that_it_was_installed_for(self, usr: Tree, other: Tree) -> None:
+        first = usr.at("bin/exifnorm-pictures").read_text(encoding="utf-8").split("\n")[0]
+        assert first == f"#!{DEBIAN_PYTHON}"
+        lines = other.at("bin/exifnorm-pictures").read_text(encoding="utf-8").split("\n")
+        assert lines[:2] == ["#!/bin/sh", f"'''exec' '{other.python}' \"$0\" \"$@\""]
+
+    def test_judges_a_block(self, usr: Tree, other: Tree, folder: Path) -> None:
+        (folder / "block").write_bytes(BLOCK)
+        for it in (usr, other):
+            assert "Orientation" in self.call(it, "show", "--block", folder / "block")
+
+    def test_prints_its_version(self, usr: Tree, other: Tree) -> None:
+        for it in (usr, other):
+            assert self.call(it, "--version") == f"exifnorm-pictures {VERSION}\n"
+
+    def test_starts_through_a_link(self, other: Tree, folder: Path) -> None:
+        link = folder / "linked-pictures"
+        link.symlink_to(other.at("bin/exifnorm-pictures"))
+        assert "--catalogue" in run(link, "same", "--help", folder=Path("/"), PYTHONPATH="", PYTHONDONTWRITEBYTECODE="1")
+
+    def test_a_refused_block_ends_with_its_status(self, usr: Tree, folder: Path) -> None:
+        (folder / "refused").write_bytes(BLOCK[:-4] + bytes.fromhex("00000008"))
+        assert "refused: Loop at 22" in self.call(usr, "show", "--block", folder / "refused", status=2)
+
+    def test_takes_the_packages_that_were_installed_with_it(self, other: Tree, folder: Path) -> None:
+        another = folder / "another"
+        (another / "exifnorm_pictures").mkdir(parents=True)
+        (another / "exifnorm_pictures/__init__.py").touch()
+        (another / "exifnorm_pictures/main.py").write_text("def main():\n    print('another version')\n")
+        said = run(other.at("bin/exifnorm-pictures"), "--version", PYTHONPATH=str(another), PYTHONDONTWRITEBYTECODE="1")
+        assert said == f"exifnorm-pictures {VERSION}\n"
+
+    def test_wrong_arguments_end_with_status_three(self, other: Tree) -> None:
+        self.call(other, "no-such-command", status=3)
+
+    def test_runs_where_it_is_installed_without_a_stage(self, folder: Path) -> None:
+        prefix = folder / "venv"
+        run(sys.executable, "-m", "venv", "--without-pip", prefix)
+        before = tree(prefix)
+        here = Tree(Path("/"), str(prefix), str(prefix / "bin" / "python3"))
+        here.make("install")
+        (folder / "block").write_bytes(BLOCK)
+        assert "Orientation" in self.call(here, "show", "--block", folder / "block")
+        said = run(here.python, "-B", "-c", "import exifnorm; print(exifnorm.version())", folder=folder, PYTHONPATH="", EXIFNORM_LIBRARY="")
+        assert said == f"{VERSION}\n"
+        here.make("uninstall")
+        assert tree(prefix) == before
+
+
+class TestUninstall:
+    """What uninstall removes, and what a later installation does."""
+
+    @pytest.fixture(autouse=True)
+    def set_up(self, folder: Path) -> None:
+        self.it = Tree(folder / "root", "/usr", DEBIAN_PYTHON)
+        self.it.root.mkdir()
+
+    def test_all_is_removed_and_no_folder_is_left(self) -> None:
+        self.it.make("install")
+        self.it.make("uninstall")
+        assert tree(self.it.root) == {}
+
+    def test_nothing_else_is_removed(self, folder: Path) -> None:
+        foreign = {f"{it}{name}": FILE for it in self.it.expected() if it.endswith("/") for name in ("foreign", "foreign folder/file")}
+        for name in foreign:
+            path = self.it.root / name
+            path.parent.mkdir(parents=True, exist_ok=True)
+            path.write_text("foreign")
+            path.chmod(FILE)
+        for path in self.it.root.rglob("*/"):
+            path.chmod(0o755)
+        before = tree(self.it.root)
+        self.it.make("install")
+        run(self.it.python, "-c", "import exifnorm", folder=folder, PYTHONPATH=str(self.it.module_folder), PYTHONDONTWRITEBYTECODE="")
+        assert (self.it.module_folder / "exifnorm/__pycache__").is_dir()
+        self.it.make("uninstall")
+        assert tree(self.it.root) == before
+        assert before == with_folders(foreign)
+
+    def test_empty_folders_that_were_there_stay(self) -> None:
+        """With the modes that they had."""
+        for name in ("share/man/man1", "share/exifnorm"):
+            self.it.at(name).mkdir(parents=True)
+        for path in self.it.root.rglob("*/"):
+            path.chmod(0o750)
+        self.it.make("install")
+        self.it.make("uninstall")
+        there = ("usr/", "usr/share/", "usr/share/exifnorm/", "usr/share/man/", "usr/share/man/man1/")
+        assert tree(self.it.root) == dict.fromkeys(there, 0o750)
+
+    def test_a_second_installation_is_removed_as_the_first(self) -> None:
+        self.it.make("install")
+        self.it.make("install")
+        assert tree(self.it.root) == self.it.expected()
+        self.it.make("uninstall")
+        assert tree(self.it.root) == {}
+
+    def test_nothing_of_an_older_version_stays(self, folder: Path) -> None:
+        self.it.make("install", "VERSION=0.9.9")
+        assert "usr/lib/libexifnorm.so.0.9.9" in tree(self.it.root)
+        run(self.it.python, "-c", "import exifnorm", folder=folder, PYTHONPATH=str(self.it.module_folder), PYTHONDONTWRITEBYTECODE="")
+        shutil.rmtree(self.it.module_folder / "exifnorm/__pycache__")
+        self.it.make("install")
+        assert tree(self.it.root) == self.it.expected()
+
+    def test_removal_where_nothing_is_installed_fails(self) -> None:
+        said = run("make", "uninstall", f"DESTDIR={self.it.root}", "PREFIX=/usr", status=2)
+        assert f"exifnorm: uninstall: nothing is installed there: there is no list {self.it.root}/usr/share/exifnorm/installed\n" in said

@@ -1,0 +1,298 @@
+"""Facts about the bodies of Rattle functions on which a reader relies, and which no contract can state.
+
+A call over an allocator, and an export for C, makes a `Memory` of its own, of which no clause can speak. So its body must be one line over
+its `_in` variant, which is proved to fail only where an allocation failed. Only a few listed functions make memory otherwise, and hardly a
+function but those of `Memory` calls what allocates. Libraries that `make` built are judged by the compiled code, programs and static
+libraries by their text.
+"""
+
+import doctest
+import re
+import sys
+from pathlib import Path
+
+import lowered
+import pytest
+
+TOP = Path(__file__).resolve().parent.parent.parent
+PARAMETERS, LINES, COLUMNS = 5, 40, 140
+
+# Where a function begins.
+FUNCTION = re.compile(r"^(?P<indent> *)(?P<public>pub(?:\(crate\))? )?(?:extern \"C\" )?fn (?P<name>\w+)", re.M)
+
+# What follows: an array's type, a clause, the body, or the end of a declaration.
+SIGNATURE = re.compile(r"\[[^\]\n]*\]|\b(?:requires|ensures)\b[^{;]*\{|\{|;")
+
+
+def closed(text, at, opening, closing):
+    """The position after the bracket that closes the one at `at`."""
+    depth = 0
+    for i in range(at, len(text)):
+        depth += (text[i] == opening) - (text[i] == closing)
+        if depth == 0:
+            return i + 1
+    raise ValueError("a bracket is left open")
+
+
+def parted(text):
+    """The parts of a list, cut at the commas outside brackets."""
+    parts, depth, part = [], 0, ""
+    for c in text:
+        depth += (c in "(<[{") - (c in ")>]}")
+        if c == "," and depth == 0:
+            parts.append(part.strip())
+            part = ""
+        else:
+            part += c
+    return [it for it in [*parts, part.strip()] if it]
+
+
+def functions(text):
+    """Each function with a body: its name, whether it is public, its parameters, and the lines of its body."""
+    for found in FUNCTION.finditer(text):
+        at = found.end()
+        if text[at] == "<":
+            at = closed(text.replace("->", "  "), at, "<", ">")
+        end = closed(text, at, "(", ")")
+        parameters = parted(text[at + 1 : end - 1])
+        # after the result and the clauses comes the body, or a semicolon in a trait
+        for part in SIGNATURE.finditer(text, end):
+            if part[0].endswith("]") or part.start() < end:
+                continue
+            if part[0] == ";":
+                break
+            end = closed(text, part.end() - 1, "{", "}")
+            if part[0] == "{":
+                yield found["name"], bool(found["public"]), parameters, text[part.end() : end - 1]
+                break
+
+
+def crates():
+    """Each crate's functions, without those of tests: (file, name, whether it is public, parameters, body)."""
+    for folder in sorted(TOP.glob("crates/*/src")):
+        paths = [it for it in sorted(folder.glob("*.rt")) if not it.name.endswith("tests.rt")]
+        yield folder.parent.name, [
+            (str(it.relative_to(TOP)), *found) for it in paths for found in functions(it.read_text(encoding="utf-8"))
+        ]
+
+
+# The memory that a call makes for itself, and the one line over the `_in` variant.
+OWN = r"(?:let mut memory = (?:Memory::new\([*\w.]+(?:\(\))?\)|[\w.]+\.(?:fresh|memory)\(\)); )?"
+VARIANT = (
+    OWN + r"(?:Ok\()?(?:self\.|\w+::)?{}_in\(((?:(?:&mut |&)?(?:memory|Memory::new\(alloc\))|\w+)(?:, \w+)*)\)(?:\?\)|\?; Ok\(\(\)\))?"
+)
+
+# A call that makes a Memory.
+MAKES = re.compile(r"\bMemory::new\(|\.fresh\(\)")
+
+# The functions that make memory and are not one line over an `_in` variant: that of the program, those of structs that keep memory
+# for later calls, and one of `Memory` itself.
+MAKERS = {
+    "crates/px_bytes/src/growing.rt: new",
+    "crates/px_bytes/src/growing.rt: with_room_in",
+    "crates/px_bytes/src/memory.rt: fresh",
+    "crates/px_cli/src/main.rt: run_given",
+    "crates/px_iim/src/iim.rt: new_in",
+    "crates/px_plans/src/plan.rt: new_in",
+}
+
+# A text that calls what allocates, other than a call of `Memory`.
+ALLOCATES = re.compile(
+    r"\b(?:Arc|Arg|BTreeMap|Box|Command|Rc|String|Vec)::|\b(?:format|vec)!|\.(?:clone|collect|to_owned|to_string|to_vec)\(|"
+    r"\.(?:subcommand\(\w|try_get_matches_from\()|"
+    r"(?<!\bmemory)\.(?:extend_from_slice|insert|push|push_str|reserve|reserve_exact|resize)\((?!memory\b)"
+)
+
+# The functions that call what allocates and are none of `Memory`: those over clap, which takes no `Memory`, and the one that copies the
+# program's arguments. px_devices and px_calls are only for tests.
+GROWERS = {
+    "crates/px_cli/src/main.rt: run_given",
+    "crates/px_words/src/grammar.rt: bare",
+    "crates/px_words/src/grammar.rt: joined",
+    "crates/px_words/src/grammar.rt: of_one",
+    "crates/px_words/src/grammar.rt: of_two",
+    "crates/px_words/src/grammar.rt: with_word",
+    "crates/px_words/src/words.rt: parse",
+    "crates/px_words/src/words.rt: read_error",
+}
+
+# The two lines of the program's run. No contract describes clap's result, so the run does nothing else.
+RUN = "let asked = parse(memory, rt.alloc(), words, VERSION); run_asked(rt, files, memory, asked, lines)"
+
+
+def is_one_line(name, takes, body):
+    """Whether a body only calls the `_in` variant of that name, with the memory and all parameters of the function, in their order.
+
+    >>> is_one_line("check", ["alloc", "file"], "check_in(&mut Memory::new(alloc), file)")
+    True
+    >>> is_one_line("check", ["alloc", "file"], "if file.len() > 2 { return NO_MEMORY; } check_in(&mut Memory::new(alloc), file)")
+    False
+    >>> is_one_line("compare", ["alloc", "first", "second"], "compare_in(&mut Memory::new(alloc), second, first)")
+    False
+    """
+    found = re.fullmatch(VARIANT.format(name), " ".join(body.split()))
+    given = [it for it in found[1].split(", ") if not re.search("memory|Memory", it)] if found else []
+    return bool(found) and given == [it for it in takes if it.lstrip("_") not in ("alloc", "&self", "&mut self")]
+
+
+def names_of(parameters):
+    """The names of parameters, without their types."""
+    return [it.split(":")[0].removeprefix("mut ").strip() for it in parameters]
+
+
+def place_of(crate, path):
+    """The file and the name of a function, from its path in the compiled code.
+
+    >>> [place_of("px_one", it) for it in ("px_one::files::Opened::of", "px_one::main")]
+    ['crates/px_one/src/files.rt: of', 'crates/px_one/src/lib.rt: main']
+    """
+    parts = path.split("::")
+    return f"crates/{crate}/src/{parts[1] if len(parts) > 2 else 'lib'}.rt: {parts[-1]}"
+
+
+def calls_over_an_allocator(found):
+    """The functions of a text that have an `_in` variant and take no memory: (path, plain name, parameters, body). Another type's method of
+    that name has no variant."""
+    names = {name for _, name, public, _, _ in found if public}
+    for path, name, public, parameters, body in found:
+        takes, plain = names_of(parameters), name.removeprefix("exifnorm_")
+        if not public or f"{plain}_in" not in names or "memory" in takes:
+            continue
+        if re.search(rf"\b{plain}_in\b", body) or any(it[0] == path and it[1] == f"{plain}_in" for it in found):
+            yield path, plain, takes, body
+
+
+def test_examples_of_this_module_and_of_lowered():
+    for module in (lowered, sys.modules[__name__]):
+        found = doctest.testmod(module)
+        assert found.attempted and not found.failed
+
+
+def test_calls_over_an_allocator_are_one_line_over_their_variant():
+    """By the compiled code, or by the text where the build leaves no library, as of the program and of the C library."""
+    wrong, seen = [], 0
+    for crate, found in crates():
+        compiled = lowered.functions(crate)
+        if compiled is not None:
+            both = lowered.with_variant(compiled)
+            wrong += [it for it in both if not lowered.only_calls(compiled[it], f"{it}_in")]
+            seen += len(both)
+        else:
+            both = list(calls_over_an_allocator(found))
+            wrong += [f"{path}: {name}" for path, name, takes, body in both if not is_one_line(name, takes, body)]
+            seen += len(both)
+    assert not wrong, "these do more than call their `_in` variant"
+    assert seen, "no call over an allocator was found"
+
+
+def test_each_library_is_read_as_it_was_compiled():
+    built = [crate for crate, _ in crates() if lowered.functions(crate)]
+    if not built:
+        pytest.skip("no library was built of these sources: call make first")
+    uses = lowered.Crates.read(TOP).uses
+    assert [it for it in lowered.below("px_cli", uses) if it not in built] == []
+
+
+def test_only_listed_functions_make_memory_otherwise():
+    makers = set()
+    for crate, found in crates():
+        compiled = lowered.functions(crate)
+        if compiled is not None:
+            both = lowered.with_variant(compiled)
+            makers |= {place_of(crate, it) for it in lowered.makers(compiled) if it not in both}
+        elif crate != "px_calls":
+            makers |= {
+                f"{path}: {name}"
+                for path, name, _, parameters, body in found
+                if MAKES.search(body) and not is_one_line(name.removeprefix("exifnorm_"), names_of(parameters), body)
+            }
+    assert makers == MAKERS
+
+
+def growers():
+    """The functions that call what allocates, but those of `Memory` and of crates for tests."""
+    for crate, found in crates():
+        if crate in ("px_calls", "px_devices"):
+            continue
+        compiled = lowered.functions(crate)
+        if compiled is None:
+            yield from (f"{path}: {name}" for path, name, _, _, body in found if ALLOCATES.search(body))
+        else:
+            yield from (place_of(crate, it) for it in lowered.allocating(compiled))
+
+
+def test_only_memory_and_listed_functions_allocate():
+    """No contract would count the requests of others."""
+    assert {it for it in growers() if not it.startswith("crates/px_bytes/src/memory.rt: ")} == GROWERS
+
+
+def test_each_export_with_memory_has_a_variant():
+    exports = [it for crate, found in crates() if crate == "px_c" for it in found]
+    names = {name for _, name, _, _, _ in exports}
+    assert {"exifnorm_check", "exifnorm_version"} <= names
+    assert [it[1] for it in exports if "alloc" in names_of(it[3]) and f"{it[1].removeprefix('exifnorm_')}_in" not in names] == []
+
+
+def test_the_run_of_the_program_is_two_lines():
+    """No contract describes clap's result, so the run does nothing else than to read its arguments and to do what they request."""
+    found = [body for _, it in crates() for path, name, _, _, body in it if (path, name) == ("crates/px_cli/src/run.rt", "run_words")]
+    assert [" ".join(it.split()) for it in found] == [RUN]
+
+
+def test_functions_are_short_and_take_few_parameters():
+    everything = [it for _, found in crates() for it in found]
+    assert [f"{path}: {name}" for path, name, _, parameters, _ in everything if len(parameters) > PARAMETERS] == []
+    assert [f"{path}: {name}" for path, name, _, _, body in everything if body.count("\n") > LINES] == []
+
+
+def test_lines_are_short():
+    """Except attributes, which `rt fmt` keeps on one line."""
+    paths = [it for pattern in ("src/*.rt", "specs/**/*.antt", "proofs/**/*.antt") for it in sorted(TOP.glob(f"crates/*/{pattern}"))]
+    lines = [(path, number, line) for path in paths for number, line in enumerate(path.read_text(encoding="utf-8").splitlines(), 1)]
+    assert [f"{path}:{number}" for path, number, line in lines if len(line) > COLUMNS and "#[tactic(" not in line] == []
+
+
+# A record, whose fields look like lemmas, and a public lemma.
+RECORD = re.compile(r"^( *)(?:pub )?record (?!\{)[^\n]*\n(?:(?!\1[^ \n])[^\n]*\n)*", re.M)
+LEMMA = re.compile(r"^(?P<indent> *)pub (?P<name>[^\s:(){}]+) :(?= |$)", re.M)
+WORD = re.compile(r"[^\s(){},.;:]+")
+GOALS = ("Answers.antt", "Proof.antt", "Invariants.antt")
+
+
+def texts(*patterns):
+    """The files of the crates by their paths, with their texts without comments."""
+    found = [it for pattern in patterns for it in sorted(TOP.glob(f"crates/*/{pattern}"))]
+    return {it: re.sub("(?:--|//) .*", "", it.read_text(encoding="utf-8")) for it in found}
+
+
+def public_lemmas():
+    """Each public lemma: its file, its name, and the file's text without it. Rattle names the goals of a function's proof."""
+    for path, text in texts("proofs/**/*.antt", "specs/lemmas/**/*.antt").items():
+        text = RECORD.sub("", text) if path.name not in GOALS else ""
+        for it in LEMMA.finditer(text):
+            start = it["indent"] + re.escape(it["name"]) + " "
+            own = re.compile(rf"[^\n]*\n(?:{it['indent']}(?:[ )\]}}]|unfolding )[^\n]*\n|{start}[^\n]*\n)*").match(text, it.start())[0]
+            if re.search(rf"^{start}", own, re.M):
+                yield path, it["name"], text.replace(own, "", 1)
+
+
+@pytest.fixture(scope="module")
+def lemmas():
+    found = list(public_lemmas())
+    assert found, "no lemma was found"
+    return found
+
+
+def test_lemmas_name_their_subject(lemmas):
+    """At least two words, joined by `_`."""
+    assert [f"{path.relative_to(TOP)}: {name}" for path, name, _ in lemmas if not re.fullmatch(r"\w+_\w+", name)] == []
+
+
+def test_public_lemmas_are_cited(lemmas):
+    """In the rest of their file, or in a file that names their module."""
+    words = {path: set(WORD.findall(text)) for path, text in texts("proofs/**/*.antt", "specs/**/*.antt", "src/*.rt").items()}
+
+    def is_cited(path, name, rest):
+        return name in WORD.findall(rest) or any({name, path.stem} <= words[it] for it in words if it != path)
+
+    assert [f"{path.relative_to(TOP)}: {name}" for path, name, rest in lemmas if not is_cited(path, name, rest)] == []
