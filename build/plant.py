@@ -1,0 +1,159 @@
+#!/usr/bin/env python3
+"""Plants random mistakes in Python statements, one at a time, and prints those that no test finds.
+
+  build/plant.py --since main                             in the statements that differ from main, with all tests
+  build/plant.py python/exifnorm --count 40 --tests tests/library/test_package.py -n 2
+
+It is run by hand, in copies of the tree. What follows --tests is passed to pytest. Some mistakes that get through change nothing that a
+user can notice; each of the others asks for a test.
+"""
+
+from __future__ import annotations
+
+import argparse
+import ast
+import queue
+import random
+import re
+import shutil
+import subprocess
+import tempfile
+from concurrent.futures import ThreadPoolExecutor
+from pathlib import Path
+from typing import Iterator, NamedTuple
+
+TOP = Path(__file__).resolve().parent.parent
+PYTHON = "/usr/bin/python3"  # Debian's, which has pytest
+LEFT_OUT = shutil.ignore_patterns(".git", "__pycache__", "proved", "stage", "wheel", "dist", "*.log")
+SWAPPED: dict[type, type] = {ast.Eq: ast.NotEq, ast.Lt: ast.LtE, ast.Gt: ast.GtE, ast.In: ast.NotIn, ast.Is: ast.IsNot,
+                             ast.Add: ast.Sub, ast.Mult: ast.FloorDiv, ast.And: ast.Or, ast.BitAnd: ast.BitOr}  # fmt: skip
+SWAPPED.update({new: old for old, new in SWAPPED.items()})
+
+
+class Mistake(NamedTuple):
+    path: Path
+    line: int
+    start: int  # bytes in the file
+    end: int
+    text: str
+
+
+def changed_lines(since: str) -> dict[Path, set[int]]:
+    """The lines that differ from a commit, by file."""
+    words = ["git", "diff", "--unified=0", "--no-prefix", f"{since}...", "--", "*.py", ":!tests", ":!bench"]
+    found: dict[Path, set[int]] = {}
+    for line in subprocess.run(words, cwd=TOP, stdout=subprocess.PIPE, text=True, check=True).stdout.splitlines():
+        if line.startswith("+++ ") and line != "+++ /dev/null":
+            lines = found.setdefault(Path(line[4:]), set())
+        elif at := re.match(r"@@ .* \+(\d+)(?:,(\d+))? @@", line):
+            lines.update(range(int(at[1]), int(at[1]) + int(at[2] or 1)))
+    return found
+
+
+def parts(node: ast.AST) -> Iterator[ast.AST]:
+    """The expressions of a statement that run: no types, no documentation, and nothing inside formatted text, whose position Python 3.11
+    doesn't have."""
+    for name, value in ast.iter_fields(node):
+        for child in value if isinstance(value, list) else [value]:
+            if isinstance(child, ast.AST) and not isinstance(child, (ast.stmt, ast.JoinedStr)) and name not in ("annotation", "returns"):
+                yield child
+                yield from parts(child)
+
+
+def variants(node: ast.AST) -> Iterator[ast.AST]:
+    """The node with a mistake."""
+    if isinstance(node, ast.Compare) and type(node.ops[0]) in SWAPPED:
+        yield ast.Compare(node.left, [SWAPPED[type(node.ops[0])](), *node.ops[1:]], node.comparators)
+    elif isinstance(node, ast.BinOp) and type(node.op) in SWAPPED:
+        yield ast.BinOp(node.left, SWAPPED[type(node.op)](), node.right)
+    elif isinstance(node, ast.BoolOp):
+        yield ast.BoolOp(SWAPPED[type(node.op)](), node.values)
+    elif isinstance(node, ast.Constant) and isinstance(node.value, int):
+        yield ast.Constant(not node.value if isinstance(node.value, bool) else node.value + 1)
+    elif isinstance(node, ast.Constant) and isinstance(node.value, (str, bytes)) and node.value:
+        yield ast.Constant(node.value[1:])
+    elif isinstance(node, ast.IfExp):
+        yield ast.IfExp(node.test, node.orelse, node.body)
+
+
+def mistakes(path: Path, lines: set[int] | None) -> Iterator[list[Mistake]]:
+    """The mistakes in each statement that begins on one of these lines."""
+    source = (TOP / path).read_bytes()
+    starts = [0]
+    for line in source.splitlines(keepends=True):
+        starts.append(starts[-1] + len(line))
+
+    def mistake(node: ast.expr | ast.stmt, text: str) -> Mistake:
+        end = starts[(node.end_lineno or 1) - 1] + (node.end_col_offset or 0)
+        return Mistake(path, node.lineno, starts[node.lineno - 1] + node.col_offset, end, text)
+
+    for node in ast.walk(ast.parse(source)):
+        is_text = isinstance(node, ast.Expr) and isinstance(node.value, ast.Constant)
+        if not isinstance(node, ast.stmt) or is_text or (lines is not None and node.lineno not in lines):
+            continue
+        found = [mistake(it, f"({ast.unparse(new)})") for it in parts(node) if isinstance(it, ast.expr) for new in variants(it)]
+        if isinstance(node, (ast.If, ast.While)):
+            found.append(mistake(node.test, f"not ({ast.unparse(node.test)})"))
+        if isinstance(node, (ast.Expr, ast.Assign, ast.AugAssign, ast.Raise, ast.Delete)):
+            found.append(mistake(node, "pass"))
+        if isinstance(node, ast.Return) and node.value and ast.unparse(node.value) != "None":
+            found.append(mistake(node, "return None"))
+        if found:
+            yield found
+
+
+def tests_pass(tree: Path, words: list[str]) -> bool:
+    """Whether the tests pass in a copy of the tree. An endless loop is a failure."""
+    command = [PYTHON, "-m", "pytest", "-x", "-q", "-o", "timeout=300", *words]
+    with tempfile.TemporaryDirectory() as folder:
+        environment = {"PATH": "/usr/local/bin:/usr/bin:/bin", "TMPDIR": folder, "HOME": folder, "PYTHONDONTWRITEBYTECODE": "1"}
+        ran = subprocess.run(command, cwd=tree, env=environment, capture_output=True, text=True, stdin=subprocess.DEVNULL, check=False)
+    if ran.returncode not in (0, 1):
+        raise SystemExit(f"{' '.join(command)} ended with status {ran.returncode}:\n{ran.stdout[-2000:]}{ran.stderr[-2000:]}")
+    return ran.returncode == 0
+
+
+def try_all(chosen: list[Mistake], words: list[str], jobs: int) -> int:
+    """Prints the mistakes that get through, and returns their number."""
+    trees: queue.Queue[Path] = queue.Queue()
+    with tempfile.TemporaryDirectory(prefix="plant-") as folder, ThreadPoolExecutor(jobs) as pool:
+        Path(folder).chmod(0o755)
+        for number in range(jobs):
+            trees.put(Path(shutil.copytree(TOP, Path(folder, str(number)), symlinks=True, ignore=LEFT_OUT)))
+
+        def gets_through(it: Mistake) -> bool:
+            tree, source = trees.get(), (TOP / it.path).read_bytes()
+            (tree / it.path).write_bytes(source[: it.start] + it.text.encode() + source[it.end :])
+            passed = tests_pass(tree, words)
+            (tree / it.path).write_bytes(source)
+            trees.put(tree)
+            old, new = (" ".join(text.split()) for text in (source[it.start : it.end].decode(), it.text))
+            print(f"{'GOT THROUGH' if passed else 'found'}: {it.path}:{it.line}: {old} ==> {new}", flush=True)
+            return passed
+
+        if not tests_pass(Path(folder, "0"), words):
+            raise SystemExit("a test fails without a mistake")
+        return sum(pool.map(gets_through, chosen))
+
+
+def main() -> None:
+    parser = argparse.ArgumentParser(description=__doc__, formatter_class=argparse.RawDescriptionHelpFormatter)
+    parser.add_argument("paths", nargs="*", type=Path, help="files and folders of Python sources")
+    parser.add_argument("--since", help="the statements that differ from this commit")
+    parser.add_argument("--count", type=int, default=20, help="how many statements (20)")
+    parser.add_argument("--seed", type=int, default=random.randrange(10**6), help="the same number plants the same mistakes")
+    parser.add_argument("--jobs", type=int, default=2, help="how many copies of the tree (2)")
+    parser.add_argument("--tests", nargs=argparse.REMAINDER, default=["tests"], help="words for pytest; all tests without them")
+    given = parser.parse_args()
+    wanted: dict[Path, set[int] | None] = dict(changed_lines(given.since)) if given.since else {}
+    for path in given.paths:
+        wanted.update({it.resolve().relative_to(TOP): None for it in (path.rglob("*.py") if path.is_dir() else [path])})
+    statements = [it for path, lines in sorted(wanted.items()) if (TOP / path).exists() for it in mistakes(path, lines)]
+    chooser = random.Random(given.seed)
+    chosen = [chooser.choice(it) for it in chooser.sample(statements, min(given.count, len(statements)))]
+    print(f"{len(chosen)} of {len(statements)} statements; --seed {given.seed} repeats them", flush=True)
+    print(f"{try_all(chosen, given.tests, given.jobs) if chosen else 0} of {len(chosen)} got through")
+
+
+if __name__ == "__main__":
+    main()
