@@ -4,14 +4,15 @@
   build/plant.py --since main                             in the statements that differ from main, with all tests
   build/plant.py python/exifnorm --count 40 --tests tests/library/test_package.py -n 2
 
-It is run by hand, in copies of the tree. What follows --tests is passed to pytest. Some mistakes that get through change nothing that a
-user can notice; each of the others asks for a test.
+It works in copies of the tree, and passes what follows --tests to pytest. Some mistakes change nothing that a user can notice; each other
+one that gets through asks for a test.
 """
 
 from __future__ import annotations
 
 import argparse
 import ast
+import os
 import queue
 import random
 import re
@@ -19,23 +20,17 @@ import shutil
 import subprocess
 import tempfile
 from concurrent.futures import ThreadPoolExecutor
+from itertools import accumulate
 from pathlib import Path
-from typing import Iterator, NamedTuple
+from typing import Any, Iterator, NamedTuple
 
 TOP = Path(__file__).resolve().parent.parent
 PYTHON = "/usr/bin/python3"  # Debian's, which has pytest
 LEFT_OUT = shutil.ignore_patterns(".git", "__pycache__", "proved", "stage", "wheel", "dist", "*.log")
-SWAPPED: dict[type, type] = {ast.Eq: ast.NotEq, ast.Lt: ast.LtE, ast.Gt: ast.GtE, ast.In: ast.NotIn, ast.Is: ast.IsNot,
+SWAPPED: dict[type, Any] = {ast.Eq: ast.NotEq, ast.Lt: ast.LtE, ast.Gt: ast.GtE, ast.In: ast.NotIn, ast.Is: ast.IsNot,
                              ast.Add: ast.Sub, ast.Mult: ast.FloorDiv, ast.And: ast.Or, ast.BitAnd: ast.BitOr}  # fmt: skip
 SWAPPED.update({new: old for old, new in SWAPPED.items()})
-
-
-class Mistake(NamedTuple):
-    path: Path
-    line: int
-    start: int  # bytes in the file
-    end: int
-    text: str
+Mistake = NamedTuple("Mistake", [("path", Path), ("line", int), ("span", slice), ("text", str)])
 
 
 def changed_lines(since: str) -> dict[Path, set[int]]:
@@ -51,8 +46,7 @@ def changed_lines(since: str) -> dict[Path, set[int]]:
 
 
 def parts(node: ast.AST) -> Iterator[ast.AST]:
-    """The expressions of a statement that run: no types, no documentation, and nothing inside formatted text, whose position Python 3.11
-    doesn't have."""
+    """The expressions of a statement that run. Inside formatted text Python 3.11 has no positions."""
     for name, value in ast.iter_fields(node):
         for child in value if isinstance(value, list) else [value]:
             if isinstance(child, ast.AST) and not isinstance(child, (ast.stmt, ast.JoinedStr)) and name not in ("annotation", "returns"):
@@ -72,31 +66,27 @@ def variants(node: ast.AST) -> Iterator[ast.AST]:
         yield ast.Constant(not node.value if isinstance(node.value, bool) else node.value + 1)
     elif isinstance(node, ast.Constant) and isinstance(node.value, (str, bytes)) and node.value:
         yield ast.Constant(node.value[1:])
-    elif isinstance(node, ast.IfExp):
-        yield ast.IfExp(node.test, node.orelse, node.body)
 
 
 def mistakes(path: Path, lines: set[int] | None) -> Iterator[list[Mistake]]:
     """The mistakes in each statement that begins on one of these lines."""
     source = (TOP / path).read_bytes()
-    starts = [0]
-    for line in source.splitlines(keepends=True):
-        starts.append(starts[-1] + len(line))
+    starts = [0, *accumulate(map(len, source.splitlines(keepends=True)))]
 
     def mistake(node: ast.expr | ast.stmt, text: str) -> Mistake:
         end = starts[(node.end_lineno or 1) - 1] + (node.end_col_offset or 0)
-        return Mistake(path, node.lineno, starts[node.lineno - 1] + node.col_offset, end, text)
+        return Mistake(path, node.lineno, slice(starts[node.lineno - 1] + node.col_offset, end), text)
 
     for node in ast.walk(ast.parse(source)):
-        is_text = isinstance(node, ast.Expr) and isinstance(node.value, ast.Constant)
-        if not isinstance(node, ast.stmt) or is_text or (lines is not None and node.lineno not in lines):
+        is_documentation = isinstance(node, ast.Expr) and isinstance(node.value, ast.Constant)
+        if not isinstance(node, ast.stmt) or is_documentation or (lines is not None and node.lineno not in lines):
             continue
         found = [mistake(it, f"({ast.unparse(new)})") for it in parts(node) if isinstance(it, ast.expr) for new in variants(it)]
         if isinstance(node, (ast.If, ast.While)):
             found.append(mistake(node.test, f"not ({ast.unparse(node.test)})"))
-        if isinstance(node, (ast.Expr, ast.Assign, ast.AugAssign, ast.Raise, ast.Delete)):
+        elif isinstance(node, (ast.Expr, ast.Assign, ast.AugAssign, ast.Raise, ast.Delete)):
             found.append(mistake(node, "pass"))
-        if isinstance(node, ast.Return) and node.value and ast.unparse(node.value) != "None":
+        elif isinstance(node, ast.Return) and node.value and ast.unparse(node.value) != "None":
             found.append(mistake(node, "return None"))
         if found:
             yield found
@@ -106,7 +96,7 @@ def tests_pass(tree: Path, words: list[str]) -> bool:
     """Whether the tests pass in a copy of the tree. An endless loop is a failure."""
     command = [PYTHON, "-m", "pytest", "-x", "-q", "-o", "timeout=300", *words]
     with tempfile.TemporaryDirectory() as folder:
-        environment = {"PATH": "/usr/local/bin:/usr/bin:/bin", "TMPDIR": folder, "HOME": folder, "PYTHONDONTWRITEBYTECODE": "1"}
+        environment = {"PATH": os.environ["PATH"], "TMPDIR": folder, "HOME": folder}
         ran = subprocess.run(command, cwd=tree, env=environment, capture_output=True, text=True, stdin=subprocess.DEVNULL, check=False)
     if ran.returncode not in (0, 1):
         raise SystemExit(f"{' '.join(command)} ended with status {ran.returncode}:\n{ran.stdout[-2000:]}{ran.stderr[-2000:]}")
@@ -123,12 +113,12 @@ def try_all(chosen: list[Mistake], words: list[str], jobs: int) -> int:
 
         def gets_through(it: Mistake) -> bool:
             tree, source = trees.get(), (TOP / it.path).read_bytes()
-            (tree / it.path).write_bytes(source[: it.start] + it.text.encode() + source[it.end :])
+            (tree / it.path).write_bytes(source[: it.span.start] + it.text.encode() + source[it.span.stop :])
             passed = tests_pass(tree, words)
             (tree / it.path).write_bytes(source)
             trees.put(tree)
-            old, new = (" ".join(text.split()) for text in (source[it.start : it.end].decode(), it.text))
-            print(f"{'GOT THROUGH' if passed else 'found'}: {it.path}:{it.line}: {old} ==> {new}", flush=True)
+            old = " ".join(source[it.span].decode().split())
+            print(f"{'GOT THROUGH' if passed else 'found'}: {it.path}:{it.line}: {old} ==> {it.text}", flush=True)
             return passed
 
         if not tests_pass(Path(folder, "0"), words):
@@ -142,13 +132,13 @@ def main() -> None:
     parser.add_argument("--since", help="the statements that differ from this commit")
     parser.add_argument("--count", type=int, default=20, help="how many statements (20)")
     parser.add_argument("--seed", type=int, default=random.randrange(10**6), help="the same number plants the same mistakes")
-    parser.add_argument("--jobs", type=int, default=2, help="how many copies of the tree (2)")
+    parser.add_argument("--jobs", type=int, default=2, help="how many at a time (2)")
     parser.add_argument("--tests", nargs=argparse.REMAINDER, default=["tests"], help="words for pytest; all tests without them")
     given = parser.parse_args()
     wanted: dict[Path, set[int] | None] = dict(changed_lines(given.since)) if given.since else {}
     for path in given.paths:
         wanted.update({it.resolve().relative_to(TOP): None for it in (path.rglob("*.py") if path.is_dir() else [path])})
-    statements = [it for path, lines in sorted(wanted.items()) if (TOP / path).exists() for it in mistakes(path, lines)]
+    statements = [it for path, lines in sorted(wanted.items()) for it in mistakes(path, lines)]
     chooser = random.Random(given.seed)
     chosen = [chooser.choice(it) for it in chooser.sample(statements, min(given.count, len(statements)))]
     print(f"{len(chosen)} of {len(statements)} statements; --seed {given.seed} repeats them", flush=True)
