@@ -93,16 +93,16 @@ FISH = r"""
 @pytest.fixture(scope="module")
 def made(session_folder: Path) -> Path:
     """A folder with the completions of my-tool, and a folder with files that may be offered."""
-    room = session_folder / "completions"
-    (room / "files").mkdir(parents=True)
-    tool = room / "tool"
+    base = session_folder / "completions"
+    (base / "files").mkdir(parents=True)
+    tool = base / "tool"
     texts = [f"{quote(' '.join([*it.split(), '--help']))})\ncat <<'END'\n{text}END\n;;\n" for it, text in HELP.items()]
     tool.mkdir()
     (tool / "my-tool").write_text("#!/bin/sh\ncase $* in\n" + "".join(texts) + "esac\n")
     (tool / "my-tool").chmod(0o755)
     for name in ("compare.c", "other"):
-        (room / "files" / name).write_text("")
-    made = room / "made"
+        (base / "files" / name).write_text("")
+    made = base / "made"
     made.mkdir()
     run(sys.executable, TOP / "packaging" / "completions.py", tool / "my-tool", made, made, made)
     return made
@@ -218,7 +218,7 @@ class TestFish:
     @pytest.fixture(autouse=True)
     def set_up(self, made: Path) -> None:
         need("fish")
-        self.file, self.room = made / "my-tool.fish", made.parent
+        self.file, self.base = made / "my-tool.fish", made.parent
 
     @pytest.mark.parametrize(
         "line, expected",
@@ -252,7 +252,7 @@ class TestFish:
     def test_offers(self, line: str, expected: list[str]) -> None:
         """With their descriptions."""
         words = ["fish", "--no-config", "-c", "source $argv[1]; complete -C $argv[2]", self.file, f"my-tool {line}"]
-        said = run(*words, folder=self.room / "files", HOME=str(self.room))
+        said = run(*words, folder=self.base / "files", HOME=str(self.base))
         assert sorted(it.rstrip("\t") for it in said.splitlines()) == expected
 
     def test_each_option_is_declared_by_the_manual_of_fish(self) -> None:

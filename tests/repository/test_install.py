@@ -309,6 +309,11 @@ class TestLibraries:
         run("cc", EXAMPLES / "compare.c", *self.pkg_config(usr, "--cflags", "--libs"), "-o", "shared", folder=self.work)
         assert "exifnorm_compare@EXIFNORM_1" in run("readelf", "--dyn-syms", "-W", "shared", folder=self.work)
 
+    def test_the_library_needs_only_functions_that_allocate_and_copy(self, usr: Tree) -> None:
+        """So it opens no file, starts no process, and has no state of the C library."""
+        needed = set(re.findall(r"\bU (\w+)", run("nm", "-D", "--undefined-only", usr.at("lib/libexifnorm.so"))))
+        assert needed <= {"malloc", "calloc", "realloc", "free", "memcpy", "memmove", "memset"}
+
     def test_shared_library_is_stripped_unless_it_is_not_to_be(self, usr: Tree, folder: Path) -> None:
         assert ".symtab" not in run("readelf", "-SW", usr.at("lib/libexifnorm.so"))
         whole = Tree(folder / "whole", "/usr", DEBIAN_PYTHON, ["STRIP="])

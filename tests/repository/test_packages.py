@@ -193,13 +193,13 @@ class TestDebian:
     def packages(self, request: pytest.FixtureRequest, session_folder: Path, library: Path) -> None:
         """Builds the packages and installs them below a folder, whose package database is a copy of this machine's."""
         cls = request.cls
-        cls.room = session_folder / "debian"
-        cls.room.mkdir()
-        copy = copy_built(cls.room / "exifnorm")
+        cls.work = session_folder / "debian"
+        cls.work.mkdir()
+        copy = copy_built(cls.work / "exifnorm")
         run("dpkg-buildpackage", "-b", "-us", "-uc", folder=copy, PATH=SYSTEM_PATH, PYTHONDONTWRITEBYTECODE="")
-        cls.files = {it.name.partition("_")[0]: it for it in cls.room.glob("*.deb")}
+        cls.files = {it.name.partition("_")[0]: it for it in cls.work.glob("*.deb")}
         cls.libraries = f"usr/lib/{run('dpkg-architecture', '-qDEB_HOST_MULTIARCH').strip()}"
-        cls.root = cls.room / "root"
+        cls.root = cls.work / "root"
         cls.tools = cls.make_tools()
         for name in ("info", "updates", "triggers"):
             (cls.root / "var/lib/dpkg" / name).mkdir(parents=True)
@@ -211,7 +211,7 @@ class TestDebian:
     @classmethod
     def make_tools(cls) -> Path:
         """Commands for the scripts of packages, which run outside the root: they compile what is below it, as Debian's do."""
-        folder = cls.room / "tools"
+        folder = cls.work / "tools"
         folder.mkdir()
         listed = 'dpkg --root="$DPKG_ROOT" -L "$2" | grep "[.]py$" | sed "s|^|$DPKG_ROOT|"'
         cleaned = 'dpkg --root="$DPKG_ROOT" -L "$2" | grep "/__init__[.]py$" | sed "s|^\\(.*\\)/[^/]*$|$DPKG_ROOT\\1/__pycache__|"'
@@ -253,9 +253,9 @@ class TestDebian:
         and each has the papers that Debian requires."""
         found = {}
         for name in self.NAMES:
-            (self.room / "content" / name).mkdir(parents=True)
-            run("dpkg-deb", "-x", self.files[name], self.room / "content" / name)
-            files = {it: mode for it, mode in tree(self.room / "content" / name).items() if not it.endswith("/")}
+            (self.work / "content" / name).mkdir(parents=True)
+            run("dpkg-deb", "-x", self.files[name], self.work / "content" / name)
+            files = {it: mode for it, mode in tree(self.work / "content" / name).items() if not it.endswith("/")}
             assert set(files) & set(found) == set(), name
             found.update(files)
         papers = ("changelog.Debian.gz", "changelog.gz", "copyright")
@@ -268,7 +268,7 @@ class TestDebian:
 
     def test_lintian_has_no_error_and_no_warning(self) -> None:
         """Except for the Debian bug that a first upload closes."""
-        (changes,) = self.room.glob("*.changes")
+        (changes,) = self.work.glob("*.changes")
         words = ["--allow-root", "--fail-on", "error,warning", "--suppress-tags", "initial-upload-closes-no-bugs"]
         said = run("lintian", *words, changes, PATH=SYSTEM_PATH)
         assert re.findall(r"^[EW]: .*$", said, re.MULTILINE) == []
