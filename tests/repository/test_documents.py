@@ -207,7 +207,7 @@ def two_folders(folder: Path, environment: dict[str, str]) -> None:
 
 @pytest.mark.parametrize("name", ["docs/exifnorm.1", "docs/exifnorm.3", "docs/exifnorm-pictures.1"])
 def test_examples_of_a_manual_page(name: str, place: Path, environment: dict[str, str], library: Path) -> None:
-    shutil.copytree(place / "pictures", place / "archive")
+    shutil.copytree(place / "pictures", place / "archive", ignore=shutil.ignore_patterns("refused.jpg"))
     shutil.copy(place / "after.exif", place / "after")
     blocks = of_manual(name)
     assert blocks

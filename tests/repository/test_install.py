@@ -13,8 +13,7 @@ import sys
 from pathlib import Path
 
 import pytest
-from installed import CALLS, DEBIAN_PYTHON, EXAMPLES, FILE, MAKE, TOP, VERSION
-from installed import Tree, modules, need_headers, run, text_of, tree, with_folders
+from installed import CALLS, DEBIAN_PYTHON, EXAMPLES, MAKE, TOP, VERSION, Tree, modules, need_headers, run, text_of, tree
 
 pytestmark = pytest.mark.xdist_group("installation")  # two installations are made once, and shared
 BLOCK = bytes.fromhex("4d4d002a00000008 0001 0112 0003 00000001 00060000 00000000")
@@ -431,64 +430,3 @@ class TestPicturesCommand:
         assert said == f"{VERSION}\n"
         here.make("uninstall")
         assert tree(prefix) == before
-
-
-class TestUninstall:
-    """What uninstall removes, and what a later installation does."""
-
-    @pytest.fixture(autouse=True)
-    def set_up(self, folder: Path) -> None:
-        self.it = Tree(folder / "root", "/usr", DEBIAN_PYTHON)
-        self.it.root.mkdir()
-
-    def test_all_is_removed_and_no_folder_is_left(self) -> None:
-        self.it.make("install")
-        self.it.make("uninstall")
-        assert tree(self.it.root) == {}
-
-    def test_nothing_else_is_removed(self, folder: Path) -> None:
-        foreign = {f"{it}{name}": FILE for it in self.it.expected() if it.endswith("/") for name in ("foreign", "foreign folder/file")}
-        for name in foreign:
-            path = self.it.root / name
-            path.parent.mkdir(parents=True, exist_ok=True)
-            path.write_text("foreign")
-            path.chmod(FILE)
-        for path in self.it.root.rglob("*/"):
-            path.chmod(0o755)
-        before = tree(self.it.root)
-        self.it.make("install")
-        run(self.it.python, "-c", "import exifnorm", folder=folder, PYTHONPATH=str(self.it.module_folder), PYTHONDONTWRITEBYTECODE="")
-        assert (self.it.module_folder / "exifnorm/__pycache__").is_dir()
-        self.it.make("uninstall")
-        assert tree(self.it.root) == before
-        assert before == with_folders(foreign)
-
-    def test_empty_folders_that_were_there_stay(self) -> None:
-        """With the modes that they had."""
-        for name in ("share/man/man1", "share/exifnorm"):
-            self.it.at(name).mkdir(parents=True)
-        for path in self.it.root.rglob("*/"):
-            path.chmod(0o750)
-        self.it.make("install")
-        self.it.make("uninstall")
-        there = ("usr/", "usr/share/", "usr/share/exifnorm/", "usr/share/man/", "usr/share/man/man1/")
-        assert tree(self.it.root) == dict.fromkeys(there, 0o750)
-
-    def test_a_second_installation_is_removed_as_the_first(self) -> None:
-        self.it.make("install")
-        self.it.make("install")
-        assert tree(self.it.root) == self.it.expected()
-        self.it.make("uninstall")
-        assert tree(self.it.root) == {}
-
-    def test_nothing_of_an_older_version_stays(self, folder: Path) -> None:
-        self.it.make("install", "VERSION=0.9.9")
-        assert "usr/lib/libexifnorm.so.0.9.9" in tree(self.it.root)
-        run(self.it.python, "-c", "import exifnorm", folder=folder, PYTHONPATH=str(self.it.module_folder), PYTHONDONTWRITEBYTECODE="")
-        shutil.rmtree(self.it.module_folder / "exifnorm/__pycache__")
-        self.it.make("install")
-        assert tree(self.it.root) == self.it.expected()
-
-    def test_removal_where_nothing_is_installed_fails(self) -> None:
-        said = run("make", "uninstall", f"DESTDIR={self.it.root}", "PREFIX=/usr", status=2)
-        assert f"exifnorm: uninstall: nothing is installed there: there is no list {self.it.root}/usr/share/exifnorm/installed\n" in said
