@@ -14,7 +14,7 @@ from .lines import entry_json, entry_lines, named, output
 from .merge import merge
 
 DONE, FAILED = 0, 4
-FAILURES = ("Unreadable", "ToolFailed", "NeedsExifTool", "NeedsExiv2")
+FAILURES = ("Unreadable", "ToolFailed", "InternalError", "NeedsExifTool", "NeedsExiv2")
 
 
 def index_(asked: argparse.Namespace) -> int:

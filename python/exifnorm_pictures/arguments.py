@@ -76,6 +76,7 @@ def parser() -> argparse.ArgumentParser:
                                   formatter_class=argparse.RawDescriptionHelpFormatter)  # fmt: skip
         build(one)
         one.add_argument("--json", action="store_true", help="print one JSON object for each line")
+        one.add_argument("--debug", action="store_true", help="print the traceback of an internal error, as EXIFNORM_DEBUG=1 does")
         if name != "merge":
             one.add_argument("--files-from", metavar="LIST", help="read names from the file LIST, - for standard input: one for each line")
             one.add_argument("-0", "--null", action="store_true", help="the names in LIST end with NUL, as from find -print0")

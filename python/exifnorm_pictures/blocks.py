@@ -14,6 +14,10 @@ KIND_OF = {word: kind for kind, word in WORDS.items()}
 TOO_LONG, FAILED = "too long", "failed"
 
 
+class Damaged(Exception):
+    """A catalogue has a value that nothing here writes: it is damaged. Only what reads the values of a catalogue raises this."""
+
+
 class Block(NamedTuple):
     """A block: its name, its position in the file, its reader, and the result of judging it."""
 

@@ -10,9 +10,9 @@ import contextlib
 import os
 import sqlite3
 import stat
-import zlib
 from typing import Any, Callable, Iterable, Iterator, List, NamedTuple, Optional, Sequence, Tuple, TypeVar, overload
 
+from .blocks import Damaged
 from .ends import Failure
 from .formats.found import NotRead
 from .kept import Entry, Picture, Stamp, digests, has, not_read_of_row, picture_of_row
@@ -106,10 +106,6 @@ class NoCatalogue(Failure):
     """The file is missing, is no catalogue of this version, or is damaged."""
 
 
-# what a damaged catalogue leads to: errors of SQLite, and values of a wrong type
-WRONG = (sqlite3.Error, zlib.error, TypeError, ValueError, KeyError, IndexError, AttributeError, RecursionError)
-
-
 class Known(NamedTuple):
     """The known facts about a picture before it is looked at."""
 
@@ -199,15 +195,18 @@ class Catalogue:
 
     @contextlib.contextmanager
     def guarded(self) -> Iterator[None]:
-        """Raises `NoCatalogue` with the catalogue's name for errors of SQLite and for values of a wrong type."""
+        """Raises `NoCatalogue` with the catalogue's name for an error of SQLite, and for a value that no catalogue has."""
         try:
             yield
-        except WRONG as error:
+        except sqlite3.ProgrammingError:  # a wrong call of SQLite, which says nothing about the catalogue
+            raise
+        except (sqlite3.DatabaseError, Damaged) as error:
             raise self.failure(error) from error
 
-    def failure(self, error: BaseException) -> NoCatalogue:
-        """The error of a catalogue for one of `WRONG`."""
-        return NoCatalogue(f"{self.name}{'' if isinstance(error, sqlite3.OperationalError) else ' is damaged'}: {error}")
+    def failure(self, error: Exception) -> NoCatalogue:
+        """The error of this catalogue for one of SQLite, or for a value. Only a file that SQLite can't read is damaged, not a full disk."""
+        is_damaged = isinstance(error, Damaged) or type(error) is sqlite3.DatabaseError
+        return NoCatalogue(f"{self.name}{' is damaged' * is_damaged}: {error}")
 
     def __enter__(self) -> "Catalogue":
         return self
@@ -323,16 +322,14 @@ class Catalogue:
 
     def runs(self) -> List[Run]:
         """Each run, the first one first."""
-        return list(self.rows("SELECT started, ended, exiftool, exiv2 FROM runs ORDER BY id"))
+        return list(self.rows("SELECT started, ended, exiftool, exiv2 FROM runs ORDER BY id", (), _run_of_row))
 
     def known(self, path: bytes) -> Optional[Known]:
         """The record of one picture."""
         query = "SELECT id, size, modified, changed, inode, problem FROM pictures WHERE path = ?"
-        try:
+        with self.guarded():
             row = self.base.execute(query, (path,)).fetchone()
-            return None if row is None else _known(row)
-        except WRONG as error:
-            raise self.failure(error) from error
+        return None if row is None else _known(row)
 
     def is_empty(self) -> bool:
         """Whether no picture is known, as in a first run."""
@@ -400,6 +397,11 @@ def root_of_row(row: Tuple[bytes]) -> bytes:
     """The folder of a row `root`."""
     has(bytes, row[0])
     return row[0]
+
+
+def _run_of_row(row: Run) -> Run:
+    has(str, *(it for it in row if it is not None))
+    return row
 
 
 def _known(row: Tuple[int, Optional[int], int, int, int, Optional[str]]) -> Known:

@@ -98,6 +98,23 @@ def end_children() -> None:
         it.kill()
 
 
+_debug = False
+
+
+def set_debug(asked: bool) -> None:
+    """Whether errors of this package are printed with their tracebacks, also in processes that are started later."""
+    global _debug
+    _debug = asked or os.environ.get("EXIFNORM_DEBUG") == "1"
+
+
+def trace(error: BaseException) -> None:
+    """Writes the traceback of an error of this package to standard error, if that was asked for."""
+    if _debug:
+        import traceback
+
+        say("".join(traceback.format_exception(type(error), error, error.__traceback__)).rstrip())
+
+
 def say(text: str) -> None:
     """Writes a line to standard error, as far as that can be written to."""
     try:

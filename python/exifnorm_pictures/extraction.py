@@ -6,10 +6,12 @@ import os
 import re
 import stat
 
+from . import ends
 from .formats import jpeg, png, tiff, webp
 from .formats.found import PROBLEMS, Blocks, Broken, LeftToOthers
 from .formats.streams import File
 from .others import add_trailers, by_others
+from .texts import described
 
 
 def blocks_of(path: bytes, whole: bool = False) -> Blocks:
@@ -35,6 +37,12 @@ def blocks_of(path: bytes, whole: bool = False) -> Blocks:
     if blocks.has_more:
         add_trailers(blocks, path)
     return blocks
+
+
+def failed_here(error: Exception) -> Blocks:
+    """The result for a file at which our own code failed, and no other program."""
+    ends.trace(error)
+    return Blocks(problem="InternalError", detail=f"{PROBLEMS['InternalError']}: {described(error)}")
 
 
 def _opened(path: bytes) -> File:

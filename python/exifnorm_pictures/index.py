@@ -114,7 +114,7 @@ def _is_unchanged(it: Found, known: Optional[Known]) -> bool:
 def _worth_another(problem: Optional[str]) -> bool:
     """Whether a problem may be solved although the file is the same: rights, a program that was installed, a file that is back."""
     program = NEEDED.get(problem or "")
-    return problem in ("Unreadable", "ToolFailed", *GONE) or (program is not None and tools.is_there(program))
+    return problem in ("Unreadable", "ToolFailed", "InternalError", *GONE) or (program is not None and tools.is_there(program))
 
 
 def _gone(names: Iterable[bytes], work: Work, catalogue: Catalogue) -> Tuple[List[Entry], Departed]:

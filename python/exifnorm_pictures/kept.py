@@ -7,7 +7,7 @@ import os
 from dataclasses import dataclass
 from typing import Any, Dict, Iterable, List, NamedTuple, Optional, Sequence, Tuple
 
-from .blocks import KIND_OF, KINDS, Block
+from .blocks import KIND_OF, KINDS, Block, Damaged
 from .formats.found import XMP, Blocks, NotRead
 from .verdicts import ABSENT, ACCEPTED, REFUSED, UNREADABLE, Side, side_of
 
@@ -134,10 +134,17 @@ def not_read_of_row(row: Tuple[Any, ...]) -> NotRead:
 
 
 def has(kind: type, *values: object) -> None:
-    """Raises `ValueError` if a value of a row isn't of this type."""
+    """Raises `Damaged` if a value of a row isn't of this type."""
     for it in values:
         if not isinstance(it, kind):
-            raise ValueError(f"{it!r} is a value of another type")
+            raise Damaged(f"{it!r} is a value of another type")
+
+
+def kind_of(word: str) -> str:
+    """The kind of a block by its word in a catalogue. Raises `Damaged` if there is none."""
+    if word not in KIND_OF:
+        raise Damaged(f"{word!r} is no kind of block")
+    return KIND_OF[word]
 
 
 def picture_of_row(row: Tuple[Any, ...]) -> Picture:
@@ -154,4 +161,4 @@ def block_of_row(row: Tuple[Any, ...]) -> Block:
     number, kind, name, source, extractor, status, digest, cause, place, length, octets = row
     has(str, kind, name, source, extractor, status, octets, *(it for it in (digest, cause) if it is not None))
     has(int, number, length, *(it for it in (place,) if it is not None))
-    return Block(KIND_OF[kind], name, source, extractor, status, digest, cause, place, length, octets)
+    return Block(kind_of(kind), name, source, extractor, status, digest, cause, place, length, octets)

@@ -8,6 +8,7 @@ import re
 import zlib
 from typing import Callable, Dict, Iterator, List, NamedTuple, Optional, Tuple
 
+from .blocks import Damaged
 from .names import full_name
 from .texts import escaped
 
@@ -186,13 +187,25 @@ def packed(found: List[Field]) -> bytes:
 
 
 def unpacked(octets: bytes) -> List[Field]:
-    """The fields from the result of `packed`. No compressed text begins with a bracket (RFC 1950, 2.2).
+    """The fields from the result of `packed`. No compressed text begins with a bracket (RFC 1950, 2.2). Raises `Damaged`.
 
     >>> few, many = ([Field("main", "010f", "ASCII", 4, '"abc"')] * number for number in (1, 1000))
     >>> unpacked(packed(few)) == few, unpacked(packed(many)) == many
     (True, True)
     """
-    return [Field(*it) for it in json.loads((octets if octets[:1] == b"[" else zlib.decompress(octets)).decode("ascii"))]
+    if not isinstance(octets, bytes):
+        raise Damaged(f"{octets!r} is a value of another type")
+    try:
+        text = octets if octets[:1] == b"[" else zlib.decompress(octets)
+        found = json.loads(text.decode("ascii"))
+    except (zlib.error, ValueError, RecursionError) as error:
+        raise Damaged(f"fields that can't be read: {error}") from error
+    if not isinstance(found, list) or not all(isinstance(it, list) and [type(one) for one in it] == _TYPES for it in found):
+        raise Damaged("a list of fields has something else")
+    return [Field(*it) for it in found]
+
+
+_TYPES = [str, str, str, int, str]
 
 
 class Change(NamedTuple):
@@ -231,7 +244,7 @@ def _order(key: Tuple[str, str]) -> Tuple[int, Tuple[int, ...], str]:
     number: Tuple[int, ...]
     if where == "xmp":
         number = ()
-    elif ":" in tag:
+    elif re.fullmatch("[0-9]{1,3}:[0-9]{1,3}", tag):
         number = tuple(int(it) for it in tag.split(":"))
     else:
         number = (int(tag, 16),) if re.fullmatch("[0-9a-f]{4}", tag) else (1 << 16,)  # a thumbnail, after all tags

@@ -30,8 +30,10 @@ def look(it: Found, whole: bool) -> Entry:
         return Entry(it.path, it.root, problem="Unreadable", detail=reason(error))
     except tools.Missing as error:
         return Entry.of(it.path, it.root, it.stamp, Blocks(problem="NeedsExifTool", detail=str(error)))
+    except MemoryError:
+        return failed(it, "out of memory")
     except Exception as error:  # an error of a reader affects only this file
-        return failed(it, f"it could not be read: {type(error).__name__}: {error}")
+        return Entry.of(it.path, it.root, it.stamp, extraction.failed_here(error))
     return Entry.of(it.path, it.root, _unless_changed(it), blocks, judged)
 
 

@@ -10,7 +10,7 @@ from typing import Optional, Sequence
 from . import ends
 from .arguments import parser
 from .ends import FAILED
-from .texts import reason, shown_path
+from .texts import described, reason, shown_path
 
 STOPPED = 130
 COLLECTED = 50_000  # objects after which Python looks for rings of objects: what a picture needs makes none, so mostly it looks in vain
@@ -27,7 +27,7 @@ _CALLS = {
     "explain": ("single", "explain_"),
     "mend": ("single", "mend_"),
 }
-_OTHERS = (("exifnorm", "LibraryMissing"), ("sqlite3", "Error"))  # errors of other packages whose texts are for people
+_OTHERS = (("exifnorm", "LibraryMissing"), ("sqlite3", "OperationalError"))  # errors of other packages whose texts are for people
 
 
 def main(words: Optional[Sequence[str]] = None) -> int:
@@ -51,7 +51,9 @@ def main(words: Optional[Sequence[str]] = None) -> int:
 
 def _run(words: Optional[Sequence[str]]) -> int:
     try:
+        ends.set_debug(False)
         asked = parser().parse_args(words)
+        ends.set_debug(asked.debug)
         module, function = _CALLS[asked.command]
         call = getattr(importlib.import_module(f".{module}", __package__), function)
         gc.freeze()
@@ -72,7 +74,8 @@ def _failed_by(error: Exception) -> int:
     if _is_expected(error):
         return _failed(str(error))
     if not isinstance(error, OSError):
-        return _failed(f"an internal error, please report it: {type(error).__name__}: {error}")
+        ends.trace(error)
+        return _failed(f"an internal error, please report it: {described(error)}")
     if error.filename is None:  # of standard output: a process that can't be started is `tools.Failed`
         return _output_failed(error)
     return _failed(f"{shown_path(error.filename)}: {reason(error)}")

@@ -8,8 +8,8 @@ import os
 import sqlite3
 from typing import Callable, Iterator, List, NamedTuple, Optional, Set, Tuple, TypeVar
 
-from .blocks import Block
-from .catalogue import BLOCK_COLUMNS, PICTURE_COLUMNS, WRONG, Catalogue, NoCatalogue, address
+from .blocks import Block, Damaged
+from .catalogue import BLOCK_COLUMNS, PICTURE_COLUMNS, Catalogue, NoCatalogue, address
 from .formats.found import NotRead
 from .kept import Picture, block_of_row, not_read_of_row, picture_of_row
 from .listing import Field, unpacked
@@ -88,10 +88,12 @@ class Pairs:
 
     @contextlib.contextmanager
     def _guarded(self) -> Iterator[None]:
-        """Raises `NoCatalogue` for an error in rows of both, since either may be damaged."""
+        """Raises `NoCatalogue` for an error of SQLite in rows of both, since either may be damaged."""
         try:
             yield
-        except WRONG as error:
+        except sqlite3.ProgrammingError:
+            raise
+        except sqlite3.DatabaseError as error:
             raise NoCatalogue(f"{self.catalogues[BEFORE].name} or {self.catalogues[AFTER].name}: {error}") from error
 
     # How rows are paired
@@ -114,7 +116,7 @@ class Pairs:
     def _named(self, side: int, path: object) -> bytes:
         """The name by which a picture is paired."""
         if not isinstance(path, bytes):
-            raise self.catalogues[side].failure(ValueError("the path of a picture isn't bytes"))
+            raise self.catalogues[side].failure(Damaged("the path of a picture isn't bytes"))
         head = self.heads[side]
         return path[len(head) :] if path.startswith(head) else path
 
@@ -189,16 +191,12 @@ class Pairs:
         return self._of(side, query, picture, not_read_of_row)
 
     def _of(self, side: int, query: str, picture: Picture, made: Callable[..., Made]) -> List[Made]:
-        try:
+        with self.catalogues[side].guarded():
             return [made(row) for row in self.base.execute(query, (picture.id,))]
-        except WRONG as error:
-            raise self.catalogues[side].failure(error) from error
 
     def _made(self, side: int, make: Callable[..., Made], value: object) -> Made:
-        try:
+        with self.catalogues[side].guarded():
             return make(value)
-        except WRONG as error:
-            raise self.catalogues[side].failure(error) from error
 
     def _rows(self, query: str, made: Callable[..., Made]) -> Iterator[Made]:
         with self._guarded():

@@ -14,12 +14,12 @@ from html import escape
 from typing import Any, Dict, Iterator, List, Optional, Set, Tuple
 
 from . import changed, groups, verdicts
-from .blocks import KIND_OF, WORDS
+from .blocks import WORDS
 from .catalogue import Catalogue, Run
 from .causes import CAUSES
 from .changed import Equal
 from .formats.found import PROBLEMS
-from .kept import Picture, has
+from .kept import Picture, has, kind_of
 from .page_style import STYLE
 from .texts import Members, path_members, shown_path
 from .thumbnails import small_pictures
@@ -39,6 +39,7 @@ STATE_WORDS = {
     "NeedsExiv2": "raw, and exiv2 is not installed",
     "NeedsExifTool": "of another format, and ExifTool is not installed",
     "ToolFailed": "at which a program failed",
+    "InternalError": "at which exifnorm-pictures itself failed",
 }
 
 
@@ -152,15 +153,20 @@ def _refused_of_row(row: Tuple[Any, ...]) -> Refused:
     path, kind, name, cause, place = row
     has(bytes, path)
     has(str, name, cause)
-    return Refused(path, KIND_OF[kind], name, cause, place)
+    return Refused(path, kind_of(kind), name, cause, place)
 
 
 def _gather_parts(found: Gathered, about: About) -> None:
     query = f"SELECT what, count(*) FROM not_read JOIN pictures ON pictures.id = picture WHERE {_chosen(about)} GROUP BY what"
-    for what, count in about.catalogue.rows(query):
+    for what, count in about.catalogue.rows(query, (), _part_of_row):
         found.parts[what] += count
     query = f"SELECT count(*) FROM pictures WHERE not_read IS NOT '' AND {_chosen(about)}"
     found.unread = next(about.catalogue.rows(query))[0]
+
+
+def _part_of_row(row: Tuple[str, int]) -> Tuple[str, int]:
+    has(str, row[0])
+    return row
 
 
 def _gather_changes(found: Gathered, about: About) -> None:

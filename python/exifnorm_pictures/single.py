@@ -34,6 +34,10 @@ def _blocks(asked: argparse.Namespace, name: bytes) -> Blocks:
             return Blocks(problem="ToolFailed", detail=str(error))
         except tools.Missing as error:
             return Blocks(problem="NeedsExifTool", detail=str(error))
+        except MemoryError:
+            raise
+        except Exception as error:  # an error of a reader affects only this file
+            return extraction.failed_here(error)
     try:
         with open(name, "rb") as file:
             octets = file.read(LONGEST)

@@ -3,7 +3,8 @@
 from __future__ import annotations
 
 import os
-from typing import Any, Dict, Union
+from types import TracebackType
+from typing import Any, Dict, Optional, Union
 
 Members = Dict[str, Any]  # of a JSON object
 
@@ -43,6 +44,22 @@ def shown_path(path: Union[bytes, str]) -> str:
 def reason(error: OSError) -> str:
     """Why the system refused something, as a message has it."""
     return (error.strerror or type(error).__name__).lower()
+
+
+_PACKAGES = ("exifnorm_pictures", "exifnorm")
+
+
+def described(error: BaseException) -> str:
+    """An error of our own code: its kind, its text, and the innermost of our lines that it came through."""
+    line = ""
+    step: Optional[TracebackType] = error.__traceback__
+    while step is not None:
+        file = step.tb_frame.f_code.co_filename
+        package = str(step.tb_frame.f_globals.get("__name__")).partition(".")[0]
+        if package in _PACKAGES:
+            line = f" ({file[file.rfind(package + os.sep) :]}, line {step.tb_lineno})"
+        step = step.tb_next
+    return f"{type(error).__name__}: {error}{line}"
 
 
 def path_members(path: bytes) -> Members:

@@ -29,7 +29,7 @@ OPTIONS = {
     "index": "catalogue keep-old again jobs quiet scheduler elsewhere", "merge": "catalogue", "same": "catalogue kind", "changed": "all jobs quiet", "show": "",
     "captions": "", "explain": "", "report": "catalogue json html since title", "mend": "files-from",
 }  # fmt: skip
-OF_SEVERAL = "json files-from null limit whole again version help"
+OF_SEVERAL = "json files-from null limit debug whole again version help"
 # The commands that the page names at each status.
 STATUSES = {0: "index", 1: "changed mend", 2: "captions changed explain mend show", 3: "", 4: "", 130: ""}
 
@@ -162,7 +162,7 @@ class Manual(WithPictures):
             self.assertIn(words, page)
             self.assertEqual(found, expected, words)
         quoted = set(re.findall(r"'([A-Z][a-z]+[A-Z]?[a-z]+)'", page))
-        self.assertEqual(quoted, {"Vanished", "Moved", "ToolFailed"})
+        self.assertEqual(quoted, {"Vanished", "Moved", "ToolFailed", "InternalError"})
         self.assertLessEqual(quoted - {"Moved"}, set(PROBLEMS))
 
 

@@ -21,116 +21,15 @@ from exifnorm_pictures import (  # noqa: E402
     archives, arguments, ends, extraction, kept, lines, looking, main, merge, processes, progress, report, session, states, tools, walk, writing, xmp,
 )  # fmt: skip
 from exifnorm_pictures.batches import How  # noqa: E402
-from exifnorm_pictures.blocks import Block  # noqa: E402
+from exifnorm_pictures.blocks import Block, Damaged  # noqa: E402
 from exifnorm_pictures.catalogue import Catalogue, NoCatalogue  # noqa: E402
-from exifnorm_pictures.formats.found import PROBLEMS, NotRead  # noqa: E402
+from exifnorm_pictures.formats.found import NotRead  # noqa: E402
 from exifnorm_pictures.kept import Entry, Stamp  # noqa: E402
 from exifnorm_pictures.walk import Found  # noqa: E402
-
-DESCRIPTION = (
-    "Compares the Exif, IPTC and XMP metadata of many pictures: finds pictures that mean the same, lists changed pictures with their fields,"
-    " and explains and mends refused ones."
-)
-END = """Statuses:
-  0    success (index: also if pictures are refused, which the catalogue records)
-  1    different (changed: something differs, was moved or is missing; mend: the copy differs in a printed value)
-  2    not comparable (changed, show, captions, explain: a block is refused or unreadable; changed: a part of a picture
-       wasn't read; mend: no remedy worked)
-  3    bad arguments
-  4    a file, a folder, a program, a stream or the catalogue failed; the other pictures were still looked at
-  130  stopped by the keyboard; reported results are kept, and the same command continues from there
-If several apply, the status is the greatest of them. SIGTERM and SIGHUP end the command by that signal.
-
-A file that can't be read, is gone, is no picture or has no block is reported in a line, and the other files are still looked
-at. In names, control characters and undecodable bytes are escaped. With --json each line is one object; it has the name as
-"path", and also as "path_hex" if the name is no UTF-8.
-
-Two Exif blocks, or two IPTC records, mean the same if their normal forms are equal, which is proved. XMP is compared by its
-statements, which is tested, and not proved. ExifTool reads the formats that have no reader here (Debian: libimage-exiftool-perl)."""
-
-# Each command: what it does, and its arguments with their help, in order. `!` marks one that is required.
-COMMON = ["--json", "print one JSON object for each line"]
-LISTS = ["--files-from LIST", "read names from the file LIST, - for standard input: one for each line",
-         "-0 --null", "the names in LIST end with NUL, as from find -print0"]  # fmt: skip
-LIMIT = ["--limit SECONDS", "time limit of ExifTool for a file (60)"]
-LOOKING = [*LIMIT, "--whole", "read every byte of a JPEG, not only its head and tail"]
-MANY = [*LOOKING, "--jobs N", "processes that look at pictures (as many as processors)", "--quiet", "no progress on standard error"]
-PICTURES = ["PICTURE *", None, "--block", "each PICTURE is a block that was extracted before", *LOOKING, *COMMON, *LISTS]
-COMMANDS = {
-    "index": ("look at all new and changed pictures, and keep their metadata in a catalogue", [
-        "FOLDER *", "a folder, with all below it, or a picture", "--catalogue FILE !", "the catalogue; created if it is missing",
-        "--keep-old OLD", "first copy the catalogue to OLD, for changed and report --since",
-        "--again", "look at all pictures, even if they haven't changed",
-        "--scheduler tcp://HOST:PORT", "look at the pictures on the workers of this Dask cluster",
-        "--elsewhere PATH", "the path of FOLDER on the workers", *MANY, *COMMON, *LISTS]),
-    "merge": ("join catalogues of several folders or machines", [
-        "CATALOGUE + !", "a catalogue; the last one with a picture counts",
-        "--catalogue ALL !", "the catalogue to write; created if it is missing", *COMMON]),
-    "same": ("list groups of pictures that mean the same", [
-        "--catalogue FILE !", None, "--kind {all,exif,iptc,xmp}", "the blocks that must mean the same (all)", *COMMON, *LISTS]),
-    "changed": ("list the differences between two catalogues or folders, with the fields", [
-        "BEFORE !", "a catalogue or a folder", "AFTER !", "a catalogue or a folder",
-        "--all", "also list pictures that mean the same, or are refused in the same bytes", *MANY, *COMMON, *LISTS]),
-    "show": ("print the fields of pictures", PICTURES),
-    "captions": ("print captions, names, keywords and rights of pictures", PICTURES),
-    "explain": ("explain why a block is refused, and name remedies", PICTURES),
-    "report": ("write one page about a catalogue", [
-        "--catalogue FILE !", None, "--since OLD", "an older catalogue: also list the changes", "--html PAGE", "the page to write",
-        "--title", "the page's title", *LIMIT, *COMMON, *LISTS]),
-    "mend": ("write a copy of a picture whose block is accepted", [
-        "PICTURE OUT + !", "the picture and the copy; with --files-from only a folder OUT", *LIMIT, *COMMON, *LISTS]),
-}  # fmt: skip
-
-# The values of the arguments of the shortest calls.
-DEFAULTS = {"version": None, "json": False, "files_from": None, "null": False}
-LOOKED = {"limit": 60.0, "whole": False}
-ALL_OF_THEM = {**LOOKED, "jobs": 0, "quiet": False}
-SHORTEST = {
-    "index --catalogue c": {"folders": [], "catalogue": "c", "keep_old": None, "again": False, "scheduler": None, "elsewhere": None, **ALL_OF_THEM},
-    "same --catalogue c": {"catalogue": "c", "kind": "all"},
-    "changed a b": {"before": "a", "after": "b", "all": False, **ALL_OF_THEM},
-    "show": {"pictures": [], "block": False, **LOOKED},
-    "report --catalogue c": {"catalogue": "c", "since": None, "html": None, "title": "Pictures and their metadata", "limit": 60.0},
-    "mend a": {"names": ["a"], "limit": 60.0},
-}
-
-
-def rows(parser):
-    """The arguments of a command and their help."""
-    for it in parser._actions:
-        if it.dest != "help":
-            words = [*it.option_strings, it.metavar or (f"{{{','.join(it.choices)}}}" if it.choices else ""), str(it.nargs or "") if it.nargs != 0 else ""]
-            yield from (" ".join([*filter(None, words), *["!"] * (it.required and it.nargs != "*")]), it.help)
 
 
 class CommandLine(unittest.TestCase):
     alone = True  # it replaces standard error
-    maxDiff = None
-
-    def test_all_of_them(self):
-        """With all texts of --help."""
-        whole = arguments.parser()
-        self.assertEqual((whole.prog, whole.description, whole.epilog), ("exifnorm-pictures", DESCRIPTION, END))
-        commands = whole._subparsers._group_actions[0]
-        self.assertEqual([(it.dest, it.help) for it in commands._choices_actions], [(name, does) for name, (does, _) in COMMANDS.items()])
-        for name, (does, expected) in COMMANDS.items():
-            it = commands.choices[name]
-            self.assertEqual((it.description, it.epilog), (does[0].upper() + does[1:] + ".", END), name)
-            self.assertIn(END, it.format_help(), "its lines stay as they are")
-            self.assertEqual(list(rows(it)), expected, name)
-        self.assertIn(f"{END}\n", whole.format_help())
-        self.assertEqual([it.help for it in whole._actions if it.option_strings == ["--version"]], ["the version"])
-
-    def test_their_values(self):
-        for words, expected in SHORTEST.items():
-            found = vars(arguments.parser().parse_args(words.split()))
-            self.assertEqual(found, {"command": words.split()[0], **DEFAULTS, **expected})
-        self.assertEqual(vars(arguments.parser().parse_args(["merge", "a", "b", "--catalogue", "c"])),
-                         {"command": "merge", "catalogues": ["a", "b"], "catalogue": "c", "version": None, "json": False})  # fmt: skip
-        given = "index f g --catalogue c --keep-old o --again --scheduler s --elsewhere e --limit 0.5 --whole --jobs 1 --quiet --json --files-from - -0"
-        expected = {"command": "index", "folders": ["f", "g"], "catalogue": "c", "keep_old": "o", "again": True, "scheduler": "s", "elsewhere": "e",
-                    "limit": 0.5, "whole": True, "jobs": 1, "quiet": True, "json": True, "files_from": "-", "null": True, "version": None}  # fmt: skip
-        self.assertEqual(vars(arguments.parser().parse_args(given.split())), expected)
 
     def refused(self, *words):
         """What is printed about refused arguments, and the status."""
@@ -267,8 +166,8 @@ class Messages(WithPictures):
         with Catalogue(name, make=True) as made:
             self.assertEqual(self.raised(NoCatalogue, merge.merge, made, [name]), f"{name} is the catalogue to be written")
             self.assertEqual(str(made.failure(sqlite3.OperationalError("disk I/O error"))), f"{name}: disk I/O error")
-            self.assertEqual(str(made.failure(ValueError("no text"))), f"{name} is damaged: no text")
-        self.assertEqual(self.raised(ValueError, kept.has, int, 1, "a"), "'a' is a value of another type")
+            self.assertEqual(str(made.failure(Damaged("no text"))), f"{name} is damaged: no text")
+        self.assertEqual(self.raised(Damaged, kept.has, int, 1, "a"), "'a' is a value of another type")
 
     def test_of_names(self):
         write(self.path("list"), b"a\0b\0")
@@ -362,7 +261,6 @@ class Messages(WithPictures):
             (tools.Failed("exiv2 failed"), marked._replace(problem="ToolFailed", detail="exiv2 failed", extractor="own", **rest)),
             (OSError(13, "Permission denied"), at._replace(problem="Unreadable", detail="permission denied")),
             (tools.Missing("exiftool"), marked._replace(problem="NeedsExifTool", detail=str(tools.Missing("exiftool")), extractor="own", **rest)),
-            (KeyError("a"), marked._replace(problem="ToolFailed", detail="it could not be read: KeyError: 'a'", extractor="own", **rest)),
         ):
             with mock.patch.object(looking.extraction, "blocks_of", mock.Mock(side_effect=why)):
                 self.assertEqual(looking.look(found, False), expected)
@@ -450,55 +348,6 @@ class OfPictures(unittest.TestCase):
         it = Entry(b"/a\n/b", b"", problem="Unreadable", detail="permission denied")
         self.assertEqual(lines.closed_folder(it), ["the folder /a\\n/b can't be read: permission denied"])
         self.assertEqual(lines.closed_folder(it._replace(root=b"/a")), [])
-
-
-class TextsInTables(unittest.TestCase):
-    """Tables of texts, as wholes."""
-
-    def test_problems(self):
-        self.assertEqual(PROBLEMS, {
-            "Vanished": "there is no such file any more",
-            "Unreadable": "the file can't be read",
-            "NoPicture": "the file is no picture that ExifTool knows",
-            "SeveralBlocks": "a CR3 file has several Exif blocks (CMT1 to CMT4), and ExifTool extracts only the first: two different pictures could seem"
-                             " to be the same",
-            "BigTIFF": "a BigTIFF, whose offsets have eight bytes, is not read",
-            "NeedsExiv2": "ExifTool gives no Exif block of raw files; exiv2 does, and it isn't installed (package exiv2)",
-            "ToolFailed": "the program that extracts blocks failed on this file",
-        })  # fmt: skip
-
-    def test_states_in_a_report(self):
-        self.assertEqual(report.STATE_WORDS, {
-            "accepted": "accepted: all blocks say something",
-            "refused": "with a block that is refused or unreadable",
-            "no block": "without an Exif, IPTC or XMP block",
-            "NoPicture": "no picture",
-            "Unreadable": "not readable",
-            "Vanished": "gone since an earlier run",
-            "Moved": "moved since an earlier run",
-            "SeveralBlocks": "with several Exif blocks (CR3)",
-            "BigTIFF": "BigTIFF, which is not read",
-            "NeedsExiv2": "raw, and exiv2 is not installed",
-            "NeedsExifTool": "of another format, and ExifTool is not installed",
-            "ToolFailed": "at which a program failed",
-        })  # fmt: skip
-
-    def test_causes_of_packets(self):
-        self.assertEqual(xmp.CAUSES, {
-            "TooLong": f"The packet has more than {16 << 20:,} bytes or more than 500,000 tags.",
-            "NotText": "The packet is no text in UTF-8, UTF-16 or UTF-32, or declares another encoding.",
-            "DocumentType": "The packet has a document type declaration, which XMP does not allow.",
-            "NotWellFormed": "The packet is not well-formed XML.",
-            "NoRDF": "The packet is not x:xmpmeta around one rdf:RDF, nor rdf:RDF by itself.",
-            "TooDeep": "More than 100 elements are nested in one another.",
-            "NotRDF": "What is inside rdf:RDF does not follow the syntax of RDF/XML.",
-            "SeveralSubjects": "The packet makes statements about several subjects.",
-            "Shared": "A node of the packet has several names or leads back to itself.",
-            "ExtensionMissing": "The packet names extended XMP that is not there.",
-            "ExtensionNotNamed": "There is extended XMP that no packet names.",
-            "ExtensionDamaged": "The extended XMP is not the one that the packet names, by its MD5.",
-            "NeedsRdflib": "The packet has a rare form of RDF/XML, for which the Python package rdflib is needed (package python3-rdflib).",
-        })  # fmt: skip
 
 
 if __name__ == "__main__":

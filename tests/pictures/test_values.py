@@ -179,7 +179,7 @@ class LookedAtAgain(unittest.TestCase):
 
     def test_problems_that_may_be_solved(self):
         """Although a file is the same: those of the system, and those of a program that was installed since."""
-        others = {"Vanished", "Moved", "Unreadable", "ToolFailed"}
+        others = {"Vanished", "Moved", "Unreadable", "ToolFailed", "InternalError"}
         for there, expected in (((), others), (("exiftool",), others | {"NeedsExifTool"}), (("exiv2",), others | {"NeedsExiv2"})):
             with mock.patch.object(index.tools, "is_there", there.__contains__):
                 found = {it for it in (None, *PROBLEMS, "Moved", "NeedsExifTool") if index._worth_another(it)}

@@ -21,6 +21,7 @@ PROBLEMS = {
     "BigTIFF": "a BigTIFF, whose offsets have eight bytes, is not read",
     "NeedsExiv2": "ExifTool gives no Exif block of raw files; exiv2 does, and it isn't installed (package exiv2)",
     "ToolFailed": "the program that extracts blocks failed on this file",
+    "InternalError": "exifnorm-pictures itself failed on this file; please report it",
 }
 
 _ORDINALS = ("first", "second", "third", "fourth", "fifth", "sixth", "seventh", "eighth", "ninth")

@@ -1,0 +1,158 @@
+"""A mistake in our own code is reported as such, with its file and line: never as a damaged catalogue, nor as a failure of ExifTool."""
+
+import json
+import os
+import sqlite3
+import zlib
+from collections import Counter
+
+import pytest
+from exifnorm_pictures import catalogue, changed, extraction, kept, listing, main, pairing, session
+from exifnorm_pictures.blocks import Block, Damaged
+from exifnorm_pictures.catalogue import Catalogue, NoCatalogue
+from exifnorm_pictures.formats import png
+from exifnorm_pictures.kept import Entry, Stamp
+from made_files import jpeg, png as made_png
+from studio import run
+
+FAULT = "unsupported operand type(s) for +: 'NoneType' and 'int'"
+
+
+def mistake(*_, **__):
+    return None + 1
+
+
+@pytest.fixture
+def command(capsys, tmp_path, monkeypatch):
+    """Runs exifnorm-pictures in this process, in a new folder with two pictures; returns what it prints."""
+    monkeypatch.chdir(tmp_path)
+    monkeypatch.delenv("EXIFNORM_DEBUG", raising=False)
+    monkeypatch.setattr(session._Own, "room", None)
+    (tmp_path / "p").mkdir()
+    (tmp_path / "p/a.jpg").write_bytes(jpeg())
+    (tmp_path / "p/b.png").write_bytes(made_png())
+
+    def call(*words, status):
+        capsys.readouterr()
+        assert main._run(words) == status
+        return capsys.readouterr()
+
+    return call
+
+
+def of_pictures(name, *paths):
+    made = Catalogue(str(name), make=True)
+    block = Block("exif", "Exif", "somewhere", "own", "refused", None, "Overlap", 34, 100, "0" * 64)
+    made.put(made.begin_run("2000-01-01T00:00:00Z"), [Entry(it, b"/", Stamp(1, 2, 3, 4), "JPEG", blocks=(block,)) for it in paths])
+    return made
+
+
+@pytest.mark.parametrize("words, module, name", [
+    (["index", "p", "--catalogue", "c", "--quiet", "--jobs", "1"], catalogue, "_row"),
+    (["same", "--catalogue", "c"], catalogue, "_check_head"),
+    (["changed", "c", "c"], pairing.Pairs, "_pair_of_row"),
+    (["changed", "c", "c"], pairing.Pairs, "_pair"),
+    (["changed", "c", "c", "--all"], pairing, "picture_of_row"),
+    (["report", "--catalogue", "c", "--json"], catalogue, "picture_of_row"),
+])  # fmt: skip
+def test_a_mistake_is_no_damage(command, monkeypatch, words, module, name):
+    of_pictures("c", b"/a").close()
+    with monkeypatch.context() as planted:
+        planted.setattr(module, name, mistake)
+        printed = command(*words, status=4).err
+    assert f"an internal error, please report it: TypeError: {FAULT} (exifnorm_pictures/" in printed
+    assert "damaged" not in printed and len(printed.splitlines()) == 1
+    where, _, line = printed.rpartition("(")[2].rstrip(")\n").partition(", line ")
+    with open(os.path.join(os.path.dirname(os.path.dirname(catalogue.__file__)), where)) as file:
+        assert "(" in file.read().splitlines()[int(line) - 1]  # the call of what failed
+
+
+@pytest.mark.parametrize("words, variable, has_it", [([], None, False), (["--debug"], None, True), ([], "1", True), ([], "0", False)])
+def test_the_traceback(command, monkeypatch, words, variable, has_it):
+    if variable:
+        monkeypatch.setenv("EXIFNORM_DEBUG", variable)
+    monkeypatch.setattr(catalogue, "_check_head", mistake)
+    lines = command("same", "--catalogue", "c", *words, status=4).err.splitlines()
+    assert ("Traceback (most recent call last):" in lines) is has_it
+    assert ("    return None + 1" in lines) is has_it
+
+
+@pytest.mark.parametrize("call, error, is_damaged", [
+    (lambda it: it.base.execute("SELECT 1 WHERE ? = 1"), sqlite3.ProgrammingError, False),
+    (lambda it: it.base.execute("SELECT missing"), NoCatalogue, False),
+    (lambda it: it.base.execute("UPDATE pictures SET type = NULL"), NoCatalogue, False),
+    (lambda it: (_ for _ in ()).throw(sqlite3.DatabaseError("malformed")), NoCatalogue, True),
+    (lambda it: kept.has(int, "a"), NoCatalogue, True),
+    (lambda it: kept.kind_of("other"), NoCatalogue, True),
+])  # fmt: skip
+def test_errors_of_sqlite_and_of_values(tmp_path, call, error, is_damaged):
+    made = of_pictures(tmp_path / "c", b"/a")
+    with pytest.raises(error) as raised, made.guarded():
+        call(made)
+    assert ("is damaged" in str(raised.value)) is is_damaged
+    made.close()
+
+
+@pytest.mark.parametrize("error", [TypeError, ValueError, KeyError, IndexError, AttributeError, RecursionError, zlib.error])
+@pytest.mark.parametrize("guard", [lambda it: it.guarded(), lambda it: it.transaction(), lambda it: it.reading()])
+def test_other_errors_stay_what_they_are(tmp_path, guard, error):
+    made = of_pictures(tmp_path / "c")
+    with pytest.raises(error), guard(made):
+        raise error("a mistake")
+    made.close()
+
+
+@pytest.mark.parametrize("octets", [b"", b"[", b"[1]", b'[["main"]]', b'[["main","010f","ASCII","4","a"]]', b'[["main","010f","ASCII",true,"a"]]',
+                                    b'["abcde"]', b"[" * 100_000, b"\0\x11", zlib.compress(b"7"), zlib.compress(b"\xff"), 7, "text"])  # fmt: skip
+def test_fields_that_are_damaged(octets):
+    with pytest.raises(Damaged):
+        listing.unpacked(octets)
+
+
+def test_keys_of_fields_that_are_damaged(tmp_path):
+    """They are compared as they are."""
+    fields = [[["main", key, "ASCII", 4, value]] for key, value in ((":x", "a"), (":x", "b"))]
+    sides = [of_pictures(tmp_path / name, b"/a") for name in ("before", "after")]
+    for it, digest, one in zip(sides, "ab", fields):
+        it.base.execute("UPDATE blocks SET status = 'accepted', cause = NULL, place = NULL, digest = ?, fields = ?", (digest, json.dumps(one).encode()))
+        it.base.execute("UPDATE pictures SET exif = ?", (digest,))
+    assert [it.result for it in changed.changed(*sides, Counter())] == ["different"]
+    for it in sides:
+        it.close()
+
+
+def test_a_picture_at_which_we_fail(command, monkeypatch):
+    """Others are looked at, the line has the place of the mistake, and the next run looks at it again."""
+    with monkeypatch.context() as planted:
+        planted.setattr(png, "read", mistake)
+        lines = command("index", "p", "--catalogue", "c", "--quiet", status=4).out.splitlines()
+        found = [json.loads(it) for it in command("show", "p/b.png", "p/a.jpg", "--json", status=4).out.splitlines()]
+        explained = command("explain", "p/b.png", "--debug", status=4)
+    assert [it.rpartition("/p/")[2].partition(":")[0] for it in lines[:-1]] == ["b.png"]
+    assert "b.png: InternalError: " in lines[0] and f"TypeError: {FAULT} (exifnorm_pictures/extraction.py, line " in lines[0]
+    assert "1 InternalError" in lines[-1]
+    assert [it.get("problem") for it in found] == ["InternalError", None]
+    assert explained.out.startswith("InternalError: ") and "    return None + 1" in explained.err.splitlines()
+    assert command("index", "p", "--catalogue", "c", "--quiet", status=0).out.splitlines() == ["1 no block, 1 unchanged"]
+
+
+@pytest.mark.parametrize("error, problem", [(MemoryError(), "ToolFailed"), (KeyError("a"), "InternalError"), (OSError(5, "I/O error"), "Unreadable")])
+def test_the_state_of_a_picture_has_the_cause(command, monkeypatch, error, problem):
+    def fails(*_):
+        raise error
+
+    monkeypatch.setattr(extraction, "blocks_of", fails)
+    lines = command("index", "p", "--catalogue", "c", "--quiet", status=4).out.splitlines()
+    assert lines[-1] == f"2 {problem}"
+
+
+def test_in_processes_of_their_own(tmp_path):
+    """A mistake in one of several processes has its place and traceback, too."""
+    (tmp_path / "p").mkdir()
+    for number in range(70):
+        (tmp_path / "p" / f"{number}.jpg").write_bytes(jpeg())
+    call = ("import sys; from exifnorm_pictures import main; from exifnorm_pictures.formats import jpeg\n"
+            "def mistake(*_): return None + 1\njpeg.read = mistake\nsys.exit(main.main(sys.argv[1:]))")  # fmt: skip
+    done = run(["python3", "-c", call, "index", "p", "--catalogue", "c", "--quiet", "--jobs", "2", "--debug"], str(tmp_path))
+    assert (done.returncode, done.stdout.splitlines()[-1]) == (4, b"70 InternalError"), done.stderr
+    assert done.stderr.count(b"Traceback") == 70 and b"extraction.py" in done.stderr
