@@ -10,10 +10,12 @@ Members = Dict[str, Any]  # of a JSON object
 
 
 def escaped(text: str) -> str:
-    r"""The text with the backslash, control characters, undecodable bytes and unprintable characters escaped.
+    r"""The text with the backslash, control characters, undecodable bytes and unprintable characters escaped, so that no two are alike.
 
-    >>> escaped("a\nb\\c"), escaped(os.fsdecode(b"x\xff"))
-    ('a\\nb\\\\c', 'x\\xff')
+    A byte is written as `\xff`, and a character from U+0080 on as `\u00ff`.
+
+    >>> escaped("a\nb\\c"), escaped(os.fsdecode(b"x\x85")), escaped("x\x85\u202e")
+    ('a\\nb\\\\c', 'x\\x85', 'x\\u0085\\u202e')
     """
     if text.isascii() and text.isprintable() and "\\" not in text:
         return text
@@ -31,13 +33,13 @@ def _escaped_character(character: str) -> str:
         return f"\\x{number - 0xDC00:02x}"
     if character.isprintable():
         return character
-    if number < 0x100:
+    if number < 0x80:  # which is a byte, too
         return f"\\x{number:02x}"
     return f"\\u{number:04x}" if number < 0x10000 else f"\\U{number:08x}"
 
 
 def shown_path(path: Union[bytes, str]) -> str:
-    """The name of a file in one line; two names never look alike."""
+    """The name of a file in one line, in which different names are different."""
     return escaped(os.fsdecode(path))
 
 

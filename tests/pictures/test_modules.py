@@ -89,12 +89,6 @@ class Names(unittest.TestCase):
                     self.assertIn(name.replace("-", "").lower(), known.get((where, key), ()), (where, key))
             self.assertEqual(standard, {}, where)
 
-    def test_characters_are_escaped_as_python_does(self):
-        for number in (*range(0x3000), *range(0xE000, 0xE010), *range(0xFFF0, 0x10010), *range(0xE0000, 0xE0200), 0x10FFFF):
-            character = chr(number)
-            expected = character if character.isprintable() and character != "\\" else character.encode("unicode_escape").decode()
-            self.assertEqual(texts.escaped(f"a{character}"), f"a{expected}")
-
     def test_texts_whose_encoding_is_not_declared(self):
         """Windows-1252 has signs where Latin-1 has control characters, and five bytes without one (RFC 1345 and Unicode's table CP1252)."""
         for octets, text in ((b"\x80\x93a\x94\x9f", "€“a”Ÿ"), (b"\xe9\x81\x8d\x8f\x90\x9d", "é\\x81\\x8d\\x8f\\x90\\x9d"), (b"\xff\0", "ÿ")):
@@ -324,12 +318,10 @@ class Ended(unittest.TestCase):
             (NoCatalogue("a catalogue"), 4, "a catalogue"),
             (tools.Failed("a program"), 4, "a program"),
             (OSError(28, "No space left on device", "a"), 4, "a: no space left on device"),
-            (KeyError("a name"), 4, "an internal error, please report it: KeyError: 'a name'"),
         ):
             lines = []
             with mock.patch.object(grouping, "same", side_effect=why), mock.patch.object(main.ends, "say", lines.append):
                 self.assertEqual((main._run(["same", "--catalogue", "c"]), lines), (status, [f"exifnorm-pictures: {line}"]))
-
 
     def test_errors_of_other_packages(self):
         """Their texts are for people, but only a package that was imported has them: most commands don't need all."""

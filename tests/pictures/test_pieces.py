@@ -82,7 +82,7 @@ class Shown(unittest.TestCase):
         self.assertIsNone(listing.thumbnail("exif\n[thumb]\nstrip 2: ffd8\n"))
 
     def test_names_of_files(self):
-        self.assertEqual(texts.escaped("\ud800\x7f\x85\u2028\U000e0001\udc80\udcff\ud7ff\\\r\n\t"), "\\ud800\\x7f\\x85\\u2028\\U000e0001\\x80\\xff\\ud7ff\\\\\\r\\n\\t")
+        self.assertEqual(texts.escaped("\ud800\x7f\x85\u2028\U000e0001\udc80\udcff\ud7ff\\\r\n\t"), "\\ud800\\x7f\\u0085\\u2028\\U000e0001\\x80\\xff\\ud7ff\\\\\\r\\n\\t")
         self.assertEqual([texts.reason(it) for it in (OSError(2, "No Such File"), OSError(), PermissionError())], ["no such file", "oserror", "permissionerror"])
         self.assertEqual([texts.path_members(it) for it in ("\u00fc\n".encode(), b"\xfc")], [{"path": "\u00fc\n"}, {"path": "\\xfc", "path_hex": "fc"}])
 
