@@ -89,7 +89,7 @@ class Found(unittest.TestCase):
     def test_a_picture_without_a_scan(self):
         head = b"\xff\xd8" + app1(A)
         for rest, unread in ((b"", []), (b"\xff\xd9", []), (b"\xff\xd9trailer", ["trailer of 7 bytes"]), (segment(0xFE, b"c"), []),
-                             (b"\xff", ["trailer of 1 bytes"])):  # fmt: skip
+                             (b"\xff", ["trailer of 1 byte"])):  # fmt: skip
             found = found_in(head + rest)
             self.assertEqual((named(found), [it.what for it in found.not_read]), ([("exif", "Exif", A)], unread), rest)
         for rest in (b"\xff\xe0", b"\xff\xe0\x01", b"\xff\xe0\0\x01", b"\xff\0", b"no marker"):

@@ -36,6 +36,15 @@ def ordinal(number: int) -> str:
     return _ORDINALS[number - 1] if number <= len(_ORDINALS) else f"{number}th"
 
 
+def length_of(count: int) -> str:
+    """A number of bytes in words.
+
+    >>> length_of(1), length_of(1234)
+    ('1 byte', '1,234 bytes')
+    """
+    return f"{count:,} byte{'s' * (count != 1)}"
+
+
 class Broken(Exception):
     """The file does not follow its format at a position that may have a block. Its text describes the fault and its position."""
 

@@ -12,7 +12,7 @@ from typing import List, Set, Tuple
 from . import mpf, photoshop
 from .extended_xmp import HEAD as EXTENDED
 from .extended_xmp import Pieces
-from .found import EXIF, XMP, Blocks, Broken, NotRead
+from .found import EXIF, XMP, Blocks, Broken, NotRead, length_of
 from .jpeg_segments import APP1, APP2, APP3, APP13, SOS, Budget, segments
 from .jpeg_tail import WINDOW, Tail, tail
 from .streams import Stream, digest_of, is_blank, read_at, size_of
@@ -155,7 +155,7 @@ def _read_after(stream: Stream, head: _Head, end: int, whole: bool) -> None:
         return
     head.blocks.has_more = head.blocks.has_more or (trailer is not None and trailer.may_hold_blocks)
     what = f"{trailer.name} trailer" if trailer else _kind_of_rest(stream, start, end)
-    head.blocks.not_read.append(NotRead(f"{what} of {end - start:,} bytes{head.of}", digest_of(stream, start, end)))
+    head.blocks.not_read.append(NotRead(f"{what} of {length_of(end - start)}{head.of}", digest_of(stream, start, end)))
 
 
 def _kind_of_rest(stream: Stream, at: int, end: int) -> str:

@@ -9,7 +9,7 @@ from __future__ import annotations
 import zlib
 
 from . import photoshop
-from .found import EXIF, IPTC, XMP, Blocks, Broken, NotRead
+from .found import EXIF, IPTC, XMP, Blocks, Broken, NotRead, length_of
 from .streams import Stream, digest_of, is_blank, read_at, size_of
 
 START = b"\x89PNG\r\n\x1a\n"
@@ -79,7 +79,7 @@ class _Reader:
     def rest(self, at: int) -> None:
         """The bytes after the last chunk."""
         if not is_blank(self.stream, at, self.size):
-            self.blocks.not_read.append(NotRead(f"trailer of {self.size - at:,} bytes", digest_of(self.stream, at, self.size)))
+            self.blocks.not_read.append(NotRead(f"trailer of {length_of(self.size - at)}", digest_of(self.stream, at, self.size)))
 
     def _text(self, kind: bytes, data: bytes, where: str) -> None:
         keyword, _, text = data.partition(b"\0")

@@ -12,7 +12,7 @@ from typing import Deque, Dict, Iterator, List, NamedTuple, Optional, Set, Tuple
 from exifnorm import LIMIT
 
 from . import photoshop
-from .found import EXIF, IPTC, XMP, Blocks, Broken, LeftToOthers, NotRead
+from .found import EXIF, IPTC, XMP, Blocks, Broken, LeftToOthers, NotRead, length_of
 from .streams import Stream, digest_of, is_blank, read_at
 from .tiff_block import Layout, Table, is_pointer
 from .tiff_directories import HEADS, IFD, LONG, MOST_DIRECTORIES, Directories, Directory, Entry
@@ -196,4 +196,4 @@ class _Reader:
         """The bytes after all parts that the directories point to."""
         stream, size = self.directories.stream, self.directories.size
         if self._end is not None and self._end < size and not is_blank(stream, self._end, size):
-            self.blocks.not_read.append(NotRead(f"trailer of {size - self._end:,} bytes", digest_of(stream, self._end, size)))
+            self.blocks.not_read.append(NotRead(f"trailer of {length_of(size - self._end)}", digest_of(stream, self._end, size)))

@@ -5,7 +5,7 @@ from __future__ import annotations
 
 import struct
 
-from .found import EXIF, XMP, Blocks, Broken, NotRead
+from .found import EXIF, XMP, Blocks, Broken, NotRead, length_of
 from .streams import Stream, digest_of, is_blank, read_at, size_of
 
 MOST_CHUNKS = 100_000
@@ -59,4 +59,4 @@ def _add(blocks: Blocks, kind: bytes, data: bytes, at: int) -> None:
 
 def _rest(blocks: Blocks, stream: Stream, at: int, size: int) -> None:
     if not is_blank(stream, at, size):
-        blocks.not_read.append(NotRead(f"trailer of {size - at:,} bytes", digest_of(stream, at, size)))
+        blocks.not_read.append(NotRead(f"trailer of {length_of(size - at)}", digest_of(stream, at, size)))
