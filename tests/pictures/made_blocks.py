@@ -1,13 +1,9 @@
 """A block for each cause of refusal, and JPEG pictures around blocks."""
 
 import struct
-import sys
-from pathlib import Path
 
-sys.path.append(str(Path(__file__).resolve().parent.parent / "blocks"))
-
-from meanings import ASCII, LONG, SHORT, UNDEFINED  # noqa: E402, F401 (tests take these from here)
-from reading import CAUSES, HEADER, MAKE, MODEL, block, entry, table  # noqa: E402, F401
+from meanings import ASCII, LONG, SHORT, UNDEFINED  # noqa: F401 (tests take these from here)
+from reading import CAUSES, HEADER, MAKE, MODEL, block, entry, table  # noqa: F401
 
 BLOCKS = {cause: made for cause, (made, _) in CAUSES.items()}
 

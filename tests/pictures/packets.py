@@ -1,8 +1,8 @@
-"""Packets of XMP made at random: all forms that writers use, some that they don't, and damaged ones."""
+"""Packets of XMP for hypothesis: all forms that writers use, some that they don't, and damaged ones."""
 
-import random
 import re
 
+from hypothesis import strategies as st
 from made_files import SPACES
 
 PACKET = (
@@ -26,51 +26,43 @@ _CONTENTS = (
 _NAMES = ("rdf:Bag", "rdf:Seq", "rdf:li", "dc:title", "xmp:a", "xmp:z", "rdf:Description", "xmp:d")
 
 
-def pieces():
-    """What packets are changed by, each as an element by itself."""
-    yield from (f"<r {SPACES} {it}/>" for it in _ATTRIBUTES)
-    yield from (f"<r {SPACES}>{it}</r>" for it in _CONTENTS)
-    yield from (f"<{it} {SPACES}/>" for it in _NAMES)
+def _chosen(draw, some, other):
+    return draw(st.sampled_from(some)) if some else other
 
 
-def _with_attribute(packet, chance):
-    places = [it.end() for it in re.finditer(r"<[a-zA-Z]+:\w+", packet)]
-    at = chance.choice(places or [0])
-    return f"{packet[:at]} {chance.choice(_ATTRIBUTES)}{packet[at:]}"
+def _with_attribute(packet, draw):
+    at = _chosen(draw, [it.end() for it in re.finditer(r"<[a-zA-Z]+:\w+", packet)], 0)
+    return f"{packet[:at]} {draw(st.sampled_from(_ATTRIBUTES))}{packet[at:]}"
 
 
-def _with_content(packet, chance):
-    at = chance.choice([it.end() for it in re.finditer(">", packet)] or [0])
-    return packet[:at] + chance.choice(_CONTENTS) + packet[at:]
+def _with_content(packet, draw):
+    at = _chosen(draw, [it.end() for it in re.finditer(">", packet)], 0)
+    return packet[:at] + draw(st.sampled_from(_CONTENTS)) + packet[at:]
 
 
-def _renamed(packet, chance):
-    found = chance.choice(re.findall(r"<((?:rdf|dc|xmp):\w+)", packet) or ["x"])
-    name = chance.choice(_NAMES)
+def _renamed(packet, draw):
+    found = _chosen(draw, re.findall(r"<((?:rdf|dc|xmp):\w+)", packet), "x")
+    name = draw(st.sampled_from(_NAMES))
     return packet.replace(f"<{found}", f"<{name}").replace(f"</{found}", f"</{name}")
 
 
-def _repeated_or_gone(packet, chance):
-    found = list(re.finditer(r"<(\w+:\w+)[^<>]*>[^<>]*</\1>", packet))
-    if not found:
-        return packet
-    it = chance.choice(found)
-    return packet[: it.start()] + it[0] * chance.choice((0, 2)) + packet[it.end() :]
+def _repeated_or_gone(packet, draw):
+    it = _chosen(draw, [*re.finditer(r"<(\w+:\w+)[^<>]*>[^<>]*</\1>", packet)], None)
+    return packet if it is None else packet[: it.start()] + it[0] * draw(st.sampled_from((0, 2))) + packet[it.end() :]
 
 
-def _damaged(packet, chance):
-    at = chance.randrange(len(packet))
-    return packet[:at] + chance.choice("<>/'\"ab \0\x01&;:=") + packet[at + chance.randrange(2) :]
+def _damaged(packet, draw):
+    at = draw(st.integers(0, len(packet) - 1))
+    return packet[:at] + draw(st.sampled_from("<>/'\"ab \0\x01&;:=")) + packet[at + draw(st.integers(0, 1)) :]
 
 
 _WAYS = (_with_attribute, _with_attribute, _with_content, _with_content, _renamed, _repeated_or_gone, _damaged)
 
 
-def packets(seed, count):
-    """Some packets, each changed in one to three places."""
-    chance = random.Random(seed)
-    for _ in range(count):
-        packet = PACKET
-        for _ in range(chance.randint(1, 3)):
-            packet = chance.choice(_WAYS)(packet, chance)
-        yield packet.encode("utf-8", "replace")
+@st.composite
+def packets(draw):
+    """A packet that is changed in up to three places."""
+    packet = PACKET
+    for change in draw(st.lists(st.sampled_from(_WAYS), max_size=3)):
+        packet = change(packet, draw)
+    return packet.encode("utf-8", "replace")

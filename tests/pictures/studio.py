@@ -16,6 +16,7 @@ from made_blocks import BLOCKS, with_exif, with_iptc
 
 HERE = os.path.dirname(os.path.abspath(__file__))
 TOP = os.path.dirname(os.path.dirname(HERE))
+TESTS_PATH = os.pathsep.join(os.path.join(TOP, *it.split("/")) for it in ("tests/pictures", "tests/blocks", "python"))  # for PYTHONPATH
 
 # 24 x 16 points, where ImageMagick isn't installed
 SMALL_JPEG = base64.b64decode(
@@ -241,6 +242,7 @@ class WithPictures(unittest.TestCase):
 
     def asked(self, *words, status=0, given=None, folder=None, **more):
         """Runs exifnorm-pictures, which must end with this status; its lines."""
+        __tracebackhide__ = True
         done = self.called(words, folder or self.folder, given, **more)
         said = done.stdout.decode("utf-8", "surrogateescape"), done.stderr.decode("utf-8", "replace")
         self.assertEqual(done.returncode, status, f"{words}\n{said[0]}\n{said[1]}")

@@ -3,23 +3,24 @@
 import hashlib
 import io
 import os
-import random
 import re
 import struct
 import sys
 import unittest
 import zlib
+from collections import Counter
+from unittest import mock
 
-from checks import at_least
+from hypothesis import given, settings
+from hypothesis import strategies as st
 from made_blocks import ASCII, LONG, segment
 from made_files import (
     app1, app1_xmp, app13, chunk, exif, extension, iim, jpeg, mpf, page, png, png_xmp, profile, resource, tiff, title, webp, xmp,
 )  # fmt: skip
-from studio import SMALL_JPEG, TOP, WithPictures, interpreter_with, needs, read, run, tool, write
+from studio import SMALL_JPEG, WithPictures, interpreter_with, needs, read, run, tool, write
 
-sys.path.insert(0, os.path.join(TOP, "python"))
-
-from exifnorm_pictures.formats.found import Broken  # noqa: E402
+from exifnorm_pictures.formats import jpeg_tail
+from exifnorm_pictures.formats.found import Broken, LeftToOthers
 
 A, B, K, L, T = exif(b"Abc"), exif(b"Xyz"), iim(b"one"), iim(b"two"), title("one")
 
@@ -227,7 +228,6 @@ class Found(unittest.TestCase):
 @needs("exiftool")
 class BesideOthers(WithPictures):
     """The same bytes as ExifTool's and exiv2's, on files that ImageMagick, Pillow and ExifTool wrote."""
-
     FIELDS = ("-Make=Leica", "-Artist=Zürich", "-UserComment=a comment", "-GPSLatitude=47.5", "-GPSLatitudeRef=N")
 
     def real(self, name):
@@ -313,24 +313,29 @@ def bases():
     ]  # fmt: skip
 
 
-def damaged(octets, chance):
+MARKS = st.lists(st.sampled_from((0xFF, 0xD8, 0xE1, 0xED, 0xD9)), min_size=1, max_size=6).map(bytes)
+WAYS = ("byte", "number", "gone", "twice", "marks") * 3 + ("cut",)
+
+
+@st.composite
+def damaged(draw, octets):
     """A file with one or two faults: bytes that are other ones, a piece that is gone, twice there or elsewhere, and its end cut off."""
     made = bytearray(octets)
-    for _ in range(chance.randint(1, 2)):
-        at = chance.randrange(len(made)) if made else 0
-        way = chance.randrange(16) // 3
-        if way == 0 and made:
-            made[at] = chance.choice((0, 1, 0x7F, 0x80, 0xFF, chance.randrange(256)))
-        elif way == 1:
-            made[at : at + 4] = chance.choice((bytes(4), b"\xff" * 4, struct.pack(">I", chance.randrange(len(octets))), struct.pack("<I", at)))
-        elif way == 2:
-            del made[at : at + chance.randint(1, 30)]
-        elif way == 3:
-            made[at:at] = made[at : at + chance.randint(1, 60)]
-        elif way == 4:
-            made[at:at] = bytes(chance.choice((0xFF, 0xD8, 0xE1, 0xED, 0xD9)) for _ in range(chance.randint(1, 6)))
+    for way in draw(st.lists(st.sampled_from(WAYS), min_size=1, max_size=2)):
+        at = draw(st.integers(0, len(made) - 1)) if made else 0
+        if way == "byte" and made:
+            made[at] = draw(st.one_of(st.sampled_from((0, 1, 0x7F, 0x80, 0xFF)), st.integers(0, 255)))
+        elif way == "number":
+            other = draw(st.integers(0, len(octets)))
+            made[at : at + 4] = draw(st.sampled_from((bytes(4), b"\xff" * 4, struct.pack(">I", other), struct.pack("<I", at))))
+        elif way == "gone":
+            del made[at : at + draw(st.integers(1, 30))]
+        elif way == "twice":
+            made[at:at] = made[at : at + draw(st.integers(1, 60))]
+        elif way == "marks":
+            made[at:at] = draw(MARKS)
         else:
-            del made[chance.randrange(len(made) + 1) :]
+            del made[at:]
     return bytes(made) if made[:3] == octets[:3] else octets[:12] + bytes(made[12:])
 
 
@@ -364,32 +369,39 @@ def is_made_of(data, sources):
 
 
 class Damaged(unittest.TestCase):
-    COUNT = 2500  # of each format
+    """A result or `Broken`, only bytes that are in the file, and few reads."""
 
-    @at_least(35_000)  # as many as the readers find
-    def test_damaged_files(self):
-        """10,000 files: a result or `Broken`, only bytes that are in the file, and few reads."""
-        from exifnorm_pictures.formats.found import Broken, LeftToOthers
+    def test_jpeg(self):
+        self.see_that_each_has_a_result(bases()[0])
 
-        answers = {"read": 0, "broken": 0, "blocks": 0}
-        for number, base in enumerate(bases()):
-            chance = random.Random(number)
-            for _ in range(self.COUNT):
-                octets = damaged(base, chance)
-                stream = Counting(octets)
-                try:
-                    found = reader_of(octets)(stream, chance.random() < 0.5)
-                except (Broken, LeftToOthers):
-                    answers["broken"] += 1
-                    found = None
-                self.assertLess(stream.octets, 12 * len(octets) + 4096)
-                self.assertLess(stream.calls, 4 * len(octets) + 64)
-                if found is not None:
-                    answers["read"] += 1
-                    answers["blocks"] += len(found.found)
-                    self.check(octets, found)
-        print(f"{4 * self.COUNT:,} damaged files: {answers}", flush=True)
-        self.assertGreater(min(answers["read"], answers["broken"]), self.COUNT // 4)
+    def test_png(self):
+        self.see_that_each_has_a_result(bases()[1])
+
+    def test_webp(self):
+        self.see_that_each_has_a_result(bases()[2])
+
+    def test_tiff(self):
+        self.see_that_each_has_a_result(bases()[3])
+
+    def see_that_each_has_a_result(self, base):
+        results = Counter()
+
+        @settings(max_examples=1000)
+        @given(damaged(base), st.booleans())
+        def look(octets, whole):
+            stream = Counting(octets)
+            try:
+                found = reader_of(octets)(stream, whole)
+            except (Broken, LeftToOthers):
+                found = None
+            results["broken" if found is None else "read"] += 1
+            self.assertLess(stream.octets, 12 * len(octets) + 4096)
+            self.assertLess(stream.calls, 4 * len(octets) + 64)
+            if found is not None:
+                self.check(octets, found)
+
+        look()
+        self.assertGreater(min(results["broken"], results["read"]), 50, results)
 
     def check(self, octets, found):
         sources = None
@@ -419,8 +431,6 @@ class Damaged(unittest.TestCase):
 
     def test_which_tails_are_read_from_their_end(self):
         """Those with the marks and tables that may be between scans (T.81, Table B.1 and B.2.1), and with no other marker."""
-        from exifnorm_pictures.formats import jpeg_tail
-
         class Counted(io.BytesIO):
             count = 0
 
@@ -439,23 +449,17 @@ class Damaged(unittest.TestCase):
 
 
 class Markers(unittest.TestCase):
-    alone = True  # it changes how many bytes all readers read at once
+    # bytes that mean something after a scan, and FF twice as often
+    TABLE = bytes((255, 255, 0xD9, 0xE1, 0, 1, 2, 3, 0xD8, 0xDA, 16)[it % 11] for it in range(256))
+    OCTETS = st.binary(max_size=60).map(lambda it: it.translate(Markers.TABLE))
 
-    def test_markers_beside_a_plain_search(self):
-        from exifnorm_pictures.formats import jpeg_tail
-
-        chance = random.Random(3)
-        before = jpeg_tail.CHUNK
-        try:
-            for size in (4, 7, 64, before):
-                jpeg_tail.CHUNK = size
-                for _ in range(3000):
-                    octets = bytes(chance.choice((255, 255, 0xD9, 0xE1, 0, 1, 2, 3, 0xD8, 0xDA, 16)) for _ in range(chance.randrange(60)))
-                    at = chance.randrange(len(octets) + 1)
-                    markers = jpeg_tail._Markers(io.BytesIO(octets), at, len(octets))
-                    self.assertEqual(tuple(jpeg_tail._scanned(markers)), plain_search(octets, at), (size, octets, at))
-        finally:
-            jpeg_tail.CHUNK = before
+    @settings(max_examples=1000)
+    @given(st.sampled_from((4, 7, 64, jpeg_tail.CHUNK)), OCTETS, st.integers(0, 60))
+    def test_markers_beside_a_plain_search(self, size, octets, at):
+        at = min(at, len(octets))
+        with mock.patch.object(jpeg_tail, "CHUNK", size):
+            markers = jpeg_tail._Markers(io.BytesIO(octets), at, len(octets))
+            self.assertEqual(tuple(jpeg_tail._scanned(markers)), plain_search(octets, at))
 
 
 def plain_search(octets, at):

@@ -12,25 +12,18 @@ from unittest import mock
 
 from made_blocks import segment
 from made_files import exif, jpeg, xmp
-from studio import HERE, TOP, WithPictures, interpreter_with, needs, run
+from studio import TESTS_PATH, WithPictures, interpreter_with, needs, run
 
-sys.path.insert(0, os.path.join(TOP, "python"))
+from exifnorm_pictures import batches, changed, ends, engine, index
+from exifnorm_pictures.blocks import Block, Damaged
+from exifnorm_pictures.catalogue import BLOCK_COLUMNS, PICTURE_COLUMNS, Catalogue, NoCatalogue
+from exifnorm_pictures.formats import found as found_, jpeg as jpeg_
+from exifnorm_pictures.formats.found import EXIF, PROBLEMS, NotRead
+from exifnorm_pictures.kept import Entry, Stamp, block_of_row
 
-from exifnorm_pictures import batches, changed, ends, engine, index  # noqa: E402
-from exifnorm_pictures.blocks import Block  # noqa: E402
-from exifnorm_pictures.catalogue import BLOCK_COLUMNS, Catalogue, NoCatalogue  # noqa: E402
-from exifnorm_pictures.formats import found as found_, jpeg as jpeg_  # noqa: E402
-from exifnorm_pictures.formats.found import EXIF, PROBLEMS, NotRead  # noqa: E402
-from exifnorm_pictures.kept import Entry, Stamp, block_of_row  # noqa: E402
-
-# The columns of each table by the type of their values. A value of another type in SQL, as SQLite keeps it in such a column.
-COLUMNS = {
-    "pictures": {"bytes": "path root", "text": "type extractor problem detail exif iptc xmp not_read exif_octets iptc_octets xmp_octets",
-                 "number": "size modified inode"},
-    "blocks": {"text": "kind name source extractor status digest cause octets", "number": "number place length"},
-    "not_read": {"text": "what digest"},
-}  # fmt: skip
-WRONG = {"bytes": ("'a'", "7"), "text": ("x'00'",), "number": ("'a'", "x'00'", "1.5")}
+# The columns of each table that are read, and a value of another type in SQL for each type of a column, as SQLite keeps it there.
+COLUMNS = {"pictures": PICTURE_COLUMNS, "blocks": BLOCK_COLUMNS, "not_read": "what, digest"}
+WRONG = {"BLOB": ("'a'", "7"), "TEXT": ("x'00'",), "INTEGER": ("'a'", "x'00'", "1.5")}
 MEANT = {"'a'": "a", "7": 7, "x'00'": b"\0", "1.5": 1.5}
 
 
@@ -53,14 +46,16 @@ class RowsOfCatalogues(WithPictures):
             return list(made.rows(f"SELECT {BLOCK_COLUMNS} FROM blocks", (), block_of_row))
 
         self.assertEqual([it.refusal for it in read()], ["Overlap at 34"])
-        wrong = [(table, column, value) for table, kinds in COLUMNS.items() for kind, columns in kinds.items()
-                 for column in columns.split() for value in WRONG[kind]]  # fmt: skip
+        types = {(table, row[1]): row[2] for table in COLUMNS for row in made.base.execute(f"PRAGMA table_info({table})")}
+        wrong = [(table, column, value) for table, columns in COLUMNS.items() for column in columns.split(", ") if column != "id"
+                 for value in WRONG[types[table, column]]]  # fmt: skip
         for table, column, value in wrong:
             made.base.execute("BEGIN")
             made.base.execute(f"UPDATE {table} SET {column} = {value}")
             with self.assertRaises(NoCatalogue, msg=(table, column, value)) as raised:
                 read()
-            self.assertEqual(str(raised.exception), f"{made.name} is damaged: {MEANT[value]!r} is a value of another type", (table, column))
+            self.assertIsInstance(raised.exception.__cause__, Damaged)
+            self.assertIn(repr(MEANT[value]), str(raised.exception), (table, column))
             made.base.execute("ROLLBACK")
         self.assertEqual([it.refusal for it in read()], ["Overlap at 34"])
 
@@ -79,7 +74,8 @@ class RowsOfCatalogues(WithPictures):
             sides[side].base.execute(f"UPDATE blocks SET fields = {fields}")
             with self.assertRaises(NoCatalogue, msg=(side, fields[:40])) as raised:
                 list(changed.changed(*sides, Counter()))
-            self.assertTrue(str(raised.exception).startswith(f"{sides[side].name} is damaged: "), raised.exception)
+            self.assertIsInstance(raised.exception.__cause__, Damaged)
+            self.assertTrue(str(raised.exception).startswith(f"{sides[side].name} "), raised.exception)
 
     def test_versions_and_ends_of_runs(self):
         """Each is that of one run."""
@@ -175,8 +171,6 @@ class SingleBlocks(unittest.TestCase):
 
 
 class LookedAtAgain(unittest.TestCase):
-    alone = True  # it replaces a function that other tests call
-
     def test_problems_that_may_be_solved(self):
         """Although a file is the same: those of the system, and those of a program that was installed since."""
         others = {"Vanished", "Moved", "Unreadable", "ToolFailed", "InternalError"}
@@ -187,8 +181,6 @@ class LookedAtAgain(unittest.TestCase):
 
 
 class Processors(unittest.TestCase):
-    alone = True  # it replaces a function that other tests call
-
     def test_how_many_processes_look_at_pictures(self):
         """As many as there are processors that this process may use, or as many as are asked for."""
         with mock.patch.object(batches.os, "sched_getaffinity", lambda number: set(range(7)) if number == 0 else set()):
@@ -234,10 +226,10 @@ class Closed(WithPictures):
             "def count(): return len(os.listdir('/proc/self/fd'))\n"
             "def fails(*_): raise OSError(5, 'Input/output error')\n"
             "opened, before = os.open, count()\nos.open = lambda path, *more: opened('pipe', *more)\n"
-            "print(extraction.blocks_of(b'a.jpg').detail, count() - before)\n"
-            "os.open, os.pread = opened, fails\nprint(extraction.blocks_of(b'a.jpg').detail, count() - before)\n"
+            "print(extraction.blocks_of(b'a.jpg').problem, count() - before)\n"
+            "os.open, os.pread = opened, fails\nprint(extraction.blocks_of(b'a.jpg').problem, count() - before)\n"
         )
-        self.assertEqual(self.by_itself(text), ["it is no regular file 0", "input/output error 0"])
+        self.assertEqual(self.by_itself(text), ["Unreadable 0", "Unreadable 0"])
 
 
 @needs("rdflib")
@@ -247,7 +239,7 @@ class Languages(unittest.TestCase):
         packets = [xmp(f"<xmp:d rdf:datatype='http://t/'>1</xmp:d><dc:format{it}>one</dc:format>").decode()
                    for it in (" xml:lang='en-GB'", " xml:lang='EN-gb'", " xml:lang='en-gb'", " xml:lang='en'", "")]  # fmt: skip
         call = "import sys; from test_xmp import said; print(*[said(it.encode()) for it in sys.argv[1:]])"
-        environment = {**os.environ, "PYTHONPATH": os.pathsep.join([HERE, os.path.join(TOP, "python")]), "PYTHONDONTWRITEBYTECODE": "1"}
+        environment = {**os.environ, "PYTHONPATH": TESTS_PATH}
         done = subprocess.run([interpreter_with("rdflib"), "-c", call, *packets], capture_output=True, env=environment)
         self.assertEqual(done.stderr, b"")
         digests = done.stdout.split()

@@ -1,16 +1,21 @@
 """XMP: which packets mean the same, compared with rdflib on random packets, and packets that mean harm."""
 
 import hashlib
-import json
 import os
+import re
 import subprocess
 import sys
 import unittest
 from xml.etree import ElementTree
 
+from exifnorm_pictures.xmp import CAUSES, by_rdflib, reader, shown, tree
+from exifnorm_pictures.xmp.packets import Unreadable, rdf_of
+from hypothesis import assume, given, settings
 from made_files import SPACES, title, xmp
-from packets import packets, pieces
-from studio import HERE, interpreter_with, needs
+from packets import packets
+from studio import TESTS_PATH, interpreter_with, needs
+
+RDF = "http://www.w3.org/1999/02/22-rdf-syntax-ns#"
 
 LI = "<rdf:li>{}</rdf:li>"
 
@@ -210,9 +215,10 @@ class Harm(unittest.TestCase):
         self.assertEqual(cause(b"<a>" * 499_999), "NotWellFormed")
         self.assertEqual(cause(b"<a>" * 200_000 + b"</a>" * 200_000), "TooDeep")
 
-    def test_damaged_packets_have_a_result(self):
-        answers = {cause(it) for it in packets(5, 1000)}
-        self.assertLessEqual({None, "NotWellFormed"}, answers)
+    @settings(max_examples=300)
+    @given(packets())
+    def test_damaged_packets_have_a_result(self, packet):
+        self.assertIn(cause(packet), (None, *CAUSES))
 
     def test_nothing_is_fetched(self):
         """The readers open no file and no connection, for any packet."""
@@ -225,28 +231,66 @@ class Harm(unittest.TestCase):
             "print(opened)"
         )
         python = interpreter_with("rdflib") or sys.executable
-        path = os.pathsep.join([HERE, os.path.join(os.path.dirname(os.path.dirname(HERE)), "python")])
-        done = subprocess.run([python, "-c", call], capture_output=True, env={**os.environ, "PYTHONPATH": path, "PYTHONDONTWRITEBYTECODE": "1"})
+        done = subprocess.run([python, "-c", call], capture_output=True, env={**os.environ, "PYTHONPATH": TESTS_PATH})
         self.assertEqual((done.stdout, done.stderr), (b"[]\n", b""))
 
 
-class Pieces(unittest.TestCase):
-    def test_what_random_packets_are_changed_by_is_well_formed(self):
-        """Or else every reader finds the same: that the packet is no XML."""
-        for it in pieces():
-            with self.subTest(it):
-                self.assertIsNotNone(ElementTree.fromstring(it))
+def canonical(root):
+    """rdflib's own canonical form. All subjects at the top are the picture, and each member of a Bag hangs on a node without number."""
+    from rdflib import BNode, Graph, URIRef
+    from rdflib.compare import to_canonical_graph
+
+    graph = Graph().parse(data=ElementTree.tostring(root), format="xml", publicID="this:base")
+    inner = {it for it in graph.objects() if isinstance(it, BNode)}
+    bags = set(graph.subjects(URIRef(RDF + "type"), URIRef(RDF + "Bag")))
+    one = Graph()
+    for subject, predicate, value in graph:
+        subject = subject if subject in inner else URIRef("this:file")
+        if subject in bags and re.fullmatch(re.escape(RDF) + "_[0-9]+", predicate):
+            node = BNode()
+            one.add((subject, URIRef("this:member"), node))
+            subject, predicate = node, URIRef("this:is")
+        one.add((subject, predicate, value))
+    return sorted(map(repr, to_canonical_graph(one)))
 
 
 @needs("rdflib")
 class BesideRdflib(unittest.TestCase):
-    def test_packets_made_at_random(self):
-        words = [interpreter_with("rdflib"), os.path.join(HERE, "beside_rdflib.py"), "1", "3000"]
-        done = subprocess.run(words, capture_output=True)
-        self.assertEqual(done.returncode, 0, done.stderr.decode())
-        found = json.loads(done.stdout.splitlines()[-1])
-        print(f"3,000 packets beside rdflib: {found['counts']}", flush=True)
-        self.assertEqual((found["differ"], sum(found["counts"].values())), ([], 3001), "of one packet and of those at random")
-        self.assertEqual((found["digests"], found["graphs"]), (found["pairs"], found["pairs"]), "each digest has one canonical graph, which no other has")
-        self.assertGreater(found["counts"]["read by both"], 500)
-        self.assertGreater(found["pairs"], 100)
+    """The usual reader finds what rdflib finds, and two packets mean the same if rdflib's canonical graphs are equal."""
+
+    def read(self, call, packet):
+        """A result: the root, the digest of the statements or the cause of failure, and the fields; nothing if it is left to rdflib."""
+        try:
+            root = rdf_of(packet)
+            found = call(root)
+            return root, tree.digest_of(found), shown.fields(found)
+        except Unreadable as why:
+            return None, why.cause, []
+        except reader.Unusual:
+            return None
+
+    @settings(max_examples=1000)
+    @given(packets())
+    def test_statements(self, packet):
+        own = self.read(reader.statements, packet)
+        if own is not None:
+            self.assertEqual(own[1:], self.read(by_rdflib.statements, packet)[1:])
+
+    @settings(max_examples=60)
+    @given(packets(), packets())
+    def test_meanings(self, one, other):
+        first, second = (self.read(by_rdflib.statements, it) for it in (one, other))
+        assume(first[2] and second[2])
+        self.assertEqual(first[1] == second[1], canonical(first[0]) == canonical(second[0]))
+
+    def test_packets_of_each_sort(self):
+        """There are packets that are read, that are left to rdflib, and that are damaged; or else the tests above show nothing."""
+        seen = set()
+
+        @given(packets())
+        def look(packet):
+            own = self.read(reader.statements, packet)
+            seen.add("left to rdflib" if own is None else "read" if own[2] else own[1])
+
+        look()
+        self.assertLessEqual({"read", "left to rdflib", "NotWellFormed"}, seen)
