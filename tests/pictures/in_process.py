@@ -6,19 +6,14 @@ import io
 import json
 import os
 import subprocess
-import sys
 
-from studio import TOP, WithPictures
+from studio import WithPictures
 
-sys.path.insert(0, os.path.join(TOP, "python"))
-
-from exifnorm_pictures import main, session  # noqa: E402
+from exifnorm_pictures import main, session
 
 
 class InProcess(WithPictures):
     """A test with a folder of its own, which is F in what is printed."""
-
-    alone = True  # it replaces the standard streams
 
     def setUp(self):
         super().setUp()
@@ -26,6 +21,7 @@ class InProcess(WithPictures):
 
     def printed(self, *words, status=0):
         """The lines that a command prints, and in `complaint` those on standard error; `@` is the folder."""
+        __tracebackhide__ = True
         words = [it.replace("@", self.folder) for it in words]
         with contextlib.redirect_stdout(io.StringIO()) as out, contextlib.redirect_stderr(io.StringIO()) as errors:
             found = main._run(words)
@@ -34,7 +30,17 @@ class InProcess(WithPictures):
         return out.getvalue().replace(self.folder, "F").split("\n")[:-1]
 
     def objects(self, *words, status=0):
+        __tracebackhide__ = True
         return [json.loads(it) for it in self.printed(*words, "--json", status=status)]
+
+    def transcript(self, *calls):
+        """What commands print, each with its words, its messages on standard error, and its status if that isn't 0."""
+        lines = []
+        for status, *words in calls:
+            found = self.printed(*words, status=status)
+            lines += ["$ exifnorm-pictures " + " ".join(words).replace("@", "F").replace("\n", "\\n"), *found, *(f"(stderr) {it}" for it in self.complaint.splitlines())]
+            lines += [f"(status {status})"] * bool(status) + [""]
+        return "\n".join(lines)
 
 
 class InFolder(InProcess):

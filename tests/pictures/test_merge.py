@@ -10,8 +10,7 @@ from made_blocks import BLOCKS, MAKE, block, with_exif, with_iptc
 from studio import SMALL_JPEG, run, write
 
 ONE, OTHER = (with_exif(SMALL_JPEG, block([MAKE[:-4] + it])) for it in (b"One\0", b"Two\0"))
-TABLES = ("path, root, size, modified, changed, inode, type, extractor, problem, detail, exif, iptc, xmp, not_read, exif_octets,"
-          " iptc_octets, xmp_octets")  # fmt: skip
+NUMBERS = ("id", "run", "picture")  # which differ from catalogue to catalogue
 
 
 class Merge(InFolder):
@@ -31,10 +30,10 @@ class Merge(InFolder):
         found = []
         for name in names:
             base = sqlite3.connect(self.path(name))
-            found += base.execute(f"SELECT {TABLES} FROM pictures").fetchall()
-            found += base.execute("SELECT path, number, kind, name, status, digest, cause, place, fields FROM blocks JOIN pictures"
-                                  " ON id = picture").fetchall()  # fmt: skip
-            found += base.execute("SELECT path, what, digest FROM not_read JOIN pictures ON id = picture").fetchall()
+            for table, rest in (("pictures", ""), ("blocks", "JOIN pictures ON id = picture"), ("not_read", "JOIN pictures ON id = picture")):
+                names_ = [row[1] for row in base.execute(f"PRAGMA table_info({table})")]
+                columns = ", ".join(f"{table}.{it}" for it in names_ if it not in NUMBERS)
+                found += base.execute(f"SELECT '{table}', path, {columns} FROM {table} {rest}")
             self.assertEqual(base.execute("PRAGMA foreign_key_check").fetchall(), [])
             base.close()
         return sorted(map(repr, found))

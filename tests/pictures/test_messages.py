@@ -1,4 +1,4 @@
-"""Arguments, progress and messages, written out here: whole texts of the command line."""
+"""The texts of arguments, of progress and of messages. Other tests have only the statuses, and the facts in a text."""
 
 import argparse
 import contextlib
@@ -13,23 +13,37 @@ import unittest
 from types import SimpleNamespace
 from unittest import mock
 
-from studio import TOP, WithPictures, read, write
+from studio import WithPictures, read, write
 
-sys.path.insert(0, os.path.join(TOP, "python"))
-
-from exifnorm_pictures import (  # noqa: E402
-    archives, arguments, ends, extraction, kept, lines, looking, main, merge, processes, progress, report, session, states, tools, walk, writing, xmp,
+from exifnorm_pictures import (
+    archives, arguments, ends, extraction, kept, lines, looking, main, processes, progress, session, states, tools, walk, writing,
 )  # fmt: skip
-from exifnorm_pictures.batches import How  # noqa: E402
-from exifnorm_pictures.blocks import Block, Damaged  # noqa: E402
-from exifnorm_pictures.catalogue import Catalogue, NoCatalogue  # noqa: E402
-from exifnorm_pictures.formats.found import NotRead  # noqa: E402
-from exifnorm_pictures.kept import Entry, Stamp  # noqa: E402
-from exifnorm_pictures.walk import Found  # noqa: E402
+from exifnorm_pictures.batches import How
+from exifnorm_pictures.blocks import Block, Damaged
+from exifnorm_pictures.catalogue import VERSION, Catalogue, NoCatalogue
+from exifnorm_pictures.formats.found import PROBLEMS, NotRead
+from exifnorm_pictures.kept import Entry, Stamp
+from exifnorm_pictures.walk import Found
 
 
 class CommandLine(unittest.TestCase):
-    alone = True  # it replaces standard error
+    def test_help(self):
+        """All arguments with their texts, in golden/help.txt."""
+        with mock.patch.dict(os.environ, COLUMNS="120"):
+            whole = arguments.parser()
+            commands = whole._subparsers._group_actions[0].choices
+            end = whole.format_help().partition("\n\nStatuses:")[2]
+            texts = [it.format_help() for it in commands.values()]
+        self.assertEqual({it.partition("\n\nStatuses:")[2] for it in texts}, {end})
+        self.golden("help.txt", "\n\n".join([whole.format_help(), *(it.partition("\n\nStatuses:")[0] for it in texts)]) + "\n")
+
+    def test_numbers(self):
+        """What is left out, and what is given."""
+        self.assertEqual([(it.limit, it.jobs) for it in map(self.parsed, ("changed a b", "changed a b --limit 0.5 --jobs 3"))], [(60.0, 0), (0.5, 3)])
+        self.assertEqual(self.parsed("mend a b --limit 999999").limit, 999999.0)
+
+    def parsed(self, text):
+        return arguments.parser().parse_args(text.split())
 
     def refused(self, *words):
         """What is printed about refused arguments, and the status."""
@@ -61,7 +75,6 @@ class CommandLine(unittest.TestCase):
             (("merge", "a", "--catalogue", ""), "argument --catalogue: a name is empty"),
         ):  # fmt: skip
             self.assertEqual(self.refused(*words), message, words)
-        self.assertEqual(arguments.parser().parse_args(["mend", "a", "b", "--limit", "999999"]).limit, 999999.0)
 
 
 class Stream(io.StringIO):
@@ -84,8 +97,6 @@ class Stream(io.StringIO):
 
 
 class Progress(unittest.TestCase):
-    alone = True  # it replaces the clock
-
     def shown(self, stream, steps, total=3000, **more):
         """What is printed of some counts, each at its time after the beginning."""
         with mock.patch.object(progress.time, "monotonic", lambda: 100.0):
@@ -134,14 +145,13 @@ def header(version, application=0x45584E50, start=b"SQLite format 3\0"):
     return start.ljust(60, b"\0") + version.to_bytes(4, "big") + bytes(4) + application.to_bytes(4, "big") + bytes(28)
 
 
-EARLIER = (" is a catalogue of an earlier release (version 1, here 2), whose answers were about fewer blocks. Make a new one: exifnorm-pictures"
-           " index FOLDER --catalogue NEW")  # fmt: skip
+EARLIER = (f" is a catalogue of an earlier release (version {VERSION - 1}, here {VERSION}), whose answers were about fewer blocks. Make a new one:"
+           " exifnorm-pictures index FOLDER --catalogue NEW")  # fmt: skip
+LATER = f" is a catalogue of a later release (version {VERSION + 1}, here {VERSION})"
 
 
 class Messages(WithPictures):
     """The texts of errors."""
-
-    alone = True  # it replaces functions that other tests call
 
     def raised(self, kind, call, *words):
         with self.assertRaises(kind) as caught:
@@ -154,8 +164,8 @@ class Messages(WithPictures):
         self.assertEqual(self.raised(NoCatalogue, Catalogue, name), f"there is no catalogue {name}")
         self.assertEqual(self.raised(NoCatalogue, Catalogue, self.folder), f"{self.folder} is no catalogue: it is no regular file")
         other = f"{name} is no catalogue"
-        for octets, text in ((b"", other), (b"abc", other), (header(1), name + EARLIER), (header(2)[:70], other), (header(2, 0x45584E51), other),
-                             (header(3), f"{name} is a catalogue of a later release (version 3, here 2)"), (header(2, start=b"SQLite format 3 "), other)):  # fmt: skip
+        for octets, text in ((b"", other), (b"abc", other), (header(VERSION - 1), name + EARLIER), (header(VERSION)[:70], other),
+                             (header(VERSION, 0x45584E51), other), (header(VERSION + 1), name + LATER), (header(VERSION, start=b"SQLite format 3 "), other)):  # fmt: skip
             write(name, octets)
             self.assertEqual(self.raised(NoCatalogue, Catalogue, name), text)
             if octets:
@@ -164,7 +174,6 @@ class Messages(WithPictures):
         self.assertEqual(self.raised(NoCatalogue, archives.index_, argparse.Namespace(folders=[""], files_from=None, catalogue=name)), "a name is empty")
         os.remove(name)
         with Catalogue(name, make=True) as made:
-            self.assertEqual(self.raised(NoCatalogue, merge.merge, made, [name]), f"{name} is the catalogue to be written")
             self.assertEqual(str(made.failure(sqlite3.OperationalError("disk I/O error"))), f"{name}: disk I/O error")
             self.assertEqual(str(made.failure(Damaged("no text"))), f"{name} is damaged: no text")
         self.assertEqual(self.raised(Damaged, kept.has, int, 1, "a"), "'a' is a value of another type")
@@ -265,7 +274,7 @@ class Messages(WithPictures):
             with mock.patch.object(looking.extraction, "blocks_of", mock.Mock(side_effect=why)):
                 self.assertEqual(looking.look(found, False), expected)
         self.assertEqual(self.raised(OSError, extraction._opened, os.fsencode(self.folder)), "it is no regular file")
-        for name, problem, detail in ((self.folder, "Unreadable", "it is no regular file"), (self.path("a"), "Vanished", "there is no such file any more")):
+        for name, problem, detail in ((self.folder, "Unreadable", "it is no regular file"), (self.path("a"), "Vanished", PROBLEMS["Vanished"])):
             it = extraction.blocks_of(os.fsencode(name))
             self.assertEqual((it.problem, it.detail, it.found, it.not_read), (problem, detail, [], []))
 
@@ -348,7 +357,3 @@ class OfPictures(unittest.TestCase):
         it = Entry(b"/a\n/b", b"", problem="Unreadable", detail="permission denied")
         self.assertEqual(lines.closed_folder(it), ["the folder /a\\n/b can't be read: permission denied"])
         self.assertEqual(lines.closed_folder(it._replace(root=b"/a")), [])
-
-
-if __name__ == "__main__":
-    unittest.main()

@@ -2,25 +2,23 @@
 
 import contextlib
 import hashlib
+import json
 import os
+import pprint
 import re
-import sys
 import tempfile
 import unittest
 from collections import Counter
 from unittest import mock
 
-from studio import TOP, WithPictures
+import kinds
+from studio import WithPictures
 
-sys.path[:0] = [os.path.join(TOP, "python"), os.path.join(TOP, "tests", "blocks")]
-
-import kinds  # noqa: E402
-
-from exifnorm_pictures import changed, groups, pairing, report  # noqa: E402
-from exifnorm_pictures.catalogue import Catalogue, NoCatalogue  # noqa: E402
-from exifnorm_pictures.formats.found import EXIF, IPTC, NAMES, XMP, NotRead  # noqa: E402
-from exifnorm_pictures.kept import Block, Entry, Stamp  # noqa: E402
-from exifnorm_pictures.listing import Field, packed  # noqa: E402
+from exifnorm_pictures import changed, groups, pairing, report
+from exifnorm_pictures.catalogue import VERSION, Catalogue, NoCatalogue
+from exifnorm_pictures.formats.found import EXIF, IPTC, NAMES, XMP, NotRead
+from exifnorm_pictures.kept import Block, Entry, Stamp
+from exifnorm_pictures.listing import Field, packed
 
 BASE = {EXIF: "e", IPTC: "i", XMP: "x"}
 KNOWN, OTHER, UNKNOWN = NotRead("trailer", "1" * 64), NotRead("trailer", "2" * 64), NotRead("trailer", "")
@@ -168,12 +166,12 @@ class Tables(WithPictures):
         for side in (0, 1):
             both = [self.catalogue(f"{it}{side}", picture("p", {EXIF: str(it)})) for it in (0, 1)]
             both[side].base.execute("UPDATE pictures SET path = CAST(path AS TEXT)")
-            with self.assertRaisesRegex(NoCatalogue, f"{side}{side} is damaged"):
+            with self.assertRaisesRegex(NoCatalogue, f"/{side}{side} "):
                 list(changed.changed(*both, Counter()))
         both = [self.catalogue(f"same{it}", picture("p")) for it in (0, 1)]
         for it in both:
             it.base.execute("UPDATE pictures SET path = CAST(path AS TEXT)")
-        with self.assertRaisesRegex(NoCatalogue, "same0 is damaged"):
+        with self.assertRaisesRegex(NoCatalogue, "/same0 "):
             list(changed.changed(*both, Counter()))
 
     def test_all_is_read_of_one_moment(self):
@@ -249,7 +247,6 @@ def note(text):
 
 class Details(WithPictures):
     """All that is known of a picture that was compared."""
-
     catalogue = Tables.catalogue
     maxDiff = None
 
@@ -326,8 +323,6 @@ class Details(WithPictures):
 
 class Reported(WithPictures):
     """A report of two catalogues, as wholes."""
-
-    alone = True  # it replaces limits
     catalogue = Tables.catalogue
     maxDiff = None
 
@@ -343,54 +338,12 @@ class Reported(WithPictures):
         made.end_run(1, "2000-01-01T00:00:09Z")
         self.about = report.About(made, self.catalogue("old", *old))
 
-    def test_a_page(self):
+    def test_what_is_gathered(self):
+        """All of it, and the objects of --json, in golden/report-*.txt."""
         found = report.gather(self.about)
-        same = "Exif, IPTC and XMP are the same in the same bytes"
-        self.assertEqual(vars(found) | {"problems": [it.path for it in found.problems], "changed": [vars(it) for it in found.changed]}, {
-            "total": 10, "states": {"accepted": 5, "refused": 2, "NoPicture": 1, "Unreadable": 1, "no block": 1},
-            "causes": {"DataSetCut": 1, "Overlap": 1, "NoRDF": 1},
-            "refused": {"DataSetCut": [report.Refused(b"/a/different", IPTC, "IPTC", "DataSetCut", 7)],
-                        "Overlap": [report.Refused(b"/a/r\xff", EXIF, "Exif", "Overlap", 7)],
-                        "NoRDF": [report.Refused(b"/a/r\xff", XMP, "XMP", "NoRDF", 7)]},
-            "parts": {"trailer": 2, "a chunk": 1}, "unread": 2, "problems": [b"/a/u", b"/a/no"], "all_problems": 2,
-            "groups": [(2, same, [b"/a/b1", b"/a/b2"]), (2, same, [b"/a/new", b"/a/x/moves"])], "all_groups": (2, 4),
-            "results": {"different": 3, "missing after": 1, "moved": 1, "missing before": 6},
-            "changed": [
-                {"result": "different", "note": "IPTC and XMP are the same, Exif is different", "lines": [["main:Make", '"e"', '"B"']], "count": 2,
-                 "names": [b"b1", b"b2"]},
-                {"result": "different", "note": "XMP is the same, Exif is different, IPTC is refused; IPTC: before accepted, after DataSetCut at 7",
-                 "lines": [["main:Make", '"e"', '"D"']], "count": 1, "names": [b"different"]},
-                {"result": "moved", "note": "to x/moves", "lines": [], "count": 1, "names": [b"moves"]},
-                {"result": "missing before", "note": "", "lines": [], "count": 6, "names": [b"new", b"no", b"part", b"r\xff", b"u", b"zero"]},
-                {"result": "missing after", "note": "", "lines": [], "count": 1, "names": [b"gone"]},
-            ],
-            "all_changed": 5, "fields": {"main:Make": 3}, "since": True, "runs": [("2000-01-01T00:00:00Z", "2000-01-01T00:00:09Z", "12.57", "0.27.6")],
-            "roots": [b"/a"]})  # fmt: skip
-
-    def test_objects(self):
-        self.assertEqual(list(report.members(self.about)), [
-            {"pictures": 10, "states": {"accepted": 5, "refused": 2, "NoPicture": 1, "Unreadable": 1, "no block": 1},
-             "causes": {"DataSetCut": 1, "Overlap": 1, "NoRDF": 1}},
-            *({"same": [{"path": one}, {"path": other}], "said": "Exif, IPTC and XMP are the same in the same bytes", "same_bytes": True, "wholly_read": True}
-              for one, other in (("/a/b1", "/a/b2"), ("/a/new", "/a/x/moves"))),
-            *({"changed": {"path": it}, "result": "different", "note": "IPTC and XMP are the same, Exif is different",
-               "fields": [{"name": "main:Make", "before": '"e"', "after": '"B"'}]} for it in ("b1", "b2")),
-            {"changed": {"path": "different"}, "result": "different",
-             "note": "XMP is the same, Exif is different, IPTC is refused; IPTC: before accepted, after DataSetCut at 7",
-             "fields": [{"name": "main:Make", "before": '"e"', "after": '"D"'}]},
-            {"changed": {"path": "gone"}, "result": "missing after", "note": "", "fields": []},
-            {"changed": {"path": "moves"}, "result": "moved", "note": "", "moved_to": {"path": "x/moves"}, "fields": []},
-            *({"changed": {"path": it}, "result": "missing before", "note": "", "fields": []} for it in ("new", "no", "part")),
-            {"changed": {"path": "r\\xff", "path_hex": "72ff"}, "result": "missing before", "note": "", "fields": []},
-            *({"changed": {"path": it}, "result": "missing before", "note": "", "fields": []} for it in ("u", "zero")),
-            {"results": {"different": 3, "missing after": 1, "moved": 1, "missing before": 6}, "fields": {"main:Make": 3}},
-            {"refused": {"path": "/a/different"}, "kind": "iptc", "name": "IPTC", "cause": "DataSetCut", "refusal": "DataSetCut at 7"},
-            {"refused": {"path": "/a/r\\xff", "path_hex": "2f612f72ff"}, "kind": "exif", "name": "Exif", "cause": "Overlap", "refusal": "Overlap at 7"},
-            {"refused": {"path": "/a/r\\xff", "path_hex": "2f612f72ff"}, "kind": "xmp", "name": "XMP", "cause": "NoRDF", "refusal": "NoRDF at 7"},
-            {"problem": "NoPicture", "path": "/a/no", "detail": "why"}, {"not_read": ["trailer"], "path": "/a/part"},
-            {"not_read": ["trailer", "a chunk"], "path": "/a/r\\xff", "path_hex": "2f612f72ff"},
-            {"problem": "Unreadable", "path": "/a/u", "detail": "why"},
-        ])  # fmt: skip
+        members = {**vars(found), "problems": [it.path for it in found.problems]}
+        self.golden("report-gathered.txt", "".join(f"{name}: {pprint.pformat(it, width=140)}\n" for name, it in members.items()))
+        self.golden("report-objects.txt", "".join(json.dumps(it) + "\n" for it in report.members(self.about)))
 
     def test_chosen_pictures(self):
         """Their counts, groups, refusals and unread parts alone."""
@@ -418,35 +371,14 @@ class Reported(WithPictures):
             self.assertEqual([it.path for it in report.gather(report.About(self.catalogue("few", *rows[:4]))).problems], [b"/a/u0", b"/a/n0"])
 
 
-# The tables, each with its columns: the name, the type, whether it must have a value, and its number in the primary key
-COLUMNS = {
-    "runs": "id INTEGER 0 1, started TEXT 1 0, ended TEXT 0 0, exiftool TEXT 0 0, exiv2 TEXT 0 0",
-    "pictures": "id INTEGER 0 1, path BLOB 1 0, root BLOB 1 0, size INTEGER 0 0, modified INTEGER 0 0, changed INTEGER 0 0, inode INTEGER 0 0,"
-                " type TEXT 1 0, extractor TEXT 1 0, problem TEXT 0 0, detail TEXT 1 0, exif TEXT 0 0, iptc TEXT 0 0, xmp TEXT 0 0, not_read TEXT 0 0,"
-                " exif_octets TEXT 1 0, iptc_octets TEXT 1 0, xmp_octets TEXT 1 0, run INTEGER 1 0",
-    "blocks": "picture INTEGER 1 1, number INTEGER 1 2, kind TEXT 1 0, name TEXT 1 0, source TEXT 1 0, extractor TEXT 1 0, status TEXT 1 0,"
-              " digest TEXT 0 0, cause TEXT 0 0, place INTEGER 0 0, length INTEGER 1 0, octets TEXT 1 0, fields BLOB 0 0",
-    "not_read": "picture INTEGER 1 1, number INTEGER 1 2, what TEXT 1 0, digest TEXT 1 0",
-}  # fmt: skip
-
-
 class File(WithPictures):
     """The catalogue as a file of SQLite."""
 
     def test_tables(self):
+        """They are in golden/tables.sql; another table or column needs another version."""
         with Catalogue(self.path("c"), make=True) as made:
-            for table, columns in COLUMNS.items():
-                found = [f"{name} {kind} {needed} {key}" for _, name, kind, needed, _, key in made.base.execute(f"PRAGMA table_info({table})")]
-                self.assertEqual(found, columns.split(", "))
-            texts = {name: " ".join(text.split()) for name, text in made.base.execute("SELECT name, sql FROM sqlite_master WHERE sql IS NOT NULL")}
-            self.assertEqual(set(texts), {*COLUMNS, "pictures_by_content"})
-            self.assertEqual(texts["pictures_by_content"],
-                             "CREATE INDEX pictures_by_content ON pictures (exif, iptc, xmp, not_read) WHERE problem IS NULL")  # fmt: skip
-            for name in ("blocks", "not_read"):
-                self.assertIn("picture INTEGER NOT NULL REFERENCES pictures(id) ON DELETE CASCADE,", texts[name])
-                self.assertTrue(texts[name].endswith(" PRIMARY KEY (picture, number) ) WITHOUT ROWID"), name)
-            self.assertIn("path BLOB NOT NULL UNIQUE,", texts["pictures"])
-            self.assertTrue(texts["pictures"].endswith("run INTEGER NOT NULL REFERENCES runs(id) )"))
+            texts = [text for (text,) in made.base.execute("SELECT sql FROM sqlite_master WHERE sql IS NOT NULL ORDER BY name")]
+        self.golden("tables.sql", f"-- version {VERSION}\n" + "".join(f"{it};\n" for it in texts))
 
     def settings(self, made):
         names = ("application_id", "user_version", "foreign_keys", "journal_mode", "synchronous", "cache_size", "busy_timeout")
@@ -456,14 +388,14 @@ class File(WithPictures):
         """A write-ahead log, of which each transaction is on the disk before it counts; when it is closed, all is in one file."""
         name = self.path("a b?c=%41#")
         with Catalogue(name, make=True) as made:
-            self.assertEqual(self.settings(made), [0x45584E50, 2, 1, "wal", 2, -32000, 60_000])
+            self.assertEqual(self.settings(made), [0x45584E50, VERSION, 1, "wal", 2, -32000, 60_000])
             made.begin_run("2000-01-01T00:00:00Z")
             self.assertEqual(sorted(os.listdir(self.folder)), sorted(os.path.basename(name) + it for it in ("", "-shm", "-wal")))
         with open(name, "rb") as file:
             head = file.read(100)
-        self.assertEqual((head[18:20], head[60:64], head[68:72], os.listdir(self.folder)), (b"\1\1", b"\0\0\0\2", b"EXNP", [os.path.basename(name)]))
+        self.assertEqual((head[18:20], head[60:64], head[68:72], os.listdir(self.folder)), (b"\1\1", VERSION.to_bytes(4, "big"), b"EXNP", [os.path.basename(name)]))
         with Catalogue(name) as made:
-            self.assertEqual(self.settings(made)[:4] + self.settings(made)[6:], [0x45584E50, 2, 1, "delete", 60_000])
+            self.assertEqual(self.settings(made)[:4] + self.settings(made)[6:], [0x45584E50, VERSION, 1, "delete", 60_000])
             with self.assertRaisesRegex(NoCatalogue, "attempt to write a readonly database$"):
                 made.begin_run("2000-01-01T00:00:00Z")
         with Catalogue(name, make=True) as made:
@@ -541,8 +473,6 @@ class Marks(WithPictures):
 
 class Remedies(WithPictures):
     """Which remedy `mend` takes, by what each one loses and adds; here each writes some lines as its printed values."""
-
-    alone = True  # it replaces functions that other tests call
 
     def best(self, **made):
         from exifnorm_pictures import mend

@@ -1,0 +1,53 @@
+-- version 2
+CREATE TABLE blocks (
+    picture INTEGER NOT NULL REFERENCES pictures(id) ON DELETE CASCADE,
+    number INTEGER NOT NULL,        -- the order in the file
+    kind TEXT NOT NULL,             -- exif, iptc, xmp
+    name TEXT NOT NULL,             -- Exif, IPTC, XMP; of further blocks a name of their own
+    source TEXT NOT NULL,           -- its position in the file
+    extractor TEXT NOT NULL,        -- own, exiftool, exiv2
+    status TEXT NOT NULL,           -- accepted, refused, unreadable, too long, failed
+    digest TEXT,                    -- SHA-256 of the normal form, or of the statements of XMP; only of an accepted block
+    cause TEXT,                     -- of a block that isn't accepted: docs/FORMAT.md, section 5, or a cause of XMP
+    place INTEGER,
+    length INTEGER NOT NULL,        -- bytes of the block
+    octets TEXT NOT NULL,           -- SHA-256 of the block as it is in the file
+    fields BLOB,                    -- its fields: JSON, compressed by zlib if it is long
+    PRIMARY KEY (picture, number)
+) WITHOUT ROWID;
+CREATE TABLE not_read (
+    picture INTEGER NOT NULL REFERENCES pictures(id) ON DELETE CASCADE,
+    number INTEGER NOT NULL,
+    what TEXT NOT NULL,             -- a part of the file that was not read
+    digest TEXT NOT NULL,           -- SHA-256 of its bytes; empty: not known
+    PRIMARY KEY (picture, number)
+) WITHOUT ROWID;
+CREATE TABLE pictures (
+    id INTEGER PRIMARY KEY,
+    path BLOB NOT NULL UNIQUE,      -- absolute, as the file system has it
+    root BLOB NOT NULL,             -- the folder that was indexed
+    size INTEGER,                   -- bytes
+    modified INTEGER,               -- nanoseconds since 1970, in 64 bits
+    changed INTEGER,                -- the same of the last change of the file's status (ctime)
+    inode INTEGER,
+    type TEXT NOT NULL,             -- the format: JPEG, PNG .., or ExifTool's word
+    extractor TEXT NOT NULL,        -- which program extracted the blocks: own, exiftool
+    problem TEXT,                   -- why there are no blocks: Vanished, Moved, Unreadable, NoPicture, ToolFailed ..
+    detail TEXT NOT NULL,
+    exif TEXT,                      -- SHA-256 of what all blocks of a kind mean; empty: no such block; NULL: refused or not known
+    iptc TEXT,
+    xmp TEXT,
+    not_read TEXT,                  -- SHA-256 of what was not read; empty: all was read; NULL: it can't be compared
+    exif_octets TEXT NOT NULL,      -- SHA-256 of the blocks of a kind as they are in the file; empty if there is none
+    iptc_octets TEXT NOT NULL,
+    xmp_octets TEXT NOT NULL,
+    run INTEGER NOT NULL REFERENCES runs(id)
+);
+CREATE INDEX pictures_by_content ON pictures (exif, iptc, xmp, not_read) WHERE problem IS NULL;
+CREATE TABLE runs (
+    id INTEGER PRIMARY KEY,
+    started TEXT NOT NULL,          -- UTC
+    ended TEXT,                     -- missing where the run was stopped
+    exiftool TEXT,                  -- versions of the programs
+    exiv2 TEXT
+);
