@@ -164,3 +164,17 @@ def page(*more, pixels=b"\x55"):
              (0x115, SHORT, 1), (0x116, LONG, 1), (0x117, LONG, len(pixels))]  # fmt: skip
     tags = {it[0] for it in more}
     return [it for it in known if it[0] not in tags] + list(more)
+
+
+def turned(octets):
+    """The Exif block of one short field in the other byte order, which means the same."""
+    (count,) = struct.unpack_from(">H", octets, 8)
+    found = b"II*\0\x08\0\0\0" + struct.pack("<H", count)
+    for at in range(10, 10 + 12 * count, 12):
+        tag, kind, number = struct.unpack_from(">HHI", octets, at)
+        found += struct.pack("<HHI", tag, kind, number) + octets[at + 8 : at + 12]
+    return found + bytes(4)
+
+
+# What title("one") means, in other bytes
+T_OTHERWISE = xmp("", "dc:format='one'", "x:xmptk='another toolkit'") + b" " * 50

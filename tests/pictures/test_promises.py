@@ -1,0 +1,429 @@
+"""What docs/exifnorm-pictures.1, README.md and the last section of docs/RECIPES.md promise, each by runs of the commands."""
+
+import argparse
+import contextlib
+import hashlib
+import io
+import json
+import os
+import re
+import shutil
+import sqlite3
+import sys
+from unittest import mock
+
+import exifnorm
+from in_process import InProcess
+from made_blocks import ASCII, BLOCKS, LONG, UNDEFINED, block, entry, segment, table
+from made_files import (
+    T_OTHERWISE, XMP_HEAD, app1, app1_xmp, app13, chunk, exif, extension, iim, jpeg, mpf, page, png, png_xmp, profile, resource, tiff, title,
+    turned, webp, xmp,
+)  # fmt: skip
+from studio import SMALL_JPEG, needs, read, run, write
+
+from exifnorm_pictures import batches, index, mend, single, states
+from exifnorm_pictures.formats import jpeg_tail
+
+A, B, ONE, TWO = exif(b"Abc"), exif(b"Xyz"), iim(b"one"), iim(b"two")
+T, U = title("one"), title("two")
+DOUBLED = BLOCKS["Doubled"]
+OUTSIDE = re.compile(r"<script|<link|(?:src|href)=.(?!data:)")  # what a page runs, or loads from elsewhere
+MANY = b"\x11" * 100_000  # picture data that is longer than the tail
+
+
+def sha256(octets):
+    return hashlib.sha256(octets).hexdigest()
+
+
+def with_record(octets):
+    return app13(resource(0x0404, octets))
+
+
+def with_packet(octets):
+    return jpeg(app1_xmp(octets))
+
+
+def with_tail(octets, tail):
+    """A JPEG whose picture data is longer than the tail that is read, with something in it or after it."""
+    return SMALL_JPEG[:-2] + octets + MANY + SMALL_JPEG[-2:] + tail
+
+
+class Promises(InProcess):
+    """Runs the commands on small folders."""
+
+    maxDiff = None
+
+    def files(self, folder, **octets):
+        """A folder of JPEG files; `a__b` is b.jpg in the folder a."""
+        for name, it in octets.items():
+            there = self.path(folder, *name.split("__")) + ".jpg"
+            os.makedirs(os.path.dirname(there), exist_ok=True)
+            write(there, it)
+
+    def rows(self, catalogue, query):
+        with contextlib.closing(sqlite3.connect(self.path(catalogue))) as base:
+            return base.execute(query).fetchall()
+
+    def names(self, catalogue):
+        found = self.rows(catalogue, "SELECT path FROM pictures")
+        return sorted(os.path.relpath(os.fsdecode(it), self.folder) for it, in found)
+
+    def index(self, *words, catalogue="c", status=0):
+        return self.printed("index", *words, "--catalogue", f"@/{catalogue}", "--quiet", status=status)
+
+    def compared(self, one, other, *words, status=0):
+        """The object of a picture that is one file before, and another one after."""
+        for side, octets in (("x", one), ("y", other)):
+            self.files(side, a=octets)
+        return self.objects("changed", "@/x", "@/y", "--all", *words, status=status)[0]
+
+    def result(self, one, other, *words, status=0):
+        return self.compared(one, other, *words, status=status)["result"]
+
+    def kinds(self, one, other, status=0):
+        return " ".join(self.compared(one, other, status=status)["kinds"].values())
+
+
+class WhatIsCompared(Promises):
+    def test_meanings_and_not_bytes(self):
+        forms = [run(["exifnorm"], self.folder, it).stdout for it in (A, turned(A))]
+        other_pixels = SMALL_JPEG.replace(b"\x03\x11\x00\x3f\x00", b"\x03\x11\x00\x3f\x00\x12", 1)
+        self.assertNotEqual(other_pixels, SMALL_JPEG)
+        self.assertEqual(forms[0], forms[1])
+        self.assertEqual(self.kinds(jpeg(app1(A)), jpeg(app1(turned(A)))), "same absent absent")
+        self.assertEqual(self.kinds(with_packet(T), with_packet(T_OTHERWISE)), "absent absent same")
+        self.assertEqual(self.kinds(*[jpeg(app1(A), app1_xmp(T))] * 2), "same absent same")
+        self.assertEqual(self.result(jpeg(app1(A)), jpeg(app1(A), base=other_pixels)), "same")
+
+    def test_each_kind_by_itself(self):
+        both = jpeg(app1(A), with_record(ONE))
+        self.assertEqual(self.kinds(both, jpeg(app1(B), with_record(ONE)), 1), "different same absent")
+        self.assertEqual(self.kinds(both, jpeg(app1(DOUBLED), with_record(ONE), app1_xmp(b"<x")), 2), "refused same unreadable")
+        hidden = self.compared(*(jpeg(app1(DOUBLED), with_record(it)) for it in (ONE, TWO)), status=1)
+        self.assertEqual((hidden["result"], hidden["kinds"]["iptc"]), ("different", "different"))
+
+    def test_parts_that_are_not_read(self):
+        found = self.compared(jpeg(app1(A), behind=b"one"), jpeg(app1(A), behind=b"two"), status=2)
+        self.assertEqual((found["result"], found["kinds"]["exif"]), ("not wholly read", "same"))
+        self.assertEqual(self.result(*[jpeg(app1(A), behind=b"one")] * 2), "same")
+
+    def test_results(self):
+        note = [jpeg(app1(block([entry(0x8769, LONG, 1, 26)]) + table([entry(0x927C, UNDEFINED, 4, it)]))) for it in (b"note", b"mote")]
+        for one, other, status, expected in (
+            (jpeg(app1(A)), jpeg(app1(B)), 1, "different"), (*note, 1, "only MakerNote differs"), (jpeg(app1(A)), jpeg(app1(DOUBLED)), 2, "refused"),
+            (with_packet(T), with_packet(b"<x"), 2, "unreadable"), (jpeg(), jpeg(behind=b"rest"), 2, "not wholly read"),
+        ):  # fmt: skip
+            self.assertEqual(self.result(one, other, status=status), expected)
+        os.rename(self.path("y", "a.jpg"), self.path("y", "b.jpg"))
+        found = self.objects("changed", "@/x", "@/y", status=1)[:2]
+        self.assertEqual([(it["path"], it["result"]) for it in found], [("a.jpg", "missing after"), ("b.jpg", "missing before")])
+
+    def test_formats(self):
+        """Where no other program is installed. The entries that lead to pixels are left out of a block."""
+        os.mkdir(self.path("p"))
+        pages = tiff(page((0x014A, LONG, page((0x010F, ASCII, b"below\0")))), page())
+        files = {"a.jpg": jpeg(app1(A)), "b.png": png(chunk(b"eXIf", A)), "c.webp": webp((b"EXIF", A)), "d.tif": pages, "e.tif": b"II+\0\x08\0\0\0" + bytes(24)}
+        for name, octets in files.items():
+            write(self.path("p", name), octets)
+        done = run([sys.executable, "-m", "exifnorm_pictures", "index", "p", "--catalogue", "c", "--quiet"], self.folder, PATH=self.path("none"))
+        self.assertEqual(done.stdout.splitlines()[-1], b"4 accepted, 1 BigTIFF", done)
+        query = "SELECT type, name, octets, digest, source FROM pictures JOIN blocks ON picture = pictures.id WHERE kind = 'exif' ORDER BY path, number"
+        found = self.rows("c", query)
+        form = run(["exifnorm"], self.folder, A).stdout
+        self.assertEqual([it[:4] for it in found[:3]], [(it, "Exif", sha256(A), sha256(form)) for it in ("JPEG", "PNG", "WEBP")])
+        self.assertEqual([(it[0], it[1], re.findall("Strip[A-z]*|SubIFDs", it[4])) for it in found[3:]],
+                         [("TIFF", "Exif", ["StripByteCounts", "StripOffsets", "SubIFDs"]), ("TIFF", "Exif of SubIFD 1 of page 1", ["StripByteCounts", "StripOffsets"]),
+                          ("TIFF", "Exif of page 2", ["StripByteCounts", "StripOffsets"])])  # fmt: skip
+
+    def test_where_blocks_are(self):
+        """For each format and kind two pictures that differ there."""
+        six, uses = b"Exif\0\0", {it: extension(xmp(f"<dc:format>{it}</dc:format>")) for it in ("one", "two")}
+
+        def extended(it):
+            pieces, name = uses["one" if it == T else "two"]
+            return jpeg(app1_xmp(xmp("", f"note:HasExtendedXMP='{name}'")), *pieces)
+
+        places = {
+            "exif": [lambda it: jpeg(app1(it)), lambda it: jpeg(app1(it[:20]), app1(it[20:])), lambda it: jpeg(app13(resource(0x0422, it))),
+                     lambda it: png(chunk(b"eXIf", it)), lambda it: png(profile(b"exif", six + it)), lambda it: png(profile(b"APP1", six + it)),
+                     lambda it: webp((b"EXIF", it)), lambda it: webp((b"EXIF", six + it)), lambda it: tiff(page(), page((0x010F, ASCII, it[-8:-4]))),
+                     lambda it: tiff(page((0x014A, LONG, page((0x010F, ASCII, it[-8:-4])))))],
+            "iptc": [lambda it: jpeg(with_record(ONE), app1(A), with_record(it)), lambda it: png(profile(b"iptc", it)),
+                     lambda it: png(profile(b"8bim", resource(0x0404, it))), lambda it: tiff(page((0x83BB, UNDEFINED, it))),
+                     lambda it: tiff(page((0x8649, UNDEFINED, resource(0x0404, it))))],
+            "xmp": [with_packet, extended, lambda it: jpeg(app13(resource(0x0424, it))), lambda it: png(png_xmp(it)), lambda it: png(profile(b"xmp", it)),
+                    lambda it: png(profile(b"APP1", XMP_HEAD + it)), lambda it: webp((b"XMP ", it)), lambda it: webp((b"XMP\0", it)),
+                    lambda it: tiff(page((0x02BC, 1, it))), lambda it: tiff(page((0x8649, UNDEFINED, resource(0x0424, it))))],
+        }  # fmt: skip
+        for kind, pair in (("exif", (A, B)), ("iptc", (ONE, TWO)), ("xmp", (T, U))):
+            for number, make in enumerate(places[kind]):
+                found = self.compared(*map(make, pair), status=1)["kinds"]
+                self.assertEqual([name for name, it in found.items() if it == "different"], [kind], number)
+
+    def test_every_block(self):
+        """A second segment, a second page, and the pictures of an MPF index."""
+        first = app1(A)
+        pages = [tiff(page(), page((0x010F, ASCII, it))) for it in (b"one\0", b"two\0")]
+        for pair in ([jpeg(first, app1(A)), jpeg(first, app1(B))], pages, [mpf(first, jpeg(app1(it))) for it in (A, B)]):
+            self.assertEqual(self.result(*pair, status=1), "different")
+
+    def test_parts_without_a_reader(self):
+        """Two pictures with a part of other bytes; the result names the part."""
+        for name, make in (
+            ("trailer", lambda it: jpeg(behind=it)), ("APP1 segment of an unknown kind", lambda it: jpeg(segment(0xE1, it))),
+            ("raw profile of another kind", lambda it: png(profile(b"other", it))), ("chunk of an unknown kind", lambda it: webp((b"WHAT", it))),
+            ("second picture", lambda it: jpeg(behind=jpeg(behind=it))), ("Photoshop's layers", lambda it: tiff(page((0x935C, UNDEFINED, b"long " + it)))),
+            ("APP3 segment Meta", lambda it: jpeg(segment(0xE3, b"Meta\0\0" + it))), ("Photoshop resource 0423", lambda it: jpeg(app13(resource(0x0423, it)))),
+        ):  # fmt: skip
+            found = self.compared(*map(make, (b"one", b"two")), status=2)
+            self.assertEqual((found["result"], name in found["note"]), ("not wholly read", True), found)
+
+    def test_tails(self):
+        """Everything is read if the last 65,536 bytes show anything but picture data; otherwise only --whole finds what is before them."""
+        self.assertEqual(jpeg_tail.WINDOW, 65_536)
+        self.assertEqual(self.result(*(with_tail(b"", it) for it in (b"one", b"two")), status=2), "not wholly read")
+        self.assertEqual(self.result(*(SMALL_JPEG[:-2] + MANY + app1(it) + SMALL_JPEG[-2:] for it in (A, B)), status=2), "not wholly read")
+        inside, appended = [with_tail(app1(it), b"") for it in (A, B)], [SMALL_JPEG + jpeg(app1(it), base=with_tail(b"", b"")) for it in (A, B)]
+        for pair in (inside, appended):
+            self.assertEqual([self.result(*pair), self.result(*pair, "--whole", status=2)], ["same", "not wholly read"])
+
+    def test_what_is_not_compared(self):
+        """JFIF, ICC profiles, comments, text chunks, other Photoshop resources and JUMBF."""
+        for make in (
+            lambda it: jpeg(segment(0xE0, b"JFXX\0\x13\1\1" + it)), lambda it: jpeg(segment(0xE2, b"ICC_PROFILE\0\1\1" + it)),
+            lambda it: png(chunk(b"iCCP", b"p\0\0" + it)), lambda it: webp((b"ICCP", it)), lambda it: jpeg(segment(0xFE, it)),
+            lambda it: png(chunk(b"tEXt", b"Title\0" + it)), lambda it: jpeg(app13(resource(0x0400, it))),
+            lambda it: jpeg(segment(0xEB, b"JP\0\1\0\0\0\1" + it)),
+        ):  # fmt: skip
+            self.assertEqual(self.result(make(b"one"), make(b"two")), "same")
+
+    def test_xmp(self):
+        def bag(kind, *words):
+            return xmp(f"<dc:subject><rdf:{kind}>" + "".join(f"<rdf:li>{it}</rdf:li>" for it in words) + f"</rdf:{kind}></dc:subject>")
+
+        two = "<dc:format>one</dc:format>", "<xmp:Label>x</xmp:Label>"
+        other_prefix = T.replace(b"dc:", b"q:").replace(b":dc=", b":q=")
+        named = T.replace(b"rdf:about=''", b"rdf:about='u:1'")
+        without = T[T.index(b"<x:xmpmeta") : T.index(b"<?xpacket end")]
+        same = [(T, T + b"  "), (T, without), (T, T_OTHERWISE), (T, other_prefix), (xmp("".join(two)), xmp("".join(two[::-1]))), (T, named),
+                (bag("Bag", "a", "b"), bag("Bag", "b", "a"))]  # fmt: skip
+        dates = [xmp("", f"xmp:{name}='{it}'") for name in ("ModifyDate", "InstanceID") for it in "12"]
+        subjects = T.replace(b"</rdf:RDF>", b"<rdf:Description rdf:about='u:2'/></rdf:RDF>").replace(b"rdf:about=''", b"rdf:about='u:1'")
+        bad = [b"<x", b"<!DOCTYPE x>" + T, subjects, xmp("", "note:HasExtendedXMP='0'")]
+        for status, word, pairs in ((0, "same", same), (1, "different", [dates[:2], dates[2:], (bag("Seq", "a", "b"), bag("Seq", "b", "a"))]),
+                                    (2, "unreadable", [(T, it) for it in bad])):  # fmt: skip
+            for pair in pairs:
+                self.assertEqual(self.result(*map(with_packet, pair), status=status), word, pair)
+
+
+class Catalogues(Promises):
+    def test_index(self):
+        self.files("p", a=jpeg(app1(A)), s__b=jpeg(app1(B)))
+        self.files(".", direct=jpeg(app1(A)))
+        first = self.printed("index", "@/p", "@/direct.jpg", "--catalogue", "@/c")
+        self.assertEqual((first[-1], self.names("c")), ("3 accepted", ["direct.jpg", "p/a.jpg", "p/s/b.jpg"]))
+        self.assertIn("3 of 3 pictures", self.complaint)
+        self.assertEqual((self.index("@/p", "@/direct.jpg"), self.complaint), (["3 unchanged"], ""))
+        self.assertEqual(self.index("@/p", "@/direct.jpg", "--again"), ["3 accepted"])
+        self.assertEqual(read(self.path("c"))[:16], b"SQLite format 3\0")
+        write(self.path("text"), b"a text")
+        self.printed("index", "@/p", "--catalogue", "@/text", "--quiet", status=4)
+        self.assertEqual(read(self.path("text")), b"a text")
+        self.assertEqual([batches.How().processes, batches.How(3).processes], [len(os.sched_getaffinity(0)), 3])
+
+    def test_keep_old(self):
+        """An earlier copy is replaced, and no other file."""
+        self.files("p", a=jpeg(app1(A)))
+        self.index("@/p")
+        self.files("p", b=jpeg(app1(B)))
+        kept = [self.index("@/p", "--keep-old", "@/old") and self.names("old") for _ in range(2)]
+        self.assertEqual(kept, [["p/a.jpg"], ["p/a.jpg", "p/b.jpg"]])
+        write(self.path("text"), b"a text")
+        self.index("@/p", "--keep-old", "@/text", status=4)
+        self.assertEqual(read(self.path("text")), b"a text")
+
+    def test_pictures_that_are_gone(self):
+        self.files("p", a=jpeg(app1(A)), b=jpeg(app1(B)), c=jpeg())
+        self.index("@/p")
+        os.rename(self.path("p", "a.jpg"), self.path("p", "new.jpg"))
+        os.remove(self.path("p", "c.jpg"))
+        self.index("@/p")
+        found = self.rows("c", "SELECT path, problem FROM pictures WHERE problem IS NOT NULL ORDER BY path")
+        self.assertEqual([(os.path.basename(path), it) for path, it in found], [(b"a.jpg", "Moved"), (b"c.jpg", "Vanished")])
+
+    def test_files_of_a_catalogue(self):
+        self.files("p", a=jpeg(app1(A)), b=jpeg(behind=b"rest"))
+        seen = set()
+        with mock.patch.object(index.Progress, "done", lambda *_: seen.update(os.listdir(self.folder))):
+            self.index("@/p")
+        counts = [self.rows("c", f"SELECT count(*) FROM {it}")[0][0] for it in ("runs", "pictures", "blocks", "not_read")]
+        self.assertEqual((counts, sorted(seen)), ([1, 2, 1, 1], ["c", "c-shm", "c-wal", "p"]))
+
+    def test_same(self):
+        record = with_record(ONE)
+        self.files("p", a=jpeg(app1(A), record), b=jpeg(app1(turned(A)), record), c=jpeg(app1(B), record), d=jpeg(app1(DOUBLED), record),
+                   e=jpeg(app1(DOUBLED), record), f=jpeg(app1_xmp(b"<x")), g=jpeg(app1_xmp(b"<x")))  # fmt: skip
+        self.index("@/p")
+        for kind, expected in (("all", ["ab"]), ("exif", ["ab"]), ("iptc", ["abcde"]), ("xmp", [])):
+            groups = self.objects("same", "--catalogue", "@/c", "--kind", kind)
+            self.assertEqual(["".join(it["path"][-5] for it in group["pictures"]) for group in groups], expected, kind)
+        self.assertTrue(self.printed("same", "--catalogue", "@/c")[-1].startswith("4 pictures in no group"))
+
+    def test_pairs_of_changed(self):
+        """By the path below a folder if each side has one, otherwise by the whole path. No progress is shown."""
+        self.files("x", a=jpeg(app1(A)), s__b=jpeg(app1(B)))
+        shutil.copytree(self.path("x"), self.path("y"))
+        self.index("@/x", "@/y", catalogue="both")
+        os.rename(self.path("y", "a.jpg"), self.path("y", "new.jpg"))
+        self.index("@/x", "@/y", catalogue="later")
+        for sides, moved in ((("@/x", "@/y"), ("a.jpg", "new.jpg")), (("@/both", "@/later"), ("F/y/a.jpg", "F/y/new.jpg"))):
+            found = self.objects("changed", *sides, status=1)[0]
+            self.assertEqual((found["path"], found["result"], found["moved_to"]["path"]), (moved[0], "moved", moved[1]))
+        with mock.patch.object(states, "index", wraps=states.index) as read_:
+            for more in ([], ["--quiet"]):
+                self.printed("changed", "@/x", "@/both", "--jobs", "3", *more, status=1)
+                self.assertEqual(self.complaint, "")
+        self.assertEqual([it.args[0].how.processes for it in read_.mock_calls], [3, 3])
+
+    def test_report(self):
+        self.files("p", a=jpeg(app1(DOUBLED)), b=jpeg(app1(A)), c=jpeg(app1(A)), d=jpeg(behind=b"rest"))
+        self.index("@/p")
+        self.files("p", b=jpeg(app1(B)), c=jpeg(app1(B)))
+        self.index("@/p", "--keep-old", "@/old")
+        report = ("report", "--catalogue", "@/c", "--since", "@/old", "--html")
+        write(self.path("text"), b"a text")
+        self.printed(*report, "@/text", status=4)
+        self.assertEqual(read(self.path("text")), b"a text")
+        for name in ("One", "Another"):
+            self.printed(*report, "@/page", "--title", name)
+        html = read(self.path("page")).decode()
+        self.assertEqual((re.findall("<h1>(.*)</h1>", html), re.findall("<title>(.*?)</title>", html)[0]), (["Another"], "Another"))
+        self.assertEqual(OUTSIDE.findall(html), [])
+        self.assertEqual(OUTSIDE.findall("<script></script><link><img src='a'><img src='data:,'><a href='b'>"), ["<script", "<link", "src='", "href='"])
+        for part in ("<b>2</b> accepted", ">Doubled</text>", "2 pictures <span", '<img src="data:image/', "main:Make", "trailer of 4 bytes", "Remedy"):
+            self.assertIn(part, html)
+        for more, has in (([], False), (["--since", "@/old"], True)):
+            self.assertEqual(any("results" in it for it in self.objects("report", "--catalogue", "@/c", *more)), has)
+
+
+class Pictures(Promises):
+    def test_show_and_captions(self):
+        captions = ONE + b"\x1c\2\x78\0\4Vase" + b"\x1c\2\x50\0\3Lee" + b"\x1c\2\x74\0\4Mine"
+        self.files("p", a=jpeg(app1(block([entry(0x013B, ASCII, 4, b"Ann\0")])), with_record(captions)))
+        fields = [field["name"] for it in self.objects("show", "@/p/a.jpg") for field in it["fields"]]
+        self.assertEqual(fields, ["main:Artist", "iptc:Keywords", "iptc:By-line", "iptc:CopyrightNotice", "iptc:CaptionAbstract"])
+        labels = [one["label"] for it in self.objects("captions", "@/p/a.jpg") for one in it["captions"]]
+        self.assertEqual(sorted(labels), ["artist", "byline", "caption", "copyright", "keyword"])
+
+    def test_long_values(self):
+        write(self.path("long"), bytes.fromhex("4d4d002a00000008 0001 9999 0007 000000c8 0000001a 00000000") + bytes(200))
+        found = re.findall(r"\[(\d+)\] .*sha256:([0-9a-f]+)$", self.printed("show", "--block", "@/long")[-1])
+        self.assertEqual(found, [("200", sha256(bytes(200))[:12])])
+
+    def test_explain(self):
+        """The cause, the entry, both owners of shared bytes, the bytes around the offset, who writes such blocks, and what helps."""
+        self.files("p", a=jpeg(app1(BLOCKS["Overlap"])))
+        (found,) = self.objects("explain", "@/p/a.jpg", status=2)
+        self.assertEqual((found["cause"], found["place"]), ("Overlap", 34))
+        self.assertIn("Software (0131)", found["here"][0])
+        self.assertEqual(found["here"][1].count("the value of "), 2)
+        self.assertTrue(any(it.endswith("^^ 34") for it in found["bytes"]), found["bytes"])
+        self.assertTrue(all(found[it] for it in ("sentence", "meaning", "writers", "remedy", "cost")), found)
+
+    @needs("exiftool")
+    def test_a_plain_copy(self):
+        """Of an accepted picture `mend` makes one, with its mode and times."""
+        self.files("p", a=jpeg(with_record(ONE)))
+        os.chmod(self.path("p", "a.jpg"), 0o640)
+        os.utime(self.path("p", "a.jpg"), ns=(10**18, 10**18))
+        self.printed("mend", "@/p/a.jpg", "@/copy.jpg")
+        found = [(it.st_mode, it.st_mtime_ns) for it in map(os.stat, (self.path("p", "a.jpg"), self.path("copy.jpg")))]
+        self.assertEqual(found, [(0o100640, 10**18)] * 2)
+        self.assertEqual(read(self.path("copy.jpg")), read(self.path("p", "a.jpg")))
+
+    def test_names(self):
+        """Lists end names with a line's end or NUL; without --json each name is on one line."""
+        self.files("p", a=jpeg(app1(A)), **{"b\nc": jpeg(app1(A))})
+        write(os.path.join(os.fsencode(self.folder), b"p", b"\xff.jpg"), jpeg(app1(A)))
+        for name, it in {"lines": b"@/p/a.jpg\n", "nuls": b"@/p/a.jpg\0@/p/b\nc.jpg\0"}.items():
+            write(self.path(name), it.replace(b"@", os.fsencode(self.folder)))
+        self.index("@/p")
+        self.assertEqual(self.printed("show", "--files-from", "@/lines"), self.printed("show", "@/p/a.jpg"))
+        heads = [it for it in self.printed("show", "--files-from", "@/nuls", "-0") if it.startswith("== ")]
+        self.assertEqual(heads, ["== F/p/a.jpg", "== F/p/b\\nc.jpg"])
+        same = ("same", "--catalogue", "@/c")
+        self.assertEqual(self.objects(*same, "--files-from", "@/lines"), [])
+        self.assertEqual(self.objects(*same, "--files-from", "@/nuls", "--null")[0]["count"], 2)
+        self.assertEqual(self.printed(*same)[1:], ["  F/p/a.jpg", "  F/p/b\\nc.jpg", "  F/p/\\xff.jpg"])
+
+    def test_names_for_changed(self):
+        """Paths below the folder, or whole ones; from standard input, too."""
+        for folder, octets in (("p", ONE), ("q", TWO)):
+            self.files(folder, a=jpeg(with_record(octets)), b=jpeg(with_record(octets)))
+        for name in ("a.jpg", self.path("p", "a.jpg")):
+            lines = self.asked("changed", "p", "q", "--files-from", "-", "--json", given=os.fsencode(f"{name}\n"), status=1)
+            self.assertEqual(json.loads(lines[-1]), {"counts": {"different": 1}})
+
+    def test_blocks_and_whole_files(self):
+        write(self.path("block"), b"\x1c\x02\x78\0\x04Vase")
+        self.assertEqual([self.printed(it, "--block", "@/block")[-1].split()[-1] for it in ("show", "captions", "explain")], ['"Vase"', "Vase", "ok"])
+        self.files("p", a=with_tail(app1(A), b""))
+        self.index("@/p")
+        self.assertEqual([len(self.printed("show", "@/p/a.jpg", *it)) for it in ([], ["--whole"])], [1, 2])
+        self.assertEqual([self.index("@/p", *it)[-1] for it in (["--whole"], ["--again", "--whole"])], ["1 unchanged", "1 no block"])
+
+    def test_version_and_help(self):
+        version, help_ = (run(["exifnorm-pictures", it], self.folder).stdout.decode() for it in ("--version", "--help"))
+        self.assertEqual(version, f"exifnorm-pictures {exifnorm.__version__}\n")
+        self.assertTrue(help_.startswith("usage: exifnorm-pictures"))
+
+    def test_the_library_of_the_environment(self):
+        """The library has another name here, and its folder has no other one."""
+        self.files("p", a=jpeg(app1(A)))
+        shutil.copy(os.environ["EXIFNORM_LIBRARY"], self.path("other.so"))
+        found = [run(["exifnorm-pictures", "show", "p/a.jpg"], self.folder, EXIFNORM_LIBRARY=self.path(it)) for it in ("other.so", "none.so")]
+        self.assertEqual([(it.returncode, b'"Abc"' in it.stdout, b"none.so" in it.stderr) for it in found], [(0, True, False), (4, False, True)])
+
+    def test_statuses(self):
+        """Each with what the page names for it; the greatest counts."""
+        files = {"refused": jpeg(app1(DOUBLED)), "unread": jpeg(app1(A), behind=b"rest"), "unreadable": jpeg(app1(A), app1_xmp(b"<x")),
+                 "also_differs": jpeg(app1(B), app1_xmp(b"<x"))}  # fmt: skip
+        for name, octets in {**files, "differs": jpeg(app1(B)), "one": jpeg(app1(A))}.items():
+            self.files(name, a=octets)
+        self.files("moved", b=jpeg(app1(A)))
+        self.files("missing", c=jpeg(app1(B)))
+        for after, status, of_picture in (("refused", 2, 2), ("unreadable", 2, 2), ("also_differs", 1, 2), ("unread", 2, 0), ("differs", 1, 0)):
+            self.printed("changed", "@/one", f"@/{after}", status=status)
+            for command in ("show", "captions", "explain"):
+                self.printed(command, f"@/{after}/a.jpg", status=of_picture)
+        for before, after, status in (("one", "moved", 1), ("one", "missing", 1), ("refused", "refused", 0)):
+            self.printed("changed", f"@/{before}", f"@/{after}", status=status)
+        self.printed("show", "@/one/a.jpg", "@/refused/a.jpg", status=2)
+        self.printed("show", "@/absent", "@/refused/a.jpg", status=4)
+        self.assertEqual(self.index("@/refused", "@/one")[-1], "1 accepted, 1 refused")
+        self.assertEqual(self.index("@/absent", "@/one", catalogue="d", status=4)[-1], "1 Unreadable, 1 accepted")
+        self.assertEqual(run(["exifnorm-pictures", "show"], self.folder).returncode, 3)
+        for lost, step, status in ((["a value"], "rebuild", 1), ([], "none", 2)):
+            with mock.patch.object(mend, "mend", return_value=mend.Mended(step, {}, lost)), contextlib.redirect_stdout(io.StringIO()):
+                self.assertEqual(single._mend_one(argparse.Namespace(json=False), b"a", b"b", ""), status)
+
+    @needs("exiftool")
+    def test_no_picture_is_modified(self):
+        self.files("p", a=jpeg(app1(A), with_record(ONE), app1_xmp(T)), b=jpeg(app1(turned(A)), with_record(ONE + b"\0"), app1_xmp(T_OTHERWISE)),
+                   c=jpeg(app1(DOUBLED)))  # fmt: skip
+        shutil.copytree(self.path("p"), self.path("later"))
+        write(self.path("later", "a.jpg"), jpeg(app1(B), with_record(ONE), app1_xmp(T)))
+        before = self.marks("p")
+        self.index("@/p")
+        (group,) = self.objects("same", "--catalogue", "@/c")
+        (changed, *_) = self.objects("changed", "@/p", "@/later", status=1)
+        self.assertEqual((sorted(group["digests"]), [it["name"] for it in changed["fields"]]), (["exif", "iptc", "xmp"], ["main:Make"]))
+        for command in ("show", "captions", "explain"):
+            self.printed(command, "@/p/c.jpg", status=2)
+        self.printed("report", "--catalogue", "@/c", "--html", "@/page")
+        self.printed("mend", "@/p/a.jpg", "@/out.jpg")
+        self.assertEqual(self.marks("p"), before)
+
+    def marks(self, folder):
+        found = [(it.name, it.stat(), read(it.path)) for it in os.scandir(self.path(folder))]
+        return sorted((name, it.st_mtime_ns, it.st_ctime_ns, octets) for name, it, octets in found)
