@@ -5,7 +5,6 @@ import os
 import shutil
 import sqlite3
 import subprocess
-import sys
 import tempfile
 import time
 import unittest
@@ -14,14 +13,12 @@ from types import SimpleNamespace
 from unittest import mock
 
 from made_blocks import MAKE, block, with_exif
-from studio import SMALL_JPEG, TOP, Studio, WithPictures, interpreter_with, needs, run, write
+from studio import SMALL_JPEG, Studio, WithPictures, interpreter_with, needs, run, write
 
-sys.path.insert(0, os.path.join(TOP, "python"))
-
-from exifnorm_pictures import cluster, tools  # noqa: E402
-from exifnorm_pictures.batches import How  # noqa: E402
-from exifnorm_pictures.kept import Entry, Stamp  # noqa: E402
-from exifnorm_pictures.walk import Found  # noqa: E402
+from exifnorm_pictures import cluster, tools
+from exifnorm_pictures.batches import How
+from exifnorm_pictures.kept import Entry, Stamp
+from exifnorm_pictures.walk import Found
 
 GIF = b"GIF89a\x01\0\x01\0\0\0\0;"
 GOOD = with_exif(SMALL_JPEG, block([MAKE]))
@@ -140,7 +137,7 @@ class Near:
     def __init__(self, outcomes=(), workers=1):
         self.outcomes, self.workers, self.calls, self.waits = list(outcomes), workers, [], []
 
-    def Client(self, scheduler, timeout):  # noqa: N802 (the name in Dask's package)
+    def Client(self, scheduler, timeout):
         self.calls.append((scheduler, timeout))
         if isinstance(self.workers, Exception):
             raise self.workers
@@ -186,7 +183,6 @@ def entry(it, **more):
 class Tasks(unittest.TestCase):
     """What goes to a cluster and what is made of its results, without a cluster."""
 
-    alone = True  # it replaces functions that other tests call
     maxDiff = None
 
     def looked(self, near, work, elsewhere=None, seconds=60.0):

@@ -1,19 +1,15 @@
 """Explanations of refused blocks, written out here: each line about a block, its parts and their owners, and the bytes at an offset."""
 
-import os
 import struct
-import sys
 import unittest
 
 from made_blocks import BLOCKS
-from studio import TOP
 
-sys.path.insert(0, os.path.join(TOP, "python"))
 
-from reading import CAUSES as PLACES  # noqa: E402
+from reading import CAUSES as PLACES
 
-from exifnorm_pictures import causes, explain, layout, names  # noqa: E402
-from exifnorm_pictures.formats.found import EXIF, IPTC  # noqa: E402
+from exifnorm_pictures import causes, explain, layout, names
+from exifnorm_pictures.formats.found import EXIF, IPTC
 
 MAIN, GPS, THUMB = "main directory (0th IFD)", "GPS directory", "thumbnail directory (1st IFD)"
 
@@ -269,7 +265,3 @@ class PartsOfBlocks(unittest.TestCase):
                                  ("gps", "0112", "Tag 0112"), ("interop", "0002", "InteroperabilityVersion"), ("iptc", "3:1", "DataSet 3:1"),
                                  ("thumb", "jpeg", "JPEG thumbnail"), ("thumb", "strip", "Strip"), ("xmp", "dc:title", "dc:title")):  # fmt: skip
             self.assertEqual((names.name_of(where, key), names.full_name(where, key)), (name, f"{where}:{name}"))
-
-
-if __name__ == "__main__":
-    unittest.main()

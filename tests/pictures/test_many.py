@@ -1,4 +1,4 @@
-"""2,000 pictures: the time beside ExifTool's own, and a run that is killed in the middle."""
+"""2,000 pictures, and a run over them that is killed or stopped in the middle."""
 
 import os
 import re
@@ -6,45 +6,12 @@ import signal
 import sqlite3
 import subprocess
 import sys
-import time
 
-from studio import Studio, WithPictures, many, needs, run
+from studio import Studio, WithPictures, many, needs
 
 
 @needs("exiftool")
 class Many(WithPictures):
-    alone = True  # what is measured runs by itself
-
-    def test_time_beside_exiftool(self):
-        """The times are printed, but not checked: they depend on the machine's other work. ExifTool reads a quarter of the pictures."""
-        folder = many()
-        quarter = [os.path.join(folder, it) for it in sorted(os.listdir(folder))[::4]]
-        words = ["exiftool", "-q", "-q", "-json", "-b", "-Exif", "-IPTC", *quarter]
-        tool, whole = [], []
-        for number in range(2):
-            began = time.monotonic()
-            self.assertEqual(run(words, self.folder).returncode, 0)
-            tool.append(4 * (time.monotonic() - began))
-            began = time.monotonic()
-            self.assertEqual(self.asked("index", folder, "--catalogue", f"c{number}", "--quiet"), ["2000 accepted"])
-            whole.append(time.monotonic() - began)
-        own, children = self.processor_times(folder)
-        print(
-            f"2,000 pictures: index {min(whole):.2f} s, ExifTool alone {min(tool):.2f} s, {min(whole) / min(tool):.2f} times;"
-            f" processor time: {own:.2f} s of its own, {children:.2f} s of ExifTool",
-            flush=True,
-        )
-        self.assertEqual(self.asked("index", folder, "--catalogue", "c0"), ["2000 unchanged"])
-
-    def processor_times(self, folder):
-        """Seconds of processor time of a run and of the programs that it calls."""
-        call = "import resource, sys; from exifnorm_pictures.main import main; main(sys.argv[1:]);" + "".join(
-            f"it = resource.getrusage(resource.RUSAGE_{whose}); print(it.ru_utime + it.ru_stime);" for whose in ("SELF", "CHILDREN")
-        )
-        words = [sys.executable, "-c", call, "index", folder, "--catalogue", self.path("timed"), "--quiet"]
-        said = run(words, self.folder).stdout.decode().split("\n")
-        return float(said[1]), float(said[2])
-
     def test_killed_in_the_middle(self):
         folder = many()
         words = [sys.executable, "-m", "exifnorm_pictures", "index", folder, "--catalogue", self.path("c")]

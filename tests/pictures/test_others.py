@@ -5,16 +5,13 @@ import hashlib
 import io
 import os
 import struct
-import sys
 import unittest
 from unittest import mock
 
-from studio import TOP, WithPictures, write
+from studio import WithPictures, write
 
-sys.path.insert(0, os.path.join(TOP, "python"))
-
-from exifnorm_pictures import extraction, others, session, tools  # noqa: E402
-from exifnorm_pictures.formats.found import PROBLEMS, Blocks, LeftToOthers, NotRead  # noqa: E402
+from exifnorm_pictures import extraction, others, session, tools
+from exifnorm_pictures.formats.found import PROBLEMS, Blocks, LeftToOthers, NotRead
 
 ASKED = ("-EXIF:Exif", "-IPTC:IPTC", "-XMP:XMP", "-FileType#", "-MIMEType#", "-Error#")
 # Files in the structure of TIFF, by ExifTool's list of file types
@@ -52,7 +49,6 @@ class Answers(unittest.TestCase):
         found = others._blocks({"FileType": "PDF", "MIMEType": "application/pdf", "XMP": "<x>"})
         self.assertEqual((found.problem, len(found.found)), (None, 1))
 
-
     def test_names_of_raw_pictures(self):
         """In letters of either kind; files in the structure of TIFF with another name are read here."""
         for it in RAW[1:]:
@@ -67,7 +63,6 @@ class Answers(unittest.TestCase):
 class Files(WithPictures):
     """A file that has no reader here, or that is broken."""
 
-    alone = True  # it replaces functions that other tests call
     maxDiff = None
 
     def read(self, answers, octets=b"abc", whole=False, why="", has_exiv2=True, run=None):
@@ -150,7 +145,3 @@ class Files(WithPictures):
         for why in (tools.Missing("exiftool"), tools.Failed("exiftool took longer than 1 seconds")):
             blocks = added(mock.Mock(side_effect=why))
             self.assertEqual((blocks.not_read, len(blocks.found)), ([NotRead("blocks of the trailer, for which ExifTool is needed", "")], 1))
-
-
-if __name__ == "__main__":
-    unittest.main()

@@ -4,21 +4,18 @@ import contextlib
 import hashlib
 import os
 import sqlite3
-import sys
 import unittest
 from types import SimpleNamespace
 from unittest import mock
 
 from made_files import xmp as packet_of
-from studio import TOP, WithPictures, write
+from studio import WithPictures, write
 
-sys.path.insert(0, os.path.join(TOP, "python"))
-
-from exifnorm_pictures import batches, kept, listing, moves, processes, session, texts, thumbnails, tools, verdicts, walk, xmp  # noqa: E402
-from exifnorm_pictures.formats.found import Blocks, NotRead  # noqa: E402
-from exifnorm_pictures.kept import Entry, Stamp  # noqa: E402
-from exifnorm_pictures.verdicts import Side, Verdict  # noqa: E402
-from exifnorm_pictures.walk import Found  # noqa: E402
+from exifnorm_pictures import batches, kept, listing, moves, processes, session, texts, thumbnails, tools, verdicts, walk, xmp
+from exifnorm_pictures.formats.found import Blocks, NotRead
+from exifnorm_pictures.kept import Entry, Stamp
+from exifnorm_pictures.verdicts import Side, Verdict
+from exifnorm_pictures.walk import Found
 
 
 def digits(octets, count=32):
@@ -175,8 +172,6 @@ class Results(unittest.TestCase):
 class Work(WithPictures):
     """How work is divided, and what a process makes of its part."""
 
-    alone = True  # it replaces functions that other tests call
-
     def chunks(self, count, jobs):
         taken = []
 
@@ -243,8 +238,6 @@ class Work(WithPictures):
 class Walked(WithPictures):
     """The files of a command."""
 
-    alone = True
-
     def test_files_and_links(self):
         """A link to a file is that file; a link to a folder isn't followed; a link to nothing has no marks."""
         for name in ("d/b/1", "d/.a/2", "d/3", "other/4"):
@@ -281,8 +274,6 @@ class Walked(WithPictures):
 
 class Sessions(WithPictures):
     """What ExifTool is asked."""
-
-    alone = True
 
     def test_its_arguments(self):
         calls, lines = [], []
@@ -370,8 +361,6 @@ class Sessions(WithPictures):
 class Small(WithPictures):
     """Small pictures of a report."""
 
-    alone = True
-
     def small(self, *files, embedded=None):
         names = []
         for number, octets in enumerate(files):
@@ -405,7 +394,3 @@ class Small(WithPictures):
         for why in (thumbnails.exifnorm.Refused("Overlap", 1), thumbnails.exifnorm.NormalTooLong(), MemoryError()):
             with mock.patch.object(thumbnails.engine, "listing", mock.Mock(side_effect=why)):
                 self.assertIsNone(thumbnails._embedded(b"MM"))
-
-
-if __name__ == "__main__":
-    unittest.main()

@@ -8,6 +8,8 @@ from html.parser import HTMLParser
 from made_blocks import BLOCKS, MAKE, MODEL, block, with_exif, with_iptc
 from studio import SMALL_JPEG, WithPictures, needs, read, run, write
 
+from exifnorm_pictures import report
+
 GROUPS, REFUSED, CHANGED = {"One\0": 5, "Two\0": 3, "Ten\0": 2}, 4, 6
 
 
@@ -17,7 +19,6 @@ def picture(maker, model=b"Xyz\0"):
 
 class Text(HTMLParser):
     """The texts of a page by their element, or its class; whether each element is closed."""
-
     VOID = {"meta", "img", "rect", "br"}
 
     def __init__(self, page):
@@ -76,10 +77,9 @@ class Report(WithPictures):
         self.assertEqual(page.texts("h1"), ["The <title>"])
         cards = page.texts("cards")
         counts = dict(zip(cards[1::2], cards[0::2]))
-        self.assertEqual(counts["accepted: all blocks say something"], "17")
-        self.assertEqual(counts["with a block that is refused or unreadable"], str(REFUSED))
-        self.assertEqual(counts["have the same metadata as another, in 2 groups"], "8")
-        self.assertEqual(counts["changed since the older catalogue"], str(CHANGED + 3))
+        self.assertEqual(counts[report.STATE_WORDS["accepted"]], "17")
+        self.assertEqual(counts[report.STATE_WORDS["refused"]], str(REFUSED))
+        self.assertEqual([*counts.values()][-2:], ["8", str(CHANGED + 3)])
         heads = [it for it in page.texts("h3") if re.match(r"\d+ pictures", it)]
         self.assertEqual(heads, ["5 pictures", "3 pictures"])
         names = page.texts("small")

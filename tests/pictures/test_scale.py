@@ -6,11 +6,9 @@ import sys
 from collections import Counter
 
 import made_files as made
-from studio import TOP, WithPictures, needs, run, write
+from studio import WithPictures, needs, run, write
 
-sys.path.insert(0, os.path.join(TOP, "python"))
-
-from exifnorm_pictures.catalogue import Catalogue  # noqa: E402
+from exifnorm_pictures.catalogue import Catalogue
 
 GIF = b"GIF89a\x01\0\x01\0\0\0\0;"  # has no reader here, and goes to ExifTool
 GROWTH = 8  # MB by which ten times as many pictures may need more: SQLite's caches (2 MB each) and Python's own memory, no list of all

@@ -7,17 +7,14 @@ import io
 import json
 import os
 import stat
-import sys
 import tempfile
 import unittest
 from unittest import mock
 
-from studio import TOP, WithPictures, read, write
+from studio import WithPictures, read, write
 
-sys.path.insert(0, os.path.join(TOP, "python"))
-
-from exifnorm_pictures import archives, mend, rooms, single, tools  # noqa: E402
-from exifnorm_pictures.formats.found import Blocks  # noqa: E402
+from exifnorm_pictures import archives, mend, rooms, single, tools
+from exifnorm_pictures.formats.found import Blocks
 
 READ = 2_140_000_000  # when the picture was read: in the future, so that reading it changes nothing
 EXIFTOOL = ["exiftool", "-config", ""]
@@ -29,8 +26,6 @@ EXIV2 = ["exiv2", "-q", "-Q", "m", "-M"]
 
 class Steps(unittest.TestCase):
     """The remedies of `mend`, with the arguments that docs/REFUSALS.md shows."""
-
-    alone = True  # it replaces functions that other tests call
 
     def called(self, step, *ends, there=True):
         """What a step calls, if its programs end like this, and its result."""
@@ -89,8 +84,6 @@ class Steps(unittest.TestCase):
 
 class Copies(WithPictures):
     """The copy that `mend` writes."""
-
-    alone = True
     GOOD, BAD = Blocks(type="JPEG"), {"Exif": "refused: Overlap at 34"}
 
     def mended(self, name="a.jpg", refusals=({"Exif": "refused: Overlap at 34"}, {}), remedy=None, blocks=None, out="out.jpg"):
@@ -161,7 +154,6 @@ class Copies(WithPictures):
 class Lines(WithPictures):
     """What `mend` prints."""
 
-    alone = True
     maxDiff = None
 
     def test_each_result(self):
@@ -218,8 +210,6 @@ class Lines(WithPictures):
 class Problems(unittest.TestCase):
     """A picture that ExifTool has to read, and can't."""
 
-    alone = True
-
     def test_a_program_that_fails_or_is_missing(self):
         missing = tools.Missing("exiftool")
         for raised, problem in ((tools.Failed("it ended"), "ToolFailed"), (missing, "NeedsExifTool")):
@@ -231,8 +221,6 @@ class Problems(unittest.TestCase):
 
 class Folders(WithPictures):
     """Temporary folders, in TMPDIR."""
-
-    alone = True
 
     def setUp(self):
         super().setUp()
@@ -304,7 +292,3 @@ class Folders(WithPictures):
     def test_a_folder_that_cannot_be_listed(self):
         with mock.patch.object(rooms.os, "scandir", mock.Mock(side_effect=PermissionError)), rooms.room() as name:
             self.assertTrue(os.path.isdir(name))
-
-
-if __name__ == "__main__":
-    unittest.main()

@@ -3,14 +3,11 @@
 import contextlib
 import os
 import stat
-import sys
 from unittest import mock
 
-from studio import TOP, WithPictures, read, write
+from studio import WithPictures, read, write
 
-sys.path.insert(0, os.path.join(TOP, "python"))
-
-from exifnorm_pictures import writing  # noqa: E402
+from exifnorm_pictures import writing
 
 OLD, NEW = b"earlier page", b"a later one" * 10_000
 # Whether a file system has nameless files (O_TMPFILE in open(2)) and hard links, and by which calls a new file and a replaced one get their names
@@ -22,8 +19,6 @@ SYSTEMS = {
 
 
 class Written(WithPictures):
-    alone = True  # it replaces functions of the system
-
     def setUp(self):
         super().setUp()
         self.out, self.source = os.fsencode(self.path("out")), os.fsencode(self.path("source"))
