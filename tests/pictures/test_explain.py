@@ -13,48 +13,13 @@ from exifnorm_pictures.formats.found import EXIF, IPTC
 
 MAIN, GPS, THUMB = "main directory (0th IFD)", "GPS directory", "thumbnail directory (1st IFD)"
 
-# What is at the offset of each block of tests/blocks/reading.py.
-HERE = {
-    "TooLong": ["The block has 16,777,242 bytes."],
-    "UnknownKind": ["This is XML, perhaps XMP, which is compared in whole pictures: give the picture without --block."],
-    "HeaderCut": ["The block has 6 bytes."],
-    "Loop": ["At 22 is the offset of the next directory.", "The directory at 8 has 1 entries and would end at 26; the block has 26 bytes."],
-    "DirectoryOutside": ["At 4 is the header's offset of the main directory.",
-                         "The directory at 8 has 2 entries and would end at 38; the block has 34 bytes."
-                         " Only the offset after the last entry is missing (4 bytes of 4)."],
-    "EmptyDirectory": ["The directory at 38 has 0 entries and would end at 44; the block has 44 bytes."],
-    "Overlap": [f"At 34 is entry 3: Software (0131) of the {MAIN}, ASCII, count 8, last field 66.",
-                f"Both own bytes 66 to 69: the value of Software (0131) of the {MAIN} (bytes 66 to 73)"
-                f" and the value of Model (0110) of the {MAIN} (bytes 62 to 69)."],
-    "Unsorted": [f"At 22 is entry 2: Make (010f) of the {MAIN}, ASCII, count 4, last field {0x41626300}.",
-                 f"Before it is Model (0110) of the {MAIN}, ASCII, count 4, last field {0x58797A00}."],
-    "Doubled": [f"At 34 is entry 3: Orientation (0112) of the {MAIN}, SHORT, count 1, last field 6.",
-                f"Before it is Orientation (0112) of the {MAIN}, SHORT, count 1, last field 1."],
-    "UnknownType": [f"At 22 is entry 2: Model (0110) of the {MAIN}, unknown type 13, count 1, last field 8."],
-    "MisplacedOffset": [f"At 22 is entry 2: StripOffsets (0111) of the {MAIN}, LONG, count 1, last field 8.",
-                        "This seems to be a whole TIFF picture: give it without --block, and each of its pages is taken as a block."],
-    "PointerForm": [f"At 22 is entry 2: GPSInfoIFDPointer (8825) of the {MAIN}, SLONG, count 1, last field 38."],
-    "ValueOutside": [f"At 22 is entry 2: Model (0110) of the {MAIN}, ASCII, count 40, last field 50.",
-                     "Its value would end at 90; the block has 56 bytes."],
-    "ThumbnailPair": [f"At 28 is entry 1: JPEGInterchangeFormat (0201) of the {THUMB}, LONG, count 1, last field 44."],
-    "ExtraDirectory": ["The thumbnail directory names a further one at 44."],
-    "ThumbnailOutside": [f"At 28 is entry 1: JPEGInterchangeFormat (0201) of the {THUMB}, LONG, count 1, last field 56.",
-                         "The thumbnail would end at 4056; the block has 60 bytes."],
-    "NoMarker": ["The record has 17 bytes; at 8 is 3f 1c 02 19 00 03 74 77.", "The last 1C before it, at 0, begins with 1c 02 19 00 03."],
-    "LengthForm": ["The record has 13 bytes; at 0 is 1c 02 19 80 05 00 00 00.", "The DataSet is 2:25."],
-    "DataSetCut": ["The record has 8 bytes; at 0 is 1c 02 19 00 09 6f 6e 65.", "The DataSet is 2:25."],
-}  # fmt: skip
-
-# What else a file may be, by its first bytes.
-WHOLE = "This is a whole {}; give it without --block."
-RESOURCES = "These are Photoshop resources; the IPTC record inside: exiftool -b -IPTC PICTURE"
-BIG = "This is a BigTIFF, whose offsets have eight bytes; it is not read."
-BEGINNINGS = {
-    b"": "The block is empty: the picture has no such metadata.", b"\xff\xd8\xff\xe0": WHOLE.format("JPEG"), b"\x89PNG\r\n": WHOLE.format("PNG"),
-    b"RIFF\0\0\0\0WEBP": WHOLE.format("WebP"), b"8BIM\4\4": RESOURCES, b"Photoshop 3.0\x008BIM": RESOURCES, b"II+\0\x08\0": BIG, b"MM\0+\0\x08": BIG,
-    b"<x:xmpmeta": "This is XML, perhaps XMP, which is compared in whole pictures: give the picture without --block.",
-    b"GIF89a\1\2\3\4": "It begins with 47 49 46 38 39 61 01 02.",
-}  # fmt: skip
+# What else a file may be, by its first bytes
+BEGINNINGS = (b"", b"\xff\xd8\xff\xe0", b"\x89PNG\r\n", b"RIFF\0\0\0\0WEBP", b"8BIM\4\4", b"Photoshop 3.0\x008BIM", b"II+\0\x08\0", b"MM\0+\0\x08",
+              b"<x:xmpmeta", b"GIF89a\1\2\3\4")  # fmt: skip
+# Records and offsets in them, which are at an end
+RECORDS = ((b"\x1c\x02\x19", 3), (b"\x1c\x02", 2), (b"\x1c\x02", 0), (b"\x1c\x03\x05", 0), (b"abc", 1), (b"x" * 1234 + b"\x1c\1\2", 1234))
+POINTER = struct.pack(">HHHII", 1, 0x8769, 4, 1, 70) + bytes(4)  # to a directory outside
+DIRECTORIES = (b"MM\0*\0\0\0\x63", b"MM\0*\0\0\0\x08\0\1" + bytes(11), b"MM\0*\0\0\0\x08" + POINTER)
 
 
 def kind_of(block):
@@ -83,14 +48,14 @@ class Explanations(unittest.TestCase):
             shown = dump(octets, place)
             found = explain.explain(kind_of(octets), octets)
             writers = ["  Written by: " + "; ".join(f"{who} ({count})" for who, count in cause.writers) + "."] if cause.writers else []
-            self.assertEqual(found.here, HERE[name])
+            here = found.here
             self.assertEqual(found.lines(), [
-                f"{kind_of(octets)}: refused: {name} at {place}", f"  {cause.sentence} {cause.meaning}", *(f"  {it}" for it in HERE[name]),
+                f"{kind_of(octets)}: refused: {name} at {place}", f"  {cause.sentence} {cause.meaning}", *(f"  {it}" for it in here),
                 *(f"    {it}" for it in shown), *writers, f"  Other readers: {cause.readers}", f"  Remedy: {cause.remedy}", f"  Cost: {cause.cost}",
             ])  # fmt: skip
             self.assertEqual(found.members(), {
                 "kind": kind_of(octets), "status": "refused", "cause": name, "place": place, "sentence": cause.sentence, "meaning": cause.meaning,
-                "here": HERE[name], "bytes": shown, "writers": [list(it) for it in cause.writers], "remedy": cause.remedy, "cost": cause.cost,
+                "here": here, "bytes": shown, "writers": [list(it) for it in cause.writers], "remedy": cause.remedy, "cost": cause.cost,
             })  # fmt: skip
 
     def test_an_accepted_block(self):
@@ -104,35 +69,12 @@ class Explanations(unittest.TestCase):
         self.assertEqual(found.lines(), ["xmp: unreadable: NoRDF", line])
         self.assertEqual(found.members(), {"kind": "xmp", "status": "unreadable", "cause": "NoRDF", "place": None, "sentence": line.strip()})
 
-    def test_what_else_a_file_is(self):
-        for octets, words in BEGINNINGS.items():
-            self.assertEqual(explain.explain(EXIF, octets).here, [words])
-
-    def test_data_sets_at_the_ends_of_a_record(self):
-        for octets, place, lines in (
-            (b"\x1c\x02\x19", 3, ["The record has 3 bytes; at 3 is nothing.", "The last 1C before it, at 0, begins with 1c 02 19."]),
-            (b"\x1c\x02", 2, ["The record has 2 bytes; at 2 is nothing."]),
-            (b"\x1c\x02", 0, ["The record has 2 bytes; at 0 is 1c 02."]),
-            (b"\x1c\x03\x05", 0, ["The record has 3 bytes; at 0 is 1c 03 05.", "The DataSet is 3:5."]),
-            (b"abc", 1, ["The record has 3 bytes; at 1 is 62 63."]),
-            (b"x" * 1234 + b"\x1c\1\2", 1234, ["The record has 1,237 bytes; at 1234 is 1c 01 02.", "The DataSet is 1:2."]),
-        ):
-            self.assertEqual(explain._data_set(layout.Layout(octets), "", place), lines)
-
-    def test_directories_outside(self):
-        """Also where an entry leads to them, and where they begin outside."""
-        for octets, lines in (
-            (b"MM\0*\0\0\0\x63", ["At 4 is the header's offset of the main directory.", "The directory would begin at 99; the block has 8 bytes."]),
-            (b"MM\0*\0\0\0\x08\0\1" + bytes(11), ["At 4 is the header's offset of the main directory.",
-                                                   "The directory at 8 has 1 entries and would end at 26; the block has 21 bytes."]),
-        ):  # fmt: skip
-            found = explain.explain(EXIF, octets)
-            self.assertEqual((found.judgement.cause, found.here), ("DirectoryOutside", lines))
-        pointer = struct.pack(">HHHII", 1, 0x8769, 4, 1, 70) + bytes(4)
-        found = explain.explain(EXIF, b"MM\0*\0\0\0\x08" + pointer)
-        self.assertEqual((found.judgement.refusal, found.here), ("DirectoryOutside at 10", [
-            f"At 10 is entry 1: ExifIFDPointer (8769) of the {MAIN}, LONG, count 1, last field 70.",
-            "The directory would begin at 70; the block has 26 bytes."]))  # fmt: skip
+    def test_what_is_at_an_offset(self):
+        """Of each block, of what is no block, and at the ends of records and directories: in golden/explain-here.txt."""
+        found = [(name, explain.explain(kind_of(octets), octets).here) for name, octets in BLOCKS.items()]
+        found += [(repr(octets), explain.explain(EXIF, octets).here) for octets in (*BEGINNINGS, *DIRECTORIES)]
+        found += [(f"{octets[-10:]!r} at {place}", explain._data_set(layout.Layout(octets), "", place)) for octets, place in RECORDS]
+        self.golden("explain-here.txt", "".join("\n    ".join([name, *here]) + "\n" for name, here in found))
 
 
 def directory(order, entries, following=0):
