@@ -9,7 +9,7 @@ import sys
 import time
 
 from in_process import InFolder
-from made_blocks import BLOCKS, LONG, MAKE, MODEL, block, with_exif, with_iptc
+from made_blocks import BLOCKS, LONG, MAKE, MODEL, block, with_exif
 from studio import SMALL_JPEG, Studio, WithPictures, needs, read, run, tool, write
 
 ONE, OTHER, THIRD = (with_exif(SMALL_JPEG, block([MAKE[:-4] + it])) for it in (b"One\0", b"Two\0", b"Ten\0"))
@@ -423,13 +423,6 @@ class Kinds(InFolder):
             write(self.path(side, "a.jpg"), octets)
         return json.loads(self.asked("changed", "before", "after", "--json", "--all", status=status)[0])
 
-    def test_a_refused_exif_block_hides_no_caption(self):
-        refused = with_exif(SMALL_JPEG, BLOCKS["Overlap"])
-        found = self.compared(with_iptc(refused, b"\x1c\x02\x78\0\x03one"), with_iptc(refused, b"\x1c\x02\x78\0\x03two"))
-        self.assertEqual((found["result"], found["kinds"]), ("different", {"exif": "refused", "iptc": "different", "xmp": "absent"}))
-        self.assertEqual(found["fields"], [{"name": "iptc:CaptionAbstract", "before": '"one"', "after": '"two"'}])
-        self.assertIn("Exif: Overlap at 34", found["note"])
-
     def test_refused_pictures_are_in_no_group(self):
         os.mkdir(self.path("p"))
         for name in ("a.jpg", "b.jpg", "gone.jpg"):
@@ -497,16 +490,6 @@ class Kinds(InFolder):
         self.asked("index", "p", "--catalogue", "c", "--quiet")
         self.assertEqual(self.asked("same", "--catalogue", "c", "--json"), [])
 
-    def test_groups_by_each_kind(self):
-        os.mkdir(self.path("p"))
-        captions = {"a": (ONE, b"one"), "b": (ONE, b"two"), "c": (OTHER, b"two"), "d": (THIRD, b"ten")}
-        for name, (octets, caption) in captions.items():
-            write(self.path("p", name + ".jpg"), with_iptc(octets, b"\x1c\x02\x78\0\x03" + caption))
-        self.asked("index", "p", "--catalogue", "c", "--quiet")
-        for kind, expected in (("all", []), ("exif", [["a.jpg", "b.jpg"]]), ("iptc", [["b.jpg", "c.jpg"]]), ("xmp", [])):
-            found = [json.loads(it) for it in self.asked("same", "--catalogue", "c", "--kind", kind, "--json")]
-            self.assertEqual([[os.path.basename(it["path"]) for it in one["pictures"]] for one in found], expected, kind)
-
     def test_equal_changes_are_listed_together(self):
         for side, artist in (("before", b"Old\0"), ("after", b"New\0")):
             os.mkdir(self.path(side))
@@ -518,27 +501,3 @@ class Kinds(InFolder):
         self.assertEqual([it.strip() for it in lines[2:14]], [f"{number:02}.jpg" for number in range(12)])
         self.assertEqual(lines[14].split(":")[0], "other.jpg")
         self.assertEqual(lines[-1], "13 different")
-
-
-class Json(InFolder):
-    @needs("exiftool")
-    def test_each_command(self):
-        os.mkdir(self.path("p"))
-        for name, octets in (("a.jpg", ONE), ("b.jpg", ONE), ("refused.jpg", with_exif(SMALL_JPEG, BLOCKS["Overlap"])), ("n.txt", b"no\n"),
-                             ("g.gif", GIF)):  # fmt: skip
-            write(self.path("p", name), octets)
-        self.asked("index", "p", "--catalogue", "old", "--quiet")
-        write(self.path("p", "b.jpg"), OTHER)
-        calls = (["index", "p", "--catalogue", "c", "--quiet"], ["merge", "old", "--catalogue", "all"], ["same", "--catalogue", "old"],
-                 ["changed", "old", "c"], ["show", "p/a.jpg", "p/refused.jpg"], ["captions", "p/a.jpg"], ["explain", "p/refused.jpg"],
-                 ["report", "--catalogue", "c", "--since", "old"], ["mend", "p/refused.jpg", "out.jpg"])  # fmt: skip
-        keys = {"index": "counts", "merge": "pictures", "same": "digests", "changed": "counts", "show": "kind", "captions": "captions",
-                "explain": "sentence", "report": "states", "mend": "step"}  # fmt: skip
-        for call in calls:
-            with self.subTest(call[0]):
-                done = run(["exifnorm-pictures", *call, "--json"], self.folder)
-                found = [json.loads(it) for it in done.stdout.splitlines()]
-                self.assertNotEqual(found, [], done)
-                for it in found:
-                    self.assertIsInstance(it, dict, done)
-                self.assertTrue(any(keys[call[0]] in it for it in found), found)
