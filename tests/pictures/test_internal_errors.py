@@ -11,6 +11,7 @@ from exifnorm_pictures import catalogue, changed, extraction, kept, listing, mai
 from exifnorm_pictures.blocks import Block, Damaged
 from exifnorm_pictures.catalogue import Catalogue, NoCatalogue
 from exifnorm_pictures.formats import png
+from exifnorm_pictures.formats.found import NotRead
 from exifnorm_pictures.kept import Entry, Stamp
 from made_files import jpeg, png as made_png
 from studio import run
@@ -43,7 +44,8 @@ def command(capsys, tmp_path, monkeypatch):
 def of_pictures(name, *paths):
     made = Catalogue(str(name), make=True)
     block = Block("exif", "Exif", "somewhere", "own", "refused", None, "Overlap", 34, 100, "0" * 64)
-    made.put(made.begin_run("2000-01-01T00:00:00Z"), [Entry(it, b"/", Stamp(1, 2, 3, 4), "JPEG", blocks=(block,)) for it in paths])
+    parts = (NotRead("a part", "1" * 64),)
+    made.put(made.begin_run("2000-01-01T00:00:00Z"), [Entry(it, b"/", Stamp(1, 2, 3, 4), "JPEG", blocks=(block,), not_read=parts) for it in paths])
     return made
 
 
@@ -101,6 +103,16 @@ def test_other_errors_stay_what_they_are(tmp_path, guard, error):
     with pytest.raises(error), guard(made):
         raise error("a mistake")
     made.close()
+
+
+@pytest.mark.parametrize("values", ["runs SET exiftool = x'00'", "runs SET started = x'00'", "not_read SET what = x'00'", "blocks SET kind = 'other'",
+                                    "blocks SET name = x'00'", "pictures SET type = x'00'", "pictures SET root = '/'"])  # fmt: skip
+def test_a_report_of_a_damaged_catalogue(command, values):
+    with of_pictures("c", b"/a") as made:
+        made.base.execute("UPDATE blocks SET status = 'refused'")
+        made.base.execute(f"UPDATE {values}")
+    printed = command("report", "--catalogue", "c", "--html", "page", status=4).err
+    assert "internal error" not in printed and len(printed.splitlines()) == 1
 
 
 @pytest.mark.parametrize("octets", [b"", b"[", b"[1]", b'[["main"]]', b'[["main","010f","ASCII","4","a"]]', b'[["main","010f","ASCII",true,"a"]]',
