@@ -22,7 +22,7 @@ packages = os.path.normpath(os.path.join(os.path.dirname(os.path.realpath(__file
 if packages not in sys.path:
     sys.path.insert(1, packages)
 
-from exifnorm_pictures.main import main
+from exifnorm_pictures.cli.main import main
 
 sys.exit(main())
 '''

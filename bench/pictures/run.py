@@ -26,10 +26,10 @@ sys.path[:0] = [str(TOP / "tests" / "pictures"), str(TOP / "python")]
 sys.dont_write_bytecode = True
 
 import made_files as made
-from exifnorm_pictures.catalogue import Catalogue
-from exifnorm_pictures.formats.found import EXIF, IPTC, NAMES, XMP
-from exifnorm_pictures.kept import Block, Entry, Stamp
-from exifnorm_pictures.listing import Field, packed
+from exifnorm_pictures.catalogue.store import Catalogue
+from exifnorm_pictures.extract.formats.found import EXIF, IPTC, NAMES, XMP
+from exifnorm_pictures.catalogue.records import Block, Entry, Stamp
+from exifnorm_pictures.fields.listing import Field, packed
 
 ROOT = b"/archive"
 BATCH = 1000  # rows at once: few, because the system counts the memory of this process into that of a command that it starts
@@ -121,7 +121,7 @@ def cost(words: Sequence[str], statuses: Sequence[int] = (0,)) -> Cost:
 SHARE = """
 import sys
 from resource import RUSAGE_CHILDREN, RUSAGE_SELF, getrusage
-from exifnorm_pictures.main import main
+from exifnorm_pictures.cli.main import main
 def spent(whose): return getrusage(whose).ru_utime + getrusage(whose).ru_stime
 before = spent(RUSAGE_SELF)
 main(sys.argv[1:])

@@ -7,7 +7,7 @@ import sys
 _HERE = os.path.dirname(os.path.dirname(os.path.abspath(__file__)))
 sys.path[:] = [it for it in sys.path if os.path.abspath(it) == _HERE or os.path.abspath(it) != os.getcwd()]
 
-from .main import main  # noqa: E402
+from .cli.main import main  # noqa: E402
 
 if __name__ == "__main__":
     sys.exit(main())

@@ -9,7 +9,8 @@ import subprocess
 
 from studio import WithPictures
 
-from exifnorm_pictures import main, session
+from exifnorm_pictures.cli import main
+from exifnorm_pictures.extract import session
 
 
 class InProcess(WithPictures):

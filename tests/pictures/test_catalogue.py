@@ -267,7 +267,7 @@ class Archive(InFolder):
         self.assertRegex(self.complaint, r"^(\d of 4 pictures, .* left\n)*4 of 4 pictures, \d+ a second\n$")
         self.asked("index", "p", "--catalogue", "e", "--quiet")
         self.assertEqual(self.complaint, "")
-        call = "import sys; from exifnorm_pictures import index, main; index.BATCH = 2; sys.exit(main.main(sys.argv[1:]))"
+        call = "import sys; from exifnorm_pictures.scan import index; from exifnorm_pictures.cli import main; index.BATCH = 2; sys.exit(main.main(sys.argv[1:]))"
         done = run([sys.executable, "-c", call, "index", "p", "--catalogue", "f"], self.folder)
         self.assertEqual(done.stderr.count(b"4 of 4 pictures"), 1, "the last line is printed once")
 
@@ -284,8 +284,8 @@ class Processes(WithPictures):
     def indexed(self, before):
         """The states of a run with this text before it, and what it leaves in its folder for temporary files."""
         text = (
-            "import collections, json, os\nfrom exifnorm_pictures import extraction, index, looking, processes\n"
-            "from exifnorm_pictures.catalogue import Catalogue\nfrom exifnorm_pictures.lines import entry_lines\n"
+            "import collections, json, os\nfrom exifnorm_pictures.extract import extraction; from exifnorm_pictures.scan import index, looking, processes\n"
+            "from exifnorm_pictures.catalogue.store import Catalogue\nfrom exifnorm_pictures.cli.output import entry_lines\n"
             f"{before}\nlines = []\nos.mkdir('room')\n"
             "how = looking.How(jobs=2, room=os.path.abspath('room'), lines=entry_lines)\n"
             "with Catalogue('c', make=True) as made:\n"

@@ -15,10 +15,11 @@ from unittest import mock
 from made_blocks import MAKE, block, with_exif
 from studio import SMALL_JPEG, Studio, WithPictures, interpreter_with, needs, run, write
 
-from exifnorm_pictures import cluster, tools
-from exifnorm_pictures.batches import How
-from exifnorm_pictures.kept import Entry, Stamp
-from exifnorm_pictures.walk import Found
+from exifnorm_pictures.extract import programs
+from exifnorm_pictures.scan import cluster
+from exifnorm_pictures.scan.batches import How
+from exifnorm_pictures.catalogue.records import Entry, Stamp
+from exifnorm_pictures.scan.walk import Found
 
 GIF = b"GIF89a\x01\0\x01\0\0\0\0;"
 GOOD = with_exif(SMALL_JPEG, block([MAKE]))
@@ -189,7 +190,7 @@ class Tasks(unittest.TestCase):
         """The results for some files, each looked at as if it were a GIF."""
         with mock.patch.multiple(cluster, create=True, distributed=near, KilledWorker=Killed, CommClosedError=Closed), \
              mock.patch.object(cluster.looking, "look", lambda it, whole: Entry(it.path, it.root, it.stamp, "GIF" if whole else "JPEG")), \
-             mock.patch.object(cluster.tools, "set_limit") as limit:  # fmt: skip
+             mock.patch.object(cluster.programs, "set_limit") as limit:  # fmt: skip
             looker = cluster.looker(FAR, elsewhere, [b"/"])
             result = list(looker(work, How(seconds=seconds, room="/tmp/room", whole=True)))
         self.limits = limit.mock_calls
@@ -244,7 +245,7 @@ class Tasks(unittest.TestCase):
         """It may take as long as a program may take for one file; while there are workers, it may take any time."""
         near, now = Near(workers=0), iter([0.0, 7.9, 8.0, 8.1])
         with mock.patch.object(cluster.time, "monotonic", lambda: next(now)):
-            with self.assertRaisesRegex(tools.Failed, f"^the cluster {FAR} has no worker$"):
+            with self.assertRaisesRegex(programs.Failed, f"^the cluster {FAR} has no worker$"):
                 self.looked(near, [found(b"a")], seconds=8.0)
         self.assertEqual(len(near.waits), 3)
         near, now = Near([[], "slow", "slow", "slow"]), iter([0.0, 9.0, 99.0, 999.0])
@@ -254,16 +255,16 @@ class Tasks(unittest.TestCase):
 
     def test_a_cluster_that_cannot_be_reached(self):
         for why in (OSError("Timed out"), Closed("Timed out")):
-            with self.assertRaisesRegex(tools.Failed, f"^the cluster {FAR} failed: Timed out$"):
+            with self.assertRaisesRegex(programs.Failed, f"^the cluster {FAR} failed: Timed out$"):
                 self.looked(Near(workers=why), [found(b"a")])
 
     def test_what_is_missing(self):
         with mock.patch.object(cluster, "distributed", None):
-            with self.assertRaisesRegex(tools.Failed, "^--scheduler needs Dask's distributed. In Debian: apt-get install python3-distributed$"):
+            with self.assertRaisesRegex(programs.Failed, "^--scheduler needs Dask's distributed. In Debian: apt-get install python3-distributed$"):
                 cluster.looker(FAR, None, [b"/"])
         with mock.patch.object(cluster, "distributed", Near()), tempfile.NamedTemporaryFile() as file:
             for names in ([b"/", b"/"], [], [os.fsencode(file.name)]):
                 self.assertTrue(callable(cluster.looker(FAR, None, names)))
-                with self.assertRaisesRegex(tools.Failed, "^--elsewhere is the path of one folder: give one FOLDER$"):
+                with self.assertRaisesRegex(programs.Failed, "^--elsewhere is the path of one folder: give one FOLDER$"):
                     cluster.looker(FAR, "/there", names)
             self.assertTrue(callable(cluster.looker(FAR, "/there", [b"/"])))

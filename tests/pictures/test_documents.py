@@ -11,7 +11,8 @@ import shutil
 import subprocess
 
 import exifnorm_pictures
-from exifnorm_pictures import arguments, causes
+from exifnorm_pictures.cli import parser
+from exifnorm_pictures.refusals import causes
 from made_blocks import BLOCKS
 from made_files import app1, exif, jpeg, turned
 from studio import MODULES, PROGRAMS, SMALL_JPEG, TOP, Studio, WithPictures, collection, interpreter_with, needs, read, run, tool, write
@@ -126,14 +127,14 @@ class Documents(WithPictures):
     def test_options_of_the_manual_page(self):
         """It has each command and option, and no other one."""
         page = read(os.path.join(TOP, "docs", "exifnorm-pictures.1")).decode().partition(".SH EXAMPLES")[0].replace("\\-", "-")
-        commands = arguments.parser()._subparsers._group_actions[0].choices
+        commands = parser.parser()._subparsers._group_actions[0].choices
         options = {word for it in commands.values() for one in it._actions for word in one.option_strings} | {"--version"}
         self.assertEqual(set(re.findall(r"(?<![\w-])--[a-z][a-z-]*[a-z]", page)), {it for it in options if it.startswith("--")})
         self.assertEqual(re.findall(r'(?m)^\.TP\n\.BI "(\w+) ', page), [*commands])
 
     def test_statuses_of_the_manual_page(self):
         """It and --help name the same commands at each."""
-        whole = arguments.parser()
+        whole = parser.parser()
         names = whole._subparsers._group_actions[0].choices
         page = read(os.path.join(TOP, "docs", "exifnorm-pictures.1")).decode().partition(".SH EXIT STATUS\n")[2].partition(".SH ")[0]
         parts = re.split(r"(?m)^\.TP\n\.B (\d+)\n", page)

@@ -12,7 +12,7 @@ from in_process import InFolder
 from made_blocks import BLOCKS, MAKE, block, with_exif
 from studio import SMALL_JPEG, Studio, WithPictures, needs, read, run, write
 
-from exifnorm_pictures.catalogue import VERSION
+from exifnorm_pictures.catalogue.store import VERSION
 
 GIF = b"GIF89a\x01\0\x01\0\0\0\0;"
 GOOD = with_exif(SMALL_JPEG, block([MAKE]))
@@ -167,7 +167,7 @@ class Tools(WithPictures):
         for number in range(70):
             write(self.path("many", f"{number}.jpg"), SMALL_JPEG)
         sleeping = self.fake("exiftool", '#!/bin/sh\n[ "$3" = -ver ] && echo 12.57 && exit\nexec sleep 1000\n')
-        call = ("import os, sys; from exifnorm_pictures.main import main\n"
+        call = ("import os, sys; from exifnorm_pictures.cli.main import main\n"
                 "os.register_at_fork(after_in_parent=lambda: os.kill(os.getpid(), int(sys.argv[1])))\n"
                 "sys.exit(main(['index', sys.argv[2], '--catalogue', 'c', '--quiet', '--jobs', '2', '--limit', '20']))\n")  # fmt: skip
         for number, expected in ((signal.SIGTERM, -signal.SIGTERM), (signal.SIGINT, 130)):
@@ -188,7 +188,7 @@ class Tools(WithPictures):
         for number in range(70):
             write(self.path("many", f"{number}.jpg"), SMALL_JPEG)
         call = (
-            "import errno, os, subprocess, sys; from exifnorm_pictures.main import main\n"
+            "import errno, os, subprocess, sys; from exifnorm_pictures.cli.main import main\n"
             "def refused(*_, **__): raise BlockingIOError(errno.EAGAIN, os.strerror(errno.EAGAIN))\n"
             "os.fork = subprocess.Popen = refused\nsys.exit(main(sys.argv[1:]))"
         )
@@ -335,7 +335,7 @@ class Catalogues(InFolder):
     def test_one_that_another_program_reads(self):
         """The end of a run doesn't wait for the other program, and the next run puts all into one file again."""
         text = (
-            "import sqlite3\nfrom exifnorm_pictures.catalogue import Catalogue\n"
+            "import sqlite3\nfrom exifnorm_pictures.catalogue.store import Catalogue\n"
             "made = Catalogue('c', make=True)\nother = sqlite3.connect('c', isolation_level=None)\n"
             "other.execute('BEGIN')\nother.execute('SELECT count(*) FROM pictures').fetchall()\nmade.close()\n"
         )
@@ -347,7 +347,7 @@ class Catalogues(InFolder):
     def test_one_that_another_program_has_locked(self):
         """SQLite waits for it; then the command ends, and the catalogue is as it was."""
         self.asked("index", "p", "--catalogue", "c", "--quiet")
-        call = ("import sqlite3, sys; from exifnorm_pictures.main import main; connect = sqlite3.connect\n"
+        call = ("import sqlite3, sys; from exifnorm_pictures.cli.main import main; connect = sqlite3.connect\n"
                 "sqlite3.connect = lambda *words, **more: connect(*words, **{**more, 'timeout': 0.1})\nsys.exit(main(sys.argv[1:]))")  # fmt: skip
         other = sqlite3.connect(self.path("c"), isolation_level=None)
         self.addCleanup(other.close)
@@ -412,7 +412,7 @@ class Outputs(WithPictures):
 
     def test_killed_when_the_copy_gets_its_name(self):
         """If `mend` and `report` are killed when a file of this folder gets its name, it isn't there, and no other new file."""
-        call = ("import os, signal, sys; from exifnorm_pictures.main import main\n"
+        call = ("import os, signal, sys; from exifnorm_pictures.cli.main import main\n"
                 "def is_here(name): return os.path.dirname(os.path.abspath(os.fsdecode(name))) == os.getcwd()\n"
                 "def hook(event, it): event in ('os.link', 'os.rename') and is_here(it[1]) and os.kill(os.getpid(), signal.SIGKILL)\n"
                 "sys.addaudithook(hook)\nsys.exit(main(sys.argv[1:]))")  # fmt: skip

@@ -19,14 +19,14 @@ from made_files import (
 )  # fmt: skip
 from studio import SMALL_JPEG, WithPictures, interpreter_with, needs, read, run, tool, write
 
-from exifnorm_pictures.formats import jpeg_tail
-from exifnorm_pictures.formats.found import Broken, LeftToOthers
+from exifnorm_pictures.extract.formats import jpeg_tail
+from exifnorm_pictures.extract.formats.found import Broken, LeftToOthers
 
 A, B, K, L, T = exif(b"Abc"), exif(b"Xyz"), iim(b"one"), iim(b"two"), title("one")
 
 
 def reader_of(octets):
-    from exifnorm_pictures.formats import jpeg as jpeg_, png as png_, tiff as tiff_, webp as webp_
+    from exifnorm_pictures.extract.formats import jpeg as jpeg_, png as png_, tiff as tiff_, webp as webp_
 
     if octets[:3] == b"\xff\xd8\xff":
         return jpeg_.read
@@ -205,7 +205,7 @@ class Found(unittest.TestCase):
         self.assertIn(b"Maker one\0", found.found[0].data)
 
     def test_raw_pictures_are_left_to_others(self):
-        from exifnorm_pictures.formats.found import LeftToOthers
+        from exifnorm_pictures.extract.formats.found import LeftToOthers
 
         raw = bytearray(tiff(page((0x010F, ASCII, b"Maker one\0"))))
         raw[8:8] = b"CR\2\0" + bytes(4)
@@ -214,14 +214,14 @@ class Found(unittest.TestCase):
                 found_in(octets)
 
     def test_engine_refuses_in_the_page_what_it_refuses_in_the_file(self):
-        from exifnorm_pictures import engine
+        from exifnorm_pictures.extract import judge
 
         shared = bytearray(tiff(page((0x010F, ASCII, b"Abcdefgh"), (0x0110, ASCII, b"Ijklmnop"))))
         at = shared.index(struct.pack(">HHI", 0x0110, ASCII, 8)) + 8
         first = shared.index(b"Abcdefgh")
         for place, cause in ((first + 2, "Overlap"), (100000, "ValueOutside")):
             struct.pack_into(">I", shared, at, place)
-            judged = engine.judge_all(found_in(bytes(shared)))
+            judged = judge.judge_all(found_in(bytes(shared)))
             self.assertEqual([it.cause for it in judged], [cause])
 
 
@@ -480,7 +480,7 @@ class Harm(unittest.TestCase):
     """Files made to cost time or memory: what is read of them is counted."""
 
     def broken(self, octets, most=None):
-        from exifnorm_pictures.formats.found import Broken
+        from exifnorm_pictures.extract.formats.found import Broken
 
         stream = Counting(octets)
         with self.assertRaises(Broken) as caught:
@@ -541,7 +541,7 @@ class Harm(unittest.TestCase):
         self.assertIn("bytes of values", self.broken(bytes(octets), most=300 << 20))
 
     def test_compressed_texts_that_are_too_long(self):
-        from exifnorm_pictures.formats import png as reader
+        from exifnorm_pictures.extract.formats import png as reader
 
         bomb = chunk(b"zTXt", b"Raw profile type exif\0\0" + zlib.compress(bytes(reader.MOST_BYTES + 1), 9))
         found = found_in(png(bomb))
@@ -558,7 +558,7 @@ class Harm(unittest.TestCase):
 class Opened(WithPictures):
     def test_what_is_no_file(self):
         """A pipe is not opened, which would wait for its other end; a link to nothing has vanished."""
-        from exifnorm_pictures import extraction
+        from exifnorm_pictures.extract import extraction
 
         os.mkfifo(self.path("pipe"))
         os.symlink("nothing", self.path("link"))
@@ -569,7 +569,7 @@ class Opened(WithPictures):
 
     def by_itself(self, text):
         """The output of a Python program about this folder, which must end soon: after three seconds of processor time it is ended."""
-        begin = "import os, resource, sys\nresource.setrlimit(resource.RLIMIT_CPU, (3, 3))\nfrom exifnorm_pictures import extraction\n"
+        begin = "import os, resource, sys\nresource.setrlimit(resource.RLIMIT_CPU, (3, 3))\nfrom exifnorm_pictures.extract import extraction\n"
         done = run([sys.executable, "-c", begin + text], self.folder, seconds=15)
         self.assertEqual(done.returncode, 0, done.stderr)
         return done.stdout.decode().split()

@@ -7,12 +7,16 @@ import zlib
 from collections import Counter
 
 import pytest
-from exifnorm_pictures import catalogue, changed, extraction, kept, listing, main, pairing, session
-from exifnorm_pictures.blocks import Block, Damaged
-from exifnorm_pictures.catalogue import Catalogue, NoCatalogue
-from exifnorm_pictures.formats import png
-from exifnorm_pictures.formats.found import NotRead
-from exifnorm_pictures.kept import Entry, Stamp
+from exifnorm_pictures.catalogue import records, store
+from exifnorm_pictures.cli import main
+from exifnorm_pictures.compare import changed, pairs
+from exifnorm_pictures.extract import extraction, session
+from exifnorm_pictures.fields import listing
+from exifnorm_pictures.catalogue.blocks import Block, Damaged
+from exifnorm_pictures.catalogue.store import Catalogue, NoCatalogue
+from exifnorm_pictures.extract.formats import png
+from exifnorm_pictures.extract.formats.found import NotRead
+from exifnorm_pictures.catalogue.records import Entry, Stamp
 from made_files import jpeg, png as made_png
 from studio import run
 
@@ -50,12 +54,12 @@ def of_pictures(name, *paths):
 
 
 @pytest.mark.parametrize("words, module, name", [
-    (["index", "p", "--catalogue", "c", "--quiet", "--jobs", "1"], catalogue, "_row"),
-    (["same", "--catalogue", "c"], catalogue, "_check_head"),
-    (["changed", "c", "c"], pairing.Pairs, "_pair_of_row"),
-    (["changed", "c", "c"], pairing.Pairs, "_pair"),
-    (["changed", "c", "c", "--all"], pairing, "picture_of_row"),
-    (["report", "--catalogue", "c", "--json"], catalogue, "picture_of_row"),
+    (["index", "p", "--catalogue", "c", "--quiet", "--jobs", "1"], store, "_row"),
+    (["same", "--catalogue", "c"], store, "_check_head"),
+    (["changed", "c", "c"], pairs.Pairs, "_pair_of_row"),
+    (["changed", "c", "c"], pairs.Pairs, "_pair"),
+    (["changed", "c", "c", "--all"], pairs, "picture_of_row"),
+    (["report", "--catalogue", "c", "--json"], store, "picture_of_row"),
 ])  # fmt: skip
 def test_a_mistake_is_no_damage(command, monkeypatch, words, module, name):
     of_pictures("c", b"/a").close()
@@ -65,7 +69,7 @@ def test_a_mistake_is_no_damage(command, monkeypatch, words, module, name):
     assert f"an internal error, please report it: TypeError: {FAULT} (exifnorm_pictures/" in printed
     assert "damaged" not in printed and len(printed.splitlines()) == 1
     where, _, line = printed.rpartition("(")[2].rstrip(")\n").partition(", line ")
-    with open(os.path.join(os.path.dirname(os.path.dirname(catalogue.__file__)), where)) as file:
+    with open(os.path.join(os.path.dirname(os.path.dirname(store.__file__)), where)) as file:
         assert "(" in file.read().splitlines()[int(line) - 1]  # the call of what failed
 
 
@@ -73,7 +77,7 @@ def test_a_mistake_is_no_damage(command, monkeypatch, words, module, name):
 def test_the_traceback(command, monkeypatch, words, variable, has_it):
     if variable:
         monkeypatch.setenv("EXIFNORM_DEBUG", variable)
-    monkeypatch.setattr(catalogue, "_check_head", mistake)
+    monkeypatch.setattr(store, "_check_head", mistake)
     lines = command("same", "--catalogue", "c", *words, status=4).err.splitlines()
     assert ("Traceback (most recent call last):" in lines) is has_it
     assert ("    return None + 1" in lines) is has_it
@@ -84,8 +88,8 @@ def test_the_traceback(command, monkeypatch, words, variable, has_it):
     (lambda it: it.base.execute("SELECT missing"), NoCatalogue, False),
     (lambda it: it.base.execute("UPDATE pictures SET type = NULL"), NoCatalogue, False),
     (lambda it: (_ for _ in ()).throw(sqlite3.DatabaseError("malformed")), NoCatalogue, True),
-    (lambda it: kept.has(int, "a"), NoCatalogue, True),
-    (lambda it: kept.kind_of("other"), NoCatalogue, True),
+    (lambda it: records.has(int, "a"), NoCatalogue, True),
+    (lambda it: records.kind_of("other"), NoCatalogue, True),
 ])  # fmt: skip
 def test_errors_of_sqlite_and_of_values(tmp_path, call, error, is_damaged):
     made = of_pictures(tmp_path / "c", b"/a")
@@ -142,7 +146,7 @@ def test_a_picture_at_which_we_fail(command, monkeypatch):
         found = [json.loads(it) for it in command("show", "p/b.png", "p/a.jpg", "--json", status=4).out.splitlines()]
         explained = command("explain", "p/b.png", "--debug", status=4)
     assert [it.rpartition("/p/")[2].partition(":")[0] for it in lines[:-1]] == ["b.png"]
-    assert "b.png: InternalError: " in lines[0] and f"TypeError: {FAULT} (exifnorm_pictures/extraction.py, line " in lines[0]
+    assert "b.png: InternalError: " in lines[0] and f"TypeError: {FAULT} (exifnorm_pictures/extract/extraction.py, line " in lines[0]
     assert "1 InternalError" in lines[-1]
     assert [it.get("problem") for it in found] == ["InternalError", None]
     assert explained.out.startswith("InternalError: ") and "    return None + 1" in explained.err.splitlines()
@@ -164,7 +168,7 @@ def test_in_processes_of_their_own(tmp_path):
     (tmp_path / "p").mkdir()
     for number in range(70):
         (tmp_path / "p" / f"{number}.jpg").write_bytes(jpeg())
-    call = ("import sys; from exifnorm_pictures import main; from exifnorm_pictures.formats import jpeg\n"
+    call = ("import sys; from exifnorm_pictures.cli import main; from exifnorm_pictures.extract.formats import jpeg\n"
             "def mistake(*_): return None + 1\njpeg.read = mistake\nsys.exit(main.main(sys.argv[1:]))")  # fmt: skip
     done = run(["python3", "-c", call, "index", "p", "--catalogue", "c", "--quiet", "--jobs", "2", "--debug"], str(tmp_path))
     assert (done.returncode, done.stdout.splitlines()[-1]) == (4, b"70 InternalError"), done.stderr

@@ -15,22 +15,24 @@ from unittest import mock
 
 from studio import WithPictures, read, write
 
-from exifnorm_pictures import (
-    archives, arguments, ends, extraction, kept, lines, looking, main, processes, progress, session, states, tools, walk, writing,
-)  # fmt: skip
-from exifnorm_pictures.batches import How
-from exifnorm_pictures.blocks import Block, Damaged
-from exifnorm_pictures.catalogue import VERSION, Catalogue, NoCatalogue
-from exifnorm_pictures.formats.found import PROBLEMS, NotRead
-from exifnorm_pictures.kept import Entry, Stamp
-from exifnorm_pictures.walk import Found
+from exifnorm_pictures.catalogue import records
+from exifnorm_pictures.cli import changed, index, main, output, parser, signals
+from exifnorm_pictures.extract import extraction, programs, session
+from exifnorm_pictures.files import atomic
+from exifnorm_pictures.scan import looking, processes, progress, walk
+from exifnorm_pictures.scan.batches import How
+from exifnorm_pictures.catalogue.blocks import Block, Damaged
+from exifnorm_pictures.catalogue.store import VERSION, Catalogue, NoCatalogue
+from exifnorm_pictures.extract.formats.found import PROBLEMS, NotRead
+from exifnorm_pictures.catalogue.records import Entry, Stamp
+from exifnorm_pictures.scan.walk import Found
 
 
 class CommandLine(unittest.TestCase):
     def test_help(self):
         """All arguments with their texts, in golden/help.txt."""
         with mock.patch.dict(os.environ, COLUMNS="120"):
-            whole = arguments.parser()
+            whole = parser.parser()
             commands = whole._subparsers._group_actions[0].choices
             end = whole.format_help().partition("\n\nStatuses:")[2]
             texts = [it.format_help() for it in commands.values()]
@@ -43,12 +45,12 @@ class CommandLine(unittest.TestCase):
         self.assertEqual(self.parsed("mend a b --limit 999999").limit, 999999.0)
 
     def parsed(self, text):
-        return arguments.parser().parse_args(text.split())
+        return parser.parser().parse_args(text.split())
 
     def refused(self, *words):
         """What is printed about refused arguments, and the status."""
         with contextlib.redirect_stderr(io.StringIO()) as printed, self.assertRaises(SystemExit) as ended:
-            arguments.parser().parse_args(words)
+            parser.parser().parse_args(words)
         usage, last = re.fullmatch(r"(?s)usage: (exifnorm-pictures[ \w]*).*\n(.*)\n", printed.getvalue()).groups()
         self.assertEqual((ended.exception.code, last.partition(":")[0]), (3, usage.strip()))
         return last.partition(": ")[2]
@@ -171,12 +173,12 @@ class Messages(WithPictures):
             if octets:
                 self.assertEqual(self.raised(NoCatalogue, Catalogue, name, True), text)
             self.assertEqual((read(name), os.listdir(self.folder)), (octets, ["c"]))
-        self.assertEqual(self.raised(NoCatalogue, archives.index_, argparse.Namespace(folders=[""], files_from=None, catalogue=name)), "a name is empty")
+        self.assertEqual(self.raised(NoCatalogue, index.index_, argparse.Namespace(folders=[""], files_from=None, catalogue=name)), "a name is empty")
         os.remove(name)
         with Catalogue(name, make=True) as made:
             self.assertEqual(str(made.failure(sqlite3.OperationalError("disk I/O error"))), f"{name}: disk I/O error")
             self.assertEqual(str(made.failure(Damaged("no text"))), f"{name} is damaged: no text")
-        self.assertEqual(self.raised(Damaged, kept.has, int, 1, "a"), "'a' is a value of another type")
+        self.assertEqual(self.raised(Damaged, records.has, int, 1, "a"), "'a' is a value of another type")
 
     def test_of_names(self):
         write(self.path("list"), b"a\0b\0")
@@ -188,15 +190,15 @@ class Messages(WithPictures):
             self.assertEqual(self.raised(walk.BadList, walk.listed, "-", False), "standard input is closed")
             self.assertEqual(walk.listed("-", True, io.BytesIO(b"a\nb\0\0c")), [b"a\nb", b"c"])
         asked = argparse.Namespace(files_from=None, null=False, command="show")
-        self.assertEqual(self.raised(walk.BadList, lines.named, asked, ["a\0b"]), "a name contains a NUL")
+        self.assertEqual(self.raised(walk.BadList, output.named, asked, ["a\0b"]), "a name contains a NUL")
         with contextlib.redirect_stderr(io.StringIO()) as printed, self.assertRaises(SystemExit) as ended:
-            lines.named(asked, [])
+            output.named(asked, [])
         self.assertEqual((printed.getvalue().splitlines()[-1], ended.exception.code), ("exifnorm-pictures: show: no name was given", 3))
         asked = argparse.Namespace(files_from=self.path("list"), null=True)
-        self.assertEqual(lines.named(asked, ["x", "y"]), [b"x", b"y", b"a", b"b"])
-        self.assertEqual(lines.chosen_paths(asked), {os.path.abspath(b"a"), os.path.abspath(b"b")})
+        self.assertEqual(output.named(asked, ["x", "y"]), [b"x", b"y", b"a", b"b"])
+        self.assertEqual(output.chosen_paths(asked), {os.path.abspath(b"a"), os.path.abspath(b"b")})
         with contextlib.redirect_stderr(io.StringIO()) as printed, self.assertRaises(SystemExit) as ended:
-            states.report_(argparse.Namespace(html=None, json=False))
+            changed.report_(argparse.Namespace(html=None, json=False))
         self.assertEqual((printed.getvalue().splitlines()[-1], ended.exception.code), ("exifnorm-pictures: report: give --html PAGE, --json, or both", 3))
 
     def test_of_files_that_are_not_replaced(self):
@@ -207,12 +209,12 @@ class Messages(WithPictures):
         kept_ = (self.path("nothing"), self.path("catalogue"))
 
         def replace(name):
-            writing.replace(os.fsencode(self.path(name)), lambda file: file.write(b"new"), lambda head: head == b"page", kept_)
+            atomic.replace(os.fsencode(self.path(name)), lambda file: file.write(b"new"), lambda head: head == b"page", kept_)
 
         for name, text in (("folder", "it is there, and is no regular file"), ("other", "it is there, and is a file of another kind"),
                            ("catalogue", f"it is the catalogue {self.path('catalogue')}"), ("link", f"it is the catalogue {self.path('catalogue')}"),
                            ("nothing/page", "no such file or directory")):  # fmt: skip
-            self.assertEqual(self.raised(writing.NotReplaced, replace, name), text)
+            self.assertEqual(self.raised(atomic.NotReplaced, replace, name), text)
         for name in ("page", "empty", "new"):
             replace(name)
             self.assertEqual(read(self.path(name)), b"new")
@@ -222,15 +224,15 @@ class Messages(WithPictures):
     def test_of_programs(self):
         missing = "{} isn't installed, and without it no block of this picture can be extracted. In Debian: apt-get install {}"
         for program, package in (("exiftool", "libimage-exiftool-perl"), ("exiv2", "exiv2"), ("another", "another")):
-            self.assertEqual(str(tools.Missing(program)), missing.format(program, package))
-        self.assertEqual(self.raised(tools.Missing, tools.needed, "no such program"), missing.format("no such program", "no such program"))
-        self.assertEqual(self.raised(tools.Failed, tools.start, [self.path("nothing")]), "nothing can't be started: no such file or directory")
-        with mock.patch.object(tools, "_limit", 0.05):
-            self.assertEqual(self.raised(tools.Failed, tools.run, [shutil.which("sleep"), "60"]), "sleep took longer than 0.05 seconds")
+            self.assertEqual(str(programs.Missing(program)), missing.format(program, package))
+        self.assertEqual(self.raised(programs.Missing, programs.needed, "no such program"), missing.format("no such program", "no such program"))
+        self.assertEqual(self.raised(programs.Failed, programs.start, [self.path("nothing")]), "nothing can't be started: no such file or directory")
+        with mock.patch.object(programs, "_limit", 0.05):
+            self.assertEqual(self.raised(programs.Failed, programs.run, [shutil.which("sleep"), "60"]), "sleep took longer than 0.05 seconds")
             words = [shutil.which("sh"), "-c", "exec >&-; exec sleep 3"]  # it ends its output, but not itself
-            self.assertEqual(self.raised(tools.Failed, tools.run, words), "sh took longer than 0.05 seconds")
+            self.assertEqual(self.raised(programs.Failed, programs.run, words), "sh took longer than 0.05 seconds")
         with mock.patch.object(processes, "ProcessPoolExecutor", mock.Mock(side_effect=OSError(11, "Resource temporarily unavailable"))):
-            self.assertEqual(self.raised(tools.Failed, processes._pool, How(), 2), "a further process can't be started: resource temporarily unavailable")
+            self.assertEqual(self.raised(programs.Failed, processes._pool, How(), 2), "a further process can't be started: resource temporarily unavailable")
 
     def test_of_exiftools_output(self):
         head = "ExifTool's answer isn't understood: "
@@ -238,12 +240,12 @@ class Messages(WithPictures):
                              (b"[{},{}]", "it isn't one object"), (b'["a"]', "it isn't one object"), (b"[{}]", "it is about another file"),
                              (b'[{"SourceFile": "b"}]', "it is about another file"), (b'[{"SourceFile": "a", "b": []}]', "a value is neither a text nor a number"),
                              (b'[{"SourceFile": "a", "b": null}]', "a value is neither a text nor a number")):  # fmt: skip
-            self.assertEqual(self.raised(tools.Failed, session._members, octets, b"a"), head + text)
+            self.assertEqual(self.raised(programs.Failed, session._members, octets, b"a"), head + text)
         self.assertEqual(session._members(b'[{"SourceFile": "a", "b": 1, "c": "d", "e": 0.50}]', b"a"), {"b": "1", "c": "d", "e": "0.50"})
         self.assertEqual(session._members(b" \n", b"a"), {})
-        self.assertEqual(self.raised(tools.Failed, session.octets, "base64:abc"), head + "a block is no base64")
-        self.assertEqual(self.raised(tools.Failed, session.octets, "base64:ab=="[:-1] + "!"), head + "a block is no base64")
-        self.assertEqual(self.raised(tools.Failed, session.octets, "base64:HA*I="), head + "a block is no base64")
+        self.assertEqual(self.raised(programs.Failed, session.octets, "base64:abc"), head + "a block is no base64")
+        self.assertEqual(self.raised(programs.Failed, session.octets, "base64:ab=="[:-1] + "!"), head + "a block is no base64")
+        self.assertEqual(self.raised(programs.Failed, session.octets, "base64:HA*I="), head + "a block is no base64")
         self.assertEqual([session.octets(it) for it in ("base64:YWI=", "text:base64:", "a\ud800")], [b"ab", b"base64:", b"a\xed\xa0\x80"])
         self.assertEqual(session.values({"EXIF:Make": "a", "Copy1:EXIF:Make": "b", "Makes": "c", "Make": "d"}, "Make"), ["a", "b", "d"])
 
@@ -252,14 +254,14 @@ class Messages(WithPictures):
         for script, text in (("exit 3", "ExifTool ended with status 3 at this file"), ("exec >&-; sleep 60", "ExifTool ended with status 0 at this file")):
             write(self.path("exiftool"), f"#!/bin/sh\nread line\n{script}\n".encode())
             os.chmod(self.path("exiftool"), 0o755)
-            with mock.patch.object(tools, "needed", lambda _: self.path("exiftool")):
+            with mock.patch.object(programs, "needed", lambda _: self.path("exiftool")):
                 it = session.Session(self.path("room"))
-                self.assertEqual(self.raised(tools.Failed, it.ask, b"a", []), text)
+                self.assertEqual(self.raised(programs.Failed, it.ask, b"a", []), text)
                 it.close()
-        with mock.patch.object(tools, "needed", lambda _: shutil.which("true")):
+        with mock.patch.object(programs, "needed", lambda _: shutil.which("true")):
             it = session.Session(self.path("room"))
             it.process.wait()
-            self.assertEqual(self.raised(tools.Failed, it.ask, b"a", ["x" * 100_000]), "ExifTool ended before it was asked")
+            self.assertEqual(self.raised(programs.Failed, it.ask, b"a", ["x" * 100_000]), "ExifTool ended before it was asked")
             it.close()
 
     def test_of_files(self):
@@ -267,9 +269,9 @@ class Messages(WithPictures):
         at, rest = Entry(b"/a", b"/", None), {"digests": (None, None, None, None, "", "", "")}
         marked = at._replace(stamp=found.stamp)
         for why, expected in (
-            (tools.Failed("exiv2 failed"), marked._replace(problem="ToolFailed", detail="exiv2 failed", extractor="own", **rest)),
+            (programs.Failed("exiv2 failed"), marked._replace(problem="ToolFailed", detail="exiv2 failed", extractor="own", **rest)),
             (OSError(13, "Permission denied"), at._replace(problem="Unreadable", detail="permission denied")),
-            (tools.Missing("exiftool"), marked._replace(problem="NeedsExifTool", detail=str(tools.Missing("exiftool")), extractor="own", **rest)),
+            (programs.Missing("exiftool"), marked._replace(problem="NeedsExifTool", detail=str(programs.Missing("exiftool")), extractor="own", **rest)),
         ):
             with mock.patch.object(looking.extraction, "blocks_of", mock.Mock(side_effect=why)):
                 self.assertEqual(looking.look(found, False), expected)
@@ -289,34 +291,34 @@ class Messages(WithPictures):
                     raise OSError(9, "Bad file descriptor")
 
             system = SimpleNamespace(fstat=fstat, open=lambda *words, opened=opened: opened.append(words), devnull="/dev/null", O_RDWR=os.O_RDWR)
-            with mock.patch.object(ends, "os", system), mock.patch.object(sys, "stdout", mock.Mock()) as stdout:
+            with mock.patch.object(signals, "os", system), mock.patch.object(sys, "stdout", mock.Mock()) as stdout:
                 if fails:
-                    self.assertEqual(self.raised(ends.ClosedOutput, ends.ready_streams), "standard output is closed")
+                    self.assertEqual(self.raised(signals.ClosedOutput, signals.ready_streams), "standard output is closed")
                 else:
-                    ends.ready_streams()
+                    signals.ready_streams()
                     self.assertEqual(stdout.mock_calls, [mock.call.reconfigure(encoding="utf-8", errors="backslashreplace")])
             self.assertEqual((asked, opened), ([0, 1, 2], [("/dev/null", os.O_RDWR)] * len(closed)))
         with mock.patch.object(sys, "stderr", None):
-            ends.ready_streams()
+            signals.ready_streams()
             self.assertEqual((sys.stderr.name, sys.stderr.mode), ("/dev/null", "w"))
             sys.stderr.close()
 
     def test_of_the_end(self):
         printed = []
-        with mock.patch.object(main.ends, "say", printed.append), mock.patch.object(main.ends, "drop") as dropped:
+        with mock.patch.object(main.signals, "say", printed.append), mock.patch.object(main.signals, "drop") as dropped:
             self.assertEqual(main._output_failed(OSError(28, "No space left on device")), 4)
             self.assertEqual(main._output_failed(BrokenPipeError(32, "Broken pipe")), 4)
             self.assertEqual(dropped.mock_calls, [mock.call(sys.stdout)] * 2)
         self.assertEqual(printed, ["exifnorm-pictures: standard output: no space left on device"])
         with mock.patch.object(sys, "stdout", None):
-            self.assertEqual(self.raised(ends.ClosedOutput, ends.ready_streams), "standard output is closed")
+            self.assertEqual(self.raised(signals.ClosedOutput, signals.ready_streams), "standard output is closed")
         with contextlib.redirect_stderr(io.StringIO()) as printed:
-            ends.say("a text")
+            signals.say("a text")
         self.assertEqual(printed.getvalue(), "a text\n")
         broken = Stream()
         broken.has_reader = False
-        with contextlib.redirect_stderr(broken), mock.patch.object(ends, "drop") as dropped:
-            ends.say("a text")
+        with contextlib.redirect_stderr(broken), mock.patch.object(signals, "drop") as dropped:
+            signals.say("a text")
         self.assertEqual(dropped.mock_calls, [mock.call(broken)])
 
 
@@ -348,12 +350,12 @@ class OfPictures(unittest.TestCase):
              {"blocks": [{**common, "status": "failed", "cause": "OutOfMemory"}, {**common, "status": "too long", "cause": "NormalTooLong"}], "not_read": []}),
         ):  # fmt: skip
             it = Entry(b"/a\n\xff", b"/", type="JPEG")._replace(**more)
-            self.assertEqual(lines.entry_lines(it), [f"/a\\n\\xff: {line}" for line in printed])
+            self.assertEqual(output.entry_lines(it), [f"/a\\n\\xff: {line}" for line in printed])
             expected = {"path": "/a\\n\\xff", "path_hex": "2f610aff", "type": "JPEG", **members}
-            self.assertEqual([json.loads(line) for line in lines.entry_json(it)], [expected])
+            self.assertEqual([json.loads(line) for line in output.entry_json(it)], [expected])
 
     def test_a_folder_that_cannot_be_read(self):
         """It is in no folder of a catalogue; a file that can't be read has its own row."""
         it = Entry(b"/a\n/b", b"", problem="Unreadable", detail="permission denied")
-        self.assertEqual(lines.closed_folder(it), ["the folder /a\\n/b can't be read: permission denied"])
-        self.assertEqual(lines.closed_folder(it._replace(root=b"/a")), [])
+        self.assertEqual(output.closed_folder(it), ["the folder /a\\n/b can't be read: permission denied"])
+        self.assertEqual(output.closed_folder(it._replace(root=b"/a")), [])

@@ -19,14 +19,17 @@ from made_blocks import BLOCKS, with_exif
 from made_files import chunk, exif, page, png, tiff, title
 from studio import SMALL_JPEG, TOP, WithPictures, needs, read, tool, write
 
-from exifnorm_pictures import (
-    engine, explain, extraction, grouping, index, listing, main, mend, names, others, readable, report, single, states, tools, walk,
-)  # fmt: skip
-from exifnorm_pictures.catalogue import Catalogue, NoCatalogue
-from exifnorm_pictures.formats import png as png_
-from exifnorm_pictures.formats.found import Broken, NotRead
-from exifnorm_pictures.kept import Entry, digests
-from exifnorm_pictures.listing import Field
+from exifnorm_pictures.cli import changed, main, same, show
+from exifnorm_pictures.extract import exiftool, extraction, judge, programs
+from exifnorm_pictures.fields import caption_texts, listing, names
+from exifnorm_pictures.refusals import explain, mend
+from exifnorm_pictures.report import page as report
+from exifnorm_pictures.scan import index, walk
+from exifnorm_pictures.catalogue.store import Catalogue, NoCatalogue
+from exifnorm_pictures.extract.formats import png as png_
+from exifnorm_pictures.extract.formats.found import Broken, NotRead
+from exifnorm_pictures.catalogue.records import Entry, digests
+from exifnorm_pictures.fields.listing import Field
 from exifnorm_pictures.xmp import names as short_names
 
 
@@ -90,9 +93,9 @@ class Names(unittest.TestCase):
     def test_texts_whose_encoding_is_not_declared(self):
         """Windows-1252 has signs where Latin-1 has control characters, and five bytes without one (RFC 1345 and Unicode's table CP1252)."""
         for octets, text in ((b"\x80\x93a\x94\x9f", "€“a”Ÿ"), (b"\xe9\x81\x8d\x8f\x90\x9d", "é\\x81\\x8d\\x8f\\x90\\x9d"), (b"\xff\0", "ÿ")):
-            self.assertEqual(readable.read_text(octets, None), (text, "not UTF-8; guessed: Windows-1252"))
-        self.assertEqual(readable.read_text(b"a\0\0", None), ("a\0", ""))
-        self.assertEqual(readable.read_text(b"\xff", "declared"), ("declared", ""))
+            self.assertEqual(caption_texts.read_text(octets, None), (text, "not UTF-8; guessed: Windows-1252"))
+        self.assertEqual(caption_texts.read_text(b"a\0\0", None), ("a\0", ""))
+        self.assertEqual(caption_texts.read_text(b"\xff", "declared"), ("declared", ""))
 
     def test_files_in_the_order_of_their_names(self):
         """First those of a folder, then those of each folder in it; a catalogue is none, also where it is named by itself."""
@@ -168,15 +171,15 @@ class Extracted(WithPictures):
     def test_what_exiftool_does_not_extract_has_a_digest(self):
         """Up to a length, and with --whole at any length."""
         answer = {"SourceFile": "a", "A:FileType": "GIF", "A:MIMEType": "image/gif"}
-        with mock.patch.object(others.session, "ask", lambda *_: answer), mock.patch.object(others, "MOST", 3):
+        with mock.patch.object(exiftool.session, "ask", lambda *_: answer), mock.patch.object(exiftool, "MOST", 3):
             for octets, whole, is_known in ((b"abc", False, True), (b"abcd", False, False), (b"abcd", True, True)):
-                found = others.by_others(b"a", io.BytesIO(octets), whole, "")
+                found = exiftool.by_others(b"a", io.BytesIO(octets), whole, "")
                 expected = hashlib.sha256(octets).hexdigest() if is_known else ""
                 self.assertEqual([(it.what, it.digest) for it in found.not_read], [(mock.ANY, expected)])
 
     def test_a_form_that_is_too_long(self):
-        with mock.patch.object(engine.exifnorm, "normal", mock.Mock(side_effect=engine.exifnorm.NormalTooLong)):
-            found = engine.judge("exif", b"abc")
+        with mock.patch.object(judge.exifnorm, "normal", mock.Mock(side_effect=judge.exifnorm.NormalTooLong)):
+            found = judge.judge("exif", b"abc")
         self.assertEqual((found.status, found.digest, found.cause, found.place, found.length), ("too long", None, "NormalTooLong", None, 3))
 
     @needs("exiftool")
@@ -187,13 +190,13 @@ class Extracted(WithPictures):
         self.assertEqual([(it["kind"], it["name"]) for it in found["blocks"]], [("xmp", "XMP"), ("xmp", "second XMP")])
 
     def test_an_output_without_end(self):
-        with mock.patch.object(tools, "MOST", 100_000), mock.patch.object(tools, "_limit", 10.0):
-            with self.assertRaisesRegex(tools.Failed, "^yes wrote more than 100,000 bytes about one file$"):
-                tools.run([shutil.which("yes")])
-        with mock.patch.object(tools, "MOST", 100):
-            self.assertEqual(tools.run(["head", "-c", "100", "/dev/zero"]).stdout, bytes(100))
-            with self.assertRaisesRegex(tools.Failed, "^head wrote more than 100 bytes about one file$"):
-                tools.run(["head", "-c", "101", "/dev/zero"])
+        with mock.patch.object(programs, "MOST", 100_000), mock.patch.object(programs, "_limit", 10.0):
+            with self.assertRaisesRegex(programs.Failed, "^yes wrote more than 100,000 bytes about one file$"):
+                programs.run([shutil.which("yes")])
+        with mock.patch.object(programs, "MOST", 100):
+            self.assertEqual(programs.run(["head", "-c", "100", "/dev/zero"]).stdout, bytes(100))
+            with self.assertRaisesRegex(programs.Failed, "^head wrote more than 100 bytes about one file$"):
+                programs.run(["head", "-c", "101", "/dev/zero"])
 
     def test_a_damaged_chunk(self):
         good = png(chunk(b"eXIf", exif(b"Abc")))
@@ -233,7 +236,7 @@ class Printed(unittest.TestCase):
     def test_a_page_begins_with_its_type(self):
         """In letters of either kind (HTML, 13.1.1)."""
         for head, is_one in ((b"<!DOCTYPE html>", True), (b"<!doctype HTML>", True), (b"<!DOCTYPE htm", False), (b" <!DOCTYPE html>", False), (b"", False)):
-            self.assertEqual(states._is_page(head), is_one, head)
+            self.assertEqual(changed._is_page(head), is_one, head)
 
 
 class Pieces(unittest.TestCase):
@@ -288,11 +291,11 @@ class Ended(unittest.TestCase):
             (KeyboardInterrupt(), 130, "stopped; the same command goes on from there"),
             (walk.BadList("a list"), 3, "a list"),
             (NoCatalogue("a catalogue"), 4, "a catalogue"),
-            (tools.Failed("a program"), 4, "a program"),
+            (programs.Failed("a program"), 4, "a program"),
             (OSError(28, "No space left on device", "a"), 4, "a: no space left on device"),
         ):
             lines = []
-            with mock.patch.object(grouping, "same", side_effect=why), mock.patch.object(main.ends, "say", lines.append):
+            with mock.patch.object(same, "same", side_effect=why), mock.patch.object(main.signals, "say", lines.append):
                 self.assertEqual((main._run(["same", "--catalogue", "c"]), lines), (status, [f"exifnorm-pictures: {line}"]))
 
     def test_errors_of_other_packages(self):
@@ -304,7 +307,7 @@ class Ended(unittest.TestCase):
             (PermissionError(13, "Permission denied", b"/a\xff"), "/a\\xff: permission denied", ("exifnorm", "sqlite3")),
         ):  # fmt: skip
             lines = []
-            with mock.patch.dict(sys.modules), mock.patch.object(main.ends, "say", lines.append):
+            with mock.patch.dict(sys.modules), mock.patch.object(main.signals, "say", lines.append):
                 for it in modules:
                     del sys.modules[it]
                 self.assertEqual((main._failed_by(why), lines), (4, [f"exifnorm-pictures: {line}"]))
@@ -314,7 +317,7 @@ class Mended(WithPictures):
     def test_values_that_any_writer_changes(self):
         """Offsets, padding and the digest of the record are no values of a picture."""
         lines = b"[IFD0] Make : Abc\n[IFD0] StripOffsets : 8\n[ExifIFD] Padding : 1\n[Photoshop] IPTCDigest : 00ff\n[IFD1] Make  :  Abc\n"
-        with mock.patch.object(tools, "exiftool", lambda *words: list(words)), mock.patch.object(tools, "run", lambda _: tools.Done(0, lines)):
+        with mock.patch.object(programs, "exiftool", lambda *words: list(words)), mock.patch.object(programs, "run", lambda _: programs.Done(0, lines)):
             self.assertEqual(sorted(mend._printed("a")), ["[IFD0] Make : Abc", "[IFD1] Make : Abc"])
 
     def test_statuses(self):
@@ -324,16 +327,16 @@ class Mended(WithPictures):
         asked = argparse.Namespace(json=False)
         for name, (found, status) in ends.items():
             with mock.patch.object(mend, "mend", lambda *_, found=found: found), contextlib.redirect_stdout(io.StringIO()):
-                self.assertEqual(single._mend_one(asked, b"a", b"b", ""), status, name)
-        for why in (mend.NotWritten("no"), tools.Failed("no")):
+                self.assertEqual(show._mend_one(asked, b"a", b"b", ""), status, name)
+        for why in (mend.NotWritten("no"), programs.Failed("no")):
             with mock.patch.object(mend, "mend", mock.Mock(side_effect=why)), contextlib.redirect_stdout(io.StringIO()):
-                self.assertEqual(single._mend_one(asked, b"a", b"b", ""), 4, why)
+                self.assertEqual(show._mend_one(asked, b"a", b"b", ""), 4, why)
 
     def test_a_link_in_the_way(self):
         """Also one that leads nowhere is a file that is there."""
         write(self.path("a.jpg"), b"")
         os.symlink("nowhere", self.path("out.jpg"))
-        with mock.patch.object(tools, "needed", lambda _: ""), mock.patch.object(mend, "blocks_of", lambda _: self.fail("it is read")):
+        with mock.patch.object(programs, "needed", lambda _: ""), mock.patch.object(mend, "blocks_of", lambda _: self.fail("it is read")):
             with self.assertRaisesRegex(mend.NotWritten, "there already"):
                 mend.mend(os.fsencode(self.path("a.jpg")), os.fsencode(self.path("out.jpg")), self.folder)
         self.assertEqual((os.readlink(self.path("out.jpg")), read(self.path("a.jpg"))), ("nowhere", b""))

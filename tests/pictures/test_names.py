@@ -2,7 +2,7 @@
 
 import os
 
-from exifnorm_pictures import texts
+from exifnorm_pictures.cli import texts
 from hypothesis import given
 from hypothesis import strategies as st
 

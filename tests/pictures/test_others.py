@@ -10,8 +10,8 @@ from unittest import mock
 
 from studio import WithPictures, write
 
-from exifnorm_pictures import extraction, others, session, tools
-from exifnorm_pictures.formats.found import PROBLEMS, Blocks, LeftToOthers, NotRead
+from exifnorm_pictures.extract import exiftool, extraction, programs, session
+from exifnorm_pictures.extract.formats.found import PROBLEMS, Blocks, LeftToOthers, NotRead
 
 ASKED = ("-EXIF:Exif", "-IPTC:IPTC", "-XMP:XMP", "-FileType#", "-MIMEType#", "-Error#")
 # Files in the structure of TIFF, by ExifTool's list of file types
@@ -26,7 +26,7 @@ class Answers(unittest.TestCase):
     maxDiff = None
 
     def test_blocks(self):
-        found = others._blocks({"EXIF": "base64:TU0=", "IPTC": "abc", "Copy1:IPTC": "def", "XMP": "<x>", "FileType": "PSD",
+        found = exiftool._blocks({"EXIF": "base64:TU0=", "IPTC": "abc", "Copy1:IPTC": "def", "XMP": "<x>", "FileType": "PSD",
                                 "MIMEType": "image/vnd"})  # fmt: skip
         self.assertEqual(seen(found), [("exif", "Exif", b"MM", "PSD file", "exiftool"), ("iim", "IPTC", b"abc", "PSD file", "exiftool"),
                                        ("iim", "second IPTC", b"def", "PSD file", "exiftool"), ("xmp", "XMP", b"<x>", "PSD file", "exiftool")])  # fmt: skip
@@ -44,9 +44,9 @@ class Answers(unittest.TestCase):
             ({"FileType": "TXT", "MIMEType": "text/plain", "Error": "odd"}, ("TXT", "NoPicture", "odd")),
             *(({"FileType": it, "MIMEType": "image/x", "EXIF": "MM"}, (it, "SeveralBlocks", several)) for it in ("CR3", "CRX", "CRM")),
         ):  # fmt: skip
-            found = others._blocks(answer)
+            found = exiftool._blocks(answer)
             self.assertEqual((found.type, found.problem, found.detail, found.found, found.extractor), (*expected, [], "exiftool"), answer)
-        found = others._blocks({"FileType": "PDF", "MIMEType": "application/pdf", "XMP": "<x>"})
+        found = exiftool._blocks({"FileType": "PDF", "MIMEType": "application/pdf", "XMP": "<x>"})
         self.assertEqual((found.problem, len(found.found)), (None, 1))
 
     def test_names_of_raw_pictures(self):
@@ -75,8 +75,8 @@ class Files(WithPictures):
             return answers.pop(0)
 
         with mock.patch.multiple(session, ask=ask, room=lambda: self.path("room")), \
-             mock.patch.multiple(tools, is_there=lambda it: has_exiv2 and it == "exiv2", needed=lambda it: f"/bin/{it}", run=run or self.fail):  # fmt: skip
-            return others.by_others(b"a.x", io.BytesIO(octets), whole, why)
+             mock.patch.multiple(programs, is_there=lambda it: has_exiv2 and it == "exiv2", needed=lambda it: f"/bin/{it}", run=run or self.fail):  # fmt: skip
+            return exiftool.by_others(b"a.x", io.BytesIO(octets), whole, why)
 
     def test_what_is_not_extracted(self):
         answer = {"FileType": "GIF", "MIMEType": "image/gif", "XMP": "<x>"}
@@ -84,13 +84,13 @@ class Files(WithPictures):
         what = "what ExifTool does not extract from a GIF file"
         for most, whole, why, expected in ((3, False, "", (what, digest)), (2, False, "", (what, "")), (2, True, "", (what, digest)),
                                            (3, False, "broken: no marker at 2", (f"{what} (broken: no marker at 2)", digest))):  # fmt: skip
-            with mock.patch.object(others, "MOST", most):
+            with mock.patch.object(exiftool, "MOST", most):
                 found = self.read([answer], whole=whole, why=why)
             self.assertEqual(([tuple(it) for it in found.not_read], self.asked), ([expected], [(b"a.x", ASKED)]))
             self.assertEqual(seen(found), [("xmp", "XMP", b"<x>", "GIF file", "exiftool")])
         found = self.read([{"FileType": "TXT", "MIMEType": "text/plain"}])
         self.assertEqual((found.problem, found.not_read), ("NoPicture", []))
-        self.assertEqual(others.MOST, 16 << 20)
+        self.assertEqual(exiftool.MOST, 16 << 20)
 
     def test_raw_pictures(self):
         """exiv2 extracts their Exif block into a file, from which ExifTool takes it."""
@@ -109,7 +109,7 @@ class Files(WithPictures):
             self.assertEqual(self.asked, [(b"a.x", ASKED), (os.fsencode(os.path.join(folder, "picture.exv")), ("-EXIF:Exif",))])
             self.assertEqual(seen(found), [("exif", "Exif", b"MM*", f"{kind} file", "exiv2")])
             self.assertEqual((found.extractor, found.problem, len(found.not_read)), ("exiftool", None, 1))
-        self.assertEqual(others._TIFF_TYPES, set(RAW))
+        self.assertEqual(exiftool._TIFF_TYPES, set(RAW))
         found = self.read([{"FileType": "NEF", "MIMEType": "image/x", "EXIF": "II*"}])
         self.assertEqual(seen(found), [("exif", "Exif", b"II*", "NEF file", "exiftool")])
 
@@ -131,7 +131,7 @@ class Files(WithPictures):
             blocks = Blocks(type="JPEG")
             blocks.add("iim", b"known", "APP13 segment at 2")
             with mock.patch.object(session, "ask", ask):
-                others.add_trailers(blocks, b"a.jpg")
+                exiftool.add_trailers(blocks, b"a.jpg")
             return blocks
 
         calls = []
@@ -142,6 +142,6 @@ class Files(WithPictures):
         self.assertEqual((blocks.extractor, blocks.not_read), ("exiftool", []))
         blocks = added(lambda *_: {"IPTC": "known"})
         self.assertEqual((blocks.extractor, len(blocks.found)), ("own", 1))
-        for why in (tools.Missing("exiftool"), tools.Failed("exiftool took longer than 1 seconds")):
+        for why in (programs.Missing("exiftool"), programs.Failed("exiftool took longer than 1 seconds")):
             blocks = added(mock.Mock(side_effect=why))
             self.assertEqual((blocks.not_read, len(blocks.found)), ([NotRead("blocks of the trailer, for which ExifTool is needed", "")], 1))

@@ -6,9 +6,9 @@ from collections import Counter
 from datetime import datetime
 from unittest import mock
 
-from exifnorm_pictures import report
-from exifnorm_pictures.kept import Picture
-from exifnorm_pictures.page_style import STYLE
+from exifnorm_pictures.report import page as report
+from exifnorm_pictures.catalogue.records import Picture
+from exifnorm_pictures.report.style import STYLE
 
 
 def compact(page):

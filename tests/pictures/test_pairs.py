@@ -22,12 +22,13 @@ _ASKED = threading.Lock()  # of one ExifTool in this process
 
 def sides(path, whole=False):
     """The meaning of a picture for each kind, and its unread parts."""
-    from exifnorm_pictures import engine, extraction, verdicts
+    from exifnorm_pictures.compare import verdicts
+    from exifnorm_pictures.extract import extraction, judge
 
     with _ASKED:
         blocks = extraction.blocks_of(os.fsencode(path), whole)
     assert not blocks.problem, (blocks.problem, blocks.detail)
-    judged = engine.judge_all(blocks)
+    judged = judge.judge_all(blocks)
     return {kind: verdicts.side(kind, judged) for kind in verdicts.NAMES}, blocks.not_read
 
 
@@ -38,7 +39,7 @@ T, U = title("one"), title("two")
 
 class Pairs(WithPictures):
     def answer(self, one, other, whole=False, name="jpg"):
-        from exifnorm_pictures import verdicts
+        from exifnorm_pictures.compare import verdicts
 
         write(self.path(f"one.{name}"), one)
         write(self.path(f"other.{name}"), other)
@@ -288,7 +289,7 @@ class Tiff(Pairs):
             self.assertIn("not wholly read: GlobalParametersIFD of page 1", words)
 
     def test_big_tiff_is_not_read(self):
-        from exifnorm_pictures import extraction
+        from exifnorm_pictures.extract import extraction
 
         write(self.path("big.tif"), b"II+\0\x08\0\0\0" + bytes(24))
         found = extraction.blocks_of(os.fsencode(self.path("big.tif")))
@@ -344,9 +345,9 @@ class Others(Pairs):
 
     def test_long_broken_jpeg(self):
         """It has a digest however long it is, as any part of it may be what was not read."""
-        from exifnorm_pictures import others
+        from exifnorm_pictures.extract import exiftool
 
-        octets = jpeg(app1(A))[: 2 + 4 + 6 + len(A)] + b"\0\0" + bytes(others.MOST)
+        octets = jpeg(app1(A))[: 2 + 4 + 6 + len(A)] + b"\0\0" + bytes(exiftool.MOST)
         write(self.path("a.jpg"), octets)
         _, (rest,) = sides(self.path("a.jpg"))
         self.assertIn("broken: no marker", rest.what)
@@ -377,7 +378,7 @@ class Explained(WithPictures):
     """`explain` names tiled, pyramid and Big TIFFs, and why a packet is unreadable."""
 
     def explained(self, kind, octets):
-        from exifnorm_pictures import explain
+        from exifnorm_pictures.refusals import explain
 
         return "\n".join(explain.explain(kind, octets).lines())
 

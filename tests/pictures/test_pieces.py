@@ -11,11 +11,18 @@ from unittest import mock
 from made_files import xmp as packet_of
 from studio import WithPictures, write
 
-from exifnorm_pictures import batches, kept, listing, moves, processes, session, texts, thumbnails, tools, verdicts, walk, xmp
-from exifnorm_pictures.formats.found import Blocks, NotRead
-from exifnorm_pictures.kept import Entry, Stamp
-from exifnorm_pictures.verdicts import Side, Verdict
-from exifnorm_pictures.walk import Found
+from exifnorm_pictures import xmp
+from exifnorm_pictures.catalogue import records
+from exifnorm_pictures.cli import texts
+from exifnorm_pictures.compare import moved, verdicts
+from exifnorm_pictures.extract import programs, session
+from exifnorm_pictures.fields import listing
+from exifnorm_pictures.report import thumbnails
+from exifnorm_pictures.scan import batches, processes, walk
+from exifnorm_pictures.extract.formats.found import Blocks, NotRead
+from exifnorm_pictures.catalogue.records import Entry, Stamp
+from exifnorm_pictures.compare.verdicts import Side, Verdict
+from exifnorm_pictures.scan.walk import Found
 
 
 def digits(octets, count=32):
@@ -150,12 +157,12 @@ class Results(unittest.TestCase):
             self.assertEqual(verdicts.left_open(one, two), expected)
 
     def test_new_names(self):
-        self.assertEqual(moves.best([], b"/a"), None)
-        self.assertEqual(moves.best([b"/b/x", b"/c/a", b"/d/a"], b"/e/a"), b"/c/a")
-        self.assertEqual(moves.best([b"/b/x", b"/c/y"], b"/e/a"), b"/b/x")
+        self.assertEqual(moved.best([], b"/a"), None)
+        self.assertEqual(moved.best([b"/b/x", b"/c/a", b"/d/a"], b"/e/a"), b"/c/a")
+        self.assertEqual(moved.best([b"/b/x", b"/c/y"], b"/e/a"), b"/b/x")
         for words, key in (((["a", "", ""], "", 1), ("a", "", "", "", 1)), ((["", "", ""], "", 1), None), ((["a", "", ""], None, 1), None),
                            ((["a", "", ""], "p", None), None), ((["", "", "a"], "p", 0), ("", "", "a", "p", 0))):  # fmt: skip
-            self.assertEqual(moves.content_key(*words), key)
+            self.assertEqual(moved.content_key(*words), key)
 
     def test_marks(self):
         """Of 64 bits with a sign."""
@@ -208,7 +215,7 @@ class Work(WithPictures):
             return SimpleNamespace(submit=steps.append)
 
         how = batches.How()
-        with mock.patch.object(processes.ends, "signals_held", held), mock.patch.object(processes, "ProcessPoolExecutor", made):
+        with mock.patch.object(processes.signals, "signals_held", held), mock.patch.object(processes, "ProcessPoolExecutor", made):
             processes._pool(how, 3)
         self.assertEqual(steps, ["held", ((3,), "fork", {"initializer": processes._begin, "initargs": (how, os.getpid(), {1})}), os.getpid, "released"])
 
@@ -232,7 +239,7 @@ class Work(WithPictures):
         self.assertEqual(base.execute("SELECT id, path, size, inode, problem, detail, run FROM pictures").fetchall(),
                          [(1, b"/a", 1, 4, None, "", 0), (2, b"/d", None, None, "NoPicture", "d", 0)])  # fmt: skip
         self.assertEqual(batches.batch(self.path("more"), entries[:1], [], None).lines, [])
-        self.assertEqual(kept.state_of(None, []), "no block")
+        self.assertEqual(records.state_of(None, []), "no block")
 
 
 class Walked(WithPictures):
@@ -284,7 +291,7 @@ class Sessions(WithPictures):
             return SimpleNamespace(stdin=pipe, poll=lambda: None)
 
         pipe, answers = stdin, [b'[{"SourceFile": "/a/b.jpg", "EXIF": "x"}]\n{done 1}\n', b"{done 2}\n", b'[{"SourceFile": "./link.Jpg"}]{done 3}\n']
-        with mock.patch.multiple(tools, start=start, needed=lambda it: it, read_until=lambda _, complete: self.complete(answers.pop(0), complete)):
+        with mock.patch.multiple(programs, start=start, needed=lambda it: it, read_until=lambda _, complete: self.complete(answers.pop(0), complete)):
             it = session.Session(self.folder)
             self.assertEqual(it.ask(b"/a/b.jpg", ("-EXIF:Exif", "-XMP")), {"EXIF": "x"})
             self.assertEqual(it.ask(b"/a/c", ()), {})
@@ -301,7 +308,7 @@ class Sessions(WithPictures):
         return octets
 
     def test_names_that_exiftool_could_misread(self):
-        with mock.patch.multiple(tools, start=lambda *_, **__: None, needed=lambda it: it):
+        with mock.patch.multiple(programs, start=lambda *_, **__: None, needed=lambda it: it):
             it = session.Session(self.folder)
         for path in (b"/a/b.jpg", b"/A_z0-9./+,@%~()="):
             self.assertEqual((it._handed_over(path), os.listdir(self.folder)), (path, []))
@@ -326,8 +333,8 @@ class Sessions(WithPictures):
             here.process.poll.return_value = 1
             session.ask(b"d", ())
             self.assertEqual(counts(), (2, 1))
-            here.process.poll.return_value, here.ask.side_effect = None, tools.Failed("it ended")
-            self.assertRaises(tools.Failed, session.ask, b"e", ())
+            here.process.poll.return_value, here.ask.side_effect = None, programs.Failed("it ended")
+            self.assertRaises(programs.Failed, session.ask, b"e", ())
             self.assertEqual((counts(), session._Own.session), ((2, 2), None))
             session.finish()
             self.assertEqual(counts(), (2, 2))
@@ -335,27 +342,27 @@ class Sessions(WithPictures):
     def test_how_a_program_is_started(self):
         """In a session of its own, in the C locale, without standard error; it ends with this process, and gets the signals that this one gets."""
         calls = []
-        with mock.patch.object(tools.subprocess, "Popen", lambda words, **more: calls.append((words, more))):
-            tools.start(["a", "b"], "/", stdin=-3)
+        with mock.patch.object(programs.subprocess, "Popen", lambda words, **more: calls.append((words, more))):
+            programs.start(["a", "b"], "/", stdin=-3)
         (words, more), pipe, nowhere = calls[0], -1, -3
         begin = more.pop("preexec_fn")
         environment = more.pop("env")
         self.assertEqual((words, more), (["a", "b"], {"stdin": nowhere, "stdout": pipe, "stderr": nowhere, "bufsize": 0, "cwd": "/", "start_new_session": True}))
         self.assertEqual(environment, {**os.environ, "LC_ALL": "C"})
-        with mock.patch.object(tools, "_libc") as libc, mock.patch.object(tools.signal, "pthread_sigmask") as mask:
+        with mock.patch.object(programs, "_libc") as libc, mock.patch.object(programs.signal, "pthread_sigmask") as mask:
             begin()
         self.assertEqual(libc.mock_calls, [mock.call.prctl(1, 9)])  # PR_SET_PDEATHSIG, SIGKILL
-        self.assertEqual(mask.mock_calls, [mock.call(tools.signal.SIG_SETMASK, tools.signal.pthread_sigmask(tools.signal.SIG_BLOCK, ()))])
+        self.assertEqual(mask.mock_calls, [mock.call(programs.signal.SIG_SETMASK, programs.signal.pthread_sigmask(programs.signal.SIG_BLOCK, ()))])
 
     def test_versions(self):
         for program, printed, expected in (("exiftool", b"12.57\n", "12.57"), ("exiv2", b"exiv2 0.27.6\nmore 1\n", "0.27.6"), ("exiv2", b"", None),
                                            ("exiv2", b"\n1\n", None), ("exiv2", b"a \xff\n", "\ufffd")):  # fmt: skip
             calls = []
-            with mock.patch.multiple(tools, is_there=lambda _: True, needed=lambda it: it, run=lambda words: calls.append(words) or tools.Done(0, printed)):
-                self.assertEqual(tools.version.__wrapped__(program), expected)
+            with mock.patch.multiple(programs, is_there=lambda _: True, needed=lambda it: it, run=lambda words: calls.append(words) or programs.Done(0, printed)):
+                self.assertEqual(programs.version.__wrapped__(program), expected)
             self.assertEqual(calls, [["exiftool", "-config", "", "-ver"] if program == "exiftool" else ["exiv2", "--version"]])
-        with mock.patch.object(tools, "is_there", lambda _: False):
-            self.assertIsNone(tools.version.__wrapped__("exiv2"))
+        with mock.patch.object(programs, "is_there", lambda _: False):
+            self.assertIsNone(programs.version.__wrapped__("exiv2"))
 
 
 class Small(WithPictures):
@@ -369,7 +376,7 @@ class Small(WithPictures):
         listings = {b"MM": f"exif\n[thumb]\njpeg 3: {(embedded or b'').hex()}\n"}
         blocks = Blocks()
         blocks.add("exif", b"MM", "")
-        with mock.patch.object(thumbnails.engine, "listing", listings.__getitem__), \
+        with mock.patch.object(thumbnails.judge, "listing", listings.__getitem__), \
              mock.patch.object(thumbnails.extraction, "blocks_of", lambda _: blocks if embedded else Blocks()):  # fmt: skip
             found = thumbnails.small_pictures([*names, names[0]])
         return {os.path.basename(os.fsdecode(name)): uri for name, uri in found.items()}
@@ -388,9 +395,9 @@ class Small(WithPictures):
             self.assertEqual(list(self.small(b"GIF89", b"GIF89", b"GIF8", b"GIF8")), ["0", "2"])
 
     def test_what_cannot_be_read(self):
-        for why in (tools.Missing("exiftool"), tools.Failed("failed")):
+        for why in (programs.Missing("exiftool"), programs.Failed("failed")):
             with mock.patch.object(thumbnails.extraction, "blocks_of", mock.Mock(side_effect=why)):
                 self.assertEqual(thumbnails.small_pictures([b"/no such picture"]), {})
         for why in (thumbnails.exifnorm.Refused("Overlap", 1), thumbnails.exifnorm.NormalTooLong(), MemoryError()):
-            with mock.patch.object(thumbnails.engine, "listing", mock.Mock(side_effect=why)):
+            with mock.patch.object(thumbnails.judge, "listing", mock.Mock(side_effect=why)):
                 self.assertIsNone(thumbnails._embedded(b"MM"))

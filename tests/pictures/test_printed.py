@@ -9,7 +9,7 @@ from made_blocks import BLOCKS
 from made_files import app1, app1_xmp, app13, exif, iim, jpeg, png, png_xmp, resource, title
 from studio import SMALL_JPEG, write
 
-from exifnorm_pictures import tools
+from exifnorm_pictures.extract import programs
 
 A, B, ONE, TWO = exif(b"Abc"), exif(b"Xyz"), iim(b"one"), iim(b"two")
 REST = b"rest"  # after the end of a picture
@@ -149,6 +149,6 @@ class Commands(InProcess):
         for words in (("show", "@/p/e.jpg"), ("captions", "@/p/e.jpg"), ("explain", "@/p/e.jpg"), ("mend", "@/p/a.jpg", "@/m.jpg"),
                       ("index", "@/p/e.jpg", "--catalogue", "@/d", "--quiet"), ("changed", "@/p", "@/c"),
                       ("report", "--catalogue", "@/c", "--html", "@/page.html")):  # fmt: skip
-            with mock.patch.object(tools, "set_limit") as found:
+            with mock.patch.object(programs, "set_limit") as found:
                 self.printed(*words, "--limit", "7.5")
             self.assertEqual(found.mock_calls, [mock.call(7.5)], words)

@@ -21,8 +21,10 @@ from made_files import (
 )  # fmt: skip
 from studio import SMALL_JPEG, needs, read, run, write
 
-from exifnorm_pictures import batches, index, mend, single, states
-from exifnorm_pictures.formats import jpeg_tail
+from exifnorm_pictures.cli import changed as states, show
+from exifnorm_pictures.refusals import mend
+from exifnorm_pictures.scan import batches, index
+from exifnorm_pictures.extract.formats import jpeg_tail
 
 A, B, ONE, TWO = exif(b"Abc"), exif(b"Xyz"), iim(b"one"), iim(b"two")
 T, U = title("one"), title("two")
@@ -405,7 +407,7 @@ class Pictures(Promises):
         self.assertEqual(run(["exifnorm-pictures", "show"], self.folder).returncode, 3)
         for lost, step, status in ((["a value"], "rebuild", 1), ([], "none", 2)):
             with mock.patch.object(mend, "mend", return_value=mend.Mended(step, {}, lost)), contextlib.redirect_stdout(io.StringIO()):
-                self.assertEqual(single._mend_one(argparse.Namespace(json=False), b"a", b"b", ""), status)
+                self.assertEqual(show._mend_one(argparse.Namespace(json=False), b"a", b"b", ""), status)
 
     @needs("exiftool")
     def test_no_picture_is_modified(self):

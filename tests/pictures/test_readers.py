@@ -14,8 +14,8 @@ from made_files import (
 )  # fmt: skip
 from studio import SMALL_JPEG
 
-from exifnorm_pictures.formats import jpeg as jpeg_, jpeg_segments, mpf as mpf_, png as png_, tiff as tiff_, tiff_directories, webp as webp_
-from exifnorm_pictures.formats.found import PROBLEMS, Blocks, Broken, LeftToOthers, ordinal
+from exifnorm_pictures.extract.formats import jpeg as jpeg_, jpeg_segments, mpf as mpf_, png as png_, tiff as tiff_, tiff_directories, webp as webp_
+from exifnorm_pictures.extract.formats.found import PROBLEMS, Blocks, Broken, LeftToOthers, ordinal
 
 A, B, K, L, T, U = exif(b"Abc"), exif(b"Xyz"), iim(b"one"), iim(b"two"), title("one"), title("two")
 MIN = b"\xff\xd8\xff\xda\0\2\xff\xd9"  # a JPEG of one scan without data

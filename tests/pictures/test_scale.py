@@ -8,7 +8,7 @@ from collections import Counter
 import made_files as made
 from studio import WithPictures, needs, run, write
 
-from exifnorm_pictures.catalogue import Catalogue
+from exifnorm_pictures.catalogue.store import Catalogue
 
 GIF = b"GIF89a\x01\0\x01\0\0\0\0;"  # has no reader here, and goes to ExifTool
 GROWTH = 8  # MB by which ten times as many pictures may need more: SQLite's caches (2 MB each) and Python's own memory, no list of all
@@ -54,7 +54,7 @@ def connected(*words, **more):
     return base
 
 sqlite3.connect = connected
-from exifnorm_pictures.main import main
+from exifnorm_pictures.cli.main import main
 status = main(sys.argv[1:])
 for it in totals.items():
     note("%s %d" % it)
@@ -229,17 +229,18 @@ class Scale(WithPictures):
         """What few commands need isn't imported by the others: most runs end sooner than all modules are imported."""
         self.pictures("p", 2)
         self.asked("index", "p", "--catalogue", "c", "--quiet")
-        call = "import sys; from exifnorm_pictures.main import main; main(sys.argv[1:]); print(*sys.modules, file=sys.stderr)"
-        own = [f"exifnorm_pictures.{it}" for it in ("extraction", "mend", "explain", "changed", "report", "processes")]
+        call = "import sys; from exifnorm_pictures.cli.main import main; main(sys.argv[1:]); print(*sys.modules, file=sys.stderr)"
+        names = ("extract.extraction", "refusals.mend", "refusals.explain", "compare.changed", "report.page", "scan.processes")
+        own = [f"exifnorm_pictures.{it}" for it in names]
         watched = {"exifnorm", "html", "logging", "multiprocessing", "subprocess", "urllib", "xml", *own}
         for words, needed in ((["same", "--catalogue", "c"], set()), (["index", "p", "--catalogue", "c", "--quiet"], {"subprocess"}),
                               (["merge", "c", "--catalogue", "d"], {"subprocess"}),
-                              (["changed", "c", "c"], {"subprocess", "exifnorm_pictures.changed"}),
+                              (["changed", "c", "c"], {"subprocess", "exifnorm_pictures.compare.changed"}),
                               (["show", "p/0000.jpg"], watched - {"multiprocessing", "urllib", "html", "logging", *own[3:]})):  # fmt: skip
             with self.subTest(words[0]):
                 done = run([sys.executable, "-S", "-c", call, *words], self.folder)
                 imported = set(done.stderr.decode().split())
-                self.assertIn("exifnorm_pictures.main", imported)
+                self.assertIn("exifnorm_pictures.cli.main", imported)
                 self.assertEqual(watched & imported - needed, set(), done.stdout)
 
     # Files and processes
@@ -275,7 +276,7 @@ class Scale(WithPictures):
         write(self.path("small.jpg"), picture)
         write(self.path("great.jpg"), picture[:at] + bytes(length) + picture[at:])
         call = (
-            "import sys; from exifnorm_pictures.extraction import blocks_of\n"
+            "import sys; from exifnorm_pictures.extract.extraction import blocks_of\n"
             "def octets(): return int(open('/proc/self/io').read().split()[1])\n"
             "def read(name, whole): at = octets(); blocks_of(name, whole); return octets() - at\n"
             "read(b'small.jpg', True)\n"  # what Python loads at first isn't counted

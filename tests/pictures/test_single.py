@@ -13,8 +13,11 @@ from unittest import mock
 
 from studio import WithPictures, read, write
 
-from exifnorm_pictures import archives, mend, rooms, single, tools
-from exifnorm_pictures.formats.found import Blocks
+from exifnorm_pictures.cli import index, show
+from exifnorm_pictures.extract import programs
+from exifnorm_pictures.files import tempdir
+from exifnorm_pictures.refusals import mend
+from exifnorm_pictures.extract.formats.found import Blocks
 
 READ = 2_140_000_000  # when the picture was read: in the future, so that reading it changes nothing
 EXIFTOOL = ["exiftool", "-config", ""]
@@ -33,9 +36,9 @@ class Steps(unittest.TestCase):
 
         def run(words):
             calls.append(words)
-            return tools.Done(*ends.pop(0))
+            return programs.Done(*ends.pop(0))
 
-        with mock.patch.multiple(tools, run=run, needed=lambda it: it, is_there=lambda it: there and it == "exiv2"):
+        with mock.patch.multiple(programs, run=run, needed=lambda it: it, is_there=lambda it: there and it == "exiv2"):
             result = step("p")
         self.assertEqual(ends, [], "fewer programs are called")
         return calls, result
@@ -105,7 +108,7 @@ class Copies(WithPictures):
         changed = {"blocks_of": read_blocks, "_refusals": lambda _: refusals.pop(0), "_printed": lambda _: mend.Counter("ab"),
                    "_REMEDIES": {it: remedy or touch for it in mend.STEPS}}  # fmt: skip
         os.makedirs(self.path("room"), exist_ok=True)
-        with mock.patch.multiple(mend, **changed), mock.patch.object(tools, "needed", lambda it: it):
+        with mock.patch.multiple(mend, **changed), mock.patch.object(programs, "needed", lambda it: it):
             return mend.mend(os.fsencode(self.path(name)), os.fsencode(self.path(out)), self.path("room"))
 
     def test_what_is_written(self):
@@ -147,7 +150,7 @@ class Copies(WithPictures):
         def appeared(*_, **__):
             raise FileExistsError(17, "File exists")
 
-        with mock.patch.object(mend.writing, "copy_new", appeared), self.assertRaisesRegex(mend.NotWritten, "^the copy is there already$"):
+        with mock.patch.object(mend.atomic, "copy_new", appeared), self.assertRaisesRegex(mend.NotWritten, "^the copy is there already$"):
             self.mended()
 
 
@@ -174,22 +177,22 @@ class Lines(WithPictures):
               "  - x", "  - y", "  + z"], {"step": "rebuild", "before": one, "lost": ["x", "y"], "gained": ["z"]}),
             (mend.Mended("none", one), ["a\\n: Exif refused: Overlap at 34: no remedy helped"], {"step": "none", "before": one, "lost": [], "gained": []}),
         ):  # fmt: skip
-            self.assertEqual(single._mended_lines(b"a\n", found), lines)
-            self.assertEqual(single._mended_members(b"a\n", found), {"path": "a\n", **members})
+            self.assertEqual(show._mended_lines(b"a\n", found), lines)
+            self.assertEqual(show._mended_members(b"a\n", found), {"path": "a\n", **members})
 
     def printed(self, why, as_json):
         with mock.patch.object(mend, "mend", mock.Mock(side_effect=why)), contextlib.redirect_stdout(io.StringIO()) as lines:
-            self.assertEqual(single._mend_one(argparse.Namespace(json=as_json), b"a\xff", b"b\n", ""), 4)
+            self.assertEqual(show._mend_one(argparse.Namespace(json=as_json), b"a\xff", b"b\n", ""), 4)
         return lines.getvalue()
 
     def test_what_is_not_written(self):
-        for why, word in ((mend.NotWritten("no space left"), "NotWritten"), (tools.Failed("exiftool took longer than 1 seconds"), "ToolFailed")):
+        for why, word in ((mend.NotWritten("no space left"), "NotWritten"), (programs.Failed("exiftool took longer than 1 seconds"), "ToolFailed")):
             self.assertEqual(self.printed(why, False), f"a\\xff: b\\n isn't written: {why}\n")
             self.assertEqual(json.loads(self.printed(why, True)), {"path": "a\\xff", "path_hex": "61ff", "problem": word, "detail": str(why)})
 
     def pairs(self, names, files_from=None, given=()):
-        with mock.patch.object(single, "from_list", lambda _: list(given)):
-            return list(single._pairs(argparse.Namespace(names=names, files_from=files_from)))
+        with mock.patch.object(show, "from_list", lambda _: list(given)):
+            return list(show._pairs(argparse.Namespace(names=names, files_from=files_from)))
 
     def test_pictures_and_their_copies(self):
         os.mkdir(self.path("out"))
@@ -211,12 +214,12 @@ class Problems(unittest.TestCase):
     """A picture that ExifTool has to read, and can't."""
 
     def test_a_program_that_fails_or_is_missing(self):
-        missing = tools.Missing("exiftool")
-        for raised, problem in ((tools.Failed("it ended"), "ToolFailed"), (missing, "NeedsExifTool")):
-            with mock.patch.object(single.extraction, "blocks_of", mock.Mock(side_effect=raised)):
-                found = single._blocks(argparse.Namespace(block=False, whole=False), b"a.gif")
+        missing = programs.Missing("exiftool")
+        for raised, problem in ((programs.Failed("it ended"), "ToolFailed"), (missing, "NeedsExifTool")):
+            with mock.patch.object(show.extraction, "blocks_of", mock.Mock(side_effect=raised)):
+                found = show._blocks(argparse.Namespace(block=False, whole=False), b"a.gif")
             self.assertEqual((found.problem, found.detail, found.found), (problem, str(raised), []))
-            self.assertIn(problem, archives.FAILURES)
+            self.assertIn(problem, index.FAILURES)
 
 
 class Folders(WithPictures):
@@ -236,19 +239,19 @@ class Folders(WithPictures):
 
     def test_a_run_has_one_with_a_lock(self):
         before = len(os.listdir("/proc/self/fd"))
-        with rooms.room() as name:
+        with tempdir.room() as name:
             self.assertEqual(os.path.dirname(name), self.folder)
             self.assertRegex(os.path.basename(name), "^exifnorm-")
             self.assertEqual(os.listdir(name), ["lock"])
             self.assertEqual(stat.S_IMODE(os.stat(os.path.join(name, "lock")).st_mode), 0o600)
             write(os.path.join(name, "data"), b"1")
-            with rooms.room() as other:  # another run, which leaves this one as it is
+            with tempdir.room() as other:  # another run, which leaves this one as it is
                 self.assertEqual(sorted(os.listdir(self.folder)), sorted(map(os.path.basename, (name, other))))
             self.assertEqual(sorted(os.listdir(name)), ["data", "lock"])
             with open(os.path.join(name, "lock")) as file, self.assertRaises(BlockingIOError):
                 fcntl.flock(file, fcntl.LOCK_EX | fcntl.LOCK_NB)
         self.assertEqual((os.listdir(self.folder), len(os.listdir("/proc/self/fd"))), ([], before))
-        with self.assertRaises(KeyError), rooms.room():
+        with self.assertRaises(KeyError), tempdir.room():
             raise KeyError
         self.assertEqual((os.listdir(self.folder), len(os.listdir("/proc/self/fd"))), ([], before))
 
@@ -264,8 +267,8 @@ class Folders(WithPictures):
 
             return call
 
-        with mock.patch.object(rooms.fcntl, "flock", noted("flock")), mock.patch.object(rooms.os, "rename", noted("rename")):
-            with rooms.room():
+        with mock.patch.object(tempdir.fcntl, "flock", noted("flock")), mock.patch.object(tempdir.os, "rename", noted("rename")):
+            with tempdir.room():
                 self.assertEqual(steps, [("flock", "new"), ("rename", "new")])
 
     def test_those_of_runs_that_were_killed(self):
@@ -281,14 +284,14 @@ class Folders(WithPictures):
         alive = self.folder_of_a_run("exifnorm-alive")
         with open(os.path.join(alive, "lock")) as file:
             fcntl.flock(file, fcntl.LOCK_EX)
-            with mock.patch.object(rooms.os, "geteuid", lambda: os.getuid() + 1), rooms.room():
+            with mock.patch.object(tempdir.os, "geteuid", lambda: os.getuid() + 1), tempdir.room():
                 self.assertTrue(os.path.exists(self.path("exifnorm-killed")), "it is another user's")
-            with rooms.room() as name:
+            with tempdir.room() as name:
                 kept = ["another", "exifnor-other", "exifnorm-alive", "exifnorm-file", "exifnorm-link", "exifnorm-linked", "exifnorm-without"]
                 self.assertEqual(sorted(os.listdir(self.folder)), sorted([*kept, os.path.basename(name)]))
         for it in ("another", "exifnor-other", "exifnorm-alive", "exifnorm-linked", "exifnorm-without"):
             self.assertEqual(len(os.listdir(self.path(it))), 3 if it == "exifnorm-linked" else 2, it)
 
     def test_a_folder_that_cannot_be_listed(self):
-        with mock.patch.object(rooms.os, "scandir", mock.Mock(side_effect=PermissionError)), rooms.room() as name:
+        with mock.patch.object(tempdir.os, "scandir", mock.Mock(side_effect=PermissionError)), tempdir.room() as name:
             self.assertTrue(os.path.isdir(name))

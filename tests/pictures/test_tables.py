@@ -14,11 +14,12 @@ from unittest import mock
 import kinds
 from studio import WithPictures
 
-from exifnorm_pictures import changed, groups, pairing, report
-from exifnorm_pictures.catalogue import VERSION, Catalogue, NoCatalogue
-from exifnorm_pictures.formats.found import EXIF, IPTC, NAMES, XMP, NotRead
-from exifnorm_pictures.kept import Block, Entry, Stamp
-from exifnorm_pictures.listing import Field, packed
+from exifnorm_pictures.compare import changed, groups, pairs as pairing
+from exifnorm_pictures.report import page
+from exifnorm_pictures.catalogue.store import VERSION, Catalogue, NoCatalogue
+from exifnorm_pictures.extract.formats.found import EXIF, IPTC, NAMES, XMP, NotRead
+from exifnorm_pictures.catalogue.records import Block, Entry, Stamp
+from exifnorm_pictures.fields.listing import Field, packed
 
 BASE = {EXIF: "e", IPTC: "i", XMP: "x"}
 KNOWN, OTHER, UNKNOWN = NotRead("trailer", "1" * 64), NotRead("trailer", "2" * 64), NotRead("trailer", "")
@@ -219,7 +220,7 @@ class Tables(WithPictures):
         now = [picture("a"), picture("b", {**BASE, EXIF: "!Overlap", IPTC: "!DataSetCut"}), picture("c", {**BASE, EXIF: "new"}, [KNOWN]),
                picture("d", {**BASE, EXIF: "new"}, [KNOWN, NotRead("other", "")]), picture("e", {EXIF: "!Overlap"}), picture("f", {}),
                picture("n", problem="NoPicture"), picture("m", problem="NoPicture"), picture("u", problem="Unreadable")]  # fmt: skip
-        found = report.gather(report.About(self.catalogue("c", *now), self.catalogue("old", *old)))
+        found = page.gather(page.About(self.catalogue("c", *now), self.catalogue("old", *old)))
         self.assertEqual(found.total, 9)
         self.assertEqual(dict(found.states), {"accepted": 3, "refused": 2, "no block": 1, "NoPicture": 2, "Unreadable": 1})
         self.assertEqual((found.all_problems, [it.problem for it in found.problems]), (3, ["Unreadable", "NoPicture", "NoPicture"]))
@@ -228,7 +229,7 @@ class Tables(WithPictures):
         self.assertEqual(found.all_groups, (0, 0))
         self.assertEqual(dict(found.results), {"same": 1, "refused": 1, "different": 2, "missing before": 5})
         self.assertEqual((dict(found.fields), found.all_changed), ({"main:Make": 2}, 4))
-        chosen = report.gather(report.About(self.catalogue("d", *now), only={b"/a/b", b"/a/n"}))
+        chosen = page.gather(page.About(self.catalogue("d", *now), only={b"/a/b", b"/a/n"}))
         self.assertEqual((chosen.total, dict(chosen.causes)), (2, {"Overlap": 1, "DataSetCut": 1}))
 
 
@@ -336,24 +337,24 @@ class Reported(WithPictures):
         made = self.catalogue("now", *now)
         made.set_versions(1, "12.57", "0.27.6")
         made.end_run(1, "2000-01-01T00:00:09Z")
-        self.about = report.About(made, self.catalogue("old", *old))
+        self.about = page.About(made, self.catalogue("old", *old))
 
     def test_what_is_gathered(self):
         """All of it, and the objects of --json, in golden/report-*.txt."""
-        found = report.gather(self.about)
+        found = page.gather(self.about)
         members = {**vars(found), "problems": [it.path for it in found.problems]}
         self.golden("report-gathered.txt", "".join(f"{name}: {pprint.pformat(it, width=140)}\n" for name, it in members.items()))
-        self.golden("report-objects.txt", "".join(json.dumps(it) + "\n" for it in report.members(self.about)))
+        self.golden("report-objects.txt", "".join(json.dumps(it) + "\n" for it in page.members(self.about)))
 
     def test_chosen_pictures(self):
         """Their counts, groups, refusals and unread parts alone."""
-        about = report.About(self.about.catalogue, None, {b"/a/b1", b"/a/b2", b"/a/new", b"/a/r\xff", b"/a/no"})
-        found = report.gather(about)
+        about = page.About(self.about.catalogue, None, {b"/a/b1", b"/a/b2", b"/a/new", b"/a/r\xff", b"/a/no"})
+        found = page.gather(about)
         self.assertEqual((found.total, dict(found.causes), dict(found.parts), found.unread, found.all_groups, found.all_problems, found.since),
                          (5, {"Overlap": 1, "NoRDF": 1}, {"trailer": 1, "a chunk": 1}, 1, (1, 2), 1, False))  # fmt: skip
-        kinds = [next(iter(it)) for it in report.members(about)]
+        kinds = [next(iter(it)) for it in page.members(about)]
         self.assertEqual(kinds, ["pictures", "same", "refused", "refused", "problem", "not_read"])
-        self.assertEqual(next(report.members(about))["pictures"], 5)
+        self.assertEqual(next(page.members(about))["pictures"], 5)
 
     def test_the_first_of_each_list(self):
         """Pictures that can't be read come before those that are none."""
@@ -361,14 +362,14 @@ class Reported(WithPictures):
         rows += [picture(f"o{it}", {EXIF: "!Overlap"}) for it in range(3)] + [picture(f"g{it}{more}", {EXIF: f"g{it}"}) for it in range(3) for more in "abc"]
         old = [picture(f"g{it}{more}", {EXIF: f"old{it}"}) for it in range(3) for more in "abc"]
         limits = {"MOST_CHANGES": 2, "MOST_REFUSED": 2, "MOST_GROUPS": 2, "MOST_OF_GROUP": 2, "MOST_NAMES": 2}
-        with mock.patch.multiple(report, **limits):
-            found = report.gather(report.About(self.catalogue("many", *rows), self.catalogue("before", *old)))
+        with mock.patch.multiple(page, **limits):
+            found = page.gather(page.About(self.catalogue("many", *rows), self.catalogue("before", *old)))
         self.assertEqual(([it.path for it in found.problems], found.all_problems), ([b"/a/u0", b"/a/u1"], 6))
         self.assertEqual(([it.path for it in found.refused["Overlap"]], dict(found.causes)), ([b"/a/o0", b"/a/o1"], {"Overlap": 3}))
         self.assertEqual(([it[::2] for it in found.groups], found.all_groups), ([(3, [b"/a/g0a", b"/a/g0b"]), (3, [b"/a/g1a", b"/a/g1b"])], (3, 9)))
         self.assertEqual(([(it.count, it.names) for it in found.changed], found.all_changed), ([(3, [b"g0a", b"g0b"]), (3, [b"g1a", b"g1b"])], 4))
-        with mock.patch.multiple(report, **limits, MOST_FIELDS=2):
-            self.assertEqual([it.path for it in report.gather(report.About(self.catalogue("few", *rows[:4]))).problems], [b"/a/u0", b"/a/n0"])
+        with mock.patch.multiple(page, **limits, MOST_FIELDS=2):
+            self.assertEqual([it.path for it in page.gather(page.About(self.catalogue("few", *rows[:4]))).problems], [b"/a/u0", b"/a/n0"])
 
 
 class File(WithPictures):
@@ -436,8 +437,8 @@ class File(WithPictures):
 class Marks(WithPictures):
     def test_a_file_that_is_written_to_meanwhile(self):
         """It has no marks in the catalogue, so that the next run looks at it again."""
-        from exifnorm_pictures.looking import look
-        from exifnorm_pictures.walk import Found
+        from exifnorm_pictures.scan.looking import look
+        from exifnorm_pictures.scan.walk import Found
 
         path = os.fsencode(self.path("a.jpg"))
         with open(path, "wb") as file:
@@ -450,15 +451,15 @@ class Marks(WithPictures):
 
     def test_a_file_that_is_gone_after_it_was_read(self):
         """It has no marks either: what was read of it counts, and the run goes on."""
-        from exifnorm_pictures import looking
-        from exifnorm_pictures.walk import Found
+        from exifnorm_pictures.scan import looking
+        from exifnorm_pictures.scan.walk import Found
 
         self.assertIsNone(looking._unless_changed(Found(os.fsencode(self.path("nothing")), b"/", Stamp(1, 2, 3, 4))))
 
     def test_each_shows_an_edit(self):
-        from exifnorm_pictures.catalogue import Known
-        from exifnorm_pictures.index import _is_unchanged
-        from exifnorm_pictures.walk import Found
+        from exifnorm_pictures.catalogue.store import Known
+        from exifnorm_pictures.scan.index import _is_unchanged
+        from exifnorm_pictures.scan.walk import Found
 
         marks = Stamp(1, 2, 3, 4)
         known = Known(1, marks, None)
@@ -475,7 +476,7 @@ class Remedies(WithPictures):
     """Which remedy `mend` takes, by what each one loses and adds; here each writes some lines as its printed values."""
 
     def best(self, **made):
-        from exifnorm_pictures import mend
+        from exifnorm_pictures.refusals import mend
 
         def remedy(step):
             def write(name):
@@ -515,15 +516,15 @@ SMALL_NUMBERS = ((kinds.FLOAT, (0, 1, 0xFFFF)), (kinds.DOUBLE, (0, 1, 0xFFFFFFFF
 class Forms(unittest.TestCase):
     def test_a_form_has_the_fields_of_its_listing(self):
         """Every kind of block that is accepted: each type in each directory, records, thumbnails and long values."""
-        from exifnorm_pictures import forms, listing
+        from exifnorm_pictures.fields import listing, normal_form
 
         seen = set()
         for kind in kinds.small_kinds():
             listed = listing.fields(kind.meaning.listing())
-            self.assertEqual(forms.fields(kind.meaning.normal()), listed, kind.name)
+            self.assertEqual(normal_form.fields(kind.meaning.normal()), listed, kind.name)
             seen.update((it.where, it.type) for it in listed)
         small = kinds.Exif({tag: kinds.Value(kind, list(numbers)) for tag, (kind, numbers) in enumerate(SMALL_NUMBERS, 0x9500)})
-        self.assertEqual(forms.fields(small.normal()), listing.fields(small.listing()))
+        self.assertEqual(normal_form.fields(small.normal()), listing.fields(small.listing()))
         types = [it[0] for it in kinds.TYPES.values()]
         self.assertLessEqual({(where, it) for where in ("main", "exif", "interop", "gps", "thumb") for it in types}, seen)
 
@@ -531,7 +532,7 @@ class Forms(unittest.TestCase):
 class EqualChanges(unittest.TestCase):
     def test_equal_ones_are_together(self):
         """Also where more are known than are kept in memory, and in the order in which they came."""
-        from exifnorm_pictures.changed import Equal
+        from exifnorm_pictures.compare.changed import Equal
 
         equal, most = Equal(), 0
         self.addCleanup(equal.close)
@@ -553,7 +554,7 @@ class EqualChanges(unittest.TestCase):
 class Statuses(unittest.TestCase):
     def test_of_changed(self):
         """The greatest status of all results; 1 is a difference that is known, and nothing else."""
-        from exifnorm_pictures.states import status_of
+        from exifnorm_pictures.cli.changed import status_of
 
         expected = {"same": 0, "refused, the same bytes": 0, "unreadable, the same bytes": 0, "different": 1, "only MakerNote differs": 1,
                "moved": 1, "missing before": 1, "missing after": 1, "refused": 2, "unreadable": 2, "not wholly read": 2, "not read": 4}  # fmt: skip

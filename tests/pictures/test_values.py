@@ -14,12 +14,15 @@ from made_blocks import segment
 from made_files import exif, jpeg, xmp
 from studio import TESTS_PATH, WithPictures, interpreter_with, needs, run
 
-from exifnorm_pictures import batches, changed, ends, engine, index
-from exifnorm_pictures.blocks import Block, Damaged
-from exifnorm_pictures.catalogue import BLOCK_COLUMNS, PICTURE_COLUMNS, Catalogue, NoCatalogue
-from exifnorm_pictures.formats import found as found_, jpeg as jpeg_
-from exifnorm_pictures.formats.found import EXIF, PROBLEMS, NotRead
-from exifnorm_pictures.kept import Entry, Stamp, block_of_row
+from exifnorm_pictures.cli import signals
+from exifnorm_pictures.compare import changed
+from exifnorm_pictures.extract import judge
+from exifnorm_pictures.scan import batches, index
+from exifnorm_pictures.catalogue.blocks import Block, Damaged
+from exifnorm_pictures.catalogue.store import BLOCK_COLUMNS, PICTURE_COLUMNS, Catalogue, NoCatalogue
+from exifnorm_pictures.extract.formats import found as found_, jpeg as jpeg_
+from exifnorm_pictures.extract.formats.found import EXIF, PROBLEMS, NotRead
+from exifnorm_pictures.catalogue.records import Entry, Stamp, block_of_row
 
 # The columns of each table that are read, and a value of another type in SQL for each type of a column, as SQLite keeps it there.
 COLUMNS = {"pictures": PICTURE_COLUMNS, "blocks": BLOCK_COLUMNS, "not_read": "what, digest"}
@@ -135,7 +138,7 @@ class SingleBlocks(unittest.TestCase):
             some = found_.Blocks()
             some.add(found_.XMP, packet, "somewhere")
             some.found += [found_.Found(found_.XMP, data, it, "somewhere", extends=name) for it, data in zip((first, second), pieces)]
-            judged = engine.judge_all(some)
+            judged = judge.judge_all(some)
             self.assertEqual([(it.name, it.status, it.cause) for it in judged], expected)
             used = pieces[0] if packet == asking and pieces else b""
             self.assertEqual(judged[0].octets, hashlib.sha256(packet + used).hexdigest())
@@ -148,7 +151,7 @@ class SingleBlocks(unittest.TestCase):
         some = found_.Blocks()
         some.add(found_.XMP, packet, "somewhere")
         some.found += [found_.Found(found_.XMP, data, "extended XMP", "somewhere", extends=it) for it, data in pieces.items()]
-        judged = engine.judge_all(some)
+        judged = judge.judge_all(some)
         self.assertEqual([(it.status, it.cause) for it in judged], [("accepted", None)])
         self.assertEqual(judged[0].octets, hashlib.sha256(packet + b"".join(pieces[it] for it in sorted(pieces))).hexdigest())
 
@@ -175,7 +178,7 @@ class LookedAtAgain(unittest.TestCase):
         """Although a file is the same: those of the system, and those of a program that was installed since."""
         others = {"Vanished", "Moved", "Unreadable", "ToolFailed", "InternalError"}
         for there, expected in (((), others), (("exiftool",), others | {"NeedsExifTool"}), (("exiv2",), others | {"NeedsExiv2"})):
-            with mock.patch.object(index.tools, "is_there", there.__contains__):
+            with mock.patch.object(index.programs, "is_there", there.__contains__):
                 found = {it for it in (None, *PROBLEMS, "Moved", "NeedsExifTool") if index._worth_another(it)}
             self.assertEqual(found, expected, there)
 
@@ -190,11 +193,11 @@ class Processors(unittest.TestCase):
         """By SIGKILL, which none can ignore; where there never were several, multiprocessing isn't imported."""
         children = [mock.Mock(), mock.Mock()]
         with mock.patch.dict(sys.modules, {"multiprocessing": mock.Mock(active_children=lambda: children)}):
-            ends.end_children()
+            signals.end_children()
         self.assertEqual([it.mock_calls for it in children], [[mock.call.kill()]] * 2)
         with mock.patch.dict(sys.modules):
             sys.modules.pop("multiprocessing", None)
-            ends.end_children()
+            signals.end_children()
             self.assertNotIn("multiprocessing", sys.modules)
 
 
@@ -209,7 +212,7 @@ class Closed(WithPictures):
         """nohup ignores SIGHUP for a command (POSIX): it stays ignored."""
         for ignored in ("SIGHUP", "SIGTERM"):
             text = (
-                "import signal\nfrom exifnorm_pictures import ends\n"
+                "import signal\nfrom exifnorm_pictures.cli import signals as ends\n"
                 f"for it in ends.SIGNALS: signal.signal(it, signal.SIG_IGN if it.name == '{ignored}' else signal.SIG_DFL)\n"
                 "ends.heed_signals()\nprint(*[it.name for it in ends.SIGNALS if signal.getsignal(it) == signal.SIG_IGN])\n"
                 "print(*[it.name for it in ends.SIGNALS if signal.getsignal(it) == signal.SIG_DFL])"
@@ -222,7 +225,7 @@ class Closed(WithPictures):
             file.write(jpeg())
         os.mkfifo(self.path("pipe"))
         text = (
-            "import os\nfrom exifnorm_pictures import extraction\n"
+            "import os\nfrom exifnorm_pictures.extract import extraction\n"
             "def count(): return len(os.listdir('/proc/self/fd'))\n"
             "def fails(*_): raise OSError(5, 'Input/output error')\n"
             "opened, before = os.open, count()\nos.open = lambda path, *more: opened('pipe', *more)\n"

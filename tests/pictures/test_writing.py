@@ -7,7 +7,7 @@ from unittest import mock
 
 from studio import WithPictures, read, write
 
-from exifnorm_pictures import writing
+from exifnorm_pictures.files import atomic
 
 OLD, NEW = b"earlier page", b"a later one" * 10_000
 # Whether a file system has nameless files (O_TMPFILE in open(2)) and hard links, and by which calls a new file and a replaced one get their names
@@ -53,7 +53,7 @@ class Written(WithPictures):
 
             return call
 
-        with mock.patch.multiple(writing.os, open=opened, **{it: noted(it) for it in ("fsync", "link", "rename", "replace")}):
+        with mock.patch.multiple(atomic.os, open=opened, **{it: noted(it) for it in ("fsync", "link", "rename", "replace")}):
             yield steps
 
     def systems(self):
@@ -65,7 +65,7 @@ class Written(WithPictures):
             return [it for it in SYSTEMS.items() if not it[0][0]]
 
     def replace(self, write=lambda file: file.write(NEW)):
-        writing.replace(self.out, write, lambda head: head == OLD)
+        atomic.replace(self.out, write, lambda head: head == OLD)
 
     def files(self):
         return sorted(os.listdir(self.folder))
@@ -79,7 +79,7 @@ class Written(WithPictures):
         """It has the mode and times of the picture, and no file beside it stays."""
         for (nameless, links), (steps, _) in self.systems():
             with self.system(nameless, links) as found:
-                writing.copy_new(self.source, self.out, os.stat(self.source))
+                atomic.copy_new(self.source, self.out, os.stat(self.source))
             now = os.stat(self.out)
             self.assertEqual((found, read(self.out), stat.S_IMODE(now.st_mode), now.st_mtime, self.files()), (steps, NEW, 0o640, 30, ["out", "source"]))
             os.remove(self.out)
@@ -90,7 +90,7 @@ class Written(WithPictures):
                 made()
                 before = self.out_now()
                 with self.system(nameless, links), self.assertRaises(FileExistsError):
-                    writing.copy_new(self.source, self.out, os.stat(self.source))
+                    atomic.copy_new(self.source, self.out, os.stat(self.source))
                 self.assertEqual((self.out_now(), self.files()), (before, ["out", "source"]))
                 os.remove(self.out)
 
@@ -115,9 +115,9 @@ class Written(WithPictures):
         write(self.out, OLD)
         for (nameless, links), (_, steps) in self.systems():
             for failing in steps:
-                with self.system(nameless, links, failing), self.assertRaisesRegex(writing.NotReplaced, "^input/output error$"):
+                with self.system(nameless, links, failing), self.assertRaisesRegex(atomic.NotReplaced, "^input/output error$"):
                     self.replace()
                 self.assertEqual((read(self.out), self.files()), (OLD, ["out", "source"]), (nameless, links, failing))
-            with self.system(nameless, links), self.assertRaisesRegex(writing.NotReplaced, "^no space left on device$"):
+            with self.system(nameless, links), self.assertRaisesRegex(atomic.NotReplaced, "^no space left on device$"):
                 self.replace(full)
             self.assertEqual((read(self.out), self.files()), (OLD, ["out", "source"]))

@@ -166,7 +166,7 @@ class Packets(unittest.TestCase):
         self.assertEqual(cause(asking, {name: more + b" "}), "ExtensionDamaged")
 
     def test_properties_are_named(self):
-        from exifnorm_pictures import listing
+        from exifnorm_pictures.fields import listing
         from exifnorm_pictures import xmp as reading
 
         def fields(packet):

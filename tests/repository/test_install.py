@@ -373,7 +373,7 @@ class TestPython:
 
     def test_metadata_lists_the_command(self, usr: Tree) -> None:
         code = "import importlib.metadata as m; print(*(it.group + ' ' + it.name + ' ' + it.value for it in m.distribution('exifnorm').entry_points))"
-        assert self.python(usr, "-c", code) == "console_scripts exifnorm-pictures exifnorm_pictures.main:main\n"
+        assert self.python(usr, "-c", code) == "console_scripts exifnorm-pictures exifnorm_pictures.cli.main:main\n"
 
 
 class TestPicturesCommand:
@@ -411,7 +411,8 @@ class TestPicturesCommand:
         another = folder / "another"
         (another / "exifnorm_pictures").mkdir(parents=True)
         (another / "exifnorm_pictures/__init__.py").touch()
-        (another / "exifnorm_pictures/main.py").write_text("def main():\n    print('another version')\n")
+        (another / "exifnorm_pictures/cli/__init__.py").touch()
+        (another / "exifnorm_pictures/cli/main.py").write_text("def main():\n    print('another version')\n")
         said = run(other.at("bin/exifnorm-pictures"), "--version", PYTHONPATH=str(another), PYTHONDONTWRITEBYTECODE="1")
         assert said == f"exifnorm-pictures {VERSION}\n"
 

@@ -1,0 +1,1 @@
+"""The catalogue: a SQLite file with the results for each picture."""

@@ -1,0 +1,164 @@
+"""The record of a picture: its blocks, its unread parts, and the file system's marks that show an edit."""
+
+from __future__ import annotations
+
+import hashlib
+import os
+from dataclasses import dataclass
+from typing import Any, Dict, Iterable, List, NamedTuple, Optional, Sequence, Tuple
+
+from ..compare.verdicts import ABSENT, ACCEPTED, REFUSED, UNREADABLE, Side, side_of
+from ..extract.formats.found import XMP, Blocks, NotRead
+from .blocks import KIND_OF, KINDS, Block, Damaged
+
+_LEAST, _GREATEST = -(1 << 63), (1 << 63) - 1
+
+
+def _in_64_bits(number: int) -> int:
+    """A number as a signed one of 64 bits, as SQLite keeps it: times after the year 2262 and large inodes have more."""
+    return (number - _LEAST) % (1 << 64) + _LEAST
+
+
+class Stamp(NamedTuple):
+    """The marks that show an edit. ctime also shows one that keeps size and mtime, as `exiftool -P` does."""
+
+    size: int
+    modified: int
+    changed: int
+    inode: int
+
+    @classmethod
+    def of(cls, it: os.stat_result) -> "Stamp":
+        marks = (it.st_size, it.st_mtime_ns, it.st_ctime_ns, it.st_ino)
+        if min(marks) >= _LEAST and max(marks) <= _GREATEST:
+            return tuple.__new__(cls, marks)
+        return cls._make(map(_in_64_bits, marks))
+
+
+Digests = Tuple[Optional[str], ...]
+
+
+class Entry(NamedTuple):
+    """The known facts about a picture after it was looked at."""
+
+    path: bytes
+    root: bytes
+    stamp: Optional[Stamp] = None
+    type: str = ""
+    extractor: str = ""
+    problem: Optional[str] = None
+    detail: str = ""
+    blocks: Tuple[Block, ...] = ()
+    not_read: Tuple[NotRead, ...] = ()
+    digests: "Optional[Digests]" = None  # what `digests` returns, if it was already called
+
+    @classmethod
+    def of(cls, path: bytes, root: bytes, stamp: Optional[Stamp], it: Blocks, judged: Sequence[Block] = ()) -> "Entry":
+        """The result for a file."""
+        found = _digests(it.problem, judged, it.not_read)  # here, since several processes look at pictures, and one writes
+        return cls(path, root, stamp, it.type, it.extractor, it.problem, it.detail, tuple(judged), tuple(it.not_read), found)
+
+    @property
+    def state(self) -> str:
+        """One word for the whole picture: a problem, `refused`, `accepted`, or `no block`."""
+        return state_of(self.problem, self.blocks)
+
+
+@dataclass
+class Picture:
+    """A picture as the catalogue keeps it."""
+
+    id: int
+    path: bytes
+    root: bytes
+    type: str
+    extractor: str
+    problem: Optional[str]
+    detail: str
+    size: Optional[int]
+    unread: Optional[str]  # the digest of all unread parts; empty: all was read; None: they can't be compared
+    said: Tuple[Optional[str], ...]  # by KINDS: the digest of the meaning, empty without a block, None if it isn't known
+    octets: Tuple[str, ...]  # by KINDS: the digest of the blocks' bytes, empty without a block
+
+    @property
+    def state(self) -> str:
+        """One word for the whole picture: a problem, `refused`, `accepted`, or `no block`."""
+        if self.problem:
+            return self.problem
+        return REFUSED if None in self.said else ACCEPTED if any(self.said) else "no block"
+
+    def sides(self) -> Dict[str, Side]:
+        """The digest of its meaning, for each kind of block."""
+        found = {}
+        for kind, digest, octets in zip(KINDS, self.said, self.octets):
+            status = ABSENT if digest == "" else ACCEPTED if digest else UNREADABLE if kind == XMP else REFUSED
+            found[kind] = Side(status, digest or "", octets)
+        return found
+
+
+def state_of(problem: Optional[str], blocks: Iterable[Block]) -> str:
+    """A problem, `refused` if a block isn't accepted, `accepted`, or `no block`."""
+    if problem:
+        return problem
+    states = {it.status for it in blocks}
+    return "no block" if not states else ACCEPTED if states == {ACCEPTED} else REFUSED
+
+
+def digests(it: Entry) -> Digests:
+    """The columns exif, iptc, xmp and not_read of a picture, and those of its blocks' octets."""
+    return it.digests or _digests(it.problem, it.blocks, it.not_read)
+
+
+def _digests(problem: Optional[str], blocks: Sequence[Block], not_read: Sequence[NotRead]) -> Digests:
+    if problem:
+        return (None, None, None, None, "", "", "")
+    by_kind: Dict[str, List[Block]] = {kind: [] for kind in KINDS}
+    for it in blocks:
+        by_kind[it.kind].append(it)
+    sides = [side_of(ours) for ours in by_kind.values()]
+    said = [one.digest if one.status == ACCEPTED else "" if one.status == ABSENT else None for one in sides]
+    parts: Optional[str] = ""
+    if not_read:
+        parts = _together(f"{one.what} {one.digest}" for one in not_read) if all(one.digest for one in not_read) else None
+    return (*said, parts, *(one.octets for one in sides))
+
+
+def _together(texts: Iterable[str]) -> str:
+    return hashlib.sha256("\n".join(texts).encode("utf-8", "surrogatepass")).hexdigest()
+
+
+def not_read_of_row(row: Tuple[Any, ...]) -> NotRead:
+    """A part that was not read, of a row `what, digest`."""
+    has(str, *row)
+    return NotRead(*row)
+
+
+def has(kind: type, *values: object) -> None:
+    """Raises `Damaged` if a value of a row isn't of this type."""
+    for it in values:
+        if not isinstance(it, kind):
+            raise Damaged(f"{it!r} is a value of another type")
+
+
+def kind_of(word: str) -> str:
+    """The kind of a block by its word in a catalogue. Raises `Damaged` if there is none."""
+    if word not in KIND_OF:
+        raise Damaged(f"{word!r} is no kind of block")
+    return KIND_OF[word]
+
+
+def picture_of_row(row: Tuple[Any, ...]) -> Picture:
+    """A picture of a row in the order of `store.PICTURE_COLUMNS`."""
+    number, path, root, kind, extractor, problem, detail, size, modified, inode, unread, *by_kind = row
+    has(int, number, *(it for it in (size, modified, inode) if it is not None))
+    has(bytes, path, root)
+    has(str, kind, extractor, detail, *by_kind[3:], *(it for it in (problem, unread, *by_kind[:3]) if it is not None))
+    return Picture(number, path, root, kind, extractor, problem, detail, size, unread, tuple(by_kind[:3]), tuple(by_kind[3:]))
+
+
+def block_of_row(row: Tuple[Any, ...]) -> Block:
+    """A block of a row in the order of `store.BLOCK_COLUMNS`."""
+    number, kind, name, source, extractor, status, digest, cause, place, length, octets = row
+    has(str, kind, name, source, extractor, status, octets, *(it for it in (digest, cause) if it is not None))
+    has(int, number, length, *(it for it in (place,) if it is not None))
+    return Block(kind_of(kind), name, source, extractor, status, digest, cause, place, length, octets)

@@ -1,0 +1,409 @@
+"""The catalogue: a SQLite file with the results for each picture.
+
+A catalogue is written in transactions of many pictures, with a write-ahead log: committed pictures stay if the program is
+killed. Any SQLite tool can read the tables. A file is only written to if its header is a catalogue's.
+"""
+
+from __future__ import annotations
+
+import contextlib
+import os
+import sqlite3
+import stat
+from typing import Any, Callable, Iterable, Iterator, List, NamedTuple, Optional, Sequence, Tuple, TypeVar, overload
+
+from ..cli.signals import Failure
+from ..extract.formats.found import NotRead
+from .blocks import Damaged
+from .records import Entry, Picture, Stamp, digests, has, not_read_of_row, picture_of_row
+
+APPLICATION = 0x45584E50  # 'EXNP', which distinguishes a catalogue from other SQLite files
+VERSION = 2
+CACHE = 32_000  # kB of a catalogue that is written to: digests go into its index in no order
+PATIENCE = 200  # milliseconds that closing waits for other programs; while they read, the write-ahead log stays
+
+_TABLES = """
+CREATE TABLE runs (
+    id INTEGER PRIMARY KEY,
+    started TEXT NOT NULL,          -- UTC
+    ended TEXT,                     -- missing where the run was stopped
+    exiftool TEXT,                  -- versions of the programs
+    exiv2 TEXT
+);
+CREATE TABLE pictures (
+    id INTEGER PRIMARY KEY,
+    path BLOB NOT NULL UNIQUE,      -- absolute, as the file system has it
+    root BLOB NOT NULL,             -- the folder that was indexed
+    size INTEGER,                   -- bytes
+    modified INTEGER,               -- nanoseconds since 1970, in 64 bits
+    changed INTEGER,                -- the same of the last change of the file's status (ctime)
+    inode INTEGER,
+    type TEXT NOT NULL,             -- the format: JPEG, PNG .., or ExifTool's word
+    extractor TEXT NOT NULL,        -- which program extracted the blocks: own, exiftool
+    problem TEXT,                   -- why there are no blocks: Vanished, Moved, Unreadable, NoPicture, ToolFailed ..
+    detail TEXT NOT NULL,
+    exif TEXT,                      -- SHA-256 of what all blocks of a kind mean; empty: no such block; NULL: refused or not known
+    iptc TEXT,
+    xmp TEXT,
+    not_read TEXT,                  -- SHA-256 of what was not read; empty: all was read; NULL: it can't be compared
+    exif_octets TEXT NOT NULL,      -- SHA-256 of the blocks of a kind as they are in the file; empty if there is none
+    iptc_octets TEXT NOT NULL,
+    xmp_octets TEXT NOT NULL,
+    run INTEGER NOT NULL REFERENCES runs(id)
+);
+CREATE TABLE blocks (
+    picture INTEGER NOT NULL REFERENCES pictures(id) ON DELETE CASCADE,
+    number INTEGER NOT NULL,        -- the order in the file
+    kind TEXT NOT NULL,             -- exif, iptc, xmp
+    name TEXT NOT NULL,             -- Exif, IPTC, XMP; of further blocks a name of their own
+    source TEXT NOT NULL,           -- its position in the file
+    extractor TEXT NOT NULL,        -- own, exiftool, exiv2
+    status TEXT NOT NULL,           -- accepted, refused, unreadable, too long, failed
+    digest TEXT,                    -- SHA-256 of the normal form, or of the statements of XMP; only of an accepted block
+    cause TEXT,                     -- of a block that isn't accepted: docs/FORMAT.md, section 5, or a cause of XMP
+    place INTEGER,
+    length INTEGER NOT NULL,        -- bytes of the block
+    octets TEXT NOT NULL,           -- SHA-256 of the block as it is in the file
+    fields BLOB,                    -- its fields: JSON, compressed by zlib if it is long
+    PRIMARY KEY (picture, number)
+) WITHOUT ROWID;
+CREATE TABLE not_read (
+    picture INTEGER NOT NULL REFERENCES pictures(id) ON DELETE CASCADE,
+    number INTEGER NOT NULL,
+    what TEXT NOT NULL,             -- a part of the file that was not read
+    digest TEXT NOT NULL,           -- SHA-256 of its bytes; empty: not known
+    PRIMARY KEY (picture, number)
+) WITHOUT ROWID;
+CREATE INDEX pictures_by_content ON pictures (exif, iptc, xmp, not_read) WHERE problem IS NULL;
+"""
+
+_OCTETS = "exif_octets, iptc_octets, xmp_octets"
+PICTURE_COLUMNS = f"id, path, root, type, extractor, problem, detail, size, modified, inode, not_read, exif, iptc, xmp, {_OCTETS}"
+BLOCK_COLUMNS = "number, kind, name, source, extractor, status, digest, cause, place, length, octets"
+ALL_PICTURE_COLUMNS = f"path, root, size, modified, changed, inode, type, extractor, problem, detail, exif, iptc, xmp, not_read, {_OCTETS}"
+# A row that replaces another of the same path takes the other's blocks and parts with it, by ON DELETE CASCADE.
+_PUT_PICTURE = f"INSERT OR REPLACE INTO pictures (id, {ALL_PICTURE_COLUMNS}, run) VALUES (?{', ?' * 18})"
+_PUT_BLOCK = f"INSERT INTO blocks (picture, {BLOCK_COLUMNS}, fields) VALUES (?{', ?' * 12})"
+_ADD_ROWS = (
+    "DELETE FROM main.pictures WHERE path IN (SELECT path FROM {other}.pictures)",
+    f"INSERT INTO main.pictures (id, {ALL_PICTURE_COLUMNS}, run)"
+    f" SELECT id + :pictures, {ALL_PICTURE_COLUMNS}, run + :runs FROM {{other}}.pictures",
+    f"INSERT INTO main.blocks (picture, {BLOCK_COLUMNS}, fields) SELECT picture + :pictures, {BLOCK_COLUMNS}, fields FROM {{other}}.blocks",
+    "INSERT INTO main.not_read SELECT picture + :pictures, number, what, digest FROM {other}.not_read",
+)
+# The same tables without keys, for rows that are only written and read once
+_ROWS = (
+    f"CREATE TABLE pictures (id, {ALL_PICTURE_COLUMNS}, run)", f"CREATE TABLE blocks (picture, {BLOCK_COLUMNS}, fields)",
+    "CREATE TABLE not_read (picture, number, what, digest)",
+)  # fmt: skip
+KEPT_BEFORE = ("Vanished", "Unreadable")  # what was known of a picture stays, if it can't be read now
+
+Run = Tuple[str, Optional[str], Optional[str], Optional[str]]  # when it began and ended, ExifTool's version, exiv2's
+Made = TypeVar("Made")
+
+
+class NoCatalogue(Failure):
+    """The file is missing, is no catalogue of this version, or is damaged."""
+
+
+class Known(NamedTuple):
+    """The known facts about a picture before it is looked at."""
+
+    id: int
+    stamp: Optional[Stamp]
+    problem: Optional[str]
+
+
+def head_is_ours(head: bytes) -> bool:
+    """Whether the first 100 bytes are those of a catalogue, of any version."""
+    return head[:16] == b"SQLite format 3\0" and int.from_bytes(head[68:72], "big") == APPLICATION
+
+
+def _check_head(name: str, make: bool) -> None:
+    """Raises `NoCatalogue` if the header isn't a catalogue's. It reads only the header and writes nothing, not even a journal."""
+    if not name:
+        raise NoCatalogue("the catalogue's name is empty")
+    try:
+        kind = os.stat(name).st_mode
+    except FileNotFoundError:
+        if make:
+            return
+        raise NoCatalogue(f"there is no catalogue {name}") from None
+    if not stat.S_ISREG(kind):
+        raise NoCatalogue(f"{name} is no catalogue: it is no regular file")
+    with open(name, "rb") as file:
+        head = file.read(100)
+    if not head and make:
+        return
+    if not head_is_ours(head):
+        raise NoCatalogue(f"{name} is no catalogue")
+    version = int.from_bytes(head[60:64], "big")
+    if version < VERSION:
+        raise NoCatalogue(
+            f"{name} is a catalogue of an earlier release (version {version}, here {VERSION}), whose answers were about fewer blocks."
+            " Make a new one: exifnorm-pictures index FOLDER --catalogue NEW"
+        )
+    if version > VERSION:
+        raise NoCatalogue(f"{name} is a catalogue of a later release (version {version}, here {VERSION})")
+
+
+_PLAIN = b"/-._~0123456789ABCDEFGHIJKLMNOPQRSTUVWXYZabcdefghijklmnopqrstuvwxyz"  # bytes of a path that stay as they are in a URI
+
+
+def address(name: str, mode: str = "ro") -> str:
+    """The file as a URI, which SQLite can't take for anything else.
+
+    >>> address("/a b?c/\u20ac")
+    'file:/a%20b%3Fc/%E2%82%AC?mode=ro'
+    """
+    octets = os.fsencode(os.path.abspath(name))
+    return f"file:{''.join(chr(it) if it in _PLAIN else f'%{it:02X}' for it in octets)}?mode={mode}"
+
+
+class Catalogue:
+    """A catalogue that is open. Use it in a `with`."""
+
+    def __init__(self, name: str, make: bool = False) -> None:
+        """Opens a catalogue to read it, or with `make` to write to it; then a missing one is made. Raises `NoCatalogue`."""
+        self.name = name
+        self._made = make
+        _check_head(name, make)
+        with self.guarded():
+            self.base = sqlite3.connect(address(name, "rwc" if make else "ro"), timeout=60, isolation_level=None, uri=True)
+            self.base.execute("PRAGMA foreign_keys = ON")
+            if make:
+                self._prepare()
+            else:
+                self._check_tables()
+
+    def _prepare(self) -> None:
+        """Creates missing tables; if two runs begin at once, one of them does."""
+        self.base.execute("BEGIN IMMEDIATE")
+        if not self.base.execute("SELECT count(*) FROM sqlite_master").fetchone()[0]:
+            self.base.execute(f"PRAGMA application_id = {APPLICATION}")
+            self.base.execute(f"PRAGMA user_version = {VERSION}")
+            for statement in _TABLES.split(";\n"):
+                self.base.execute(statement)
+        self._check_tables()
+        self.base.execute("COMMIT")
+        self.base.execute("PRAGMA journal_mode = WAL")
+        self.base.execute("PRAGMA synchronous = FULL")
+        self.base.execute(f"PRAGMA cache_size = -{CACHE}")
+
+    def _check_tables(self) -> None:
+        self.base.execute("SELECT count(*) FROM (SELECT 1 FROM pictures, blocks, not_read, runs LIMIT 1)").fetchone()
+
+    @contextlib.contextmanager
+    def guarded(self) -> Iterator[None]:
+        """Raises `NoCatalogue` with the catalogue's name for an error of SQLite, and for a value that no catalogue has."""
+        try:
+            yield
+        except sqlite3.ProgrammingError:  # a wrong call of SQLite, which says nothing about the catalogue
+            raise
+        except (sqlite3.DatabaseError, Damaged) as error:
+            raise self.failure(error) from error
+
+    def failure(self, error: Exception) -> NoCatalogue:
+        """The error of this catalogue for one of SQLite, or for a value. Only a file that SQLite can't read is damaged, not a full disk."""
+        is_damaged = isinstance(error, Damaged) or type(error) is sqlite3.DatabaseError
+        return NoCatalogue(f"{self.name}{' is damaged' * is_damaged}: {error}")
+
+    def __enter__(self) -> "Catalogue":
+        return self
+
+    def __exit__(self, *_: object) -> None:
+        self.close()
+
+    def close(self) -> None:
+        """Closes the catalogue. All committed data are then in its one file, which can be read in a read-only folder."""
+        if self._made:
+            with contextlib.suppress(sqlite3.Error):  # another program has it open, or the disk is full
+                self.base.execute(f"PRAGMA busy_timeout = {PATIENCE}")
+                self.base.execute("PRAGMA journal_mode = DELETE")
+        self.base.close()
+
+    # Writing
+
+    def begin_run(self, started: str) -> int:
+        """A new run; its number."""
+        with self.guarded():
+            return int(self.base.execute("INSERT INTO runs (started) VALUES (?)", (started,)).lastrowid or 0)
+
+    def set_versions(self, run: int, exiftool: Optional[str], exiv2: Optional[str]) -> None:
+        """Keeps with which programs a run takes blocks."""
+        with self.guarded():
+            self.base.execute("UPDATE runs SET exiftool = ?, exiv2 = ? WHERE id = ?", (exiftool, exiv2, run))
+
+    def end_run(self, run: int, ended: str) -> None:
+        """Records that a run is complete."""
+        with self.guarded():
+            self.base.execute("UPDATE runs SET ended = ? WHERE id = ?", (ended, run))
+
+    @contextlib.contextmanager
+    def transaction(self) -> Iterator[None]:
+        """All that is written inside is kept, or nothing of it."""
+        with self.guarded():
+            self.base.execute("BEGIN IMMEDIATE")
+            try:
+                yield
+                self.base.execute("COMMIT")
+            except BaseException:
+                with contextlib.suppress(sqlite3.Error):  # a full disk has rolled it back already
+                    self.base.execute("ROLLBACK")
+                raise
+
+    def put(self, run: int, entries: Iterable[Entry], files: Sequence[str] = ()) -> None:
+        """Keeps some pictures, and those of `files`, which `make_rows` began, in one transaction; the last one with a path counts."""
+        with contextlib.ExitStack() as attached:
+            names = [attached.enter_context(self.attached(name, f"batch{number}")) for number, name in enumerate(files)]
+            with self.transaction():
+                for other in names:
+                    self.add_rows(other, run)
+                new = [it for it in {it.path: it for it in entries}.values() if not self._is_kept(run, it)]
+                put_rows(self.base, run, 1 + self.greatest("pictures"), new)
+
+    @contextlib.contextmanager
+    def attached(self, file: str, other: str) -> Iterator[str]:
+        """Another SQLite file under a name, while it is read."""
+        with self.guarded():
+            self.base.execute(f"ATTACH ? AS {other}", (address(file),))
+        try:
+            yield other
+        finally:
+            with self.guarded():
+                self.base.execute(f"DETACH {other}")
+
+    def add_rows(self, other: str, runs: int) -> None:
+        """Adds the pictures of an attached file, by SQLite alone; they replace those with the same paths.
+
+        Their numbers are raised by the greatest one here, so that no row is looked up by itself, and those of their runs by `runs`.
+        """
+        offsets = {"pictures": self.greatest("pictures"), "runs": runs}
+        for step in _ADD_ROWS:
+            self.base.execute(step.format(other=other), offsets)
+
+    def greatest(self, table: str) -> int:
+        """The greatest number of a row."""
+        return int(self.base.execute(f"SELECT ifnull(max(id), 0) FROM main.{table}").fetchone()[0])
+
+    def _is_kept(self, run: int, it: Entry) -> bool:
+        """Whether a picture that can't be read now was known before. Its earlier results are kept."""
+        if it.problem in KEPT_BEFORE:
+            words = (it.problem, it.detail, run, it.path)
+            return self.base.execute("UPDATE pictures SET problem = ?, detail = ?, run = ? WHERE path = ?", words).rowcount > 0
+        return False
+
+    # Reading
+
+    @contextlib.contextmanager
+    def reading(self) -> Iterator[None]:
+        """All that is read inside is of one moment, and the file is locked once for all of it."""
+        with self.guarded():
+            self.base.execute("BEGIN")
+        try:
+            yield
+        finally:
+            with contextlib.suppress(sqlite3.Error):
+                self.base.execute("COMMIT")
+
+    @overload
+    def rows(self, query: str, values: Sequence[object] = ()) -> Iterator[Any]:
+        ...
+
+    @overload
+    def rows(self, query: str, values: Sequence[object], made: Callable[..., Made]) -> Iterator[Made]:
+        ...
+
+    def rows(self, query: str, values: Sequence[object] = (), made: Callable[..., Any] = tuple) -> Iterator[Any]:
+        """The result of `made` for each row of a query."""
+        with self.guarded():  # an error of the caller isn't raised in here
+            for row in self.base.execute(query, values):
+                yield made(row)
+
+    def runs(self) -> List[Run]:
+        """Each run, the first one first."""
+        return list(self.rows("SELECT started, ended, exiftool, exiv2 FROM runs ORDER BY id", (), _run_of_row))
+
+    def known(self, path: bytes) -> Optional[Known]:
+        """The record of one picture."""
+        query = "SELECT id, size, modified, changed, inode, problem FROM pictures WHERE path = ?"
+        with self.guarded():
+            row = self.base.execute(query, (path,)).fetchone()
+        return None if row is None else _known(row)
+
+    def is_empty(self) -> bool:
+        """Whether no picture is known, as in a first run."""
+        return next(self.rows("SELECT 1 FROM pictures LIMIT 1"), None) is None
+
+    def below(self, folder: bytes) -> Iterator[Tuple[int, bytes, Optional[str]]]:
+        """The number, path and problem of each picture below a folder, by path."""
+        start = folder.rstrip(b"/") + b"/"
+        yield from self.rows("SELECT id, path, problem FROM pictures WHERE path > ? AND path < ? ORDER BY path", (start, start[:-1] + b"0"))
+
+    def pictures(self, only: Optional[str] = None) -> Iterator[Picture]:
+        """Each picture, by path; `only` is a table of paths, as `choose` makes it."""
+        where = f"WHERE path IN {only}" if only else ""
+        yield from self.rows(f"SELECT {PICTURE_COLUMNS} FROM pictures {where} ORDER BY path", (), picture_of_row)
+
+    def not_read_of(self, picture: Picture) -> List[NotRead]:
+        """The parts of a picture that were not read."""
+        query = "SELECT what, digest FROM not_read WHERE picture = ? ORDER BY number"
+        return list(self.rows(query, (picture.id,), not_read_of_row))
+
+    def choose(self, paths: Iterable[bytes]) -> str:
+        """A temporary table of paths; its name."""
+        with self.guarded():
+            self.base.execute("CREATE TEMP TABLE chosen (path BLOB PRIMARY KEY) WITHOUT ROWID")
+            self.base.executemany("INSERT OR IGNORE INTO chosen VALUES (?)", ((it,) for it in paths))
+        return "temp.chosen"
+
+    def roots(self) -> List[bytes]:
+        """Each folder that was indexed."""
+        return list(self.rows("SELECT DISTINCT root FROM pictures ORDER BY root", (), root_of_row))
+
+    def copy_to(self, name: str) -> None:
+        """Copies the whole catalogue to another file."""
+        with self.guarded():
+            other = sqlite3.connect(name)
+            try:
+                self.base.backup(other)
+                other.execute("PRAGMA journal_mode = DELETE")
+            finally:
+                other.close()
+
+
+def make_rows(base: sqlite3.Connection) -> None:
+    """Makes tables in a new file that `put_rows` fills and a catalogue takes over. A file that is cut short is of no use to anybody."""
+    for it in ("PRAGMA journal_mode = OFF", "PRAGMA synchronous = OFF", *_ROWS):
+        base.execute(it)
+
+
+def put_rows(base: sqlite3.Connection, run: int, first: int, entries: Iterable[Entry]) -> None:
+    """Adds rows for some pictures, which get the numbers from `first` on."""
+    numbered = list(enumerate(entries, first))
+    base.executemany(_PUT_PICTURE, [(number, *_row(it), run) for number, it in numbered])
+    base.executemany(_PUT_BLOCK, [(number, at, *block.row()) for number, it in numbered for at, block in enumerate(it.blocks)])
+    parts = [(number, at, part.what, part.digest) for number, it in numbered for at, part in enumerate(it.not_read)]
+    base.executemany("INSERT INTO not_read VALUES (?, ?, ?, ?)", parts)
+
+
+def _row(it: Entry) -> Tuple[object, ...]:
+    """A picture as a row, without its number and run."""
+    stamp = it.stamp or (None, None, None, None)
+    return (it.path, it.root, *stamp, it.type, it.extractor, it.problem, it.detail, *digests(it))
+
+
+def root_of_row(row: Tuple[bytes]) -> bytes:
+    """The folder of a row `root`."""
+    has(bytes, row[0])
+    return row[0]
+
+
+def _run_of_row(row: Run) -> Run:
+    has(str, *(it for it in row if it is not None))
+    return row
+
+
+def _known(row: Tuple[int, Optional[int], int, int, int, Optional[str]]) -> Known:
+    number, size, modified, changed, inode, problem = row
+    return Known(number, None if size is None else Stamp(size, modified, changed, inode), problem)

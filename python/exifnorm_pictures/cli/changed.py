@@ -1,0 +1,158 @@
+"""The commands about two states of an archive, or one of them: `changed` and `report`."""
+
+from __future__ import annotations
+
+import argparse
+import contextlib
+import json
+import os
+from collections import Counter
+from typing import BinaryIO, List, Optional
+
+from ..catalogue.blocks import WORDS
+from ..catalogue.store import Catalogue, NoCatalogue
+from ..compare import changed as changes
+from ..extract import programs
+from ..files import atomic, tempdir
+from ..scan.batches import How
+from ..scan.index import Asked, index
+from .output import chosen_paths, closed_folder, from_list, output
+from .parser import parser
+from .texts import Members, path_members, shown_path
+
+DONE, DIFFERENT, OPEN, FAILED = 0, 1, 2, 4
+
+
+# changed
+
+
+def changed_(asked: argparse.Namespace) -> int:
+    """Lists the differences between two states."""
+    names = from_list(asked)
+    only = None if names is None else {*names, *(os.path.abspath(it) for it in names)}
+    counts: "Counter[str]" = Counter()
+    with contextlib.ExitStack() as open_:
+        before, after = (open_.enter_context(_side(it, asked, open_)) for it in (asked.before, asked.after))
+        equal = None if asked.json else open_.enter_context(contextlib.closing(changes.Equal()))
+        for it in changes.changed(before, after, counts, only, asked.all):
+            if it.result in changes.UNCHANGED and not asked.all:
+                continue
+            if equal is None:
+                print(json.dumps(changed_members(it)))
+            else:
+                equal.add(json.dumps(_said(it)), it.name, it.moved_to is not None)
+        if equal is not None:
+            _print_equal(equal)
+    summary = ", ".join(f"{counts[it]} {it}" for it in changes.RESULTS if counts[it]) or "no picture"
+    output(asked, [summary], {"counts": dict(counts)})
+    return status_of(counts)
+
+
+def status_of(counts: "Counter[str]") -> int:
+    """The greatest status of some results."""
+    if counts[changes.NOT_READ]:
+        return FAILED
+    if any(counts[it] for it in changes.OPEN):
+        return OPEN
+    return DIFFERENT if any(counts[it] for it in changes.DIFFERENCES) else DONE
+
+
+def _side(name: str, asked: argparse.Namespace, open_: contextlib.ExitStack) -> Catalogue:
+    """A catalogue, or a new one of a folder."""
+    if not os.path.isdir(name):
+        return Catalogue(name)
+    room = open_.enter_context(tempdir.room())
+    made = Catalogue(os.path.join(room, "catalogue"), make=True)
+    try:
+        closed: List[str] = []
+        index(Asked([os.fsencode(name)], quiet=True, how=How.asked(asked, room, closed_folder), say=closed.append), made)
+        if closed:  # its pictures would seem to be missing
+            raise NoCatalogue("; ".join(closed))
+    except BaseException:
+        made.close()
+        raise
+    return made
+
+
+def _said(it: changes.Compared) -> List[object]:
+    """The changes of a picture, without its name."""
+    note = f" ({it.note})" if it.note else ""
+    to = f" to {shown_path(it.moved_to)}" if it.moved_to is not None else ""
+    return [bool(it.changes), f"{it.result}{to}{note}", [change_line(one.name, one.before, one.after) for one in it.changes]]
+
+
+def change_line(name: str, before: Optional[str], after: Optional[str]) -> str:
+    """A field that differs, in a line: `~ main:Artist: "A" -> "B"`."""
+    sign = "+" if before is None else "-" if after is None else "~"
+    return f"{sign} {name}: {before or '-'} -> {after or '-'}"
+
+
+def _print_equal(equal: changes.Equal) -> None:
+    """Pictures with equal changes together; the others a head each."""
+    for said, count, names in equal.all():
+        grouped, head, lines = json.loads(said)
+        if grouped and count > 1:
+            print(f"{count:,} pictures: {head}")
+            for line in [f"  {it} in {count:,} pictures" for it in lines]:
+                print(line)
+            for name in names:
+                print(f"    {shown_path(name)}")
+        else:
+            for name in names:
+                print(f"{shown_path(name)}: {head}")
+                for line in lines:
+                    print(f"  {line}")
+
+
+def changed_members(it: changes.Compared) -> Members:
+    """A picture that was compared as a JSON object."""
+    found: Members = {**path_members(it.name), "result": it.result, "note": it.note}
+    if it.moved_to is not None:
+        found["moved_to"] = path_members(it.moved_to)
+    found["kinds"] = {WORDS[one.kind]: one.result for one in it.verdicts}
+    return {**found, "fields": [{"name": one.name, "before": one.before, "after": one.after} for one in it.changes]}
+
+
+# report
+
+
+def report_(asked: argparse.Namespace) -> int:
+    """Writes one page about a catalogue, or the same as JSON."""
+    if not asked.html and not asked.json:
+        parser().error("report: give --html PAGE, --json, or both")
+    from ..extract import session  # which take long to import
+    from ..report import page  # which take long to import
+
+    chosen = chosen_paths(asked)
+    with contextlib.ExitStack() as open_:
+        catalogue = open_.enter_context(Catalogue(asked.catalogue))
+        old = open_.enter_context(Catalogue(asked.since)) if asked.since else None
+        room = open_.enter_context(tempdir.room())
+        about = page.About(catalogue, old, chosen)
+        if asked.html:
+            programs.set_limit(asked.limit)
+            session.begin(room)
+            open_.callback(session.finish)
+            text = page.page(page.gather(about), asked.title)
+            _write_page(asked, text.encode("utf-8", "backslashreplace"))
+        if asked.json:
+            for members in page.members(about):
+                print(json.dumps(members))
+    return DONE
+
+
+def _is_page(head: bytes) -> bool:
+    return head[:14].lower() == b"<!doctype html"
+
+
+def _write_page(asked: argparse.Namespace, octets: bytes) -> None:
+    try:
+        kept = (asked.catalogue, asked.since) if asked.since else (asked.catalogue,)
+        atomic.replace(os.fsencode(asked.html), lambda file: _write(file, octets), _is_page, kept)
+    except atomic.NotReplaced as error:
+        raise atomic.NotReplaced(f"{asked.html} isn't written: {error}") from None
+
+
+def _write(file: BinaryIO, octets: bytes) -> None:
+    file.write(octets)
+

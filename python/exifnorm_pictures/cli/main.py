@@ -1,0 +1,97 @@
+"""The command `exifnorm-pictures`: runs one of its commands, and ends with the documented status."""
+
+from __future__ import annotations
+
+import gc
+import importlib
+import sys
+from typing import Optional, Sequence
+
+from . import signals
+from .parser import parser
+from .signals import FAILED
+from .texts import described, reason, shown_path
+
+STOPPED = 130
+COLLECTED = 50_000  # objects after which Python looks for rings of objects: what a picture needs makes none, so mostly it looks in vain
+
+# The function of each command, with its module: importing the modules of all commands would take longer than most commands do.
+_CALLS = {
+    "index": ("index", "index_"),
+    "merge": ("index", "merge_"),
+    "same": ("same", "same"),
+    "changed": ("changed", "changed_"),
+    "report": ("changed", "report_"),
+    "show": ("show", "show"),
+    "captions": ("show", "captions"),
+    "explain": ("show", "explain_"),
+    "mend": ("show", "mend_"),
+}
+_OTHERS = (("exifnorm", "LibraryMissing"), ("sqlite3", "OperationalError"))  # errors of other packages whose texts are for people
+
+
+def main(words: Optional[Sequence[str]] = None) -> int:
+    """Runs the command; its status."""
+    try:
+        signals.ready_streams()
+        signals.heed_signals()
+        status = _run(words)
+        sys.stdout.flush()
+        return status
+    except signals.ClosedOutput as error:
+        return _failed(str(error), error.status)
+    except signals.Stopped as stopped:
+        signals.end_children()
+        signals.drop(sys.stdout)
+        signals.end_by(stopped.number)
+        return 128 + stopped.number
+    except OSError as error:  # standard output, at the last flush
+        return _output_failed(error)
+
+
+def _run(words: Optional[Sequence[str]]) -> int:
+    try:
+        signals.set_debug(False)
+        asked = parser().parse_args(words)
+        signals.set_debug(asked.debug)
+        module, function = _CALLS[asked.command]
+        call = getattr(importlib.import_module(f".{module}", __package__), function)
+        gc.freeze()
+        gc.set_threshold(COLLECTED)
+        return int(call(asked))
+    except KeyboardInterrupt:
+        signals.say("exifnorm-pictures: stopped; the same command goes on from there")
+        return STOPPED
+    except MemoryError:
+        return _failed("out of memory")
+    except Exception as error:
+        return _failed_by(error)
+
+
+def _failed_by(error: Exception) -> int:
+    if isinstance(error, signals.Failure):
+        return _failed(str(error), error.status)
+    if _is_expected(error):
+        return _failed(str(error))
+    if not isinstance(error, OSError):
+        signals.trace(error)
+        return _failed(f"an internal error, please report it: {described(error)}")
+    if error.filename is None:  # of standard output: a process that can't be started is `programs.Failed`
+        return _output_failed(error)
+    return _failed(f"{shown_path(error.filename)}: {reason(error)}")
+
+
+def _is_expected(error: Exception) -> bool:
+    """Whether an error is one of `_OTHERS`. It can't be if its package wasn't imported."""
+    return any(module in sys.modules and isinstance(error, getattr(sys.modules[module], name)) for module, name in _OTHERS)
+
+
+def _failed(text: str, status: int = FAILED) -> int:
+    signals.say(f"exifnorm-pictures: {text}")
+    return status
+
+
+def _output_failed(error: OSError) -> int:
+    """Standard output can't be written to. If its reader has gone, no message is printed."""
+    signals.drop(sys.stdout)
+    return FAILED if isinstance(error, BrokenPipeError) else _failed(f"standard output: {reason(error)}")

@@ -1,0 +1,185 @@
+"""The arguments of the command line, and the text of `--help`."""
+
+from __future__ import annotations
+
+import argparse
+import sys
+from typing import IO, Callable, NoReturn, Optional, Tuple
+
+from ..catalogue.blocks import KIND_OF
+from .signals import REFUSED_WORDS
+
+SECONDS = 60.0  # that a program may take for one file
+
+_STATUSES = """Statuses:
+  0    success (index: also if pictures are refused, which the catalogue records)
+  1    different (changed: something differs, was moved or is missing; mend: the copy differs in a printed value)
+  2    not comparable (changed, show, captions, explain: a block is refused or unreadable; changed: a part of a picture
+       wasn't read; mend: no remedy worked)
+  3    bad arguments
+  4    a file, a folder, a program, a stream or the catalogue failed; the other pictures were still looked at
+  130  stopped by the keyboard; reported results are kept, and the same command continues from there
+If several apply, the status is the greatest of them. SIGTERM and SIGHUP end the command by that signal.
+
+A file that can't be read, is gone, is no picture or has no block is reported in a line, and the other files are still looked
+at. In names, control characters and undecodable bytes are escaped. With --json each line is one object; it has the name as
+"path", and also as "path_hex" if the name is no UTF-8.
+
+Two Exif blocks, or two IPTC records, mean the same if their normal forms are equal, which is proved. XMP is compared by its
+statements, which is tested, and not proved. ExifTool reads the formats that have no reader here (Debian: libimage-exiftool-perl)."""
+
+
+class _Parser(argparse.ArgumentParser):
+    """A parser that ends with the status of refused arguments."""
+
+    def error(self, message: str) -> NoReturn:
+        self.print_usage(sys.stderr)
+        self.exit(REFUSED_WORDS, f"{self.prog}: {message}\n")
+
+    def exit(self, status: int = 0, message: Optional[str] = None) -> NoReturn:
+        """Ends with this status. It flushes the output of --help before, so that a failed write is reported."""
+        sys.stdout.flush()
+        super().exit(status, message)
+        raise SystemExit(status)
+
+    def _print_message(self, message: str, file: Optional[IO[str]] = None) -> None:
+        """Writes a message. argparse ignores a failed write: on standard output it must be reported."""
+        if file is sys.stdout:
+            file.write(message)
+        else:
+            super()._print_message(message, file)
+
+
+class _Version(argparse.Action):
+    """Prints the version of this command and of the library, and ends."""
+
+    def __call__(self, whole: argparse.ArgumentParser, *_: object) -> None:
+        import exifnorm
+
+        print(f"exifnorm-pictures {exifnorm.version()}")
+        whole.exit()
+
+
+def parser() -> argparse.ArgumentParser:
+    """The parser of the arguments."""
+    whole = _Parser(
+        prog="exifnorm-pictures",
+        description="Compares the Exif, IPTC and XMP metadata of many pictures: finds pictures that mean the same, lists changed"
+        " pictures with their fields, and explains and mends refused ones.",
+        epilog=_STATUSES,
+        formatter_class=argparse.RawDescriptionHelpFormatter,
+    )
+    whole.add_argument("--version", action=_Version, nargs=0, help="the version")
+    commands = whole.add_subparsers(dest="command", metavar="COMMAND", required=True)
+    for name, words, build in _COMMANDS:
+        one = commands.add_parser(name, help=words, description=words[0].upper() + words[1:] + ".", epilog=_STATUSES,
+                                  formatter_class=argparse.RawDescriptionHelpFormatter)  # fmt: skip
+        build(one)
+        one.add_argument("--json", action="store_true", help="print one JSON object for each line")
+        one.add_argument("--debug", action="store_true", help="print the traceback of an internal error, as EXIFNORM_DEBUG=1 does")
+        if name != "merge":
+            one.add_argument("--files-from", metavar="LIST", help="read names from the file LIST, - for standard input: one for each line")
+            one.add_argument("-0", "--null", action="store_true", help="the names in LIST end with NUL, as from find -print0")
+    return whole
+
+
+def _positive(text: str) -> int:
+    try:
+        number = int(text)
+    except ValueError:
+        raise argparse.ArgumentTypeError(f"{text} is no whole number") from None
+    if number < 1:
+        raise argparse.ArgumentTypeError(f"{text} is less than 1")
+    return number
+
+
+def _seconds(text: str) -> float:
+    try:
+        number = float(text)
+    except ValueError:
+        number = 0.0
+    if not 0 < number < 1e6:
+        raise argparse.ArgumentTypeError(f"{text} is no number of seconds")
+    return number
+
+
+def _name(text: str) -> str:
+    if not text or "\0" in text:
+        raise argparse.ArgumentTypeError("a name is empty")
+    return text
+
+
+def _limit_arguments(it: argparse.ArgumentParser) -> None:
+    it.add_argument("--limit", type=_seconds, default=SECONDS, metavar="SECONDS",
+                    help=f"time limit of ExifTool for a file ({SECONDS:g})")  # fmt: skip
+
+
+def _looking_arguments(it: argparse.ArgumentParser) -> None:
+    _limit_arguments(it)
+    it.add_argument("--whole", action="store_true", help="read every byte of a JPEG, not only its head and tail")
+
+
+def _many_arguments(it: argparse.ArgumentParser) -> None:
+    _looking_arguments(it)
+    it.add_argument("--jobs", type=_positive, default=0, metavar="N", help="processes that look at pictures (as many as processors)")
+    it.add_argument("--quiet", action="store_true", help="no progress on standard error")
+
+
+def _index_arguments(it: argparse.ArgumentParser) -> None:
+    it.add_argument("folders", nargs="*", type=_name, metavar="FOLDER", help="a folder, with all below it, or a picture")
+    it.add_argument("--catalogue", required=True, type=_name, metavar="FILE", help="the catalogue; created if it is missing")
+    it.add_argument("--keep-old", type=_name, metavar="OLD", help="first copy the catalogue to OLD, for changed and report --since")
+    it.add_argument("--again", action="store_true", help="look at all pictures, even if they haven't changed")
+    it.add_argument("--scheduler", metavar="tcp://HOST:PORT", help="look at the pictures on the workers of this Dask cluster")
+    it.add_argument("--elsewhere", type=_name, metavar="PATH", help="the path of FOLDER on the workers")
+    _many_arguments(it)
+
+
+def _merge_arguments(it: argparse.ArgumentParser) -> None:
+    it.add_argument("catalogues", nargs="+", type=_name, metavar="CATALOGUE", help="a catalogue; the last one with a picture counts")
+    it.add_argument("--catalogue", required=True, type=_name, metavar="ALL", help="the catalogue to write; created if it is missing")
+
+
+def _same_arguments(it: argparse.ArgumentParser) -> None:
+    it.add_argument("--catalogue", required=True, type=_name, metavar="FILE")
+    it.add_argument("--kind", choices=("all", *KIND_OF), default="all", help="the blocks that must mean the same (all)")
+
+
+def _changed_arguments(it: argparse.ArgumentParser) -> None:
+    it.add_argument("before", type=_name, metavar="BEFORE", help="a catalogue or a folder")
+    it.add_argument("after", type=_name, metavar="AFTER", help="a catalogue or a folder")
+    it.add_argument("--all", action="store_true", help="also list pictures that mean the same, or are refused in the same bytes")
+    _many_arguments(it)
+
+
+def _pictures_arguments(it: argparse.ArgumentParser) -> None:
+    it.add_argument("pictures", nargs="*", type=_name, metavar="PICTURE")
+    it.add_argument("--block", action="store_true", help="each PICTURE is a block that was extracted before")
+    _looking_arguments(it)
+
+
+def _report_arguments(it: argparse.ArgumentParser) -> None:
+    it.add_argument("--catalogue", required=True, type=_name, metavar="FILE")
+    it.add_argument("--since", type=_name, metavar="OLD", help="an older catalogue: also list the changes")
+    it.add_argument("--html", type=_name, metavar="PAGE", help="the page to write")
+    it.add_argument("--title", default="Pictures and their metadata", help="the page's title")
+    _limit_arguments(it)
+
+
+def _mend_arguments(it: argparse.ArgumentParser) -> None:
+    it.add_argument("names", nargs="+", type=_name, metavar="PICTURE OUT",
+                    help="the picture and the copy; with --files-from only a folder OUT")  # fmt: skip
+    _limit_arguments(it)
+
+
+_COMMANDS: Tuple[Tuple[str, str, Callable[[argparse.ArgumentParser], None]], ...] = (
+    ("index", "look at all new and changed pictures, and keep their metadata in a catalogue", _index_arguments),
+    ("merge", "join catalogues of several folders or machines", _merge_arguments),
+    ("same", "list groups of pictures that mean the same", _same_arguments),
+    ("changed", "list the differences between two catalogues or folders, with the fields", _changed_arguments),
+    ("show", "print the fields of pictures", _pictures_arguments),
+    ("captions", "print captions, names, keywords and rights of pictures", _pictures_arguments),
+    ("explain", "explain why a block is refused, and name remedies", _pictures_arguments),
+    ("report", "write one page about a catalogue", _report_arguments),
+    ("mend", "write a copy of a picture whose block is accepted", _mend_arguments),
+)

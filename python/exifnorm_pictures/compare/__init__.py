@@ -1,0 +1,1 @@
+"""What is the same and what differs between pictures and between catalogues."""

@@ -1,0 +1,67 @@
+"""Pictures that are gone and are found under another name: recognised by their meaning, and by the file system's marks."""
+
+from __future__ import annotations
+
+import os
+from typing import Collection, Dict, Iterator, List, Optional, Sequence, Tuple
+
+from ..catalogue.records import Entry
+from ..catalogue.store import Catalogue
+from ..cli.texts import shown_path
+
+Key = Tuple[object, ...]
+_MARKS = "size, modified, inode, not_read, exif_octets, iptc_octets, xmp_octets"
+
+
+def content_key(octets: Sequence[Optional[str]], unread: Optional[str], size: Optional[int]) -> Optional[Key]:
+    """The facts that identify a picture under any name; none if it has no block and so no meaning."""
+    return None if not any(octets) or unread is None or size is None else (*octets, unread, size)
+
+
+class Departed:
+    """The pictures that are gone, until their new names are known."""
+
+    def __init__(self) -> None:
+        self.by_content: Dict[Key, List[bytes]] = {}
+        self.by_file: Dict[Key, bytes] = {}
+        self.went: Dict[bytes, bytes] = {}
+
+    def add(self, catalogue: Catalogue, number: int, path: bytes) -> None:
+        """Notes a picture that is gone."""
+        query = f"SELECT {_MARKS} FROM pictures WHERE id = ?"
+        for size, modified, inode, unread, *octets in catalogue.rows(query, (number,)):
+            if size is not None:
+                self.by_file[(size, modified, inode)] = path
+            key = content_key(octets, unread, size)
+            if key:
+                self.by_content.setdefault(key, []).append(path)
+
+    def _meet(self, path: bytes, size: int, modified: int, inode: int, unread: Optional[str], *octets: str) -> None:
+        """Notes a picture that is new: one that is gone may have become it."""
+        same = self.by_file.get((size, modified, inode))
+        if same is None or same in self.went:
+            key = content_key(octets, unread, size)
+            same = best([one for one in self.by_content.get(key or (), []) if one not in self.went], path)
+        if same is not None:
+            self.went[same] = path
+
+    def settle(self, catalogue: Catalogue, run: int, gone: Sequence[Entry], new: Collection[bytes]) -> Iterator[Entry]:
+        """The report on each picture that is gone: moved, if one of those that are new in this run is the same, or missing."""
+        if self.by_content or self.by_file:
+            query = f"SELECT path, {_MARKS} FROM pictures WHERE run = ? AND problem IS NULL AND size IS NOT NULL ORDER BY id"
+            for row in catalogue.rows(query, (run,)):
+                if row[0] in new:
+                    self._meet(*row)
+        if self.went:
+            with catalogue.transaction():
+                words = ((f"to {shown_path(to)}", path) for path, to in self.went.items())
+                catalogue.base.executemany("UPDATE pictures SET problem = 'Moved', detail = ? WHERE path = ?", words)
+        for it in gone:
+            to = self.went.get(it.path)
+            yield it if to is None else Entry(it.path, b"", problem="Moved", detail=f"to {shown_path(to)}")
+
+
+def best(candidates: Sequence[bytes], name: bytes) -> Optional[bytes]:
+    """Of several pictures the one with the same name in its folder, or else the first."""
+    last = os.path.basename(name)
+    return next((it for it in candidates if os.path.basename(it) == last), candidates[0] if candidates else None)

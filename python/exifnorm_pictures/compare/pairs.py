@@ -1,0 +1,230 @@
+"""The pictures of two catalogues in pairs. SQLite joins their rows, so Python sees only those that differ, one at a time."""
+
+from __future__ import annotations
+
+import contextlib
+import hashlib
+import os
+import sqlite3
+from typing import Callable, Iterator, List, NamedTuple, Optional, Set, Tuple, TypeVar
+
+from ..catalogue.blocks import Block, Damaged
+from ..catalogue.records import Picture, block_of_row, not_read_of_row, picture_of_row
+from ..catalogue.store import BLOCK_COLUMNS, PICTURE_COLUMNS, Catalogue, NoCatalogue, address
+from ..extract.formats.found import NotRead
+from ..fields.listing import Field, unpacked
+from .moved import content_key
+
+BEFORE, AFTER = 0, 1  # the two sides
+_BASES, _ALIASES = ("before", "after"), ("old", "new")
+_WIDTH = PICTURE_COLUMNS.count(",") + 1
+
+# What is written goes to a temporary database, which is deleted with its connection: all pictures of an archive may have moved.
+_TABLES = """
+CREATE TABLE alone_before (id INTEGER PRIMARY KEY);
+CREATE TABLE alone_after (id INTEGER PRIMARY KEY);
+CREATE TABLE moved (old INTEGER PRIMARY KEY, new INTEGER UNIQUE);
+CREATE TABLE chosen (name BLOB PRIMARY KEY) WITHOUT ROWID;
+PRAGMA main.journal_mode = OFF;
+PRAGMA main.synchronous = OFF;
+"""
+
+# The pairs for which nothing is reported: all kinds are known and mean the same, and what wasn't read is known to be the same.
+_SAME = """(typeof(old.path) = 'blob' AND ((old.problem IS NULL AND new.problem IS NULL AND old.exif = new.exif
+    AND old.iptc = new.iptc AND old.xmp = new.xmp AND old.not_read = new.not_read)
+    OR (old.problem = 'NoPicture' AND new.problem = 'NoPicture'))) IS NOT TRUE"""
+
+# The new names of pictures, the surest first: the same file under the same name, the same file, the same blocks under the same name, ..
+_FILE, _CONTENT = "size, modified, inode", "content(size, not_read, exif_octets, iptc_octets, xmp_octets)"
+_ROUNDS = (f"{_FILE}, last(path)", _FILE, f"{_CONTENT}, last(path)", _CONTENT)
+_HAS_KEY = " AND ".join([*(f"typeof({it}) = 'integer'" for it in ("size", "modified", "inode")), "typeof(path) = 'blob'"])
+
+Made = TypeVar("Made")
+
+
+class Pair(NamedTuple):
+    """A picture that was there before, what it is now, and where it is now if it has moved."""
+
+    name: bytes
+    old: Optional[Picture]  # None if the other one is: then no more is known than the name
+    new: Optional[Picture]
+    place: Optional[bytes]
+
+
+class Pairs:
+    """Two catalogues, and how their pictures are paired. Close it.
+
+    If each catalogue has one folder, pictures are matched by path relative to it; otherwise by full path. All is read of one moment.
+    """
+
+    def __init__(self, before: Catalogue, after: Catalogue, only: Optional[Set[bytes]] = None) -> None:
+        """Pairs all pictures; `differing` and `came` return only some, by name or by path."""
+        self.catalogues = (before, after)
+        roots = [it.roots() for it in self.catalogues]
+        by_root = all(len(it) <= 1 for it in roots)
+        self.heads = [(it[0].rstrip(b"/") + b"/" if by_root and it else b"") for it in roots]
+        self.base = sqlite3.connect("", timeout=60, isolation_level=None, uri=True)
+        try:
+            with self._guarded():
+                self._open(only)
+                self._pair()
+        except BaseException:
+            self.close()
+            raise
+
+    def close(self) -> None:
+        """Closes the connection, and with it the temporary database."""
+        self.base.close()
+
+    def _open(self, only: Optional[Set[bytes]]) -> None:
+        for base, it in zip(_BASES, self.catalogues):
+            self.base.execute(f"ATTACH ? AS {base}", (address(it.name),))
+        self.base.executescript(_TABLES)
+        self.base.create_function("last", 1, os.path.basename, deterministic=True)
+        self.base.create_function("content", 5, _content, deterministic=True)
+        self.base.execute("BEGIN")
+        self.has_chosen = only is not None
+        self.base.executemany("INSERT INTO chosen VALUES (?)", ((it,) for it in only or ()))
+
+    @contextlib.contextmanager
+    def _guarded(self) -> Iterator[None]:
+        """Raises `NoCatalogue` for an error of SQLite in rows of both, since either may be damaged."""
+        try:
+            yield
+        except sqlite3.ProgrammingError:
+            raise
+        except sqlite3.DatabaseError as error:
+            raise NoCatalogue(f"{self.catalogues[BEFORE].name} or {self.catalogues[AFTER].name}: {error}") from error
+
+    # How rows are paired
+
+    def _other_path(self, side: int) -> str:
+        """The path that a picture of one side has in the other catalogue."""
+        path, (mine, other) = f"{_ALIASES[side]}.path", (self.heads[side], self.heads[1 - side])
+        if mine == other:
+            return path
+        below = f"CAST(x'{other.hex()}' || substr({path}, {len(mine) + 1}) AS BLOB)"
+        return f"CASE WHEN substr({path}, 1, {len(mine)}) = x'{mine.hex()}' THEN {below} ELSE {path} END"
+
+    def _is_chosen(self, side: int) -> str:
+        if not self.has_chosen:
+            return "TRUE"
+        path = f"{_ALIASES[side]}.path"
+        names = (path, f"substr({path}, {len(self.heads[side]) + 1})", self._other_path(side))
+        return "(" + " OR ".join(f"{it} IN main.chosen" for it in names) + ")"
+
+    def _named(self, side: int, path: object) -> bytes:
+        """The name by which a picture is paired."""
+        if not isinstance(path, bytes):
+            raise self.catalogues[side].failure(Damaged("the path of a picture isn't bytes"))
+        head = self.heads[side]
+        return path[len(head) :] if path.startswith(head) else path
+
+    def _pair(self) -> None:
+        """Finds the pictures that only one side has, and which of them are one that moved."""
+        for side in (BEFORE, AFTER):
+            mine, other = _ALIASES[side], _ALIASES[1 - side]
+            on = f"{other}.path = {self._other_path(side)} AND {_is_there(other)}"
+            paired = f"SELECT 1 FROM {_BASES[1 - side]}.pictures AS {other} WHERE {on}"
+            self.base.execute(
+                f"INSERT INTO alone_{_BASES[side]} SELECT {mine}.id FROM {_BASES[side]}.pictures AS {mine}"
+                f" WHERE {_is_there(mine)} AND NOT EXISTS ({paired})"
+            )
+        for key in _ROUNDS:
+            left = [self._alone(BEFORE, key), self._alone(AFTER, key)]
+            self.base.executemany("INSERT INTO moved VALUES (?, ?)", _equal(*left))
+
+    def _alone(self, side: int, key: str) -> Iterator[Tuple[object, ...]]:
+        """The number and key of each picture that isn't paired yet, by key and path. SQLite has sorted them before the first is fetched."""
+        query = (
+            f"SELECT id, {key} FROM alone_{_BASES[side]} JOIN {_BASES[side]}.pictures USING (id) WHERE problem IS NULL"
+            f" AND {_HAS_KEY} AND id NOT IN (SELECT {_ALIASES[side]} FROM moved)"
+        )
+        if key.startswith("content"):
+            query += " AND not_read IS NOT NULL AND NOT (exif_octets = '' AND iptc_octets = '' AND xmp_octets = '')"
+        return self.base.execute(f"{query} ORDER BY {key}, path")
+
+    # The results
+
+    def differing(self, every: bool = False) -> Iterator[Pair]:
+        """The pictures before that aren't known to be the same, or all of them, in the order of their paths."""
+        columns = ", ".join(f"{alias}.{it.strip()}" for alias in _ALIASES for it in PICTURE_COLUMNS.split(","))
+        query = (
+            f"SELECT {columns}, place.path FROM before.pictures AS old"
+            f" LEFT JOIN after.pictures AS new ON new.path = {self._other_path(BEFORE)} AND {_is_there('new')}"
+            " LEFT JOIN main.moved ON moved.old = old.id LEFT JOIN after.pictures AS place ON place.id = moved.new"
+            f" WHERE {_is_there('old')} AND {self._is_chosen(BEFORE)} AND {'TRUE' if every else _SAME} ORDER BY old.path"
+        )
+        yield from self._rows(query, self._pair_of_row)
+
+    def _pair_of_row(self, row: Tuple[object, ...]) -> Pair:
+        name, place = self._named(BEFORE, row[1]), row[-1]
+        if row[_WIDTH] is None:
+            return Pair(name, None, None, None if place is None else self._named(AFTER, place))
+        return Pair(name, self._made(BEFORE, picture_of_row, row[:_WIDTH]), self._made(AFTER, picture_of_row, row[_WIDTH:-1]), None)
+
+    def came(self) -> Iterator[bytes]:
+        """The names of pictures that are only there afterwards and aren't moved ones, in the order of their paths."""
+        query = (
+            f"SELECT path FROM alone_after JOIN after.pictures AS new USING (id) WHERE {self._is_chosen(AFTER)}"
+            " AND id NOT IN (SELECT new FROM moved) ORDER BY path"
+        )
+        yield from self._rows(query, lambda row: self._named(AFTER, row[0]))
+
+    def count(self) -> int:
+        """How many pictures were there before."""
+        query = f"SELECT count(*) FROM before.pictures AS old WHERE {_is_there('old')} AND {self._is_chosen(BEFORE)}"
+        return next(self._rows(query, lambda row: int(row[0])))
+
+    def blocks(self, side: int, picture: Picture) -> List[Tuple[Block, Optional[bytes]]]:
+        """A picture's blocks, each with its packed fields."""
+        query = f"SELECT {BLOCK_COLUMNS}, fields FROM {_BASES[side]}.blocks WHERE picture = ? ORDER BY number"
+        return self._of(side, query, picture, lambda row: (block_of_row(row[:-1]), row[-1]))
+
+    def fields(self, side: int, packed: Optional[bytes]) -> List[Field]:
+        """The fields of a block; none if they aren't kept."""
+        return self._made(side, unpacked, packed) if packed else []
+
+    def not_read(self, side: int, picture: Picture) -> List[NotRead]:
+        """The parts of a picture that were not read."""
+        query = f"SELECT what, digest FROM {_BASES[side]}.not_read WHERE picture = ? ORDER BY number"
+        return self._of(side, query, picture, not_read_of_row)
+
+    def _of(self, side: int, query: str, picture: Picture, made: Callable[..., Made]) -> List[Made]:
+        with self.catalogues[side].guarded():
+            return [made(row) for row in self.base.execute(query, (picture.id,))]
+
+    def _made(self, side: int, make: Callable[..., Made], value: object) -> Made:
+        with self.catalogues[side].guarded():
+            return make(value)
+
+    def _rows(self, query: str, made: Callable[..., Made]) -> Iterator[Made]:
+        with self._guarded():
+            for row in self.base.execute(query):
+                yield made(row)
+
+
+def _is_there(alias: str) -> str:
+    return f"({alias}.problem IS NULL OR {alias}.problem NOT IN ('Vanished', 'Moved'))"
+
+
+def _content(size: int, unread: str, *octets: str) -> bytes:
+    """What identifies a picture under any name, in 32 bytes."""
+    return hashlib.sha256(repr(content_key(octets, unread, size)).encode("utf-8", "surrogatepass")).digest()
+
+
+def _equal(one: Iterator[Tuple[object, ...]], other: Iterator[Tuple[object, ...]]) -> Iterator[Tuple[object, object]]:
+    """The numbers of the rows with equal keys in two sequences that are in the order of their keys, each once.
+
+    >>> list(_equal(iter([(1, "a"), (2, "b"), (3, "b")]), iter([(7, "b"), (8, "c")])))
+    [(2, 7)]
+    """
+    first, second = next(one, None), next(other, None)
+    while first is not None and second is not None:
+        if first[1:] == second[1:]:
+            yield first[0], second[0]
+            first, second = next(one, None), next(other, None)
+        elif first[1:] < second[1:]:
+            first = next(one, None)
+        else:
+            second = next(other, None)

@@ -1,0 +1,168 @@
+"""The result of comparing two pictures, for each kind of block: same, different, absent, unreadable or refused; and unread parts.
+
+A result names the kinds that were compared. No picture is the same as another if a part of either was not read and may differ.
+"""
+
+from __future__ import annotations
+
+import hashlib
+from collections import Counter
+from dataclasses import dataclass
+from typing import Dict, Iterable, List, NamedTuple, Protocol, Sequence, Tuple
+
+from ..extract.formats.found import EXIF, IPTC, NAMES, XMP, NotRead
+
+ACCEPTED, REFUSED, UNREADABLE, ABSENT = "accepted", "refused", "unreadable", "absent"
+SAME, DIFFERENT = "same", "different"
+NOT_WHOLLY_READ = "not wholly read"
+
+
+class Judged(Protocol):
+    """The facts that a comparison needs of a judged picture or of a row of a catalogue."""
+
+    @property
+    def kind(self) -> str:
+        ...
+
+    @property
+    def name(self) -> str:
+        ...
+
+    @property
+    def status(self) -> str:
+        ...
+
+    @property
+    def digest(self) -> "str | None":
+        ...
+
+    @property
+    def octets(self) -> str:
+        ...
+
+
+class Side(NamedTuple):
+    """The blocks of one kind in one picture."""
+
+    status: str  # ACCEPTED, REFUSED, UNREADABLE or ABSENT
+    digest: str = ""  # of their meaning, if all are accepted
+    octets: str = ""  # of their bytes
+
+
+def side(kind: str, judged: Iterable[Judged]) -> Side:
+    """The side of a picture for one kind. Several blocks are compared in their order and under their names."""
+    return side_of([it for it in judged if it.kind == kind])
+
+
+def side_of(ours: Sequence[Judged]) -> Side:
+    """The side of a picture for the kind that these blocks have."""
+    if not ours:
+        return Side(ABSENT)
+    if len(ours) == 1 and ours[0].status == ACCEPTED:  # as of most pictures
+        return Side(ACCEPTED, ours[0].digest or "", ours[0].octets)
+    octets = _joined([(it.name, it.octets) for it in ours])
+    if any(it.status != ACCEPTED for it in ours):
+        return Side(UNREADABLE if ours[0].kind == XMP else REFUSED, "", octets)
+    return Side(ACCEPTED, _joined([(it.name, it.digest or "") for it in ours]), octets)
+
+
+def _joined(named: Sequence[Tuple[str, str]]) -> str:
+    if len(named) == 1:
+        return named[0][1]
+    return hashlib.sha256("\n".join(f"{name}: {digest}" for name, digest in named).encode("utf-8")).hexdigest()
+
+
+@dataclass(frozen=True)
+class Verdict:
+    """The verdict on one kind."""
+
+    kind: str
+    result: str  # SAME, DIFFERENT, ABSENT, UNREADABLE or REFUSED
+    same_bytes: bool = False
+
+    @property
+    def is_open(self) -> bool:
+        """Whether the result is unknown: a block is refused or unreadable, and its bytes are not the same."""
+        return self.result in (REFUSED, UNREADABLE) and not self.same_bytes
+
+
+def verdict(kind: str, one: Side, other: Side) -> Verdict:
+    """Compares the blocks of one kind.
+
+    >>> verdict(EXIF, Side(ACCEPTED, "d", "o"), Side(ABSENT)).result
+    'different'
+    >>> verdict(EXIF, Side(REFUSED, "", "o"), Side(REFUSED, "", "o"))
+    Verdict(kind='exif', result='refused', same_bytes=True)
+    """
+    statuses = {one.status, other.status}
+    if statuses == {ABSENT}:
+        return Verdict(kind, ABSENT)
+    same_bytes = one.octets == other.octets
+    for status in (REFUSED, UNREADABLE):
+        if status in statuses:
+            return Verdict(kind, status, same_bytes)
+    if ABSENT in statuses or one.digest != other.digest:
+        return Verdict(kind, DIFFERENT)
+    return Verdict(kind, SAME, same_bytes)
+
+
+def verdicts(one: Dict[str, Side], other: Dict[str, Side], kinds: Iterable[str] = tuple(NAMES)) -> List[Verdict]:
+    """The verdicts on several kinds."""
+    return [verdict(kind, one.get(kind, Side(ABSENT)), other.get(kind, Side(ABSENT))) for kind in kinds]
+
+
+def left_open(one: Iterable[NotRead], other: Iterable[NotRead]) -> List[str]:
+    """The parts that were not read and may differ: those without a digest, and those that only one picture has in these bytes.
+
+    >>> left_open([NotRead("trailer", "d")], [NotRead("trailer", "d")]), left_open([NotRead("trailer", "d")], [])
+    ([], ['trailer'])
+    """
+    first, second = Counter(it for it in one), Counter(it for it in other)
+    differ = (first - second) + (second - first)
+    unknown = [it for it in first + second if not it.digest]
+    return sorted({it.what for it in [*differ, *unknown]})
+
+
+def sentence(found: Sequence[Verdict], open_parts: Sequence[str] = ()) -> str:
+    """The kinds that were compared, and the result, in a sentence.
+
+    >>> sentence([Verdict(EXIF, SAME), Verdict(IPTC, SAME), Verdict(XMP, SAME)])
+    'Exif, IPTC and XMP are the same'
+    >>> sentence([Verdict(EXIF, SAME), Verdict(IPTC, ABSENT), Verdict(XMP, DIFFERENT)], ["second picture"])
+    'Exif is the same, XMP is different, no IPTC; not wholly read: second picture'
+    """
+    parts = []
+    for result in (SAME, DIFFERENT, REFUSED, UNREADABLE):
+        for same_bytes in (False, True) if result in (REFUSED, UNREADABLE) else (None,):
+            names = [NAMES[it.kind] for it in found if it.result == result and same_bytes in (None, it.same_bytes)]
+            if names:
+                word = "the same" if result == SAME else result
+                parts.append(f"{_listed(names)} {'is' if len(names) == 1 else 'are'} {word}" + (" in the same bytes" if same_bytes else ""))
+    absent = [NAMES[it.kind] for it in found if it.result == ABSENT]
+    if absent:
+        parts.append("no " + " and no ".join(absent))
+    text = ", ".join(parts)
+    return text + (f"; {NOT_WHOLLY_READ}: {', '.join(open_parts)}" if open_parts else "")
+
+
+def _listed(names: Sequence[str]) -> str:
+    return names[0] if len(names) == 1 else ", ".join(names[:-1]) + " and " + names[-1]
+
+
+def result(found: Sequence[Verdict], open_parts: Sequence[str] = ()) -> str:
+    """The worst of some verdicts in a word or two: a known difference comes before an unknown result.
+
+    >>> result([Verdict(EXIF, SAME), Verdict(XMP, ABSENT)], ["trailer"])
+    'not wholly read'
+    """
+    if any(it.result == DIFFERENT for it in found):
+        return DIFFERENT
+    for status in (REFUSED, UNREADABLE):
+        if any(it.result == status and it.is_open for it in found):
+            return status
+    if open_parts:
+        return NOT_WHOLLY_READ
+    for status in (REFUSED, UNREADABLE):
+        if any(it.result == status for it in found):
+            return f"{status}, the same bytes"
+    return SAME

@@ -1,0 +1,1 @@
+"""Extracts the metadata blocks of pictures, and judges them."""

@@ -1,0 +1,175 @@
+"""Calls of other programs: each has a time limit and a limit on its output, and no program outlives this one.
+
+ExifTool runs with `-config ""`, so that no configuration file changes its output.
+"""
+
+from __future__ import annotations
+
+import ctypes
+import functools
+import os
+import select
+import shutil
+import signal
+import subprocess
+import time
+from typing import Callable, List, NamedTuple, Optional, Set
+
+from ..cli import signals as ends
+from ..cli.parser import SECONDS
+from ..cli.signals import Failure
+from ..cli.texts import reason
+
+PACKAGES = {"exiftool": "libimage-exiftool-perl", "exiv2": "exiv2"}
+MOST = 256 << 20  # greatest length in bytes of one output
+
+_PIECE = 1 << 20
+_PR_SET_PDEATHSIG = 1
+
+
+class Missing(Failure):
+    """A program isn't installed. The text names Debian's package."""
+
+    def __init__(self, program: str) -> None:
+        super().__init__(
+            f"{program} isn't installed, and without it no block of this picture can be extracted."
+            f" In Debian: apt-get install {PACKAGES.get(program, program)}"
+        )
+
+
+class Failed(Failure):
+    """A program ended early, took too long, or printed something unexpected. The text describes which."""
+
+
+class Done(NamedTuple):
+    """The status of a program, and its standard output."""
+
+    returncode: int
+    stdout: bytes
+
+
+_limit = SECONDS
+
+
+def set_limit(seconds: float) -> None:
+    """Sets how many seconds a program may take for one file, in this process."""
+    global _limit
+    _limit = seconds
+
+
+def limit() -> float:
+    """How many seconds a program may take for one file."""
+    return _limit
+
+
+def needed(program: str) -> str:
+    """The path of a program. Raises `Missing` if it isn't installed."""
+    found = shutil.which(program)
+    if found is None:
+        raise Missing(program)
+    return found
+
+
+def is_there(program: str) -> bool:
+    """Whether a program is installed."""
+    return shutil.which(program) is not None
+
+
+def exiftool(*words: str) -> List[str]:
+    """The arguments of a call of ExifTool that reads no configuration file. `-config` only counts as the first option."""
+    return [needed("exiftool"), "-config", "", *words]
+
+
+@functools.lru_cache(maxsize=None)
+def version(program: str) -> Optional[str]:
+    """The version that a program prints, or nothing if it isn't installed. Raises `Failed` if it prints none."""
+    if not is_there(program):
+        return None
+    words = exiftool("-ver") if program == "exiftool" else [needed(program), "--version"]
+    said = run(words).stdout[:1000].decode("ascii", "replace").split("\n", 1)[0]
+    return said.rpartition(" ")[2].strip() or None
+
+
+def run(words: List[str], folder: Optional[str] = None) -> Done:
+    """Runs a program to its end. Raises `Failed` if it takes too long or writes too much."""
+    started = start(words, folder)
+    try:
+        said = read_until(started, lambda _: False)
+        return Done(started.wait(max(limit(), 1.0)), said)
+    except subprocess.TimeoutExpired:
+        raise Failed(f"{_name(words)} took longer than {limit():g} seconds") from None
+    finally:
+        end(started)
+
+
+def _name(words: List[str]) -> str:
+    return os.path.basename(words[0])
+
+
+_libc = ctypes.CDLL(None)
+
+
+def start(words: List[str], folder: Optional[str] = None, stdin: int = subprocess.DEVNULL) -> "subprocess.Popen[bytes]":
+    """Starts a program in a process group of its own, which the system ends if this process is killed. Raises `Failed`."""
+    started: "Optional[subprocess.Popen[bytes]]" = None
+    try:
+        with ends.signals_held() as mask:
+            started = _started(words, folder, stdin, mask)
+        return started
+    except OSError as error:
+        raise Failed(f"{_name(words)} can't be started: {reason(error)}") from error
+    except BaseException:  # a signal that came meanwhile
+        if started is not None:
+            end(started)
+        raise
+
+
+def _started(words: List[str], folder: Optional[str], stdin: int, mask: Set[int]) -> "subprocess.Popen[bytes]":
+    def begin() -> None:
+        _libc.prctl(_PR_SET_PDEATHSIG, signal.SIGKILL)
+        signal.pthread_sigmask(signal.SIG_SETMASK, mask)
+
+    return subprocess.Popen(
+        words,
+        stdin=stdin,
+        stdout=subprocess.PIPE,
+        stderr=subprocess.DEVNULL,
+        bufsize=0,
+        cwd=folder,
+        env={**os.environ, "LC_ALL": "C"},
+        start_new_session=True,
+        preexec_fn=begin,
+    )
+
+
+def end(started: "subprocess.Popen[bytes]") -> None:
+    """Ends a program with all the processes that it started. Returns after they have ended."""
+    try:
+        os.killpg(started.pid, signal.SIGKILL)
+    except (ProcessLookupError, PermissionError):
+        pass
+    started.wait()
+    for stream in (started.stdin, started.stdout):
+        if stream is not None:
+            try:
+                stream.close()
+            except OSError:
+                pass
+
+
+def read_until(started: "subprocess.Popen[bytes]", complete: Callable[[bytearray], bool]) -> bytes:
+    """A program's output until it is complete or ends. Raises `Failed` at the limits."""
+    assert started.stdout is not None
+    ends = time.monotonic() + limit()
+    said = bytearray()
+    while not complete(said):
+        left = ends - time.monotonic()
+        if left <= 0 or not select.select([started.stdout], [], [], left)[0]:
+            raise Failed(f"{_name(started.args)} took longer than {limit():g} seconds")  # type: ignore[arg-type]
+        piece = os.read(started.stdout.fileno(), _PIECE)
+        if not piece:
+            break
+        said += piece
+        if len(said) > MOST:
+            raise Failed(f"{_name(started.args)} wrote more than {MOST:,} bytes about one file")  # type: ignore[arg-type]
+    return bytes(said)

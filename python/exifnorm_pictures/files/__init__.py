@@ -1,0 +1,1 @@
+"""Temporary folders, and files that are written whole or not at all."""

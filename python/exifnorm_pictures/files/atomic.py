@@ -1,0 +1,125 @@
+"""Files that are written in full or not at all: they get their name only after all bytes are on the disk.
+
+If the file system allows it, the file has no name while it is written, so that a killed run leaves no file.
+"""
+
+from __future__ import annotations
+
+import contextlib
+import os
+import shutil
+import stat
+from typing import BinaryIO, Callable, Iterator, Optional, Tuple
+
+from ..cli.signals import Failure
+from ..cli.texts import reason
+
+Write = Callable[[BinaryIO], None]
+
+
+class NotReplaced(Failure):
+    """A file exists and must not be replaced. The text is the reason."""
+
+
+def copy_new(source: bytes, out: bytes, like: os.stat_result) -> None:
+    """Copies a file to `out`, with the mode and times of another one. Raises `FileExistsError` if `out` exists."""
+
+    def write(file: BinaryIO) -> None:
+        with open(source, "rb") as given:
+            shutil.copyfileobj(given, file)
+        file.flush()
+        os.fchmod(file.fileno(), stat.S_IMODE(like.st_mode))
+        os.utime(file.fileno(), ns=(like.st_atime_ns, like.st_mtime_ns))
+
+    with _written(out, write) as (file, name):
+        _link(file, name, out)
+
+
+def replace(out: bytes, write: Write, allowed: Callable[[bytes], bool], kept: Tuple[str, ...] = ()) -> None:
+    """Writes a file that may replace an earlier one: a regular file whose first bytes are `allowed`, or an empty one.
+
+    The files of `kept` are never replaced, whatever name `out` is. Raises `NotReplaced`.
+    """
+    there = os.path.realpath(out)
+    try:
+        _check(there, allowed, kept)
+        _replace(there, write)
+    except OSError as error:  # the file that it names may be the one that gets its name in the end
+        raise NotReplaced(reason(error)) from None
+
+
+def _replace(there: bytes, write: Write) -> None:
+    with _written(there, write) as (file, name):
+        beside = name or _free_name(there)
+        if not name:
+            _link(file, None, beside)
+        try:
+            os.replace(beside, there)
+        except BaseException:
+            with contextlib.suppress(OSError):
+                os.unlink(beside)
+            raise
+
+
+def _check(out: bytes, allowed: Callable[[bytes], bool], kept: Tuple[str, ...]) -> None:
+    try:
+        now = os.stat(out)
+    except FileNotFoundError:
+        return
+    if not stat.S_ISREG(now.st_mode):
+        raise NotReplaced("it is there, and is no regular file")
+    for it in kept:
+        with contextlib.suppress(OSError):
+            if os.path.samestat(os.stat(it), now):
+                raise NotReplaced(f"it is the catalogue {it}")
+    with open(out, "rb") as file:
+        head = file.read(100)
+    if head and not allowed(head):
+        raise NotReplaced("it is there, and is a file of another kind")
+
+
+@contextlib.contextmanager
+def _written(out: bytes, write: Write) -> Iterator[Tuple[BinaryIO, Optional[bytes]]]:
+    """A file in the folder of `out` with all its bytes on the disk, and its name if it needed one."""
+    folder = os.path.dirname(out) or b"."
+    number, name = _opened(folder, out)
+    try:
+        with open(number, "wb") as file:
+            write(file)
+            file.flush()
+            os.fsync(file.fileno())
+            yield file, name
+    finally:
+        if name:
+            with contextlib.suppress(OSError):
+                os.unlink(name)
+
+
+def _opened(folder: bytes, out: bytes) -> Tuple[int, Optional[bytes]]:
+    mode = 0o666
+    if hasattr(os, "O_TMPFILE"):
+        with contextlib.suppress(OSError):
+            return os.open(folder, os.O_TMPFILE | os.O_RDWR | os.O_CLOEXEC, mode), None
+    name = _free_name(out)
+    return os.open(name, os.O_RDWR | os.O_CREAT | os.O_EXCL | os.O_CLOEXEC, mode), name
+
+
+def _free_name(out: bytes) -> bytes:
+    """A name beside `out` that isn't taken."""
+    return os.path.join(os.path.dirname(out), b".exifnorm-%d-%s.part" % (os.getpid(), os.urandom(6).hex().encode("ascii")))
+
+
+def _link(file: BinaryIO, name: Optional[bytes], out: bytes) -> None:
+    """Gives a file the new name `out`."""
+    if not name:
+        # given a folder, though the path is absolute, since Python follows the link only then
+        os.link(b"/proc/self/fd/%d" % file.fileno(), out, src_dir_fd=file.fileno(), follow_symlinks=True)
+        return
+    try:
+        os.link(name, out)
+    except FileExistsError:
+        raise
+    except OSError:  # a file system without hard links
+        if os.path.lexists(out):
+            raise FileExistsError(out) from None
+        os.rename(name, out)

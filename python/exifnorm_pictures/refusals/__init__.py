@@ -1,0 +1,1 @@
+"""Refused blocks: why they are refused, and how a copy of the picture can be accepted."""

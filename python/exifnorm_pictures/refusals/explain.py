@@ -1,0 +1,187 @@
+"""`explain`: a refusal as text, with the name of its entry, both owners of shared bytes, and the bytes around the offset."""
+
+from __future__ import annotations
+
+from dataclasses import dataclass, field
+from typing import Callable, Dict, List, Optional
+
+from .. import xmp
+from ..catalogue.blocks import Block
+from ..cli.texts import Members
+from ..compare.verdicts import REFUSED
+from ..extract.formats.found import XMP
+from ..extract.judge import judge, judge_packet
+from .causes import CAUSES, Cause, Facts
+from .layout import EntryAt, Layout, Part, hexadecimal
+
+_OTHER_FILES = (
+    (b"\xff\xd8\xff", "This is a whole JPEG; give it without --block."),
+    (b"\x89PNG", "This is a whole PNG; give it without --block."),
+    (b"8BIM", "These are Photoshop resources; the IPTC record inside: exiftool -b -IPTC PICTURE"),
+    (b"Photoshop 3.0", "These are Photoshop resources; the IPTC record inside: exiftool -b -IPTC PICTURE"),
+    (b"II+\0", "This is a BigTIFF, whose offsets have eight bytes; it is not read."),
+    (b"MM\0+", "This is a BigTIFF, whose offsets have eight bytes; it is not read."),
+    (b"RIFF", "This is a whole WebP; give it without --block."),
+    (b"<", "This is XML, perhaps XMP, which is compared in whole pictures: give the picture without --block."),
+)
+
+
+@dataclass
+class Explanation:
+    """The explanation of one block."""
+
+    kind: str
+    judgement: Block
+    cause: Optional[Cause] = None
+    here: List[str] = field(default_factory=list)  # the parts at the offset
+    octets: List[str] = field(default_factory=list)
+
+    def lines(self) -> List[str]:
+        """The explanation as text."""
+        if self.cause is None:
+            return [f"{self.kind}: {self.judgement.line}", *(f"  {it}" for it in self.here)]
+        found = [f"{self.kind}: {self.judgement.line}", f"  {self.cause.sentence} {self.cause.meaning}"]
+        found += [f"  {it}" for it in self.here]
+        found += [f"    {it}" for it in self.octets]
+        if self.cause.writers:
+            found.append("  Written by: " + "; ".join(f"{who} ({count})" for who, count in self.cause.writers) + ".")
+        found += [f"  Other readers: {self.cause.readers}", f"  Remedy: {self.cause.remedy}", f"  Cost: {self.cause.cost}"]
+        return found
+
+    def members(self) -> Members:
+        """The explanation as a JSON object."""
+        known: Members = {"kind": self.kind, "status": self.judgement.status, "cause": self.judgement.cause, "place": self.judgement.place}
+        if self.cause is None and self.here:
+            known["sentence"] = self.here[0]
+        if self.cause is not None:
+            known.update(sentence=self.cause.sentence, meaning=self.cause.meaning, here=self.here, bytes=self.octets)
+            known.update(writers=[list(it) for it in self.cause.writers], remedy=self.cause.remedy, cost=self.cause.cost)
+        return known
+
+
+def explain(kind: str, block: bytes) -> Explanation:
+    """Explains one block that was judged as `kind`; an accepted one needs no explanation."""
+    if kind == XMP:
+        return explain_packet(judge_packet(block))
+    judgement = judge(kind, block)
+    cause = CAUSES.get(judgement.cause or "") if judgement.status == REFUSED else None
+    if cause is None or judgement.place is None:
+        return Explanation(kind, judgement, cause)
+    layout = Layout(block)
+    here = _FACTS[cause.facts](layout, cause.name, judgement.place)
+    return Explanation(kind, judgement, cause, here, hexadecimal(layout.block, judgement.place))
+
+
+def explain_packet(judgement: Block) -> Explanation:
+    """Explains an XMP packet that was judged; one that was read needs no explanation."""
+    return Explanation(XMP, judgement, here=[xmp.CAUSES[judgement.cause]] if judgement.cause else [])
+
+
+def _length(layout: Layout, cause: str, place: int) -> List[str]:
+    return [f"The block has {len(layout.block):,} bytes."]
+
+
+def _beginning(layout: Layout, cause: str, place: int) -> List[str]:
+    block = layout.block
+    if not block:
+        return ["The block is empty: the picture has no such metadata."]
+    for beginning, words in _OTHER_FILES:
+        if block.startswith(beginning):
+            return [words]
+    return [f"It begins with {block[:8].hex(' ')}."]
+
+
+def _data_set(layout: Layout, cause: str, place: int) -> List[str]:
+    block = layout.block
+    before = block.rfind(b"\x1c", 0, place)
+    found = [f"The record has {len(block):,} bytes; at {place} is {block[place : place + 8].hex(' ') or 'nothing'}."]
+    if block[place : place + 1] == b"\x1c" and place + 3 <= len(block):
+        found.append(f"The DataSet is {block[place + 1]}:{block[place + 2]}.")
+    elif before >= 0 and before + 3 <= len(block):
+        found.append(f"The last 1C before it, at {before}, begins with {block[before : before + 5].hex(' ')}.")
+    return found
+
+
+def _range(part: Part) -> str:
+    return f"{part.what} (bytes {part.start} to {part.end - 1})"
+
+
+def _ranges(layout: Layout, cause: str, place: int) -> List[str]:
+    owners = layout.owners(place)
+    found = _entry_line(layout, place)
+    if owners:
+        mine, other = owners
+        start, end = max(mine.start, other.start), min(mine.end, other.end)
+        found.append(f"Both own bytes {start} to {end - 1}: {_range(mine)} and {_range(other)}.")
+    return found
+
+
+def _directory(layout: Layout, cause: str, place: int) -> List[str]:
+    found = _entry_line(layout, place) if cause != "EmptyDirectory" else []
+    at = place if cause == "EmptyDirectory" else _named(layout, place)
+    if at is None:
+        return found
+    count = layout.number(at, 2)
+    if count is None:
+        return found + [f"The directory would begin at {at}; the block has {len(layout.block)} bytes."]
+    end = at + 2 + 12 * count + 4
+    words = f"The directory at {at} has {count} entries and would end at {end}; the block has {len(layout.block)} bytes."
+    if cause == "DirectoryOutside" and 0 < end - len(layout.block) <= 4:
+        words += f" Only the offset after the last entry is missing ({end - len(layout.block)} bytes of 4)."
+    return found + [words]
+
+
+def _next(layout: Layout, cause: str, place: int) -> List[str]:
+    return [f"The thumbnail directory names a further one at {layout.number(place, 4)}."]
+
+
+def _named(layout: Layout, place: int) -> Optional[int]:
+    """The offset in the pointer to a directory."""
+    it = layout.entries.get(place)
+    return it.last if it else layout.number(place, 4)
+
+
+def _entry_line(layout: Layout, place: int) -> List[str]:
+    it = layout.entries.get(place)
+    if it is None:
+        words = {4: "the header's offset of the main directory"}.get(place, "the offset of the next directory")
+        return [f"At {place} is {words}."]
+    return [f"At {place} is entry {it.number}: {it.label}, {it.form}, last field {it.last}."]
+
+
+_PIXELS = (0x0111, 0x0144, 0x014A)  # StripOffsets, TileOffsets, SubIFDs
+
+
+def _entry(layout: Layout, cause: str, place: int) -> List[str]:
+    found = _entry_line(layout, place)
+    it = layout.entries.get(place)
+    if it is None:
+        return found
+    if cause == "MisplacedOffset" and it.where == "main" and it.tag in _PIXELS:
+        found.append("This seems to be a whole TIFF picture: give it without --block, and each of its pages is taken as a block.")
+    before = layout.entries.get(place - 12)
+    if cause in ("Unsorted", "Doubled") and before is not None:
+        found.append(f"Before it is {before.label}, {before.form}, last field {before.last}.")
+    if cause == "ValueOutside":
+        found.append(f"Its value would end at {it.last + it.size}; the block has {len(layout.block)} bytes.")
+    if cause == "ThumbnailOutside":
+        found += _thumbnail(layout, it)
+    return found
+
+
+def _thumbnail(layout: Layout, it: EntryAt) -> List[str]:
+    for part in layout.parts:
+        if part.named_at == it.place and part.what == "the thumbnail JPEG":
+            return [f"The thumbnail would end at {part.end}; the block has {len(layout.block)} bytes."]
+    return []
+
+
+_FACTS: Dict[Facts, Callable[[Layout, str, int], List[str]]] = {
+    Facts.LENGTH: _length,
+    Facts.BEGINNING: _beginning,
+    Facts.DIRECTORY: _directory,
+    Facts.NEXT: _next,
+    Facts.ENTRY: _entry,
+    Facts.RANGES: _ranges,
+    Facts.DATA_SET: _data_set,
+}

@@ -1,0 +1,161 @@
+"""`mend`: a copy of a picture with accepted blocks, by the least invasive remedy that works. The picture is never changed."""
+
+from __future__ import annotations
+
+import os
+import re
+import shutil
+import tempfile
+from collections import Counter
+from dataclasses import dataclass, field
+from typing import Callable, Dict, List, Optional, Tuple
+
+from ..cli.texts import reason
+from ..compare.verdicts import ACCEPTED
+from ..extract import programs
+from ..extract.extraction import blocks_of
+from ..extract.formats.found import Blocks
+from ..extract.judge import judge_all
+from ..files import atomic
+
+COPY, NONE = "copy", "none"
+STEPS = ("touch", "exiv2", "rebuild")
+STEP_WORDS = {
+    COPY: "nothing was to be mended: a plain copy",
+    "touch": "ExifTool added a field and removed it",
+    "exiv2": "exiv2 added a field and removed it",
+    "rebuild": "ExifTool wrote all tags that it knows into a new block",
+    NONE: "no remedy helped",
+}
+
+
+class NotWritten(Exception):
+    """The copy can't be written: it exists already, or the file system refused."""
+
+
+@dataclass
+class Mended:
+    """The result: the refusals before, the step that worked, and the printed values that were lost or changed."""
+
+    step: str
+    before: Dict[str, str]
+    lost: List[str] = field(default_factory=list)
+    gained: List[str] = field(default_factory=list)
+    problem: str = ""
+
+
+def mend(picture: bytes, out: bytes, room: str) -> Mended:
+    """Writes a copy with accepted blocks to the new file `out`. Raises `NotWritten`, `programs.Missing` and `programs.Failed`.
+
+    The steps are tried in the order of `STEPS`. The first that changes no printed value is used; if none is, the one that loses
+    the fewest values and, among equals, adds the fewest. The values are those that ExifTool prints, without offsets. Temporary
+    files are in the folder `room`.
+    """
+    programs.needed("exiftool")
+    if os.path.lexists(out):
+        raise NotWritten("the copy is there already")
+    taken = blocks_of(picture)
+    if taken.problem:
+        return Mended(NONE, {}, problem=f"{taken.problem}: {taken.detail}")
+    before = _refusals(taken)
+    if not before:
+        _put(picture, picture, out)
+        return Mended(COPY, {})
+    with tempfile.TemporaryDirectory(dir=room) as own:
+        best = _best(picture, own)
+        if best is None:
+            return Mended(NONE, before)
+        step, made, lost, gained = best
+        _put(os.fsencode(made), picture, out)
+        return Mended(step, before, lost, gained)
+
+
+def _put(made: bytes, picture: bytes, out: bytes) -> None:
+    """Writes the bytes of `made` to `out`, with the mode and times of the picture."""
+    try:
+        atomic.copy_new(made, out, like=os.stat(picture))
+    except OSError as error:
+        raise NotWritten("the copy is there already" if isinstance(error, FileExistsError) else reason(error)) from error
+
+
+def _refusals(taken: Blocks) -> Dict[str, str]:
+    """The refusal of each block that isn't accepted, by the block's name."""
+    return {it.name: it.line for it in judge_all(taken) if it.status != ACCEPTED}
+
+
+Result = Tuple[str, str, List[str], List[str]]
+
+
+def _best(picture: bytes, room: str) -> Optional[Result]:
+    extension = re.search(rb"\.[A-Za-z0-9]{1,8}\Z", picture)
+    suffix = extension[0].decode("ascii") if extension else ""
+    first = os.path.join(room, "first" + suffix)
+    shutil.copyfile(picture, os.fsencode(first))
+    said = _printed(first)
+    best: Optional[Result] = None
+    for step in STEPS:
+        made = os.path.join(room, step + suffix)
+        shutil.copyfile(first, made)
+        if not _REMEDIES[step](made):
+            continue
+        taken = blocks_of(os.fsencode(made))
+        if taken.problem or _refusals(taken):
+            continue
+        after = _printed(made)
+        lost, gained = sorted((said - after).elements()), sorted((after - said).elements())
+        if best is None or (len(lost), len(gained)) < (len(best[2]), len(best[3])):
+            best = (step, made, lost, gained)
+        if not lost and not gained:
+            break
+    return best
+
+
+_FREE = ("PageName", "DocumentName", "HostComputer")
+
+
+def _free_field(name: str) -> Optional[str]:
+    """A field of the main directory that the picture doesn't have, so that adding and taking it away changes none."""
+    said = programs.run(programs.exiftool("-q", "-q", "-m", "-s", *(f"-IFD0:{it}" for it in _FREE), name)).stdout
+    there = {line.split(b":")[0].strip().decode("ascii", "replace") for line in said.split(b"\n")}
+    return next((it for it in _FREE if it not in there), None)
+
+
+def _touch(name: str) -> bool:
+    """Adds and removes a field of each kind, so that both blocks are written again."""
+    free = _free_field(name)
+    if free is None:
+        return False
+    adding, taking = [f"-IFD0:{free}=zz"], [f"-IFD0:{free}="]
+    if programs.run(programs.exiftool("-q", "-q", "-m", "-b", "-IPTC", name)).stdout:
+        adding.append("-IPTC:SubjectReference+=exifnorm:01000000:mend")
+        taking.append("-IPTC:SubjectReference-=exifnorm:01000000:mend")
+    call = programs.exiftool("-q", "-q", "-m", "-overwrite_original")
+    return programs.run([*call, *adding, name]).returncode == 0 and programs.run([*call, *taking, name]).returncode == 0
+
+
+def _by_exiv2(name: str) -> bool:
+    free = _free_field(name)
+    if free is None or not programs.is_there("exiv2"):
+        return False
+    call = [programs.needed("exiv2"), "-q", "-Q", "m"]
+    added = programs.run([*call, "-M", f"set Exif.Image.{free} Ascii zz", name])
+    return added.returncode == 0 and programs.run([*call, "-M", f"del Exif.Image.{free}", name]).returncode == 0
+
+
+def _rebuild(name: str) -> bool:
+    words = ["-q", "-q", "-m", "-overwrite_original", "-all=", "-tagsfromfile", "@", "-all:all", "-unsafe", name]
+    return programs.run(programs.exiftool(*words)).returncode == 0
+
+
+_REMEDIES: Dict[str, Callable[[str], bool]] = {"touch": _touch, "exiv2": _by_exiv2, "rebuild": _rebuild}
+
+_OFFSETS = re.compile(rb"Offset|Start |Padding|IPTCDigest")
+
+
+def _printed(name: str) -> "Counter[str]":
+    """All values that ExifTool prints, except offsets."""
+    words = ["-q", "-q", "-m", "-a", "-u", "-s", "-G1", "-x", "System:all", "-x", "File:all", "-x", "Composite:all"]
+    said = programs.run(programs.exiftool(*words, "-x", "ExifTool:all", "-x", "JFIF:all", name)).stdout
+    lines = [it for it in said.split(b"\n") if it and not _OFFSETS.search(it)]
+    cleaned = (re.sub(rb", use -b.*", b"", it).decode("utf-8", "backslashreplace") for it in lines)
+    return Counter(re.sub(r"\s+", " ", it) for it in cleaned)

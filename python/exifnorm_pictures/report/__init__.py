@@ -1,0 +1,1 @@
+"""The report on a catalogue: its data and its HTML page."""

@@ -1,0 +1,62 @@
+"""Small pictures for the report: embedded thumbnails, or pictures that are small by themselves, as data URIs of bounded size."""
+
+from __future__ import annotations
+
+import base64
+import os
+from typing import Dict, Optional, Sequence
+
+import exifnorm
+
+from ..extract import extraction, judge, programs
+from ..extract.formats.found import EXIF
+from ..fields.listing import thumbnail
+
+LARGEST = 32_768  # bytes of one small picture
+MOST = 2_000_000  # bytes of all small pictures of a page
+
+_BEGINNINGS = ((b"\xff\xd8\xff", "image/jpeg"), (b"\x89PNG\r\n\x1a\n", "image/png"), (b"GIF8", "image/gif"))
+
+
+def small_pictures(paths: Sequence[bytes]) -> Dict[bytes, str]:
+    """A data URI for each of these pictures that has a thumbnail, up to the limit. The pictures are read again."""
+    found: Dict[bytes, str] = {}
+    left = MOST
+    for path in dict.fromkeys(paths):
+        octets = _embedded(_exif(path)) or _by_itself(path)
+        kind = _kind(octets) if octets else None
+        if octets and kind and len(octets) <= min(LARGEST, left):
+            left -= len(octets)
+            found[path] = f"data:{kind};base64,{base64.b64encode(octets).decode('ascii')}"
+    return found
+
+
+def _exif(path: bytes) -> Optional[bytes]:
+    """The first Exif block of a picture, as far as it can be read."""
+    try:
+        return next((it.data for it in extraction.blocks_of(path).of_kind(EXIF)), None)
+    except (programs.Missing, programs.Failed):
+        return None
+
+
+def _kind(octets: bytes) -> Optional[str]:
+    return next((kind for beginning, kind in _BEGINNINGS if octets.startswith(beginning)), None)
+
+
+def _embedded(block: Optional[bytes]) -> Optional[bytes]:
+    if not block:
+        return None
+    try:
+        return thumbnail(judge.listing(block))
+    except (exifnorm.Refused, exifnorm.NormalTooLong, MemoryError):
+        return None
+
+
+def _by_itself(path: bytes) -> Optional[bytes]:
+    try:
+        if os.path.getsize(path) > LARGEST:
+            return None
+        with open(path, "rb") as file:
+            return file.read(LARGEST)
+    except OSError:
+        return None

@@ -1,0 +1,67 @@
+"""How pictures are looked at, and the results for some of them as rows of a file: the process that looked at them makes it, and the
+catalogue takes the rows over without any object for them. So several processes are hardly slowed by the one that writes."""
+
+from __future__ import annotations
+
+import argparse
+import contextlib
+import os
+import sqlite3
+from collections import Counter
+from dataclasses import dataclass
+from typing import Callable, List, NamedTuple, Optional, Sequence, Union
+
+from ..catalogue.records import Entry
+from ..catalogue.store import KEPT_BEFORE, make_rows, put_rows
+from ..cli.parser import SECONDS
+from .walk import Found
+
+LONGEST_WAIT = 2.0  # seconds until results are committed, if pictures are slow
+
+Lines = Callable[[Entry], List[str]]  # the lines that are printed about a picture
+
+
+@dataclass(frozen=True)
+class How:
+    """How pictures are looked at."""
+
+    jobs: int = 0  # processes; 0 for as many as there are processors
+    whole: bool = False  # every byte of a JPEG, not only its head and tail
+    seconds: float = SECONDS  # that a program may take for one file
+    room: str = ""  # a folder for temporary files
+    lines: Optional[Lines] = None  # makes the lines that are printed about a picture
+
+    @classmethod
+    def asked(cls, asked: argparse.Namespace, room: str, lines: Optional[Lines] = None) -> "How":
+        """As the arguments of a command have it."""
+        return cls(asked.jobs, asked.whole, asked.limit, room, lines)
+
+    @property
+    def processes(self) -> int:
+        """The number of processes."""
+        return self.jobs or len(os.sched_getaffinity(0))
+
+
+class Batch(NamedTuple):
+    """Some pictures that were looked at."""
+
+    file: str  # with their rows
+    states: "Counter[str]"  # how many have each state
+    lines: List[str]
+    unread: List[Entry]  # which have no row: if they were known before, their earlier results stay
+    left: Sequence[Found]  # the pictures after them, which were not looked at yet
+
+
+Result = Union[Entry, Batch]
+
+
+def batch(file: str, entries: Sequence[Entry], left: Sequence[Found], lines: Optional[Lines]) -> Batch:
+    """Writes the rows of some pictures to a new file."""
+    unread = [it for it in entries if it.problem in KEPT_BEFORE]
+    with contextlib.closing(sqlite3.connect(file, isolation_level=None)) as base:
+        make_rows(base)
+        base.execute("BEGIN")
+        put_rows(base, 0, 1, [it for it in entries if it.problem not in KEPT_BEFORE] if unread else entries)
+        base.execute("COMMIT")
+    said = [line for it in entries for line in lines(it)] if lines else []
+    return Batch(file, Counter(it.state for it in entries), said, unread, left)

@@ -1,0 +1,138 @@
+"""`index --scheduler`: the workers of a Dask cluster look at the pictures (Debian: python3-distributed).
+
+The workers get names relative to the folder, which may be mounted elsewhere there, and return the results: no picture is
+transferred, and workers write only temporary files. Only this process writes the catalogue.
+"""
+
+from __future__ import annotations
+
+import os
+import time
+from dataclasses import replace
+from typing import Any, Dict, Iterator, List, Optional, Sequence
+
+from ..catalogue.records import Entry, Stamp
+from ..extract import programs
+from . import looking
+from .batches import How
+from .index import Look
+from .walk import Found
+
+try:
+    import distributed
+    from distributed.comm import CommClosedError
+    from distributed.scheduler import KilledWorker
+except ImportError:
+    distributed = None
+
+CHUNK = 64  # pictures of a task
+POLL = 2.0  # seconds without a result after which the workers are counted
+
+
+def look_there(root: bytes, names: Sequence[bytes], how: How) -> List[Entry]:
+    """A worker's task: looks at files by their names relative to its own path of the folder."""
+    programs.set_limit(how.seconds)
+    return [looking.look(Found(os.path.join(root, name), root, _stamp(os.path.join(root, name))), how.whole) for name in names]
+
+
+def _stamp(path: bytes) -> Optional[Stamp]:
+    try:
+        return Stamp.of(os.stat(path))
+    except OSError:
+        return None
+
+
+def looker(scheduler: str, elsewhere: Optional[str], names: Sequence[bytes]) -> Look:
+    """How `index` looks at pictures on this cluster. Raises `programs.Failed` if the arguments contradict one another."""
+    if distributed is None:
+        raise programs.Failed("--scheduler needs Dask's distributed. In Debian: apt-get install python3-distributed")
+    if elsewhere and (len(names) != 1 or not os.path.isdir(names[0])):
+        raise programs.Failed("--elsewhere is the path of one folder: give one FOLDER")
+
+    def look(work: Sequence[Found], how: How) -> Iterator[Entry]:
+        if work:
+            yield from _Cluster(scheduler, os.fsencode(elsewhere) if elsewhere else None, how).looked(work)
+
+    return look
+
+
+class _Cluster:
+    """The client of a cluster, and its unfinished tasks."""
+
+    def __init__(self, scheduler: str, elsewhere: Optional[bytes], how: How) -> None:
+        self.elsewhere, self.how = elsewhere, replace(how, room="")
+        self.scheduler = scheduler
+        self.tasks: Dict[Any, Sequence[Found]] = {}
+        self.suspects: List[Found] = []  # the pictures of chunks at which workers died
+
+    def looked(self, work: Sequence[Found]) -> Iterator[Entry]:
+        """The result for each of these files, in order of arrival."""
+        try:
+            with distributed.Client(self.scheduler, timeout=max(self.how.seconds, 1.0)) as client:
+                for chunk in _chunks(work):
+                    self._submit(client, chunk)
+                while self.tasks or self.suspects:
+                    if not self.tasks:  # one of these runs without any other task, so a failure has no other cause
+                        self._submit(client, [self.suspects.pop()])
+                    for task in self._finished(client):
+                        yield from self._answers(task)
+        except (OSError, CommClosedError) as error:
+            raise programs.Failed(f"the cluster {self.scheduler} failed: {error}") from error
+
+    def _submit(self, client: Any, chunk: Sequence[Found]) -> None:
+        root = chunk[0].root
+        names = [os.path.relpath(it.path, root) for it in chunk]
+        task = client.submit(look_there, self.elsewhere or root, names, self.how, pure=False, retries=2)
+        self.tasks[task] = chunk
+
+    def _finished(self, client: Any) -> List[Any]:
+        """The tasks that have ended, at least one. Raises `programs.Failed` if there has been no worker for too long."""
+        since = time.monotonic()
+        while True:
+            try:
+                return list(distributed.wait(list(self.tasks), timeout=POLL, return_when="FIRST_COMPLETED").done)
+            except TimeoutError:
+                pass
+            if client.scheduler_info()["workers"]:
+                since = time.monotonic()
+            elif time.monotonic() - since > self.how.seconds:
+                raise programs.Failed(f"the cluster {self.scheduler} has no worker")
+
+    def _answers(self, task: Any) -> Iterator[Entry]:
+        chunk = self.tasks.pop(task)
+        try:
+            found = task.result()
+        except KilledWorker:
+            if len(chunk) == 1:
+                yield _failed(chunk[0], "the workers that looked at it died")
+            else:
+                self.suspects += chunk
+            return
+        except Exception as error:  # a worker with other packages, for one
+            found = [_failed(it, f"the worker failed: {type(error).__name__}: {error}") for it in chunk]
+        for it, answer in zip(chunk, found):
+            yield _here(it, answer)
+
+
+def _chunks(work: Sequence[Found]) -> Iterator[Sequence[Found]]:
+    """Pictures of one folder each, at most CHUNK together."""
+    chunk: List[Found] = []
+    for it in work:
+        if chunk and (len(chunk) == CHUNK or it.root != chunk[0].root):
+            yield chunk
+            chunk = []
+        chunk.append(it)
+    yield chunk
+
+
+def _failed(it: Found, why: str) -> Entry:
+    return Entry(it.path, it.root, it.stamp, problem="ToolFailed", detail=why)
+
+
+def _here(it: Found, answer: Entry) -> Entry:
+    """A worker's result with the name and the marks that the file has here."""
+    if answer.problem == "Vanished":
+        detail = f"the worker has no such file: {os.fsdecode(answer.path)!r}"
+        return Entry(it.path, it.root, None, problem="Unreadable", detail=detail)
+    same = answer.stamp is not None and it.stamp is not None and answer.stamp.size == it.stamp.size
+    return answer._replace(path=it.path, root=it.root, stamp=it.stamp if same else None)

@@ -1,0 +1,139 @@
+"""Looks at pictures in several processes, and returns the results in the order of the names. If a process dies, no picture is lost."""
+
+from __future__ import annotations
+
+import contextlib
+import ctypes
+import itertools
+import multiprocessing
+import os
+import signal
+import time
+from collections import deque
+from concurrent.futures import Future, ProcessPoolExecutor
+from concurrent.futures.process import BrokenProcessPool
+from multiprocessing import util
+from typing import Deque, Iterable, Iterator, List, NamedTuple, Sequence, Set
+
+from ..catalogue.records import Entry
+from ..cli import signals
+from ..cli.texts import reason
+from ..extract import programs, session
+from .batches import LONGEST_WAIT, Batch, How, Result, batch
+from .looking import failed, look
+from .walk import Found
+
+CHUNK = 500  # pictures that a process gets at once at most
+PARTS = 8  # chunks of each process at least, so that all end at nearly the same time ..
+LEAST_CHUNK = 8  # .. unless they have fewer pictures than this
+
+
+class Task(NamedTuple):
+    """Pictures for a process, and the file to which it writes their rows."""
+
+    chunk: Sequence[Found]
+    file: str
+
+
+def looked(work: Sequence[Found], how: How) -> Iterator[Result]:
+    """The results for these files, in their order."""
+    size = max(LEAST_CHUNK, min(CHUNK, len(work) // (PARTS * how.processes)))
+    chunks = iter([work[at : at + size] for at in range(0, len(work), size)])
+    files = (os.path.join(how.room, f"rows-{number}") for number in itertools.count())
+    unfinished: List[Task] = [Task([], "")]
+    while unfinished:
+        unfinished = []
+        yield from _by_processes(chunks, how, files, unfinished)
+        for it in unfinished:
+            yield from _one_by_one(it.chunk, how)
+
+
+def look_at_some(task: Task, how: How) -> Batch:
+    """A process's results for the first pictures of a task: for all of them, unless that takes too long."""
+    ends_at = time.monotonic() + LONGEST_WAIT
+    entries: List[Entry] = []
+    for it in task.chunk:
+        entries.append(look(it, how.whole))
+        if time.monotonic() > ends_at:
+            break
+    return batch(task.file, entries, task.chunk[len(entries) :], how.lines)
+
+
+_PR_SET_PDEATHSIG = 1
+
+
+def _begin(how: How, parent: int, mask: Set[int]) -> None:
+    """The start of a process. Only the parent handles signals; if it is killed, its processes end."""
+    ctypes.CDLL(None).prctl(_PR_SET_PDEATHSIG, signal.SIGKILL)
+    if os.getppid() != parent:
+        os._exit(1)
+    signal.signal(signal.SIGINT, signal.SIG_IGN)
+    signal.signal(signal.SIGHUP, signal.SIG_DFL)
+    signal.signal(signal.SIGTERM, signal.SIG_DFL)
+    signal.pthread_sigmask(signal.SIG_SETMASK, mask)
+    programs.set_limit(how.seconds)
+    session.begin(how.room)
+    util.Finalize(None, session.finish, exitpriority=10)  # the processes of a pool don't run atexit
+
+
+def _by_processes(chunks: Iterator[Sequence[Found]], how: How, files: Iterator[str], unfinished: List[Task]) -> Iterator[Batch]:
+    """The results of several processes. If one of them dies, the tasks that have no result are left in `unfinished`, without files."""
+    waiting: "Deque[Future[Batch]]" = deque()  # in the order of `unfinished`, which has a task before it is given to the pool
+    pool = _pool(how, how.processes)
+    try:
+        while True:
+            for chunk in itertools.islice(chunks, 4 * how.processes - len(waiting)):
+                task = Task(chunk, next(files))
+                unfinished.append(task)
+                waiting.append(pool.submit(look_at_some, task, how))
+            if not waiting:
+                break
+            found = waiting[0].result()
+            waiting.popleft()
+            unfinished[:1] = [Task(found.left, next(files))] if found.left else []
+            yield found
+            if found.left:
+                waiting.appendleft(pool.submit(look_at_some, unfinished[0], how))
+        pool.shutdown()
+    except BrokenProcessPool:
+        return
+    finally:
+        signals.end_children()
+        pool.shutdown(wait=True, cancel_futures=True)
+        _remove_files(unfinished)
+
+
+def _remove_files(tasks: Iterable[Task]) -> None:
+    """Removes the files of tasks whose processes have ended: their pictures are looked at again, or not at all."""
+    for it in tasks:
+        with contextlib.suppress(FileNotFoundError):
+            os.unlink(it.file)
+
+
+def _pool(how: How, processes: int) -> ProcessPoolExecutor:
+    """Processes that have begun. A signal that comes meanwhile ends them. Raises `programs.Failed`."""
+    context = multiprocessing.get_context("fork")
+    try:
+        with signals.signals_held() as mask:
+            pool = ProcessPoolExecutor(processes, mp_context=context, initializer=_begin, initargs=(how, os.getpid(), mask))
+            pool.submit(os.getpid)  # the first task starts all of them
+        return pool
+    except OSError as error:
+        signals.end_children()
+        raise programs.Failed(f"a further process can't be started: {reason(error)}") from error
+    except BaseException:
+        signals.end_children()
+        raise
+
+
+def _one_by_one(chunk: Sequence[Found], how: How) -> Iterator[Entry]:
+    """The results for a chunk at which a process died: each file gets a process of its own, so that only one file fails."""
+    for it in chunk:
+        pool = _pool(how, 1)
+        try:
+            yield pool.submit(look, it, how.whole).result()
+        except BrokenProcessPool:
+            yield failed(it, "the process that looked at it died twice")
+        finally:
+            signals.end_children()
+            pool.shutdown(wait=True, cancel_futures=True)

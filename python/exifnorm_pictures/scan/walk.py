@@ -1,0 +1,102 @@
+"""The files of a command: all below some folders, or those of a list."""
+
+from __future__ import annotations
+
+import os
+import stat
+import sys
+from typing import BinaryIO, Callable, Collection, Iterable, Iterator, List, NamedTuple, Optional
+
+from ..catalogue.records import Stamp
+from ..cli.signals import REFUSED_WORDS, Failure
+from ..cli.texts import reason
+
+
+class Found(NamedTuple):
+    """A file, the folder below which it was found (or its own folder, if it was named by itself), and its marks."""
+
+    path: bytes
+    root: bytes
+    stamp: Optional[Stamp]  # None if the file system has none
+
+
+class Unlisted(NamedTuple):
+    """A folder whose files can't be listed, or a name that leads nowhere, and why."""
+
+    path: bytes
+    reason: str
+
+
+class BadList(Failure):
+    """A list of names that can't be used."""
+
+    status = REFUSED_WORDS
+
+
+OnUnlisted = Callable[[Unlisted], None]
+
+
+def below(names: Iterable[bytes], unlisted: OnUnlisted, leave_out: Collection[bytes] = ()) -> Iterator[Found]:
+    """Each file of the arguments, and all files below each folder, in the order of their names.
+
+    Paths are absolute. Links to folders aren't followed. Hidden files and folders are included; the files of `leave_out` are not.
+    A folder that can't be read, and a name without a file, are passed to `unlisted`, and the other files are still returned.
+    """
+    for name in names:
+        top = os.path.abspath(name)
+        try:
+            now = os.stat(top)
+        except OSError as error:
+            if isinstance(error, FileNotFoundError) and os.path.lexists(top):
+                yield Found(top, os.path.dirname(top), None)  # a link to nothing
+            else:
+                unlisted(Unlisted(top, reason(error)))
+            continue
+        if stat.S_ISDIR(now.st_mode):
+            yield from _below(top, unlisted, leave_out)
+        elif top not in leave_out:
+            yield Found(top, os.path.dirname(top), Stamp.of(now))
+
+
+def _below(top: bytes, unlisted: OnUnlisted, leave_out: Collection[bytes]) -> Iterator[Found]:
+    waiting = [top]
+    while waiting:
+        folder = waiting.pop()
+        try:
+            with os.scandir(folder) as entries:
+                found = sorted(entries, key=lambda it: it.name)
+        except OSError as error:
+            unlisted(Unlisted(folder, reason(error)))
+            continue
+        waiting += [it.path for it in reversed(found) if it.is_dir(follow_symlinks=False)]
+        for it in found:
+            if not _leads_to_folder(it) and it.path not in leave_out:
+                yield Found(it.path, top, _stamp(it))
+
+
+def _leads_to_folder(it: "os.DirEntry[bytes]") -> bool:
+    try:
+        return it.is_dir()
+    except OSError:  # a link that leads to itself
+        return False
+
+
+def _stamp(it: "os.DirEntry[bytes]") -> Optional[Stamp]:
+    try:
+        return Stamp.of(it.stat())
+    except OSError:
+        return None
+
+
+def listed(name: str, by_nul: bool, stdin: Optional[BinaryIO] = None) -> List[bytes]:
+    """The names in a list file (`-` is standard input): one for each line, or each ended by a NUL. Raises `BadList`."""
+    if name == "-":
+        if stdin is None and sys.stdin is None:
+            raise BadList("standard input is closed")
+        octets = (stdin or sys.stdin.buffer).read()
+    else:
+        with open(name, "rb") as file:
+            octets = file.read()
+    if not by_nul and b"\0" in octets:
+        raise BadList(f"the list {name} contains a NUL: if its names end with NUL, give -0")
+    return [it for it in octets.split(b"\0" if by_nul else b"\n") if it]
