@@ -16,11 +16,10 @@ from ..extract import programs
 from ..files import atomic, tempdir
 from ..scan.batches import How
 from ..scan.index import Asked, index
+from .exit_codes import DIFFERENT, FAILURE, SUCCESS, UNKNOWN
 from .output import chosen_paths, closed_folder, from_list, output
 from .parser import parser
 from .texts import Members, path_members, shown_path
-
-DONE, DIFFERENT, OPEN, FAILED = 0, 1, 2, 4
 
 
 # changed
@@ -51,10 +50,10 @@ def changed_(asked: argparse.Namespace) -> int:
 def status_of(counts: "Counter[str]") -> int:
     """The greatest status of some results."""
     if counts[changes.NOT_READ]:
-        return FAILED
+        return FAILURE
     if any(counts[it] for it in changes.OPEN):
-        return OPEN
-    return DIFFERENT if any(counts[it] for it in changes.DIFFERENCES) else DONE
+        return UNKNOWN
+    return DIFFERENT if any(counts[it] for it in changes.DIFFERENCES) else SUCCESS
 
 
 def _side(name: str, asked: argparse.Namespace, open_: contextlib.ExitStack) -> Catalogue:
@@ -138,7 +137,7 @@ def report_(asked: argparse.Namespace) -> int:
         if asked.json:
             for members in page.members(about):
                 print(json.dumps(members))
-    return DONE
+    return SUCCESS
 
 
 def _is_page(head: bytes) -> bool:

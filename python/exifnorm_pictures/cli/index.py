@@ -11,9 +11,9 @@ from ..catalogue.store import Catalogue, NoCatalogue, head_is_ours
 from ..files import atomic, tempdir
 from ..scan.batches import How
 from ..scan.index import Asked, index
+from .exit_codes import FAILURE, SUCCESS
 from .output import entry_json, entry_lines, named, output
 
-DONE, FAILED = 0, 4
 FAILURES = ("Unreadable", "ToolFailed", "InternalError", "NeedsExifTool", "NeedsExiv2")
 
 
@@ -34,7 +34,7 @@ def index_(asked: argparse.Namespace) -> int:
         counts = index(wanted, catalogue)
     summary = ", ".join(f"{count} {state}" for state, count in sorted(counts.items(), key=lambda it: (-it[1], it[0]))) or "no file"
     output(asked, [summary], {"counts": dict(counts)})
-    return FAILED if any(counts[it] for it in FAILURES) else DONE
+    return FAILURE if any(counts[it] for it in FAILURES) else SUCCESS
 
 
 def keep_old(catalogue: Catalogue, name: str, room: str) -> None:
@@ -54,4 +54,4 @@ def merge_(asked: argparse.Namespace) -> int:
     with Catalogue(asked.catalogue, make=True) as catalogue:
         count = merge(catalogue, asked.catalogues)
     output(asked, [f"{count} pictures"], {"pictures": count})
-    return DONE
+    return SUCCESS

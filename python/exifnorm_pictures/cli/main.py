@@ -8,11 +8,10 @@ import sys
 from typing import Optional, Sequence
 
 from . import signals
+from .exit_codes import FAILURE, STOPPED
 from .parser import parser
-from .signals import FAILED
 from .texts import described, reason, shown_path
 
-STOPPED = 130
 COLLECTED = 50_000  # objects after which Python looks for rings of objects: what a picture needs makes none, so mostly it looks in vain
 
 # The function of each command, with its module: importing the modules of all commands would take longer than most commands do.
@@ -86,7 +85,7 @@ def _is_expected(error: Exception) -> bool:
     return any(module in sys.modules and isinstance(error, getattr(sys.modules[module], name)) for module, name in _OTHERS)
 
 
-def _failed(text: str, status: int = FAILED) -> int:
+def _failed(text: str, status: int = FAILURE) -> int:
     signals.say(f"exifnorm-pictures: {text}")
     return status
 
@@ -94,4 +93,4 @@ def _failed(text: str, status: int = FAILED) -> int:
 def _output_failed(error: OSError) -> int:
     """Standard output can't be written to. If its reader has gone, no message is printed."""
     signals.drop(sys.stdout)
-    return FAILED if isinstance(error, BrokenPipeError) else _failed(f"standard output: {reason(error)}")
+    return FAILURE if isinstance(error, BrokenPipeError) else _failed(f"standard output: {reason(error)}")

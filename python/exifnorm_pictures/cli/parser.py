@@ -7,7 +7,7 @@ import sys
 from typing import IO, Callable, NoReturn, Optional, Tuple
 
 from ..catalogue.blocks import KIND_OF
-from .signals import REFUSED_WORDS
+from .exit_codes import USAGE
 
 SECONDS = 60.0  # that a program may take for one file
 
@@ -34,7 +34,7 @@ class _Parser(argparse.ArgumentParser):
 
     def error(self, message: str) -> NoReturn:
         self.print_usage(sys.stderr)
-        self.exit(REFUSED_WORDS, f"{self.prog}: {message}\n")
+        self.exit(USAGE, f"{self.prog}: {message}\n")
 
     def exit(self, status: int = 0, message: Optional[str] = None) -> NoReturn:
         """Ends with this status. It flushes the output of --help before, so that a failed write is reported."""

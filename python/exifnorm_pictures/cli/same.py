@@ -8,10 +8,9 @@ import json
 from ..catalogue.blocks import KIND_OF, KINDS, WORDS
 from ..catalogue.store import Catalogue
 from ..compare import groups
+from .exit_codes import SUCCESS
 from .output import chosen_paths
 from .texts import path_members, shown_path
-
-DONE = 0
 
 
 def same(asked: argparse.Namespace) -> int:
@@ -32,7 +31,7 @@ def same(asked: argparse.Namespace) -> int:
         left = groups.left_out(catalogue, kinds, only)
         if left and not asked.json:
             print(f"{left} picture{'s' * (left > 1)} in no group: a block is refused or unreadable, or a part was not read")
-    return DONE
+    return SUCCESS
 
 
 def _print_group(it: groups.Group) -> None:

@@ -18,11 +18,11 @@ from ..fields.listing import unpacked
 from ..fields.listing import readable as listed
 from ..files import tempdir
 from ..refusals import explain, mend
+from .exit_codes import DIFFERENT, FAILURE, SUCCESS, UNKNOWN
 from .output import block_members, from_list, named, output
 from .parser import parser
 from .texts import Members, path_members, reason, shown_path
 
-DONE, LOST, REFUSED, FAILED = 0, 1, 2, 4
 LONGEST = LIMIT + 7  # bytes of a block that are read: one more than any block and its six bytes in front can have
 
 Said = Tuple[List[str], Members]
@@ -55,7 +55,7 @@ Say = Callable[[Found, Block], Said]
 
 def _each(asked: argparse.Namespace, say: Say, refused_too: bool = False) -> int:
     """Prints something about each block of each picture. Returns the greatest status."""
-    worst = DONE
+    worst = SUCCESS
     names = list(dict.fromkeys(named(asked, asked.pictures)))
     programs.set_limit(asked.limit)
     with tempdir.room() as room:
@@ -74,12 +74,12 @@ def _one(asked: argparse.Namespace, name: bytes, head: List[str], say: Say, refu
     names = path_members(name)
     if blocks.problem:
         output(asked, [*head, f"{blocks.problem}: {blocks.detail}"], {**names, "problem": blocks.problem, "detail": blocks.detail})
-        return FAILED
-    worst = DONE
+        return FAILURE
+    worst = SUCCESS
     data = {it.name: it for it in blocks.found}
     for it in judge_all(blocks, with_fields=True):
         if it.status != ACCEPTED:
-            worst = REFUSED
+            worst = UNKNOWN
         lines, members = say(data[it.name], it) if it.status == ACCEPTED or refused_too else _refused(it)
         if lines or (asked.json and members):
             output(asked, [*head, *lines], {**names, "name": it.name, **members})
@@ -143,7 +143,7 @@ def explain_(asked: argparse.Namespace) -> int:
 
 def mend_(asked: argparse.Namespace) -> int:
     """Writes copies whose blocks are accepted."""
-    worst = DONE
+    worst = SUCCESS
     programs.set_limit(asked.limit)
     with tempdir.room() as room:
         session.begin(room)
@@ -162,9 +162,9 @@ def _mend_one(asked: argparse.Namespace, picture: bytes, out: bytes, room: str) 
         problem = "NotWritten" if isinstance(error, mend.NotWritten) else "ToolFailed"
         line = f"{shown_path(picture)}: {shown_path(out)} isn't written: {error}"
         output(asked, [line], {**path_members(picture), "problem": problem, "detail": str(error)})
-        return FAILED
+        return FAILURE
     output(asked, _mended_lines(picture, found), _mended_members(picture, found))
-    return FAILED if found.problem else REFUSED if found.step == mend.NONE else LOST if found.lost else DONE
+    return FAILURE if found.problem else UNKNOWN if found.step == mend.NONE else DIFFERENT if found.lost else SUCCESS
 
 
 def _pairs(asked: argparse.Namespace) -> Iterator[Tuple[bytes, bytes]]:

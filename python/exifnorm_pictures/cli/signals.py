@@ -9,8 +9,9 @@ import sys
 from types import FrameType
 from typing import IO, Iterator, List, Optional, Set
 
+from .exit_codes import FAILURE
+
 SIGNALS = (signal.SIGTERM, signal.SIGHUP)
-REFUSED_WORDS, FAILED = 3, 4  # statuses
 
 
 class Stopped(BaseException):
@@ -24,7 +25,7 @@ class Stopped(BaseException):
 class Failure(Exception):
     """An error whose text is for people. It ends the command with `status`."""
 
-    status = FAILED
+    status = FAILURE
 
 
 class ClosedOutput(Failure):

@@ -8,7 +8,8 @@ import sys
 from typing import BinaryIO, Callable, Collection, Iterable, Iterator, List, NamedTuple, Optional
 
 from ..catalogue.records import Stamp
-from ..cli.signals import REFUSED_WORDS, Failure
+from ..cli.exit_codes import USAGE
+from ..cli.signals import Failure
 from ..cli.texts import reason
 
 
@@ -30,7 +31,7 @@ class Unlisted(NamedTuple):
 class BadList(Failure):
     """A list of names that can't be used."""
 
-    status = REFUSED_WORDS
+    status = USAGE
 
 
 OnUnlisted = Callable[[Unlisted], None]
