@@ -1,4 +1,4 @@
-"""The commands about two states of an archive, or one of them: `changed` and `report`."""
+"""The command `changed`."""
 
 from __future__ import annotations
 
@@ -7,25 +7,20 @@ import contextlib
 import json
 import os
 from collections import Counter
-from typing import BinaryIO, List, Optional
+from typing import List, Optional
 
 from ..catalogue.blocks import WORDS
 from ..catalogue.store import Catalogue, NoCatalogue
 from ..compare import changed as changes
-from ..extract import programs
-from ..files import atomic, tempdir
+from ..files import tempdir
 from ..scan.batches import How
 from ..scan.index import Asked, index
 from .exit_codes import DIFFERENT, FAILURE, SUCCESS, UNKNOWN
-from .output import chosen_paths, closed_folder, from_list, output
-from .parser import parser
+from .output import closed_folder, from_list, output
 from .texts import Members, path_members, shown_path
 
 
-# changed
-
-
-def changed_(asked: argparse.Namespace) -> int:
+def run(asked: argparse.Namespace) -> int:
     """Lists the differences between two states."""
     names = from_list(asked)
     only = None if names is None else {*names, *(os.path.abspath(it) for it in names)}
@@ -110,48 +105,3 @@ def changed_members(it: changes.Compared) -> Members:
         found["moved_to"] = path_members(it.moved_to)
     found["kinds"] = {WORDS[one.kind]: one.result for one in it.verdicts}
     return {**found, "fields": [{"name": one.name, "before": one.before, "after": one.after} for one in it.changes]}
-
-
-# report
-
-
-def report_(asked: argparse.Namespace) -> int:
-    """Writes one page about a catalogue, or the same as JSON."""
-    if not asked.html and not asked.json:
-        parser().error("report: give --html PAGE, --json, or both")
-    from ..extract import session  # which take long to import
-    from ..report import page  # which take long to import
-
-    chosen = chosen_paths(asked)
-    with contextlib.ExitStack() as open_:
-        catalogue = open_.enter_context(Catalogue(asked.catalogue))
-        old = open_.enter_context(Catalogue(asked.since)) if asked.since else None
-        room = open_.enter_context(tempdir.room())
-        about = page.About(catalogue, old, chosen)
-        if asked.html:
-            programs.set_limit(asked.limit)
-            session.begin(room)
-            open_.callback(session.finish)
-            text = page.page(page.gather(about), asked.title)
-            _write_page(asked, text.encode("utf-8", "backslashreplace"))
-        if asked.json:
-            for members in page.members(about):
-                print(json.dumps(members))
-    return SUCCESS
-
-
-def _is_page(head: bytes) -> bool:
-    return head[:14].lower() == b"<!doctype html"
-
-
-def _write_page(asked: argparse.Namespace, octets: bytes) -> None:
-    try:
-        kept = (asked.catalogue, asked.since) if asked.since else (asked.catalogue,)
-        atomic.replace(os.fsencode(asked.html), lambda file: _write(file, octets), _is_page, kept)
-    except atomic.NotReplaced as error:
-        raise atomic.NotReplaced(f"{asked.html} isn't written: {error}") from None
-
-
-def _write(file: BinaryIO, octets: bytes) -> None:
-    file.write(octets)
-

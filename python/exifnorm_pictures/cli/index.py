@@ -1,4 +1,4 @@
-"""The commands that write catalogues: `index` and `merge`."""
+"""The command `index`."""
 
 from __future__ import annotations
 
@@ -6,7 +6,6 @@ import argparse
 import os
 import shutil
 
-from ..catalogue.merge import merge
 from ..catalogue.store import Catalogue, NoCatalogue, head_is_ours
 from ..files import atomic, tempdir
 from ..scan.batches import How
@@ -17,7 +16,7 @@ from .output import entry_json, entry_lines, named, output
 FAILURES = ("Unreadable", "ToolFailed", "InternalError", "NeedsExifTool", "NeedsExiv2")
 
 
-def index_(asked: argparse.Namespace) -> int:
+def run(asked: argparse.Namespace) -> int:
     """Looks at pictures and keeps the results."""
     names = named(asked, asked.folders)
     if any(not it for it in names):
@@ -47,11 +46,3 @@ def keep_old(catalogue: Catalogue, name: str, room: str) -> None:
         except atomic.NotReplaced as error:
             raise atomic.NotReplaced(f"{name} isn't written: {error}") from None
     os.unlink(copy)
-
-
-def merge_(asked: argparse.Namespace) -> int:
-    """Joins catalogues."""
-    with Catalogue(asked.catalogue, make=True) as catalogue:
-        count = merge(catalogue, asked.catalogues)
-    output(asked, [f"{count} pictures"], {"pictures": count})
-    return SUCCESS

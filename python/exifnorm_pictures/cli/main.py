@@ -14,18 +14,6 @@ from .texts import described, reason, shown_path
 
 COLLECTED = 50_000  # objects after which Python looks for rings of objects: what a picture needs makes none, so mostly it looks in vain
 
-# The function of each command, with its module: importing the modules of all commands would take longer than most commands do.
-_CALLS = {
-    "index": ("index", "index_"),
-    "merge": ("index", "merge_"),
-    "same": ("same", "same"),
-    "changed": ("changed", "changed_"),
-    "report": ("changed", "report_"),
-    "show": ("show", "show"),
-    "captions": ("show", "captions"),
-    "explain": ("show", "explain_"),
-    "mend": ("show", "mend_"),
-}
 _OTHERS = (("exifnorm", "LibraryMissing"), ("sqlite3", "OperationalError"))  # errors of other packages whose texts are for people
 
 
@@ -53,11 +41,11 @@ def _run(words: Optional[Sequence[str]]) -> int:
         signals.set_debug(False)
         asked = parser().parse_args(words)
         signals.set_debug(asked.debug)
-        module, function = _CALLS[asked.command]
-        call = getattr(importlib.import_module(f".{module}", __package__), function)
+        # importing the modules of all commands would take longer than most commands do
+        command = importlib.import_module(f".{asked.command}", __package__)
         gc.freeze()
         gc.set_threshold(COLLECTED)
-        return int(call(asked))
+        return int(command.run(asked))
     except KeyboardInterrupt:
         signals.say("exifnorm-pictures: stopped; the same command goes on from there")
         return STOPPED

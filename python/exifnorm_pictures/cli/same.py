@@ -13,7 +13,7 @@ from .output import chosen_paths
 from .texts import path_members, shown_path
 
 
-def same(asked: argparse.Namespace) -> int:
+def run(asked: argparse.Namespace) -> int:
     """Lists the groups of pictures that mean the same."""
     kinds = KINDS if asked.kind == "all" else (KIND_OF[asked.kind],)
     chosen = chosen_paths(asked)

@@ -1,0 +1,93 @@
+"""Prints something about each block of the pictures that are given by name, as `show`, `captions` and `explain` do."""
+
+from __future__ import annotations
+
+import argparse
+from typing import Callable, List, Tuple
+
+from exifnorm import LIMIT
+
+from ..catalogue.blocks import WORDS, Block
+from ..compare.verdicts import ACCEPTED
+from ..extract import extraction, programs, session
+from ..extract.formats.found import EXIF, IPTC, NAMES, Blocks, Found
+from ..extract.judge import judge_all
+from ..files import tempdir
+from .exit_codes import FAILURE, SUCCESS, UNKNOWN
+from .output import block_members, named, output
+from .texts import Members, path_members, reason, shown_path
+
+LONGEST = LIMIT + 7  # bytes of a block that are read: one more than any block and its six bytes in front can have
+
+Said = Tuple[List[str], Members]
+Say = Callable[[Found, Block], Said]
+
+
+def _blocks(asked: argparse.Namespace, name: bytes) -> Blocks:
+    """The blocks of a picture, or the file as a block by itself."""
+    if not asked.block:
+        try:
+            return extraction.blocks_of(name, asked.whole)
+        except programs.Failed as error:
+            return Blocks(problem="ToolFailed", detail=str(error))
+        except programs.Missing as error:
+            return Blocks(problem="NeedsExifTool", detail=str(error))
+        except MemoryError:
+            raise
+        except Exception as error:  # an error of a reader affects only this file
+            return extraction.failed_here(error)
+    try:
+        with open(name, "rb") as file:
+            octets = file.read(LONGEST)
+    except OSError as error:
+        return Blocks(problem="Unreadable", detail=reason(error))
+    kind = IPTC if octets[:1] == b"\x1c" else EXIF
+    return Blocks([Found(kind, octets, NAMES[kind], "the file")])
+
+
+def each_block(asked: argparse.Namespace, say: Say, refused_too: bool = False) -> int:
+    """Prints something about each block of each picture. Returns the greatest status."""
+    worst = SUCCESS
+    names = list(dict.fromkeys(named(asked, asked.pictures)))
+    programs.set_limit(asked.limit)
+    with tempdir.room() as room:
+        session.begin(room)
+        try:
+            for name in names:
+                head = [f"== {shown_path(name)}"] if len(names) > 1 else []
+                worst = max(worst, _one(asked, name, head, say, refused_too))
+        finally:
+            session.finish()
+    return worst
+
+
+def _one(asked: argparse.Namespace, name: bytes, head: List[str], say: Say, refused_too: bool) -> int:
+    blocks = _blocks(asked, name)
+    names = path_members(name)
+    if blocks.problem:
+        output(asked, [*head, f"{blocks.problem}: {blocks.detail}"], {**names, "problem": blocks.problem, "detail": blocks.detail})
+        return FAILURE
+    worst = SUCCESS
+    data = {it.name: it for it in blocks.found}
+    for it in judge_all(blocks, with_fields=True):
+        if it.status != ACCEPTED:
+            worst = UNKNOWN
+        lines, members = say(data[it.name], it) if it.status == ACCEPTED or refused_too else _refused(it)
+        if lines or (asked.json and members):
+            output(asked, [*head, *lines], {**names, "name": it.name, **members})
+            head = []
+    if not blocks.found:
+        output(asked, [*head, "no Exif, IPTC or XMP block"], {**names, "kind": None})
+    if blocks.not_read:
+        what = [it.what for it in blocks.not_read]
+        output(asked, [f"not wholly read: {', '.join(what)}"], {**names, "not_read": what})
+    return worst
+
+
+def _refused(it: Block) -> Said:
+    return [f"{it.name}: {it.line}"], block_members(it)
+
+
+def with_kind(members: Members) -> Members:
+    """The members with the kind's word as people know it."""
+    return {**members, "kind": WORDS.get(members["kind"], members["kind"])} if "kind" in members else members

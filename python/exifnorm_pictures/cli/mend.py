@@ -1,0 +1,71 @@
+"""The command `mend`."""
+
+from __future__ import annotations
+
+import argparse
+import os
+from typing import Iterator, List, Tuple
+
+from ..extract import programs, session
+from ..files import tempdir
+from ..refusals import mend
+from .exit_codes import DIFFERENT, FAILURE, SUCCESS, UNKNOWN
+from .output import from_list, output
+from .parser import parser
+from .texts import Members, path_members, shown_path
+
+
+def run(asked: argparse.Namespace) -> int:
+    """Writes copies whose blocks are accepted."""
+    worst = SUCCESS
+    programs.set_limit(asked.limit)
+    with tempdir.room() as room:
+        session.begin(room)
+        try:
+            for picture, out in _pairs(asked):
+                worst = max(worst, _mend_one(asked, picture, out, room))
+        finally:
+            session.finish()
+    return worst
+
+
+def _mend_one(asked: argparse.Namespace, picture: bytes, out: bytes, room: str) -> int:
+    try:
+        found = mend.mend(picture, out, room)
+    except (mend.NotWritten, programs.Failed) as error:
+        problem = "NotWritten" if isinstance(error, mend.NotWritten) else "ToolFailed"
+        line = f"{shown_path(picture)}: {shown_path(out)} isn't written: {error}"
+        output(asked, [line], {**path_members(picture), "problem": problem, "detail": str(error)})
+        return FAILURE
+    output(asked, _mended_lines(picture, found), _mended_members(picture, found))
+    return FAILURE if found.problem else UNKNOWN if found.step == mend.NONE else DIFFERENT if found.lost else SUCCESS
+
+
+def _pairs(asked: argparse.Namespace) -> Iterator[Tuple[bytes, bytes]]:
+    names = [os.fsencode(it) for it in asked.names]
+    if asked.files_from:
+        if len(names) != 1 or not os.path.isdir(names[0]):
+            parser().error("mend: with --files-from give the folder OUT alone, which must be there")
+        for it in from_list(asked) or []:
+            yield it, os.path.join(names[0], os.path.basename(it))
+    elif len(names) != 2:
+        parser().error("mend: give PICTURE and OUT")
+    else:
+        yield names[0], names[1]
+
+
+def _mended_lines(picture: bytes, found: mend.Mended) -> List[str]:
+    name = shown_path(picture)
+    if found.problem:
+        return [f"{name}: {found.problem}"]
+    before = "; ".join(f"{name} {line}" for name, line in found.before.items())
+    lines = [f"{name}: {before + ': ' if before else ''}{mend.STEP_WORDS[found.step]}"]
+    if found.step not in (mend.NONE, mend.COPY):
+        lines.append(f"  {len(found.lost)} printed values lost or changed")
+        lines += [f"  - {it}" for it in found.lost] + [f"  + {it}" for it in found.gained]
+    return lines
+
+
+def _mended_members(picture: bytes, found: mend.Mended) -> Members:
+    known = {"step": found.step, "before": found.before, "lost": found.lost, "gained": found.gained}
+    return {**path_members(picture), **known, **({"problem": found.problem} if found.problem else {})}

@@ -1,0 +1,18 @@
+"""The command `merge`."""
+
+from __future__ import annotations
+
+import argparse
+
+from ..catalogue.merge import merge
+from ..catalogue.store import Catalogue
+from .exit_codes import SUCCESS
+from .output import output
+
+
+def run(asked: argparse.Namespace) -> int:
+    """Joins catalogues."""
+    with Catalogue(asked.catalogue, make=True) as catalogue:
+        count = merge(catalogue, asked.catalogues)
+    output(asked, [f"{count} pictures"], {"pictures": count})
+    return SUCCESS

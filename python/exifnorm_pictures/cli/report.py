@@ -1,0 +1,55 @@
+"""The command `report`."""
+
+from __future__ import annotations
+
+import argparse
+import contextlib
+import json
+import os
+from typing import BinaryIO
+
+from ..catalogue.store import Catalogue
+from ..extract import programs, session
+from ..files import atomic, tempdir
+from ..report import page
+from .exit_codes import SUCCESS
+from .output import chosen_paths
+from .parser import parser
+
+
+def run(asked: argparse.Namespace) -> int:
+    """Writes one page about a catalogue, or the same as JSON."""
+    if not asked.html and not asked.json:
+        parser().error("report: give --html PAGE, --json, or both")
+    chosen = chosen_paths(asked)
+    with contextlib.ExitStack() as open_:
+        catalogue = open_.enter_context(Catalogue(asked.catalogue))
+        old = open_.enter_context(Catalogue(asked.since)) if asked.since else None
+        room = open_.enter_context(tempdir.room())
+        about = page.About(catalogue, old, chosen)
+        if asked.html:
+            programs.set_limit(asked.limit)
+            session.begin(room)
+            open_.callback(session.finish)
+            text = page.page(page.gather(about), asked.title)
+            _write_page(asked, text.encode("utf-8", "backslashreplace"))
+        if asked.json:
+            for members in page.members(about):
+                print(json.dumps(members))
+    return SUCCESS
+
+
+def _is_page(head: bytes) -> bool:
+    return head[:14].lower() == b"<!doctype html"
+
+
+def _write_page(asked: argparse.Namespace, octets: bytes) -> None:
+    try:
+        kept = (asked.catalogue, asked.since) if asked.since else (asked.catalogue,)
+        atomic.replace(os.fsencode(asked.html), lambda file: _write(file, octets), _is_page, kept)
+    except atomic.NotReplaced as error:
+        raise atomic.NotReplaced(f"{asked.html} isn't written: {error}") from None
+
+
+def _write(file: BinaryIO, octets: bytes) -> None:
+    file.write(octets)
