@@ -230,7 +230,7 @@ class Scale(WithPictures):
         self.pictures("p", 2)
         self.asked("index", "p", "--catalogue", "c", "--quiet")
         call = "import sys; from exifnorm_pictures.cli.main import main; main(sys.argv[1:]); print(*sys.modules, file=sys.stderr)"
-        names = ("extract.extraction", "refusals.mend", "refusals.explain", "compare.changed", "report.page", "scan.processes")
+        names = ("extract.extraction", "refusals.mend", "refusals.explain", "compare.changed", "report.page", "scan.workers")
         own = [f"exifnorm_pictures.{it}" for it in names]
         watched = {"exifnorm", "html", "logging", "multiprocessing", "subprocess", "urllib", "xml", *own}
         for words, needed in ((["same", "--catalogue", "c"], set()), (["index", "p", "--catalogue", "c", "--quiet"], {"subprocess"}),

@@ -13,7 +13,7 @@ from typing import Any, Dict, Iterator, List, Optional, Sequence
 
 from ..catalogue.records import Entry, Stamp
 from ..extract import programs
-from . import looking
+from . import workers
 from .batches import How
 from .index import Look
 from .walk import Found
@@ -32,7 +32,7 @@ POLL = 2.0  # seconds without a result after which the workers are counted
 def look_there(root: bytes, names: Sequence[bytes], how: How) -> List[Entry]:
     """A worker's task: looks at files by their names relative to its own path of the folder."""
     programs.set_limit(how.seconds)
-    return [looking.look(Found(os.path.join(root, name), root, _stamp(os.path.join(root, name))), how.whole) for name in names]
+    return [workers.look(Found(os.path.join(root, name), root, _stamp(os.path.join(root, name))), how.whole) for name in names]
 
 
 def _stamp(path: bytes) -> Optional[Stamp]:

@@ -28,9 +28,9 @@ Look = Callable[[Sequence[Found], How], Iterator[Result]]
 
 
 def _looked(work: Sequence[Found], how: How) -> Iterator[Result]:
-    from . import looking  # the readers take long to import, and in most runs nothing has changed
+    from . import workers  # the readers take long to import, and in most runs nothing has changed
 
-    return looking.looked(work, how)
+    return workers.looked(work, how)
 
 
 @dataclass

@@ -1,4 +1,7 @@
-"""Looks at pictures in several processes, and returns the results in the order of the names. If a process dies, no picture is lost."""
+"""Looks at pictures, in this process or in several, and returns the results in the order of the names.
+
+If a process dies, no picture is lost. The module takes long to import, so only what looks at pictures imports it.
+"""
 
 from __future__ import annotations
 
@@ -13,19 +16,72 @@ from collections import deque
 from concurrent.futures import Future, ProcessPoolExecutor
 from concurrent.futures.process import BrokenProcessPool
 from multiprocessing import util
-from typing import Deque, Iterable, Iterator, List, NamedTuple, Sequence, Set
+from typing import Deque, Iterable, Iterator, List, NamedTuple, Optional, Sequence, Set
 
-from ..catalogue.records import Entry
+from exifnorm import LibraryMissing
+
+from ..catalogue.records import Entry, Stamp
 from ..cli import signals
 from ..cli.texts import reason
-from ..extract import programs, session
+from ..extract import extraction, judge, programs, session
+from ..extract.formats.found import Blocks
 from .batches import LONGEST_WAIT, Batch, How, Result, batch
-from .looking import failed, look
 from .walk import Found
 
+FEW = 64  # pictures for which starting a further process takes too long
 CHUNK = 500  # pictures that a process gets at once at most
 PARTS = 8  # chunks of each process at least, so that all end at nearly the same time ..
 LEAST_CHUNK = 8  # .. unless they have fewer pictures than this
+
+
+def look(it: Found, whole: bool) -> Entry:
+    """The result for one file. An error of any kind affects only this file."""
+    try:
+        blocks = extraction.blocks_of(it.path, whole)
+        judged = [] if blocks.problem else judge.judge_all(blocks, with_fields=True)
+    except LibraryMissing:  # an OSError too, but not of this file
+        raise
+    except programs.Failed as error:
+        return failed(it, str(error))
+    except OSError as error:
+        return Entry(it.path, it.root, problem="Unreadable", detail=reason(error))
+    except programs.Missing as error:
+        return Entry.of(it.path, it.root, it.stamp, Blocks(problem="NeedsExifTool", detail=str(error)))
+    except MemoryError:
+        return failed(it, "out of memory")
+    except Exception as error:  # an error of a reader affects only this file
+        return Entry.of(it.path, it.root, it.stamp, extraction.failed_here(error))
+    return Entry.of(it.path, it.root, _unless_changed(it), blocks, judged)
+
+
+def failed(it: Found, why: str) -> Entry:
+    """The result for a file at which a program or a process failed."""
+    return Entry.of(it.path, it.root, it.stamp, Blocks(problem="ToolFailed", detail=why))
+
+
+def _unless_changed(it: Found) -> Optional[Stamp]:
+    """The marks that identify the file; none if it was written to meanwhile, so that the next run looks again."""
+    try:
+        return it.stamp if it.stamp == Stamp.of(os.stat(it.path)) else None
+    except OSError:
+        return None
+
+
+def looked(work: Sequence[Found], how: How) -> Iterator[Result]:
+    """The results for these files, in their order."""
+    if how.processes == 1 or len(work) <= FEW:
+        return _in_this_process(work, how)
+    return _in_several_processes(work, how)
+
+
+def _in_this_process(work: Sequence[Found], how: How) -> Iterator[Entry]:
+    programs.set_limit(how.seconds)
+    session.begin(how.room)
+    try:
+        for it in work:
+            yield look(it, how.whole)
+    finally:
+        session.finish()
 
 
 class Task(NamedTuple):
@@ -35,8 +91,7 @@ class Task(NamedTuple):
     file: str
 
 
-def looked(work: Sequence[Found], how: How) -> Iterator[Result]:
-    """The results for these files, in their order."""
+def _in_several_processes(work: Sequence[Found], how: How) -> Iterator[Result]:
     size = max(LEAST_CHUNK, min(CHUNK, len(work) // (PARTS * how.processes)))
     chunks = iter([work[at : at + size] for at in range(0, len(work), size)])
     files = (os.path.join(how.room, f"rows-{number}") for number in itertools.count())
