@@ -12,7 +12,7 @@ from exifnorm_pictures.cli import main
 from exifnorm_pictures.compare import changed, pairs
 from exifnorm_pictures.extract import extraction, session
 from exifnorm_pictures.fields import listing
-from exifnorm_pictures.catalogue.blocks import Block, Damaged
+from exifnorm_pictures.catalogue.records import Block, Damaged
 from exifnorm_pictures.catalogue.store import Catalogue, NoCatalogue
 from exifnorm_pictures.extract.formats import png
 from exifnorm_pictures.extract.formats.found import NotRead

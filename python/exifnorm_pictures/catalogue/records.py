@@ -1,4 +1,4 @@
-"""The record of a picture: its blocks, its unread parts, and the file system's marks that show an edit."""
+"""The records of a catalogue: a picture with its unread parts and the file system's marks that show an edit, and its judged blocks."""
 
 from __future__ import annotations
 
@@ -8,8 +8,54 @@ from dataclasses import dataclass
 from typing import Any, Dict, Iterable, List, NamedTuple, Optional, Sequence, Tuple
 
 from ..compare.verdicts import ABSENT, ACCEPTED, REFUSED, UNREADABLE, Side, side_of
-from ..extract.formats.found import XMP, Blocks, NotRead
-from .blocks import KIND_OF, KINDS, Block, Damaged
+from ..extract.formats.found import EXIF, IPTC, XMP, Blocks, NotRead
+
+KINDS = (EXIF, IPTC, XMP)
+WORDS = {EXIF: "exif", IPTC: "iptc", XMP: "xmp"}  # the names for people and in the catalogue: archivists know IPTC, the engine IIM
+KIND_OF = {word: kind for kind, word in WORDS.items()}
+
+TOO_LONG, FAILED = "too long", "failed"
+
+
+class Damaged(Exception):
+    """A catalogue has a value that nothing here writes: it is damaged. Only what reads the values of a catalogue raises this."""
+
+
+class Block(NamedTuple):
+    """A block: its name, its position in the file, its reader, and the result of judging it."""
+
+    kind: str
+    name: str  # which block of the picture it is: `Exif`, `second Exif`, `page 2`
+    source: str  # its position in the file
+    extractor: str
+    status: str
+    digest: Optional[str]  # SHA-256 of its meaning, if it is accepted
+    cause: Optional[str]  # why it isn't accepted
+    place: Optional[int]
+    length: int
+    octets: str  # SHA-256 of its bytes, which distinguishes a copied block from one that was written again
+    kept: Optional[bytes] = None  # its fields in the form of `listing.packed`, if they were requested
+
+    def row(self) -> Tuple[Any, ...]:
+        """The block as a row of the catalogue, with its fields."""
+        return (WORDS[self[0]], *self[1:11])
+
+    @property
+    def refusal(self) -> str:
+        """The cause and byte offset of a refusal in a line."""
+        return f"{self.cause} at {self.place}" if self.place is not None else str(self.cause)
+
+    @property
+    def line(self) -> str:
+        """The result in a line, as the program `exifnorm check` puts it."""
+        if self.status == ACCEPTED:
+            return f"ok {self.kind}"
+        if self.status == UNREADABLE:
+            return f"unreadable: {self.cause}"
+        if self.status == REFUSED:
+            return f"refused: {self.cause} at {self.place}"
+        return "refused: NormalTooLong" if self.status == TOO_LONG else "failed: OutOfMemory"
+
 
 _LEAST, _GREATEST = -(1 << 63), (1 << 63) - 1
 

@@ -14,8 +14,7 @@ from typing import Any, Callable, Iterable, Iterator, List, NamedTuple, Optional
 
 from ..cli.signals import Failure
 from ..extract.formats.found import NotRead
-from .blocks import Damaged
-from .records import Entry, Picture, Stamp, digests, has, not_read_of_row, picture_of_row
+from .records import Damaged, Entry, Picture, Stamp, digests, has, not_read_of_row, picture_of_row
 
 APPLICATION = 0x45584E50  # 'EXNP', which distinguishes a catalogue from other SQLite files
 VERSION = 2

@@ -4,7 +4,7 @@ from __future__ import annotations
 
 import argparse
 
-from ..catalogue.blocks import Block
+from ..catalogue.records import Block
 from ..extract.formats.found import XMP, Found
 from ..fields import caption_texts
 from .each_block import Said, each_block, with_kind

@@ -9,7 +9,7 @@ import os
 from collections import Counter
 from typing import List, Optional
 
-from ..catalogue.blocks import WORDS
+from ..catalogue.records import WORDS
 from ..catalogue.store import Catalogue, NoCatalogue
 from ..compare import changed as changes
 from ..files import tempdir

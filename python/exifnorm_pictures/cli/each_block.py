@@ -7,7 +7,7 @@ from typing import Callable, List, Tuple
 
 from exifnorm import LIMIT
 
-from ..catalogue.blocks import WORDS, Block
+from ..catalogue.records import WORDS, Block
 from ..compare.verdicts import ACCEPTED
 from ..extract import extraction, programs, session
 from ..extract.formats.found import EXIF, IPTC, NAMES, Blocks, Found

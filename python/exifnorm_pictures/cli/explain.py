@@ -4,7 +4,7 @@ from __future__ import annotations
 
 import argparse
 
-from ..catalogue.blocks import Block
+from ..catalogue.records import Block
 from ..compare.verdicts import ACCEPTED
 from ..extract.formats.found import XMP, Found
 from ..refusals import explain

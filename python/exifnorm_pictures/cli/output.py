@@ -7,8 +7,7 @@ import json
 import os
 from typing import List, Optional, Sequence, Set
 
-from ..catalogue.blocks import WORDS, Block
-from ..catalogue.records import Entry
+from ..catalogue.records import WORDS, Block, Entry
 from ..compare.verdicts import ACCEPTED
 from ..scan.walk import BadList, listed
 from .parser import parser

@@ -6,7 +6,7 @@ import argparse
 import sys
 from typing import IO, Callable, NoReturn, Optional, Tuple
 
-from ..catalogue.blocks import KIND_OF
+from ..catalogue.records import KIND_OF
 from .exit_codes import USAGE
 
 SECONDS = 60.0  # that a program may take for one file

@@ -5,7 +5,7 @@ from __future__ import annotations
 import argparse
 import json
 
-from ..catalogue.blocks import KIND_OF, KINDS, WORDS
+from ..catalogue.records import KIND_OF, KINDS, WORDS
 from ..catalogue.store import Catalogue
 from ..compare import groups
 from .exit_codes import SUCCESS

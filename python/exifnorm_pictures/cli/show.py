@@ -4,7 +4,7 @@ from __future__ import annotations
 
 import argparse
 
-from ..catalogue.blocks import WORDS, Block
+from ..catalogue.records import WORDS, Block
 from ..extract.formats.found import PROGRAMS, Found
 from ..fields.listing import readable, unpacked
 from .each_block import Said, each_block

@@ -11,7 +11,7 @@ from collections import Counter
 from dataclasses import dataclass, field
 from typing import Dict, Iterable, Iterator, List, Optional, Set, Tuple
 
-from ..catalogue.blocks import Block
+from ..catalogue.records import Block
 from ..catalogue.store import Catalogue
 from ..extract.formats.found import EXIF, NAMES, OWN, PROGRAMS
 from ..fields.listing import Change, changes, only_maker_note

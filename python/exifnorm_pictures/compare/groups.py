@@ -5,8 +5,7 @@ from __future__ import annotations
 from dataclasses import dataclass
 from typing import Callable, Dict, Iterator, List, Optional, Sequence, Tuple
 
-from ..catalogue.blocks import KINDS, WORDS
-from ..catalogue.records import has
+from ..catalogue.records import KINDS, WORDS, has
 from ..catalogue.store import Catalogue, Made
 from ..extract.formats.found import NAMES
 

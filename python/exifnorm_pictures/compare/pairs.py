@@ -8,8 +8,7 @@ import os
 import sqlite3
 from typing import Callable, Iterator, List, NamedTuple, Optional, Set, Tuple, TypeVar
 
-from ..catalogue.blocks import Block, Damaged
-from ..catalogue.records import Picture, block_of_row, not_read_of_row, picture_of_row
+from ..catalogue.records import Block, Damaged, Picture, block_of_row, not_read_of_row, picture_of_row
 from ..catalogue.store import BLOCK_COLUMNS, PICTURE_COLUMNS, Catalogue, NoCatalogue, address
 from ..extract.formats.found import NotRead
 from ..fields.listing import Field, unpacked

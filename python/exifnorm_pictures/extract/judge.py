@@ -8,7 +8,7 @@ from typing import Dict, List, Optional, Set
 import exifnorm
 
 from .. import xmp
-from ..catalogue.blocks import FAILED, TOO_LONG, Block
+from ..catalogue.records import FAILED, TOO_LONG, Block
 from ..compare.verdicts import ACCEPTED, REFUSED, UNREADABLE
 from ..fields import normal_form
 from ..fields.listing import packed

@@ -8,7 +8,7 @@ import re
 import zlib
 from typing import Callable, Dict, Iterator, List, NamedTuple, Optional, Tuple
 
-from ..catalogue.blocks import Damaged
+from ..catalogue.records import Damaged
 from ..cli.texts import escaped
 from .names import full_name
 

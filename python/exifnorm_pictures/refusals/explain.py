@@ -6,7 +6,7 @@ from dataclasses import dataclass, field
 from typing import Callable, Dict, List, Optional
 
 from .. import xmp
-from ..catalogue.blocks import Block
+from ..catalogue.records import Block
 from ..cli.texts import Members
 from ..compare.verdicts import REFUSED
 from ..extract.formats.found import XMP

@@ -13,8 +13,7 @@ from datetime import datetime, timezone
 from html import escape
 from typing import Any, Dict, Iterator, List, Optional, Set, Tuple
 
-from ..catalogue.blocks import WORDS
-from ..catalogue.records import Picture, has, kind_of
+from ..catalogue.records import WORDS, Picture, has, kind_of
 from ..catalogue.store import Catalogue, Run
 from ..cli.texts import Members, path_members, shown_path
 from ..compare import changed, groups, verdicts
