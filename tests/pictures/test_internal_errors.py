@@ -10,7 +10,7 @@ import pytest
 from exifnorm_pictures.catalogue import records, store
 from exifnorm_pictures.cli import main
 from exifnorm_pictures.compare import changed, pairs
-from exifnorm_pictures.extract import extraction, session
+from exifnorm_pictures.extract import exiftool, extraction
 from exifnorm_pictures.fields import listing
 from exifnorm_pictures.catalogue.records import Block, Damaged
 from exifnorm_pictures.catalogue.store import Catalogue, NoCatalogue
@@ -32,7 +32,7 @@ def command(capsys, tmp_path, monkeypatch):
     """Runs exifnorm-pictures in this process, in a new folder with two pictures; returns what it prints."""
     monkeypatch.chdir(tmp_path)
     monkeypatch.delenv("EXIFNORM_DEBUG", raising=False)
-    monkeypatch.setattr(session._Own, "room", None)
+    monkeypatch.setattr(exiftool._Own, "room", None)
     (tmp_path / "p").mkdir()
     (tmp_path / "p/a.jpg").write_bytes(jpeg())
     (tmp_path / "p/b.png").write_bytes(made_png())

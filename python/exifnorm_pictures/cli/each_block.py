@@ -9,7 +9,7 @@ from exifnorm import LIMIT
 
 from ..catalogue.records import WORDS, Block
 from ..compare.verdicts import ACCEPTED
-from ..extract import extraction, programs, session
+from ..extract import exiftool, extraction, programs
 from ..extract.formats.found import EXIF, IPTC, NAMES, Blocks, Found
 from ..extract.judge import judge_all
 from ..files import tempdir
@@ -51,13 +51,13 @@ def each_block(asked: argparse.Namespace, say: Say, refused_too: bool = False) -
     names = list(dict.fromkeys(named(asked, asked.pictures)))
     programs.set_limit(asked.limit)
     with tempdir.room() as room:
-        session.begin(room)
+        exiftool.begin(room)
         try:
             for name in names:
                 head = [f"== {shown_path(name)}"] if len(names) > 1 else []
                 worst = max(worst, _one(asked, name, head, say, refused_too))
         finally:
-            session.finish()
+            exiftool.finish()
     return worst
 
 

@@ -6,7 +6,7 @@ import argparse
 import os
 from typing import Iterator, List, Tuple
 
-from ..extract import programs, session
+from ..extract import exiftool, programs
 from ..files import tempdir
 from ..refusals import mend
 from .exit_codes import DIFFERENT, FAILURE, SUCCESS, UNKNOWN
@@ -20,12 +20,12 @@ def run(asked: argparse.Namespace) -> int:
     worst = SUCCESS
     programs.set_limit(asked.limit)
     with tempdir.room() as room:
-        session.begin(room)
+        exiftool.begin(room)
         try:
             for picture, out in _pairs(asked):
                 worst = max(worst, _mend_one(asked, picture, out, room))
         finally:
-            session.finish()
+            exiftool.finish()
     return worst
 
 

@@ -9,7 +9,7 @@ import os
 from typing import BinaryIO
 
 from ..catalogue.store import Catalogue
-from ..extract import programs, session
+from ..extract import exiftool, programs
 from ..files import atomic, tempdir
 from ..report import page
 from .exit_codes import SUCCESS
@@ -29,8 +29,8 @@ def run(asked: argparse.Namespace) -> int:
         about = page.About(catalogue, old, chosen)
         if asked.html:
             programs.set_limit(asked.limit)
-            session.begin(room)
-            open_.callback(session.finish)
+            exiftool.begin(room)
+            open_.callback(exiftool.finish)
             text = page.page(page.gather(about), asked.title)
             _write_page(asked, text.encode("utf-8", "backslashreplace"))
         if asked.json:

@@ -23,7 +23,7 @@ from exifnorm import LibraryMissing
 from ..catalogue.records import Entry, Stamp
 from ..cli import signals
 from ..cli.texts import reason
-from ..extract import extraction, judge, programs, session
+from ..extract import exiftool, extraction, judge, programs
 from ..extract.formats.found import Blocks
 from .batches import LONGEST_WAIT, Batch, How, Result, batch
 from .walk import Found
@@ -76,12 +76,12 @@ def looked(work: Sequence[Found], how: How) -> Iterator[Result]:
 
 def _in_this_process(work: Sequence[Found], how: How) -> Iterator[Entry]:
     programs.set_limit(how.seconds)
-    session.begin(how.room)
+    exiftool.begin(how.room)
     try:
         for it in work:
             yield look(it, how.whole)
     finally:
-        session.finish()
+        exiftool.finish()
 
 
 class Task(NamedTuple):
@@ -127,8 +127,8 @@ def _begin(how: How, parent: int, mask: Set[int]) -> None:
     signal.signal(signal.SIGTERM, signal.SIG_DFL)
     signal.pthread_sigmask(signal.SIG_SETMASK, mask)
     programs.set_limit(how.seconds)
-    session.begin(how.room)
-    util.Finalize(None, session.finish, exitpriority=10)  # the processes of a pool don't run atexit
+    exiftool.begin(how.room)
+    util.Finalize(None, exiftool.finish, exitpriority=10)  # the processes of a pool don't run atexit
 
 
 def _by_processes(chunks: Iterator[Sequence[Found]], how: How, files: Iterator[str], unfinished: List[Task]) -> Iterator[Batch]:
