@@ -16,8 +16,8 @@ from ..files import tempdir
 from ..scan.batches import How
 from ..scan.index import Asked, index
 from .exit_codes import DIFFERENT, FAILURE, SUCCESS, UNKNOWN
-from .output import closed_folder, from_list, output
-from .texts import Members, path_members, shown_path
+from .names import from_list
+from .output import Members, closed_folder, output, path_members, shown_path
 
 
 def run(asked: argparse.Namespace) -> int:

@@ -14,8 +14,8 @@ from ..extract.formats.found import EXIF, IPTC, NAMES, Blocks, Found
 from ..extract.judge import judge_all
 from ..files import tempdir
 from .exit_codes import FAILURE, SUCCESS, UNKNOWN
-from .output import block_members, named, output
-from .texts import Members, path_members, reason, shown_path
+from .names import named
+from .output import Members, block_members, output, path_members, reason, shown_path
 
 LONGEST = LIMIT + 7  # bytes of a block that are read: one more than any block and its six bytes in front can have
 

@@ -11,7 +11,8 @@ from ..files import atomic, tempdir
 from ..scan.batches import How
 from ..scan.index import Asked, index
 from .exit_codes import FAILURE, SUCCESS
-from .output import entry_json, entry_lines, named, output
+from .names import named
+from .output import entry_json, entry_lines, output
 
 FAILURES = ("Unreadable", "ToolFailed", "InternalError", "NeedsExifTool", "NeedsExiv2")
 

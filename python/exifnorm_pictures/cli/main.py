@@ -9,8 +9,8 @@ from typing import Optional, Sequence
 
 from . import signals
 from .exit_codes import FAILURE, STOPPED
+from .output import described, reason, shown_path
 from .parser import parser
-from .texts import described, reason, shown_path
 
 COLLECTED = 50_000  # objects after which Python looks for rings of objects: what a picture needs makes none, so mostly it looks in vain
 

@@ -10,9 +10,9 @@ from ..extract import exiftool, programs
 from ..files import tempdir
 from ..refusals import mend
 from .exit_codes import DIFFERENT, FAILURE, SUCCESS, UNKNOWN
-from .output import from_list, output
+from .names import from_list
+from .output import Members, output, path_members, shown_path
 from .parser import parser
-from .texts import Members, path_members, shown_path
 
 
 def run(asked: argparse.Namespace) -> int:

@@ -1,17 +1,83 @@
-"""Results as lines for people, or as JSON objects."""
+"""Results as lines for people or as JSON objects, and names of files and texts of pictures as one safe line.
+
+Such a line can't control a terminal, and has no end of a line in it.
+"""
 
 from __future__ import annotations
 
 import argparse
 import json
 import os
-from typing import List, Optional, Sequence, Set
+from types import TracebackType
+from typing import Any, Dict, List, Optional, Sequence, Union
 
 from ..catalogue.records import WORDS, Block, Entry
 from ..compare.verdicts import ACCEPTED
-from ..scan.walk import BadList, listed
-from .parser import parser
-from .texts import Members, path_members, shown_path
+
+Members = Dict[str, Any]  # of a JSON object
+
+
+def escaped(text: str) -> str:
+    r"""The text with the backslash, control characters, undecodable bytes and unprintable characters escaped, so that no two are alike.
+
+    A byte is written as `\xff`, and a character from U+0080 on as `\u00ff`.
+
+    >>> escaped("a\nb\\c"), escaped(os.fsdecode(b"x\x85")), escaped("x\x85\u202e")
+    ('a\\nb\\\\c', 'x\\x85', 'x\\u0085\\u202e')
+    """
+    if text.isascii() and text.isprintable() and "\\" not in text:
+        return text
+    return "".join(_escaped_character(it) for it in text)
+
+
+_SHORT = {"\n": "\\n", "\r": "\\r", "\t": "\\t", "\\": "\\\\"}
+
+
+def _escaped_character(character: str) -> str:
+    if character in _SHORT:
+        return _SHORT[character]
+    number = ord(character)
+    if 0xDC80 <= number <= 0xDCFF:  # a byte that is no UTF-8, as Python keeps it in a file name
+        return f"\\x{number - 0xDC00:02x}"
+    if character.isprintable():
+        return character
+    if number < 0x80:  # which is a byte, too
+        return f"\\x{number:02x}"
+    return f"\\u{number:04x}" if number < 0x10000 else f"\\U{number:08x}"
+
+
+def shown_path(path: Union[bytes, str]) -> str:
+    """The name of a file in one line, in which different names are different."""
+    return escaped(os.fsdecode(path))
+
+
+def reason(error: OSError) -> str:
+    """Why the system refused something, as a message has it."""
+    return (error.strerror or type(error).__name__).lower()
+
+
+_PACKAGES = ("exifnorm_pictures", "exifnorm")
+
+
+def described(error: BaseException) -> str:
+    """An error of our own code: its kind, its text, and the innermost of our lines that it came through."""
+    line = ""
+    step: Optional[TracebackType] = error.__traceback__
+    while step is not None:
+        file = step.tb_frame.f_code.co_filename
+        package = str(step.tb_frame.f_globals.get("__name__")).partition(".")[0]
+        if package in _PACKAGES:
+            line = f" ({file[file.rfind(package + os.sep) :]}, line {step.tb_lineno})"
+        step = step.tb_next
+    return f"{type(error).__name__}: {error}{line}"
+
+
+def path_members(path: bytes) -> Members:
+    """The members of a JSON object for a path: `path`, and `path_hex` if the name is no UTF-8."""
+    try:
+        return {"path": path.decode("utf-8")}
+    except UnicodeDecodeError:
+        return {"path": shown_path(path), "path_hex": path.hex()}
 
 
 def output(asked: argparse.Namespace, lines: Sequence[str], members: Members) -> None:
@@ -21,27 +87,6 @@ def output(asked: argparse.Namespace, lines: Sequence[str], members: Members) ->
     else:
         for line in lines:
             print(line)
-
-
-def from_list(asked: argparse.Namespace) -> Optional[List[bytes]]:
-    """The names of --files-from."""
-    return listed(asked.files_from, asked.null) if asked.files_from else None
-
-
-def chosen_paths(asked: argparse.Namespace) -> Optional[Set[bytes]]:
-    """The names of --files-from as absolute paths."""
-    names = from_list(asked)
-    return None if names is None else {os.path.abspath(it) for it in names}
-
-
-def named(asked: argparse.Namespace, names: Sequence[str]) -> List[bytes]:
-    """The names of the arguments and of the list together; at least one."""
-    found = [os.fsencode(it) for it in names] + (from_list(asked) or [])
-    if not found and not asked.files_from:
-        parser().error(f"{asked.command}: no name was given")
-    if any(b"\0" in it for it in found):
-        raise BadList("a name contains a NUL")
-    return found
 
 
 def entry_lines(it: Entry) -> List[str]:

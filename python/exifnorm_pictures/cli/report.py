@@ -13,7 +13,7 @@ from ..extract import exiftool, programs
 from ..files import atomic, tempdir
 from ..report import page
 from .exit_codes import SUCCESS
-from .output import chosen_paths
+from .names import chosen_paths
 from .parser import parser
 
 

@@ -9,8 +9,8 @@ from ..catalogue.records import KIND_OF, KINDS, WORDS
 from ..catalogue.store import Catalogue
 from ..compare import groups
 from .exit_codes import SUCCESS
-from .output import chosen_paths
-from .texts import path_members, shown_path
+from .names import chosen_paths
+from .output import path_members, shown_path
 
 
 def run(asked: argparse.Namespace) -> int:

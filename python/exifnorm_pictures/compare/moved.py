@@ -7,7 +7,7 @@ from typing import Collection, Dict, Iterator, List, Optional, Sequence, Tuple
 
 from ..catalogue.records import Entry
 from ..catalogue.store import Catalogue
-from ..cli.texts import shown_path
+from ..cli.output import shown_path
 
 Key = Tuple[object, ...]
 _MARKS = "size, modified, inode, not_read, exif_octets, iptc_octets, xmp_octets"

@@ -7,7 +7,7 @@ import re
 import stat
 
 from ..cli import signals
-from ..cli.texts import described
+from ..cli.output import described
 from .exiftool import add_trailers, by_others
 from .formats import jpeg, png, tiff, webp
 from .formats.found import PROBLEMS, Blocks, Broken, LeftToOthers

@@ -16,9 +16,9 @@ import time
 from typing import Callable, List, NamedTuple, Optional, Set
 
 from ..cli import signals as ends
+from ..cli.output import reason
 from ..cli.parser import SECONDS
 from ..cli.signals import Failure
-from ..cli.texts import reason
 
 PACKAGES = {"exiftool": "libimage-exiftool-perl", "exiv2": "exiv2"}
 MOST = 256 << 20  # greatest length in bytes of one output

@@ -4,7 +4,7 @@ from __future__ import annotations
 
 from typing import Iterator, Optional, Tuple
 
-from ..cli.texts import Members, escaped
+from ..cli.output import Members, escaped
 from ..extract import judge
 
 

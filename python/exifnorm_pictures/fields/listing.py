@@ -9,7 +9,7 @@ import zlib
 from typing import Callable, Dict, Iterator, List, NamedTuple, Optional, Tuple
 
 from ..catalogue.records import Damaged
-from ..cli.texts import escaped
+from ..cli.output import escaped
 from .names import full_name
 
 LONGEST_TEXT = 400  # characters of a text that is shown whole

@@ -11,8 +11,8 @@ import shutil
 import stat
 from typing import BinaryIO, Callable, Iterator, Optional, Tuple
 
+from ..cli.output import reason
 from ..cli.signals import Failure
-from ..cli.texts import reason
 
 Write = Callable[[BinaryIO], None]
 

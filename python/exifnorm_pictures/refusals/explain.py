@@ -7,7 +7,7 @@ from typing import Callable, Dict, List, Optional
 
 from .. import xmp
 from ..catalogue.records import Block
-from ..cli.texts import Members
+from ..cli.output import Members
 from ..compare.verdicts import REFUSED
 from ..extract.formats.found import XMP
 from ..extract.judge import judge, judge_packet

@@ -10,7 +10,7 @@ from collections import Counter
 from dataclasses import dataclass, field
 from typing import Callable, Dict, List, Optional, Tuple
 
-from ..cli.texts import reason
+from ..cli.output import reason
 from ..compare.verdicts import ACCEPTED
 from ..extract import programs
 from ..extract.extraction import blocks_of

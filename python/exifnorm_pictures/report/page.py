@@ -15,7 +15,7 @@ from typing import Any, Dict, Iterator, List, Optional, Set, Tuple
 
 from ..catalogue.records import WORDS, Picture, has, kind_of
 from ..catalogue.store import Catalogue, Run
-from ..cli.texts import Members, path_members, shown_path
+from ..cli.output import Members, path_members, shown_path
 from ..compare import changed, groups, verdicts
 from ..compare.changed import Equal
 from ..extract.formats.found import PROBLEMS

@@ -9,8 +9,8 @@ from typing import BinaryIO, Callable, Collection, Iterable, Iterator, List, Nam
 
 from ..catalogue.records import Stamp
 from ..cli.exit_codes import USAGE
+from ..cli.output import reason
 from ..cli.signals import Failure
-from ..cli.texts import reason
 
 
 class Found(NamedTuple):

@@ -22,7 +22,7 @@ from exifnorm import LibraryMissing
 
 from ..catalogue.records import Entry, Stamp
 from ..cli import signals
-from ..cli.texts import reason
+from ..cli.output import reason
 from ..extract import exiftool, extraction, judge, programs
 from ..extract.formats.found import Blocks
 from .batches import LONGEST_WAIT, Batch, How, Result, batch

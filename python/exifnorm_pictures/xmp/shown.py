@@ -5,7 +5,7 @@ from __future__ import annotations
 import hashlib
 from typing import Dict, List, Tuple
 
-from ..cli.texts import escaped
+from ..cli.output import escaped
 from ..fields.listing import DIGITS, LONGEST_TEXT, Field
 from .names import short_name
 from .tree import MEMBER, Literal, Node, Resource, Statement, Statements, Value, key_of, unique
