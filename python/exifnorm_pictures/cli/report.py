@@ -11,7 +11,7 @@ from typing import BinaryIO
 from ..catalogue.store import Catalogue
 from ..extract import exiftool, programs
 from ..files import atomic, tempdir
-from ..report import page
+from ..report import contents, page
 from .exit_codes import SUCCESS
 from .names import chosen_paths
 from .parser import parser
@@ -26,15 +26,15 @@ def run(asked: argparse.Namespace) -> int:
         catalogue = open_.enter_context(Catalogue(asked.catalogue))
         old = open_.enter_context(Catalogue(asked.since)) if asked.since else None
         room = open_.enter_context(tempdir.room())
-        about = page.About(catalogue, old, chosen)
+        about = contents.About(catalogue, old, chosen)
         if asked.html:
             programs.set_limit(asked.limit)
             exiftool.begin(room)
             open_.callback(exiftool.finish)
-            text = page.page(page.gather(about), asked.title)
+            text = page.page(contents.gather(about), asked.title)
             _write_page(asked, text.encode("utf-8", "backslashreplace"))
         if asked.json:
-            for members in page.members(about):
+            for members in contents.members(about):
                 print(json.dumps(members))
     return SUCCESS
 

@@ -1,0 +1,199 @@
+"""The data of the report on a catalogue: the contents of its page, and all that is known as JSON objects."""
+
+from __future__ import annotations
+
+import heapq
+import json
+from collections import Counter
+from dataclasses import dataclass, field
+from typing import Any, Dict, Iterator, List, Optional, Set, Tuple
+
+from ..catalogue.records import WORDS, Picture, has, kind_of
+from ..catalogue.store import Catalogue, Run
+from ..cli.output import Members, path_members, shown_path
+from ..compare import changed, groups
+
+# what a page has of each list
+MOST_GROUPS, MOST_OF_GROUP, MOST_CHANGES, MOST_REFUSED, MOST_NAMES = 40, 12, 300, 60, 60
+
+
+@dataclass
+class About:
+    """The arguments of a report: a catalogue, an older one, and the chosen pictures."""
+
+    catalogue: Catalogue
+    old: Optional[Catalogue] = None
+    only: Optional[Set[bytes]] = None
+    _table: Optional[str] = None
+
+    def table(self) -> Optional[str]:
+        """The chosen paths as a temporary table."""
+        if self.only is not None and self._table is None:
+            self._table = self.catalogue.choose(self.only)
+        return self._table
+
+
+@dataclass(frozen=True)
+class Refused:
+    """A block that isn't accepted."""
+
+    path: bytes
+    kind: str
+    name: str
+    cause: str
+    place: Optional[int]
+
+    @property
+    def refusal(self) -> str:
+        return self.cause if self.place is None else f"{self.cause} at {self.place}"
+
+
+@dataclass
+class EqualChanges:
+    """A difference, the number of pictures with it, and the first of their names."""
+
+    result: str
+    note: str
+    lines: List[Tuple[str, Optional[str], Optional[str]]]
+    count: int
+    names: List[bytes]
+
+
+@dataclass
+class Gathered:
+    """The contents of a page."""
+
+    total: int = 0
+    states: "Counter[str]" = field(default_factory=Counter)
+    causes: "Counter[str]" = field(default_factory=Counter)
+    refused: Dict[str, List[Refused]] = field(default_factory=dict)  # the first of each cause
+    parts: "Counter[str]" = field(default_factory=Counter)  # the unread parts, and the number of pictures with each
+    unread: int = 0
+    problems: List[Picture] = field(default_factory=list)
+    all_problems: int = 0
+    groups: List[Tuple[int, str, List[bytes]]] = field(default_factory=list)  # size, the parts that are the same, first pictures
+    all_groups: Tuple[int, int] = (0, 0)  # groups, and pictures in them
+    results: "Counter[str]" = field(default_factory=Counter)
+    changed: List[EqualChanges] = field(default_factory=list)
+    all_changed: int = 0  # different changes
+    fields: "Counter[str]" = field(default_factory=Counter)
+    since: bool = False
+    runs: List[Run] = field(default_factory=list)
+    roots: List[bytes] = field(default_factory=list)
+
+
+def gather(about: About) -> Gathered:
+    """The contents of a catalogue, and the changes since an older one: counts, and the first of each list."""
+    catalogue = about.catalogue
+    found = Gathered(runs=catalogue.runs(), since=about.old is not None, roots=catalogue.roots())
+    later: List[Picture] = []
+    for picture in catalogue.pictures(about.table()):
+        found.total += 1
+        found.states[picture.state] += 1
+        if picture.problem:
+            found.all_problems += 1
+            kept = later if picture.problem == "NoPicture" else found.problems
+            if len(kept) < MOST_CHANGES:
+                kept.append(picture)
+    found.problems = (found.problems + later)[:MOST_CHANGES]
+    for it in _refused(about):
+        found.causes[it.cause] += 1
+        kept_ = found.refused.setdefault(it.cause, [])
+        if len(kept_) < MOST_REFUSED:
+            kept_.append(it)
+    _gather_parts(found, about)
+    found.all_groups = groups.totals(catalogue, only=about.table())
+    for group in groups.groups(catalogue, only=about.table(), most=MOST_GROUPS):
+        found.groups.append((group.count, group.sentence(), list(group.pictures(MOST_OF_GROUP))))
+    if about.old is not None:
+        _gather_changes(found, about)
+    return found
+
+
+def _chosen(about: About) -> str:
+    return f"problem IS NULL AND path IN {about.table()}" if about.table() else "problem IS NULL"
+
+
+def _refused(about: About) -> Iterator[Refused]:
+    """Each block that isn't accepted."""
+    query = (
+        "SELECT path, kind, name, ifnull(cause, status), place FROM blocks JOIN pictures ON pictures.id = picture"
+        f" WHERE status != 'accepted' AND {_chosen(about)} ORDER BY path, number"
+    )
+    yield from about.catalogue.rows(query, (), _refused_of_row)
+
+
+def _refused_of_row(row: Tuple[Any, ...]) -> Refused:
+    path, kind, name, cause, place = row
+    has(bytes, path)
+    has(str, name, cause)
+    return Refused(path, kind_of(kind), name, cause, place)
+
+
+def _gather_parts(found: Gathered, about: About) -> None:
+    query = f"SELECT what, count(*) FROM not_read JOIN pictures ON pictures.id = picture WHERE {_chosen(about)} GROUP BY what"
+    for what, count in about.catalogue.rows(query, (), _part_of_row):
+        found.parts[what] += count
+    query = f"SELECT count(*) FROM pictures WHERE not_read IS NOT '' AND {_chosen(about)}"
+    found.unread = next(about.catalogue.rows(query))[0]
+
+
+def _part_of_row(row: Tuple[str, int]) -> Tuple[str, int]:
+    has(str, row[0])
+    return row
+
+
+def _gather_changes(found: Gathered, about: About) -> None:
+    assert about.old is not None
+    equal = changed.Equal()
+    for it in changed.changed(about.old, about.catalogue, found.results, about.only):
+        if it.result in changed.UNCHANGED:
+            continue
+        found.fields.update({change.name for change in it.changes})
+        to = f"to {shown_path(it.moved_to)}" if it.moved_to is not None else ""
+        said = [it.result, it.note or to, [(one.name, one.before, one.after) for one in it.changes]]
+        equal.add(json.dumps(said), it.name, it.moved_to is not None)
+
+    def heads() -> Iterator[Tuple[int, int, int, EqualChanges]]:
+        for number, (said, count, names) in enumerate(equal.all()):
+            result, note, lines = json.loads(said)
+            found.all_changed += 1
+            kept = [name for name, _ in zip(names, range(MOST_NAMES))]
+            yield changed.RESULTS.index(result), -count, number, EqualChanges(result, note, lines, count, kept)
+
+    found.changed = [it[3] for it in heapq.nsmallest(MOST_CHANGES, heads(), key=lambda it: it[:3])]
+    equal.close()
+
+
+def members(about: About) -> Iterator[Members]:
+    """All that is known, as JSON objects."""
+    catalogue = about.catalogue
+    states: "Counter[str]" = Counter(it.state for it in catalogue.pictures(about.table()))
+    causes: "Counter[str]" = Counter(it.cause for it in _refused(about))
+    yield {"pictures": sum(states.values()), "states": dict(states), "causes": dict(causes)}
+    for group in groups.groups(catalogue, only=about.table()):
+        known = {"said": group.sentence(), "same_bytes": group.same_bytes, "wholly_read": not group.unread}
+        yield {"same": [path_members(it) for it in group.pictures()], **known}
+    if about.old is not None:
+        yield from _changed_members(about)
+    for it in _refused(about):
+        yield {"refused": path_members(it.path), "kind": WORDS[it.kind], "name": it.name, "cause": it.cause, "refusal": it.refusal}
+    for picture in catalogue.pictures(about.table()):
+        if picture.problem:
+            yield {"problem": picture.problem, **path_members(picture.path), "detail": picture.detail}
+        elif picture.unread != "":
+            yield {"not_read": [it.what for it in catalogue.not_read_of(picture)], **path_members(picture.path)}
+
+
+def _changed_members(about: About) -> Iterator[Members]:
+    assert about.old is not None
+    results: "Counter[str]" = Counter()
+    fields: "Counter[str]" = Counter()
+    for it in changed.changed(about.old, about.catalogue, results, about.only):
+        if it.result in changed.UNCHANGED:
+            continue
+        fields.update({change.name for change in it.changes})
+        changes = [{"name": change.name, "before": change.before, "after": change.after} for change in it.changes]
+        moved = {} if it.moved_to is None else {"moved_to": path_members(it.moved_to)}
+        yield {"changed": path_members(it.name), "result": it.result, "note": it.note, **moved, "fields": changes}
+    yield {"results": dict(results), "fields": dict(fields)}
