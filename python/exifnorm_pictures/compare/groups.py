@@ -7,7 +7,7 @@ from typing import Callable, Dict, Iterator, List, Optional, Sequence, Tuple
 
 from ..catalogue.records import KINDS, WORDS, has
 from ..catalogue.store import Catalogue, Made
-from ..extract.formats.found import NAMES
+from .verdicts import SAME, clause, none_of
 
 
 @dataclass
@@ -39,12 +39,9 @@ class Group:
 
     def sentence(self) -> str:
         """The kinds that were compared, such as `Exif and IPTC are the same in the same bytes, no XMP`."""
-        there = [NAMES[it] for it in self.kinds if it in self.digests]
-        listed = " and ".join([", ".join(there[:-1]), there[-1]] if len(there) > 1 else there)
-        words = f"{listed} {'are' if len(there) > 1 else 'is'} the same"
-        if self.same_bytes:
-            words += " in the same bytes"
-        words += "".join(f", no {NAMES[it]}" for it in self.kinds if it not in self.digests)
+        there = [it for it in self.kinds if it in self.digests]
+        absent = [it for it in self.kinds if it not in self.digests]
+        words = ", ".join([clause(there, SAME, self.same_bytes), *none_of(absent)])
         if self.unread:
             what = next(self._rows(tuple, "(SELECT group_concat(what, ', ') FROM not_read WHERE picture = pictures.id)", "LIMIT 1"))[0]
             words += f"; not read, but the same bytes: {what}"

@@ -134,19 +134,24 @@ def sentence(found: Sequence[Verdict], open_parts: Sequence[str] = ()) -> str:
     parts = []
     for result in (SAME, DIFFERENT, REFUSED, UNREADABLE):
         for same_bytes in (False, True) if result in (REFUSED, UNREADABLE) else (None,):
-            names = [NAMES[it.kind] for it in found if it.result == result and same_bytes in (None, it.same_bytes)]
-            if names:
-                word = "the same" if result == SAME else result
-                parts.append(f"{_listed(names)} {'is' if len(names) == 1 else 'are'} {word}" + (" in the same bytes" if same_bytes else ""))
-    absent = [NAMES[it.kind] for it in found if it.result == ABSENT]
-    if absent:
-        parts.append("no " + " and no ".join(absent))
-    text = ", ".join(parts)
+            kinds = [it.kind for it in found if it.result == result and same_bytes in (None, it.same_bytes)]
+            if kinds:
+                parts.append(clause(kinds, result, bool(same_bytes)))
+    text = ", ".join(parts + none_of([it.kind for it in found if it.result == ABSENT]))
     return text + (f"; {NOT_WHOLLY_READ}: {', '.join(open_parts)}" if open_parts else "")
 
 
-def _listed(names: Sequence[str]) -> str:
-    return names[0] if len(names) == 1 else ", ".join(names[:-1]) + " and " + names[-1]
+def clause(kinds: Sequence[str], result: str, same_bytes: bool) -> str:
+    """The result of some kinds, as `Exif and IPTC are the same in the same bytes`."""
+    names = [NAMES[it] for it in kinds]
+    listed = names[0] if len(names) == 1 else ", ".join(names[:-1]) + " and " + names[-1]
+    words = f"{listed} {'is' if len(names) == 1 else 'are'} {'the same' if result == SAME else result}"
+    return words + (" in the same bytes" if same_bytes else "")
+
+
+def none_of(kinds: Sequence[str]) -> List[str]:
+    """The kinds that no picture has, as one clause if there are any."""
+    return ["no " + " and no ".join(NAMES[it] for it in kinds)] if kinds else []
 
 
 def result(found: Sequence[Verdict], open_parts: Sequence[str] = ()) -> str:
