@@ -28,7 +28,7 @@ sys.dont_write_bytecode = True
 import made_files as made
 from exifnorm_pictures.catalogue.store import Catalogue
 from exifnorm_pictures.extract.formats.found import EXIF, IPTC, NAMES, XMP
-from exifnorm_pictures.catalogue.records import Block, Entry, Stamp
+from exifnorm_pictures.catalogue.records import Block, PictureRecord, Stamp
 from exifnorm_pictures.fields.listing import Field, packed
 
 ROOT = b"/archive"
@@ -69,14 +69,14 @@ def make_others(folder: str, count: int) -> bool:
     return True
 
 
-def row(number: int, says: int, path: bytes, fields: bool) -> Entry:
+def row(number: int, says: int, path: bytes, fields: bool) -> PictureRecord:
     """A picture as the catalogue keeps it, whose Exif, IPTC and XMP blocks contain a number."""
     kept = packed([Field("main", "010f", "ASCII", 4, f'"{says}"')]) if fields else None
     blocks = []
     for kind in (EXIF, IPTC, XMP):
         digest = hashlib.sha256(f"{kind} {says}".encode()).hexdigest()
         blocks.append(Block(kind, NAMES[kind], "APP1 at 2", "own", "accepted", digest, None, None, 100, digest, kept))
-    return Entry(ROOT + path, ROOT, Stamp(1000 + says, number, number, number), "JPEG", "own", blocks=tuple(blocks))
+    return PictureRecord(ROOT + path, ROOT, Stamp(1000 + says, number, number, number), "JPEG", "own", blocks=tuple(blocks))
 
 
 def make_catalogue(name: str, count: int, says: Callable[[int], int], path: Callable[[int], bytes], fields: bool = True) -> str:

@@ -285,11 +285,11 @@ class Processes(WithPictures):
         """The states of a run with this text before it, and what it leaves in its folder for temporary files."""
         text = (
             "import collections, json, os\nfrom exifnorm_pictures.extract import extraction; from exifnorm_pictures.scan import index, workers as looking, workers as processes\n"
-            "from exifnorm_pictures.catalogue.store import Catalogue\nfrom exifnorm_pictures.cli.output import entry_lines\n"
+            "from exifnorm_pictures.catalogue.store import Catalogue\nfrom exifnorm_pictures.cli.output import record_lines as entry_lines\n"
             f"{before}\nlines = []\nos.mkdir('room')\n"
             "how = looking.How(jobs=2, room=os.path.abspath('room'), lines=entry_lines)\n"
             "with Catalogue('c', make=True) as made:\n"
-            "    counts = index.index(index.Asked([b'p'], quiet=True, how=how, say=lines.append), made)\n"
+            "    counts = index.index(index.IndexOptions([b'p'], quiet=True, how=how, say=lines.append), made)\n"
             "print(json.dumps([counts, lines, [it for it in os.listdir('room') if it.startswith('rows')]]))"
         )
         done = run([sys.executable, "-c", text], self.folder)

@@ -84,7 +84,7 @@ class Stamp(NamedTuple):
 Digests = Tuple[Optional[str], ...]
 
 
-class Entry(NamedTuple):
+class PictureRecord(NamedTuple):
     """The known facts about a picture after it was looked at."""
 
     path: bytes
@@ -99,7 +99,7 @@ class Entry(NamedTuple):
     digests: "Optional[Digests]" = None  # what `digests` returns, if it was already called
 
     @classmethod
-    def of(cls, path: bytes, root: bytes, stamp: Optional[Stamp], it: Blocks, judged: Sequence[Block] = ()) -> "Entry":
+    def of(cls, path: bytes, root: bytes, stamp: Optional[Stamp], it: Blocks, judged: Sequence[Block] = ()) -> "PictureRecord":
         """The result for a file."""
         found = _digests(it.problem, judged, it.not_read)  # here, since several processes look at pictures, and one writes
         return cls(path, root, stamp, it.type, it.extractor, it.problem, it.detail, tuple(judged), tuple(it.not_read), found)
@@ -150,7 +150,7 @@ def state_of(problem: Optional[str], blocks: Iterable[Block]) -> str:
     return "no block" if not states else ACCEPTED if states == {ACCEPTED} else REFUSED
 
 
-def digests(it: Entry) -> Digests:
+def digests(it: PictureRecord) -> Digests:
     """The columns exif, iptc, xmp and not_read of a picture, and those of its blocks' octets."""
     return it.digests or _digests(it.problem, it.blocks, it.not_read)
 

@@ -14,7 +14,7 @@ from typing import Any, Callable, Iterable, Iterator, List, NamedTuple, Optional
 
 from ..cli.signals import Failure
 from ..extract.formats.found import NotRead
-from .records import Damaged, Entry, Picture, Stamp, digests, has, not_read_of_row, picture_of_row
+from .records import Damaged, PictureRecord, Picture, Stamp, digests, has, not_read_of_row, picture_of_row
 
 APPLICATION = 0x45584E50  # 'EXNP', which distinguishes a catalogue from other SQLite files
 VERSION = 2
@@ -251,7 +251,7 @@ class Catalogue:
                     self.base.execute("ROLLBACK")
                 raise
 
-    def put(self, run: int, entries: Iterable[Entry], files: Sequence[str] = ()) -> None:
+    def put(self, run: int, entries: Iterable[PictureRecord], files: Sequence[str] = ()) -> None:
         """Keeps some pictures, and those of `files`, which `make_rows` began, in one transaction; the last one with a path counts."""
         with contextlib.ExitStack() as attached:
             names = [attached.enter_context(self.attached(name, f"batch{number}")) for number, name in enumerate(files)]
@@ -285,7 +285,7 @@ class Catalogue:
         """The greatest number of a row."""
         return int(self.base.execute(f"SELECT ifnull(max(id), 0) FROM main.{table}").fetchone()[0])
 
-    def _is_kept(self, run: int, it: Entry) -> bool:
+    def _is_kept(self, run: int, it: PictureRecord) -> bool:
         """Whether a picture that can't be read now was known before. Its earlier results are kept."""
         if it.problem in KEPT_BEFORE:
             words = (it.problem, it.detail, run, it.path)
@@ -377,7 +377,7 @@ def make_rows(base: sqlite3.Connection) -> None:
         base.execute(it)
 
 
-def put_rows(base: sqlite3.Connection, run: int, first: int, entries: Iterable[Entry]) -> None:
+def put_rows(base: sqlite3.Connection, run: int, first: int, entries: Iterable[PictureRecord]) -> None:
     """Adds rows for some pictures, which get the numbers from `first` on."""
     numbered = list(enumerate(entries, first))
     base.executemany(_PUT_PICTURE, [(number, *_row(it), run) for number, it in numbered])
@@ -386,7 +386,7 @@ def put_rows(base: sqlite3.Connection, run: int, first: int, entries: Iterable[E
     base.executemany("INSERT INTO not_read VALUES (?, ?, ?, ?)", parts)
 
 
-def _row(it: Entry) -> Tuple[object, ...]:
+def _row(it: PictureRecord) -> Tuple[object, ...]:
     """A picture as a row, without its number and run."""
     stamp = it.stamp or (None, None, None, None)
     return (it.path, it.root, *stamp, it.type, it.extractor, it.problem, it.detail, *digests(it))

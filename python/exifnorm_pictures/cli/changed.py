@@ -14,22 +14,22 @@ from ..catalogue.store import Catalogue, NoCatalogue
 from ..compare import changed as changes
 from ..files import tempdir
 from ..scan.batches import How
-from ..scan.index import Asked, index
+from ..scan.index import IndexOptions, index
 from .exit_codes import DIFFERENT, FAILURE, SUCCESS, UNKNOWN
 from .names import from_list
 from .output import Members, closed_folder, output, path_members, shown_path
 
 
-def run(asked: argparse.Namespace) -> int:
+def run(arguments: argparse.Namespace) -> int:
     """Lists the differences between two states."""
-    names = from_list(asked)
+    names = from_list(arguments)
     only = None if names is None else {*names, *(os.path.abspath(it) for it in names)}
     counts: "Counter[str]" = Counter()
     with contextlib.ExitStack() as open_:
-        before, after = (open_.enter_context(_side(it, asked, open_)) for it in (asked.before, asked.after))
-        equal = None if asked.json else open_.enter_context(contextlib.closing(changes.Equal()))
-        for it in changes.changed(before, after, counts, only, asked.all):
-            if it.result in changes.UNCHANGED and not asked.all:
+        before, after = (open_.enter_context(_side(it, arguments, open_)) for it in (arguments.before, arguments.after))
+        equal = None if arguments.json else open_.enter_context(contextlib.closing(changes.Equal()))
+        for it in changes.changed(before, after, counts, only, arguments.all):
+            if it.result in changes.UNCHANGED and not arguments.all:
                 continue
             if equal is None:
                 print(json.dumps(changed_members(it)))
@@ -38,7 +38,7 @@ def run(asked: argparse.Namespace) -> int:
         if equal is not None:
             _print_equal(equal)
     summary = ", ".join(f"{counts[it]} {it}" for it in changes.RESULTS if counts[it]) or "no picture"
-    output(asked, [summary], {"counts": dict(counts)})
+    output(arguments, [summary], {"counts": dict(counts)})
     return status_of(counts)
 
 
@@ -51,7 +51,7 @@ def status_of(counts: "Counter[str]") -> int:
     return DIFFERENT if any(counts[it] for it in changes.DIFFERENCES) else SUCCESS
 
 
-def _side(name: str, asked: argparse.Namespace, open_: contextlib.ExitStack) -> Catalogue:
+def _side(name: str, arguments: argparse.Namespace, open_: contextlib.ExitStack) -> Catalogue:
     """A catalogue, or a new one of a folder."""
     if not os.path.isdir(name):
         return Catalogue(name)
@@ -59,7 +59,7 @@ def _side(name: str, asked: argparse.Namespace, open_: contextlib.ExitStack) -> 
     made = Catalogue(os.path.join(room, "catalogue"), make=True)
     try:
         closed: List[str] = []
-        index(Asked([os.fsencode(name)], quiet=True, how=How.asked(asked, room, closed_folder), say=closed.append), made)
+        index(IndexOptions([os.fsencode(name)], quiet=True, how=How.of(arguments, room, closed_folder), say=closed.append), made)
         if closed:  # its pictures would seem to be missing
             raise NoCatalogue("; ".join(closed))
     except BaseException:

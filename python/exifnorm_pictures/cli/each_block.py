@@ -10,7 +10,7 @@ from exifnorm import LIMIT
 from ..catalogue.records import WORDS, Block
 from ..compare.verdicts import ACCEPTED
 from ..extract import exiftool, extraction, programs
-from ..extract.formats.found import EXIF, IPTC, NAMES, Blocks, Found
+from ..extract.formats.found import EXIF, IPTC, NAMES, Blocks, FoundBlock
 from ..extract.judge import judge_all
 from ..files import tempdir
 from .exit_codes import FAILURE, SUCCESS, UNKNOWN
@@ -20,14 +20,14 @@ from .output import Members, block_members, output, path_members, reason, shown_
 LONGEST = LIMIT + 7  # bytes of a block that are read: one more than any block and its six bytes in front can have
 
 Said = Tuple[List[str], Members]
-Say = Callable[[Found, Block], Said]
+Say = Callable[[FoundBlock, Block], Said]
 
 
-def _blocks(asked: argparse.Namespace, name: bytes) -> Blocks:
+def _blocks(arguments: argparse.Namespace, name: bytes) -> Blocks:
     """The blocks of a picture, or the file as a block by itself."""
-    if not asked.block:
+    if not arguments.block:
         try:
-            return extraction.blocks_of(name, asked.whole)
+            return extraction.blocks_of(name, arguments.whole)
         except programs.Failed as error:
             return Blocks(problem="ToolFailed", detail=str(error))
         except programs.Missing as error:
@@ -42,30 +42,30 @@ def _blocks(asked: argparse.Namespace, name: bytes) -> Blocks:
     except OSError as error:
         return Blocks(problem="Unreadable", detail=reason(error))
     kind = IPTC if octets[:1] == b"\x1c" else EXIF
-    return Blocks([Found(kind, octets, NAMES[kind], "the file")])
+    return Blocks([FoundBlock(kind, octets, NAMES[kind], "the file")])
 
 
-def each_block(asked: argparse.Namespace, say: Say, refused_too: bool = False) -> int:
+def each_block(arguments: argparse.Namespace, say: Say, refused_too: bool = False) -> int:
     """Prints something about each block of each picture. Returns the greatest status."""
     worst = SUCCESS
-    names = list(dict.fromkeys(named(asked, asked.pictures)))
-    programs.set_limit(asked.limit)
+    names = list(dict.fromkeys(named(arguments, arguments.pictures)))
+    programs.set_limit(arguments.limit)
     with tempdir.room() as room:
         exiftool.begin(room)
         try:
             for name in names:
                 head = [f"== {shown_path(name)}"] if len(names) > 1 else []
-                worst = max(worst, _one(asked, name, head, say, refused_too))
+                worst = max(worst, _one(arguments, name, head, say, refused_too))
         finally:
             exiftool.finish()
     return worst
 
 
-def _one(asked: argparse.Namespace, name: bytes, head: List[str], say: Say, refused_too: bool) -> int:
-    blocks = _blocks(asked, name)
+def _one(arguments: argparse.Namespace, name: bytes, head: List[str], say: Say, refused_too: bool) -> int:
+    blocks = _blocks(arguments, name)
     names = path_members(name)
     if blocks.problem:
-        output(asked, [*head, f"{blocks.problem}: {blocks.detail}"], {**names, "problem": blocks.problem, "detail": blocks.detail})
+        output(arguments, [*head, f"{blocks.problem}: {blocks.detail}"], {**names, "problem": blocks.problem, "detail": blocks.detail})
         return FAILURE
     worst = SUCCESS
     data = {it.name: it for it in blocks.found}
@@ -73,14 +73,14 @@ def _one(asked: argparse.Namespace, name: bytes, head: List[str], say: Say, refu
         if it.status != ACCEPTED:
             worst = UNKNOWN
         lines, members = say(data[it.name], it) if it.status == ACCEPTED or refused_too else _refused(it)
-        if lines or (asked.json and members):
-            output(asked, [*head, *lines], {**names, "name": it.name, **members})
+        if lines or (arguments.json and members):
+            output(arguments, [*head, *lines], {**names, "name": it.name, **members})
             head = []
     if not blocks.found:
-        output(asked, [*head, "no Exif, IPTC or XMP block"], {**names, "kind": None})
+        output(arguments, [*head, "no Exif, IPTC or XMP block"], {**names, "kind": None})
     if blocks.not_read:
         what = [it.what for it in blocks.not_read]
-        output(asked, [f"not wholly read: {', '.join(what)}"], {**names, "not_read": what})
+        output(arguments, [f"not wholly read: {', '.join(what)}"], {**names, "not_read": what})
     return worst
 
 

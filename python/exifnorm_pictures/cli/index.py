@@ -9,31 +9,32 @@ import shutil
 from ..catalogue.store import Catalogue, NoCatalogue, head_is_ours
 from ..files import atomic, tempdir
 from ..scan.batches import How
-from ..scan.index import Asked, index
+from ..scan.index import IndexOptions, index
 from .exit_codes import FAILURE, SUCCESS
 from .names import named
-from .output import entry_json, entry_lines, output
+from .output import record_json, record_lines, output
 
 FAILURES = ("Unreadable", "ToolFailed", "InternalError", "NeedsExifTool", "NeedsExiv2")
 
 
-def run(asked: argparse.Namespace) -> int:
+def run(arguments: argparse.Namespace) -> int:
     """Looks at pictures and keeps the results."""
-    names = named(asked, asked.folders)
+    names = named(arguments, arguments.folders)
     if any(not it for it in names):
         raise NoCatalogue("a name is empty")
 
-    with tempdir.room() as room, Catalogue(asked.catalogue, make=True) as catalogue:
-        if asked.keep_old:
-            keep_old(catalogue, asked.keep_old, room)
-        wanted = Asked(names, asked.again, asked.quiet, How.asked(asked, room, entry_json if asked.json else entry_lines), print)
-        if asked.scheduler:
+    with tempdir.room() as room, Catalogue(arguments.catalogue, make=True) as catalogue:
+        if arguments.keep_old:
+            keep_old(catalogue, arguments.keep_old, room)
+        lines = record_json if arguments.json else record_lines
+        options = IndexOptions(names, arguments.again, arguments.quiet, How.of(arguments, room, lines), print)
+        if arguments.scheduler:
             from ..scan import cluster  # only this needs Dask
 
-            wanted.look = cluster.looker(asked.scheduler, asked.elsewhere, names)
-        counts = index(wanted, catalogue)
+            options.look = cluster.looker(arguments.scheduler, arguments.elsewhere, names)
+        counts = index(options, catalogue)
     summary = ", ".join(f"{count} {state}" for state, count in sorted(counts.items(), key=lambda it: (-it[1], it[0]))) or "no file"
-    output(asked, [summary], {"counts": dict(counts)})
+    output(arguments, [summary], {"counts": dict(counts)})
     return FAILURE if any(counts[it] for it in FAILURES) else SUCCESS
 
 

@@ -39,13 +39,13 @@ def main(words: Optional[Sequence[str]] = None) -> int:
 def _run(words: Optional[Sequence[str]]) -> int:
     try:
         signals.set_debug(False)
-        asked = parser().parse_args(words)
-        signals.set_debug(asked.debug)
+        arguments = parser().parse_args(words)
+        signals.set_debug(arguments.debug)
         # importing the modules of all commands would take longer than most commands do
-        command = importlib.import_module(f".{asked.command}", __package__)
+        command = importlib.import_module(f".{arguments.command}", __package__)
         gc.freeze()
         gc.set_threshold(COLLECTED)
-        return int(command.run(asked))
+        return int(command.run(arguments))
     except KeyboardInterrupt:
         signals.say("exifnorm-pictures: stopped; the same command goes on from there")
         return STOPPED

@@ -15,38 +15,38 @@ from .output import Members, output, path_members, shown_path
 from .parser import parser
 
 
-def run(asked: argparse.Namespace) -> int:
+def run(arguments: argparse.Namespace) -> int:
     """Writes copies whose blocks are accepted."""
     worst = SUCCESS
-    programs.set_limit(asked.limit)
+    programs.set_limit(arguments.limit)
     with tempdir.room() as room:
         exiftool.begin(room)
         try:
-            for picture, out in _pairs(asked):
-                worst = max(worst, _mend_one(asked, picture, out, room))
+            for picture, out in _pairs(arguments):
+                worst = max(worst, _mend_one(arguments, picture, out, room))
         finally:
             exiftool.finish()
     return worst
 
 
-def _mend_one(asked: argparse.Namespace, picture: bytes, out: bytes, room: str) -> int:
+def _mend_one(arguments: argparse.Namespace, picture: bytes, out: bytes, room: str) -> int:
     try:
         found = mend.mend(picture, out, room)
     except (mend.NotWritten, programs.Failed) as error:
         problem = "NotWritten" if isinstance(error, mend.NotWritten) else "ToolFailed"
         line = f"{shown_path(picture)}: {shown_path(out)} isn't written: {error}"
-        output(asked, [line], {**path_members(picture), "problem": problem, "detail": str(error)})
+        output(arguments, [line], {**path_members(picture), "problem": problem, "detail": str(error)})
         return FAILURE
-    output(asked, _mended_lines(picture, found), _mended_members(picture, found))
+    output(arguments, _mended_lines(picture, found), _mended_members(picture, found))
     return FAILURE if found.problem else UNKNOWN if found.step == mend.NONE else DIFFERENT if found.lost else SUCCESS
 
 
-def _pairs(asked: argparse.Namespace) -> Iterator[Tuple[bytes, bytes]]:
-    names = [os.fsencode(it) for it in asked.names]
-    if asked.files_from:
+def _pairs(arguments: argparse.Namespace) -> Iterator[Tuple[bytes, bytes]]:
+    names = [os.fsencode(it) for it in arguments.names]
+    if arguments.files_from:
         if len(names) != 1 or not os.path.isdir(names[0]):
             parser().error("mend: with --files-from give the folder OUT alone, which must be there")
-        for it in from_list(asked) or []:
+        for it in from_list(arguments) or []:
             yield it, os.path.join(names[0], os.path.basename(it))
     elif len(names) != 2:
         parser().error("mend: give PICTURE and OUT")

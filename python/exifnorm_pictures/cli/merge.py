@@ -10,9 +10,9 @@ from .exit_codes import SUCCESS
 from .output import output
 
 
-def run(asked: argparse.Namespace) -> int:
+def run(arguments: argparse.Namespace) -> int:
     """Joins catalogues."""
-    with Catalogue(asked.catalogue, make=True) as catalogue:
-        count = merge(catalogue, asked.catalogues)
-    output(asked, [f"{count} pictures"], {"pictures": count})
+    with Catalogue(arguments.catalogue, make=True) as catalogue:
+        count = merge(catalogue, arguments.catalogues)
+    output(arguments, [f"{count} pictures"], {"pictures": count})
     return SUCCESS

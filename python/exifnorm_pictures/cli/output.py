@@ -11,7 +11,7 @@ import os
 from types import TracebackType
 from typing import Any, Dict, List, Optional, Sequence, Union
 
-from ..catalogue.records import WORDS, Block, Entry
+from ..catalogue.records import WORDS, Block, PictureRecord
 from ..compare.verdicts import ACCEPTED
 
 Members = Dict[str, Any]  # of a JSON object
@@ -80,16 +80,16 @@ def path_members(path: bytes) -> Members:
         return {"path": shown_path(path), "path_hex": path.hex()}
 
 
-def output(asked: argparse.Namespace, lines: Sequence[str], members: Members) -> None:
+def output(arguments: argparse.Namespace, lines: Sequence[str], members: Members) -> None:
     """Prints some lines, or with --json the object."""
-    if asked.json:
+    if arguments.json:
         print(json.dumps(members))
     else:
         for line in lines:
             print(line)
 
 
-def entry_lines(it: Entry) -> List[str]:
+def record_lines(it: PictureRecord) -> List[str]:
     """Lines for a picture with a problem: the problem, the refusal of a block, or its unread parts."""
     if it.problem is None and not it.not_read and all(one.status == ACCEPTED for one in it.blocks):
         return []
@@ -103,7 +103,7 @@ def entry_lines(it: Entry) -> List[str]:
     return lines
 
 
-def closed_folder(it: Entry) -> List[str]:
+def closed_folder(it: PictureRecord) -> List[str]:
     """A line for a folder that can't be read, which has no row in a catalogue and so no folder above it."""
     return [] if it.root else [f"the folder {shown_path(it.path)} can't be read: {it.detail}"]
 
@@ -113,12 +113,12 @@ def refused_line(it: Block) -> str:
     return "failed: OutOfMemory" if it.cause == "OutOfMemory" else f"refused: {it.refusal}"
 
 
-def entry_json(it: Entry) -> List[str]:
+def record_json(it: PictureRecord) -> List[str]:
     """The line of --json for a picture that was looked at."""
-    return [json.dumps(entry_members(it))]
+    return [json.dumps(record_members(it))]
 
 
-def entry_members(it: Entry) -> Members:
+def record_members(it: PictureRecord) -> Members:
     """A picture that was looked at as a JSON object."""
     found: Members = {**path_members(it.path), "type": it.type}
     if it.problem:

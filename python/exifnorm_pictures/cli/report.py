@@ -17,23 +17,23 @@ from .names import chosen_paths
 from .parser import parser
 
 
-def run(asked: argparse.Namespace) -> int:
+def run(arguments: argparse.Namespace) -> int:
     """Writes one page about a catalogue, or the same as JSON."""
-    if not asked.html and not asked.json:
+    if not arguments.html and not arguments.json:
         parser().error("report: give --html PAGE, --json, or both")
-    chosen = chosen_paths(asked)
+    chosen = chosen_paths(arguments)
     with contextlib.ExitStack() as open_:
-        catalogue = open_.enter_context(Catalogue(asked.catalogue))
-        old = open_.enter_context(Catalogue(asked.since)) if asked.since else None
+        catalogue = open_.enter_context(Catalogue(arguments.catalogue))
+        old = open_.enter_context(Catalogue(arguments.since)) if arguments.since else None
         room = open_.enter_context(tempdir.room())
         about = contents.About(catalogue, old, chosen)
-        if asked.html:
-            programs.set_limit(asked.limit)
+        if arguments.html:
+            programs.set_limit(arguments.limit)
             exiftool.begin(room)
             open_.callback(exiftool.finish)
-            text = page.page(contents.gather(about), asked.title)
-            _write_page(asked, text.encode("utf-8", "backslashreplace"))
-        if asked.json:
+            text = page.page(contents.gather(about), arguments.title)
+            _write_page(arguments, text.encode("utf-8", "backslashreplace"))
+        if arguments.json:
             for members in contents.members(about):
                 print(json.dumps(members))
     return SUCCESS
@@ -43,12 +43,12 @@ def _is_page(head: bytes) -> bool:
     return head[:14].lower() == b"<!doctype html"
 
 
-def _write_page(asked: argparse.Namespace, octets: bytes) -> None:
+def _write_page(arguments: argparse.Namespace, octets: bytes) -> None:
     try:
-        kept = (asked.catalogue, asked.since) if asked.since else (asked.catalogue,)
-        atomic.replace(os.fsencode(asked.html), lambda file: _write(file, octets), _is_page, kept)
+        kept = (arguments.catalogue, arguments.since) if arguments.since else (arguments.catalogue,)
+        atomic.replace(os.fsencode(arguments.html), lambda file: _write(file, octets), _is_page, kept)
     except atomic.NotReplaced as error:
-        raise atomic.NotReplaced(f"{asked.html} isn't written: {error}") from None
+        raise atomic.NotReplaced(f"{arguments.html} isn't written: {error}") from None
 
 
 def _write(file: BinaryIO, octets: bytes) -> None:

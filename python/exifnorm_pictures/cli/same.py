@@ -13,14 +13,14 @@ from .names import chosen_paths
 from .output import path_members, shown_path
 
 
-def run(asked: argparse.Namespace) -> int:
+def run(arguments: argparse.Namespace) -> int:
     """Lists the groups of pictures that mean the same."""
-    kinds = KINDS if asked.kind == "all" else (KIND_OF[asked.kind],)
-    chosen = chosen_paths(asked)
-    with Catalogue(asked.catalogue) as catalogue:
+    kinds = KINDS if arguments.kind == "all" else (KIND_OF[arguments.kind],)
+    chosen = chosen_paths(arguments)
+    with Catalogue(arguments.catalogue) as catalogue:
         only = None if chosen is None else catalogue.choose(chosen)
         for number, it in enumerate(groups.groups(catalogue, kinds, only)):
-            if asked.json:
+            if arguments.json:
                 _print_group(it)
                 continue
             if number:
@@ -29,7 +29,7 @@ def run(asked: argparse.Namespace) -> int:
             for path in it.pictures():
                 print(f"  {shown_path(path)}")
         left = groups.left_out(catalogue, kinds, only)
-        if left and not asked.json:
+        if left and not arguments.json:
             print(f"{left} picture{'s' * (left > 1)} in no group: a block is refused or unreadable, or a part was not read")
     return SUCCESS
 

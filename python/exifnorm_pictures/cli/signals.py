@@ -102,10 +102,10 @@ def end_children() -> None:
 _debug = False
 
 
-def set_debug(asked: bool) -> None:
+def set_debug(wanted: bool) -> None:
     """Whether errors of this package are printed with their tracebacks, also in processes that are started later."""
     global _debug
-    _debug = asked or os.environ.get("EXIFNORM_DEBUG") == "1"
+    _debug = wanted or os.environ.get("EXIFNORM_DEBUG") == "1"
 
 
 def trace(error: BaseException) -> None:

@@ -5,7 +5,7 @@ from __future__ import annotations
 import os
 from typing import Collection, Dict, Iterator, List, Optional, Sequence, Tuple
 
-from ..catalogue.records import Entry
+from ..catalogue.records import PictureRecord
 from ..catalogue.store import Catalogue
 from ..cli.output import shown_path
 
@@ -45,7 +45,7 @@ class Departed:
         if same is not None:
             self.went[same] = path
 
-    def settle(self, catalogue: Catalogue, run: int, gone: Sequence[Entry], new: Collection[bytes]) -> Iterator[Entry]:
+    def settle(self, catalogue: Catalogue, run: int, gone: Sequence[PictureRecord], new: Collection[bytes]) -> Iterator[PictureRecord]:
         """The report on each picture that is gone: moved, if one of those that are new in this run is the same, or missing."""
         if self.by_content or self.by_file:
             query = f"SELECT path, {_MARKS} FROM pictures WHERE run = ? AND problem IS NULL AND size IS NOT NULL ORDER BY id"
@@ -58,7 +58,7 @@ class Departed:
                 catalogue.base.executemany("UPDATE pictures SET problem = 'Moved', detail = ? WHERE path = ?", words)
         for it in gone:
             to = self.went.get(it.path)
-            yield it if to is None else Entry(it.path, b"", problem="Moved", detail=f"to {shown_path(to)}")
+            yield it if to is None else PictureRecord(it.path, b"", problem="Moved", detail=f"to {shown_path(to)}")
 
 
 def best(candidates: Sequence[bytes], name: bytes) -> Optional[bytes]:

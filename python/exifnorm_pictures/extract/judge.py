@@ -12,12 +12,12 @@ from ..catalogue.records import FAILED, TOO_LONG, Block
 from ..compare.verdicts import ACCEPTED, REFUSED, UNREADABLE
 from ..fields import normal_form
 from ..fields.listing import packed
-from .formats.found import XMP, Blocks, Found
+from .formats.found import XMP, Blocks, FoundBlock
 
-_BY_ITSELF = Found("", b"", "", "")  # where a block is that was given without a picture
+_BY_ITSELF = FoundBlock("", b"", "", "")  # where a block is that was given without a picture
 
 
-def judge(kind: str, block: bytes, with_fields: bool = False, at: Found = _BY_ITSELF) -> Block:
+def judge(kind: str, block: bytes, with_fields: bool = False, at: FoundBlock = _BY_ITSELF) -> Block:
     """Judges a block that was taken as one of `kind`; a refused block never gets a digest."""
     octets = hashlib.sha256(block).hexdigest()
     try:
@@ -56,7 +56,7 @@ def judge_packet(packet: bytes, with_fields: bool = False) -> Block:
     return _judge_xmp(_BY_ITSELF._replace(data=packet), {}, {}, with_fields)
 
 
-def _judge_xmp(at: Found, extensions: Dict[str, bytes], left: Dict[str, bytes], with_fields: bool) -> Block:
+def _judge_xmp(at: FoundBlock, extensions: Dict[str, bytes], left: Dict[str, bytes], with_fields: bool) -> Block:
     """Reads a packet with its extended XMP, which is taken out of `left`."""
     used: Set[str] = set()
     try:
@@ -74,7 +74,7 @@ def _judge_xmp(at: Found, extensions: Dict[str, bytes], left: Dict[str, bytes], 
     return Block(XMP, *at[2:5], ACCEPTED, xmp.digest(said), None, None, len(at.data), octets.hexdigest(), fields)
 
 
-def _unreadable(at: Found, octets: str, cause: str) -> Block:
+def _unreadable(at: FoundBlock, octets: str, cause: str) -> Block:
     return Block(XMP, *at[2:5], UNREADABLE, None, cause, None, len(at.data), octets)
 
 

@@ -11,14 +11,14 @@ from collections import Counter
 from dataclasses import dataclass
 from typing import Callable, List, NamedTuple, Optional, Sequence, Union
 
-from ..catalogue.records import Entry
+from ..catalogue.records import PictureRecord
 from ..catalogue.store import KEPT_BEFORE, make_rows, put_rows
 from ..cli.parser import SECONDS
-from .walk import Found
+from .walk import FoundFile
 
 LONGEST_WAIT = 2.0  # seconds until results are committed, if pictures are slow
 
-Lines = Callable[[Entry], List[str]]  # the lines that are printed about a picture
+Lines = Callable[[PictureRecord], List[str]]  # the lines that are printed about a picture
 
 
 @dataclass(frozen=True)
@@ -32,9 +32,9 @@ class How:
     lines: Optional[Lines] = None  # makes the lines that are printed about a picture
 
     @classmethod
-    def asked(cls, asked: argparse.Namespace, room: str, lines: Optional[Lines] = None) -> "How":
+    def of(cls, arguments: argparse.Namespace, room: str, lines: Optional[Lines] = None) -> "How":
         """As the arguments of a command have it."""
-        return cls(asked.jobs, asked.whole, asked.limit, room, lines)
+        return cls(arguments.jobs, arguments.whole, arguments.limit, room, lines)
 
     @property
     def processes(self) -> int:
@@ -48,14 +48,14 @@ class Batch(NamedTuple):
     file: str  # with their rows
     states: "Counter[str]"  # how many have each state
     lines: List[str]
-    unread: List[Entry]  # which have no row: if they were known before, their earlier results stay
-    left: Sequence[Found]  # the pictures after them, which were not looked at yet
+    unread: List[PictureRecord]  # which have no row: if they were known before, their earlier results stay
+    left: Sequence[FoundFile]  # the pictures after them, which were not looked at yet
 
 
-Result = Union[Entry, Batch]
+Result = Union[PictureRecord, Batch]
 
 
-def batch(file: str, entries: Sequence[Entry], left: Sequence[Found], lines: Optional[Lines]) -> Batch:
+def batch(file: str, entries: Sequence[PictureRecord], left: Sequence[FoundFile], lines: Optional[Lines]) -> Batch:
     """Writes the rows of some pictures to a new file."""
     unread = [it for it in entries if it.problem in KEPT_BEFORE]
     with contextlib.closing(sqlite3.connect(file, isolation_level=None)) as base:

@@ -11,12 +11,12 @@ import time
 from dataclasses import replace
 from typing import Any, Dict, Iterator, List, Optional, Sequence
 
-from ..catalogue.records import Entry, Stamp
+from ..catalogue.records import PictureRecord, Stamp
 from ..extract import programs
 from . import workers
 from .batches import How
 from .index import Look
-from .walk import Found
+from .walk import FoundFile
 
 try:
     import distributed
@@ -29,10 +29,10 @@ CHUNK = 64  # pictures of a task
 POLL = 2.0  # seconds without a result after which the workers are counted
 
 
-def look_there(root: bytes, names: Sequence[bytes], how: How) -> List[Entry]:
+def look_there(root: bytes, names: Sequence[bytes], how: How) -> List[PictureRecord]:
     """A worker's task: looks at files by their names relative to its own path of the folder."""
     programs.set_limit(how.seconds)
-    return [workers.look(Found(os.path.join(root, name), root, _stamp(os.path.join(root, name))), how.whole) for name in names]
+    return [workers.look(FoundFile(os.path.join(root, name), root, _stamp(os.path.join(root, name))), how.whole) for name in names]
 
 
 def _stamp(path: bytes) -> Optional[Stamp]:
@@ -49,7 +49,7 @@ def looker(scheduler: str, elsewhere: Optional[str], names: Sequence[bytes]) -> 
     if elsewhere and (len(names) != 1 or not os.path.isdir(names[0])):
         raise programs.Failed("--elsewhere is the path of one folder: give one FOLDER")
 
-    def look(work: Sequence[Found], how: How) -> Iterator[Entry]:
+    def look(work: Sequence[FoundFile], how: How) -> Iterator[PictureRecord]:
         if work:
             yield from _Cluster(scheduler, os.fsencode(elsewhere) if elsewhere else None, how).looked(work)
 
@@ -62,10 +62,10 @@ class _Cluster:
     def __init__(self, scheduler: str, elsewhere: Optional[bytes], how: How) -> None:
         self.elsewhere, self.how = elsewhere, replace(how, room="")
         self.scheduler = scheduler
-        self.tasks: Dict[Any, Sequence[Found]] = {}
-        self.suspects: List[Found] = []  # the pictures of chunks at which workers died
+        self.tasks: Dict[Any, Sequence[FoundFile]] = {}
+        self.suspects: List[FoundFile] = []  # the pictures of chunks at which workers died
 
-    def looked(self, work: Sequence[Found]) -> Iterator[Entry]:
+    def looked(self, work: Sequence[FoundFile]) -> Iterator[PictureRecord]:
         """The result for each of these files, in order of arrival."""
         try:
             with distributed.Client(self.scheduler, timeout=max(self.how.seconds, 1.0)) as client:
@@ -79,7 +79,7 @@ class _Cluster:
         except (OSError, CommClosedError) as error:
             raise programs.Failed(f"the cluster {self.scheduler} failed: {error}") from error
 
-    def _submit(self, client: Any, chunk: Sequence[Found]) -> None:
+    def _submit(self, client: Any, chunk: Sequence[FoundFile]) -> None:
         root = chunk[0].root
         names = [os.path.relpath(it.path, root) for it in chunk]
         task = client.submit(look_there, self.elsewhere or root, names, self.how, pure=False, retries=2)
@@ -98,7 +98,7 @@ class _Cluster:
             elif time.monotonic() - since > self.how.seconds:
                 raise programs.Failed(f"the cluster {self.scheduler} has no worker")
 
-    def _answers(self, task: Any) -> Iterator[Entry]:
+    def _answers(self, task: Any) -> Iterator[PictureRecord]:
         chunk = self.tasks.pop(task)
         try:
             found = task.result()
@@ -114,9 +114,9 @@ class _Cluster:
             yield _here(it, answer)
 
 
-def _chunks(work: Sequence[Found]) -> Iterator[Sequence[Found]]:
+def _chunks(work: Sequence[FoundFile]) -> Iterator[Sequence[FoundFile]]:
     """Pictures of one folder each, at most CHUNK together."""
-    chunk: List[Found] = []
+    chunk: List[FoundFile] = []
     for it in work:
         if chunk and (len(chunk) == CHUNK or it.root != chunk[0].root):
             yield chunk
@@ -125,14 +125,14 @@ def _chunks(work: Sequence[Found]) -> Iterator[Sequence[Found]]:
     yield chunk
 
 
-def _failed(it: Found, why: str) -> Entry:
-    return Entry(it.path, it.root, it.stamp, problem="ToolFailed", detail=why)
+def _failed(it: FoundFile, why: str) -> PictureRecord:
+    return PictureRecord(it.path, it.root, it.stamp, problem="ToolFailed", detail=why)
 
 
-def _here(it: Found, answer: Entry) -> Entry:
+def _here(it: FoundFile, answer: PictureRecord) -> PictureRecord:
     """A worker's result with the name and the marks that the file has here."""
     if answer.problem == "Vanished":
         detail = f"the worker has no such file: {os.fsdecode(answer.path)!r}"
-        return Entry(it.path, it.root, None, problem="Unreadable", detail=detail)
+        return PictureRecord(it.path, it.root, None, problem="Unreadable", detail=detail)
     same = answer.stamp is not None and it.stamp is not None and answer.stamp.size == it.stamp.size
     return answer._replace(path=it.path, root=it.root, stamp=it.stamp if same else None)

@@ -9,14 +9,14 @@ from dataclasses import dataclass, field
 from datetime import datetime, timezone
 from typing import Callable, Dict, Iterable, Iterator, List, Optional, Sequence, Set, Tuple
 
-from ..catalogue.records import Entry
+from ..catalogue.records import PictureRecord
 from ..catalogue.store import Catalogue, Known
 from ..compare.moved import Departed
 from ..extract import programs
 from ..extract.formats.found import PROBLEMS
 from .batches import LONGEST_WAIT, Batch, How, Result
 from .progress import Progress
-from .walk import Found, Unlisted, below
+from .walk import FoundFile, Unlisted, below
 
 BATCH = 1000  # pictures of one transaction
 FILES = 8  # of batches, which SQLite attaches at once; it can attach ten
@@ -24,17 +24,17 @@ GONE = ("Vanished", "Moved")
 NEEDED = {"NeedsExifTool": "exiftool", "NeedsExiv2": "exiv2"}
 
 Say = Callable[[str], None]
-Look = Callable[[Sequence[Found], How], Iterator[Result]]
+Look = Callable[[Sequence[FoundFile], How], Iterator[Result]]
 
 
-def _looked(work: Sequence[Found], how: How) -> Iterator[Result]:
+def _looked(work: Sequence[FoundFile], how: How) -> Iterator[Result]:
     from . import workers  # the readers take long to import, and in most runs nothing has changed
 
     return workers.looked(work, how)
 
 
 @dataclass
-class Asked:
+class IndexOptions:
     """The arguments and the progress of a run."""
 
     names: Sequence[bytes]
@@ -49,25 +49,25 @@ class Asked:
 class Work:
     """The pictures that a run has to look at."""
 
-    to_read: List[Found] = field(default_factory=list)
+    to_read: List[FoundFile] = field(default_factory=list)
     new: Set[bytes] = field(default_factory=set)  # those of them that the catalogue doesn't know, if it knows any
     unlisted: List[Unlisted] = field(default_factory=list)
     counts: "Counter[str]" = field(default_factory=Counter)
     seen: Dict[int, int] = field(default_factory=dict)  # a set of row numbers, 4,096 in a number
 
 
-def index(asked: Asked, catalogue: Catalogue) -> "Counter[str]":
+def index(options: IndexOptions, catalogue: Catalogue) -> "Counter[str]":
     """Looks at the pictures below some folders or with given names. Returns the number of each state, and of `unchanged`.
 
     A picture that was looked at with this size, these times and this inode is skipped, unless `again` is set.
     """
     run = catalogue.begin_run(_now())
     with catalogue.reading():
-        work = _work(asked, catalogue)
-    gone, departed = _gone(asked.names, work, catalogue)
+        work = _work(options, catalogue)
+    gone, departed = _gone(options.names, work, catalogue)
     if gone:
         catalogue.put(run, gone)
-    at_work = _Looking(asked, catalogue, run, work)
+    at_work = _Looking(options, catalogue, run, work)
     at_work.all()
     for it in [*departed.settle(catalogue, run, gone, work.new), *_named_wrong(work, catalogue)]:
         at_work.count(it)
@@ -85,12 +85,12 @@ def _own_files(name: str) -> Tuple[bytes, ...]:
     return tuple(it + ending for it in names for ending in (b"", b"-wal", b"-shm", b"-journal"))
 
 
-def _work(asked: Asked, catalogue: Catalogue) -> Work:
+def _work(options: IndexOptions, catalogue: Catalogue) -> Work:
     """The files that have to be looked at, and how many are unchanged; each file once."""
     work = Work()
     named: Set[bytes] = set()
-    many, first = len(asked.names) > 1, catalogue.is_empty()
-    for it in below(asked.names, work.unlisted.append, _own_files(catalogue.name)):
+    many, first = len(options.names) > 1, catalogue.is_empty()
+    for it in below(options.names, work.unlisted.append, _own_files(catalogue.name)):
         if many:
             if it.path in named:
                 continue
@@ -100,14 +100,14 @@ def _work(asked: Asked, catalogue: Catalogue) -> Work:
             work.new.add(it.path)
         elif known is not None:
             work.seen[known.id >> 12] = work.seen.get(known.id >> 12, 0) | 1 << (known.id & 4095)
-        if asked.again or not _is_unchanged(it, known):
+        if options.again or not _is_unchanged(it, known):
             work.to_read.append(it)
         else:
             work.counts["unchanged"] += 1
     return work
 
 
-def _is_unchanged(it: Found, known: Optional[Known]) -> bool:
+def _is_unchanged(it: FoundFile, known: Optional[Known]) -> bool:
     return known is not None and it.stamp is not None and known.stamp == it.stamp and not _worth_another(known.problem)
 
 
@@ -117,7 +117,7 @@ def _worth_another(problem: Optional[str]) -> bool:
     return problem in ("Unreadable", "ToolFailed", "InternalError", *GONE) or (program is not None and programs.is_there(program))
 
 
-def _gone(names: Iterable[bytes], work: Work, catalogue: Catalogue) -> Tuple[List[Entry], Departed]:
+def _gone(names: Iterable[bytes], work: Work, catalogue: Catalogue) -> Tuple[List[PictureRecord], Departed]:
     """The pictures below the folders that are missing now, and the facts by which they are recognised under another name.
 
     Those of a folder that can't be read aren't gone: nothing is known of them.
@@ -129,17 +129,17 @@ def _gone(names: Iterable[bytes], work: Work, catalogue: Catalogue) -> Tuple[Lis
             if work.seen.get(number >> 12, 0) >> (number & 4095) & 1 or problem in GONE or path.startswith(hidden):
                 continue
             if not os.path.lexists(path):
-                gone.append(Entry(path, b"", problem="Vanished", detail=PROBLEMS["Vanished"]))
+                gone.append(PictureRecord(path, b"", problem="Vanished", detail=PROBLEMS["Vanished"]))
                 departed.add(catalogue, number, path)
     return gone, departed
 
 
-def _named_wrong(work: Work, catalogue: Catalogue) -> Iterator[Entry]:
+def _named_wrong(work: Work, catalogue: Catalogue) -> Iterator[PictureRecord]:
     """A line for each folder that can't be read, and for each name without a file. The catalogue keeps none of it."""
     for it in work.unlisted:
         known = sum(1 for _ in catalogue.below(it.path))
         kept = f"; its {known} pictures stay as they were" if known else ""
-        yield Entry(it.path, b"", problem="Unreadable", detail=it.reason + kept)
+        yield PictureRecord(it.path, b"", problem="Unreadable", detail=it.reason + kept)
 
 
 def _version(program: str) -> Optional[str]:
@@ -152,9 +152,9 @@ def _version(program: str) -> Optional[str]:
 class _Looking:
     """Looks at pictures and commits the results in batches, each before it is reported."""
 
-    def __init__(self, asked: Asked, catalogue: Catalogue, run: int, work: Work) -> None:
-        self.asked, self.catalogue, self.run, self.work = asked, catalogue, run, work
-        self.progress = Progress(len(work.to_read), quiet=asked.quiet)
+    def __init__(self, options: IndexOptions, catalogue: Catalogue, run: int, work: Work) -> None:
+        self.options, self.catalogue, self.run, self.work = options, catalogue, run, work
+        self.progress = Progress(len(work.to_read), quiet=options.quiet)
         self.ready: List[Result] = []
         self.files = 0  # of batches that are ready
         self.pictures = 0  # that are ready
@@ -166,7 +166,7 @@ class _Looking:
         if not self.work.to_read:
             return
         self.catalogue.set_versions(self.run, _version("exiftool"), _version("exiv2"))
-        for it in self.asked.look(self.work.to_read, self.asked.how):
+        for it in self.options.look(self.work.to_read, self.options.how):
             self.ready.append(it)
             self.files += isinstance(it, Batch)
             self.pictures += sum(it.states.values()) if isinstance(it, Batch) else 1
@@ -193,14 +193,14 @@ class _Looking:
         self.last = time.monotonic()
         self.progress.done(self.done)
 
-    def count(self, it: Entry) -> None:
+    def count(self, it: PictureRecord) -> None:
         """Counts and reports a picture."""
         self.work.counts[it.state] += 1
-        if self.asked.how.lines:
-            self.say(self.asked.how.lines(it))
+        if self.options.how.lines:
+            self.say(self.options.how.lines(it))
 
     def say(self, lines: Iterable[str]) -> None:
         """Prints lines about pictures."""
-        if self.asked.say:
+        if self.options.say:
             for line in lines:
-                self.asked.say(line)
+                self.options.say(line)

@@ -13,7 +13,7 @@ from ..cli.output import reason
 from ..cli.signals import Failure
 
 
-class Found(NamedTuple):
+class FoundFile(NamedTuple):
     """A file, the folder below which it was found (or its own folder, if it was named by itself), and its marks."""
 
     path: bytes
@@ -37,7 +37,7 @@ class BadList(Failure):
 OnUnlisted = Callable[[Unlisted], None]
 
 
-def below(names: Iterable[bytes], unlisted: OnUnlisted, leave_out: Collection[bytes] = ()) -> Iterator[Found]:
+def below(names: Iterable[bytes], unlisted: OnUnlisted, leave_out: Collection[bytes] = ()) -> Iterator[FoundFile]:
     """Each file of the arguments, and all files below each folder, in the order of their names.
 
     Paths are absolute. Links to folders aren't followed. Hidden files and folders are included; the files of `leave_out` are not.
@@ -49,17 +49,17 @@ def below(names: Iterable[bytes], unlisted: OnUnlisted, leave_out: Collection[by
             now = os.stat(top)
         except OSError as error:
             if isinstance(error, FileNotFoundError) and os.path.lexists(top):
-                yield Found(top, os.path.dirname(top), None)  # a link to nothing
+                yield FoundFile(top, os.path.dirname(top), None)  # a link to nothing
             else:
                 unlisted(Unlisted(top, reason(error)))
             continue
         if stat.S_ISDIR(now.st_mode):
             yield from _below(top, unlisted, leave_out)
         elif top not in leave_out:
-            yield Found(top, os.path.dirname(top), Stamp.of(now))
+            yield FoundFile(top, os.path.dirname(top), Stamp.of(now))
 
 
-def _below(top: bytes, unlisted: OnUnlisted, leave_out: Collection[bytes]) -> Iterator[Found]:
+def _below(top: bytes, unlisted: OnUnlisted, leave_out: Collection[bytes]) -> Iterator[FoundFile]:
     waiting = [top]
     while waiting:
         folder = waiting.pop()
@@ -72,7 +72,7 @@ def _below(top: bytes, unlisted: OnUnlisted, leave_out: Collection[bytes]) -> It
         waiting += [it.path for it in reversed(found) if it.is_dir(follow_symlinks=False)]
         for it in found:
             if not _leads_to_folder(it) and it.path not in leave_out:
-                yield Found(it.path, top, _stamp(it))
+                yield FoundFile(it.path, top, _stamp(it))
 
 
 def _leads_to_folder(it: "os.DirEntry[bytes]") -> bool:

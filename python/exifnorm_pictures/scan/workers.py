@@ -20,13 +20,13 @@ from typing import Deque, Iterable, Iterator, List, NamedTuple, Optional, Sequen
 
 from exifnorm import LibraryMissing
 
-from ..catalogue.records import Entry, Stamp
+from ..catalogue.records import PictureRecord, Stamp
 from ..cli import signals
 from ..cli.output import reason
 from ..extract import exiftool, extraction, judge, programs
 from ..extract.formats.found import Blocks
 from .batches import LONGEST_WAIT, Batch, How, Result, batch
-from .walk import Found
+from .walk import FoundFile
 
 FEW = 64  # pictures for which starting a further process takes too long
 CHUNK = 500  # pictures that a process gets at once at most
@@ -34,7 +34,7 @@ PARTS = 8  # chunks of each process at least, so that all end at nearly the same
 LEAST_CHUNK = 8  # .. unless they have fewer pictures than this
 
 
-def look(it: Found, whole: bool) -> Entry:
+def look(it: FoundFile, whole: bool) -> PictureRecord:
     """The result for one file. An error of any kind affects only this file."""
     try:
         blocks = extraction.blocks_of(it.path, whole)
@@ -44,22 +44,22 @@ def look(it: Found, whole: bool) -> Entry:
     except programs.Failed as error:
         return failed(it, str(error))
     except OSError as error:
-        return Entry(it.path, it.root, problem="Unreadable", detail=reason(error))
+        return PictureRecord(it.path, it.root, problem="Unreadable", detail=reason(error))
     except programs.Missing as error:
-        return Entry.of(it.path, it.root, it.stamp, Blocks(problem="NeedsExifTool", detail=str(error)))
+        return PictureRecord.of(it.path, it.root, it.stamp, Blocks(problem="NeedsExifTool", detail=str(error)))
     except MemoryError:
         return failed(it, "out of memory")
     except Exception as error:  # an error of a reader affects only this file
-        return Entry.of(it.path, it.root, it.stamp, extraction.failed_here(error))
-    return Entry.of(it.path, it.root, _unless_changed(it), blocks, judged)
+        return PictureRecord.of(it.path, it.root, it.stamp, extraction.failed_here(error))
+    return PictureRecord.of(it.path, it.root, _unless_changed(it), blocks, judged)
 
 
-def failed(it: Found, why: str) -> Entry:
+def failed(it: FoundFile, why: str) -> PictureRecord:
     """The result for a file at which a program or a process failed."""
-    return Entry.of(it.path, it.root, it.stamp, Blocks(problem="ToolFailed", detail=why))
+    return PictureRecord.of(it.path, it.root, it.stamp, Blocks(problem="ToolFailed", detail=why))
 
 
-def _unless_changed(it: Found) -> Optional[Stamp]:
+def _unless_changed(it: FoundFile) -> Optional[Stamp]:
     """The marks that identify the file; none if it was written to meanwhile, so that the next run looks again."""
     try:
         return it.stamp if it.stamp == Stamp.of(os.stat(it.path)) else None
@@ -67,14 +67,14 @@ def _unless_changed(it: Found) -> Optional[Stamp]:
         return None
 
 
-def looked(work: Sequence[Found], how: How) -> Iterator[Result]:
+def looked(work: Sequence[FoundFile], how: How) -> Iterator[Result]:
     """The results for these files, in their order."""
     if how.processes == 1 or len(work) <= FEW:
         return _in_this_process(work, how)
     return _in_several_processes(work, how)
 
 
-def _in_this_process(work: Sequence[Found], how: How) -> Iterator[Entry]:
+def _in_this_process(work: Sequence[FoundFile], how: How) -> Iterator[PictureRecord]:
     programs.set_limit(how.seconds)
     exiftool.begin(how.room)
     try:
@@ -87,11 +87,11 @@ def _in_this_process(work: Sequence[Found], how: How) -> Iterator[Entry]:
 class Task(NamedTuple):
     """Pictures for a process, and the file to which it writes their rows."""
 
-    chunk: Sequence[Found]
+    chunk: Sequence[FoundFile]
     file: str
 
 
-def _in_several_processes(work: Sequence[Found], how: How) -> Iterator[Result]:
+def _in_several_processes(work: Sequence[FoundFile], how: How) -> Iterator[Result]:
     size = max(LEAST_CHUNK, min(CHUNK, len(work) // (PARTS * how.processes)))
     chunks = iter([work[at : at + size] for at in range(0, len(work), size)])
     files = (os.path.join(how.room, f"rows-{number}") for number in itertools.count())
@@ -106,7 +106,7 @@ def _in_several_processes(work: Sequence[Found], how: How) -> Iterator[Result]:
 def look_at_some(task: Task, how: How) -> Batch:
     """A process's results for the first pictures of a task: for all of them, unless that takes too long."""
     ends_at = time.monotonic() + LONGEST_WAIT
-    entries: List[Entry] = []
+    entries: List[PictureRecord] = []
     for it in task.chunk:
         entries.append(look(it, how.whole))
         if time.monotonic() > ends_at:
@@ -131,7 +131,7 @@ def _begin(how: How, parent: int, mask: Set[int]) -> None:
     util.Finalize(None, exiftool.finish, exitpriority=10)  # the processes of a pool don't run atexit
 
 
-def _by_processes(chunks: Iterator[Sequence[Found]], how: How, files: Iterator[str], unfinished: List[Task]) -> Iterator[Batch]:
+def _by_processes(chunks: Iterator[Sequence[FoundFile]], how: How, files: Iterator[str], unfinished: List[Task]) -> Iterator[Batch]:
     """The results of several processes. If one of them dies, the tasks that have no result are left in `unfinished`, without files."""
     waiting: "Deque[Future[Batch]]" = deque()  # in the order of `unfinished`, which has a task before it is given to the pool
     pool = _pool(how, how.processes)
@@ -181,7 +181,7 @@ def _pool(how: How, processes: int) -> ProcessPoolExecutor:
         raise
 
 
-def _one_by_one(chunk: Sequence[Found], how: How) -> Iterator[Entry]:
+def _one_by_one(chunk: Sequence[FoundFile], how: How) -> Iterator[PictureRecord]:
     """The results for a chunk at which a process died: each file gets a process of its own, so that only one file fails."""
     for it in chunk:
         pool = _pool(how, 1)

@@ -5,7 +5,7 @@ from __future__ import annotations
 import struct
 from typing import Dict, Tuple
 
-from .found import XMP, Blocks, Found, ordinal
+from .found import XMP, Blocks, FoundBlock, ordinal
 
 HEAD = b"http://ns.adobe.com/xmp/extension/\0"
 _DIGEST = 32  # characters of the digest in the main packet, after the head
@@ -43,6 +43,6 @@ class Pieces:
             data = b"".join(pieces[it] for it in offsets)
             if offsets == [0, *ends[:-1]] and ends[-1] == total:
                 extends = digest.decode("latin-1").upper()
-                blocks.found.append(Found(XMP, data, name, self._places[digest], extends=extends))
+                blocks.found.append(FoundBlock(XMP, data, name, self._places[digest], extends=extends))
             else:
                 blocks.leave(f"{name}, of which pieces are missing or overlap", data)

@@ -53,7 +53,7 @@ class LeftToOthers(Exception):
     """Only ExifTool and exiv2 read a file of this kind."""
 
 
-class Found(NamedTuple):
+class FoundBlock(NamedTuple):
     """A block, without the bytes that its format puts before it, such as the six bytes `Exif\\0\\0`.
 
     The first block of a kind has the name of its kind, and each further block a name of its own, such as `second Exif` or `page 2`.
@@ -90,7 +90,7 @@ class Blocks:
     `problem` is one of `PROBLEMS` if the file could not be read at all; it then has no block.
     """
 
-    found: List[Found] = field(default_factory=list)
+    found: List[FoundBlock] = field(default_factory=list)
     not_read: List[NotRead] = field(default_factory=list)
     extractor: str = OWN  # EXIFTOOL if any block, or the result that there is none, comes from ExifTool or exiv2
     type: str = ""  # the format's name: JPEG, PNG, WEBP, TIFF, or ExifTool's name for it
@@ -109,16 +109,16 @@ class Blocks:
         """
         name = NAMES[kind] + (f" of {part}" if part else "")
         number = self.counts[name] = self.counts.get(name, 0) + 1
-        self.found.append(Found(kind, data, name if number == 1 else f"{ordinal(number)} {name}", where, extractor))
+        self.found.append(FoundBlock(kind, data, name if number == 1 else f"{ordinal(number)} {name}", where, extractor))
 
     def leave(self, what: str, data: bytes) -> None:
         """Adds a part that is not read, whose bytes are in memory."""
         self.not_read.append(NotRead.of(what, data))
 
-    def of_kind(self, kind: str) -> List[Found]:
+    def of_kind(self, kind: str) -> List[FoundBlock]:
         """The blocks of one kind.
 
-        >>> Blocks([Found(EXIF, b"MM", "Exif", "eXIf chunk at 33")]).of_kind(XMP)
+        >>> Blocks([FoundBlock(EXIF, b"MM", "Exif", "eXIf chunk at 33")]).of_kind(XMP)
         []
         """
         return [it for it in self.found if it.kind == kind]
