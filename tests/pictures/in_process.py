@@ -10,7 +10,7 @@ import subprocess
 from studio import WithPictures
 
 from exifnorm_pictures.cli import main
-from exifnorm_pictures.extract import session
+from exifnorm_pictures.extract import exiftool
 
 
 class InProcess(WithPictures):
@@ -18,7 +18,7 @@ class InProcess(WithPictures):
 
     def setUp(self):
         super().setUp()
-        self.addCleanup(setattr, session._Own, "room", None)  # which a command sets, and removes with all that is in it
+        self.addCleanup(setattr, exiftool._Own, "room", None)  # which a command sets, and removes with all that is in it
 
     def printed(self, *words, status=0):
         """The lines that a command prints, and in `complaint` those on standard error; `@` is the folder."""

@@ -18,8 +18,8 @@ from studio import SMALL_JPEG, Studio, WithPictures, interpreter_with, needs, ru
 from exifnorm_pictures.extract import programs
 from exifnorm_pictures.scan import cluster
 from exifnorm_pictures.scan.batches import How
-from exifnorm_pictures.catalogue.records import Entry, Stamp
-from exifnorm_pictures.scan.walk import Found
+from exifnorm_pictures.catalogue.records import PictureRecord, Stamp
+from exifnorm_pictures.scan.walk import FoundFile
 
 GIF = b"GIF89a\x01\0\x01\0\0\0\0;"
 GOOD = with_exif(SMALL_JPEG, block([MAKE]))
@@ -174,11 +174,11 @@ class Closed(Exception):
 
 
 def found(name, root=b"/p", size=1):
-    return Found(os.path.join(root, name), root, Stamp(size, 2, 3, 4))
+    return FoundFile(os.path.join(root, name), root, Stamp(size, 2, 3, 4))
 
 
 def entry(it, **more):
-    return Entry(it.path, it.root, it.stamp, **more)
+    return PictureRecord(it.path, it.root, it.stamp, **more)
 
 
 class Tasks(unittest.TestCase):
@@ -189,7 +189,7 @@ class Tasks(unittest.TestCase):
     def looked(self, near, work, elsewhere=None, seconds=60.0):
         """The results for some files, each looked at as if it were a GIF."""
         with mock.patch.multiple(cluster, create=True, distributed=near, KilledWorker=Killed, CommClosedError=Closed), \
-             mock.patch.object(cluster.workers, "look", lambda it, whole: Entry(it.path, it.root, it.stamp, "GIF" if whole else "JPEG")), \
+             mock.patch.object(cluster.workers, "look", lambda it, whole: PictureRecord(it.path, it.root, it.stamp, "GIF" if whole else "JPEG")), \
              mock.patch.object(cluster.programs, "set_limit") as limit:  # fmt: skip
             looker = cluster.looker(FAR, elsewhere, [b"/"])
             result = list(looker(work, How(seconds=seconds, room="/tmp/room", whole=True)))
@@ -209,7 +209,7 @@ class Tasks(unittest.TestCase):
         self.assertEqual(near.waits, [(number, 2.0, "FIRST_COMPLETED") for number in (5, 4, 3, 2, 1)])
         self.assertEqual(self.limits, [mock.call(60.0)] * 5)
         # there are no such files here, so they have no marks there
-        self.assertEqual(result, [Entry(it.path, it.root, None, "GIF") for it in work])
+        self.assertEqual(result, [PictureRecord(it.path, it.root, None, "GIF") for it in work])
         self.assertEqual((self.looked(near, []), len(near.calls)), ([], 7))
 
     def test_the_same_folder_at_another_path(self):
@@ -218,15 +218,15 @@ class Tasks(unittest.TestCase):
             near = Near()
             result = self.looked(near, [found(b"a", size=4), found(b"b"), found(b"a", size=5)], folder, 0.5)
         self.assertEqual(near.calls, [(FAR, 1.0), (os.fsencode(folder), [b"a", b"b", b"a"], "", 0.5, False, 2), "closed"])
-        self.assertEqual(result, [entry(found(b"a", size=4), type="GIF"), Entry(b"/p/b", b"/p", None, "GIF"), Entry(b"/p/a", b"/p", None, "GIF")])
+        self.assertEqual(result, [entry(found(b"a", size=4), type="GIF"), PictureRecord(b"/p/b", b"/p", None, "GIF"), PictureRecord(b"/p/a", b"/p", None, "GIF")])
 
     def test_results_of_workers(self):
         work = [found(b"a"), found(b"b"), found(b"c")]
-        outcome = [Entry(b"/there/a", b"/there", None, problem="Vanished", detail="gone"), Entry(b"/there/b", b"/there", Stamp(1, 9, 9, 9), "PNG"),
-                   Entry(b"/there/c", b"/there", Stamp(2, 2, 3, 4), problem="NoPicture", detail="no")]  # fmt: skip
-        missing = Entry(b"/p/a", b"/p", None, problem="Unreadable", detail="the worker has no such file: '/there/a'")
+        outcome = [PictureRecord(b"/there/a", b"/there", None, problem="Vanished", detail="gone"), PictureRecord(b"/there/b", b"/there", Stamp(1, 9, 9, 9), "PNG"),
+                   PictureRecord(b"/there/c", b"/there", Stamp(2, 2, 3, 4), problem="NoPicture", detail="no")]  # fmt: skip
+        missing = PictureRecord(b"/p/a", b"/p", None, problem="Unreadable", detail="the worker has no such file: '/there/a'")
         self.assertEqual(self.looked(Near([outcome]), work),
-                         [missing, entry(work[1], type="PNG"), Entry(b"/p/c", b"/p", None, problem="NoPicture", detail="no")])  # fmt: skip
+                         [missing, entry(work[1], type="PNG"), PictureRecord(b"/p/c", b"/p", None, problem="NoPicture", detail="no")])  # fmt: skip
         why = "the worker failed: ValueError: no package"
         self.assertEqual(self.looked(Near([ValueError("no package")]), work), [entry(it, problem="ToolFailed", detail=why) for it in work])
 

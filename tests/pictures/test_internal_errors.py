@@ -16,7 +16,7 @@ from exifnorm_pictures.catalogue.records import Block, Damaged
 from exifnorm_pictures.catalogue.store import Catalogue, NoCatalogue
 from exifnorm_pictures.extract.formats import png
 from exifnorm_pictures.extract.formats.found import NotRead
-from exifnorm_pictures.catalogue.records import Entry, Stamp
+from exifnorm_pictures.catalogue.records import PictureRecord, Stamp
 from made_files import jpeg, png as made_png
 from studio import run
 
@@ -49,7 +49,7 @@ def of_pictures(name, *paths):
     made = Catalogue(str(name), make=True)
     block = Block("exif", "Exif", "somewhere", "own", "refused", None, "Overlap", 34, 100, "0" * 64)
     parts = (NotRead("a part", "1" * 64),)
-    made.put(made.begin_run("2000-01-01T00:00:00Z"), [Entry(it, b"/", Stamp(1, 2, 3, 4), "JPEG", blocks=(block,), not_read=parts) for it in paths])
+    made.put(made.begin_run("2000-01-01T00:00:00Z"), [PictureRecord(it, b"/", Stamp(1, 2, 3, 4), "JPEG", blocks=(block,), not_read=parts) for it in paths])
     return made
 
 
@@ -120,7 +120,8 @@ def test_a_report_of_a_damaged_catalogue(command, values):
 
 
 @pytest.mark.parametrize("octets", [b"", b"[", b"[1]", b'[["main"]]', b'[["main","010f","ASCII","4","a"]]', b'[["main","010f","ASCII",true,"a"]]',
-                                    b'["abcde"]', b"[" * 100_000, b"\0\x11", zlib.compress(b"7"), zlib.compress(b"\xff"), 7, "text"])  # fmt: skip
+                                    b'["abcde"]', pytest.param(b"[" * 100_000, id="100,000 brackets"), b"\0\x11", zlib.compress(b"7"), zlib.compress(b"\xff"), 7,
+                                    "text"])  # fmt: skip
 def test_fields_that_are_damaged(octets):
     with pytest.raises(Damaged):
         listing.unpacked(octets)

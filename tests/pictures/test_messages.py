@@ -17,15 +17,15 @@ from studio import WithPictures, read, write
 
 from exifnorm_pictures.catalogue import records
 from exifnorm_pictures.cli import changed, index, main, output, parser, signals
-from exifnorm_pictures.extract import extraction, programs, session
+from exifnorm_pictures.extract import exiftool, extraction, programs
 from exifnorm_pictures.files import atomic
-from exifnorm_pictures.scan import looking, processes, progress, walk
+from exifnorm_pictures.scan import progress, walk, workers
 from exifnorm_pictures.scan.batches import How
-from exifnorm_pictures.catalogue.blocks import Block, Damaged
+from exifnorm_pictures.catalogue.records import Block, Damaged
 from exifnorm_pictures.catalogue.store import VERSION, Catalogue, NoCatalogue
 from exifnorm_pictures.extract.formats.found import PROBLEMS, NotRead
-from exifnorm_pictures.catalogue.records import Entry, Stamp
-from exifnorm_pictures.scan.walk import Found
+from exifnorm_pictures.catalogue.records import PictureRecord, Stamp
+from exifnorm_pictures.scan.walk import FoundFile
 
 
 class CommandLine(unittest.TestCase):
@@ -173,7 +173,7 @@ class Messages(WithPictures):
             if octets:
                 self.assertEqual(self.raised(NoCatalogue, Catalogue, name, True), text)
             self.assertEqual((read(name), os.listdir(self.folder)), (octets, ["c"]))
-        self.assertEqual(self.raised(NoCatalogue, index.index_, argparse.Namespace(folders=[""], files_from=None, catalogue=name)), "a name is empty")
+        self.assertEqual(self.raised(NoCatalogue, index.run, argparse.Namespace(folders=[""], files_from=None, catalogue=name)), "a name is empty")
         os.remove(name)
         with Catalogue(name, make=True) as made:
             self.assertEqual(str(made.failure(sqlite3.OperationalError("disk I/O error"))), f"{name}: disk I/O error")
@@ -231,8 +231,8 @@ class Messages(WithPictures):
             self.assertEqual(self.raised(programs.Failed, programs.run, [shutil.which("sleep"), "60"]), "sleep took longer than 0.05 seconds")
             words = [shutil.which("sh"), "-c", "exec >&-; exec sleep 3"]  # it ends its output, but not itself
             self.assertEqual(self.raised(programs.Failed, programs.run, words), "sh took longer than 0.05 seconds")
-        with mock.patch.object(processes, "ProcessPoolExecutor", mock.Mock(side_effect=OSError(11, "Resource temporarily unavailable"))):
-            self.assertEqual(self.raised(programs.Failed, processes._pool, How(), 2), "a further process can't be started: resource temporarily unavailable")
+        with mock.patch.object(workers, "ProcessPoolExecutor", mock.Mock(side_effect=OSError(11, "Resource temporarily unavailable"))):
+            self.assertEqual(self.raised(programs.Failed, workers._pool, How(), 2), "a further process can't be started: resource temporarily unavailable")
 
     def test_of_exiftools_output(self):
         head = "ExifTool's answer isn't understood: "
@@ -240,14 +240,14 @@ class Messages(WithPictures):
                              (b"[{},{}]", "it isn't one object"), (b'["a"]', "it isn't one object"), (b"[{}]", "it is about another file"),
                              (b'[{"SourceFile": "b"}]', "it is about another file"), (b'[{"SourceFile": "a", "b": []}]', "a value is neither a text nor a number"),
                              (b'[{"SourceFile": "a", "b": null}]', "a value is neither a text nor a number")):  # fmt: skip
-            self.assertEqual(self.raised(programs.Failed, session._members, octets, b"a"), head + text)
-        self.assertEqual(session._members(b'[{"SourceFile": "a", "b": 1, "c": "d", "e": 0.50}]', b"a"), {"b": "1", "c": "d", "e": "0.50"})
-        self.assertEqual(session._members(b" \n", b"a"), {})
-        self.assertEqual(self.raised(programs.Failed, session.octets, "base64:abc"), head + "a block is no base64")
-        self.assertEqual(self.raised(programs.Failed, session.octets, "base64:ab=="[:-1] + "!"), head + "a block is no base64")
-        self.assertEqual(self.raised(programs.Failed, session.octets, "base64:HA*I="), head + "a block is no base64")
-        self.assertEqual([session.octets(it) for it in ("base64:YWI=", "text:base64:", "a\ud800")], [b"ab", b"base64:", b"a\xed\xa0\x80"])
-        self.assertEqual(session.values({"EXIF:Make": "a", "Copy1:EXIF:Make": "b", "Makes": "c", "Make": "d"}, "Make"), ["a", "b", "d"])
+            self.assertEqual(self.raised(programs.Failed, exiftool._members, octets, b"a"), head + text)
+        self.assertEqual(exiftool._members(b'[{"SourceFile": "a", "b": 1, "c": "d", "e": 0.50}]', b"a"), {"b": "1", "c": "d", "e": "0.50"})
+        self.assertEqual(exiftool._members(b" \n", b"a"), {})
+        self.assertEqual(self.raised(programs.Failed, exiftool.octets, "base64:abc"), head + "a block is no base64")
+        self.assertEqual(self.raised(programs.Failed, exiftool.octets, "base64:ab=="[:-1] + "!"), head + "a block is no base64")
+        self.assertEqual(self.raised(programs.Failed, exiftool.octets, "base64:HA*I="), head + "a block is no base64")
+        self.assertEqual([exiftool.octets(it) for it in ("base64:YWI=", "text:base64:", "a\ud800")], [b"ab", b"base64:", b"a\xed\xa0\x80"])
+        self.assertEqual(exiftool.values({"EXIF:Make": "a", "Copy1:EXIF:Make": "b", "Makes": "c", "Make": "d"}, "Make"), ["a", "b", "d"])
 
     def test_of_exiftools_end(self):
         os.mkdir(self.path("room"))
@@ -255,26 +255,26 @@ class Messages(WithPictures):
             write(self.path("exiftool"), f"#!/bin/sh\nread line\n{script}\n".encode())
             os.chmod(self.path("exiftool"), 0o755)
             with mock.patch.object(programs, "needed", lambda _: self.path("exiftool")):
-                it = session.Session(self.path("room"))
+                it = exiftool.Session(self.path("room"))
                 self.assertEqual(self.raised(programs.Failed, it.ask, b"a", []), text)
                 it.close()
         with mock.patch.object(programs, "needed", lambda _: shutil.which("true")):
-            it = session.Session(self.path("room"))
+            it = exiftool.Session(self.path("room"))
             it.process.wait()
             self.assertEqual(self.raised(programs.Failed, it.ask, b"a", ["x" * 100_000]), "ExifTool ended before it was asked")
             it.close()
 
     def test_of_files(self):
-        found = Found(b"/a", b"/", Stamp(1, 2, 3, 4))
-        at, rest = Entry(b"/a", b"/", None), {"digests": (None, None, None, None, "", "", "")}
+        found = FoundFile(b"/a", b"/", Stamp(1, 2, 3, 4))
+        at, rest = PictureRecord(b"/a", b"/", None), {"digests": (None, None, None, None, "", "", "")}
         marked = at._replace(stamp=found.stamp)
         for why, expected in (
             (programs.Failed("exiv2 failed"), marked._replace(problem="ToolFailed", detail="exiv2 failed", extractor="own", **rest)),
             (OSError(13, "Permission denied"), at._replace(problem="Unreadable", detail="permission denied")),
             (programs.Missing("exiftool"), marked._replace(problem="NeedsExifTool", detail=str(programs.Missing("exiftool")), extractor="own", **rest)),
         ):
-            with mock.patch.object(looking.extraction, "blocks_of", mock.Mock(side_effect=why)):
-                self.assertEqual(looking.look(found, False), expected)
+            with mock.patch.object(workers.extraction, "blocks_of", mock.Mock(side_effect=why)):
+                self.assertEqual(workers.look(found, False), expected)
         self.assertEqual(self.raised(OSError, extraction._opened, os.fsencode(self.folder)), "it is no regular file")
         for name, problem, detail in ((self.folder, "Unreadable", "it is no regular file"), (self.path("a"), "Vanished", PROBLEMS["Vanished"])):
             it = extraction.blocks_of(os.fsencode(name))
@@ -349,13 +349,13 @@ class OfPictures(unittest.TestCase):
             ({"blocks": (failed, long)}, ["second Exif: failed: OutOfMemory", "second Exif: refused: NormalTooLong"],
              {"blocks": [{**common, "status": "failed", "cause": "OutOfMemory"}, {**common, "status": "too long", "cause": "NormalTooLong"}], "not_read": []}),
         ):  # fmt: skip
-            it = Entry(b"/a\n\xff", b"/", type="JPEG")._replace(**more)
-            self.assertEqual(output.entry_lines(it), [f"/a\\n\\xff: {line}" for line in printed])
+            it = PictureRecord(b"/a\n\xff", b"/", type="JPEG")._replace(**more)
+            self.assertEqual(output.record_lines(it), [f"/a\\n\\xff: {line}" for line in printed])
             expected = {"path": "/a\\n\\xff", "path_hex": "2f610aff", "type": "JPEG", **members}
-            self.assertEqual([json.loads(line) for line in output.entry_json(it)], [expected])
+            self.assertEqual([json.loads(line) for line in output.record_json(it)], [expected])
 
     def test_a_folder_that_cannot_be_read(self):
         """It is in no folder of a catalogue; a file that can't be read has its own row."""
-        it = Entry(b"/a\n/b", b"", problem="Unreadable", detail="permission denied")
+        it = PictureRecord(b"/a\n/b", b"", problem="Unreadable", detail="permission denied")
         self.assertEqual(output.closed_folder(it), ["the folder /a\\n/b can't be read: permission denied"])
         self.assertEqual(output.closed_folder(it._replace(root=b"/a")), [])

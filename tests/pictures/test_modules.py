@@ -28,7 +28,7 @@ from exifnorm_pictures.scan import index, walk
 from exifnorm_pictures.catalogue.store import Catalogue, NoCatalogue
 from exifnorm_pictures.extract.formats import png as png_
 from exifnorm_pictures.extract.formats.found import Broken, NotRead
-from exifnorm_pictures.catalogue.records import Entry, digests
+from exifnorm_pictures.catalogue.records import PictureRecord, digests
 from exifnorm_pictures.fields.listing import Field
 from exifnorm_pictures.xmp import names as short_names
 
@@ -121,8 +121,8 @@ class Indexed(WithPictures):
         names = [b"\x01", b" ", b"~", b"\x7f", "é".encode(), b"\xff", b"z/\xff"]
         with Catalogue(self.path("c"), make=True) as made:
             run = made.begin_run("2000-01-01T00:00:00Z")
-            made.put(run, [Entry(b"/a/" + it, b"/a", problem="NoPicture") for it in names])
-            made.put(run, [Entry(it, b"/", problem="NoPicture") for it in (b"/a", b"/a0", b"/a!/b", b"/a0/b", b"/ab/c", b"/\xff")])
+            made.put(run, [PictureRecord(b"/a/" + it, b"/a", problem="NoPicture") for it in names])
+            made.put(run, [PictureRecord(it, b"/", problem="NoPicture") for it in (b"/a", b"/a0", b"/a!/b", b"/a0/b", b"/ab/c", b"/\xff")])
             self.assertEqual([path for _, path, _ in made.below(b"/a")], sorted(b"/a/" + it for it in names))
 
     def test_slow_pictures_are_committed_one_by_one(self):
@@ -134,17 +134,17 @@ class Indexed(WithPictures):
             def looked(found, _):
                 for number, it in enumerate(found):
                     self.assertEqual(made.base.execute("SELECT count(*) FROM pictures").fetchone(), (number,))
-                    yield Entry(it.path, it.root, it.stamp, problem="NoPicture")
+                    yield PictureRecord(it.path, it.root, it.stamp, problem="NoPicture")
 
             with mock.patch.object(index, "LONGEST_WAIT", -1):
-                index.index(index.Asked([os.fsencode(self.path("p"))], quiet=True, look=looked), made)
+                index.index(index.IndexOptions([os.fsencode(self.path("p"))], quiet=True, look=looked), made)
 
     def test_a_folder_that_cannot_be_read_hides_no_other(self):
         for name in ("ab", "a"):
             os.mkdir(self.path(name))
             write(self.path(name, "1.jpg"), b"")
         with Catalogue(self.path("c"), make=True) as made:
-            asked = index.Asked([os.fsencode(self.folder)], quiet=True)
+            asked = index.IndexOptions([os.fsencode(self.folder)], quiet=True)
             index.index(asked, made)
             for name in ("ab", "a"):
                 os.remove(self.path(name, "1.jpg"))
@@ -226,10 +226,10 @@ class Parts(unittest.TestCase):
         """Its digest is that of the names and of the bytes, in the order of the file; without the bytes there is none."""
         parts = [NotRead("a trailer", "1" * 64), NotRead("a chunk", "2" * 64)]
         others_ = [parts[::-1], parts[:1], [parts[0], NotRead("a chunk", "3" * 64)], [parts[0], NotRead("a trailer", "2" * 64)], []]
-        found = [digests(Entry(b"/a", b"/", not_read=tuple(it)))[3] for it in (parts, *others_)]
+        found = [digests(PictureRecord(b"/a", b"/", not_read=tuple(it)))[3] for it in (parts, *others_)]
         self.assertEqual((len(set(found)), found[-1]), (6, ""))
-        self.assertEqual(digests(Entry(b"/a", b"/", not_read=tuple(parts)))[3], found[0])
-        self.assertIsNone(digests(Entry(b"/a", b"/", not_read=(parts[0], NotRead("a chunk", ""))))[3])
+        self.assertEqual(digests(PictureRecord(b"/a", b"/", not_read=tuple(parts)))[3], found[0])
+        self.assertIsNone(digests(PictureRecord(b"/a", b"/", not_read=(parts[0], NotRead("a chunk", ""))))[3])
 
 
 class Printed(unittest.TestCase):

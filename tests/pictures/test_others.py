@@ -10,7 +10,7 @@ from unittest import mock
 
 from studio import WithPictures, write
 
-from exifnorm_pictures.extract import exiftool, extraction, programs, session
+from exifnorm_pictures.extract import exiftool, extraction, programs
 from exifnorm_pictures.extract.formats.found import PROBLEMS, Blocks, LeftToOthers, NotRead
 
 ASKED = ("-EXIF:Exif", "-IPTC:IPTC", "-XMP:XMP", "-FileType#", "-MIMEType#", "-Error#")
@@ -74,7 +74,7 @@ class Files(WithPictures):
             self.asked.append((path, words))
             return answers.pop(0)
 
-        with mock.patch.multiple(session, ask=ask, room=lambda: self.path("room")), \
+        with mock.patch.multiple(exiftool, ask=ask, room=lambda: self.path("room")), \
              mock.patch.multiple(programs, is_there=lambda it: has_exiv2 and it == "exiv2", needed=lambda it: f"/bin/{it}", run=run or self.fail):  # fmt: skip
             return exiftool.by_others(b"a.x", io.BytesIO(octets), whole, why)
 
@@ -130,7 +130,7 @@ class Files(WithPictures):
         def added(ask):
             blocks = Blocks(type="JPEG")
             blocks.add("iim", b"known", "APP13 segment at 2")
-            with mock.patch.object(session, "ask", ask):
+            with mock.patch.object(exiftool, "ask", ask):
                 exiftool.add_trailers(blocks, b"a.jpg")
             return blocks
 

@@ -13,16 +13,16 @@ from studio import WithPictures, write
 
 from exifnorm_pictures import xmp
 from exifnorm_pictures.catalogue import records
-from exifnorm_pictures.cli import texts
+from exifnorm_pictures.cli import output
 from exifnorm_pictures.compare import moved, verdicts
-from exifnorm_pictures.extract import programs, session
+from exifnorm_pictures.extract import exiftool, programs
 from exifnorm_pictures.fields import listing
 from exifnorm_pictures.report import thumbnails
-from exifnorm_pictures.scan import batches, processes, walk
+from exifnorm_pictures.scan import batches, walk, workers
 from exifnorm_pictures.extract.formats.found import Blocks, NotRead
-from exifnorm_pictures.catalogue.records import Entry, Stamp
+from exifnorm_pictures.catalogue.records import PictureRecord, Stamp
 from exifnorm_pictures.compare.verdicts import Side, Verdict
-from exifnorm_pictures.scan.walk import Found
+from exifnorm_pictures.scan.walk import FoundFile
 
 
 def digits(octets, count=32):
@@ -86,9 +86,9 @@ class Shown(unittest.TestCase):
         self.assertIsNone(listing.thumbnail("exif\n[thumb]\nstrip 2: ffd8\n"))
 
     def test_names_of_files(self):
-        self.assertEqual(texts.escaped("\ud800\x7f\x85\u2028\U000e0001\udc80\udcff\ud7ff\\\r\n\t"), "\\ud800\\x7f\\u0085\\u2028\\U000e0001\\x80\\xff\\ud7ff\\\\\\r\\n\\t")
-        self.assertEqual([texts.reason(it) for it in (OSError(2, "No Such File"), OSError(), PermissionError())], ["no such file", "oserror", "permissionerror"])
-        self.assertEqual([texts.path_members(it) for it in ("\u00fc\n".encode(), b"\xfc")], [{"path": "\u00fc\n"}, {"path": "\\xfc", "path_hex": "fc"}])
+        self.assertEqual(output.escaped("\ud800\x7f\x85\u2028\U000e0001\udc80\udcff\ud7ff\\\r\n\t"), "\\ud800\\x7f\\u0085\\u2028\\U000e0001\\x80\\xff\\ud7ff\\\\\\r\\n\\t")
+        self.assertEqual([output.reason(it) for it in (OSError(2, "No Such File"), OSError(), PermissionError())], ["no such file", "oserror", "permissionerror"])
+        self.assertEqual([output.path_members(it) for it in ("\u00fc\n".encode(), b"\xfc")], [{"path": "\u00fc\n"}, {"path": "\\xfc", "path_hex": "fc"}])
 
     def test_xmp(self):
         def shown(inside, attributes=""):
@@ -186,8 +186,8 @@ class Work(WithPictures):
             taken.extend((len(it), next(files)) for it in chunks)
             return iter(())
 
-        with mock.patch.object(processes, "_by_processes", by_processes):
-            list(processes.looked([Found(b"%d" % it, b"/", None) for it in range(count)], batches.How(jobs=jobs, room="/room")))
+        with mock.patch.object(workers, "_by_processes", by_processes):
+            list(workers.looked([FoundFile(b"%d" % it, b"/", None) for it in range(count)], batches.How(jobs=jobs, room="/room")))
         self.assertEqual([it[1] for it in taken], [f"/room/rows-{number}" for number in range(len(taken))])
         return [it[0] for it in taken]
 
@@ -215,25 +215,25 @@ class Work(WithPictures):
             return SimpleNamespace(submit=steps.append)
 
         how = batches.How()
-        with mock.patch.object(processes.signals, "signals_held", held), mock.patch.object(processes, "ProcessPoolExecutor", made):
-            processes._pool(how, 3)
-        self.assertEqual(steps, ["held", ((3,), "fork", {"initializer": processes._begin, "initargs": (how, os.getpid(), {1})}), os.getpid, "released"])
+        with mock.patch.object(workers.signals, "signals_held", held), mock.patch.object(workers, "ProcessPoolExecutor", made):
+            workers._pool(how, 3)
+        self.assertEqual(steps, ["held", ((3,), "fork", {"initializer": workers._begin, "initargs": (how, os.getpid(), {1})}), os.getpid, "released"])
 
     def test_a_part_that_takes_long(self):
-        found = [Found(b"/%d" % it, b"/", None) for it in range(4)]
+        found = [FoundFile(b"/%d" % it, b"/", None) for it in range(4)]
         times = iter([0.0, 1.9, 2.0, 2.1])
-        with mock.patch.object(processes, "look", lambda it, whole: Entry(it.path, it.root, problem="NoPicture" if whole else "Vanished")), \
-             mock.patch.object(processes.time, "monotonic", lambda: next(times)):  # fmt: skip
-            it = processes.look_at_some(processes.Task(found, self.path("rows")), batches.How(whole=True))
+        with mock.patch.object(workers, "look", lambda it, whole: PictureRecord(it.path, it.root, problem="NoPicture" if whole else "Vanished")), \
+             mock.patch.object(workers.time, "monotonic", lambda: next(times)):  # fmt: skip
+            it = workers.look_at_some(workers.Task(found, self.path("rows")), batches.How(whole=True))
         self.assertEqual((it.file, it.states, it.lines, it.unread, it.left), (self.path("rows"), {"NoPicture": 3}, [], [], found[3:]))
 
     def test_rows_of_a_part(self):
         """Those that can't be read have none: if they were known before, their earlier results stay."""
-        entries = [Entry(b"/a", b"/", Stamp(1, 2, 3, 4), "JPEG", "own"), Entry(b"/b", b"/", problem="Unreadable", detail="why"),
-                   Entry(b"/c", b"/", problem="Vanished"), Entry(b"/d", b"/", problem="NoPicture", detail="d")]  # fmt: skip
-        it = batches.batch(self.path("rows"), entries, [Found(b"/e", b"/", None)], lambda it: [os.fsdecode(it.path), it.detail])
+        entries = [PictureRecord(b"/a", b"/", Stamp(1, 2, 3, 4), "JPEG", "own"), PictureRecord(b"/b", b"/", problem="Unreadable", detail="why"),
+                   PictureRecord(b"/c", b"/", problem="Vanished"), PictureRecord(b"/d", b"/", problem="NoPicture", detail="d")]  # fmt: skip
+        it = batches.batch(self.path("rows"), entries, [FoundFile(b"/e", b"/", None)], lambda it: [os.fsdecode(it.path), it.detail])
         self.assertEqual(it, (self.path("rows"), {"no block": 1, "Unreadable": 1, "Vanished": 1, "NoPicture": 1},
-                              ["/a", "", "/b", "why", "/c", "", "/d", "d"], entries[1:3], [Found(b"/e", b"/", None)]))  # fmt: skip
+                              ["/a", "", "/b", "why", "/c", "", "/d", "d"], entries[1:3], [FoundFile(b"/e", b"/", None)]))  # fmt: skip
         base = sqlite3.connect(self.path("rows"))
         self.addCleanup(base.close)
         self.assertEqual(base.execute("SELECT id, path, size, inode, problem, detail, run FROM pictures").fetchall(),
@@ -292,7 +292,7 @@ class Sessions(WithPictures):
 
         pipe, answers = stdin, [b'[{"SourceFile": "/a/b.jpg", "EXIF": "x"}]\n{done 1}\n', b"{done 2}\n", b'[{"SourceFile": "./link.Jpg"}]{done 3}\n']
         with mock.patch.multiple(programs, start=start, needed=lambda it: it, read_until=lambda _, complete: self.complete(answers.pop(0), complete)):
-            it = session.Session(self.folder)
+            it = exiftool.Session(self.folder)
             self.assertEqual(it.ask(b"/a/b.jpg", ("-EXIF:Exif", "-XMP")), {"EXIF": "x"})
             self.assertEqual(it.ask(b"/a/c", ()), {})
             self.assertEqual(it.ask(b"/a/ d.Jpg", ()), {})
@@ -309,7 +309,7 @@ class Sessions(WithPictures):
 
     def test_names_that_exiftool_could_misread(self):
         with mock.patch.multiple(programs, start=lambda *_, **__: None, needed=lambda it: it):
-            it = session.Session(self.folder)
+            it = exiftool.Session(self.folder)
         for path in (b"/a/b.jpg", b"/A_z0-9./+,@%~()="):
             self.assertEqual((it._handed_over(path), os.listdir(self.folder)), (path, []))
         for path, link in ((b"/a b.jpg", "link.jpg"), (b"/a#", "link"), ("/\u00fc.x".encode(), "link.x"), (b"/a\n.tif", "link.tif"), (b"/a .abcdefgh", "link.abcdefgh"),
@@ -325,18 +325,18 @@ class Sessions(WithPictures):
     def test_one_exiftool_for_many_files(self):
         """It is started for the first, and again only after it ended or failed; then it is closed."""
         own = {"session": None, "pid": os.getpid(), "room": self.folder}
-        with mock.patch.multiple(session._Own, **own), mock.patch.object(session, "Session") as made:
+        with mock.patch.multiple(exiftool._Own, **own), mock.patch.object(exiftool, "Session") as made:
             here, counts = made.return_value, lambda: (made.call_count, made.return_value.close.call_count)
             here.process.poll.return_value = None
-            self.assertEqual([session.ask(it, ()) for it in (b"a", b"b", b"c")], [here.ask.return_value] * 3)
+            self.assertEqual([exiftool.ask(it, ()) for it in (b"a", b"b", b"c")], [here.ask.return_value] * 3)
             self.assertEqual((made.call_args, counts()), (mock.call(self.folder), (1, 0)))
             here.process.poll.return_value = 1
-            session.ask(b"d", ())
+            exiftool.ask(b"d", ())
             self.assertEqual(counts(), (2, 1))
             here.process.poll.return_value, here.ask.side_effect = None, programs.Failed("it ended")
-            self.assertRaises(programs.Failed, session.ask, b"e", ())
-            self.assertEqual((counts(), session._Own.session), ((2, 2), None))
-            session.finish()
+            self.assertRaises(programs.Failed, exiftool.ask, b"e", ())
+            self.assertEqual((counts(), exiftool._Own.session), ((2, 2), None))
+            exiftool.finish()
             self.assertEqual(counts(), (2, 2))
 
     def test_how_a_program_is_started(self):

@@ -18,7 +18,7 @@ from exifnorm_pictures.compare import changed, groups, pairs as pairing
 from exifnorm_pictures.report import page
 from exifnorm_pictures.catalogue.store import VERSION, Catalogue, NoCatalogue
 from exifnorm_pictures.extract.formats.found import EXIF, IPTC, NAMES, XMP, NotRead
-from exifnorm_pictures.catalogue.records import Block, Entry, Stamp
+from exifnorm_pictures.catalogue.records import Block, PictureRecord, Stamp
 from exifnorm_pictures.fields.listing import Field, packed
 
 BASE = {EXIF: "e", IPTC: "i", XMP: "x"}
@@ -43,7 +43,7 @@ def picture(name, blocks=BASE, parts=(), number=0, problem=None, root="/a"):
         raise ValueError(root)
     path = os.fsencode(f"{root.rstrip('/')}/{name}")
     number = number or int(digest(name)[:8], 16)
-    return Entry(path, os.fsencode(root), Stamp(number, number, number, number), "JPEG", "own", problem, "why" if problem else "",
+    return PictureRecord(path, os.fsencode(root), Stamp(number, number, number, number), "JPEG", "own", problem, "why" if problem else "",
                  tuple(block_of(kind, text) for kind, text in ({} if problem else blocks).items()), tuple(parts))  # fmt: skip
 
 
@@ -256,8 +256,8 @@ class Details(WithPictures):
         number = len(os.listdir(self.folder))
         sides = []
         for name, blocks in (("before", before), ("after", after)):
-            it = blocks if isinstance(blocks, Entry) else picture("p", number=1)._replace(blocks=tuple(blocks))
-            by = "own" if isinstance(blocks, Entry) or all(one.extractor == "own" for one in it.blocks) else "exiftool"
+            it = blocks if isinstance(blocks, PictureRecord) else picture("p", number=1)._replace(blocks=tuple(blocks))
+            by = "own" if isinstance(blocks, PictureRecord) or all(one.extractor == "own" for one in it.blocks) else "exiftool"
             sides.append(self.catalogue(f"{name}{number}", it._replace(extractor=by)))
         (found,) = changed.changed(*sides, Counter(), every=True)
         return found.result, found.note, [tuple(it) for it in found.changes], [it.result for it in found.verdicts]
@@ -438,38 +438,38 @@ class Marks(WithPictures):
     def test_a_file_that_is_written_to_meanwhile(self):
         """It has no marks in the catalogue, so that the next run looks at it again."""
         from exifnorm_pictures.scan.looking import look
-        from exifnorm_pictures.scan.walk import Found
+        from exifnorm_pictures.scan.walk import FoundFile
 
         path = os.fsencode(self.path("a.jpg"))
         with open(path, "wb") as file:
             file.write(b"\xff\xd8\xff\xd9")
         now = Stamp.of(os.stat(path))
-        self.assertEqual(look(Found(path, b"/", now), False).stamp, now)
+        self.assertEqual(look(FoundFile(path, b"/", now), False).stamp, now)
         for name in Stamp._fields:
-            it = look(Found(path, b"/", now._replace(**{name: 9})), False)
+            it = look(FoundFile(path, b"/", now._replace(**{name: 9})), False)
             self.assertEqual((it.stamp, it.problem), (None, None), name)
 
     def test_a_file_that_is_gone_after_it_was_read(self):
         """It has no marks either: what was read of it counts, and the run goes on."""
-        from exifnorm_pictures.scan import looking
-        from exifnorm_pictures.scan.walk import Found
+        from exifnorm_pictures.scan import workers
+        from exifnorm_pictures.scan.walk import FoundFile
 
-        self.assertIsNone(looking._unless_changed(Found(os.fsencode(self.path("nothing")), b"/", Stamp(1, 2, 3, 4))))
+        self.assertIsNone(workers._unless_changed(FoundFile(os.fsencode(self.path("nothing")), b"/", Stamp(1, 2, 3, 4))))
 
     def test_each_shows_an_edit(self):
         from exifnorm_pictures.catalogue.store import Known
         from exifnorm_pictures.scan.index import _is_unchanged
-        from exifnorm_pictures.scan.walk import Found
+        from exifnorm_pictures.scan.walk import FoundFile
 
         marks = Stamp(1, 2, 3, 4)
         known = Known(1, marks, None)
-        self.assertTrue(_is_unchanged(Found(b"/a", b"/", marks), known))
+        self.assertTrue(_is_unchanged(FoundFile(b"/a", b"/", marks), known))
         for name in Stamp._fields:
-            self.assertFalse(_is_unchanged(Found(b"/a", b"/", marks._replace(**{name: 9})), known), name)
+            self.assertFalse(_is_unchanged(FoundFile(b"/a", b"/", marks._replace(**{name: 9})), known), name)
         for found, before in ((None, known), (marks, None), (marks, Known(1, None, None)), (marks, Known(1, marks, "Unreadable")),
                               (marks, Known(1, marks, "Vanished")), (None, Known(1, None, None))):  # fmt: skip
-            self.assertFalse(_is_unchanged(Found(b"/a", b"/", found), before))
-        self.assertTrue(_is_unchanged(Found(b"/a", b"/", marks), Known(1, marks, "NoPicture")))
+            self.assertFalse(_is_unchanged(FoundFile(b"/a", b"/", found), before))
+        self.assertTrue(_is_unchanged(FoundFile(b"/a", b"/", marks), Known(1, marks, "NoPicture")))
 
 
 class Remedies(WithPictures):

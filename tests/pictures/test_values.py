@@ -18,11 +18,11 @@ from exifnorm_pictures.cli import signals
 from exifnorm_pictures.compare import changed
 from exifnorm_pictures.extract import judge
 from exifnorm_pictures.scan import batches, index
-from exifnorm_pictures.catalogue.blocks import Block, Damaged
+from exifnorm_pictures.catalogue.records import Block, Damaged
 from exifnorm_pictures.catalogue.store import BLOCK_COLUMNS, PICTURE_COLUMNS, Catalogue, NoCatalogue
 from exifnorm_pictures.extract.formats import found as found_, jpeg as jpeg_
 from exifnorm_pictures.extract.formats.found import EXIF, PROBLEMS, NotRead
-from exifnorm_pictures.catalogue.records import Entry, Stamp, block_of_row
+from exifnorm_pictures.catalogue.records import PictureRecord, Stamp, block_of_row
 
 # The columns of each table that are read, and a value of another type in SQL for each type of a column, as SQLite keeps it there.
 COLUMNS = {"pictures": PICTURE_COLUMNS, "blocks": BLOCK_COLUMNS, "not_read": "what, digest"}
@@ -36,7 +36,7 @@ class RowsOfCatalogues(WithPictures):
         self.addCleanup(made.close)
         block = Block(EXIF, "Exif", "somewhere", "own", "refused", None, "Overlap", 34, 100, "0" * 64)
         made.put(made.begin_run("2000-01-01T00:00:00Z"),
-                 [Entry(it, b"/", Stamp(1, 2, 3, 4), "JPEG", blocks=(block,), not_read=(NotRead("a part", "1" * 64),)) for it in names])  # fmt: skip
+                 [PictureRecord(it, b"/", Stamp(1, 2, 3, 4), "JPEG", blocks=(block,), not_read=(NotRead("a part", "1" * 64),)) for it in names])  # fmt: skip
         return made
 
     def test_values_of_another_type(self):
