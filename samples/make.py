@@ -135,8 +135,8 @@ def tiff(picture: Image.Image, fields: Fields, record: bytes, packet: bytes) -> 
 
 
 def vases() -> Dict[str, bytes]:
-    """A vase. An editor wrote its blocks again: the other byte order, the values before their tables, XMP in another form. Its meaning
-    is the same."""
+    """A vase, and a smaller copy for the press. The program that made the copy wrote the blocks again: the other byte order, the values
+    before their tables, XMP in another form. They mean the same. On the next day it did so with the picture itself."""
     picture = drawings.vase()
     fields = nikon("2019:03:12 10:41:07", **{"013B": (ASCII, "Lena Brandt"), "8298": (ASCII, MUSEUM)})
     record = iptc([(5, "1998.7"), (25, "clay"), (25, "vase"), (80, "Lena Brandt"), (116, MUSEUM), (120, "Vase with two bands, about 1890")])
@@ -147,9 +147,13 @@ def vases() -> Dict[str, bytes]:
         "xmp:Rating": "4",
     }
     small = thumbnail_of(picture)
+    again = exif(LITTLE, fields, small, tables_first=False), record, xmp(about, compact=False)
+    for_press = jpeg(picture.resize((240, 180), Image.Resampling.LANCZOS), *again)
     return {
         "before/ceramics/1998-7-vase.jpg": jpeg(picture, exif(BIG, fields, small), record, xmp(about)),
-        "after/ceramics/1998-7-vase.jpg": jpeg(picture, exif(LITTLE, fields, small, tables_first=False), record, xmp(about, compact=False)),
+        "after/ceramics/1998-7-vase.jpg": jpeg(picture, *again),
+        "before/press/vase.jpg": for_press,
+        "after/press/vase.jpg": for_press,
     }
 
 
