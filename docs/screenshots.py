@@ -1,0 +1,87 @@
+#!/usr/bin/env python3
+"""Takes the pictures of the report for the tutorial and the README, with Chromium. Needs Pillow.
+
+  docs/screenshots.py [COMMAND]
+
+COMMAND is exifnorm-pictures; by default it is the one of this clone. The pictures show the report that the tutorial makes.
+"""
+
+from __future__ import annotations
+
+import re
+import shutil
+import subprocess
+import sys
+import tempfile
+from pathlib import Path
+
+from PIL import Image, ImageChops
+
+DOCS = Path(__file__).resolve().parent
+SAMPLES = DOCS.parent / "samples"
+WIDTH, HEIGHT, COLOURS, MARGIN = 920, 2600, 96, 12
+# the name of each picture, and the titles of the sections that it shows
+PICTURES = {
+    "report.png": ["At a glance", "What changed"],
+    "report-same.png": ["Pictures with the same metadata"],
+    "report-refused.png": ["Refused blocks and what helps"],
+}
+
+
+def report(command: str, folder: Path) -> str:
+    """The page of the tutorial: pictures of one day, and what was changed on the next."""
+    words = ["--catalogue", "museum.catalogue", "--quiet"]
+    shutil.copytree(SAMPLES / "before", folder / "museum")
+    subprocess.run([command, "index", "museum", *words], cwd=folder, check=True, stdout=subprocess.DEVNULL)
+    shutil.rmtree(folder / "museum")
+    shutil.copytree(SAMPLES / "after", folder / "museum")
+    subprocess.run(
+        [command, "index", "museum", *words, "--keep-old", "yesterday.catalogue"], cwd=folder, check=True, stdout=subprocess.DEVNULL
+    )
+    subprocess.run(
+        [command, "report", "--catalogue", "museum.catalogue", "--since", "yesterday.catalogue", "--html", "report.html"],
+        cwd=folder,
+        check=True,
+    )
+    return (folder / "report.html").read_text(encoding="utf-8").replace(str(folder), "/home/registrar")
+
+
+def only(page: str, titles: list[str]) -> str:
+    """The page with these sections alone, their lists open."""
+
+    def kept(found: re.Match[str]) -> str:
+        return found[0] if any(f"<h2>{it}</h2>" in found[0] for it in titles) else ""
+
+    sections = re.compile(r"<section\b.*?</section>", re.S)
+    if len({it for it in titles if f"<h2>{it}</h2>" in page}) != len(titles):
+        sys.exit(f"the report has no section {titles}")
+    return sections.sub(kept, page).replace("<details>", "<details open>")
+
+
+def take(page: str, folder: Path) -> Image.Image:
+    """A picture of a page, without the empty space below it."""
+    (folder / "shown.html").write_text(page, encoding="utf-8")
+    size = [f"--window-size={WIDTH},{HEIGHT}", "--hide-scrollbars", "--force-device-scale-factor=1"]
+    own = ["--headless", "--no-sandbox", "--disable-gpu", f"--user-data-dir={folder / 'chromium'}"]
+    words = ["chromium", *own, *size, f"--screenshot={folder / 'shown.png'}", f"file://{folder / 'shown.html'}"]
+    subprocess.run(words, check=True, stderr=subprocess.DEVNULL, timeout=120)
+    picture = Image.open(folder / "shown.png").convert("RGB")
+    empty = Image.new("RGB", picture.size, picture.getpixel((2, HEIGHT - 2)))
+    box = ImageChops.difference(picture, empty).getbbox()
+    return picture.crop((0, 0, WIDTH, min(HEIGHT, box[3] + MARGIN)))
+
+
+def main(words: list[str]) -> None:
+    if len(words) > 1:
+        sys.exit(__doc__)
+    command = str(Path(words[0] if words else DOCS.parent / "exifnorm-pictures").resolve())
+    with tempfile.TemporaryDirectory() as name:
+        page = report(command, Path(name))
+        for file, titles in PICTURES.items():
+            picture = take(only(page, titles), Path(name))
+            picture.quantize(COLOURS, method=Image.Quantize.MEDIANCUT, dither=Image.Dither.NONE).save(DOCS / file, "PNG", optimize=True)
+            print(f"docs/{file}: {picture.width} x {picture.height}, {(DOCS / file).stat().st_size} bytes")
+
+
+if __name__ == "__main__":
+    main(sys.argv[1:])
