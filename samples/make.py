@@ -71,9 +71,9 @@ def canon(taken: str, **more: Any) -> Fields:
 
 
 def jpeg_of(picture: Image.Image, quality: int = 68) -> bytes:
-    held = io.BytesIO()
-    picture.save(held, "JPEG", quality=quality, optimize=True)
-    return held.getvalue()
+    buffer = io.BytesIO()
+    picture.save(buffer, "JPEG", quality=quality, optimize=True)
+    return buffer.getvalue()
 
 
 def thumbnail_of(picture: Image.Image) -> bytes:
@@ -95,9 +95,9 @@ def jpeg(picture: Image.Image, block: bytes, record: bytes = b"", packet: bytes 
 
 def png(picture: Image.Image, block: bytes, packet: bytes) -> bytes:
     """A PNG file with these blocks after its header."""
-    held = io.BytesIO()
-    picture.quantize(32).save(held, "PNG", optimize=True)
-    plain, header = held.getvalue(), 33
+    buffer = io.BytesIO()
+    picture.quantize(32).save(buffer, "PNG", optimize=True)
+    plain, header = buffer.getvalue(), 33
     chunks = [(b"eXIf", block), (b"iTXt", b"XML:com.adobe.xmp\0\0\0\0\0" + packet)]
     added = b"".join(struct.pack(">L", len(it)) + name + it + struct.pack(">L", zlib.crc32(name + it)) for name, it in chunks)
     return plain[:header] + added + plain[header:]
@@ -105,9 +105,9 @@ def png(picture: Image.Image, block: bytes, packet: bytes) -> bytes:
 
 def webp(picture: Image.Image, block: bytes, packet: bytes) -> bytes:
     """A WebP file with these blocks."""
-    held = io.BytesIO()
-    picture.save(held, "WEBP", quality=60, method=6, exif=block, xmp=packet)
-    return held.getvalue()
+    buffer = io.BytesIO()
+    picture.save(buffer, "WEBP", quality=60, method=6, exif=block, xmp=packet)
+    return buffer.getvalue()
 
 
 def tiff(picture: Image.Image, fields: Fields, record: bytes, packet: bytes) -> bytes:

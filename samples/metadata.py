@@ -20,7 +20,7 @@ class Exif:
     def __init__(self, order: str, tables_first: bool) -> None:
         self.order, self.tables_first, self.body = order, tables_first, bytearray(8)
 
-    def place(self, data: bytes) -> int:
+    def append(self, data: bytes) -> int:
         """Appends bytes at an even offset, and returns the offset."""
         self.body += bytes(len(self.body) % 2)
         self.body += data
@@ -38,22 +38,22 @@ class Exif:
     def entry(self, tag: int, kind: int, value: Any) -> bytes:
         """One entry of a directory. What it leads to is written first."""
         if kind == DATA:
-            kind, value = LONG, [self.place(value)]
+            kind, value = LONG, [self.append(value)]
         elif kind == DIRECTORY:
             kind, value = LONG, [self.directory(value)]
         data = self.packed(kind, value)
         count = len(data) // SIZES[kind]
-        last = data.ljust(4, b"\0") if len(data) <= 4 else struct.pack(f"{self.order}L", self.place(data))
+        last = data.ljust(4, b"\0") if len(data) <= 4 else struct.pack(f"{self.order}L", self.append(data))
         return struct.pack(f"{self.order}HHL", tag, kind, count) + last
 
     def directory(self, fields: Fields, next_fields: Fields | None = None) -> int:
         """Writes a directory, and returns its offset."""
         size = 6 + 12 * len(fields)
-        at = self.place(bytes(size)) if self.tables_first else 0
+        at = self.append(bytes(size)) if self.tables_first else 0
         entries = [self.entry(tag, *fields[tag]) for tag in sorted(fields)]
         next_at = self.directory(next_fields) if next_fields else 0
         if not self.tables_first:
-            at = self.place(bytes(size))
+            at = self.append(bytes(size))
         table = struct.pack(f"{self.order}H", len(entries)) + b"".join(entries) + struct.pack(f"{self.order}L", next_at)
         self.body[at : at + size] = table
         return at
