@@ -6,6 +6,9 @@
 #   make uninstall PREFIX=/usr DESTDIR=.. removes what install wrote there, and nothing else
 #   make wheel                            a Python wheel with the library, in out/wheel
 #   make dist                             an archive of all that install writes, its sums and its components, in out/dist
+#   make release SIGN=KEY                 all packages, the archives and their sums, in out/release; signed if a key is given
+#   make clean                            removes what was built, except the proofs in out/proved
+#   make help                             prints these lines
 #
 # The first build proves every crate and takes minutes. If nothing changed, nothing is built again. See docs/PACKAGING.md.
 
@@ -44,12 +47,12 @@ archive = out/proved/libpx_c.a
 program = $$(ls out/exifnorm 2>/dev/null || ls crates/px_cli/out/px_cli)
 packages = $(eval packages := $(patsubst python/%/__init__.py,%,$(shell find python -name __init__.py)))$(packages)
 pages = $(wildcard docs/*.1 docs/*.3)
-# the licences, and the documents that installed pages, documents and modules refer to
-papers = LICENSE-APACHE LICENSE-MIT CHANGELOG.md $(addprefix docs/,DECISIONS.md FORMAT.md RECIPES.md REFUSALS.md)
+# the licences, and the documents that installed pages, documents and modules refer to, with their pictures
+papers = LICENSE-APACHE LICENSE-MIT CHANGELOG.md $(addprefix docs/,DECISIONS.md FORMAT.md RECIPES.md REFUSALS.md TUTORIAL.md) $(wildcard docs/*.png)
 # all that is installed, before it is copied to its folder
 stage = out/stage
 
-.PHONY: all program library check stage install uninstall wheel dist
+.PHONY: all program library check stage install uninstall wheel dist release clean help
 .DELETE_ON_ERROR:
 
 all: program library
@@ -110,6 +113,9 @@ stage: all
 	chmod 644 '$(stage)$(LIBDIR)/pkgconfig/exifnorm.pc'
 	for page in $(pages); do install -m 644 "$$page" "$(stage)$(MANDIR)/man$${page##*.}/" || exit 1; done
 	install -m 644 $(papers) '$(stage)$(DOCDIR)/'
+	for folder in $(wildcard samples/*/*/); do \
+	    install -d "$(stage)$(DOCDIR)/$$folder" && install -m 644 "$$folder"* "$(stage)$(DOCDIR)/$$folder" || exit 1; \
+	done
 	for package in $(packages); do \
 	    install -d "$(stage)$(PYTHONDIR)/$$package" && \
 	    install -m 644 python/$$package/*.py "$(stage)$(PYTHONDIR)/$$package/" || exit 1; \
@@ -126,6 +132,7 @@ stage: all
 
 install: stage
 	python3 packaging/manifest.py install $(stage) '$(DESTDIR)' '$(MANIFEST)'
+	@python3 packaging/next_steps.py '$(DESTDIR)' '$(BINDIR)' '$(LIBDIR)' '$(DOCDIR)'
 
 uninstall:
 	python3 packaging/manifest.py uninstall '$(DESTDIR)' '$(MANIFEST)'
@@ -148,7 +155,22 @@ dist:
 	python3 packaging/components.py $(VERSION) $(epoch) "$(kit)" out/dist/exifnorm-$(VERSION).spdx.json \
 	    out/dist/$(dist_name)/share/doc/exifnorm/crates
 	cp out/dist/exifnorm-$(VERSION).spdx.json out/dist/$(dist_name)/share/doc/exifnorm/
+	cp packaging/archive/README packaging/archive/INSTALL out/dist/$(dist_name)/
 	tar --create --sort=name --mtime=@$(epoch) --owner=0 --group=0 --numeric-owner --mode=u=rwX,go=rX --format=gnu -C out/dist $(dist_name) | \
 	    gzip -9 -n >out/dist/$(dist_name).tar.gz
 	rm -r out/dist/$(dist_name)
 	cd out/dist && sha256sum exifnorm-* >SHA256SUMS
+
+# Everything for one version, made of the sources that git lists. SIGN names the key of the signature.
+SIGN =
+release: all
+	python3 packaging/release.py $(VERSION) $(epoch) '$(SIGN)'
+
+# The proofs take minutes, and stay.
+clean:
+	rm -rf $(filter-out out/proved,$(wildcard out/*)) debian/tmp debian/files debian/.debhelper debian/debhelper-build-stamp \
+	    debian/*.substvars debian/*.debhelper.log debian/*.debhelper $(addprefix debian/,$(shell sed -n 's/^Package: //p' debian/control))
+	find . -name __pycache__ -type d -prune -exec rm -r {} +
+
+help:
+	@sed -n 's/^#   make/make/p' Makefile

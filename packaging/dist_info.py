@@ -13,31 +13,50 @@ import shutil
 import sys
 import tomllib
 from pathlib import Path
-from typing import Any
+from typing import Any, Iterator
 
 
-def metadata(project: dict[str, Any]) -> str:
+def extras(table: dict[str, list[str]]) -> Iterator[tuple[str, str]]:
+    """The fields of optional dependencies.
+
+    >>> list(extras({"xmp": ["rdflib"]}))
+    [('Provides-Extra', 'xmp'), ('Requires-Dist', "rdflib ; extra == 'xmp'")]
+    """
+    for name in sorted(table):
+        yield "Provides-Extra", name
+        yield from (("Requires-Dist", f"{it} ; extra == '{name}'") for it in table[name])
+
+
+def metadata(project: dict[str, Any], description: str) -> str:
     """The core metadata of a project's table.
 
     >>> print(metadata({"name": "a", "version": "1", "description": "b", "requires-python": ">=3.9", "license": {"text": "MIT"},
-    ...                 "classifiers": []}), end="")
+    ...                 "authors": [{"name": "c", "email": "d@e"}], "urls": {}, "classifiers": [], "optional-dependencies": {}}, "f"))
     Metadata-Version: 2.1
     Name: a
     Version: 1
     Summary: b
+    Author-email: c <d@e>
     License: MIT
     Requires-Python: >=3.9
+    Description-Content-Type: text/markdown
+    <BLANKLINE>
+    f
     """
     fields = [
         ("Metadata-Version", "2.1"),
         ("Name", project["name"]),
         ("Version", project["version"]),
         ("Summary", project["description"]),
+        ("Author-email", ", ".join(f"{it['name']} <{it['email']}>" for it in project["authors"])),
         ("License", project["license"]["text"]),
+        *(("Project-URL", f"{name}, {it}") for name, it in project["urls"].items()),
         *(("Classifier", it) for it in project["classifiers"]),
         ("Requires-Python", project["requires-python"]),
+        ("Description-Content-Type", "text/markdown"),
+        *extras(project["optional-dependencies"]),
     ]
-    return "".join(f"{name}: {value}\n" for name, value in fields)
+    return "".join(f"{name}: {value}\n" for name, value in fields) + f"\n{description}"
 
 
 def entry_points(scripts: dict[str, str]) -> str:
@@ -48,9 +67,10 @@ def entry_points(scripts: dict[str, str]) -> str:
 def write(source: Path, folder: Path) -> None:
     """Writes the dist-info of the project in a folder into another."""
     project = tomllib.loads((source / "pyproject.toml").read_text(encoding="utf-8"))["project"]
+    description = (source / project["readme"]).read_text(encoding="utf-8")
     made = folder / f"{project['name']}-{project['version']}.dist-info"
     made.mkdir()
-    (made / "METADATA").write_text(metadata(project), encoding="utf-8")
+    (made / "METADATA").write_text(metadata(project, description), encoding="utf-8")
     (made / "entry_points.txt").write_text(entry_points(project["scripts"]), encoding="utf-8")
     (made / "INSTALLER").write_text("make\n", encoding="utf-8")
     for licence in sorted(source.glob("LICENSE-*")):

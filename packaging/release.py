@@ -1,0 +1,156 @@
+#!/usr/bin/env python3
+"""Makes out/release: the packages, the archives, their sums and a README, from the sources that git lists. `make release` calls it.
+
+  packaging/release.py VERSION SECONDS [KEY]
+
+SECONDS is the time of the files since 1970. With KEY, gpg signs the sums. Everything is built in a folder that is unpacked from the
+archive of the sources, with the proofs of this folder. So a file that git doesn't list is in no package, and each run writes the same
+bytes. The folder out/release is replaced at the end, if everything was made.
+"""
+
+from __future__ import annotations
+
+import hashlib
+import os
+import platform
+import shutil
+import subprocess
+import sys
+from pathlib import Path
+from typing import Iterator
+
+TOP = Path(__file__).resolve().parent.parent
+WORK, MADE = TOP / "out" / "releasing", TOP / "out" / "release"
+TOKEN = "OWNER-" + "FILLS-IN"  # marks what only the owner of the repository knows; in two parts, so that it doesn't mark this line
+PYTHON = "/usr/bin/python3"  # that of the packages
+TOOLS = {"dpkg-buildpackage": "dpkg-dev", "dh": "debhelper", "dh_python3": "dh-python", "rt": "the Rattle kit", "git": "git", "gpg": "gpg"}
+KEPT = ("px_cli", "libpx_c.a", "*.made-from")  # of out/proved: with these nothing is proved again
+
+
+class Failed(Exception):
+    """Why there is no release."""
+
+
+def run(*words: str | Path, folder: Path) -> None:
+    """Runs a command in a folder. What it prints goes to standard error."""
+    done = subprocess.run(words, cwd=folder, stdout=sys.stderr, check=False, umask=0o022)
+    if done.returncode:
+        raise Failed(f"{words[0]} ended with status {done.returncode}")
+
+
+def sources() -> list[str]:
+    """The files that git lists and that exist."""
+    listed = subprocess.run(["git", "ls-files", "-z"], cwd=TOP, stdout=subprocess.PIPE, check=False).stdout
+    names = sorted(it for it in os.fsdecode(listed).split("\0") if it and os.path.lexists(TOP / it))
+    if not names:
+        raise Failed("git lists no sources: make the release in a clone")
+    return names
+
+
+def missing() -> Iterator[str]:
+    """What the owner has to fill in, as FILE:LINE: TEXT."""
+    for name in sources():
+        lines = (TOP / name).read_text(encoding="utf-8", errors="replace").splitlines() if (TOP / name).is_file() else []
+        yield from (f"{name}:{number}: {line.strip()}" for number, line in enumerate(lines, 1) if TOKEN in line)
+
+
+def check(key: str) -> None:
+    """Reports what is missing. Without it, or with changes that aren't committed, nothing is signed."""
+    lacking = sorted(package for tool, package in TOOLS.items() if not shutil.which(tool))
+    if lacking:
+        raise Failed(f"to build the packages, install {', '.join(lacking)}")
+    found = list(missing())
+    if found:
+        print(f"release: the owner still has to replace {TOKEN} in these lines:", *found, sep="\n  ", file=sys.stderr)
+    if key and found:
+        raise Failed("nothing is signed as long as these are missing")
+    changed = subprocess.run(["git", "status", "--porcelain"], cwd=TOP, stdout=subprocess.PIPE, check=True).stdout
+    if key and changed:
+        raise Failed("nothing is signed, because not every change is committed")
+
+
+def archive_sources(target: Path, root: str, seconds: int) -> None:
+    """Writes the archive of the sources."""
+    listing = WORK / "sources"
+    listing.write_bytes(b"".join(os.fsencode(it) + b"\0" for it in sources()))
+    names = ["--null", f"--files-from={listing}", f"--transform=flags=r;s,^,{root}/,", "--sort=name"]
+    same = [f"--mtime=@{seconds}", "--owner=0", "--group=0", "--numeric-owner", "--mode=u=rwX,go=rX", "--format=gnu"]
+    plain = target.with_suffix("")
+    run("tar", "--create", f"--file={plain}", *names, *same, folder=TOP)
+    run("gzip", "-9", "-n", "--force", plain, folder=TOP)
+
+
+def unpack(archive: Path, folder: Path) -> None:
+    folder.mkdir(parents=True)
+    run("tar", "--extract", "--same-permissions", "--no-same-owner", f"--file={archive}", folder=folder)
+
+
+def copy_proofs(target: Path) -> None:
+    """Copies the proved program and library."""
+    target.mkdir(parents=True)
+    for pattern in KEPT:
+        for it in (TOP / "out" / "proved").glob(pattern):
+            shutil.copy2(it, target)
+
+
+def build(tree: Path, source: Path) -> list[Path]:
+    """Builds everything in a folder with the sources and the proofs. The results, without the archive of the sources."""
+    for words in (["all"], ["dist", f"PYTHON={PYTHON}"], ["wheel", f"PYTHON={PYTHON}"]):
+        run("make", *words, folder=tree)
+    run("dpkg-buildpackage", "-b", "-us", "-uc", folder=tree)
+    run("dpkg-source", "-b", source.name, folder=source.parent)
+    from_make = [*(tree / "out/dist").glob("exifnorm-*"), *(tree / "out/wheel").glob("*.whl")]
+    return [*from_make, *tree.parent.glob("*.deb"), *source.parent.glob("*.dsc"), *source.parent.glob("*.debian.tar.*")]
+
+
+def readme(folder: Path, version: str) -> str:
+    """The README, with the names of the files."""
+    wheel, archive = (next(folder.glob(it)).name for it in ("*.whl", f"*-{platform.machine()}.tar.gz"))
+    text = (TOP / "packaging" / "release" / "README").read_text(encoding="utf-8")
+    names = {"VERSION": version, "WHEEL": wheel, "ARCHIVE": archive, "FOLDER": archive[: -len(".tar.gz")]}
+    for name, it in names.items():
+        text = text.replace(f"@{name}@", it)
+    return text
+
+
+def write_sums(folder: Path) -> None:
+    lines = (f"{hashlib.sha256(it.read_bytes()).hexdigest()}  {it.name}\n" for it in sorted(folder.iterdir()))
+    (folder / "SHA256SUMS").write_text("".join(list(lines)), encoding="utf-8")
+
+
+def release(version: str, seconds: int, key: str) -> None:
+    """Makes the release."""
+    check(key)
+    shutil.rmtree(WORK, ignore_errors=True)
+    (new := WORK / "release").mkdir(parents=True)
+    sources_archive, root = new / f"exifnorm_{version}.orig.tar.gz", f"exifnorm-{version}"
+    archive_sources(sources_archive, root, seconds)
+    unpack(sources_archive, WORK / "build")
+    copy_proofs(WORK / "build" / root / "out" / "proved")
+    unpack(sources_archive, WORK / "source")
+    shutil.copy2(sources_archive, WORK / "source")
+    for it in build(WORK / "build" / root, WORK / "source" / root):
+        shutil.copy2(it, new)
+    (new / "README").write_text(readme(new, version), encoding="utf-8")
+    write_sums(new)
+    if key:
+        run("gpg", "--batch", "--local-user", key, "--armor", "--detach-sign", new / "SHA256SUMS", folder=WORK)
+    shutil.rmtree(MADE, ignore_errors=True)
+    new.rename(MADE)
+    shutil.rmtree(WORK)
+
+
+def main(words: list[str]) -> int:
+    if len(words) not in (2, 3):
+        sys.exit(__doc__)
+    try:
+        release(words[0], int(words[1]), "".join(words[2:]))
+    except (Failed, OSError, subprocess.SubprocessError) as why:
+        print(f"release: {why}", file=sys.stderr)
+        return 1
+    print(f"release: {MADE.relative_to(TOP)} has {len(list(MADE.iterdir()))} files; its README says which is for whom")
+    return 0
+
+
+if __name__ == "__main__":
+    sys.exit(main(sys.argv[1:]))

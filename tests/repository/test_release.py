@@ -1,0 +1,343 @@
+"""`make release` in two folders: the same bytes, and each form installed and used. And what `make install`, `clean` and `help` do."""
+
+import os
+import re
+import shutil
+import subprocess
+import sys
+from pathlib import Path
+
+import pytest
+
+import next_steps
+import release
+from paths import TOP
+
+PYTHON = "/usr/bin/python3"
+SYSTEM_PATH = "/usr/sbin:/usr/bin:/sbin:/bin"
+DEBS = ("exifnorm", "exifnorm-pictures", "libexifnorm-dev", "libexifnorm1", "python3-exifnorm")
+pytestmark = pytest.mark.xdist_group("release")  # the releases are built once
+
+
+def run(*words, status=0, **more):
+    """What a command printed. It must end with this status."""
+    ran = subprocess.run(
+        list(map(str, words)), stdout=subprocess.PIPE, stderr=subprocess.STDOUT, encoding="utf-8", errors="replace", **more
+    )
+    assert ran.returncode == status, f"{words} ended with {ran.returncode}:\n{ran.stdout[-3000:]}"
+    return ran.stdout
+
+
+def environment(**more):
+    """The environment without what leads Python and programs to the library of the sources."""
+    kept = {name: it for name, it in os.environ.items() if name not in ("PYTHONPATH", "EXIFNORM_LIBRARY", "LD_LIBRARY_PATH")}
+    return {**kept, "PYTHONDONTWRITEBYTECODE": "1", **more}
+
+
+def listed():
+    """The files of the sources that git lists or would list."""
+    words = ["git", "ls-files", "-z", "--cached", "--others", "--exclude-standard"]
+    names = subprocess.run(words, cwd=TOP, stdout=subprocess.PIPE, check=True).stdout.split(b"\0")
+    return [it for it in map(os.fsdecode, names) if it and os.path.lexists(TOP / it)]
+
+
+def clone(folder):
+    """A repository with the sources as they are, and with the proofs."""
+    for name in listed():
+        (folder / name).parent.mkdir(parents=True, exist_ok=True)
+        shutil.copy2(TOP / name, folder / name, follow_symlinks=False)
+    (folder / "out/proved").mkdir(parents=True)
+    for pattern in release.KEPT:
+        for it in (TOP / "out/proved").glob(pattern):
+            shutil.copy2(it, folder / "out/proved")
+    run("git", "init", "-q", cwd=folder)
+    run("git", "add", "-A", cwd=folder)
+    return folder
+
+
+@pytest.fixture(scope="session")
+def releases(session_folder):
+    """Two releases, from folders with other names, other masks, and a module that isn't in the repository."""
+    if not shutil.which("rt"):
+        pytest.skip("there is no command rt, which the licences of the toolchain are found with")
+    made = []
+    for name, mask in (("one", 0o022), ("an other", 0o077)):
+        folder = clone(session_folder / name)
+        (folder / "python/exifnorm" / f"stray_{mask}.py").write_text('"""Not listed."""\n')
+        said = run("make", "release", cwd=folder, umask=mask, env=environment())
+        assert release.TOKEN in said or not any(release.TOKEN in (TOP / it).read_text(errors="replace") for it in listed()), said
+        made.append(folder / "out/release")
+    return made
+
+
+@pytest.fixture(scope="session")
+def made(releases):
+    return releases[0]
+
+
+def one(folder, pattern):
+    (found,) = folder.glob(pattern)
+    return found
+
+
+def changed_words(folder):
+    return ["changed", folder / "samples/before", folder / "samples/after"]
+
+
+def uses(program, pictures, samples, **more):
+    """Uses both programs of an installation on a block and on the samples."""
+    surroundings = environment(**more)
+    if program:
+        assert run(program, "compare", TOP / "README.md", "/dev/null", status=2, env=surroundings).startswith("refused")
+        assert run(program, "--version", env=surroundings).startswith("exifnorm ")
+    said = run(pictures, *changed_words(samples), status=1, env=surroundings)
+    assert "Copyright" in said and "Anna Wirth" in said, said
+
+
+# ---- the files
+
+
+def test_two_runs_in_different_folders_write_the_same_bytes(releases):
+    first, second = ({it.name: it.read_bytes() for it in folder.iterdir()} for folder in releases)
+    assert sorted(first) == sorted(second)
+    assert [name for name in first if first[name] != second[name]] == []
+
+
+def test_it_has_each_form_and_the_sums(made):
+    assert sorted(it.name.partition("_")[0] for it in made.glob("*.deb")) == sorted(DEBS)
+    for pattern in ("*.whl", "*-linux-*.tar.gz", "*.orig.tar.gz", "*.dsc", "*.debian.tar.*", "*.spdx.json", "README"):
+        one(made, pattern)
+    run("sha256sum", "--check", "--strict", "SHA256SUMS", cwd=made)
+    assert len((made / "SHA256SUMS").read_text().splitlines()) == len(list(made.iterdir())) - 1
+
+
+def test_each_file_that_the_readme_names_is_there_and_the_other_way_round(made):
+    text = (made / "README").read_text()
+    assert "@" not in text
+    named = {it.removeprefix("./") for it in re.findall(r"\S*exifnorm\S*[_-]\d\S*\.(?:deb|whl|tar\.gz|tar\.xz|dsc|json)", text)}
+    assert named == {it.name for it in made.iterdir()} - {"README", "SHA256SUMS"}
+
+
+def test_no_file_that_git_does_not_list_is_in_it(made, tmp_path):
+    for it in (one(made, "*.orig.tar.gz"), one(made, "*-linux-*.tar.gz")):
+        names = run("tar", "-tf", it)
+        assert "stray" not in names and "samples/before" in names, it
+    assert "stray" not in run(PYTHON, "-m", "zipfile", "-l", one(made, "*.whl"))
+
+
+# ---- each form, installed
+
+
+def test_the_debian_packages_are_used(made, tmp_path):
+    for name in DEBS:
+        run("dpkg-deb", "-x", one(made, f"{name}_*.deb"), tmp_path)
+    libraries = one(tmp_path, "usr/lib/*/libexifnorm.so.1").parent
+    uses(
+        tmp_path / "usr/bin/exifnorm",
+        tmp_path / "usr/bin/exifnorm-pictures",
+        tmp_path / "usr/share/doc/exifnorm",
+        LD_LIBRARY_PATH=str(libraries),
+    )
+
+
+def test_the_packages_ask_for_what_exifnorm_pictures_uses(made):
+    package = one(made, "exifnorm-pictures_*.deb")
+    assert "libimage-exiftool-perl" in run("dpkg-deb", "-f", package, "Depends")
+    recommended = run("dpkg-deb", "-f", package, "Recommends")
+    assert {"exiv2", "python3-rdflib"} <= set(re.findall(r"[\w-]+", recommended)), recommended
+
+
+def test_the_wheel_is_used_in_a_venv(made, tmp_path):
+    run(PYTHON, "-m", "venv", "--without-pip", tmp_path / "venv")
+    words = ["--no-index", "--no-deps", "--disable-pip-version-check", one(made, "*.whl")]
+    run(PYTHON, "-m", "pip", "--python", tmp_path / "venv/bin/python", "install", *words, env=environment())
+    uses(None, tmp_path / "venv/bin/exifnorm-pictures", TOP)
+    said = run(tmp_path / "venv/bin/python", "-c", "import exifnorm; print(exifnorm.version())", env=environment(), cwd=tmp_path)
+    assert re.match(r"\d+\.\d+\.\d+$", said)
+
+
+def test_the_wheel_has_a_description_and_extras(made, tmp_path):
+    run(PYTHON, "-m", "zipfile", "-e", one(made, "*.whl"), tmp_path)
+    code = "import importlib.metadata as m, json; it = m.metadata('exifnorm'); print(it.get_all('Provides-Extra'), it.get_payload()[:10], m.requires('exifnorm'))"
+    said = run(PYTHON, "-c", code, env=environment(PYTHONPATH=str(tmp_path)))
+    assert (
+        "'xmp'" in said and "'cluster'" in said and "'all'" in said and "# exifnorm" in said and "rdflib" in said and "distributed" in said
+    )
+
+
+def test_the_archive_is_used_where_it_is_unpacked(made, tmp_path):
+    (place := tmp_path / "a folder").mkdir()
+    run("tar", "-xf", one(made, "*-linux-*.tar.gz"), "-C", place)
+    tree = one(place, "exifnorm-*")
+    assert {"README", "INSTALL", "bin", "lib", "include", "share"} == {it.name for it in tree.iterdir()}
+    uses(tree / "bin/exifnorm", tree / "bin/exifnorm-pictures", tree / "share/doc/exifnorm")
+    shutil.copytree(TOP / "tests/library/examples", tree / "examples")
+    place.rename(tmp_path / "moved")  # pkg-config can't quote a space
+    tree = one(tmp_path / "moved", "exifnorm-*")
+    places = {"PKG_CONFIG_LIBDIR": str(tree / "lib/pkgconfig"), "LD_LIBRARY_PATH": str(tree / "lib")}
+    program = "cc compare.c $(pkg-config --cflags --libs exifnorm) -o compare && ./compare"
+    assert run("sh", "-c", program, cwd=tree / "examples", env=environment(**places)) == "same\n"
+
+
+def test_the_source_package_builds_the_same_packages(made, tmp_path):
+    """With the proofs; without them and without the toolchain the build ends, and names what is missing. What the build leaves is ignored
+    by git, and `make clean` removes it, but no proof."""
+    run("dpkg-source", "-x", one(made, "*.dsc"), tmp_path / "tree")
+    path = environment(PATH=SYSTEM_PATH, PYTHONDONTWRITEBYTECODE="")
+    tree = tmp_path / "tree"
+    said = run("dpkg-buildpackage", "-b", "-us", "-uc", cwd=tree, env=path, status=2)
+    assert "there is no command rt" in said, said[-2000:]
+    shutil.rmtree(tree / "out", ignore_errors=True)
+    (tree / "out").mkdir()
+    shutil.copytree(clone_of(made) / "out/proved", tree / "out/proved")
+    shutil.copytree(clone_of(made) / "out/lib", tree / "out/lib")
+    run("git", "init", "-q", cwd=tree)
+    run("git", "add", "-A", cwd=tree)
+    before = run("git", "status", "--porcelain", cwd=tree)
+    run("dpkg-buildpackage", "-b", "-us", "-uc", cwd=tree, env=path)
+    for it in made.glob("*.deb"):
+        assert (tmp_path / it.name).read_bytes() == it.read_bytes(), it.name
+    assert run("git", "status", "--porcelain", cwd=tree) == before
+    run("make", "clean", cwd=tree, env=path)
+    assert [line for line in run("git", "status", "--porcelain", "--ignored", cwd=tree).splitlines() if line.startswith("!!")] == [
+        "!! out/"
+    ]
+    assert sorted(it.name for it in (tree / "out").iterdir()) == ["proved"]
+    assert (tree / "out/proved/px_cli").exists()
+
+
+def clone_of(made):
+    """The folder in which a release was made."""
+    return made.parent.parent
+
+
+def test_only_what_the_page_of_packages_lists_is_needed_of_glibc(made, tmp_path):
+    """The versions in docs/PACKAGING.md are those of readelf."""
+    run("tar", "-xf", one(made, "*-linux-*.tar.gz"), "-C", tmp_path)
+    tree, page = one(tmp_path, "exifnorm-*"), (TOP / "docs/PACKAGING.md").read_text(encoding="utf-8")
+    for name, what in (("bin/exifnorm", "program"), ("lib/libexifnorm.so.1", "library")):
+        found = re.findall(r"GLIBC_(\d+)\.(\d+)", run("readelf", "-VW", tree / name))
+        newest = max((int(major), int(minor)) for major, minor in found)
+        assert f"{newest[0]}.{newest[1]} the {what}" in page, (name, newest)
+        assert f"{newest[0]}.{newest[1]}" in (tree / "INSTALL").read_text(encoding="utf-8"), (name, newest)
+
+
+# ---- what is missing, and the signature
+
+
+@pytest.fixture
+def small(tmp_path, monkeypatch):
+    """A repository in which nothing has to be filled in, whose release needs no build."""
+    top = tmp_path / "small"
+    (top / "packaging/release").mkdir(parents=True)
+    (top / "packaging/release/README").write_text("@VERSION@ @WHEEL@ @ARCHIVE@ @FOLDER@\n")
+    (top / "page.md").write_text("one\n")
+    (top / ".gitignore").write_text("out/\n")
+    run("git", "init", "-q", cwd=top)
+    run("git", "add", "-A", cwd=top)
+    run("git", "-c", "user.name=a", "-c", "user.email=a@b", "commit", "-qm", "one", cwd=top)
+    for name, value in (("TOP", top), ("WORK", top / "out/releasing"), ("MADE", top / "out/release"), ("TOOLS", {"git": "git"})):
+        monkeypatch.setattr(release, name, value)
+
+    def built(tree, source):
+        (tree / "out").mkdir(exist_ok=True)
+        for name in ("a.whl", f"a-{os.uname().machine}.tar.gz"):
+            (tree / "out" / name).write_text(name)
+        return sorted((tree / "out").glob("a*"))
+
+    monkeypatch.setattr(release, "build", built)
+    return top
+
+
+@pytest.fixture
+def key(session_folder, monkeypatch):
+    """A key of gpg, in a folder of its own."""
+    (home := session_folder / "gpg").mkdir(mode=0o700)
+    monkeypatch.setenv("GNUPGHOME", str(home))
+    run("gpg", "--batch", "--quick-generate-key", "--passphrase", "", "tests@example.org", "ed25519", "sign", "never")
+    yield "tests@example.org"
+    subprocess.run(["gpgconf", "--kill", "gpg-agent"], check=False)
+    shutil.rmtree(home, ignore_errors=True)
+
+
+def test_the_sums_are_signed(small, key):
+    assert release.main(["1.0", "0", key]) == 0
+    run("gpg", "--verify", "SHA256SUMS.asc", "SHA256SUMS", cwd=small / "out/release")
+    run("sha256sum", "--check", "--strict", "SHA256SUMS", cwd=small / "out/release")
+
+
+def test_what_the_owner_has_to_fill_in_is_printed_and_nothing_is_signed(small, capfd):
+    (small / "page.md").write_text(f"one\nWrite to {release.TOKEN}.\n")
+    run("git", "-c", "user.name=a", "-c", "user.email=a@b", "commit", "-qam", "two", cwd=small)
+    assert release.main(["1.0", "0", "KEY"]) == 1
+    assert f"page.md:2: Write to {release.TOKEN}." in capfd.readouterr().err
+    assert not (small / "out/release").exists()
+    assert release.main(["1.0", "0"]) == 0
+    assert f"page.md:2: Write to {release.TOKEN}." in capfd.readouterr().err
+    assert not (small / "out/release/SHA256SUMS.asc").exists()
+
+
+def test_a_change_that_is_not_committed_is_not_signed(small, capfd):
+    (small / "page.md").write_text("two\n")
+    assert release.main(["1.0", "0", "KEY"]) == 1
+    assert "not every change is committed" in capfd.readouterr().err
+
+
+@pytest.mark.parametrize("why", [release.Failed("make ended with status 2"), OSError(28, "No space left on device"), KeyboardInterrupt()])
+def test_a_release_that_fails_keeps_the_earlier_one(small, monkeypatch, capfd, why):
+    assert release.main(["1.0", "0"]) == 0
+
+    def fails(*_):
+        raise why
+
+    before = {it.name: it.read_bytes() for it in (small / "out/release").iterdir()}
+    monkeypatch.setattr(release, "build", fails)
+    if isinstance(why, Exception):
+        assert release.main(["1.0", "0"]) == 1
+        assert str(why) in capfd.readouterr().err
+    else:
+        with pytest.raises(KeyboardInterrupt):
+            release.main(["1.0", "0"])
+    assert {it.name: it.read_bytes() for it in (small / "out/release").iterdir()} == before
+
+
+def test_without_a_tool_the_package_is_named(small, monkeypatch, capfd):
+    monkeypatch.setattr(release, "TOOLS", {"no-such-tool": "its-package"})
+    assert release.main(["1.0", "0"]) == 1
+    assert "install its-package" in capfd.readouterr().err
+
+
+# ---- what `make install` ends with
+
+
+def next_lines(*words, path="/usr/bin:/bin"):
+    return run(sys.executable, TOP / "packaging/next_steps.py", *words, env={"PATH": path}).splitlines()
+
+
+def test_an_installation_into_the_folder_of_a_package_prints_nothing():
+    assert next_lines("/stage", "/usr/bin", "/usr/lib", "/usr/share/doc/exifnorm") == []
+
+
+def test_it_names_exiftool_the_path_and_the_library(tmp_path):
+    said = "\n".join(next_lines("", tmp_path / "bin", tmp_path / "lib", "/doc", path="/nowhere"))
+    assert "libimage-exiftool-perl" in said
+    assert f"export PATH={tmp_path}/bin:$PATH" in said
+    assert f"export LD_LIBRARY_PATH={tmp_path}/lib" in said
+    (tmp_path / "exiftool").touch(mode=0o755)
+    said = "\n".join(next_lines("", "/usr/bin", "/usr/local/lib", "/doc", path=f"/usr/bin:{tmp_path}"))
+    assert "exiftool" not in said and "PATH=" not in said
+    assert "ldconfig" in said, "a folder of ld.so.conf"
+
+
+def test_a_library_that_the_loader_finds_needs_no_step(monkeypatch):
+    monkeypatch.setattr(next_steps, "listed", lambda option: f"\t{next_steps.SONAME} (libc6,x86-64) => /usr/lib/{next_steps.SONAME}\n")
+    assert list(next_steps.library_steps("/usr/lib")) == []
+    assert len(list(next_steps.library_steps("/other/lib"))) == 1
+
+
+def test_help_lists_the_targets():
+    said = run("make", "help", cwd=TOP)
+    targets = re.findall(r"^make (\w+)", said, re.M)
+    assert {"install", "uninstall", "wheel", "dist", "release", "clean", "check"} <= set(targets)
+    for it in targets:
+        run("make", "-n", it, "-o", "all", cwd=TOP)
