@@ -16,7 +16,7 @@ from paths import TOP
 PYTHON = "/usr/bin/python3"
 SYSTEM_PATH = "/usr/sbin:/usr/bin:/sbin:/bin"
 DEBS = ("exifnorm", "exifnorm-pictures", "libexifnorm-dev", "libexifnorm1", "python3-exifnorm")
-pytestmark = pytest.mark.xdist_group("release")  # the releases are built once
+pytestmark = [pytest.mark.xdist_group("release"), pytest.mark.timeout(1800)]  # the releases are built once
 
 
 def run(*words, status=0, **more):
@@ -55,19 +55,26 @@ def clone(folder):
     return folder
 
 
+def other_times_and_modes(folder):
+    """Gives the sources the times and the modes of a clone that another user made at another time."""
+    for name in listed():
+        if not (folder / name).is_symlink():
+            os.utime(folder / name, (10**9, 10**9))
+            (folder / name).chmod((folder / name).stat().st_mode & 0o700)
+
+
 @pytest.fixture(scope="session")
 def releases(session_folder):
-    """Two releases, from folders with other names, other masks, and a module that isn't in the repository."""
+    """Two releases, from folders with other names, times, modes, masks, and a module that isn't in the repository."""
     if not shutil.which("rt"):
         pytest.skip("there is no command rt, which the licences of the toolchain are found with")
-    made = []
-    for name, mask in (("one", 0o022), ("an other", 0o077)):
-        folder = clone(session_folder / name)
+    one, other = clone(session_folder / "one"), session_folder / "an other"
+    shutil.copytree(one, other, symlinks=True)
+    other_times_and_modes(other)
+    for folder, mask in ((one, 0o022), (other, 0o077)):
         (folder / "python/exifnorm" / f"stray_{mask}.py").write_text('"""Not listed."""\n')
-        said = run("make", "release", cwd=folder, umask=mask, env=environment())
-        assert release.TOKEN in said or not any(release.TOKEN in (TOP / it).read_text(errors="replace") for it in listed()), said
-        made.append(folder / "out/release")
-    return made
+        run("make", "release", cwd=folder, umask=mask, env=environment())
+    return [one / "out/release", other / "out/release"]
 
 
 @pytest.fixture(scope="session")
