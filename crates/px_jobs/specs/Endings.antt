@@ -6,7 +6,7 @@ use Rattle.px_engine.specs.declared.CompareFault.{CompareFault}
 use Rattle.px_engine.specs.declared.Fault.{Fault}
 use Rattle.px_engine.specs.declared.Fault.TheVariants.{WriteFailed}
 use Rattle.px_engine.specs.Files.{Said}
-use Rattle.px_engine.specs.Input.{LacksRun, LacksPair, CountsReads}
+use Rattle.px_engine.specs.Input.{LacksRun, LacksPair, CountsReads, OnSide, most_read}
 use Rattle.px_engine.specs.Asking.{run_request}
 use Rattle.px_engine.specs.Runs.{KnownSaid, Stops, Checks, Compares, Normalises, CountsWrites, CountsSides}
 use Rattle.px_engine.specs.Prints.{listing, caption_text}
@@ -14,6 +14,7 @@ use Rattle.px_jobs.specs.declared.job.Job.{Job}
 use Rattle.px_jobs.specs.declared.job.Job.TheVariants.{Show, Check, Captions, Normalise}
 use Rattle.px_bytes.specs.Devices.{Device}
 use Rattle.px_bytes.specs.Lacking.{Taken, AsksAtMost}
+use Rattle.px_bytes.specs.Reading.{ConsumesAtMost}
 use Rattle.px_jobs.specs.Lines.{IsFailed, IsWell, Took, TookNothing, TookPrefix, Tells, TellsFault}
 
 -- ---- the status and the line of an outcome
@@ -45,7 +46,7 @@ abbrev pub TellsCompared : Result Bool CompareFault → ℕ → Device → Type 
 TellsCompared (Ok same) status lines = Tells (compared_status same) (compared same) status lines
 TellsCompared (Err e) status lines = TellsFault e.fault (Some e.side) status lines
 
--- no call was made
+-- its bytes and its count of failed calls are as before
 abbrev pub IsIdle : Device → Type 0
 IsIdle d = (d.failed_now ≡ d.failed) × (d.new ≡ d.old)
 
@@ -59,28 +60,35 @@ TellsText text (Err fault) file status lines = Stops fault file × TellsFault fa
 
 -- ---- whole runs: the engine allows the outcome for the files, and it is reported. `taken` and `taken_now` are the numbers of the
 -- memory before and after the run: out of memory means one failed allocation, any other outcome means none; and no more bytes are
--- requested than `run_request` allows for what the reader has left
+-- requested than `run_request` allows for what the reader has left. A reader loses no more than its first `most_read` bytes
 
-abbrev pub IsRun : {A : Type 0} → Result A Fault → Option (List ℕ) → Taken → Taken → Type 0
-IsRun r left taken taken_now = LacksRun r taken taken_now × AsksAtMost (run_request left) taken taken_now
+abbrev pub IsRun : {A : Type 0} → Result A Fault → Device → Taken → Taken → Type 0
+IsRun r reader taken taken_now =
+    LacksRun r taken taken_now × AsksAtMost (run_request reader.old) taken taken_now × ConsumesAtMost reader.old reader.new most_read
 
-abbrev pub IsPair : {A : Type 0} → Result A CompareFault → Option (List ℕ) → Option (List ℕ) → Taken → Taken → Type 0
-IsPair r left other taken taken_now =
-    LacksPair r taken taken_now × AsksAtMost (run_request left + run_request other) taken taken_now
+-- for a fault of the first file, nothing is read of the second
+abbrev pub LeavesSecond : {A : Type 0} → Result A CompareFault → Device → Type 0
+LeavesSecond (Ok x) second = ⊤
+LeavesSecond (Err e) second = OnSide e.side (IsIdle second) ⊤ ⊤
+
+abbrev pub IsPair : {A : Type 0} → Result A CompareFault → Device → Device → Taken → Taken → Type 0
+IsPair r first second taken taken_now =
+    LacksPair r taken taken_now × AsksAtMost (run_request first.old + run_request second.old) taken taken_now
+    × ConsumesAtMost first.old first.new most_read × ConsumesAtMost second.old second.new most_read × LeavesSecond r second
 
 abbrev pub EndsNormalise : Device → Device → Device → Taken → Taken → ℕ → Type 0
 EndsNormalise reader out lines taken taken_now status = (r : Result ℕ Fault) × Normalises r reader.old out.old out.new
     × CountsReads r reader.failed reader.failed_now × CountsWrites r out.failed out.failed_now
-    × IsRun r reader.old taken taken_now × TellsWritten r status lines
+    × IsRun r reader taken taken_now × TellsWritten r status lines
 
 abbrev pub EndsCheck : Device → Device → Taken → Taken → ℕ → Type 0
 EndsCheck reader lines taken taken_now status = (r : Result BlockKind Fault) × Checks r reader.old
-    × CountsReads r reader.failed reader.failed_now × IsRun r reader.old taken taken_now × TellsChecked r status lines
+    × CountsReads r reader.failed reader.failed_now × IsRun r reader taken taken_now × TellsChecked r status lines
 
 -- the text of the file
 abbrev pub EndsText : (Said → List ℕ) → Device → Device → Taken → Taken → ℕ → Type 0
 EndsText text reader lines taken taken_now status = (r : Result ⊤ Fault) × CountsReads r reader.failed reader.failed_now
-    × IsRun r reader.old taken taken_now × TellsText text r reader.old status lines
+    × IsRun r reader taken taken_now × TellsText text r reader.old status lines
 
 -- of the reader, the writer of normal bytes and the writer of lines
 abbrev pub Ends : Job → Device → Device → Device → Taken → Taken → ℕ → Type 0
@@ -92,4 +100,4 @@ Ends Captions reader out lines taken taken_now status = IsIdle out × EndsText c
 abbrev pub EndsCompare : Device → Device → Device → Taken → Taken → ℕ → Type 0
 EndsCompare first second lines taken taken_now status = (r : Result Bool CompareFault) × Compares r first.old second.old
     × CountsSides r first.failed first.failed_now second.failed second.failed_now
-    × IsPair r first.old second.old taken taken_now × TellsCompared r status lines
+    × IsPair r first second taken taken_now × TellsCompared r status lines

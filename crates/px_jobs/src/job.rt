@@ -202,7 +202,6 @@ pub fn run_one_in<R: Source, O: Sink, L: Sink>(
 /// block is refused, 4 if a read, a write or an allocation failed. The line of a fault ends in ` in file 1`
 /// or ` in file 2`. It judges the first file before it reads the second. A line allocates nothing. `failed:
 /// OutOfMemory` means that an allocation of this run failed.
-#[tactic(auto, using(crate::proofs::EndLaws::ends_compare))]
 pub fn run_compare_in<R: Source, S: Source, L: Sink>(
     memory: &mut Memory,
     first: &mut R,

@@ -6,7 +6,7 @@ pub returns : goal.returns
 returns g c = (
   c.captions_in-printed.result,
   c.captions_in-printed.ensures.reads,
-  (c.captions_in-printed.ensures.memory, c.captions_in-printed.ensures.asked),
+  (c.captions_in-printed.ensures.memory, c.captions_in-printed.ensures.asked, c.captions_in-printed.ensures.lost),
   text_told caption_text c.captions_in-printed.result (g.R.Source.bytes_left c.args.reader.now) c.report_printed.result
       (g.L.Device.failed c.args.lines.now) (g.L.Device.failed c.captions_in-printed.new.writer)
       (g.L.Device.failed c.report_printed.new.lines)

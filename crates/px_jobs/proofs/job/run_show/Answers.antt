@@ -6,7 +6,7 @@ pub returns : goal.returns
 returns g c = (
   c.show_in-printed.result,
   c.show_in-printed.ensures.reads,
-  (c.show_in-printed.ensures.memory, c.show_in-printed.ensures.asked),
+  (c.show_in-printed.ensures.memory, c.show_in-printed.ensures.asked, c.show_in-printed.ensures.lost),
   text_told listing c.show_in-printed.result (g.R.Source.bytes_left c.args.reader.now) c.report_printed.result
       (g.L.Device.failed c.args.lines.now) (g.L.Device.failed c.show_in-printed.new.writer) (g.L.Device.failed c.report_printed.new.lines)
       (g.L.Sink.bytes_taken c.args.lines.now) (g.L.Sink.bytes_taken c.show_in-printed.new.writer)
