@@ -1,4 +1,4 @@
--- The numbers of kinds in C, and the names of causes by number.
+-- The numbers of statuses and kinds in C, and the names of causes by number.
 use Rattle.std.specs.Prelude.{ℕ, List, [], Option, Some, None}
 use Rattle.px_bytes.specs.declared.Cause.{Cause}
 use Rattle.px_bytes.specs.Causes.{name_of, cause_of}
@@ -18,3 +18,29 @@ cause_name n = text_of (cause_of n)
 abbrev pub kind_number : BlockKind → ℕ
 kind_number kind.Exif = 1
 kind_number kind.Iim = 2
+
+-- ---- statuses of all calls. 1 is not used: it is the program's status for different blocks
+
+-- success
+abbrev pub done : ℕ
+done = 0
+
+-- the block has no meaning; of two blocks, the first
+abbrev pub refused : ℕ
+refused = 2
+
+-- the normal form is longer than the limit
+abbrev pub too_long : ℕ
+too_long = 3
+
+-- an allocation failed
+abbrev pub no_memory : ℕ
+no_memory = 4
+
+-- the caller's buffer is too short
+abbrev pub too_little_room : ℕ
+too_little_room = 5
+
+-- of two blocks, the second has no meaning
+abbrev pub second_refused : ℕ
+second_refused = 6

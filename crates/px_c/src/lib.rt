@@ -19,6 +19,7 @@ ghost use Rattle.px_engine.specs.Input.{IsSaid};
 ghost use Rattle.px_engine.specs.Prints.{caption_text, listing};
 ghost use Rattle.px_c.specs.Numbers.{cause_name};
 ghost use Rattle.px_c.specs.Outcomes.{Refuses, PutsText, PutsSaid, IsOfKind, AreCompared};
+ghost use Rattle.px_c.specs.Numbers as status;
 
 mod faults;
 mod giving;
@@ -35,8 +36,8 @@ use px_engine::VERSION;
 use statuses::{DONE, NO_MEMORY, REFUSED, SECOND_REFUSED, TOO_LITTLE_ROOM, TOO_LONG};
 use std::alloc::Global;
 
-/// Stores the kind of the block in a file in `kind`: 1 for Exif, 2 for IIM. Allocates the fields of an Exif
-/// block.
+/// Stores the kind of the block in a file in `kind`: 1 for Exif, 2 for IIM. It keeps nothing of the block.
+/// Allocates a bit for each byte of an Exif block, and the entries of its thumbnail directory.
 ///
 /// `REFUSED`: the file has no meaning, and `fault` is its block's first fault. `NO_MEMORY`: an allocation
 /// failed. Only success changes `kind`, and only a refusal changes `fault`.
@@ -47,11 +48,11 @@ pub extern "C" fn exifnorm_check(
     kind: &mut u32,
     fault: &mut ExifnormFault,
 ) -> u32
-    ensures known { (result ≡ DONE) ⊎ (result ≡ REFUSED) ⊎ (result ≡ NO_MEMORY) }
-    ensures done { result ≡ DONE → IsOfKind file.now kind.new }
-    ensures refused { result ≡ REFUSED → Refuses file.now fault.new }
-    ensures kind { result ≢ DONE → kind.new ≡ kind.old }
-    ensures fault { result ≢ REFUSED → fault.new ≡ fault.old }
+    ensures known { (result ≡ status.done) ⊎ (result ≡ status.refused) ⊎ (result ≡ status.no_memory) }
+    ensures done { result ≡ status.done → IsOfKind file.now kind.new }
+    ensures refused { result ≡ status.refused → Refuses file.now fault.new }
+    ensures kind { result ≢ status.done → kind.new ≡ kind.old }
+    ensures fault { result ≢ status.refused → fault.new ≡ fault.old }
 {
     check_in(&mut Memory::new(alloc), file, kind, fault)
 }
@@ -71,14 +72,14 @@ pub extern "C" fn exifnorm_normalise(
     written: &mut usize,
     fault: &mut ExifnormFault,
 ) -> u32
-    ensures known { (result ≡ DONE) ⊎ (result ≡ REFUSED) ⊎ (result ≡ TOO_LONG) ⊎ (result ≡ NO_MEMORY) ⊎ (result ≡ TOO_LITTLE_ROOM) }
-    ensures done { result ≡ DONE → PutsForm file.now (Whole written.new) out.old out.new }
-    ensures refused { result ≡ REFUSED → Refuses file.now fault.new }
-    ensures long { result ≡ TOO_LONG → IsUnwritten file.now 0 NormalTooLong }
-    ensures short { result ≡ TOO_LITTLE_ROOM → PutsForm file.now (Needs written.new) out.old out.new }
-    ensures out { result ≢ DONE → out.new ≡ out.old }
-    ensures written { result ≢ DONE → result ≢ TOO_LITTLE_ROOM → written.new ≡ written.old }
-    ensures fault { result ≢ REFUSED → fault.new ≡ fault.old }
+    ensures known { (result ≡ status.done) ⊎ (result ≡ status.refused) ⊎ (result ≡ status.too_long) ⊎ (result ≡ status.no_memory) ⊎ (result ≡ status.too_little_room) }
+    ensures done { result ≡ status.done → PutsForm file.now (Whole written.new) out.old out.new }
+    ensures refused { result ≡ status.refused → Refuses file.now fault.new }
+    ensures long { result ≡ status.too_long → IsUnwritten file.now 0 NormalTooLong }
+    ensures short { result ≡ status.too_little_room → PutsForm file.now (Needs written.new) out.old out.new }
+    ensures out { result ≢ status.done → out.new ≡ out.old }
+    ensures written { result ≢ status.done → result ≢ status.too_little_room → written.new ≡ written.old }
+    ensures fault { result ≢ status.refused → fault.new ≡ fault.old }
 {
     normalise_in(&mut Memory::new(alloc), file, out, written, fault)
 }
@@ -97,12 +98,12 @@ pub extern "C" fn exifnorm_compare(
     same: &mut u32,
     fault: &mut ExifnormFault,
 ) -> u32
-    ensures known { (result ≡ DONE) ⊎ (result ≡ REFUSED) ⊎ (result ≡ NO_MEMORY) ⊎ (result ≡ SECOND_REFUSED) }
-    ensures done { result ≡ DONE → AreCompared first.now second.now same.new }
-    ensures refused { result ≡ REFUSED → Refuses first.now fault.new }
-    ensures second { result ≡ SECOND_REFUSED → ((s : Said) × IsSaid first.now s) × Refuses second.now fault.new }
-    ensures same { result ≢ DONE → same.new ≡ same.old }
-    ensures fault { result ≢ REFUSED → result ≢ SECOND_REFUSED → fault.new ≡ fault.old }
+    ensures known { (result ≡ status.done) ⊎ (result ≡ status.refused) ⊎ (result ≡ status.no_memory) ⊎ (result ≡ status.second_refused) }
+    ensures done { result ≡ status.done → AreCompared first.now second.now same.new }
+    ensures refused { result ≡ status.refused → Refuses first.now fault.new }
+    ensures second { result ≡ status.second_refused → ((s : Said) × IsSaid first.now s) × Refuses second.now fault.new }
+    ensures same { result ≢ status.done → same.new ≡ same.old }
+    ensures fault { result ≢ status.refused → result ≢ status.second_refused → fault.new ≡ fault.old }
 {
     compare_in(&mut Memory::new(alloc), first, second, same, fault)
 }
@@ -120,13 +121,13 @@ pub extern "C" fn exifnorm_show(
     written: &mut usize,
     fault: &mut ExifnormFault,
 ) -> u32
-    ensures known { (result ≡ DONE) ⊎ (result ≡ REFUSED) ⊎ (result ≡ NO_MEMORY) ⊎ (result ≡ TOO_LITTLE_ROOM) }
-    ensures done { result ≡ DONE → PutsSaid listing file.now (Whole written.new) out.old out.new }
-    ensures refused { result ≡ REFUSED → Refuses file.now fault.new }
-    ensures short { result ≡ TOO_LITTLE_ROOM → PutsSaid listing file.now (Needs written.new) out.old out.new }
-    ensures out { result ≢ DONE → out.new ≡ out.old }
-    ensures written { result ≢ DONE → result ≢ TOO_LITTLE_ROOM → written.new ≡ written.old }
-    ensures fault { result ≢ REFUSED → fault.new ≡ fault.old }
+    ensures known { (result ≡ status.done) ⊎ (result ≡ status.refused) ⊎ (result ≡ status.no_memory) ⊎ (result ≡ status.too_little_room) }
+    ensures done { result ≡ status.done → PutsSaid listing file.now (Whole written.new) out.old out.new }
+    ensures refused { result ≡ status.refused → Refuses file.now fault.new }
+    ensures short { result ≡ status.too_little_room → PutsSaid listing file.now (Needs written.new) out.old out.new }
+    ensures out { result ≢ status.done → out.new ≡ out.old }
+    ensures written { result ≢ status.done → result ≢ status.too_little_room → written.new ≡ written.old }
+    ensures fault { result ≢ status.refused → fault.new ≡ fault.old }
 {
     show_in(&mut Memory::new(alloc), file, out, written, fault)
 }
@@ -145,13 +146,13 @@ pub extern "C" fn exifnorm_captions(
     written: &mut usize,
     fault: &mut ExifnormFault,
 ) -> u32
-    ensures known { (result ≡ DONE) ⊎ (result ≡ REFUSED) ⊎ (result ≡ NO_MEMORY) ⊎ (result ≡ TOO_LITTLE_ROOM) }
-    ensures done { result ≡ DONE → PutsSaid caption_text file.now (Whole written.new) out.old out.new }
-    ensures refused { result ≡ REFUSED → Refuses file.now fault.new }
-    ensures short { result ≡ TOO_LITTLE_ROOM → PutsSaid caption_text file.now (Needs written.new) out.old out.new }
-    ensures out { result ≢ DONE → out.new ≡ out.old }
-    ensures written { result ≢ DONE → result ≢ TOO_LITTLE_ROOM → written.new ≡ written.old }
-    ensures fault { result ≢ REFUSED → fault.new ≡ fault.old }
+    ensures known { (result ≡ status.done) ⊎ (result ≡ status.refused) ⊎ (result ≡ status.no_memory) ⊎ (result ≡ status.too_little_room) }
+    ensures done { result ≡ status.done → PutsSaid caption_text file.now (Whole written.new) out.old out.new }
+    ensures refused { result ≡ status.refused → Refuses file.now fault.new }
+    ensures short { result ≡ status.too_little_room → PutsSaid caption_text file.now (Needs written.new) out.old out.new }
+    ensures out { result ≢ status.done → out.new ≡ out.old }
+    ensures written { result ≢ status.done → result ≢ status.too_little_room → written.new ≡ written.old }
+    ensures fault { result ≢ status.refused → fault.new ≡ fault.old }
 {
     captions_in(&mut Memory::new(alloc), file, out, written, fault)
 }
@@ -161,10 +162,10 @@ pub extern "C" fn exifnorm_captions(
 /// and unchanged; 20 bytes are always enough. It allocates nothing.
 #[unsafe(no_mangle)]
 pub extern "C" fn exifnorm_cause_name(cause: u32, out: &mut [u8], written: &mut usize) -> u32
-    ensures known { (result ≡ DONE) ⊎ (result ≡ TOO_LITTLE_ROOM) }
-    ensures done { result ≡ DONE → PutsText (cause_name cause) (Whole written.new) out.old out.new }
-    ensures short { result ≡ TOO_LITTLE_ROOM → PutsText (cause_name cause) (Needs written.new) out.old out.new }
-    ensures out { result ≡ TOO_LITTLE_ROOM → out.new ≡ out.old }
+    ensures known { (result ≡ status.done) ⊎ (result ≡ status.too_little_room) }
+    ensures done { result ≡ status.done → PutsText (cause_name cause) (Whole written.new) out.old out.new }
+    ensures short { result ≡ status.too_little_room → PutsText (cause_name cause) (Needs written.new) out.old out.new }
+    ensures out { result ≡ status.too_little_room → out.new ≡ out.old }
 {
     give_text(cause_name(cause), out, written)
 }
@@ -173,10 +174,10 @@ pub extern "C" fn exifnorm_cause_name(cause: u32, out: &mut [u8], written: &mut 
 /// `written`. `TOO_LITTLE_ROOM`: `out` is too short and unchanged. It allocates nothing.
 #[unsafe(no_mangle)]
 pub extern "C" fn exifnorm_version(out: &mut [u8], written: &mut usize) -> u32
-    ensures known { (result ≡ DONE) ⊎ (result ≡ TOO_LITTLE_ROOM) }
-    ensures done { result ≡ DONE → PutsText VERSION.now (Whole written.new) out.old out.new }
-    ensures short { result ≡ TOO_LITTLE_ROOM → PutsText VERSION.now (Needs written.new) out.old out.new }
-    ensures out { result ≡ TOO_LITTLE_ROOM → out.new ≡ out.old }
+    ensures known { (result ≡ status.done) ⊎ (result ≡ status.too_little_room) }
+    ensures done { result ≡ status.done → PutsText VERSION.now (Whole written.new) out.old out.new }
+    ensures short { result ≡ status.too_little_room → PutsText VERSION.now (Needs written.new) out.old out.new }
+    ensures out { result ≡ status.too_little_room → out.new ≡ out.old }
 {
     give_text(VERSION.as_bytes(), out, written)
 }

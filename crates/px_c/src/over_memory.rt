@@ -9,6 +9,7 @@ ghost use Rattle.px_engine.specs.Hand.{PutsForm, IsUnwritten};
 ghost use Rattle.px_engine.specs.Input.{IsSaid};
 ghost use Rattle.px_engine.specs.Prints.{caption_text, listing};
 ghost use Rattle.px_c.specs.Outcomes.{Refuses, PutsSaid, IsOfKind, AreCompared};
+ghost use Rattle.px_c.specs.Numbers as status;
 
 use crate::faults::{ExifnormFault, fault_from};
 use crate::giving::give;
@@ -23,13 +24,13 @@ pub(crate) fn check_in(
     kind: &mut u32,
     fault: &mut ExifnormFault,
 ) -> u32
-    ensures known { (result ≡ DONE) ⊎ (result ≡ REFUSED) ⊎ (result ≡ NO_MEMORY) }
-    ensures done { result ≡ DONE → IsOfKind file.now kind.new }
-    ensures refused { result ≡ REFUSED → Refuses file.now fault.new }
-    ensures kind { result ≢ DONE → kind.new ≡ kind.old }
-    ensures fault { result ≢ REFUSED → fault.new ≡ fault.old }
-    ensures lacking { result ≡ NO_MEMORY → memory.new.refusals ≡ memory.old.refusals + 1 }
-    ensures memory { result ≢ NO_MEMORY → memory.new.refusals ≡ memory.old.refusals }
+    ensures known { (result ≡ status.done) ⊎ (result ≡ status.refused) ⊎ (result ≡ status.no_memory) }
+    ensures done { result ≡ status.done → IsOfKind file.now kind.new }
+    ensures refused { result ≡ status.refused → Refuses file.now fault.new }
+    ensures kind { result ≢ status.done → kind.new ≡ kind.old }
+    ensures fault { result ≢ status.refused → fault.new ≡ fault.old }
+    ensures lacking { result ≡ status.no_memory → memory.new.refusals ≡ memory.old.refusals + 1 }
+    ensures memory { result ≢ status.no_memory → memory.new.refusals ≡ memory.old.refusals }
     ensures asked { AsksAtMost (block_request (length file.now)) memory.old memory.new }
 {
     match px_engine::check_of_in(memory, file) {
@@ -60,16 +61,16 @@ pub(crate) fn normalise_in(
     written: &mut usize,
     fault: &mut ExifnormFault,
 ) -> u32
-    ensures known { (result ≡ DONE) ⊎ (result ≡ REFUSED) ⊎ (result ≡ TOO_LONG) ⊎ (result ≡ NO_MEMORY) ⊎ (result ≡ TOO_LITTLE_ROOM) }
-    ensures done { result ≡ DONE → PutsForm file.now (Whole written.new) out.old out.new }
-    ensures refused { result ≡ REFUSED → Refuses file.now fault.new }
-    ensures long { result ≡ TOO_LONG → IsUnwritten file.now 0 NormalTooLong }
-    ensures short { result ≡ TOO_LITTLE_ROOM → PutsForm file.now (Needs written.new) out.old out.new }
-    ensures out { result ≢ DONE → out.new ≡ out.old }
-    ensures written { result ≢ DONE → result ≢ TOO_LITTLE_ROOM → written.new ≡ written.old }
-    ensures fault { result ≢ REFUSED → fault.new ≡ fault.old }
-    ensures lacking { result ≡ NO_MEMORY → memory.new.refusals ≡ memory.old.refusals + 1 }
-    ensures memory { result ≢ NO_MEMORY → memory.new.refusals ≡ memory.old.refusals }
+    ensures known { (result ≡ status.done) ⊎ (result ≡ status.refused) ⊎ (result ≡ status.too_long) ⊎ (result ≡ status.no_memory) ⊎ (result ≡ status.too_little_room) }
+    ensures done { result ≡ status.done → PutsForm file.now (Whole written.new) out.old out.new }
+    ensures refused { result ≡ status.refused → Refuses file.now fault.new }
+    ensures long { result ≡ status.too_long → IsUnwritten file.now 0 NormalTooLong }
+    ensures short { result ≡ status.too_little_room → PutsForm file.now (Needs written.new) out.old out.new }
+    ensures out { result ≢ status.done → out.new ≡ out.old }
+    ensures written { result ≢ status.done → result ≢ status.too_little_room → written.new ≡ written.old }
+    ensures fault { result ≢ status.refused → fault.new ≡ fault.old }
+    ensures lacking { result ≡ status.no_memory → memory.new.refusals ≡ memory.old.refusals + 1 }
+    ensures memory { result ≢ status.no_memory → memory.new.refusals ≡ memory.old.refusals }
     ensures asked { AsksAtMost (block_request (length file.now)) memory.old memory.new }
 {
     match px_engine::put_form_in(memory, file, out) {
@@ -100,14 +101,14 @@ pub(crate) fn compare_in(
     same: &mut u32,
     fault: &mut ExifnormFault,
 ) -> u32
-    ensures known { (result ≡ DONE) ⊎ (result ≡ REFUSED) ⊎ (result ≡ NO_MEMORY) ⊎ (result ≡ SECOND_REFUSED) }
-    ensures done { result ≡ DONE → AreCompared first.now second.now same.new }
-    ensures refused { result ≡ REFUSED → Refuses first.now fault.new }
-    ensures second { result ≡ SECOND_REFUSED → ((s : Said) × IsSaid first.now s) × Refuses second.now fault.new }
-    ensures same { result ≢ DONE → same.new ≡ same.old }
-    ensures fault { result ≢ REFUSED → result ≢ SECOND_REFUSED → fault.new ≡ fault.old }
-    ensures lacking { result ≡ NO_MEMORY → memory.new.refusals ≡ memory.old.refusals + 1 }
-    ensures memory { result ≢ NO_MEMORY → memory.new.refusals ≡ memory.old.refusals }
+    ensures known { (result ≡ status.done) ⊎ (result ≡ status.refused) ⊎ (result ≡ status.no_memory) ⊎ (result ≡ status.second_refused) }
+    ensures done { result ≡ status.done → AreCompared first.now second.now same.new }
+    ensures refused { result ≡ status.refused → Refuses first.now fault.new }
+    ensures second { result ≡ status.second_refused → ((s : Said) × IsSaid first.now s) × Refuses second.now fault.new }
+    ensures same { result ≢ status.done → same.new ≡ same.old }
+    ensures fault { result ≢ status.refused → result ≢ status.second_refused → fault.new ≡ fault.old }
+    ensures lacking { result ≡ status.no_memory → memory.new.refusals ≡ memory.old.refusals + 1 }
+    ensures memory { result ≢ status.no_memory → memory.new.refusals ≡ memory.old.refusals }
     ensures asked { AsksAtMost (block_request (length first.now) + block_request (length second.now)) memory.old memory.new }
 {
     match px_engine::same_of_in(memory, first, second) {
@@ -144,15 +145,15 @@ pub(crate) fn show_in(
     written: &mut usize,
     fault: &mut ExifnormFault,
 ) -> u32
-    ensures known { (result ≡ DONE) ⊎ (result ≡ REFUSED) ⊎ (result ≡ NO_MEMORY) ⊎ (result ≡ TOO_LITTLE_ROOM) }
-    ensures done { result ≡ DONE → PutsSaid listing file.now (Whole written.new) out.old out.new }
-    ensures refused { result ≡ REFUSED → Refuses file.now fault.new }
-    ensures short { result ≡ TOO_LITTLE_ROOM → PutsSaid listing file.now (Needs written.new) out.old out.new }
-    ensures out { result ≢ DONE → out.new ≡ out.old }
-    ensures written { result ≢ DONE → result ≢ TOO_LITTLE_ROOM → written.new ≡ written.old }
-    ensures fault { result ≢ REFUSED → fault.new ≡ fault.old }
-    ensures lacking { result ≡ NO_MEMORY → memory.new.refusals ≡ memory.old.refusals + 1 }
-    ensures memory { result ≢ NO_MEMORY → memory.new.refusals ≡ memory.old.refusals }
+    ensures known { (result ≡ status.done) ⊎ (result ≡ status.refused) ⊎ (result ≡ status.no_memory) ⊎ (result ≡ status.too_little_room) }
+    ensures done { result ≡ status.done → PutsSaid listing file.now (Whole written.new) out.old out.new }
+    ensures refused { result ≡ status.refused → Refuses file.now fault.new }
+    ensures short { result ≡ status.too_little_room → PutsSaid listing file.now (Needs written.new) out.old out.new }
+    ensures out { result ≢ status.done → out.new ≡ out.old }
+    ensures written { result ≢ status.done → result ≢ status.too_little_room → written.new ≡ written.old }
+    ensures fault { result ≢ status.refused → fault.new ≡ fault.old }
+    ensures lacking { result ≡ status.no_memory → memory.new.refusals ≡ memory.old.refusals + 1 }
+    ensures memory { result ≢ status.no_memory → memory.new.refusals ≡ memory.old.refusals }
     ensures asked { AsksForText listing file.now memory.old memory.new }
 {
     match px_engine::show_of_in(memory, file) {
@@ -176,15 +177,15 @@ pub(crate) fn captions_in(
     written: &mut usize,
     fault: &mut ExifnormFault,
 ) -> u32
-    ensures known { (result ≡ DONE) ⊎ (result ≡ REFUSED) ⊎ (result ≡ NO_MEMORY) ⊎ (result ≡ TOO_LITTLE_ROOM) }
-    ensures done { result ≡ DONE → PutsSaid caption_text file.now (Whole written.new) out.old out.new }
-    ensures refused { result ≡ REFUSED → Refuses file.now fault.new }
-    ensures short { result ≡ TOO_LITTLE_ROOM → PutsSaid caption_text file.now (Needs written.new) out.old out.new }
-    ensures out { result ≢ DONE → out.new ≡ out.old }
-    ensures written { result ≢ DONE → result ≢ TOO_LITTLE_ROOM → written.new ≡ written.old }
-    ensures fault { result ≢ REFUSED → fault.new ≡ fault.old }
-    ensures lacking { result ≡ NO_MEMORY → memory.new.refusals ≡ memory.old.refusals + 1 }
-    ensures memory { result ≢ NO_MEMORY → memory.new.refusals ≡ memory.old.refusals }
+    ensures known { (result ≡ status.done) ⊎ (result ≡ status.refused) ⊎ (result ≡ status.no_memory) ⊎ (result ≡ status.too_little_room) }
+    ensures done { result ≡ status.done → PutsSaid caption_text file.now (Whole written.new) out.old out.new }
+    ensures refused { result ≡ status.refused → Refuses file.now fault.new }
+    ensures short { result ≡ status.too_little_room → PutsSaid caption_text file.now (Needs written.new) out.old out.new }
+    ensures out { result ≢ status.done → out.new ≡ out.old }
+    ensures written { result ≢ status.done → result ≢ status.too_little_room → written.new ≡ written.old }
+    ensures fault { result ≢ status.refused → fault.new ≡ fault.old }
+    ensures lacking { result ≡ status.no_memory → memory.new.refusals ≡ memory.old.refusals + 1 }
+    ensures memory { result ≢ status.no_memory → memory.new.refusals ≡ memory.old.refusals }
     ensures asked { AsksForText caption_text file.now memory.old memory.new }
 {
     match px_engine::captions_text_in(memory, file) {
