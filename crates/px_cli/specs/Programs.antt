@@ -1,5 +1,5 @@
 -- The program's behaviour for its arguments.
-use Rattle.std.specs.Prelude.{◌≡◌, ◌⊎◌, ℕ, List, Option, Some, None}
+use Rattle.std.specs.Prelude.{◌≡◌, ◌⊎◌, ℕ, List, Option, Some, None, Result, Ok, Err}
 use Rattle.px_engine.specs.declared.Fault.{Fault}
 use Rattle.px_engine.specs.declared.Fault.TheVariants.{OutOfMemory, ReadFailed, WriteFailed}
 use Rattle.px_engine.specs.declared.Side.{Side}
@@ -13,7 +13,7 @@ use Rattle.px_words.specs.declared.Words.TheVariants as words
 use Rattle.px_bytes.specs.Devices.{Device}
 use Rattle.px_bytes.specs.Lacking.{Taken}
 use Rattle.px_jobs.specs.Lines.{TellsFault, TellsWords}
-use Rattle.px_jobs.specs.Endings.{Ends, EndsCompare}
+use Rattle.px_jobs.specs.Endings.{Ends, EndsCompare, IsIdle}
 use Rattle.px_words.specs.Words.{out_is_file, AskedBy, LacksWords}
 
 -- the job of a command with one file
@@ -26,65 +26,102 @@ job_of one.Captions = job.Captions
 abbrev pub IsLacking : Fault → Fault → Type 0
 IsLacking expected e = (e ≡ OutOfMemory) ⊎ (e ≡ expected)
 
--- a file that can't be opened is reported: `lacks` means that opening or creating it ended with the fault
-abbrev pub TellsLacking : Fault → (Fault → Type 0) → Option Side → ℕ → Device → Type 0
-TellsLacking expected lacks file status lines = (e : Fault) × IsLacking expected e × lacks e × TellsFault e file status lines
+-- A fault of opening or creating a file is reported, and nothing was requested. Here and below `taken` and `taken_now` are the numbers
+-- of the memory before and now.
+abbrev pub TellsLacking : Fault → Fault → Option Side → Taken → Taken → ℕ → Device → Type 0
+TellsLacking expected e file taken taken_now status lines = IsLacking expected e × TellsFault e file status lines × (taken_now ≡ taken)
 
--- A job was done with a reader of `bytes`, without a failed call so far, and some writer. Here and below `taken` and `taken_now`
--- are the numbers of the memory before and now.
-abbrev pub EndsJob : Job → Option (List ℕ) → Taken → Taken → ℕ → Device → Type 0
-EndsJob job bytes taken taken_now status lines = (reader out : Device) × (reader.old ≡ bytes) × (reader.failed ≡ 0)
+-- A job was done with a reader of `bytes`, which had no failed call before, and with this writer of the normal form.
+abbrev pub EndsJob : Job → Option (List ℕ) → Taken → Taken → ℕ → Device → Device → Type 0
+EndsJob job bytes taken taken_now status out lines = (reader : Device) × (reader.old ≡ bytes) × (reader.failed ≡ 0)
     × Ends job reader out lines taken taken_now status
 
--- a comparison was, with such readers
+-- A comparison was done, with two such readers.
 abbrev pub EndsPair : Option (List ℕ) → Option (List ℕ) → Taken → Taken → ℕ → Device → Type 0
 EndsPair bytes other taken taken_now status lines = (first second : Device) × (first.old ≡ bytes) × (first.failed ≡ 0)
     × (second.old ≡ other) × (second.failed ≡ 0) × EndsCompare first second lines taken taken_now status
 
--- a job was done with standard input
-abbrev pub EndsFilter : Taken → Taken → ℕ → Device → Type 0
-EndsFilter taken taken_now status lines = (bytes : Option (List ℕ)) × EndsJob job.Normalise bytes taken taken_now status lines
+-- ---- what a run did to the files
 
--- a job was done with a file whose bytes `gives` allows; or it can't be opened
-abbrev pub EndsFile : Job → (Option (List ℕ) → Type 0) → (Fault → Type 0) → Taken → Taken → ℕ → Device → Type 0
-EndsFile job gives lacks taken taken_now status lines = (TellsLacking ReadFailed lacks None status lines × (taken_now ≡ taken))
-    ⊎ ((bytes : Option (List ℕ)) × gives bytes × EndsJob job bytes taken taken_now status lines)
+-- `F` are the files, and `R` and `W` the readers and writers that they return. `remaining` gives the bytes that a reader still has, and
+-- `contents` those that a writer has taken. Each of `opens`, `makes` and `closes` is a call: a relation of the files before it, its
+-- arguments, its result, and the files after it. A run is a chain of calls from the files before it to the files after it. So it made
+-- these calls, in this order, and no other.
+module _ {F R W : Type 0} (remaining : R → Option (List ℕ)) (contents : W → Option (List ℕ))
+    (opens : F → List ℕ → Result R Fault → F → Type 0) (makes : F → List ℕ → R → Result (Option W) Fault → F → Type 0)
+    (closes : F → W → F → Type 0) where
+  -- the file can't be opened, which is reported
+  abbrev pub EndsUnopened : List ℕ → Option Side → F → F → Taken → Taken → ℕ → Device → Type 0
+  EndsUnopened name file files files_now taken taken_now status lines =
+      (e : Fault) × opens files name (Err e) files_now × TellsLacking ReadFailed e file taken taken_now status lines
 
--- OUT couldn't be created, or is the file that is read (`one`): that is reported, and nothing was requested
-abbrev pub EndsUnmade : (Fault → Type 0) → Type 0 → Taken → Taken → ℕ → Device → Type 0
-EndsUnmade lacks one taken taken_now status lines =
-    (TellsLacking WriteFailed lacks None status lines ⊎ (one × TellsWords 3 out_is_file status lines)) × (taken_now ≡ taken)
+  -- a job was done with the file; or it can't be opened
+  abbrev pub EndsFile : Job → List ℕ → F → F → Taken → Taken → ℕ → Device → Device → Type 0
+  EndsFile job name files files_now taken taken_now status out lines =
+      (EndsUnopened name None files files_now taken taken_now status lines × IsIdle out)
+      ⊎ ((reader : R) × opens files name (Ok reader) files_now × EndsJob job (remaining reader) taken taken_now status out lines)
 
--- the normal form of a file was written to OUT; or one of them can't be opened; or they are the same
-abbrev pub EndsForm : (Option (List ℕ) → Type 0) → (Fault → Type 0) → (Fault → Type 0) → Type 0 → Taken → Taken → ℕ → Device → Type 0
-EndsForm gives lacks out_lacks one taken taken_now status lines =
-    EndsFile job.Normalise gives lacks taken taken_now status lines ⊎ EndsUnmade out_lacks one taken taken_now status lines
+  -- The normal form of an open file went to OUT, which was closed after it. The writer of OUT had no failed call before.
+  abbrev pub EndsMade : List ℕ → R → F → F → Taken → Taken → ℕ → Device → Type 0
+  EndsMade out_name reader files files_now taken taken_now status lines =
+      (made : F) × (out out_now : W) × (n : ℕ) × makes files out_name reader (Ok (Some out)) made × closes made out_now files_now
+      × EndsJob job.Normalise (remaining reader) taken taken_now status
+      (record { failed = 0; failed_now = n; old = contents out; new = contents out_now }) lines
 
--- two files were compared, or the first can't be opened, or the second
-abbrev pub EndsFiles : (Option (List ℕ) → Type 0) → (Fault → Type 0) → (Option (List ℕ) → Type 0) → (Fault → Type 0) → Taken → Taken
-    → ℕ → Device → Type 0
-EndsFiles gives lacks other_gives other_lacks taken taken_now status lines =
-    ((TellsLacking ReadFailed lacks (Some side.First) status lines ⊎ TellsLacking ReadFailed other_lacks (Some side.Second) status lines)
-    × (taken_now ≡ taken))
-    ⊎ ((bytes other : Option (List ℕ)) × gives bytes × other_gives other × EndsPair bytes other taken taken_now status lines)
+  -- OUT can't be created, or is the open file: that is reported, and nothing was requested
+  abbrev pub EndsUnmade : List ℕ → R → F → F → Taken → Taken → ℕ → Device → Type 0
+  EndsUnmade out_name reader files files_now taken taken_now status lines =
+      ((e : Fault) × makes files out_name reader (Err e) files_now × TellsLacking WriteFailed e None taken taken_now status lines)
+      ⊎ (makes files out_name reader (Ok None) files_now × TellsWords 3 out_is_file status lines × (taken_now ≡ taken))
 
--- The request was done, and its line and status report the outcome. For a name, `gives` are the possible bytes of a file opened
--- by it, `lacks` the faults of opening it, and `is_read` means that it is the file that is read.
-module _ (gives : List ℕ → Option (List ℕ) → Type 0) (lacks : List ℕ → Fault → Type 0) (is_read : List ℕ → Type 0) where
-  abbrev pub EndsWords : Words → Taken → Taken → ℕ → Device → Type 0
-  EndsWords words.Filter taken taken_now status lines = EndsFilter taken taken_now status lines
-  EndsWords (words.One what file) taken taken_now status lines =
-      EndsFile (job_of what) (gives file) (lacks file) taken taken_now status lines
-  EndsWords (words.Normalise file out) taken taken_now status lines =
-      EndsForm (gives file) (lacks file) (lacks out) (is_read out) taken taken_now status lines
-  EndsWords (words.Compare first second) taken taken_now status lines =
-      EndsFiles (gives first) (lacks first) (gives second) (lacks second) taken taken_now status lines
-  EndsWords (words.Help text) taken taken_now status lines = TellsWords 0 text status lines × (taken_now ≡ taken)
-  EndsWords (words.Refused text) taken taken_now status lines = TellsWords 3 text status lines × (taken_now ≡ taken)
-  EndsWords words.NoMemory taken taken_now status lines = TellsFault OutOfMemory None status lines × (taken_now ≡ taken)
-  EndsWords words.Unread taken taken_now status lines = TellsFault OutOfMemory None status lines × (taken_now ≡ taken)
+  -- the normal form of an open file was written to OUT, or OUT can't be made
+  abbrev pub EndsBeside : List ℕ → R → F → F → Taken → Taken → ℕ → Device → Type 0
+  EndsBeside out_name reader files files_now taken taken_now status lines =
+      EndsMade out_name reader files files_now taken taken_now status lines
+      ⊎ EndsUnmade out_name reader files files_now taken taken_now status lines
 
-  -- the request of the arguments was done; `between` are the numbers of the memory after they were parsed
-  abbrev pub Answers : List (List ℕ) → Taken → Taken → ℕ → Device → Type 0
-  Answers ws taken taken_now status lines = (asked : Words) × (between : Taken) × AskedBy ws asked × LacksWords asked taken between
-      × EndsWords asked between taken_now status lines
+  -- that of a file; or it can't be opened
+  abbrev pub EndsForm : List ℕ → List ℕ → F → F → Taken → Taken → ℕ → Device → Type 0
+  EndsForm name out_name files files_now taken taken_now status lines =
+      EndsUnopened name None files files_now taken taken_now status lines
+      ⊎ ((opened : F) × (reader : R) × opens files name (Ok reader) opened
+      × EndsBeside out_name reader opened files_now taken taken_now status lines)
+
+  -- an open file was compared with another; or that can't be opened
+  abbrev pub EndsOther : R → List ℕ → F → F → Taken → Taken → ℕ → Device → Type 0
+  EndsOther reader name files files_now taken taken_now status lines =
+      EndsUnopened name (Some side.Second) files files_now taken taken_now status lines
+      ⊎ ((other : R) × opens files name (Ok other) files_now × EndsPair (remaining reader) (remaining other) taken taken_now status lines)
+
+  -- two files were compared, or the first can't be opened, or the second
+  abbrev pub EndsFiles : List ℕ → List ℕ → F → F → Taken → Taken → ℕ → Device → Type 0
+  EndsFiles first second files files_now taken taken_now status lines =
+      EndsUnopened first (Some side.First) files files_now taken taken_now status lines
+      ⊎ ((opened : F) × (reader : R) × opens files first (Ok reader) opened
+      × EndsOther reader second opened files_now taken taken_now status lines)
+
+  -- The request was done, and its line and status report the outcome. Only a request without arguments reads standard input, `input`,
+  -- and writes a normal form to standard output, `out`.
+  abbrev pub EndsWords : Words → F → F → Taken → Taken → ℕ → Device → Device → Device → Type 0
+  EndsWords words.Filter files files_now taken taken_now status input out lines =
+      (files_now ≡ files) × Ends job.Normalise input out lines taken taken_now status
+  EndsWords (words.One what file) files files_now taken taken_now status input out lines =
+      IsIdle input × EndsFile (job_of what) file files files_now taken taken_now status out lines
+  EndsWords (words.Normalise file out_name) files files_now taken taken_now status input out lines =
+      IsIdle input × IsIdle out × EndsForm file out_name files files_now taken taken_now status lines
+  EndsWords (words.Compare first second) files files_now taken taken_now status input out lines =
+      IsIdle input × IsIdle out × EndsFiles first second files files_now taken taken_now status lines
+  EndsWords (words.Help text) files files_now taken taken_now status input out lines =
+      (files_now ≡ files) × IsIdle input × IsIdle out × TellsWords 0 text status lines × (taken_now ≡ taken)
+  EndsWords (words.Refused text) files files_now taken taken_now status input out lines =
+      (files_now ≡ files) × IsIdle input × IsIdle out × TellsWords 3 text status lines × (taken_now ≡ taken)
+  EndsWords words.NoMemory files files_now taken taken_now status input out lines =
+      (files_now ≡ files) × IsIdle input × IsIdle out × TellsFault OutOfMemory None status lines × (taken_now ≡ taken)
+  EndsWords words.Unread files files_now taken taken_now status input out lines =
+      (files_now ≡ files) × IsIdle input × IsIdle out × TellsFault OutOfMemory None status lines × (taken_now ≡ taken)
+
+  -- The request of the arguments was done. `lacks` are the arguments over which clap ran out of memory, and `between` are the numbers
+  -- of the memory after the arguments were parsed.
+  abbrev pub Answers : (List (List ℕ) → Type 0) → List (List ℕ) → F → F → Taken → Taken → ℕ → Device → Device → Device → Type 0
+  Answers lacks ws files files_now taken taken_now status input out lines = (asked : Words) × (between : Taken) × AskedBy lacks ws asked
+      × LacksWords asked taken between × EndsWords asked files files_now between taken_now status input out lines

@@ -1,3 +1,2 @@
 -- Definitions for the contracts of single calls. The definitions of the promises are in the folder above.
 pub mod Opened
-pub mod Beside

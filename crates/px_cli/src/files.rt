@@ -1,7 +1,7 @@
-// Opens the files that the arguments name. No contract can state two things, which this file has to show: a
-// missing file is reported only for an error of the system, and the file that is opened is the one that was
-// named.
-ghost use Rattle.std.specs.Prelude.{◌≡◌, ◌≢◌, ◌↔◌, ℕ, List, Option, IsSome, IsTrue, None, Ok, Err, IfOk, IfErr, ⊤};
+// Opens the files that the arguments name. No contract can state what this file has to show: a missing file is
+// reported only for an error of the system, the file that is opened, created or emptied is the one that was
+// named, no other is, and the bytes of a writer are those of its file.
+ghost use Rattle.std.specs.Prelude.{◌≡◌, ◌≢◌, ◌↔◌, ℕ, List, Option, Result, IsSome, IsTrue, Ok, Err, IfOk, IfErr};
 ghost use Rattle.std.specs.Fs.{file_type, IsFile};
 ghost use Rattle.std.specs.IoError.{error_kind};
 ghost use Rattle.px_engine.specs.declared.Fault.{Fault};
@@ -137,7 +137,8 @@ fn make_beside<R: Files>(rt: &R, name: &str, file: &R::File) -> Result<Option<R:
     Ok(Some(out))
 }
 
-/// Opens files by name. Only these calls show the bytes of a named file, or that it can't be opened.
+/// Files, by name. Contracts see each call as a relation: the files before it, what it got, what it returned, and
+/// the files after it. Only a call establishes its relation, so a chain of them names all calls of a run.
 pub trait Opens {
     /// A file to read.
     type Reader: Read + Drop;
@@ -145,26 +146,32 @@ pub trait Opens {
     /// A file to write.
     type Writer: Write + Drop;
 
-    // The file with that name has these bytes, or None if they are unknown.
-    ghost gives: { Self → List ℕ → Option (List ℕ) → Type 0 };
+    // The file with that name was opened, or couldn't be.
+    ghost opens: { Self → List ℕ → Result Self.Reader Fault → Self → Type 0 };
 
-    // The file with that name couldn't be opened or created, and why.
-    ghost lacks: { Self → List ℕ → Fault → Type 0 };
+    // The file with that name was created or emptied, or couldn't be; or it is the one that the reader reads.
+    ghost makes: { Self → List ℕ → Self.Reader → Result (Option Self.Writer) Fault → Self → Type 0 };
 
-    // The file that is being read has that name.
-    ghost is_read: { Self → List ℕ → Type 0 };
+    // The writer was closed, with all that it had taken. Nothing is written by it afterwards.
+    ghost closes: { Self → Self.Writer → Self → Type 0 };
 
     /// Opens a file to read.
-    fn open(&self, name: &str) -> Result<Self::Reader, Fault>
-        ensures gives { IfOk result (λ r. gives self.now name.now (Self.Reader.remaining r)) }
-        ensures lacking { IfErr result (IsLacking ReadFailed) }
-        ensures lacks { IfErr result (lacks self.now name.now) };
+    fn open(&mut self, name: &str) -> Result<Self::Reader, Fault>
+        ensures opens { opens self.old name.now result self.new }
+        ensures lacking { IfErr result (IsLacking ReadFailed) };
 
     /// Creates or empties a file to write. None if it is the one that is being read.
-    fn make_beside(&self, name: &str, file: &Self::Reader) -> Result<Option<Self::Writer>, Fault>
-        ensures one { IfOk result (λ out. out ≡ None → is_read self.now name.now) }
-        ensures lacking { IfErr result (IsLacking WriteFailed) }
-        ensures lacks { IfErr result (lacks self.now name.now) };
+    fn make_beside(
+        &mut self,
+        name: &str,
+        file: &Self::Reader,
+    ) -> Result<Option<Self::Writer>, Fault>
+        ensures makes { makes self.old name.now file.now result self.new }
+        ensures lacking { IfErr result (IsLacking WriteFailed) };
+
+    /// Closes a file that was written. A failure of the system to close it isn't reported.
+    fn close(&mut self, out: Self::Writer)
+        ensures { closes self.old out self.new };
 }
 
 /// The files of the system. No contract specifies their content.
@@ -187,17 +194,19 @@ impl<'a, R: Files> Opens for System<'a, R> {
 
     ghost use Rattle.std.specs.Prelude.{⊤};
 
-    ghost gives = { λ _ _ _. ⊤ };
+    ghost opens = { λ _ _ _ _. ⊤ };
 
-    ghost lacks = { λ _ _ _. ⊤ };
+    ghost makes = { λ _ _ _ _ _. ⊤ };
 
-    ghost is_read = { λ _ _. ⊤ };
+    ghost closes = { λ _ _ _. ⊤ };
 
-    fn open(&self, name: &str) -> Result<R::File, Fault> {
+    fn open(&mut self, name: &str) -> Result<R::File, Fault> {
         open(self.rt, name)
     }
 
-    fn make_beside(&self, name: &str, file: &R::File) -> Result<Option<R::File>, Fault> {
+    fn make_beside(&mut self, name: &str, file: &R::File) -> Result<Option<R::File>, Fault> {
         make_beside(self.rt, name, file)
     }
+
+    fn close(&mut self, _out: R::File) {}
 }

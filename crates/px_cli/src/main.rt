@@ -12,49 +12,38 @@
 //! ```
 #![tactic(auto)]
 
-ghost use Rattle.std.specs.Prelude.{◌≡◌, drop};
-
 mod files;
+mod laws;
 mod run;
 
 use crate::files::System;
-use crate::run::run_words;
-use px_bytes::{Memory, Watched};
-use px_engine::Fault;
-use px_jobs::{say_text, tell};
+use crate::run::{NoWords, Streams, run_given};
+use px_bytes::Watched;
+use px_words::Clap;
 use std::io::ErrorKind;
 use std::process::ExitCode;
 use std::{env, io};
 
-// The arguments after the program's name.
-fn after_name(all: &[String]) -> &[String]
-    ensures { result.now ≡ drop 1 all.now }
-{
-    if all.is_empty() {
-        return all;
-    }
-    &all[1..]
-}
-
-// Runs the program with the system's arguments.
-fn run_given(rt: &HostRuntime) -> u8 {
-    let alloc = rt.alloc();
-    let mut lines = Watched::new(io::writer(rt));
-    let all: Vec<String> = match env::args(rt) {
-        Ok(args) => match args.collect(alloc) {
-            Ok(all) => all,
-            Err(_) => return tell(&mut lines, Fault::OutOfMemory, None),
+// The words of the system, of which the first is the program's name. No contract of std describes them.
+fn given(rt: &HostRuntime) -> Result<Vec<String>, NoWords> {
+    match env::args(rt) {
+        Ok(args) => match args.collect(rt.alloc()) {
+            Ok(all) => Ok(all),
+            Err(_) => Err(NoWords::OutOfMemory),
         },
-        Err(error) if error.kind() == ErrorKind::OutOfMemory => {
-            return tell(&mut lines, Fault::OutOfMemory, None);
-        }
-        Err(_) => return say_text(&mut lines, "refused words: they are not text", 3),
-    };
-    let mut memory = Memory::new(alloc);
-    let files = System::new(rt);
-    run_words(rt, &files, &mut memory, after_name(&all), &mut lines)
+        Err(error) if error.kind() == ErrorKind::OutOfMemory => Err(NoWords::OutOfMemory),
+        Err(_) => Err(NoWords::NotText),
+    }
 }
 
+// Runs the program with the system's words, files and standard streams.
 fn main(rt: HostRuntime) -> ExitCode {
-    ExitCode::from(run_given(&rt))
+    let clap = Clap::new(rt.alloc());
+    let mut files = System::new(&rt);
+    let mut streams = Streams {
+        input: Watched::new(rt.reader()),
+        out: Watched::new(io::writer(&rt)),
+        lines: Watched::new(io::writer(&rt)),
+    };
+    ExitCode::from(run_given(rt.alloc(), &clap, &mut files, given(&rt), &mut streams))
 }

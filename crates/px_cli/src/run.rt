@@ -1,65 +1,146 @@
 // Runs the program for its arguments.
-ghost use Rattle.std.specs.Prelude.{◌≡◌, map};
+ghost use Rattle.std.specs.Prelude.{◌≡◌, drop, map, IfErr, IfOk};
 ghost use Rattle.px_jobs.specs.declared.Job.TheVariants.{Normalise};
-ghost use Rattle.px_cli.specs.Programs.{job_of, Answers, EndsFile, EndsFiles, EndsFilter, EndsForm};
-ghost use Rattle.px_cli.specs.calls.Beside.{EndsBeside};
-ghost use Rattle.px_cli.specs.Programs.{EndsJob, EndsPair, EndsWords};
+ghost use Rattle.px_jobs.specs.Endings.{Ends, IsIdle};
+ghost use Rattle.px_cli.specs.Programs.{job_of, Answers, EndsBeside, EndsFile, EndsFiles, EndsForm, EndsJob, EndsOther, EndsPair};
+ghost use Rattle.px_cli.specs.Programs.{EndsWords};
+ghost use Rattle.px_cli.specs.Starting.{Starts, TellsNoWords};
 ghost use Rattle.px_bytes.specs.Devices.{CanFail, over};
 
 use crate::files::Opens;
 use px_bytes::{Memory, Sink, Source, Watched};
 use px_engine::{Fault, Side, VERSION};
 use px_jobs::{Job, run_compare_in, run_one_in, say_text, tell};
-use px_words::{OUT_IS_FILE, One, Words, parse};
+use px_words::{OUT_IS_FILE, One, Parser, Words, parse};
+use std::alloc::Global;
 use std::convert::AsStr;
-use std::io;
+
+/// Standard input, and standard output twice: for the normal form of standard input, and for all text.
+#[derive(Drop)]
+pub struct Streams<I, W, L> {
+    pub input: I,
+    pub out: W,
+    pub lines: L,
+}
+
+/// Why there are no arguments: an allocation failed, or one of them is not text.
+#[derive(Clone, Copy)]
+pub enum NoWords {
+    OutOfMemory,
+    NotText,
+}
+
+// The arguments after the program's name.
+fn after_name<S>(all: &[S]) -> &[S]
+    ensures { result.now ≡ drop 1 all.now }
+{
+    if all.is_empty() {
+        return all;
+    }
+    &all[1..]
+}
+
+/// Runs the program with the words of the system, of which the first is the program's name, and with new memory.
+/// Returns the exit status. If there are no words, it only writes a line.
+pub fn run_given<S: AsStr + Drop, P: Parser, O: Opens, I: Source, W: Sink, L: Sink>(
+    alloc: Global,
+    parser: &P,
+    files: &mut O,
+    given: Result<Vec<S>, NoWords>,
+    streams: &mut Streams<I, W, L>,
+) -> u8
+    requires reading { CanFail (I.failed streams.old.input) }
+    requires writing { CanFail (W.failed streams.old.out) }
+    requires telling { CanFail (L.failed streams.old.lines) }
+    ensures given { IfOk given (λ all. Starts (λ taken taken_now. Answers O.Reader.remaining O.Writer.contents O.opens O.makes O.closes
+        (P.lacks parser.now) (map S.text (drop 1 all.items)) files.old files.new taken taken_now result
+        (over I.failed I.bytes_left streams.old.input streams.new.input)
+        (over W.failed W.bytes_taken streams.old.out streams.new.out)
+        (over L.failed L.bytes_taken streams.old.lines streams.new.lines))) }
+    ensures same { IfErr given (λ _. (files.new ≡ files.old) × (streams.new.input ≡ streams.old.input)
+        × (streams.new.out ≡ streams.old.out)) }
+    ensures told { IfErr given (λ why. TellsNoWords why result (over L.failed L.bytes_taken streams.old.lines streams.new.lines)) }
+{
+    match given {
+        Ok(all) => {
+            let mut memory = Memory::new(alloc);
+            run_words(parser, files, &mut memory, after_name(&all), streams)
+        }
+        Err(NoWords::OutOfMemory) => tell(&mut streams.lines, Fault::OutOfMemory, None),
+        Err(NoWords::NotText) => say_text(
+            &mut streams.lines,
+            "refused words: they are not text",
+            3,
+        ),
+    }
+}
 
 /// Runs the program for its arguments. Returns the exit status. All text goes to `lines`, and the normal form
-/// of standard input to standard output.
+/// of standard input to `out`.
 ///
-/// It opens `FILE`, then creates or empties `OUT`, then reads `FILE`. A comparison opens both files before it
-/// reads either. A file that can't be opened is a failed read; one that can't be created is a failed write.
-/// If `OUT` is `FILE`, even by another name, the arguments are refused and the file is unchanged. Without
-/// arguments it normalises standard input to standard output; otherwise it doesn't read standard input.
-pub fn run_words<'a, S: AsStr, R: Input + Print + AllocGlobal, O: Opens, L: Sink>(
-    rt: &R,
-    files: &O,
+/// It opens `FILE`, then creates or empties `OUT`, then reads `FILE`, and closes `OUT` at the end. A comparison
+/// opens both files before it reads either. A file that can't be opened is a failed read; one that can't be
+/// created is a failed write. If `OUT` is `FILE`, even by another name, the arguments are refused and the file
+/// is unchanged. Without arguments it normalises standard input to `out`; otherwise it uses neither. It makes
+/// no other call of the files.
+pub fn run_words<'a, S: AsStr, P: Parser, O: Opens, I: Source, W: Sink, L: Sink>(
+    parser: &P,
+    files: &mut O,
     memory: &mut Memory,
     words: &'a [S],
-    lines: &mut L,
+    streams: &mut Streams<I, W, L>,
 ) -> u8
-    requires { CanFail (L.failed lines.old) }
-    ensures { Answers (O.gives files.now) (O.lacks files.now) (O.is_read files.now) (map S.text words.entry.now)
-        memory.old memory.new result (over L.failed L.bytes_taken lines.old lines.new) }
+    requires reading { CanFail (I.failed streams.old.input) }
+    requires writing { CanFail (W.failed streams.old.out) }
+    requires telling { CanFail (L.failed streams.old.lines) }
+    ensures { Answers O.Reader.remaining O.Writer.contents O.opens O.makes O.closes
+        (P.lacks parser.now) (map S.text words.entry.now) files.old files.new memory.old memory.new result (over I.failed I.bytes_left streams.old.input streams.new.input)
+        (over W.failed W.bytes_taken streams.old.out streams.new.out)
+        (over L.failed L.bytes_taken streams.old.lines streams.new.lines) }
 {
-    let asked = parse(memory, rt.alloc(), words, VERSION);
-    run_asked(rt, files, memory, asked, lines)
+    let asked = parse(memory, parser, words, VERSION);
+    run_asked(files, memory, asked, streams)
 }
 
 // Does what the parsed arguments mean.
-fn run_asked<R: Input + Print, O: Opens, L: Sink>(
-    rt: &R,
-    files: &O,
+fn run_asked<O: Opens, I: Source, W: Sink, L: Sink>(
+    files: &mut O,
     memory: &mut Memory,
     asked: Words,
-    lines: &mut L,
+    streams: &mut Streams<I, W, L>,
 ) -> u8
-    requires { CanFail (L.failed lines.old) }
-    ensures { EndsWords (O.gives files.now) (O.lacks files.now) (O.is_read files.now) asked
-        memory.old memory.new result (over L.failed L.bytes_taken lines.old lines.new) }
+    requires reading { CanFail (I.failed streams.old.input) }
+    requires writing { CanFail (W.failed streams.old.out) }
+    requires telling { CanFail (L.failed streams.old.lines) }
+    ensures { EndsWords O.Reader.remaining O.Writer.contents O.opens O.makes O.closes asked
+        files.old files.new memory.old memory.new result (over I.failed I.bytes_left streams.old.input streams.new.input)
+        (over W.failed W.bytes_taken streams.old.out streams.new.out)
+        (over L.failed L.bytes_taken streams.old.lines streams.new.lines) }
 {
     match asked {
-        Words::Filter => run_filter(rt, memory, lines),
-        Words::One { what, file } => run_file(files, memory, what, file.as_str(), lines),
+        Words::Filter => run_filter(memory, streams),
+        Words::One { what, file } => run_file(files, memory, what, file.as_str(), streams),
         Words::Normalise { file, out } => {
-            run_form(files, memory, file.as_str(), out.as_str(), lines)
+            run_form(
+                files,
+                memory,
+                file.as_str(),
+                out.as_str(),
+                &mut streams.lines,
+            )
         }
         Words::Compare { first, second } => {
-            run_files(files, memory, first.as_str(), second.as_str(), lines)
+            run_files(
+                files,
+                memory,
+                first.as_str(),
+                second.as_str(),
+                &mut streams.lines,
+            )
         }
-        Words::Help(text) => say_text(lines, text.as_str(), 0),
-        Words::Refused(text) => say_text(lines, text.as_str(), 3),
-        Words::NoMemory | Words::Unread => tell(lines, Fault::OutOfMemory, None),
+        Words::Help(text) => say_text(&mut streams.lines, text.as_str(), 0),
+        Words::Refused(text) => say_text(&mut streams.lines, text.as_str(), 3),
+        Words::NoMemory | Words::Unread => tell(&mut streams.lines, Fault::OutOfMemory, None),
     }
 }
 
@@ -74,21 +155,21 @@ fn job_of(what: One) -> Job
     }
 }
 
-// A job whose reader and writer end with it.
-fn run_job<F: Source + Drop, O: Sink + Drop, L: Sink>(
+// A job whose reader ends with it.
+fn run_job<F: Source + Drop, W: Sink, L: Sink>(
     memory: &mut Memory,
     job: Job,
     mut reader: F,
-    mut out: O,
+    out: &mut W,
     lines: &mut L,
 ) -> u8
     requires reading { F.failed reader ≡ 0 }
-    requires writing { CanFail (O.failed out) }
+    requires writing { CanFail (W.failed out.old) }
     requires telling { CanFail (L.failed lines.old) }
-    ensures { EndsJob job (F.bytes_left reader)
-        memory.old memory.new result (over L.failed L.bytes_taken lines.old lines.new) }
+    ensures { EndsJob job (F.bytes_left reader) memory.old memory.new result
+        (over W.failed W.bytes_taken out.old out.new) (over L.failed L.bytes_taken lines.old lines.new) }
 {
-    run_one_in(memory, job, &mut reader, &mut out, lines)
+    run_one_in(memory, job, &mut reader, out, lines)
 }
 
 // A comparison whose readers end with it.
@@ -108,53 +189,74 @@ fn run_pair<F: Source + Drop, S: Source + Drop, L: Sink>(
 }
 
 // Normalises standard input to standard output.
-fn run_filter<R: Input + Print, L: Sink>(rt: &R, memory: &mut Memory, lines: &mut L) -> u8
-    requires { CanFail (L.failed lines.old) }
-    ensures { EndsFilter
-        memory.old memory.new result (over L.failed L.bytes_taken lines.old lines.new) }
+fn run_filter<I: Source, W: Sink, L: Sink>(
+    memory: &mut Memory,
+    streams: &mut Streams<I, W, L>,
+) -> u8
+    requires reading { CanFail (I.failed streams.old.input) }
+    requires writing { CanFail (W.failed streams.old.out) }
+    requires telling { CanFail (L.failed streams.old.lines) }
+    ensures { Ends Normalise (over I.failed I.bytes_left streams.old.input streams.new.input)
+        (over W.failed W.bytes_taken streams.old.out streams.new.out)
+        (over L.failed L.bytes_taken streams.old.lines streams.new.lines) memory.old memory.new result }
 {
-    let reader = Watched::new(rt.reader());
-    let out = Watched::new(io::writer(rt));
-    run_job(memory, Job::Normalise, reader, out, lines)
+    run_one_in(
+        memory,
+        Job::Normalise,
+        &mut streams.input,
+        &mut streams.out,
+        &mut streams.lines,
+    )
 }
 
 // Prints something of a file.
-fn run_file<O: Opens, L: Sink>(
-    files: &O,
+fn run_file<O: Opens, I: Source, W: Sink, L: Sink>(
+    files: &mut O,
     memory: &mut Memory,
     what: One,
     name: &str,
-    lines: &mut L,
+    streams: &mut Streams<I, W, L>,
 ) -> u8
-    requires { CanFail (L.failed lines.old) }
-    ensures { EndsFile (job_of what) (O.gives files.now name.now) (O.lacks files.now name.now)
-        memory.old memory.new result (over L.failed L.bytes_taken lines.old lines.new) }
+    requires writing { CanFail (W.failed streams.old.out) }
+    requires telling { CanFail (L.failed streams.old.lines) }
+    ensures input { IsIdle (over I.failed I.bytes_left streams.old.input streams.new.input) }
+    ensures ends { EndsFile O.Reader.remaining O.Writer.contents O.opens O.makes O.closes (job_of what) name.now
+        files.old files.new memory.old memory.new result (over W.failed W.bytes_taken streams.old.out streams.new.out)
+        (over L.failed L.bytes_taken streams.old.lines streams.new.lines) }
 {
     match files.open(name) {
         Ok(file) => {
-            let none = Watched::new(io::sink());
-            run_job(memory, job_of(what), Watched::new(file), none, lines)
+            let reader = Watched::new(file);
+            run_job(
+                memory,
+                job_of(what),
+                reader,
+                &mut streams.out,
+                &mut streams.lines,
+            )
         }
-        Err(fault) => tell(lines, fault, None),
+        Err(fault) => tell(&mut streams.lines, fault, None),
     }
 }
 
 // Writes the normal form of an open file to another, unless both are the same file.
 fn run_beside<O: Opens, L: Sink>(
-    files: &O,
+    files: &mut O,
     memory: &mut Memory,
     file: O::Reader,
     out_name: &str,
     lines: &mut L,
 ) -> u8
     requires { CanFail (L.failed lines.old) }
-    ensures { EndsBeside (O.Reader.remaining file) (O.lacks files.now out_name.now) (O.is_read files.now out_name.now)
-        memory.old memory.new result (over L.failed L.bytes_taken lines.old lines.new) }
+    ensures { EndsBeside O.Reader.remaining O.Writer.contents O.opens O.makes O.closes out_name.now file
+        files.old files.new memory.old memory.new result (over L.failed L.bytes_taken lines.old lines.new) }
 {
     match files.make_beside(out_name, &file) {
         Ok(Some(out)) => {
-            let out = Watched::new(out);
-            run_job(memory, Job::Normalise, Watched::new(file), out, lines)
+            let mut out = Watched::new(out);
+            let status = run_job(memory, Job::Normalise, Watched::new(file), &mut out, lines);
+            files.close(out.into_inner());
+            status
         }
         Ok(None) => say_text(lines, OUT_IS_FILE, 3),
         Err(fault) => tell(lines, fault, None),
@@ -163,16 +265,15 @@ fn run_beside<O: Opens, L: Sink>(
 
 // Writes the normal form of a file to another.
 fn run_form<O: Opens, L: Sink>(
-    files: &O,
+    files: &mut O,
     memory: &mut Memory,
     name: &str,
     out_name: &str,
     lines: &mut L,
 ) -> u8
     requires { CanFail (L.failed lines.old) }
-    ensures { EndsForm (O.gives files.now name.now) (O.lacks files.now name.now) (O.lacks files.now out_name.now)
-        (O.is_read files.now out_name.now)
-        memory.old memory.new result (over L.failed L.bytes_taken lines.old lines.new) }
+    ensures { EndsForm O.Reader.remaining O.Writer.contents O.opens O.makes O.closes name.now out_name.now
+        files.old files.new memory.old memory.new result (over L.failed L.bytes_taken lines.old lines.new) }
 {
     match files.open(name) {
         Ok(file) => run_beside(files, memory, file, out_name, lines),
@@ -180,25 +281,38 @@ fn run_form<O: Opens, L: Sink>(
     }
 }
 
+// Compares an open file with another.
+fn run_other<O: Opens, L: Sink>(
+    files: &mut O,
+    memory: &mut Memory,
+    file: O::Reader,
+    name: &str,
+    lines: &mut L,
+) -> u8
+    requires { CanFail (L.failed lines.old) }
+    ensures { EndsOther O.Reader.remaining O.Writer.contents O.opens O.makes O.closes file name.now
+        files.old files.new memory.old memory.new result (over L.failed L.bytes_taken lines.old lines.new) }
+{
+    match files.open(name) {
+        Ok(other) => run_pair(memory, Watched::new(file), Watched::new(other), lines),
+        Err(fault) => tell(lines, fault, Some(Side::Second)),
+    }
+}
+
 // Compares two files.
 fn run_files<O: Opens, L: Sink>(
-    files: &O,
+    files: &mut O,
     memory: &mut Memory,
     first: &str,
     second: &str,
     lines: &mut L,
 ) -> u8
     requires { CanFail (L.failed lines.old) }
-    ensures { EndsFiles (O.gives files.now first.now) (O.lacks files.now first.now) (O.gives files.now second.now)
-        (O.lacks files.now second.now)
-        memory.old memory.new result (over L.failed L.bytes_taken lines.old lines.new) }
+    ensures { EndsFiles O.Reader.remaining O.Writer.contents O.opens O.makes O.closes first.now second.now
+        files.old files.new memory.old memory.new result (over L.failed L.bytes_taken lines.old lines.new) }
 {
-    let first = match files.open(first) {
-        Ok(first) => Watched::new(first),
-        Err(fault) => return tell(lines, fault, Some(Side::First)),
-    };
-    match files.open(second) {
-        Ok(second) => run_pair(memory, first, Watched::new(second), lines),
-        Err(fault) => tell(lines, fault, Some(Side::Second)),
+    match files.open(first) {
+        Ok(file) => run_other(files, memory, file, second, lines),
+        Err(fault) => tell(lines, fault, Some(Side::First)),
     }
 }

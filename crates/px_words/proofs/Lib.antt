@@ -1,3 +1,4 @@
 pub mod GrammarLaws
+pub mod TakenLaws
 pub mod WordLaws
 pub mod matching

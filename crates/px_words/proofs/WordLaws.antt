@@ -6,8 +6,8 @@ use Rattle.clap.specs.declared.error.Error.{Error}
 use Rattle.clap.specs.declared.error.ErrorKind.TheVariants as kind
 use Rattle.px_words.specs.declared.words.Words.{Words}
 use Rattle.px_words.specs.declared.words.Words.TheVariants as words
-use Rattle.px_words.specs.Words.{Asks, AsksFiles, IsFor, LacksWordsBy}
-use Rattle.px_words.specs.calls.Met.{TellsKind, IsTold}
+use Rattle.px_words.specs.Words.{Asks, AsksFiles, IsFor, ShowsPlain}
+use Rattle.px_words.specs.calls.Met.{AsksMatched, TellsKind, IsTold}
 
 -- a match has no text except for one name for two files
 pub of_match : (kinds : Kinds) (met : Option (Text × List Row)) (w : Words) → kinds ≡ [] → AsksFiles met w → IsFor kinds w
@@ -27,7 +27,7 @@ of_error kinds e words.Filter h memory told k = tt
 of_error kinds e (words.One what file) h memory told k = absurd told
 of_error kinds e (words.Normalise file out) h memory told k = absurd told
 of_error kinds e (words.Compare first second) h memory told k = absurd told
-of_error kinds e words.NoMemory h memory told k = absurd told
+of_error kinds e words.NoMemory h memory told k = tt
 of_error kinds e words.Unread h memory told k = tt
 of_error kinds e (words.Help text) (inl lacking) memory told k = let bad : words.Help text ≡ words.Unread = memory lacking in absurd (cc)
 of_error kinds e (words.Help text) (inr among) memory told k = (kind_of e, among, k)
@@ -43,19 +43,32 @@ of_told met (words.Normalise file out) told = absurd told
 of_told met (words.Compare first second) told = absurd told
 of_told met (words.Help text) told = tt
 of_told met (words.Refused text) told = tt
-of_told met words.NoMemory told = absurd told
+of_told met words.NoMemory told = tt
 of_told met words.Unread told = tt
 
--- a text means no failed allocation
-pub lacks_told : (w : Words) (n : ℕ) → IsTold w → LacksWordsBy w n n
-lacks_told words.Filter n told = absurd told
-lacks_told (words.One what file) n told = absurd told
-lacks_told (words.Normalise file out) n told = absurd told
-lacks_told (words.Compare first second) n told = absurd told
-lacks_told (words.Help text) n told = refl
-lacks_told (words.Refused text) n told = refl
-lacks_told words.NoMemory n told = absurd told
-lacks_told words.Unread n told = refl
+-- what a match gives
+pub matched_files : (met : Option (Text × List Row)) (w : Words) → AsksMatched met w → AsksFiles met w
+matched_files met words.Filter h = h
+matched_files met (words.One what file) h = h
+matched_files met (words.Normalise file out) h = h
+matched_files met (words.Compare first second) h = h
+matched_files met (words.Help text) h = h
+matched_files met (words.Refused text) h = h
+matched_files met words.NoMemory h = h
+matched_files met words.Unread h = absurd h
+
+pub matched_read : (met : Option (Text × List Row)) (w : Words) → AsksMatched met w → w ≡ words.Unread → ⊥
+matched_read met w asks is = subst (AsksMatched met) is asks
+
+pub matched_plain : (met : Option (Text × List Row)) (w : Words) → AsksMatched met w → ShowsPlain w
+matched_plain met words.Filter h = tt
+matched_plain met (words.One what file) h = tt
+matched_plain met (words.Normalise file out) h = tt
+matched_plain met (words.Compare first second) h = tt
+matched_plain met (words.Help text) h = absurd h
+matched_plain met (words.Refused text) h = inl h.2
+matched_plain met words.NoMemory h = tt
+matched_plain met words.Unread h = tt
 
 -- without a kind, an allocation failed
 pub of_none : (kinds : Kinds) (e : Error) → kinds ≡ [] → HasKind kinds e → kind_of e ≡ kind.OutOfMemory

@@ -1,5 +1,6 @@
 -- The meaning of the program's arguments.
-use Rattle.std.specs.Prelude.{◌≡◌, ◌≢◌, ◌↔◌, ◌⊎◌, ◌+◌, ℕ, List, [], ◌∷◌, Option, Some, codes, true, ⊤}
+use Rattle.std.specs.Prelude.{◌≡◌, ◌≢◌, ◌==◌, ◌↔◌, ◌⊎◌, ◌+◌, ◌++◌, ℕ, List, [], ◌∷◌, Option, Some, codes, true, false, ⊤}
+use Rattle.std.specs.Char.{encode_utf8, is_control}
 use Rattle.clap.specs.Words.{App, Row, Rule, Shape, Text, fault_of, first_of, new_app, new_rule, subcommand_of, with_rule, with_subcommand}
 use Rattle.clap.specs.Kinds.{IsAmong, Kinds}
 use Rattle.clap.specs.declared.error.ErrorKind.{ErrorKind}
@@ -79,11 +80,20 @@ AsksFiles met _ = ⊤
 abbrev pub AreTaken : List Text → Type 0
 AreTaken ws = fault_of exifnorm ws ≡ []
 
--- the command accepts the arguments of the manual
+-- a name of a file that is no option: its first byte is not a hyphen
+abbrev pub IsName : Text → Type 0
+IsName [] = ⊤
+IsName (x ∷ xs) = (x == 45) ≡ false
+
+-- each command accepts every name of a file, and any text after `--`
 abbrev pub TakesCommands : Type 0
-TakesCommands = AreTaken (codes "show" ∷ codes "a" ∷ []) × AreTaken (codes "check" ∷ codes "a" ∷ [])
-    × AreTaken (codes "captions" ∷ codes "a" ∷ []) × AreTaken (codes "normalise" ∷ codes "a" ∷ codes "b" ∷ [])
-    × AreTaken (codes "compare" ∷ codes "a" ∷ codes "b" ∷ []) × AreTaken (codes "check" ∷ codes "--" ∷ codes "-a" ∷ [])
+TakesCommands = (file other : Text)
+    → (IsName file → AreTaken (codes "show" ∷ file ∷ []) × AreTaken (codes "check" ∷ file ∷ []) × AreTaken (codes "captions" ∷ file ∷ []))
+    × (IsName file → IsName other
+    → AreTaken (codes "normalise" ∷ file ∷ other ∷ []) × AreTaken (codes "compare" ∷ file ∷ other ∷ []))
+    × AreTaken (codes "show" ∷ codes "--" ∷ file ∷ []) × AreTaken (codes "check" ∷ codes "--" ∷ file ∷ [])
+    × AreTaken (codes "captions" ∷ codes "--" ∷ file ∷ []) × AreTaken (codes "normalise" ∷ codes "--" ∷ file ∷ other ∷ [])
+    × AreTaken (codes "compare" ∷ codes "--" ∷ file ∷ other ∷ [])
 
 -- clap returns a requested text, not a mistake in the arguments
 abbrev pub IsShown : ErrorKind → Type 0
@@ -99,10 +109,30 @@ IsFor kinds words.NoMemory = ⊤
 IsFor kinds words.Unread = ⊤
 IsFor kinds _ = kinds ≡ []
 
--- the meaning of these arguments
-abbrev pub AskedBy : List Text → Words → Type 0
-AskedBy ws asked = (ws ≡ [] ↔ asked ≡ words.Filter) × Asks (subcommand_of exifnorm ws) asked
+-- ---- texts for a terminal
+
+-- a line feed, or any character that is not a control character
+abbrev pub IsPrintable : ℕ → Type 0
+IsPrintable c = (c ≡ 10) ⊎ (is_control c ≡ false)
+
+-- the UTF-8 of such characters
+pub data IsPlain : Text → Type 0 where
+  Nothing : IsPlain []
+  Then : (text : Text) (c : ℕ) → IsPlain text → IsPrintable c → IsPlain (text ++ encode_utf8 c)
+
+-- a text to print is plain: an argument in it sends no control character to the terminal, except a line feed
+abbrev pub ShowsPlain : Words → Type 0
+ShowsPlain (words.Help text) = IsPlain text
+ShowsPlain (words.Refused text) = (text ≡ out_is_file) ⊎ IsPlain text
+ShowsPlain _ = ⊤
+
+-- ---- the meaning of the arguments
+
+-- `lacks` are the arguments over which clap ran out of memory
+abbrev pub AskedBy : (List Text → Type 0) → List Text → Words → Type 0
+AskedBy lacks ws asked = (ws ≡ [] ↔ asked ≡ words.Filter) × Asks (subcommand_of exifnorm ws) asked
     × IsFor (fault_of exifnorm ws) asked × (AreTaken ws → AsksFiles (subcommand_of exifnorm ws) asked)
+    × (asked ≡ words.Unread → lacks ws) × ShowsPlain asked
 
 -- running out of memory counts one failed allocation, and no other result counts any: `old` and `new` are the counts before and
 -- after the call

@@ -3,15 +3,18 @@
 //! the content of files.
 //!
 //! ```
-//! let mut memory = Memory::new(rt.alloc());
-//! parse(&mut memory, rt.alloc(), &["check", "a"], "1.0.0"); // One, with Check and the file a
-//! parse(&mut memory, rt.alloc(), &["normalise", "a", "b"], "1.0.0"); // Normalise, with the files a and b
-//! parse(&mut memory, rt.alloc(), &["normalise", "a", "a"], "1.0.0"); // Refused: OUT_IS_FILE
-//! parse(&mut memory, rt.alloc(), &["--version"], "1.0.0"); // Help: exifnorm 1.0.0
+//! let (mut memory, clap) = (Memory::new(rt.alloc()), Clap::new(rt.alloc()));
+//! parse(&mut memory, &clap, &["check", "a"], "1.0.0"); // One, with Check and the file a
+//! parse(&mut memory, &clap, &["normalise", "a", "b"], "1.0.0"); // Normalise, with the files a and b
+//! parse(&mut memory, &clap, &["normalise", "a", "a"], "1.0.0"); // Refused: OUT_IS_FILE
+//! parse(&mut memory, &clap, &["--version"], "1.0.0"); // Help: exifnorm 1.0.0
 //! ```
 #![tactic(auto)]
 
 mod grammar;
+mod parser;
+mod texts;
 mod words;
 
+pub use parser::{Clap, Parser};
 pub use words::{OUT_IS_FILE, One, Text, Words, commands_are_taken, parse};

@@ -3,15 +3,17 @@ ghost use Rattle.std.specs.Prelude.{◌≡◌, ◌↔◌, ◌⊎◌, Some, [], m
 ghost use Rattle.clap.specs.Words.{fault_of, first_of, found_of, kind_of, rows_of, subcommand_of, subcommand_rows_of};
 ghost use Rattle.px_words.specs.declared.words.Words.TheVariants as words_of;
 ghost use Rattle.px_words.specs.Words.{exifnorm, name_of, Asks, AsksFiles, AreTaken, IsFor, TakesCommands, LacksWords};
+ghost use Rattle.px_words.specs.Words.{IsPlain, ShowsPlain};
 ghost use Rattle.px_words.specs.calls.Met.{TellsKind, IsTold, AsksIn, IsMet, IsThere};
 ghost use Rattle.px_bytes.specs.Lacking.{Lacks};
 
-use crate::grammar::command;
+use crate::parser::Parser;
+use crate::texts::Plain;
 use clap::error::ErrorKind;
 use clap::{ArgMatches, Error};
 use px_bytes::{Memory, Refused};
-use std::alloc::Global;
 use std::convert::AsStr;
+use std::fmt::Write;
 use std::marker::Model;
 
 /// An owned text. Contracts see its characters in UTF-8.
@@ -73,9 +75,9 @@ pub enum Words {
     Help(Text),
     /// The arguments are refused, with this text.
     Refused(Text),
-    /// An allocation failed while a match's arguments were copied.
+    /// An allocation failed while an argument or a text of clap was copied.
     NoMemory,
-    /// clap, which allocates by itself, ran out of memory while it parsed the arguments or formatted a text.
+    /// clap, which allocates by itself, ran out of memory while it parsed the arguments.
     Unread,
 }
 
@@ -189,36 +191,50 @@ fn read_match(memory: &mut Memory, matches: &ArgMatches<'_>) -> Words
     read_subcommand(memory, name, inner)
 }
 
+// clap's text, without its control characters. `Err`: an allocation failed.
+fn text_of(memory: &mut Memory, error: &Error) -> Result<Text, Refused>
+    ensures plain { IfOk result (λ text. IsPlain text) }
+    ensures memory { Lacks result memory.old memory.new }
+{
+    let mut plain = Plain::new(memory);
+    // It fails only if an allocation failed, which `finish` reports.
+    let _ = write!(plain, "{error}");
+    let text = plain.finish(memory)?;
+    Ok(Text { text })
+}
+
 // clap's text if there is no match.
-fn read_error(alloc: Global, error: &Error) -> Words
+fn read_error(memory: &mut Memory, error: &Error) -> Words
     ensures asked { IsTold result }
     ensures kind { TellsKind (kind_of error.now) result }
-    ensures memory { kind_of error.now ≡ ErrorKind.OutOfMemory → result ≡ words_of.Unread }
+    ensures lacking { kind_of error.now ≡ ErrorKind.OutOfMemory ↔ result ≡ words_of.Unread }
+    ensures plain { ShowsPlain result }
+    ensures memory { LacksWords result memory.old memory.new }
 {
     let kind = error.kind();
     if kind == ErrorKind::OutOfMemory {
         return Words::Unread;
     }
-    let Ok(text) = format!(in alloc; "{error}") else {
-        return Words::Unread;
+    let Ok(text) = text_of(memory, error) else {
+        return Words::NoMemory;
     };
     if kind == ErrorKind::DisplayHelp || kind == ErrorKind::DisplayVersion {
-        return Words::Help(Text { text });
+        return Words::Help(text);
     }
-    Words::Refused(Text { text })
+    Words::Refused(text)
 }
 
-/// clap accepts each command of the manual with its files. It does nothing: its contract is a law.
+/// clap accepts each command with every name of a file that begins with no hyphen, and with any name after `--`. It
+/// does nothing: its contract is a law.
 pub fn commands_are_taken()
     ensures { TakesCommands }
 {}
 
 /// Parses the arguments; `version` is the version to print. Without arguments the result is `Filter`, and
-/// clap is not called. `NoMemory`: an allocation of `memory` failed. clap allocates from `alloc`; if that
-/// fails, the result is `Unread`.
-pub fn parse<'a, S: AsStr>(
+/// clap is not called. `NoMemory`: an allocation of `memory` failed. `Unread`: clap ran out of memory.
+pub fn parse<'a, S: AsStr, P: Parser>(
     memory: &mut Memory,
-    alloc: Global,
+    parser: &P,
     words: &'a [S],
     version: &'a str,
 ) -> Words
@@ -226,16 +242,15 @@ pub fn parse<'a, S: AsStr>(
     ensures asked { Asks (subcommand_of exifnorm (map S.text words.entry.now)) result }
     ensures told { IsFor (fault_of exifnorm (map S.text words.entry.now)) result }
     ensures taken { AreTaken (map S.text words.entry.now) → AsksFiles (subcommand_of exifnorm (map S.text words.entry.now)) result }
+    ensures lacking { result ≡ words_of.Unread → P.lacks parser.now (map S.text words.entry.now) }
+    ensures plain { ShowsPlain result }
     ensures memory { LacksWords result memory.old memory.new }
 {
     if words.is_empty() {
         return Words::Filter;
     }
-    let Ok(command) = command(alloc, version) else {
-        return Words::Unread;
-    };
-    match command.try_get_matches_from(words) {
+    match parser.matches_of(words, version) {
         Ok(matches) => read_match(memory, &matches),
-        Err(error) => read_error(alloc, &error),
+        Err(error) => read_error(memory, &error),
     }
 }

@@ -2,7 +2,7 @@
 use Rattle.std.proofs.Common.{◌≡◌, ◌∙◌, ◌==◌, ◌↔◌, Option, true, false, true≢false, List, [], ◌∷◌, length, map, ap, refl, subst, sym}
 use Rattle.clap.specs.Words.{App, HasMatchesOf, Row, Text, fault_of, is_simple, is_simple_and_free, kind_of}
 use Rattle.clap.specs.Words.{subcommand_of, subcommand_rows_of}
-use Rattle.clap.specs.Kinds.{HasKind}
+use Rattle.clap.specs.Kinds.{HasKind, Kinds}
 use Rattle.clap.specs.declared.error.Error.{Error}
 use Rattle.clap.specs.declared.error.ErrorKind.TheVariants as kind
 use Rattle.clap.specs.declared.parser.matches.ArgMatches.{ArgMatches}
@@ -11,7 +11,7 @@ use Rattle.px_words.specs.declared.words.Words.{Words}
 use Rattle.px_words.specs.declared.words.Words.TheVariants as words
 use Rattle.px_words.specs.Words.{AreTaken, Asks, AsksFiles, IsFor, exifnorm}
 use Rattle.px_words.specs.calls.Met.{TellsKind, IsTold, AsksIn, IsMet}
-use Rattle.px_words.proofs.WordLaws.{of_error, of_match, of_none, of_told}
+use Rattle.px_words.proofs.WordLaws.{matched_files, of_error, of_match, of_none, of_told}
 use Rattle.px_words.proofs.matching.Whole.{requirement_met}
 
 -- the command is one whose matches and errors are specified
@@ -29,40 +29,38 @@ pub filter_not : {X : Type 0} (f : X → Text) (xs : List X) (w : Words) → fal
 filter_not f [] w some other = absurd (true≢false (sym some))
 filter_not f (x ∷ xs) w some other = (λ none. cc, λ is. absurd (other is))
 
-pub without_memory : words.Unread ≡ words.Filter → ⊥
-without_memory is = cc
-
 pub asks_no_filter : (met : Option (Text × List Row)) (w : Words) → AsksFiles met w → w ≡ words.Filter → ⊥
 asks_no_filter met w asks is = subst (AsksFiles met) is asks
 
 pub tells_no_filter : (w : Words) → IsTold w → w ≡ words.Filter → ⊥
 tells_no_filter w told is = subst IsTold is told
 
+-- what clap states of the command that it got, of the command by its definition
 module _ (ws : List Text) (app : App) (is : app ≡ exifnorm) where
+  pub rows_matched : (m : ArgMatches) → HasMatchesOf app ws m → subcommand_rows_of m ≡ subcommand_of exifnorm ws
+  rows_matched m has = (has (ap is_simple is ∙ is_simple_one)).1 ∙ ap (λ (a : App). subcommand_of a ws) is
+
+  pub kinds_matched : (kinds : Kinds → Type 0) → (is_simple_and_free app ≡ true → kinds (fault_of app ws)) → kinds (fault_of exifnorm ws)
+  kinds_matched kinds had = subst (λ (a : App). kinds (fault_of a ws)) is (had (ap is_simple_and_free is ∙ is_free))
+
+module _ (ws : List Text) where
   -- a match
-  module _ (m : ArgMatches) (none : is_simple_and_free app ≡ true → fault_of app ws ≡ []) (has : HasMatchesOf app ws m) where
-    no_fault : fault_of exifnorm ws ≡ []
-    no_fault = ap (λ (a : App). fault_of a ws) (sym is) ∙ none (ap is_simple_and_free is ∙ is_free)
-
-    same_rows : subcommand_of exifnorm ws ≡ subcommand_rows_of m
-    same_rows = ap (λ (a : App). subcommand_of a ws) (sym is) ∙ sym (has (ap is_simple is ∙ is_simple_one)).1
-
+  module _ (m : ArgMatches) (none : fault_of exifnorm ws ≡ []) (same : subcommand_rows_of m ≡ subcommand_of exifnorm ws) where
     pub met_in : IsMet (subcommand_rows_of m)
-    met_in = subst IsMet same_rows (requirement_met ws no_fault)
+    met_in = subst IsMet (sym same) (requirement_met ws none)
 
     pub subcommand_matched : (w : Words) → AsksIn (subcommand_rows_of m) w
         → Asks (subcommand_of exifnorm ws) w × IsFor (fault_of exifnorm ws) w × AsksFiles (subcommand_of exifnorm ws) w
     subcommand_matched w asks =
-        let files = subst (λ r. AsksFiles r w) (sym same_rows) asks.1 in
-        (subst (λ r. Asks r w) (sym same_rows) asks.0, of_match (fault_of exifnorm ws) (subcommand_of exifnorm ws) w no_fault files, files)
+        let files = subst (λ r. AsksFiles r w) same (matched_files (subcommand_rows_of m) w asks.1) in
+        (subst (λ r. Asks r w) same asks.0, of_match (fault_of exifnorm ws) (subcommand_of exifnorm ws) w none files, files)
 
   -- an error
-  pub parse_failed : (e : Error) (w : Words) → (is_simple_and_free app ≡ true → HasKind (fault_of app ws) e) → IsTold w
-      → TellsKind (kind_of e) w → (kind_of e ≡ kind.OutOfMemory → w ≡ words.Unread)
+  pub parse_failed : (e : Error) (w : Words) → HasKind (fault_of exifnorm ws) e → IsTold w → TellsKind (kind_of e) w
+      → (kind_of e ≡ kind.OutOfMemory → w ≡ words.Unread)
       → Asks (subcommand_of exifnorm ws) w × IsFor (fault_of exifnorm ws) w × (AreTaken ws → AsksFiles (subcommand_of exifnorm ws) w)
-  parse_failed e w had told tells memory =
-      let has = subst (λ (a : App). HasKind (fault_of a ws) e) is (had (ap is_simple_and_free is ∙ is_free)) in (
-        of_told (subcommand_of exifnorm ws) w told,
-        of_error (fault_of exifnorm ws) e w has memory told tells,
-        λ taken. subst (AsksFiles (subcommand_of exifnorm ws)) (sym (memory (of_none (fault_of exifnorm ws) e taken has))) tt,
-      )
+  parse_failed e w has told tells memory = (
+    of_told (subcommand_of exifnorm ws) w told,
+    of_error (fault_of exifnorm ws) e w has memory told tells,
+    λ taken. subst (AsksFiles (subcommand_of exifnorm ws)) (sym (memory (of_none (fault_of exifnorm ws) e taken has))) tt,
+  )

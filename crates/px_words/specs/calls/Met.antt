@@ -25,14 +25,20 @@ IsMet (Some (name, rows)) = ((takes_file name ≡ true) × IsThere (codes "FILE"
     ⊎ (((name ≡ codes "normalise") × IsThere (codes "FILE") rows × IsThere (codes "OUT") rows)
     ⊎ ((name ≡ codes "compare") × IsThere (codes "FIRST") rows × IsThere (codes "SECOND") rows))
 
+-- of a match, clap did not run out of memory
+abbrev pub AsksMatched : Option (Text × List Row) → Words → Type 0
+AsksMatched met words.Unread = ⊥
+AsksMatched met w = AsksFiles met w
+
 -- the result for a match: the files that it names, out of memory, or the refusal of one file under both names
 abbrev pub AsksIn : Option (Text × List Row) → Words → Type 0
-AsksIn met w = Asks met w × AsksFiles met w
+AsksIn met w = Asks met w × AsksMatched met w
 
--- a text, or that clap ran out of memory
+-- a text, or out of memory
 abbrev pub IsTold : Words → Type 0
 IsTold (words.Help text) = ⊤
 IsTold (words.Refused text) = ⊤
+IsTold words.NoMemory = ⊤
 IsTold words.Unread = ⊤
 IsTold _ = ⊥
 

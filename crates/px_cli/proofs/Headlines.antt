@@ -1,0 +1,55 @@
+-- The headline of the program's runs, from that of runs over readers and writers.
+use Rattle.std.proofs.Common.{◌≡◌, ◌∙◌, ◌<◌, ℕ, List, Option, None, Some, Result, Ok, Err, inl, inr, arith}
+use Rattle.px_engine.specs.declared.Fault.{Fault}
+use Rattle.px_engine.specs.declared.Fault.TheVariants.{Refused, NormalTooLong, OutOfMemory, ReadFailed, WriteFailed}
+use Rattle.px_engine.specs.declared.Side.{Side}
+use Rattle.px_bytes.specs.Devices.{Device}
+use Rattle.px_bytes.specs.Lacking.{Taken}
+use Rattle.px_jobs.specs.Lines.{Tells, TellsFault}
+use Rattle.px_jobs.specs.Laws.{FormsTell}
+use Rattle.px_cli.specs.Programs.{EndsBeside, EndsForm, EndsMade}
+use Rattle.px_cli.specs.Laws.{OutputsTell}
+
+-- status 0 is no other
+not_told : (n : ℕ) (line : List ℕ) (lines : Device) → 0 < n → Tells n line 0 lines → ⊥
+not_told n line lines p (inl t) = let e = t.0 in absurd (omega arith)
+not_told n line lines p (inr t) = let e = t.0 in absurd (omega arith)
+
+-- no fault has status 0
+no_fault : (e : Fault) (file : Option Side) (lines : Device) → TellsFault e file 0 lines → ⊥
+no_fault (Refused cause place) file lines t = not_told _ _ lines (omega arith) t
+no_fault NormalTooLong file lines t = not_told _ _ lines (omega arith) t
+no_fault OutOfMemory file lines t = not_told _ _ lines (omega arith) t
+no_fault ReadFailed file lines t = not_told _ _ lines (omega arith) t
+no_fault WriteFailed file lines t = not_told _ _ lines (omega arith) t
+
+module _ {F R W : Type 0} (remaining : R → Option (List ℕ)) (contents : W → Option (List ℕ))
+    (opens : F → List ℕ → Result R Fault → F → Type 0) (makes : F → List ℕ → R → Result (Option W) Fault → F → Type 0)
+    (closes : F → W → F → Type 0) where
+  -- with status 0 OUT was made
+  was_made : (out : List ℕ) (reader : R) (opened files_now : F) (taken taken_now : Taken) (lines : Device)
+      → EndsBeside remaining contents opens makes closes out reader opened files_now taken taken_now 0 lines
+      → EndsMade remaining contents opens makes closes out reader opened files_now taken taken_now 0 lines
+  was_made out reader opened files_now taken taken_now lines (inl x) = x
+  was_made out reader opened files_now taken taken_now lines (inr (inl x)) = absurd (no_fault x.0 None lines x.2.1)
+  was_made out reader opened files_now taken taken_now lines (inr (inr x)) = absurd (not_told _ _ lines (omega arith) x.1)
+
+  -- and FILE was opened
+  was_opened : (file out : List ℕ) (files files_now : F) (taken taken_now : Taken) (lines : Device)
+      → EndsForm remaining contents opens makes closes file out files files_now taken taken_now 0 lines
+      → (opened : F) × (reader : R) × opens files file (Ok reader) opened
+      × EndsMade remaining contents opens makes closes out reader opened files_now taken taken_now 0 lines
+  was_opened file out files files_now taken taken_now lines (inl x) = absurd (no_fault x.0 None lines x.2.1)
+  was_opened file out files files_now taken taken_now lines (inr x) =
+      (x.0, x.1, x.2, was_made out x.1 x.0 files_now taken taken_now lines x.3)
+
+  pub outputs_tell : FormsTell → OutputsTell remaining contents opens makes closes
+  outputs_tell law f g file out other_file other_out files files_now other_files other_files_now taken taken_now other_taken other_taken_now
+      lines other_lines had other_had x y =
+      let a = was_opened file out files files_now taken taken_now lines x in
+      let b = was_opened other_file other_out other_files other_files_now other_taken other_taken_now other_lines y in
+      let wrote : Device = record { failed = 0; failed_now = a.3.3; old = contents a.3.1; new = contents a.3.2 } in
+      let other_wrote : Device = record { failed = 0; failed_now = b.3.3; old = contents b.3.1; new = contents b.3.2 } in
+      let h = law f g a.3.6.0 wrote lines b.3.6.0 other_wrote other_lines taken taken_now other_taken other_taken_now
+      (a.3.6.1 ∙ had a.1 a.0 a.2) (b.3.6.1 ∙ other_had b.1 b.0 b.2) a.3.6.3 b.3.6.3 in
+      (h.0, h.1, (a.0, a.3.0, a.1, a.3.1, a.3.2, a.3.4, a.3.5, h.2), (b.0, b.3.0, b.1, b.3.1, b.3.2, b.3.4, b.3.5, h.3), h.4)

@@ -1,0 +1,2 @@
+mod Headlines
+mod Logged

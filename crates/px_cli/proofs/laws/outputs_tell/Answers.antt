@@ -1,0 +1,6 @@
+use Rattle.px_cli.proofs.Headlines as headlines
+use Rattle.px_cli.proofs.laws.outputs_tell.Goals as goal
+
+pub returns : goal.returns
+returns g c = headlines.outputs_tell g.O.Reader.Read.remaining g.O.Writer.Write.contents g.O.Opens.opens g.O.Opens.makes g.O.Opens.closes
+    c.forms_tell.ensures

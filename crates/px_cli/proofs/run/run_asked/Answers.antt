@@ -1,0 +1,7 @@
+use Rattle.std.proofs.Common.{rules, refl}
+use Rattle.px_cli.proofs.run.run_asked.Goals as goal
+
+-- the names of the two files are those of the request
+pub returns-in-Normalise : goal.returns-in-Normalise
+returns-in-Normalise g c = rw (c.in-Normalise.is, ← c.as_str-in-Normalise.ensures, ← c.as_str-in-Normalise-2.ensures)
+    ((refl, refl), (refl, refl), c.run_form.ensures)

@@ -1,0 +1,32 @@
+-- The relation between two runs of the program that write normal forms to files.
+use Rattle.std.specs.Prelude.{◌≡◌, ℕ, List, Option, Some, Result, Ok}
+use Rattle.std.specs.Io.KnownBytes.{Appends}
+use Rattle.px_engine.specs.declared.Fault.{Fault}
+use Rattle.px_engine.specs.Headline.{Headline}
+use Rattle.px_bytes.specs.Devices.{Device}
+use Rattle.px_bytes.specs.Lacking.{Taken}
+use Rattle.px_cli.specs.Programs.{EndsForm}
+
+module _ {F R W : Type 0} (remaining : R → Option (List ℕ)) (contents : W → Option (List ℕ))
+    (opens : F → List ℕ → Result R Fault → F → Type 0) (makes : F → List ℕ → R → Result (Option W) Fault → F → Type 0)
+    (closes : F → W → F → Type 0) where
+  -- the file of that name has these bytes: each reader that opening it returns has them
+  abbrev pub HasBytes : F → List ℕ → List ℕ → Type 0
+  HasBytes files name bytes =
+      (reader : R) (opened : F) → opens files name (Ok reader) opened → remaining reader ≡ Some bytes
+
+  -- the file of that name was created or emptied, took these bytes and no more, and was closed
+  abbrev pub Received : F → List ℕ → List ℕ → Type 0
+  Received files_now name bytes = (opened made : F) × (reader : R) × (out out_now : W) × makes opened name reader (Ok (Some out)) made
+      × closes made out_now files_now × Appends (contents out) (contents out_now) bytes
+
+  -- After two runs of `normalise FILE OUT` with status 0, each OUT has received the normal form of its FILE, and the headline holds of
+  -- the two forms.
+  abbrev pub OutputsTell : Type 0
+  OutputsTell = (f g file out other_file other_out : List ℕ) (files files_now other_files other_files_now : F)
+      (taken taken_now other_taken other_taken_now : Taken) (lines other_lines : Device)
+      → HasBytes files file f → HasBytes other_files other_file g
+      → EndsForm remaining contents opens makes closes file out files files_now taken taken_now 0 lines
+      → EndsForm remaining contents opens makes closes other_file other_out other_files other_files_now other_taken other_taken_now 0
+      other_lines
+      → (m n : List ℕ) × Received files_now out m × Received other_files_now other_out n × Headline f g m n

@@ -1,0 +1,19 @@
+// What follows for the files from the contract of a run. Each law is the contract of a function that does nothing.
+ghost use Rattle.px_cli.specs.Laws.{OutputsTell};
+ghost use Rattle.px_cli.specs.Logs.{OnlyCalls};
+
+use crate::files::Opens;
+
+/// After two runs of `normalise FILE OUT` with status 0, what each `OUT` has received is equal exactly if the two
+/// files mean the same. It has the meaning of its file, and is its own normal form.
+pub fn outputs_tell<O: Opens>()
+    ensures { OutputsTell O.Reader.remaining O.Writer.contents O.opens O.makes O.closes }
+{
+    px_jobs::laws::forms_tell();
+}
+
+/// Over files that keep a list of the calls made on them, a run appends the calls of its request, in their order,
+/// and no other.
+pub fn only_calls<O: Opens>()
+    ensures { OnlyCalls O.Reader.remaining O.Writer.contents O.opens O.makes O.closes }
+{}
