@@ -1,5 +1,4 @@
 pub mod Programs
-pub mod Starting
 pub mod Laws
 pub mod Logs
 pub mod calls

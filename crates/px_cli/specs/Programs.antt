@@ -1,5 +1,5 @@
 -- The program's behaviour for its arguments.
-use Rattle.std.specs.Prelude.{◌≡◌, ◌⊎◌, ℕ, List, Option, Some, None, Result, Ok, Err}
+use Rattle.std.specs.Prelude.{◌≡◌, ◌⊎◌, ℕ, List, Option, Some, None, Result, Ok, Err, codes}
 use Rattle.px_engine.specs.declared.Fault.{Fault}
 use Rattle.px_engine.specs.declared.Fault.TheVariants.{OutOfMemory, ReadFailed, WriteFailed}
 use Rattle.px_engine.specs.declared.Side.{Side}
@@ -15,6 +15,8 @@ use Rattle.px_bytes.specs.Lacking.{Taken}
 use Rattle.px_jobs.specs.Lines.{TellsFault, TellsWords}
 use Rattle.px_jobs.specs.Endings.{Ends, EndsCompare, IsIdle}
 use Rattle.px_words.specs.Words.{out_is_file, AskedBy, LacksWords}
+use Rattle.px_cli.specs.declared.run.NoWords.{NoWords}
+use Rattle.px_cli.specs.declared.run.NoWords.TheVariants as no
 
 -- the job of a command with one file
 abbrev pub job_of : One → Job
@@ -40,6 +42,11 @@ EndsJob job bytes taken taken_now status out lines = (reader : Device) × (reade
 abbrev pub EndsPair : Option (List ℕ) → Option (List ℕ) → Taken → Taken → ℕ → Device → Type 0
 EndsPair bytes other taken taken_now status lines = (first second : Device) × (first.old ≡ bytes) × (first.failed ≡ 0)
     × (second.old ≡ other) × (second.failed ≡ 0) × EndsCompare first second lines taken taken_now status
+
+-- the line and the status if the system gives no arguments
+abbrev pub TellsNoWords : NoWords → ℕ → Device → Type 0
+TellsNoWords no.OutOfMemory status lines = TellsFault OutOfMemory None status lines
+TellsNoWords no.NotText status lines = TellsWords 3 (codes "refused words: they are not text") status lines
 
 -- ---- what a run did to the files
 

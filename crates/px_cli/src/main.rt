@@ -18,7 +18,7 @@ mod run;
 
 use crate::files::System;
 use crate::run::{NoWords, Streams, run_given};
-use px_bytes::Watched;
+use px_bytes::{Memory, Watched};
 use px_words::Clap;
 use std::io::ErrorKind;
 use std::process::ExitCode;
@@ -36,14 +36,15 @@ fn given(rt: &HostRuntime) -> Result<Vec<String>, NoWords> {
     }
 }
 
-// Runs the program with the system's words, files and standard streams.
+// Runs the program with the system's words, files and standard streams, and with new memory.
 fn main(rt: HostRuntime) -> ExitCode {
     let clap = Clap::new(rt.alloc());
     let mut files = System::new(&rt);
+    let mut memory = Memory::new(rt.alloc());
     let mut streams = Streams {
         input: Watched::new(rt.reader()),
         out: Watched::new(io::writer(&rt)),
         lines: Watched::new(io::writer(&rt)),
     };
-    ExitCode::from(run_given(rt.alloc(), &clap, &mut files, given(&rt), &mut streams))
+    ExitCode::from(run_given(&clap, &mut files, &mut memory, given(&rt), &mut streams))
 }

@@ -3,8 +3,7 @@ ghost use Rattle.std.specs.Prelude.{◌≡◌, drop, map, IfErr, IfOk};
 ghost use Rattle.px_jobs.specs.declared.Job.TheVariants.{Normalise};
 ghost use Rattle.px_jobs.specs.Endings.{Ends, IsIdle};
 ghost use Rattle.px_cli.specs.Programs.{job_of, Answers, EndsBeside, EndsFile, EndsFiles, EndsForm, EndsJob, EndsOther, EndsPair};
-ghost use Rattle.px_cli.specs.Programs.{EndsWords};
-ghost use Rattle.px_cli.specs.Starting.{Starts, TellsNoWords};
+ghost use Rattle.px_cli.specs.Programs.{EndsWords, TellsNoWords};
 ghost use Rattle.px_bytes.specs.Devices.{CanFail, over};
 
 use crate::files::Opens;
@@ -12,7 +11,6 @@ use px_bytes::{Memory, Sink, Source, Watched};
 use px_engine::{Fault, Side, VERSION};
 use px_jobs::{Job, run_compare_in, run_one_in, say_text, tell};
 use px_words::{OUT_IS_FILE, One, Parser, Words, parse};
-use std::alloc::Global;
 use std::convert::AsStr;
 
 /// Standard input, and standard output twice: for the normal form of standard input, and for all text.
@@ -40,32 +38,29 @@ fn after_name<S>(all: &[S]) -> &[S]
     &all[1..]
 }
 
-/// Runs the program with the words of the system, of which the first is the program's name, and with new memory.
-/// Returns the exit status. If there are no words, it only writes a line.
+/// Runs the program with the words of the system, of which the first is the program's name. Returns the exit
+/// status. If there are no words, it only writes a line.
 pub fn run_given<S: AsStr + Drop, P: Parser, O: Opens, I: Source, W: Sink, L: Sink>(
-    alloc: Global,
     parser: &P,
     files: &mut O,
+    memory: &mut Memory,
     given: Result<Vec<S>, NoWords>,
     streams: &mut Streams<I, W, L>,
 ) -> u8
     requires reading { CanFail (I.failed streams.old.input) }
     requires writing { CanFail (W.failed streams.old.out) }
     requires telling { CanFail (L.failed streams.old.lines) }
-    ensures given { IfOk given (λ all. Starts (λ taken taken_now. Answers O.Reader.remaining O.Writer.contents O.opens O.makes O.closes
-        (P.lacks parser.now) (map S.text (drop 1 all.items)) files.old files.new taken taken_now result
+    ensures given { IfOk given (λ all. Answers O.Reader.remaining O.Writer.contents O.opens O.makes O.closes
+        (P.lacks parser.now) (map S.text (drop 1 all.items)) files.old files.new memory.old memory.new result
         (over I.failed I.bytes_left streams.old.input streams.new.input)
         (over W.failed W.bytes_taken streams.old.out streams.new.out)
-        (over L.failed L.bytes_taken streams.old.lines streams.new.lines))) }
-    ensures same { IfErr given (λ _. (files.new ≡ files.old) × (streams.new.input ≡ streams.old.input)
-        × (streams.new.out ≡ streams.old.out)) }
+        (over L.failed L.bytes_taken streams.old.lines streams.new.lines)) }
+    ensures same { IfErr given (λ _. (files.new ≡ files.old) × (memory.new ≡ memory.old)
+        × (streams.new.input ≡ streams.old.input) × (streams.new.out ≡ streams.old.out)) }
     ensures told { IfErr given (λ why. TellsNoWords why result (over L.failed L.bytes_taken streams.old.lines streams.new.lines)) }
 {
     match given {
-        Ok(all) => {
-            let mut memory = Memory::new(alloc);
-            run_words(parser, files, &mut memory, after_name(&all), streams)
-        }
+        Ok(all) => run_words(parser, files, memory, after_name(&all), streams),
         Err(NoWords::OutOfMemory) => tell(&mut streams.lines, Fault::OutOfMemory, None),
         Err(NoWords::NotText) => say_text(
             &mut streams.lines,
