@@ -12,6 +12,8 @@ from in_process import InFolder
 from made_blocks import BLOCKS, LONG, MAKE, MODEL, block, with_exif
 from studio import SMALL_JPEG, Studio, WithPictures, needs, read, run, tool, write
 
+from exifnorm_pictures.formats.found import PROBLEMS
+
 ONE, OTHER, THIRD = (with_exif(SMALL_JPEG, block([MAKE[:-4] + it])) for it in (b"One\0", b"Two\0", b"Ten\0"))
 GIF = b"GIF89a\x01\0\x01\0\0\0\0;"
 
@@ -379,7 +381,7 @@ class Rights(WithPictures):
         self.assertEqual(done.returncode, 4, done)
         *found, counts = [json.loads(it) for it in done.stdout.splitlines()]
         said = {os.path.basename(it["path"]): (it["problem"], it["detail"]) for it in found}
-        self.assertEqual(said, {"b.jpg": ("Unreadable", "permission denied"), "d.jpg": ("Vanished", "there is no such file any more"),
+        self.assertEqual(said, {"b.jpg": ("Unreadable", "permission denied"), "d.jpg": ("Vanished", PROBLEMS["Vanished"]),
                                 "closed": ("Unreadable", "permission denied; its 1 pictures stay as they were")})  # fmt: skip
         self.assertEqual(counts["counts"], {"unchanged": 1, "Unreadable": 2, "Vanished": 1})
         base = sqlite3.connect(self.path("c"))
