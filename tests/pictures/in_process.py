@@ -18,6 +18,7 @@ class InProcess(WithPictures):
 
     def setUp(self):
         super().setUp()
+        exiftool.finish()  # an ExifTool that another test has started: a command begins its own
         self.addCleanup(setattr, exiftool._Own, "room", None)  # which a command sets, and removes with all that is in it
 
     def printed(self, *words, status=0):

@@ -32,6 +32,7 @@ def command(capsys, tmp_path, monkeypatch):
     """Runs exifnorm-pictures in this process, in a new folder with two pictures; returns what it prints."""
     monkeypatch.chdir(tmp_path)
     monkeypatch.delenv("EXIFNORM_DEBUG", raising=False)
+    exiftool.finish()  # an ExifTool that another test has started
     monkeypatch.setattr(exiftool._Own, "room", None)
     (tmp_path / "p").mkdir()
     (tmp_path / "p/a.jpg").write_bytes(jpeg())
