@@ -286,10 +286,10 @@ class Processes(WithPictures):
     def indexed(self, before):
         """The states of a run with this text before it, and what it leaves in its folder for temporary files."""
         text = (
-            "import collections, json, os\nfrom exifnorm_pictures.extract import extraction; from exifnorm_pictures.scan import index, workers as workers, workers as processes\n"
-            "from exifnorm_pictures.catalogue.store import Catalogue\nfrom exifnorm_pictures.cli.output import record_lines as record_lines\n"
+            "import collections, json, os\nfrom exifnorm_pictures.extract import extraction; from exifnorm_pictures.scan import index, workers as looking, workers as processes\n"
+            "from exifnorm_pictures.catalogue.store import Catalogue\nfrom exifnorm_pictures.cli.output import record_lines as entry_lines\n"
             f"{before}\nlines = []\nos.mkdir('room')\n"
-            "how = workers.How(jobs=2, room=os.path.abspath('room'), lines=record_lines)\n"
+            "how = looking.How(jobs=2, room=os.path.abspath('room'), lines=entry_lines)\n"
             "with Catalogue('c', make=True) as made:\n"
             "    counts = index.index(index.IndexOptions([b'p'], quiet=True, how=how, say=lines.append), made)\n"
             "print(json.dumps([counts, lines, [it for it in os.listdir('room') if it.startswith('rows')]]))"
@@ -306,7 +306,7 @@ class Processes(WithPictures):
 
     def test_slow_pictures(self):
         """A process returns what it has after some time; another or the same one looks at the others."""
-        self.assertEqual(self.indexed("workers.LONGEST_WAIT = 0"), [{"accepted": 100}, [], []])
+        self.assertEqual(self.indexed("processes.LONGEST_WAIT = 0"), [{"accepted": 100}, [], []])
         self.assertEqual(self.paths(), sorted(os.listdir(self.path("p"))))
 
     def test_a_picture_that_ends_the_process(self):
@@ -324,7 +324,7 @@ class Processes(WithPictures):
     def test_what_a_process_that_died_left(self):
         """Rows that no result names are removed before their pictures are looked at again: in a long run they would fill the disk."""
         ending = (
-            "import time\nread, by_each = extraction.blocks_of, workers._one_by_one\n"
+            "import time\nread, by_each = extraction.blocks_of, processes._one_by_one\n"
             "def blocks_of(path, *more):\n"
             "    if path.endswith(b'00.jpg') and not os.path.exists('died'):\n"
             "        while not os.path.exists('room/rows-1'): time.sleep(0.001)\n"  # the other process's
@@ -333,7 +333,7 @@ class Processes(WithPictures):
             "def one_by_one(*words):\n"
             "    with open('seen', 'a') as file: file.write(' '.join(os.listdir('room')) + '\\n')\n"
             "    return by_each(*words)\n"
-            "extraction.blocks_of, workers._one_by_one = blocks_of, one_by_one"
+            "extraction.blocks_of, processes._one_by_one = blocks_of, one_by_one"
         )
         self.assertEqual(self.indexed(ending), [{"accepted": 100}, [], []])
         seen = read(self.path("seen")).decode().splitlines()
@@ -344,9 +344,9 @@ class Processes(WithPictures):
         for wait, number in ((2, 5), (0, 25)):
             with self.subTest(number):
                 failing = (
-                    f"workers.LONGEST_WAIT = {wait}\nsubmit, calls = workers.ProcessPoolExecutor.submit, []\n"
+                    f"processes.LONGEST_WAIT = {wait}\nsubmit, calls = processes.ProcessPoolExecutor.submit, []\n"
                     "def submitted(*words):\n    calls.append(1)\n"
-                    f"    if len(calls) == {number}: raise workers.BrokenProcessPool('it ended')\n"
+                    f"    if len(calls) == {number}: raise processes.BrokenProcessPool('it ended')\n"
                     "    return submit(*words)\nprocesses.ProcessPoolExecutor.submit = submitted\n"
                     "import shutil\nshutil.rmtree('room', True)\nos.path.exists('c') and os.unlink('c')"
                 )

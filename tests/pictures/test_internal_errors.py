@@ -70,7 +70,7 @@ def test_a_mistake_is_no_damage(command, monkeypatch, words, module, name):
     assert f"an internal error, please report it: TypeError: {FAULT} (exifnorm_pictures/" in printed
     assert "damaged" not in printed and len(printed.splitlines()) == 1
     where, _, line = printed.rpartition("(")[2].rstrip(")\n").partition(", line ")
-    with open(os.path.join(os.path.dirname(os.path.dirname(store.__file__)), where)) as file:
+    with open(os.path.join(os.path.dirname(os.path.dirname(os.path.dirname(store.__file__))), where)) as file:
         assert "(" in file.read().splitlines()[int(line) - 1]  # the call of what failed
 
 
@@ -121,8 +121,7 @@ def test_a_report_of_a_damaged_catalogue(command, values):
 
 
 @pytest.mark.parametrize("octets", [b"", b"[", b"[1]", b'[["main"]]', b'[["main","010f","ASCII","4","a"]]', b'[["main","010f","ASCII",true,"a"]]',
-                                    b'["abcde"]', pytest.param(b"[" * 100_000, id="100,000 brackets"), b"\0\x11", zlib.compress(b"7"), zlib.compress(b"\xff"), 7,
-                                    "text"])  # fmt: skip
+                                    b'["abcde"]', pytest.param(b"[" * 100_000, id="100,000 brackets"), b"\0\x11", zlib.compress(b"7"), zlib.compress(b"\xff"), 7, "text"])  # fmt: skip
 def test_fields_that_are_damaged(octets):
     with pytest.raises(Damaged):
         listing.unpacked(octets)

@@ -16,7 +16,7 @@ from unittest import mock
 from studio import WithPictures, read, write
 
 from exifnorm_pictures.catalogue import records
-from exifnorm_pictures.cli import changed, index, main, output, parser, signals
+from exifnorm_pictures.cli import index, main, names, output, parser, report, signals
 from exifnorm_pictures.extract import exiftool, extraction, programs
 from exifnorm_pictures.files import atomic
 from exifnorm_pictures.scan import progress, walk, workers
@@ -190,15 +190,15 @@ class Messages(WithPictures):
             self.assertEqual(self.raised(walk.BadList, walk.listed, "-", False), "standard input is closed")
             self.assertEqual(walk.listed("-", True, io.BytesIO(b"a\nb\0\0c")), [b"a\nb", b"c"])
         asked = argparse.Namespace(files_from=None, null=False, command="show")
-        self.assertEqual(self.raised(walk.BadList, output.named, asked, ["a\0b"]), "a name contains a NUL")
+        self.assertEqual(self.raised(walk.BadList, names.named, asked, ["a\0b"]), "a name contains a NUL")
         with contextlib.redirect_stderr(io.StringIO()) as printed, self.assertRaises(SystemExit) as ended:
-            output.named(asked, [])
+            names.named(asked, [])
         self.assertEqual((printed.getvalue().splitlines()[-1], ended.exception.code), ("exifnorm-pictures: show: no name was given", 3))
         asked = argparse.Namespace(files_from=self.path("list"), null=True)
-        self.assertEqual(output.named(asked, ["x", "y"]), [b"x", b"y", b"a", b"b"])
-        self.assertEqual(output.chosen_paths(asked), {os.path.abspath(b"a"), os.path.abspath(b"b")})
+        self.assertEqual(names.named(asked, ["x", "y"]), [b"x", b"y", b"a", b"b"])
+        self.assertEqual(names.chosen_paths(asked), {os.path.abspath(b"a"), os.path.abspath(b"b")})
         with contextlib.redirect_stderr(io.StringIO()) as printed, self.assertRaises(SystemExit) as ended:
-            changed.report_(argparse.Namespace(html=None, json=False))
+            report.run(argparse.Namespace(html=None, json=False))
         self.assertEqual((printed.getvalue().splitlines()[-1], ended.exception.code), ("exifnorm-pictures: report: give --html PAGE, --json, or both", 3))
 
     def test_of_files_that_are_not_replaced(self):

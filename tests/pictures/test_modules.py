@@ -19,11 +19,11 @@ from made_blocks import BLOCKS, with_exif
 from made_files import chunk, exif, page, png, tiff, title
 from studio import SMALL_JPEG, TOP, WithPictures, needs, read, tool, write
 
-from exifnorm_pictures.cli import changed, main, same, show
+from exifnorm_pictures.cli import main, mend as mend_cli, report as report_cli, same
 from exifnorm_pictures.extract import exiftool, extraction, judge, programs
 from exifnorm_pictures.fields import caption_texts, listing, names
 from exifnorm_pictures.refusals import explain, mend
-from exifnorm_pictures.report import page as report
+from exifnorm_pictures.report import contents, page as report
 from exifnorm_pictures.scan import index, walk
 from exifnorm_pictures.catalogue.store import Catalogue, NoCatalogue
 from exifnorm_pictures.extract.formats import png as png_
@@ -171,7 +171,7 @@ class Extracted(WithPictures):
     def test_what_exiftool_does_not_extract_has_a_digest(self):
         """Up to a length, and with --whole at any length."""
         answer = {"SourceFile": "a", "A:FileType": "GIF", "A:MIMEType": "image/gif"}
-        with mock.patch.object(exiftool.session, "ask", lambda *_: answer), mock.patch.object(exiftool, "MOST", 3):
+        with mock.patch.object(exiftool, "ask", lambda *_: answer), mock.patch.object(exiftool, "MOST", 3):
             for octets, whole, is_known in ((b"abc", False, True), (b"abcd", False, False), (b"abcd", True, True)):
                 found = exiftool.by_others(b"a", io.BytesIO(octets), whole, "")
                 expected = hashlib.sha256(octets).hexdigest() if is_known else ""
@@ -236,7 +236,7 @@ class Printed(unittest.TestCase):
     def test_a_page_begins_with_its_type(self):
         """In letters of either kind (HTML, 13.1.1)."""
         for head, is_one in ((b"<!DOCTYPE html>", True), (b"<!doctype HTML>", True), (b"<!DOCTYPE htm", False), (b" <!DOCTYPE html>", False), (b"", False)):
-            self.assertEqual(changed._is_page(head), is_one, head)
+            self.assertEqual(report_cli._is_page(head), is_one, head)
 
 
 class Pieces(unittest.TestCase):
@@ -244,7 +244,7 @@ class Pieces(unittest.TestCase):
 
     def test_the_bar_of_states(self):
         """Its parts are side by side, and together 1,000 wide."""
-        bar = report._share(report.Gathered(total=4, states=Counter({"accepted": 3, "refused": 1})))
+        bar = report._share(contents.Gathered(total=4, states=Counter({"accepted": 3, "refused": 1})))
         self.assertEqual(re.findall(r'class="(\w+)" x="([\d.]+)" width="([\d.]+)"', bar), [("good", "0.0", "750.0"), ("bad", "750.0", "250.0")])
 
     def test_a_long_value(self):
@@ -295,7 +295,7 @@ class Ended(unittest.TestCase):
             (OSError(28, "No space left on device", "a"), 4, "a: no space left on device"),
         ):
             lines = []
-            with mock.patch.object(same, "same", side_effect=why), mock.patch.object(main.signals, "say", lines.append):
+            with mock.patch.object(same, "run", side_effect=why), mock.patch.object(main.signals, "say", lines.append):
                 self.assertEqual((main._run(["same", "--catalogue", "c"]), lines), (status, [f"exifnorm-pictures: {line}"]))
 
     def test_errors_of_other_packages(self):
@@ -327,10 +327,10 @@ class Mended(WithPictures):
         asked = argparse.Namespace(json=False)
         for name, (found, status) in ends.items():
             with mock.patch.object(mend, "mend", lambda *_, found=found: found), contextlib.redirect_stdout(io.StringIO()):
-                self.assertEqual(show._mend_one(asked, b"a", b"b", ""), status, name)
+                self.assertEqual(mend_cli._mend_one(asked, b"a", b"b", ""), status, name)
         for why in (mend.NotWritten("no"), programs.Failed("no")):
             with mock.patch.object(mend, "mend", mock.Mock(side_effect=why)), contextlib.redirect_stdout(io.StringIO()):
-                self.assertEqual(show._mend_one(asked, b"a", b"b", ""), 4, why)
+                self.assertEqual(mend_cli._mend_one(asked, b"a", b"b", ""), 4, why)
 
     def test_a_link_in_the_way(self):
         """Also one that leads nowhere is a file that is there."""

@@ -6,7 +6,7 @@ from collections import Counter
 from datetime import datetime
 from unittest import mock
 
-from exifnorm_pictures.report import page as report
+from exifnorm_pictures.report import contents, page as report
 from exifnorm_pictures.catalogue.records import Picture
 from exifnorm_pictures.report.style import STYLE
 
@@ -32,31 +32,31 @@ def problem(name, word, detail=""):
 
 
 CHANGED = [
-    report.EqualChanges("different", "Exif is different", [("main:Make", '"<a>"', '"b"'), ("main:Model", None, "x" * 301)], 1, [b"one.jpg"]),
-    report.EqualChanges("different", "", [("exif:Flash", "1", None)], 1200, [b"x.jpg", b"y\n.jpg"]),
-    report.EqualChanges("moved", "to b&.jpg", [], 1, [b"a.jpg"]),
-    report.EqualChanges("missing after", "", [], 2, [b"m.jpg", b"n.jpg"]),
-    report.EqualChanges("refused", "Exif: Overlap", [], 1, [b"r.jpg"]),
-    report.EqualChanges("only MakerNote differs", "", [], 1, [b"k.jpg"]),
-    report.EqualChanges("not read", "", [], 1, [b"l.jpg"]),
-    report.EqualChanges("different", "", [(f"iptc:{number}", "1", "2") for number in range(42)], 1, [b"8"]),
-    report.EqualChanges("different", "", [("a", "1", "2")], 1, [b"9"]),
+    contents.EqualChanges("different", "Exif is different", [("main:Make", '"<a>"', '"b"'), ("main:Model", None, "x" * 301)], 1, [b"one.jpg"]),
+    contents.EqualChanges("different", "", [("exif:Flash", "1", None)], 1200, [b"x.jpg", b"y\n.jpg"]),
+    contents.EqualChanges("moved", "to b&.jpg", [], 1, [b"a.jpg"]),
+    contents.EqualChanges("missing after", "", [], 2, [b"m.jpg", b"n.jpg"]),
+    contents.EqualChanges("refused", "Exif: Overlap", [], 1, [b"r.jpg"]),
+    contents.EqualChanges("only MakerNote differs", "", [], 1, [b"k.jpg"]),
+    contents.EqualChanges("not read", "", [], 1, [b"l.jpg"]),
+    contents.EqualChanges("different", "", [(f"iptc:{number}", "1", "2") for number in range(42)], 1, [b"8"]),
+    contents.EqualChanges("different", "", [("a", "1", "2")], 1, [b"9"]),
 ]
 
 
 class Whole(unittest.TestCase):
     def test_a_page_about_nothing(self):
-        self.golden("page-of-nothing.html", compact(made(report.Gathered())))
-        self.golden("page-without-changes.html", compact(made(report.Gathered(since=True))))
+        self.golden("page-of-nothing.html", compact(made(contents.Gathered())))
+        self.golden("page-without-changes.html", compact(made(contents.Gathered(since=True))))
 
     def test_a_page_about_everything(self):
-        found = report.Gathered(
+        found = contents.Gathered(
             total=2000,
             states=Counter({"accepted": 1500, "refused": 300, "no block": 100, "NoPicture": 60, "BigTIFF": 39, "Other": 1}),
             causes=Counter({"Overlap": 61, "NoRDF": 2, "DataSetCut": 1}),
-            refused={"Overlap": [report.Refused(b"/p/a&b.jpg", "exif", "second Exif", "Overlap", 34)],
-                     "DataSetCut": [report.Refused(b"/p/c/d.jpg", "iim", "IPTC", "DataSetCut", 0)],
-                     "NoRDF": [report.Refused(b"/p/e\xff.jpg", "xmp", "XMP", "NoRDF", None), report.Refused(b"/q/f.jpg", "xmp", "XMP", "NoRDF", None)]},
+            refused={"Overlap": [contents.Refused(b"/p/a&b.jpg", "exif", "second Exif", "Overlap", 34)],
+                     "DataSetCut": [contents.Refused(b"/p/c/d.jpg", "iim", "IPTC", "DataSetCut", 0)],
+                     "NoRDF": [contents.Refused(b"/p/e\xff.jpg", "xmp", "XMP", "NoRDF", None), contents.Refused(b"/q/f.jpg", "xmp", "XMP", "NoRDF", None)]},
             parts=Counter({"a chunk <x>": 1, "a trailer": 1000}),
             unread=1001,
             problems=[problem(b"/p/bad.jpg", "Unreadable", "permission denied"), problem(b"/p/n.txt", "NoPicture"), problem(b"/p/x", "Other")],
@@ -77,7 +77,7 @@ class Whole(unittest.TestCase):
         """The first five of several; then each name is a whole path."""
         roots = [b"/a<", b"/b", b"/c", b"/d", b"/e"]
         for more, words in (([], "1 files below /a&lt;, /b, /c, /d, /e &middot;"), ([b"/f"], "1 files below /a&lt;, /b, /c, /d, /e .. &middot;")):
-            page = made(report.Gathered(total=1, roots=roots + more, runs=[("a", None, None, None)], groups=[(2, "s", [b"/a</x", b"/f/y"])]))
+            page = made(contents.Gathered(total=1, roots=roots + more, runs=[("a", None, None, None)], groups=[(2, "s", [b"/a</x", b"/f/y"])]))
             self.assertIn(f"<p>{words} 2026-03-04 05:06 UTC</p>", page)
             self.assertEqual(re.findall(r'<span class="name">(.*?)</span>', page), ["/a&lt;/x", "/f/y"])
         for root, path, name in ((b"/", b"/x/y", "x/y"), (b"/a/", b"/a/y", "y"), (b"/a", b"/ab/y", "/ab/y"), (b"/a", b"/a", "/a")):

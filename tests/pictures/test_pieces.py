@@ -187,7 +187,7 @@ class Work(WithPictures):
             return iter(())
 
         with mock.patch.object(workers, "_by_processes", by_processes):
-            list(workers.looked([FoundFile(b"%d" % it, b"/", None) for it in range(count)], batches.How(jobs=jobs, room="/room")))
+            list(workers._in_several_processes([FoundFile(b"%d" % it, b"/", None) for it in range(count)], batches.How(jobs=jobs, room="/room")))
         self.assertEqual([it[1] for it in taken], [f"/room/rows-{number}" for number in range(len(taken))])
         return [it[0] for it in taken]
 

@@ -21,7 +21,7 @@ from made_files import (
 )  # fmt: skip
 from studio import SMALL_JPEG, needs, read, run, write
 
-from exifnorm_pictures.cli import changed as states, show
+from exifnorm_pictures.cli import changed as states, mend as mend_cli
 from exifnorm_pictures.refusals import mend
 from exifnorm_pictures.scan import batches, index
 from exifnorm_pictures.extract.formats import jpeg_tail
@@ -407,7 +407,7 @@ class Pictures(Promises):
         self.assertEqual(run(["exifnorm-pictures", "show"], self.folder).returncode, 3)
         for lost, step, status in ((["a value"], "rebuild", 1), ([], "none", 2)):
             with mock.patch.object(mend, "mend", return_value=mend.Mended(step, {}, lost)), contextlib.redirect_stdout(io.StringIO()):
-                self.assertEqual(show._mend_one(argparse.Namespace(json=False), b"a", b"b", ""), status)
+                self.assertEqual(mend_cli._mend_one(argparse.Namespace(json=False), b"a", b"b", ""), status)
 
     @needs("exiftool")
     def test_no_picture_is_modified(self):

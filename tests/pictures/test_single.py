@@ -13,7 +13,7 @@ from unittest import mock
 
 from studio import WithPictures, read, write
 
-from exifnorm_pictures.cli import index, show
+from exifnorm_pictures.cli import each_block, index, mend as mend_cli
 from exifnorm_pictures.extract import programs
 from exifnorm_pictures.files import tempdir
 from exifnorm_pictures.refusals import mend
@@ -177,12 +177,12 @@ class Lines(WithPictures):
               "  - x", "  - y", "  + z"], {"step": "rebuild", "before": one, "lost": ["x", "y"], "gained": ["z"]}),
             (mend.Mended("none", one), ["a\\n: Exif refused: Overlap at 34: no remedy helped"], {"step": "none", "before": one, "lost": [], "gained": []}),
         ):  # fmt: skip
-            self.assertEqual(show._mended_lines(b"a\n", found), lines)
-            self.assertEqual(show._mended_members(b"a\n", found), {"path": "a\n", **members})
+            self.assertEqual(mend_cli._mended_lines(b"a\n", found), lines)
+            self.assertEqual(mend_cli._mended_members(b"a\n", found), {"path": "a\n", **members})
 
     def printed(self, why, as_json):
         with mock.patch.object(mend, "mend", mock.Mock(side_effect=why)), contextlib.redirect_stdout(io.StringIO()) as lines:
-            self.assertEqual(show._mend_one(argparse.Namespace(json=as_json), b"a\xff", b"b\n", ""), 4)
+            self.assertEqual(mend_cli._mend_one(argparse.Namespace(json=as_json), b"a\xff", b"b\n", ""), 4)
         return lines.getvalue()
 
     def test_what_is_not_written(self):
@@ -191,8 +191,8 @@ class Lines(WithPictures):
             self.assertEqual(json.loads(self.printed(why, True)), {"path": "a\\xff", "path_hex": "61ff", "problem": word, "detail": str(why)})
 
     def pairs(self, names, files_from=None, given=()):
-        with mock.patch.object(show, "from_list", lambda _: list(given)):
-            return list(show._pairs(argparse.Namespace(names=names, files_from=files_from)))
+        with mock.patch.object(mend_cli, "from_list", lambda _: list(given)):
+            return list(mend_cli._pairs(argparse.Namespace(names=names, files_from=files_from)))
 
     def test_pictures_and_their_copies(self):
         os.mkdir(self.path("out"))
@@ -216,8 +216,8 @@ class Problems(unittest.TestCase):
     def test_a_program_that_fails_or_is_missing(self):
         missing = programs.Missing("exiftool")
         for raised, problem in ((programs.Failed("it ended"), "ToolFailed"), (missing, "NeedsExifTool")):
-            with mock.patch.object(show.extraction, "blocks_of", mock.Mock(side_effect=raised)):
-                found = show._blocks(argparse.Namespace(block=False, whole=False), b"a.gif")
+            with mock.patch.object(each_block.extraction, "blocks_of", mock.Mock(side_effect=raised)):
+                found = each_block._blocks(argparse.Namespace(block=False, whole=False), b"a.gif")
             self.assertEqual((found.problem, found.detail, found.found), (problem, str(raised), []))
             self.assertIn(problem, index.FAILURES)
 

@@ -15,7 +15,8 @@ import kinds
 from studio import WithPictures
 
 from exifnorm_pictures.compare import changed, groups, pairs as pairing
-from exifnorm_pictures.report import page
+from exifnorm_pictures.scan import workers
+from exifnorm_pictures.report import contents
 from exifnorm_pictures.catalogue.store import VERSION, Catalogue, NoCatalogue
 from exifnorm_pictures.extract.formats.found import EXIF, IPTC, NAMES, XMP, NotRead
 from exifnorm_pictures.catalogue.records import Block, PictureRecord, Stamp
@@ -220,7 +221,7 @@ class Tables(WithPictures):
         now = [picture("a"), picture("b", {**BASE, EXIF: "!Overlap", IPTC: "!DataSetCut"}), picture("c", {**BASE, EXIF: "new"}, [KNOWN]),
                picture("d", {**BASE, EXIF: "new"}, [KNOWN, NotRead("other", "")]), picture("e", {EXIF: "!Overlap"}), picture("f", {}),
                picture("n", problem="NoPicture"), picture("m", problem="NoPicture"), picture("u", problem="Unreadable")]  # fmt: skip
-        found = page.gather(page.About(self.catalogue("c", *now), self.catalogue("old", *old)))
+        found = contents.gather(contents.About(self.catalogue("c", *now), self.catalogue("old", *old)))
         self.assertEqual(found.total, 9)
         self.assertEqual(dict(found.states), {"accepted": 3, "refused": 2, "no block": 1, "NoPicture": 2, "Unreadable": 1})
         self.assertEqual((found.all_problems, [it.problem for it in found.problems]), (3, ["Unreadable", "NoPicture", "NoPicture"]))
@@ -229,7 +230,7 @@ class Tables(WithPictures):
         self.assertEqual(found.all_groups, (0, 0))
         self.assertEqual(dict(found.results), {"same": 1, "refused": 1, "different": 2, "missing before": 5})
         self.assertEqual((dict(found.fields), found.all_changed), ({"main:Make": 2}, 4))
-        chosen = page.gather(page.About(self.catalogue("d", *now), only={b"/a/b", b"/a/n"}))
+        chosen = contents.gather(contents.About(self.catalogue("d", *now), only={b"/a/b", b"/a/n"}))
         self.assertEqual((chosen.total, dict(chosen.causes)), (2, {"Overlap": 1, "DataSetCut": 1}))
 
 
@@ -337,24 +338,24 @@ class Reported(WithPictures):
         made = self.catalogue("now", *now)
         made.set_versions(1, "12.57", "0.27.6")
         made.end_run(1, "2000-01-01T00:00:09Z")
-        self.about = page.About(made, self.catalogue("old", *old))
+        self.about = contents.About(made, self.catalogue("old", *old))
 
     def test_what_is_gathered(self):
         """All of it, and the objects of --json, in golden/report-*.txt."""
-        found = page.gather(self.about)
+        found = contents.gather(self.about)
         members = {**vars(found), "problems": [it.path for it in found.problems]}
         self.golden("report-gathered.txt", "".join(f"{name}: {pprint.pformat(it, width=140)}\n" for name, it in members.items()))
-        self.golden("report-objects.txt", "".join(json.dumps(it) + "\n" for it in page.members(self.about)))
+        self.golden("report-objects.txt", "".join(json.dumps(it) + "\n" for it in contents.members(self.about)))
 
     def test_chosen_pictures(self):
         """Their counts, groups, refusals and unread parts alone."""
-        about = page.About(self.about.catalogue, None, {b"/a/b1", b"/a/b2", b"/a/new", b"/a/r\xff", b"/a/no"})
-        found = page.gather(about)
+        about = contents.About(self.about.catalogue, None, {b"/a/b1", b"/a/b2", b"/a/new", b"/a/r\xff", b"/a/no"})
+        found = contents.gather(about)
         self.assertEqual((found.total, dict(found.causes), dict(found.parts), found.unread, found.all_groups, found.all_problems, found.since),
                          (5, {"Overlap": 1, "NoRDF": 1}, {"trailer": 1, "a chunk": 1}, 1, (1, 2), 1, False))  # fmt: skip
-        kinds = [next(iter(it)) for it in page.members(about)]
+        kinds = [next(iter(it)) for it in contents.members(about)]
         self.assertEqual(kinds, ["pictures", "same", "refused", "refused", "problem", "not_read"])
-        self.assertEqual(next(page.members(about))["pictures"], 5)
+        self.assertEqual(next(contents.members(about))["pictures"], 5)
 
     def test_the_first_of_each_list(self):
         """Pictures that can't be read come before those that are none."""
@@ -362,14 +363,14 @@ class Reported(WithPictures):
         rows += [picture(f"o{it}", {EXIF: "!Overlap"}) for it in range(3)] + [picture(f"g{it}{more}", {EXIF: f"g{it}"}) for it in range(3) for more in "abc"]
         old = [picture(f"g{it}{more}", {EXIF: f"old{it}"}) for it in range(3) for more in "abc"]
         limits = {"MOST_CHANGES": 2, "MOST_REFUSED": 2, "MOST_GROUPS": 2, "MOST_OF_GROUP": 2, "MOST_NAMES": 2}
-        with mock.patch.multiple(page, **limits):
-            found = page.gather(page.About(self.catalogue("many", *rows), self.catalogue("before", *old)))
+        with mock.patch.multiple(contents, **limits):
+            found = contents.gather(contents.About(self.catalogue("many", *rows), self.catalogue("before", *old)))
         self.assertEqual(([it.path for it in found.problems], found.all_problems), ([b"/a/u0", b"/a/u1"], 6))
         self.assertEqual(([it.path for it in found.refused["Overlap"]], dict(found.causes)), ([b"/a/o0", b"/a/o1"], {"Overlap": 3}))
         self.assertEqual(([it[::2] for it in found.groups], found.all_groups), ([(3, [b"/a/g0a", b"/a/g0b"]), (3, [b"/a/g1a", b"/a/g1b"])], (3, 9)))
         self.assertEqual(([(it.count, it.names) for it in found.changed], found.all_changed), ([(3, [b"g0a", b"g0b"]), (3, [b"g1a", b"g1b"])], 4))
-        with mock.patch.multiple(page, **limits, MOST_FIELDS=2):
-            self.assertEqual([it.path for it in page.gather(page.About(self.catalogue("few", *rows[:4]))).problems], [b"/a/u0", b"/a/n0"])
+        with mock.patch.multiple(contents, **limits):
+            self.assertEqual([it.path for it in contents.gather(contents.About(self.catalogue("few", *rows[:4]))).problems], [b"/a/u0", b"/a/n0"])
 
 
 class File(WithPictures):
@@ -437,7 +438,7 @@ class File(WithPictures):
 class Marks(WithPictures):
     def test_a_file_that_is_written_to_meanwhile(self):
         """It has no marks in the catalogue, so that the next run looks at it again."""
-        from exifnorm_pictures.scan.looking import look
+        from exifnorm_pictures.scan.workers import look
         from exifnorm_pictures.scan.walk import FoundFile
 
         path = os.fsencode(self.path("a.jpg"))
@@ -451,7 +452,6 @@ class Marks(WithPictures):
 
     def test_a_file_that_is_gone_after_it_was_read(self):
         """It has no marks either: what was read of it counts, and the run goes on."""
-        from exifnorm_pictures.scan import workers
         from exifnorm_pictures.scan.walk import FoundFile
 
         self.assertIsNone(workers._unless_changed(FoundFile(os.fsencode(self.path("nothing")), b"/", Stamp(1, 2, 3, 4))))

@@ -137,7 +137,7 @@ class SingleBlocks(unittest.TestCase):
         ):  # fmt: skip
             some = found_.Blocks()
             some.add(found_.XMP, packet, "somewhere")
-            some.found += [found_.Found(found_.XMP, data, it, "somewhere", extends=name) for it, data in zip((first, second), pieces)]
+            some.found += [found_.FoundBlock(found_.XMP, data, it, "somewhere", extends=name) for it, data in zip((first, second), pieces)]
             judged = judge.judge_all(some)
             self.assertEqual([(it.name, it.status, it.cause) for it in judged], expected)
             used = pieces[0] if packet == asking and pieces else b""
@@ -150,7 +150,7 @@ class SingleBlocks(unittest.TestCase):
         packet = xmp(notes)
         some = found_.Blocks()
         some.add(found_.XMP, packet, "somewhere")
-        some.found += [found_.Found(found_.XMP, data, "extended XMP", "somewhere", extends=it) for it, data in pieces.items()]
+        some.found += [found_.FoundBlock(found_.XMP, data, "extended XMP", "somewhere", extends=it) for it, data in pieces.items()]
         judged = judge.judge_all(some)
         self.assertEqual([(it.status, it.cause) for it in judged], [("accepted", None)])
         self.assertEqual(judged[0].octets, hashlib.sha256(packet + b"".join(pieces[it] for it in sorted(pieces))).hexdigest())
