@@ -183,8 +183,20 @@ def many_groups():
 
 def bad_orders():
     """Orders for which lists of each group would take the most time or memory."""
+    yield from names_in_turn()
+    yield from random_names()
+    yield from even_orders()
+
+
+def names_in_turn():
     yield of_record("3.3 million empty DataSets of all names in turn", orders.record(orders.in_turn(50 * orders.ALL)))
-    yield of_record("3.3 million empty DataSets of random names", orders.record(orders.random(50 * orders.ALL)))
+
+
+def random_names():
+    yield of_record("1.3 million empty DataSets of random names", orders.record(orders.random(20 * orders.ALL)))
+
+
+def even_orders():
     yield of_record("four empty DataSets of each name, ascending", orders.record(orders.ascending(4 * orders.ALL)))
     yield of_record("four empty DataSets of each name, in turn", orders.record(orders.in_turn(4 * orders.ALL)))
     yield of_record("an empty DataSet of each name, in random order", orders.record(orders.shuffled()))
@@ -238,4 +250,16 @@ def small_kinds():
 
 
 # Makers of large blocks: some for which a quadratic step would take hours, and some of the greatest length.
-LARGE_MAKERS = many_fields, placed_values, many_strips, strips_far_apart, many_datasets, many_groups, bad_orders, random_records, long_values
+LARGE_MAKERS = (
+    many_fields,
+    placed_values,
+    many_strips,
+    strips_far_apart,
+    many_datasets,
+    many_groups,
+    names_in_turn,
+    random_names,
+    even_orders,
+    random_records,
+    long_values,
+)

@@ -115,6 +115,7 @@ class Record:
     """A caption record: its DataSets, each a record number, a number and its data, in an order of its own."""
 
     datasets: list
+    _ordered: list = field(default=None, init=False, repr=False, compare=False)
 
     def groups(self):
         """The lists of the groups, by the names of the groups in ascending order."""
@@ -124,8 +125,10 @@ class Record:
         return dict(sorted(lists.items()))
 
     def ordered(self):
-        """The DataSets in the order of the normal form."""
-        return [it for them in self.groups().values() for it in them]
+        """The DataSets in the order of the normal form. It is worked out once, because large records have millions of them."""
+        if self._ordered is None:
+            self._ordered = [it for them in self.groups().values() for it in them]
+        return self._ordered
 
     def spelled(self, extended=0, zeros=0):
         """An IIM block with this record; `extended` is the number of bytes of the lengths of extended DataSets, 0 for standard ones."""

@@ -1,5 +1,6 @@
 """Runs a case with an allocation of the program failing. Such a run must have the case's result, or report that it is out of memory."""
 
+import functools
 import os
 from pathlib import Path
 from typing import Iterable, Iterator, List, Tuple
@@ -9,6 +10,7 @@ from judging import problems
 from program import Outcome, run
 
 MOST = 20_000  # more allocations than a run of a small block has
+OVERLAP = 5  # allocations for the arguments that are tried again with each case
 SECONDS = 20
 
 
@@ -48,6 +50,17 @@ def reports_out_of_memory(case: Case, outcome: Outcome) -> bool:
 def every() -> Iterable[int]:
     """The number of each allocation."""
     return range(1, MOST + 1)
+
+
+@functools.lru_cache(maxsize=None)
+def for_arguments(program: Path, refuse: str, words: Tuple[str, ...]) -> int:
+    """How many allocations a run has before it opens a file: as many as a run whose files are missing."""
+    return next(number for number in every() if not run_refusing(program, refuse, Case("", words=[*words]), number)[1]) - 1
+
+
+def after_arguments(program: Path, refuse: str, case: Case) -> Iterable[int]:
+    """The numbers of the allocations after those for the arguments."""
+    return range(max(1, for_arguments(program, refuse, tuple(case.words)) - OVERLAP) if case.words else 1, MOST + 1)
 
 
 def some() -> Iterator[int]:

@@ -12,7 +12,7 @@ from watching import problems_of_cost, problems_of_failures
 
 SMALL = list(small_kinds())
 LAYOUTS = [pytest.param(it, id=f"{kind.name}, layout {at}") for kind in SMALL for at, it in enumerate(kind.blocks, 1) if len(it) < 10_000]
-EXAMPLES = settings.default.max_examples // 2  # of each layout
+EXAMPLES = settings.default.max_examples * 2 // 5  # of each layout
 
 each_small_kind = pytest.mark.parametrize("kind", [pytest.param(it, id=it.name) for it in SMALL])
 
