@@ -11,6 +11,7 @@ import fcntl
 import functools
 import os
 import shutil
+import signal
 import tempfile
 from pathlib import Path
 from typing import Iterator
@@ -45,6 +46,8 @@ def run_folder() -> Iterator[Path]:
 
 @pytest.fixture(scope="session")
 def prover(run_folder: Path) -> Iterator[Prover]:
+    """The compiler. It is ended if the run is stopped."""
+    signal.signal(signal.SIGTERM, signal.default_int_handler)
     crates = Crates.read(TOP)
     store = Store(crates, version(), TOP / "out" / "proved")
     with open(run_folder / f"used-{os.getpid()}", "w", encoding="ascii") as used:
